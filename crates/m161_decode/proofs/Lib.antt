@@ -1,0 +1,2 @@
+mod Meant
+mod Canonical

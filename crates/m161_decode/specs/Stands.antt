@@ -1,0 +1,15 @@
+use Rattle.std.specs.Prelude.{◌≡◌, ℕ, Option, None, Some}
+use Rattle.m161_isa.specs.declared.row.Row.{Row}
+use Rattle.m161_isa.specs.declared.instr.Instr.{Instr}
+use Rattle.m161_isa.specs.Table.{Fits, FitsNone, absent_in}
+use Rattle.m161_isa.specs.Instr.{row_of_instr, instr_by, misfit}
+
+-- The instruction is the word's, as a relation that each arm of the decoder meets by itself.
+
+-- the word fits the instruction's row and has its operands; or it fits no row, and its opcode says what it is
+abbrev pub StandsBy : ℕ → Instr → Option Row → Type 0
+StandsBy word i (Some r) = Fits word r × (i ≡ instr_by word (Some r))
+StandsBy word i None = FitsNone word × (i ≡ misfit word (absent_in word))
+
+abbrev pub Stands : ℕ → Instr → Type 0
+Stands word i = StandsBy word i (row_of_instr i)

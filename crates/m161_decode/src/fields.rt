@@ -1,0 +1,52 @@
+//! The fields of a word.
+
+ghost use Rattle.std.specs.Prelude.{◌≡◌, ◌≤◌, ◌<◌, ◌^◌};
+ghost use Rattle.m161_isa.specs.Table.{bits_of};
+ghost use Rattle.m161_isa.specs.Instr.{rs_of, rt_of, rd_of, amount_of, immediate_of, target_of};
+
+use m161_isa::{Amount, Reg, Target};
+
+/// The `width` bits of the word from bit `at` on.
+pub fn narrow(word: u32, at: u32, width: u32) -> u8
+    requires place { at < 32 }
+    requires size { width ≤ 8 }
+    ensures { result ≡ bits_of word at width }
+{
+    ((word >> at) % (1 << width)) as u8
+}
+
+pub fn rs(word: u32) -> Reg
+    ensures { result ≡ rs_of word }
+{
+    Reg::new(narrow(word, 21, 5))
+}
+
+pub fn rt(word: u32) -> Reg
+    ensures { result ≡ rt_of word }
+{
+    Reg::new(narrow(word, 16, 5))
+}
+
+pub fn rd(word: u32) -> Reg
+    ensures { result ≡ rd_of word }
+{
+    Reg::new(narrow(word, 11, 5))
+}
+
+pub fn amount(word: u32) -> Amount
+    ensures { result ≡ amount_of word }
+{
+    Amount::new(narrow(word, 6, 5))
+}
+
+pub fn immediate(word: u32) -> u16
+    ensures { result ≡ immediate_of word }
+{
+    (word % (1 << 16)) as u16
+}
+
+pub fn target(word: u32) -> Target
+    ensures { result ≡ target_of word }
+{
+    Target::new(word % (1 << 26))
+}

@@ -1,0 +1,17 @@
+//! Words to instructions and back.
+//!
+//! `decode` gives each of the 2^32 words the row of the table that it fits, with its operands.
+//! Fields that a row doesn't use are ignored (this project's own rule: 00000060 is `add`), so
+//! several words have one instruction; the canonical one has zeros there, and `encode` gives it.
+#![tactic(auto)]
+
+mod decoding;
+mod encoding;
+mod fields;
+mod laws;
+#[cfg(test)]
+mod tests;
+
+pub use decoding::decode;
+pub use encoding::{encode, is_canonical};
+pub use laws::{at_most_one_row, round_trips};

@@ -1,0 +1,4 @@
+pub mod OneRow
+pub mod InstrBy
+pub mod Kept
+pub mod RoundTrips

@@ -1,0 +1,195 @@
+use Rattle.std.specs.Prelude.{Bool, cond, not, ◌==◌, ◌||◌, ◌&&◌, slice_get, None, Some}
+use Rattle.std.specs.List.{find, list_all}
+use Rattle.std.specs.Bool.{Decides}
+use Rattle.std.proofs.Common.{◌≡◌, ℕ, ◌/◌, List, [], ◌∷◌, true, false, zero, suc, refl, inl, inr, arith}
+use Rattle.std.proofs.lemmas.Bool.Decides.{Decides-eqb, Decides-and, nat_tests}
+use Rattle.std.proofs.lemmas.Bool.{or_cases}
+use Rattle.m161_isa.specs.declared.row.Row.{Row}
+use Rattle.m161_isa.specs.declared.row.Row.TheVariants as rows
+use Rattle.m161_isa.specs.declared.table.Field.{Field}
+use Rattle.m161_isa.specs.Table.{bits_of, content, all_rows, HasFields, Fits, FitsNone, has_fields, fits, row_that_fits}
+use Rattle.m161_isa.specs.Laws.{OneRow, FindsTheRow}
+
+-- A word fits one row at most: a test over the table's pairs of rows, which computes, and what follows from it.
+
+-- fitting, as a test
+pub has_fields-Decides : (word : ℕ) (fs : List Field) → Decides (has_fields word fs) (HasFields word fs)
+has_fields-Decides word [] = (λ _. tt, λ _. refl)
+has_fields-Decides word (f ∷ fs) =
+    Decides-and _ _ (Decides-eqb (bits_of word f.position f.width) f.value) (has_fields-Decides word fs)
+
+pub fits-Decides : (word : ℕ) (r : Row) → Decides (fits word r) (Fits word r)
+fits-Decides word r = has_fields-Decides word (content r).fields
+
+-- two fields that no word has both: the same bits with two values, or rs against its highest bit
+abbrev clash : Field → Field → Bool
+clash f g =
+    ((f.position == g.position) && (f.width == g.width) && not (f.value == g.value))
+    || ((f.position == 21) && (f.width == 5) && (g.position == 25) && (g.width == 1) && not (f.value / 16 == g.value))
+
+abbrev clashes : Field → List Field → Bool
+clashes f [] = false
+clashes f (g ∷ gs) = clash f g || clashes f gs
+
+abbrev are_apart : List Field → List Field → Bool
+are_apart [] gs = false
+are_apart (f ∷ fs) gs = clashes f gs || are_apart fs gs
+
+-- each row is apart from those below it
+abbrev all_apart : List Row → Bool
+all_apart [] = true
+all_apart (r ∷ rs) = list_all (λ s. are_apart (content r).fields (content s).fields) rs && all_apart rs
+
+all_apart-all_rows : all_apart all_rows ≡ true
+all_apart-all_rows = refl
+
+-- where a row stands in the table
+listed : (r : Row) → (i : ℕ) × (slice_get all_rows i ≡ Some r)
+listed rows.Sll = (0, refl)
+listed rows.Srl = (1, refl)
+listed rows.Sra = (2, refl)
+listed rows.Sllv = (3, refl)
+listed rows.Srlv = (4, refl)
+listed rows.Srav = (5, refl)
+listed rows.Jr = (6, refl)
+listed rows.Jalr = (7, refl)
+listed rows.Syscall = (8, refl)
+listed rows.Break = (9, refl)
+listed rows.Sync = (10, refl)
+listed rows.Mfhi = (11, refl)
+listed rows.Mthi = (12, refl)
+listed rows.Mflo = (13, refl)
+listed rows.Mtlo = (14, refl)
+listed rows.Mult = (15, refl)
+listed rows.Multu = (16, refl)
+listed rows.Div = (17, refl)
+listed rows.Divu = (18, refl)
+listed rows.Add = (19, refl)
+listed rows.Addu = (20, refl)
+listed rows.Sub = (21, refl)
+listed rows.Subu = (22, refl)
+listed rows.And = (23, refl)
+listed rows.Or = (24, refl)
+listed rows.Xor = (25, refl)
+listed rows.Nor = (26, refl)
+listed rows.Slt = (27, refl)
+listed rows.Sltu = (28, refl)
+listed rows.Bltz = (29, refl)
+listed rows.Bgez = (30, refl)
+listed rows.Bltzal = (31, refl)
+listed rows.Bgezal = (32, refl)
+listed rows.J = (33, refl)
+listed rows.Jal = (34, refl)
+listed rows.Beq = (35, refl)
+listed rows.Bne = (36, refl)
+listed rows.Blez = (37, refl)
+listed rows.Bgtz = (38, refl)
+listed rows.Addi = (39, refl)
+listed rows.Addiu = (40, refl)
+listed rows.Slti = (41, refl)
+listed rows.Sltiu = (42, refl)
+listed rows.Andi = (43, refl)
+listed rows.Ori = (44, refl)
+listed rows.Xori = (45, refl)
+listed rows.Lui = (46, refl)
+listed rows.Lb = (47, refl)
+listed rows.Lh = (48, refl)
+listed rows.Lwl = (49, refl)
+listed rows.Lw = (50, refl)
+listed rows.Lbu = (51, refl)
+listed rows.Lhu = (52, refl)
+listed rows.Lwr = (53, refl)
+listed rows.Sb = (54, refl)
+listed rows.Sh = (55, refl)
+listed rows.Swl = (56, refl)
+listed rows.Sw = (57, refl)
+listed rows.Swr = (58, refl)
+listed rows.Ll = (59, refl)
+listed rows.Sc = (60, refl)
+listed rows.Mfc0 = (61, refl)
+listed rows.Mtc0 = (62, refl)
+listed rows.Tlbr = (63, refl)
+listed rows.Tlbwi = (64, refl)
+listed rows.Tlbwr = (65, refl)
+listed rows.Tlbp = (66, refl)
+listed rows.Rfe = (67, refl)
+listed rows.Wait = (68, refl)
+
+both : (x y : Bool) → (x && y) ≡ true → (x ≡ true) × (y ≡ true)
+both true y e = (refl, e)
+both false y e = cc
+
+-- no word has both of two fields that clash
+same_place : (word p w v q x u : ℕ) → ((p == q) && (w == x) && not (v == u)) ≡ true → bits_of word p w ≡ v → bits_of word q x ≡ u → ⊥
+same_place word p w v q x u c first second =
+    let (here, other) = both _ _ c in
+    let (place, width) = both _ _ here in
+    let e : p ≡ q = (Decides-eqb p q).0 place in
+    let d : w ≡ x = (Decides-eqb w x).0 width in
+    let same : v ≡ u = cc in
+    let t : (v == u) ≡ true = (Decides-eqb v u).1 same in
+    cc
+
+not_both : (word : ℕ) (f g : Field) → clash f g ≡ true → bits_of word f.position f.width ≡ f.value → bits_of word g.position g.width ≡ g.value → ⊥
+not_both word f g c x y = grind (arith, nat_tests)
+
+not_all : (word : ℕ) (f : Field) (gs : List Field) → clashes f gs ≡ true → bits_of word f.position f.width ≡ f.value → HasFields word gs → ⊥
+not_all word f [] c x y = cc
+not_all word f (g ∷ gs) c x (y, ys) =
+    elim (or_cases (clash f g) (clashes f gs) c) [ inl d ↦ not_both word f g d x y | inr d ↦ not_all word f gs d x ys ]
+
+not_apart : (word : ℕ) (fs gs : List Field) → are_apart fs gs ≡ true → HasFields word fs → HasFields word gs → ⊥
+not_apart word [] gs c x y = cc
+not_apart word (f ∷ fs) gs c (x, xs) y =
+    elim (or_cases (clashes f gs) (are_apart fs gs) c) [ inl d ↦ not_all word f gs d x y | inr d ↦ not_apart word fs gs d xs y ]
+
+-- a test that each of a list passes, at one of them
+passes : {X : Type 0} (p : X → Bool) (xs : List X) (i : ℕ) (x : X) → list_all p xs ≡ true → slice_get xs i ≡ Some x → p x ≡ true
+passes p [] i x all at = cc
+passes p (y ∷ ys) zero x all at =
+    let e : y ≡ x = cc in
+    rw (← e) (both (p y) (list_all p ys) all).0
+passes p (y ∷ ys) (suc i) x all at = passes p ys i x (both (p y) (list_all p ys) all).1 at
+
+-- a choice whose test cannot pass
+by_test : {X : Type 0} (b : Bool) (x y z : X) → (b ≡ true → ⊥) → y ≡ z → cond b x y ≡ z
+by_test true x y z never e = absurd (never refl)
+by_test false x y z never e = e
+
+-- the first row of an apart list that a word fits is the one that it fits
+found_in : (word : ℕ) (r : Row) (rs : List Row) (i : ℕ) → all_apart rs ≡ true → slice_get rs i ≡ Some r → Fits word r → find (fits word) rs ≡ Some r
+found_in word r [] i apart at h = cc
+found_in word r (s ∷ rs) zero apart at h =
+    let e : s ≡ r = cc in
+    let t : fits word r ≡ true = (fits-Decides word r).1 h in
+    rw (e, t) refl
+found_in word r (s ∷ rs) (suc i) apart at h =
+    let (here, below) = both _ _ apart in
+    let d = passes (λ q. are_apart (content s).fields (content q).fields) rs i r here at in
+    let rest = found_in word r rs i below at h in
+    by_test (fits word s) (Some s) (find (fits word) rs) (Some r) (λ t. not_apart word (content s).fields (content r).fields d ((fits-Decides word s).0 t) h) rest
+
+-- a word that fits a row finds it
+pub row_that_fits-is : (word : ℕ) (r : Row) → Fits word r → row_that_fits word ≡ Some r
+row_that_fits-is word r h = found_in word r all_rows (listed r).0 all_apart-all_rows (listed r).1 h
+
+-- what a search finds passes its test
+find_passes : {X : Type 0} (p : X → Bool) (xs : List X) (x : X) → find p xs ≡ Some x → p x ≡ true
+find_passes p [] x e = cc
+find_passes p (y ∷ ys) x e =
+    elim (p y) as (λ b. p y ≡ b → cond b (Some y) (find p ys) ≡ Some x → p x ≡ true)
+    [ true ↦ λ t f. let d : y ≡ x = cc in rw (← d) t | false ↦ λ _ f. find_passes p ys x f ] refl e
+
+pub row_that_fits-fits : (word : ℕ) (r : Row) → row_that_fits word ≡ Some r → Fits word r
+row_that_fits-fits word r e = (fits-Decides word r).0 (find_passes (fits word) all_rows r e)
+
+pub row_that_fits-None : (word : ℕ) → FitsNone word → row_that_fits word ≡ None
+row_that_fits-None word none =
+    elim (row_that_fits word) as (λ o. row_that_fits word ≡ o → o ≡ None) [ None ↦ λ _. refl | Some r ↦ λ e. absurd (none r (row_that_fits-fits word r e)) ] refl
+
+pub one_row : OneRow
+one_row word r s h k = let a = row_that_fits-is word r h in let b = row_that_fits-is word s k in cc
+
+pub finds_the_row : FindsTheRow
+finds_the_row word =
+    (λ r. (row_that_fits-fits word r, row_that_fits-is word r), λ none r h. let a = row_that_fits-is word r h in cc)

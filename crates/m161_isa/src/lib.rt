@@ -1,0 +1,32 @@
+//! The instruction set, as data.
+//!
+//! ```text
+//! word     32 bits, big-endian in memory; bit 31 is the most significant
+//! fields   opcode 31..26  rs 25..21  rt 20..16  rd 15..11  amount 10..6  funct 5..0
+//!          immediate 15..0  target 25..0
+//! table    69 rows (`Row`), each with a name, the fields that a word of it must have,
+//!          its operands in the order of the assembly text, and its effect
+//! code     `Instr`, what a word is decoded into
+//! ```
+//!
+//! The table itself is `specs/Table.antt`: one line for each row, in the order of the manual's
+//! opcode tables. Source: Kane, MIPS RISC Architecture, for the R3000; `sync`, `ll` and `sc`
+//! are MIPS II's; `wait` is System/161's.
+#![tactic(auto)]
+
+mod amount;
+mod instr;
+mod register;
+mod row;
+mod table;
+mod target;
+
+pub use amount::Amount;
+pub use instr::{
+    ArithOp, Coprocessor, EqualTest, HiLo, ImmediateOp, Instr, JumpOp, LoadOp, MultiplyOp, PlainOp,
+    ShiftOp, StoreOp, ZeroTest, has_row, row_of,
+};
+pub use register::Reg;
+pub use row::{ROWS, Row, rows_in_order};
+pub use table::{Effect, Field, Operand};
+pub use target::Target;
