@@ -1,0 +1,4 @@
+pub mod Copied
+pub mod Header
+pub mod Image
+pub mod LoadError
