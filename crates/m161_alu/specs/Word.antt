@@ -1,0 +1,18 @@
+use Rattle.std.specs.Prelude.{ℕ, ◌-◌, ◌%◌, ◌^◌, ℤ, pos, negsuc, nat_lt, if◌then◌else◌, Option, None, Some}
+use Rattle.std.specs.Int.{cast_signed, w32}
+
+-- Words as whole numbers. Kane, MIPS RISC Architecture, "Data formats".
+
+-- the signed value of a word: less 2^32 from 2^31 on
+abbrev pub signed : ℕ → ℤ
+signed word = cast_signed w32 word
+
+-- the word of a signed value, where it is a signed word
+abbrev pub word_of_signed : ℤ → Option ℕ
+word_of_signed (pos n) = if nat_lt n (2 ^ 31) then Some n else None
+word_of_signed (negsuc n) = if nat_lt n (2 ^ 31) then Some (2 ^ 32 - 1 - n) else None
+
+-- a whole number modulo n
+abbrev pub modulo : ℕ → ℤ → ℕ
+modulo n (pos a) = a % n
+modulo n (negsuc a) = n - 1 - a % n

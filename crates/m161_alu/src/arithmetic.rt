@@ -1,0 +1,92 @@
+//! Sums, shifts, products and quotients.
+
+ghost use Rattle.std.specs.Prelude.{◌≡◌, ◌<◌, ◌+ℤ◌, ◌-ℤ◌};
+ghost use Rattle.m161_alu.specs.Word.{signed, word_of_signed};
+ghost use Rattle.m161_alu.specs.Results.{shifted, product, quotient};
+
+use m161_isa::ShiftOp;
+
+/// How a product, a quotient or a comparison reads its words.
+#[derive(Clone, Copy, Debug, PartialEq, Eq)]
+pub enum Signedness {
+    Signed,
+    Unsigned,
+}
+
+/// What a product or a quotient leaves in HI and LO.
+#[derive(Clone, Copy, Debug, PartialEq, Eq)]
+pub struct HiLoPair {
+    pub hi: u32,
+    pub lo: u32,
+}
+
+/// The signed sum, or `None` where it isn't a signed word.
+pub fn add_checked(a: u32, b: u32) -> Option<u32>
+    ensures { result ≡ word_of_signed (signed a +ℤ signed b) }
+{
+    let sum = a.cast_signed().checked_add(b.cast_signed())?;
+    Some(sum.cast_unsigned())
+}
+
+/// The signed difference, or `None` where it isn't a signed word.
+pub fn sub_checked(a: u32, b: u32) -> Option<u32>
+    ensures { result ≡ word_of_signed (signed a -ℤ signed b) }
+{
+    let difference = a.cast_signed().checked_sub(b.cast_signed())?;
+    Some(difference.cast_unsigned())
+}
+
+/// A word shifted by so many bits.
+pub fn shift(op: ShiftOp, word: u32, amount: u8) -> u32
+    requires { amount < 32 }
+    ensures { result ≡ shifted op word amount }
+{
+    match op {
+        ShiftOp::Left => word << amount,
+        ShiftOp::Right => word >> amount,
+        ShiftOp::RightArithmetic => (word.cast_signed() >> amount).cast_unsigned(),
+    }
+}
+
+/// The upper and the lower word of a product.
+pub fn mult(signedness: Signedness, a: u32, b: u32) -> HiLoPair
+    ensures { result ≡ product signedness a b }
+{
+    let product = match signedness {
+        Signedness::Signed => {
+            (i64::from(a.cast_signed()) * i64::from(b.cast_signed())).cast_unsigned()
+        }
+        Signedness::Unsigned => u64::from(a) * u64::from(b),
+    };
+    HiLoPair {
+        hi: (product >> 32) as u32,
+        lo: (product % (1 << 32)) as u32,
+    }
+}
+
+/// The remainder, for HI, and the quotient, for LO. A division by zero gives LO ffffffff and the
+/// dividend in HI; 80000000 by ffffffff signed gives LO 80000000 and HI 0.
+pub fn div(signedness: Signedness, a: u32, b: u32) -> HiLoPair
+    ensures { result ≡ quotient signedness a b }
+{
+    if b == 0 {
+        return HiLoPair {
+            hi: a,
+            lo: u32::MAX,
+        };
+    }
+    match signedness {
+        Signedness::Signed => {
+            let dividend = a.cast_signed();
+            let divisor = b.cast_signed();
+            HiLoPair {
+                hi: dividend.wrapping_rem(divisor).cast_unsigned(),
+                lo: dividend.wrapping_div(divisor).cast_unsigned(),
+            }
+        }
+        Signedness::Unsigned => HiLoPair {
+            hi: a % b,
+            lo: a / b,
+        },
+    }
+}
