@@ -1,0 +1,22 @@
+use Rattle.std.proofs.Common.{◌≡◌, refl, ap, true, false, List, ℕ, Option, None, Some, Ok, Err}
+use Rattle.std.specs.Option.{option_map}
+use Rattle.m161_cpu.specs.declared.processor.Outcome.TheVariants.{Ran}
+use Rattle.m161_cpu.specs.declared.processor.NotYet.{NotYet}
+use Rattle.m161_cpu.specs.Processor.{Processor, advanced}
+use Rattle.m161_cpu.specs.Effect.{Change}
+use Rattle.m161_cpu.specs.Execute.{Executes}
+use Rattle.m161_cpu.specs.Step.{Steps, ran, counted}
+
+-- an executed change, and the way to the next instruction, are a Step
+pub ran_so : (change : Option Change) (p q : Processor) (memory left : List ℕ) →
+    Executes change p memory true q left →
+    Steps (option_map (ran p memory) change) p memory (Ok Ran) (counted (advanced q)) left
+ran_so None p q memory left h = cc
+ran_so (Some c) p q memory left h = (refl, ap (λ x. counted (advanced x)) h.1, h.2)
+
+-- where nothing was executed the Step is refused
+pub refused_so : (change : Option Change) (p q : Processor) (memory left : List ℕ) (e : NotYet) →
+    Executes change p memory false q left →
+    Steps (option_map (ran p memory) change) p memory (Err e) q left
+refused_so None p q memory left e h = (h.1, h.2)
+refused_so (Some c) p q memory left e h = absurd (let bad : false ≡ true = h.0 in cc)

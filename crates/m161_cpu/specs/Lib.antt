@@ -1,0 +1,5 @@
+pub mod Processor
+pub mod Address
+pub mod Effect
+pub mod Step
+pub mod Execute

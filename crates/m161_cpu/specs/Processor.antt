@@ -1,0 +1,52 @@
+use Rattle.std.specs.Prelude.{ℕ, ◌+◌, ◌%◌, ◌^◌, Bool, false, ◌==◌, if◌then◌else◌, List, slice_set, replicate}
+use Rattle.m161_cpu.specs.declared.processor.ProcessorState.{ProcessorState}
+use Rattle.m161_cpu.specs.declared.processor.ProcessorState.TheVariants.{Stopped, Running}
+
+-- A processor. Kane, MIPS RISC Architecture, "CPU registers".
+
+pub record Processor : Type 0 where
+  pub registers : List ℕ
+  pub hi : ℕ
+  pub lo : ℕ
+  -- the address of the present instruction, and of the next one
+  pub pc : ℕ
+  pub following : ℕ
+  -- the present instruction is in a delay slot
+  pub slot : Bool
+  pub state : ProcessorState
+  -- how many Steps it has made
+  pub count : ℕ
+
+-- one that was never started
+abbrev pub stopped : Processor
+stopped = record {
+  registers = replicate 32 0;
+  hi = 0;
+  lo = 0;
+  pc = 0;
+  following = 0;
+  slot = false;
+  state = Stopped;
+  count = 0;
+}
+
+-- a start at an address, with words for registers 4 and 29; its Steps stay counted
+abbrev pub started : ℕ → ℕ → ℕ → ℕ → Processor
+started pc r4 r29 count = record {
+  registers = slice_set (slice_set (replicate 32 0) 4 r4) 29 r29;
+  hi = 0;
+  lo = 0;
+  pc = pc;
+  following = (pc + 4) % 2 ^ 32;
+  slot = false;
+  state = Running;
+  count = count;
+}
+
+-- a register written; a write to register 0 is lost
+abbrev pub with_register : ℕ → ℕ → Processor → Processor
+with_register r word p = record p { registers = if r == 0 then p.registers else slice_set p.registers r word }
+
+-- on to the next instruction
+abbrev pub advanced : Processor → Processor
+advanced p = record p { pc = p.following; following = (p.following + 4) % 2 ^ 32; slot = false }
