@@ -1,4 +1,6 @@
-use Rattle.std.specs.Prelude.{ℕ, ◌+◌, ◌%◌, ◌^◌, Bool, false, ◌==◌, if◌then◌else◌, List, slice_set, replicate}
+use Rattle.std.specs.Prelude.{ℕ, ◌+◌, ◌%◌, ◌^◌, Bool, true, false, ◌==◌, if◌then◌else◌, List, slice_set, replicate}
+use Rattle.m161_cpu.specs.declared.processor.Flow.{Flow}
+use Rattle.m161_cpu.specs.declared.processor.Flow.TheVariants.{Next, Slot, Jump}
 use Rattle.m161_cpu.specs.declared.processor.ProcessorState.{ProcessorState}
 use Rattle.m161_cpu.specs.declared.processor.ProcessorState.TheVariants.{Stopped, Running}
 
@@ -47,6 +49,18 @@ started pc r4 r29 count = record {
 abbrev pub with_register : ℕ → ℕ → Processor → Processor
 with_register r word p = record p { registers = if r == 0 then p.registers else slice_set p.registers r word }
 
+-- the address after the next one: a jump's target, or the word after
+abbrev pub after_next : Flow → ℕ → ℕ
+after_next Next following = (following + 4) % 2 ^ 32
+after_next Slot following = (following + 4) % 2 ^ 32
+after_next (Jump target) following = target
+
+-- what comes next is in a delay slot
+abbrev pub is_slot : Flow → Bool
+is_slot Next = false
+is_slot Slot = true
+is_slot (Jump target) = true
+
 -- on to the next instruction
-abbrev pub advanced : Processor → Processor
-advanced p = record p { pc = p.following; following = (p.following + 4) % 2 ^ 32; slot = false }
+abbrev pub advanced : Flow → Processor → Processor
+advanced flow p = record p { pc = p.following; following = after_next flow p.following; slot = is_slot flow }

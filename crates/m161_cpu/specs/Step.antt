@@ -9,7 +9,7 @@ use Rattle.m161_cpu.specs.declared.processor.Outcome.TheVariants.{Ran, Idle}
 use Rattle.m161_cpu.specs.declared.processor.NotYet.{NotYet}
 use Rattle.m161_cpu.specs.Processor.{Processor, advanced}
 use Rattle.m161_cpu.specs.Address.{direct}
-use Rattle.m161_cpu.specs.Effect.{Change, change_of, processor_after, memory_after}
+use Rattle.m161_cpu.specs.Effect.{Change, change_of, processor_after, memory_after, flow_of}
 
 -- One Step of a processor.
 
@@ -31,7 +31,7 @@ idle p memory = record { outcome = Idle; processor = counted p; memory = memory 
 abbrev pub ran : Processor → List ℕ → Change → Stepped
 ran p memory change = record {
   outcome = Ran;
-  processor = counted (advanced (processor_after change p));
+  processor = counted (advanced (flow_of change) (processor_after change p));
   memory = memory_after change memory;
 }
 

@@ -1,28 +1,32 @@
 //! Addresses that are RAM without the TLB.
 
-ghost use Rattle.std.specs.Prelude.{◌≡◌, ◌+◌, ◌≤◌, IfSome};
+ghost use Rattle.std.specs.Prelude.{◌≡◌, ◌+◌, ◌≤◌, ◌<◌, IfSome};
 ghost use Rattle.m161_cpu.specs.Address.{direct, physical};
 
-/// The physical address of one in kseg0 or kseg1.
-pub fn physical_of(address: u32) -> Option<u32>
+// The physical address of one in kseg0 or kseg1, which are two views of the same 2^29 bytes.
+fn physical_of(address: u32) -> Option<u32>
     ensures { result ≡ physical address }
 {
-    match address {
-        0x8000_0000..=0x9fff_ffff => Some(address - 0x8000_0000),
-        0xa000_0000..=0xbfff_ffff => Some(address - 0xa000_0000),
-        _ => None,
-    }
-}
-
-/// The physical address of an aligned word of RAM, of which there are `size` bytes.
-pub fn word_address(address: u32, size: u32) -> Option<u32>
-    ensures value { result ≡ direct size 4 address }
-    ensures within { IfSome result (λ at. at + 4 ≤ size) }
-{
-    let at = physical_of(address)?;
-    if address % 4 == 0 && u64::from(at) + 4 <= u64::from(size) {
-        Some(at)
+    if (0x8000_0000..0xc000_0000).contains(&address) {
+        Some(address % 0x2000_0000)
     } else {
         None
     }
+}
+
+/// The physical address of an access of so many bytes, aligned to them, where it is RAM, of which
+/// there are `size` bytes.
+pub fn ram_address(address: u32, width: u32, size: u32) -> Option<u32>
+    requires { 0 < width }
+    ensures value { result ≡ direct size width address }
+    ensures within { IfSome result (λ at. at + width ≤ size) }
+{
+    if address % width != 0 {
+        return None;
+    }
+    let at = physical_of(address)?;
+    if u64::from(at) + u64::from(width) > u64::from(size) {
+        return None;
+    }
+    Some(at)
 }

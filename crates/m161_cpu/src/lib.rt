@@ -15,14 +15,20 @@
 //!            5 on to the following address
 //! ```
 //!
-//! So far sixteen rows of the table make a Step: lui, ori, andi, xori, addiu, addu, subu, and,
-//! or, xor, nor, slt, sltu, sll, lw, sw. Every other word, and every address that isn't aligned
-//! and within RAM by kseg0 or kseg1, is refused as not there yet; nothing is changed then.
+//! One delay slot follows each branch and jump, taken or not; the target counts from the branch's
+//! own address. A load may be used by the next instruction (this project's own rule).
+//!
+//! So far a Step is refused as not there yet, and changes nothing, where it would trap, where it
+//! has to do with coprocessor 0, the TLB or links (opcode 16, `ll`, `sc`), and where an address
+//! isn't aligned and within RAM by kseg0 or kseg1. A branch in a delay slot would trap.
 //! Source: Kane, MIPS RISC Architecture.
 #![tactic(auto)]
 
 mod address;
 mod execute;
+mod flow;
+mod memory;
 mod processor;
+mod product;
 
 pub use processor::{Cpu, NotYet, Outcome, ProcessorState};

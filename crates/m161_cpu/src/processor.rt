@@ -5,7 +5,10 @@ ghost use Rattle.m161_cpu.specs.Processor.{stopped, started, with_register, adva
 ghost use Rattle.m161_cpu.specs.Step.{counted, fetched, step_in, step_of, Steps};
 ghost use Rattle.m161_cpu.specs.declared.processor.ProcessorState.TheVariants.{Running};
 
-use crate::address::word_address;
+mod views;
+
+use crate::address::ram_address;
+use m161_alu::HiLoPair;
 use m161_isa::Reg;
 use m161_ram::Ram;
 use std::marker::Model;
@@ -26,6 +29,17 @@ pub enum Outcome {
     Ran,
     /// The processor is stopped: only its Steps were counted.
     Idle,
+}
+
+/// The way on after an instruction.
+#[derive(Clone, Copy, Debug, PartialEq, Eq)]
+pub(crate) enum Flow {
+    /// To the next address.
+    Next,
+    /// To the next address, a delay slot.
+    Slot,
+    /// To the next address, a delay slot, and from there to this one.
+    Jump(u32),
 }
 
 /// The Step needs a part that isn't there yet.
@@ -101,69 +115,29 @@ impl Cpu {
         };
     }
 
-    /// A general register.
-    pub fn reg(&self, register: Reg) -> u32
-        ensures value { result ≡ slice_index self.now.registers register }
-        ensures zero { register ≡ 0 → result ≡ 0 }
-    {
-        self.registers[usize::from(register.number())]
-    }
-
-    /// HI.
-    pub fn hi(&self) -> u32
-        ensures { result ≡ self.now.hi }
-    {
-        self.hi
-    }
-
-    /// LO.
-    pub fn lo(&self) -> u32
-        ensures { result ≡ self.now.lo }
-    {
-        self.lo
-    }
-
-    /// The address of the present instruction.
-    pub fn pc(&self) -> u32
-        ensures { result ≡ self.now.pc }
-    {
-        self.pc
-    }
-
-    /// Whether the present instruction is in a delay slot.
-    pub fn in_slot(&self) -> bool
-        ensures { result ≡ self.now.slot }
-    {
-        self.slot
-    }
-
-    /// What it is doing.
-    pub fn state(&self) -> ProcessorState
-        ensures { result ≡ self.now.state }
-    {
-        self.state
-    }
-
-    /// How many Steps it has made, idle ones counted.
-    pub fn count(&self) -> u64
-        ensures { result ≡ self.now.count }
-    {
-        self.count
-    }
-
     // A write to register 0 is lost.
     pub(crate) fn set_reg(&mut self, register: Reg, word: u32)
         ensures { self.new ≡ with_register register word self.old }
     {
-        let r = usize::from(register.number());
+        let r = register.index();
         if r != 0 {
             self.registers[r] = word;
         }
     }
 
-    #[tactic(auto, unfolding(crate::specs::Step::step_of))]
+    // Writes HI and LO.
+    pub(crate) fn set_hi_lo(&mut self, pair: HiLoPair) -> Option<Flow>
+        ensures after { self.new ≡ record self.old { hi = pair.hi; lo = pair.lo } }
+        ensures next { result ≡ Some Flow.Next }
+    {
+        self.hi = pair.hi;
+        self.lo = pair.lo;
+        Some(Flow::Next)
+    }
+
     /// One Step of processor `c`. Refused where it needs a part that isn't there yet; nothing is
     /// changed then.
+    #[tactic(auto, unfolding(crate::specs::Step::step_of))]
     pub fn step(&mut self, _c: usize, ram: &mut Ram) -> Result<Outcome, NotYet>
         requires room { self.old.count < 2 ^ 64 - 1 }
         ensures step { Steps (step_of self.old ram.old) self.old ram.old result self.new ram.new }
@@ -186,14 +160,13 @@ impl Cpu {
         ensures counted { OnOk result (self.new.count ≡ self.old.count + 1) }
     {
         match self.fetch(ram) {
-            Some(word) => {
-                if self.perform(word, ram) {
-                    self.advance();
+            Some(word) => match self.perform(word, ram) {
+                Some(flow) => {
+                    self.advance(flow);
                     Ok(Outcome::Ran)
-                } else {
-                    Err(NotYet)
                 }
-            }
+                None => Err(NotYet),
+            },
             None => Err(NotYet),
         }
     }
@@ -202,18 +175,30 @@ impl Cpu {
     fn fetch(&self, ram: &Ram) -> Option<u32>
         ensures { result ≡ fetched self.now ram.now }
     {
-        let at = word_address(self.pc, ram.size())?;
+        let at = ram_address(self.pc, 4, ram.size())?;
         Some(ram.word(at))
     }
 
     // Counts a Step and goes on to the next instruction.
-    fn advance(&mut self)
+    fn advance(&mut self, flow: Flow)
         requires { self.old.count < 2 ^ 64 - 1 }
-        ensures { self.new ≡ counted (advanced self.old) }
+        ensures { self.new ≡ counted (advanced flow self.old) }
     {
         self.count += 1;
         self.pc = self.following;
-        self.following = self.following.wrapping_add(4);
-        self.slot = false;
+        match flow {
+            Flow::Next => {
+                self.following = self.following.wrapping_add(4);
+                self.slot = false;
+            }
+            Flow::Slot => {
+                self.following = self.following.wrapping_add(4);
+                self.slot = true;
+            }
+            Flow::Jump(target) => {
+                self.following = target;
+                self.slot = true;
+            }
+        }
     }
 }

@@ -4,7 +4,7 @@ ghost use Rattle.std.specs.Prelude.{◌≡◌, ◌≤◌, ◌<◌, ◌^◌};
 ghost use Rattle.m161_isa.specs.Table.{bits_of};
 ghost use Rattle.m161_isa.specs.Instr.{rs_of, rt_of, rd_of, amount_of, immediate_of, target_of};
 
-use m161_isa::{Amount, Reg, Target};
+use m161_isa::{Amount, Immediate, Reg, Target};
 
 /// The `width` bits of the word from bit `at` on.
 pub fn narrow(word: u32, at: u32, width: u32) -> u8
@@ -39,10 +39,10 @@ pub fn amount(word: u32) -> Amount
     Amount::new(narrow(word, 6, 5))
 }
 
-pub fn immediate(word: u32) -> u16
+pub fn immediate(word: u32) -> Immediate
     ensures { result ≡ immediate_of word }
 {
-    (word % (1 << 16)) as u16
+    Immediate::new((word % (1 << 16)) as u16)
 }
 
 pub fn target(word: u32) -> Target

@@ -161,28 +161,32 @@ fn numbers_of(instr: &Instr) -> [u32; 3] {
         Instr::MoveTo { rs, .. } => [number(rs), 0, 0],
         Instr::Multiply { rs, rt, .. } => [number(rs), number(rt), 0],
         Instr::Arith { rd, rs, rt, .. } => [number(rd), number(rs), number(rt)],
-        Instr::BranchZero { rs, offset, .. } => [number(rs), u32::from(offset), 0],
+        Instr::BranchZero { rs, offset, .. } => [number(rs), u32::from(offset.half()), 0],
         Instr::Jump { target, .. } => [target.field(), 0, 0],
-        Instr::BranchEqual { rs, rt, offset, .. } => [number(rs), number(rt), u32::from(offset)],
+        Instr::BranchEqual { rs, rt, offset, .. } => [
+            number(rs),
+            number(rt),
+            u32::from(offset.half()),
+        ],
         Instr::Immediate {
             rt,
             rs,
             immediate,
             ..
-        } => [number(rt), number(rs), u32::from(immediate)],
-        Instr::LoadUpper { rt, immediate } => [number(rt), u32::from(immediate), 0],
+        } => [number(rt), number(rs), u32::from(immediate.half())],
+        Instr::LoadUpper { rt, immediate } => [number(rt), u32::from(immediate.half()), 0],
         Instr::Load {
             rt,
             offset,
             base,
             ..
-        } => [number(rt), u32::from(offset), number(base)],
+        } => [number(rt), u32::from(offset.half()), number(base)],
         Instr::Store {
             rt,
             offset,
             base,
             ..
-        } => [number(rt), u32::from(offset), number(base)],
+        } => [number(rt), u32::from(offset.half()), number(base)],
         Instr::MoveFromCop0 { rt, register } => [number(rt), number(register), 0],
         Instr::MoveToCop0 { rt, register } => [number(rt), number(register), 0],
         Instr::Plain(_) | Instr::Absent(_) | Instr::Reserved(_) => [0, 0, 0],

@@ -7,7 +7,7 @@ use std::marker::Model;
 /// A shift amount, 0 to 31 bits.
 #[derive(Clone, Copy, Debug, PartialEq, Eq)]
 pub struct Amount {
-    bits: u8,
+    bits: u32,
 }
 
 impl Model for Amount {
@@ -28,7 +28,7 @@ impl Amount {
         requires { bits < 32 }
         ensures { result ≡ bits }
     {
-        Amount { bits }
+        Amount { bits: bits as u32 }
     }
 
     /// Its number of bits.
@@ -36,6 +36,6 @@ impl Amount {
         ensures value { result ≡ self }
         ensures small { result < 32 }
     {
-        self.bits
+        self.bits as u8
     }
 }

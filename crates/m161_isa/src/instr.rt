@@ -4,6 +4,7 @@ ghost use Rattle.std.specs.Prelude.{◌≡◌, ◌↔◌, ℕ, Some, IsSome, IsT
 ghost use Rattle.m161_isa.specs.Instr.{row_of_instr, is_misfit};
 
 use crate::amount::Amount;
+use crate::immediate::Immediate;
 use crate::register::Reg;
 use crate::row::Row;
 use crate::target::Target;
@@ -183,7 +184,7 @@ pub enum Instr {
     BranchZero {
         test: ZeroTest,
         rs: Reg,
-        offset: u16,
+        offset: Immediate,
     },
     /// `j`, `jal`.
     Jump {
@@ -195,32 +196,32 @@ pub enum Instr {
         test: EqualTest,
         rs: Reg,
         rt: Reg,
-        offset: u16,
+        offset: Immediate,
     },
     /// `addi` to `xori`.
     Immediate {
         op: ImmediateOp,
         rt: Reg,
         rs: Reg,
-        immediate: u16,
+        immediate: Immediate,
     },
     /// `lui`.
     LoadUpper {
         rt: Reg,
-        immediate: u16,
+        immediate: Immediate,
     },
     /// `lb` to `lwr`, `ll`.
     Load {
         op: LoadOp,
         rt: Reg,
-        offset: u16,
+        offset: Immediate,
         base: Reg,
     },
     /// `sb` to `swr`, `sc`.
     Store {
         op: StoreOp,
         rt: Reg,
-        offset: u16,
+        offset: Immediate,
         base: Reg,
     },
     /// `mfc0`.

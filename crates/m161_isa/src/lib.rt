@@ -15,6 +15,7 @@
 #![tactic(auto)]
 
 mod amount;
+mod immediate;
 mod instr;
 mod register;
 mod row;
@@ -22,6 +23,7 @@ mod table;
 mod target;
 
 pub use amount::Amount;
+pub use immediate::Immediate;
 pub use instr::{
     ArithOp, Coprocessor, EqualTest, HiLo, ImmediateOp, Instr, JumpOp, LoadOp, MultiplyOp, PlainOp,
     ShiftOp, StoreOp, ZeroTest, has_row, row_of,

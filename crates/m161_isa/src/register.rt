@@ -7,7 +7,7 @@ use std::marker::Model;
 /// A register's number, 0 to 31: of a general register, or of one of coprocessor 0.
 #[derive(Clone, Copy, Debug, PartialEq, Eq)]
 pub struct Reg {
-    number: u8,
+    number: u32,
 }
 
 impl Model for Reg {
@@ -28,7 +28,9 @@ impl Reg {
         requires { number < 32 }
         ensures { result ≡ number }
     {
-        Reg { number }
+        Reg {
+            number: number as u32,
+        }
     }
 
     /// Its number.
@@ -36,6 +38,14 @@ impl Reg {
         ensures value { result ≡ self }
         ensures small { result < 32 }
     {
-        self.number
+        self.number as u8
+    }
+
+    /// Its number, as a place in a table of registers.
+    pub const fn index(self) -> usize
+        ensures value { result ≡ self }
+        ensures small { result < 32 }
+    {
+        self.number as usize
     }
 }
