@@ -9,8 +9,6 @@
 mod arithmetic;
 mod bytes;
 mod test;
-#[cfg(test)]
-mod tests;
 
 pub use arithmetic::{HiLoPair, Signedness, add_checked, div, mult, shift, sub_checked};
 pub use bytes::{merge_left, merge_right};

@@ -2,7 +2,7 @@ use Rattle.std.proofs.Common.{◌≡◌, refl, ℕ, List, None}
 use Rattle.m161_isa.specs.declared.instr.Coprocessor.{Coprocessor}
 use Rattle.m161_isa.specs.declared.instr.Instr.TheVariants.{MoveFromCop0, MoveToCop0, Absent, Reserved}
 use Rattle.m161_cpu.specs.Processor.{Processor}
-use Rattle.m161_cpu.specs.Effect.{Change, change_of}
+use Rattle.m161_cpu.specs.Effect.{change_of}
 use Rattle.m161_cpu.specs.Execute.{change_by}
 
 -- what isn't there yet changes nothing

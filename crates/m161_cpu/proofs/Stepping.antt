@@ -1,4 +1,4 @@
-use Rattle.std.proofs.Common.{◌≡◌, refl, ap, true, false, List, ℕ, Option, None, Some, Ok, Err}
+use Rattle.std.proofs.Common.{◌≡◌, refl, List, ℕ, Option, None, Some, Ok, Err}
 use Rattle.std.specs.Option.{option_map}
 use Rattle.m161_cpu.specs.declared.processor.Outcome.TheVariants.{Ran}
 use Rattle.m161_cpu.specs.declared.processor.NotYet.{NotYet}

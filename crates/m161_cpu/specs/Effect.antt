@@ -1,4 +1,4 @@
-use Rattle.std.specs.Prelude.{ℕ, ◌+◌, ◌-◌, ◌*◌, ◌/◌, ◌%◌, ◌^◌, ℤ, ◌+ℤ◌, ◌-ℤ◌, Bool, true, false, not, ◌==◌, bit_and, bit_or, bit_xor, if◌then◌else◌, List, [], ◌∷◌, length, slice_index, slice_set, Option, None, Some}
+use Rattle.std.specs.Prelude.{ℕ, ◌+◌, ◌-◌, ◌*◌, ◌/◌, ◌%◌, ◌^◌, ◌+ℤ◌, ◌-ℤ◌, Bool, true, false, not, ◌==◌, bit_and, bit_or, bit_xor, if◌then◌else◌, List, [], ◌∷◌, length, slice_index, slice_set, Option, None, Some}
 use Rattle.std.specs.Option.{option_map}
 use Rattle.std.specs.Int.{cast_signed, cast_unsigned, w8, w16, w32}
 use Rattle.m161_isa.specs.declared.row.Row.{Row}

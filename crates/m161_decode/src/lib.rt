@@ -9,8 +9,6 @@ mod decoding;
 mod encoding;
 mod fields;
 mod laws;
-#[cfg(test)]
-mod tests;
 
 pub use decoding::decode;
 pub use encoding::{encode, is_canonical};

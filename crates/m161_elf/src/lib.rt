@@ -19,8 +19,6 @@ mod fault;
 mod header;
 mod image;
 mod loader;
-#[cfg(test)]
-mod tests;
 
 pub use header::ProgramHeader;
 pub use image::{Image, LoadError};

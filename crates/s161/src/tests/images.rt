@@ -1,6 +1,6 @@
 //! Files, and what they load as in 4096 bytes of RAM.
 
-use crate::{Image, LoadError, load};
+use m161_elf::{Image, LoadError, load};
 use std::alloc::{AllocError, Global};
 use std::test::Fail;
 

@@ -1,6 +1,6 @@
 //! Words against what another assembler says of them.
 
-use super::*;
+use m161_decode::{decode, encode, is_canonical};
 use m161_isa::{Coprocessor, Instr, Reg, has_row, row_of};
 use std::process::Abort;
 use std::test::Fail;

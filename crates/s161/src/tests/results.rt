@@ -1,6 +1,6 @@
 //! Values from the machine's specification.
 
-use crate::{
+use m161_alu::{
     HiLoPair, Signedness, add_checked, branch_taken, div, merge_left, merge_right, mult,
     set_on_less, shift, sub_checked,
 };

@@ -1,0 +1,99 @@
+//! The machine's side of the benchmark: steps through a loop of loads, stores, shifts, sums and a
+//! branch with its slot, the log's entry written each Step.
+//!
+//! The argument is a number of runs. Each boots the image anew and makes 1,000,000 Steps, as many
+//! as its log has room for. The sum of the runs' last words goes to standard output, and the
+//! nanoseconds that they took to standard error.
+#![tactic(auto)]
+
+use m161_isa::Reg;
+use m161_machine::{Conf, Machine};
+use std::alloc::Global;
+use std::env;
+use std::process::ExitCode;
+use std::time::Instant;
+
+const STEPS: u32 = 1_000_000;
+
+const CONF: Conf = Conf {
+    ram: 65_536,
+    processors: 1,
+    log: STEPS,
+};
+
+/// An ELF file of one segment at 80000200, with the program below.
+///
+/// ```text
+///       lui $16, 0x8000
+///       ori $16, $16, 0x1000
+/// loop: lw $8, 0($16)
+///       addu $9, $8, $17
+///       sll $10, $9, 3
+///       srl $11, $9, 5
+///       xor $9, $10, $11
+///       sw $9, 0($16)
+///       lbu $12, 2($16)
+///       addiu $18, $18, 1
+///       slt $13, $12, $9
+///       sb $13, 4($16)
+///       bne $18, $0, loop
+///       addu $17, $17, $18
+/// ```
+static IMAGE: [u8; 140] = [
+    0x7f, 0x45, 0x4c, 0x46, 0x01, 0x02, 0x01, 0x00, 0x00, 0x00, 0x00, 0x00, 0x00, 0x00, 0x00, 0x00,
+    0x00, 0x02, 0x00, 0x08, 0x00, 0x00, 0x00, 0x01, 0x80, 0x00, 0x02, 0x00, 0x00, 0x00, 0x00, 0x34,
+    0x00, 0x00, 0x00, 0x00, 0x00, 0x00, 0x00, 0x00, 0x00, 0x34, 0x00, 0x20, 0x00, 0x01, 0x00, 0x00,
+    0x00, 0x00, 0x00, 0x00, 0x00, 0x00, 0x00, 0x01, 0x00, 0x00, 0x00, 0x54, 0x80, 0x00, 0x02, 0x00,
+    0x80, 0x00, 0x02, 0x00, 0x00, 0x00, 0x00, 0x38, 0x00, 0x00, 0x00, 0x38, 0x00, 0x00, 0x00, 0x07,
+    0x00, 0x00, 0x00, 0x04, 0x3c, 0x10, 0x80, 0x00, 0x36, 0x10, 0x10, 0x00, 0x8e, 0x08, 0x00, 0x00,
+    0x01, 0x11, 0x48, 0x21, 0x00, 0x09, 0x50, 0xc0, 0x00, 0x09, 0x59, 0x42, 0x01, 0x4b, 0x48, 0x26,
+    0xae, 0x09, 0x00, 0x00, 0x92, 0x0c, 0x00, 0x02, 0x26, 0x52, 0x00, 0x01, 0x01, 0x89, 0x68, 0x2a,
+    0xa2, 0x0d, 0x00, 0x04, 0x16, 0x40, 0xff, 0xf5, 0x02, 0x32, 0x88, 0x21,
+];
+
+// The last word of a run, and how many Steps it made.
+fn run(alloc: Global) -> Option<(u32, u64)> {
+    let mut machine = Machine::boot(alloc, &IMAGE, CONF).ok()?;
+    for _ in 0..STEPS {
+        let _ = machine.step(0);
+    }
+    if machine.processors() == 0 {
+        return None;
+    }
+    Some((machine.reg(0, Reg::new(17)), machine.count(0)))
+}
+
+// The sums of the words and the Steps of so many runs.
+fn runs(alloc: Global, times: u32) -> Option<(u32, u64)> {
+    let mut word = 0u32;
+    let mut steps = 0u64;
+    for _ in 0..times {
+        let (last, made) = run(alloc)?;
+        word = word.wrapping_add(last);
+        steps = steps.saturating_add(made);
+    }
+    Some((word, steps))
+}
+
+// The number in the first argument.
+fn times(rt: &HostRuntime) -> Option<u32> {
+    env::args(rt).ok()?.nth(1)?.parse().ok()
+}
+
+fn main(rt: HostRuntime) -> ExitCode {
+    let Some(times) = times(&rt) else {
+        return ExitCode::from(2);
+    };
+    let Ok(start) = Instant::now(&rt) else {
+        return ExitCode::from(1);
+    };
+    let Some((word, steps)) = runs(rt.alloc(), times) else {
+        return ExitCode::from(1);
+    };
+    let Ok(took) = start.elapsed(&rt) else {
+        return ExitCode::from(1);
+    };
+    let nanoseconds = took.as_nanos();
+    let said = println!(rt; "{steps} {word:08x}").is_ok() && eprintln!(rt; "{nanoseconds}").is_ok();
+    ExitCode::from(if said { 0 } else { 1 })
+}

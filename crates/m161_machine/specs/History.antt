@@ -1,0 +1,119 @@
+use Rattle.std.specs.Prelude.{◌≡◌, ℕ, ◌-◌, ◌≤◌, Bool, false, List, [], ◌∷◌, ◌++◌, map, length, replicate, Option, None, Some, Result, Ok, Err, All, if◌then◌else◌}
+use Rattle.m161_elf.specs.declared.image.LoadError.{LoadError}
+use Rattle.m161_elf.specs.Image.{first_fault, IsImage}
+use Rattle.m161_cpu.specs.declared.processor.Outcome.{Outcome}
+use Rattle.m161_cpu.specs.Processor.{Processor, stopped, started}
+use Rattle.m161_machine.specs.declared.conf.Conf.{Conf}
+use Rattle.m161_machine.specs.declared.conf.BootError.{BootError}
+use Rattle.m161_machine.specs.declared.conf.BootError.TheVariants.{BadConf, Load, NoMemory}
+use Rattle.m161_machine.specs.declared.event.Event.{Event}
+use Rattle.m161_machine.specs.declared.event.Entry.{Entry}
+use Rattle.m161_machine.specs.declared.event.Refusal.{Refusal}
+use Rattle.m161_machine.specs.Conf.{is_within_limits}
+use Rattle.m161_machine.specs.State.{State, next}
+
+-- What a machine is: the replay of its log.
+
+-- what a machine is booted from: all of RAM, the address of the first instruction, and its size
+pub record Start : Type 0 where
+  pub bytes : List ℕ
+  pub entry : ℕ
+  pub conf : Conf
+
+-- the state at boot: processor 0 is started at the entry, and the others are stopped
+abbrev pub boot_state : Start → State
+boot_state start = record {
+  conf = start.conf;
+  processors = started start.entry 0 0 0 ∷ replicate (start.conf.processors - 1) stopped;
+  memory = start.bytes;
+  accepted = 0;
+  off = false;
+}
+
+-- one outcome more, in front
+abbrev pub after_outcome : Outcome → Option (List Outcome × State) → Option (List Outcome × State)
+after_outcome o None = None
+after_outcome o (Some r) = Some (o ∷ r.0, r.1)
+
+-- what comes after an event, if it is accepted
+abbrev pub going_on : Result (Outcome × State) Refusal → (State → Option (List Outcome × State)) → Option (List Outcome × State)
+going_on (Err refusal) rest = None
+going_on (Ok r) rest = after_outcome r.0 (rest r.1)
+
+-- the outcomes of a run and its last state, where each event is accepted
+abbrev pub run : State → List Event → Option (List Outcome × State)
+run s [] = Some ([], s)
+run s (e ∷ es) = going_on (next s e) (λ t. run t es)
+
+abbrev pub events_of : List Entry → List Event
+events_of log = map (λ (e : Entry). e.event) log
+
+abbrev pub outcomes_of : List Entry → List Outcome
+outcomes_of log = map (λ (e : Entry). e.outcome) log
+
+-- what contracts see of a machine
+pub record History : Type 0 where
+  pub start : Start
+  pub log : List Entry
+  pub state : State
+
+-- from its start, the events of the log are accepted with the log's outcomes, and end in the state
+abbrev pub IsReplay : History → Type 0
+IsReplay h = run (boot_state h.start) (events_of h.log) ≡ Some (outcomes_of h.log, h.state)
+
+-- the last state of a run from s
+abbrev pub last_state : State → Option (List Outcome × State) → State
+last_state s None = s
+last_state s (Some r) = r.1
+
+-- the history of a start and a log
+abbrev pub history : Start → List Entry → History
+history start log = record {
+  start = start;
+  log = log;
+  state = last_state (boot_state start) (run (boot_state start) (events_of log));
+}
+
+abbrev pub entry : Event → Outcome → Entry
+entry e o = record { event = e; outcome = o }
+
+-- what an event answers and leaves: what `next` gives, with its entry appended to the log; or its refusal, and nothing is changed
+abbrev pub Answers : History → Event → Result Outcome Refusal → History → Type 0
+Answers m e (Ok o) n = (next m.state e ≡ Ok (o, n.state)) × (n.log ≡ m.log ++ entry e o ∷ []) × (n.start ≡ m.start)
+Answers m e (Err refusal) n = (next m.state e ≡ Err refusal) × (n ≡ m)
+
+-- a machine that was just booted from a file
+pub record IsBooted (file : List ℕ) (conf : Conf) (m : History) : Type 0 where
+  pub conf_is : m.start.conf ≡ conf
+  pub image : IsImage file conf.ram m.start.entry m.start.bytes
+  pub log_is : m.log ≡ []
+  pub state_is : m.state ≡ boot_state m.start
+
+-- the fault of an image, as an error of the boot
+abbrev pub load_fault : Option LoadError → Option BootError
+load_fault None = None
+load_fault (Some e) = Some (Load e)
+
+-- the first reason not to boot
+abbrev pub boot_fault : List ℕ → Conf → Option BootError
+boot_fault file conf = if is_within_limits conf then load_fault (first_fault file conf.ram) else Some BadConf
+
+-- what a boot answers, by the first reason not to: that reason, or the machine, or that memory was refused
+abbrev pub Boots : List ℕ → Conf → Option BootError → Result History BootError → Type 0
+Boots file conf (Some first) (Ok m) = ⊥
+Boots file conf (Some first) (Err e) = e ≡ first
+Boots file conf None (Ok m) = IsBooted file conf m
+Boots file conf None (Err e) = e ≡ NoMemory
+
+-- what the parts of a machine have to do with its history
+pub record Agrees (h : History) (processors : List Processor) (memory : List ℕ) (off : Bool) : Type 0 where
+  pub replay : IsReplay h
+  pub processors_are : processors ≡ h.state.processors
+  pub memory_is : memory ≡ h.state.memory
+  pub off_is : off ≡ h.state.off
+  pub conf_is : h.state.conf ≡ h.start.conf
+  pub size_is : length processors ≡ h.start.conf.processors
+  pub accepted_is : h.state.accepted ≡ length h.log
+  pub log_fits : length h.log ≤ h.start.conf.log
+  -- so no count of Steps overflows
+  pub counts : All (λ (p : Processor). p.count ≤ length h.log) processors

@@ -1,0 +1,4 @@
+pub mod Refusal
+pub mod Conf
+pub mod State
+pub mod History

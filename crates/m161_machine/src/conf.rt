@@ -1,0 +1,46 @@
+//! What a machine is made of, and why one isn't made.
+
+ghost use Rattle.std.specs.Prelude.{◌≡◌};
+ghost use Rattle.m161_machine.specs.Conf.{is_within_limits};
+
+use m161_elf::LoadError;
+use thiserror::Error;
+
+/// The size of a machine.
+#[derive(Clone, Copy, Debug, PartialEq, Eq)]
+pub struct Conf {
+    /// Bytes of RAM: 4,096 to 16,777,216, in pages of 4,096.
+    pub ram: u32,
+    /// Processors: 1 so far.
+    pub processors: u32,
+    /// Entries of the log: 1 to 16,777,216.
+    pub log: u32,
+}
+
+impl Conf {
+    /// Whether it is within the limits.
+    pub fn is_within_limits(&self) -> bool
+        ensures { result ≡ is_within_limits self.now }
+    {
+        self.ram >= 4096
+            && self.ram <= 16_777_216
+            && self.ram % 4096 == 0
+            && self.processors == 1
+            && self.log >= 1
+            && self.log <= 16_777_216
+    }
+}
+
+/// Why a machine isn't booted. Each is answered where none above it holds.
+#[derive(Clone, Copy, Debug, PartialEq, Eq, Error)]
+pub enum BootError {
+    /// The configuration is outside the limits.
+    #[error("the configuration is outside the limits")]
+    BadConf,
+    /// The file isn't loaded; the error is never `NoMemory`.
+    #[error("the image: {0}")]
+    Load(LoadError),
+    /// Memory was refused.
+    #[error("out of memory")]
+    NoMemory,
+}

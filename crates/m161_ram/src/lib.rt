@@ -1,0 +1,95 @@
+//! Physical memory.
+//!
+//! RAM begins at physical address 0. A word is four bytes, the most significant first: the
+//! machine is big-endian (Kane, MIPS RISC Architecture, data formats).
+#![tactic(auto)]
+
+ghost use Rattle.std.specs.Prelude.{◌≡◌, ◌+◌, ◌^◌, ◌<◌, ◌≤◌, length, replicate, slice_index, slice_set, vec_len, IfOk};
+ghost use Rattle.m161_ram.specs.Word.{word_at, with_word};
+
+use std::alloc::{AllocError, Global};
+use std::marker::Model;
+
+/// RAM: a map from each physical address below its size to a byte.
+#[derive(Debug, Drop)]
+pub struct Ram {
+    bytes: Vec<u8>,
+}
+
+impl Model for Ram {
+    ghost use Rattle.std.specs.Prelude.{ℕ, List, length, ◌<◌, ◌^◌};
+
+    ghost Value = { List ℕ };
+
+    ghost view = { λ ram. ram.bytes.items };
+
+    ghost invariant = { λ ram. length ram.bytes.items < 2 ^ 32 };
+}
+
+impl Ram {
+    /// So many bytes, all zero.
+    pub fn new(alloc: Global, size: u32) -> Result<Ram, AllocError>
+        ensures { IfOk result (λ ram. ram ≡ replicate size 0) }
+    {
+        let bytes = vec![in alloc; 0u8; size as usize]?;
+        Ok(Ram { bytes })
+    }
+
+    /// These bytes, from address 0 on.
+    pub fn from_bytes(bytes: Vec<u8>) -> Ram
+        requires { vec_len bytes < 2 ^ 32 }
+        ensures { result ≡ bytes.items }
+    {
+        Ram { bytes }
+    }
+
+    /// How many bytes there are.
+    pub fn size(&self) -> u32
+        ensures { result ≡ length self.now }
+    {
+        self.bytes.len() as u32
+    }
+
+    /// The byte at a physical address.
+    pub fn byte(&self, address: u32) -> u8
+        requires { address < length self.now }
+        ensures { result ≡ slice_index self.now address }
+    {
+        self.bytes[address as usize]
+    }
+
+    /// Puts a byte at a physical address.
+    pub fn set_byte(&mut self, address: u32, byte: u8)
+        requires { address < length self.old }
+        ensures { self.new ≡ slice_set self.old address byte }
+    {
+        self.bytes[address as usize] = byte;
+    }
+
+    /// The word whose first byte is at a physical address.
+    pub fn word(&self, address: u32) -> u32
+        requires { address + 4 ≤ length self.now }
+        ensures { result ≡ word_at self.now address }
+    {
+        let at = address as usize;
+        u32::from_be_bytes([
+            self.bytes[at],
+            self.bytes[at + 1],
+            self.bytes[at + 2],
+            self.bytes[at + 3],
+        ])
+    }
+
+    /// Puts a word at a physical address.
+    pub fn set_word(&mut self, address: u32, word: u32)
+        requires { address + 4 ≤ length self.old }
+        ensures { self.new ≡ with_word self.old address word }
+    {
+        let at = address as usize;
+        let bytes = word.to_be_bytes();
+        self.bytes[at] = bytes[0];
+        self.bytes[at + 1] = bytes[1];
+        self.bytes[at + 2] = bytes[2];
+        self.bytes[at + 3] = bytes[3];
+    }
+}

@@ -1,0 +1,35 @@
+//! Why a command ends early.
+
+use m161_elf::LoadError;
+use m161_machine::BootError;
+use std::alloc::AllocError;
+use thiserror::Error;
+
+/// Why a command ends early; its text is the line on standard error.
+#[derive(Clone, Copy, Debug, PartialEq, Eq, Error)]
+pub enum Fault {
+    #[error("s161: conf")]
+    Conf,
+    #[error("s161: image {} {}", .0.number(), .0.name())]
+    Image(LoadError),
+    #[error("s161: memory")]
+    Memory,
+    #[error("s161: output")]
+    Output,
+}
+
+impl From<AllocError> for Fault {
+    fn from(_error: AllocError) -> Fault {
+        Fault::Memory
+    }
+}
+
+impl From<BootError> for Fault {
+    fn from(error: BootError) -> Fault {
+        match error {
+            BootError::BadConf => Fault::Conf,
+            BootError::Load(error) => Fault::Image(error),
+            BootError::NoMemory => Fault::Memory,
+        }
+    }
+}
