@@ -8,8 +8,8 @@
 
 mod arithmetic;
 mod bytes;
-mod test;
+mod comparison;
 
 pub use arithmetic::{HiLoPair, Signedness, add_checked, div, mult, shift, sub_checked};
 pub use bytes::{merge_left, merge_right};
-pub use test::{branch_taken, set_on_less};
+pub use comparison::{branch_taken, set_on_less};

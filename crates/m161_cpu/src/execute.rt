@@ -126,31 +126,25 @@ impl Cpu {
         ensures { Executes (change_by self.old ram.old instr.now) self.old ram.old result self.new ram.new }
     {
         match *instr {
-            Instr::Shift { op, rd, rt, amount } => {
-                let value = shifted_by(op, self.reg(rt), amount);
-                self.set_if(rd, value)
-            }
-            Instr::ShiftVariable { op, rd, rt, rs } => {
-                let value = shifted_by_register(op, self.reg(rt), self.reg(rs));
-                self.set_if(rd, value)
-            }
-            Instr::Arith { op, rd, rs, rt } => {
-                let value = arithmetic(op, self.reg(rs), self.reg(rt));
-                self.set_if(rd, value)
-            }
+            Instr::Shift { op, rd, rt, amount } => self.set_if(
+                rd,
+                shifted_by(op, self.reg(rt), amount),
+            ),
+            Instr::ShiftVariable { op, rd, rt, rs } => self.set_if(
+                rd,
+                shifted_by_register(op, self.reg(rt), self.reg(rs)),
+            ),
+            Instr::Arith { op, rd, rs, rt } => self.set_if(
+                rd,
+                arithmetic(op, self.reg(rs), self.reg(rt)),
+            ),
             Instr::Immediate {
                 op,
                 rt,
                 rs,
                 immediate,
-            } => {
-                let value = with_immediate(op, self.reg(rs), immediate);
-                self.set_if(rt, value)
-            }
-            Instr::LoadUpper { rt, immediate } => {
-                let value = upper(immediate);
-                self.set_if(rt, value)
-            }
+            } => self.set_if(rt, with_immediate(op, self.reg(rs), immediate)),
+            Instr::LoadUpper { rt, immediate } => self.set_if(rt, upper(immediate)),
             Instr::Multiply { op, rs, rt } => self.multiply(op, rs, rt),
             Instr::MoveFrom { from, rd } => self.move_from(from, rd),
             Instr::MoveTo { to, rs } => self.move_to(to, rs),
@@ -169,10 +163,10 @@ impl Cpu {
                 rt,
                 offset,
                 base,
-            } => {
-                let value = loaded(op, self.address(offset, base), self.reg(rt), ram);
-                self.set_if(rt, value)
-            }
+            } => self.set_if(
+                rt,
+                loaded(op, self.address(offset, base), self.reg(rt), ram),
+            ),
             Instr::Store {
                 op,
                 rt,

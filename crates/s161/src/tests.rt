@@ -230,6 +230,13 @@ fn not_yet(rt: HostRuntime) -> Result<(), Fail> {
         assert_eq!(rt; machine.pc(0), 0x8000_0200);
         assert_eq!(rt; machine.count(0), 0);
     }
+    // jr $0 and its slot are executed; address 0 isn't there yet
+    let file = file_of(rt.alloc(), 1, ENTRY, ENTRY, 8, 8, &[0x0000_0008, 0])?;
+    let mut machine = Machine::boot(rt.alloc(), &file, SMALL)?;
+    assert_eq!(rt; machine.step(0), Ok(Outcome::Ran));
+    assert_eq!(rt; machine.step(0), Ok(Outcome::Ran));
+    assert_eq!(rt; machine.step(0), Err(Refusal::NotYet));
+    assert_eq!(rt; machine.log().len(), 2);
     assert_eq!(rt; Refusal::NotYet.number(), 7);
     assert_eq!(rt; Refusal::NotYet.name(), "NotYet");
     Ok(())
