@@ -63,7 +63,7 @@ fn link_registers(rt: HostRuntime) -> Result<(), Fail> {
 }
 
 #[test]
-fn divisions(rt: HostRuntime) -> Result<(), Fail> {
+fn arithmetic(rt: HostRuntime) -> Result<(), Fail> {
     // ori $8, $0, 7; div $8, $0
     let a = left(&rt, rt.alloc(), ENTRY, &[0x3408_0007, 0x0100_001a], 0)?;
     assert_eq!(rt; (a[2], a[1]), (0xffff_ffff, 7));
@@ -76,11 +76,7 @@ fn divisions(rt: HostRuntime) -> Result<(), Fail> {
         0,
     )?;
     assert_eq!(rt; (b[2], b[1]), (0x8000_0000, 0));
-    Ok(())
-}
 
-#[test]
-fn merges(rt: HostRuntime) -> Result<(), Fail> {
     // lwl, lwr, swl and swr of $8 at 0($16) to 3($16), and what $8 or the word there is then
     let cases = [
         (0x8a08_0000, 0x1122_3344, true),
@@ -138,19 +134,5 @@ fn delay_slots(rt: HostRuntime) -> Result<(), Fail> {
     assert_eq!(rt; machine.processors(), 1);
     assert!(rt; machine.in_slot(0));
     assert_eq!(rt; machine.log().len(), 1);
-    Ok(())
-}
-
-#[test]
-fn overflow(rt: HostRuntime) -> Result<(), Fail> {
-    // lui $8, 0x7fff; ori $8, $8, 0xffff; addi $9, $8, 1
-    let words = [0x3c08_7fff, 0x3508_ffff, 0x2109_0001];
-    let mut machine = booted(rt.alloc(), ENTRY, &words)?;
-    assert_eq!(rt; machine.step(0), Ok(Outcome::Ran));
-    assert_eq!(rt; machine.step(0), Ok(Outcome::Ran));
-    assert_eq!(rt; machine.step(0), Err(Refusal::NotYet));
-    assert_eq!(rt; machine.processors(), 1);
-    assert_eq!(rt; machine.reg(0, Reg::new(9)), 0);
-    assert_eq!(rt; machine.pc(0), 0x8000_0208);
     Ok(())
 }
