@@ -47,7 +47,7 @@ pub(crate) enum Flow {
 pub struct NotYet;
 
 /// A processor.
-#[derive(Debug, Drop)]
+#[derive(Drop)]
 pub struct Cpu {
     registers: [u32; 32],
     hi: u32,

@@ -24,6 +24,7 @@ pub record IsSound (file : List ℕ) (ram : ℕ) (segment : ProgramHeader) : Typ
 
 pub is_sound : (file : List ℕ) (ram : ℕ) (segment : ProgramHeader) → first_fault file ram ≡ None
     → segments file ≡ segment ∷ [] → IsSound file ram segment
+unfolding first_fault
 is_sound file ram segment none one =
     let first = (later (is_truncated file) _ _ none).1 in
     let second = (later (is_not_elf32_big file) _ _ first).1 in

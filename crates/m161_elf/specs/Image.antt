@@ -57,7 +57,7 @@ abbrev pub has_bad_entry : List ℕ → ℕ → Bool
 has_bad_entry file ram = not (entry_of file % 4 == 0) || not (is_in_ram ram (entry_of file) 1)
 
 -- the first fault that holds, each over all segments before the next
-abbrev pub first_fault : List ℕ → ℕ → Option LoadError
+unfoldable pub first_fault : List ℕ → ℕ → Option LoadError
 first_fault file ram =
     if is_truncated file then Some fault.Truncated
     else if is_not_elf32_big file then Some fault.NotElf32Big

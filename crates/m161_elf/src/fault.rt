@@ -1,6 +1,7 @@
 //! Why a file is refused.
 
-ghost use Rattle.std.specs.Prelude.{◌≡◌, ◌+◌, ◌≤◌, length};
+ghost use Rattle.std.specs.Prelude.{◌≡◌, ◌+◌, ◌≤◌, length, IfNone};
+ghost use Rattle.m161_elf.specs.Header.{header_count_of, header_table_of};
 ghost use Rattle.m161_elf.specs.Image.{first_fault, has_bad_entry, has_bad_header_table, is_larger_in_file, is_not_elf32_big, is_not_executable, is_not_mips, is_outside_file, is_outside_ram};
 
 use crate::address::is_in_ram;
@@ -20,8 +21,12 @@ const EXECUTABLE: u16 = 2;
 const MIPS: u16 = 8;
 
 /// The first fault that holds.
+#[tactic(auto, unfolding(crate::specs::Image::first_fault))]
 pub(crate) fn fault(file: &[u8], ram: u32) -> Option<LoadError>
-    ensures { result ≡ first_fault file.now ram }
+    ensures first { result ≡ first_fault file.now ram }
+    ensures header { IfNone result (52 ≤ length file.now) }
+    ensures count { IfNone result (header_count_of file.now ≡ 1) }
+    ensures table { IfNone result (header_table_of file.now + 32 ≤ length file.now) }
 {
     if file.len() < HEADER_SIZE {
         return Some(LoadError::Truncated);

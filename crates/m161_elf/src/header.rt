@@ -27,7 +27,7 @@ pub(crate) const PROGRAM_HEADER_SIZE: u16 = 32;
 const PT_LOAD: u32 = 1;
 
 /// A program header's fields that are used.
-#[derive(Clone, Copy, Debug, PartialEq, Eq)]
+#[derive(Clone, Copy)]
 pub struct ProgramHeader {
     /// 1 for PT_LOAD, a segment to load.
     pub kind: u32,

@@ -6,7 +6,7 @@ ghost use Rattle.m161_elf.specs.LoadError.{name_of_fault, number_of_fault};
 use thiserror::Error;
 
 /// What a file leaves: where the first step fetches, and the bytes of all of RAM.
-#[derive(Debug, Drop)]
+#[derive(Drop)]
 pub struct Image {
     /// The address of the first instruction, in kseg0 or kseg1.
     pub entry: u32,

@@ -2,10 +2,9 @@ use Rattle.std.specs.Prelude.{map}
 use Rattle.std.proofs.Common.{◌≡◌, ℕ, ◌+◌, ◌<◌, List, [], ◌∷◌, refl, lit<, arith}
 use Rattle.m161_isa.specs.declared.row.Row.{Row}
 use Rattle.m161_isa.specs.declared.row.Row.TheVariants as rows
-use Rattle.m161_isa.specs.declared.table.Field.{Field}
 use Rattle.m161_isa.specs.declared.table.Operand.{Operand}
 use Rattle.m161_isa.specs.declared.table.Operand.TheVariants as operand
-use Rattle.m161_isa.specs.Table.{content, special, opcode, regimm, cop0, cop0_function, HasFields, number_of, sum_of_fields, sum_of_operands}
+use Rattle.m161_isa.specs.Table.{Field, content, special, opcode, regimm, cop0, cop0_function, HasFields, number_of, sum_of_fields, sum_of_operands}
 
 -- The word of a row with a word's operands: it fits the row, and has the same operands.
 

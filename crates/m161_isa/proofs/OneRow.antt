@@ -6,8 +6,7 @@ use Rattle.std.proofs.lemmas.Bool.Decides.{Decides-eqb, Decides-and, nat_tests}
 use Rattle.std.proofs.lemmas.Bool.{or_cases}
 use Rattle.m161_isa.specs.declared.row.Row.{Row}
 use Rattle.m161_isa.specs.declared.row.Row.TheVariants as rows
-use Rattle.m161_isa.specs.declared.table.Field.{Field}
-use Rattle.m161_isa.specs.Table.{bits_of, content, all_rows, HasFields, Fits, FitsNone, has_fields, fits, row_that_fits}
+use Rattle.m161_isa.specs.Table.{Field, bits_of, content, all_rows, HasFields, Fits, FitsNone, has_fields, fits, row_that_fits}
 use Rattle.m161_isa.specs.Laws.{OneRow, FindsTheRow}
 
 -- A word fits one row at most: a test over the table's pairs of rows, which computes, and what follows from it.

@@ -1,7 +1,6 @@
 use Rattle.std.specs.Prelude.{◌≡◌, ℕ, ◌+◌, ◌*◌, ◌/◌, ◌%◌, ◌^◌, Bool, true, ◌==◌, ◌&&◌, ◌||◌, if◌then◌else◌, List, [], ◌∷◌, map, find, Option, None, Some, codes}
 use Rattle.m161_isa.specs.declared.row.Row.{Row}
 use Rattle.m161_isa.specs.declared.row.Row.TheVariants as rows
-use Rattle.m161_isa.specs.declared.table.Field.{Field}
 use Rattle.m161_isa.specs.declared.table.Operand.{Operand}
 use Rattle.m161_isa.specs.declared.table.Operand.TheVariants as operand
 use Rattle.m161_isa.specs.declared.table.Effect.{Effect}
@@ -14,6 +13,12 @@ use Rattle.m161_isa.specs.declared.instr.Coprocessor.TheVariants as coprocessor
 -- the field of a word from bit `at` on, so many bits wide
 abbrev pub bits_of : ℕ → ℕ → ℕ → ℕ
 bits_of word at width = word / 2 ^ at % 2 ^ width
+
+-- the value that the field of a row's words from bit `position` on, so many bits wide, must have
+pub record Field : Type 0 where
+  pub position : ℕ
+  pub width : ℕ
+  pub value : ℕ
 
 -- what a row holds: its name, the fields of its words, its operands as the assembly text has them, and its effect
 pub record Content : Type 0 where

@@ -30,5 +30,5 @@ pub use instr::{
 };
 pub use register::Reg;
 pub use row::{ROWS, Row, rows_in_order};
-pub use table::{Effect, Field, Operand};
+pub use table::{Effect, Operand};
 pub use target::Target;

@@ -1,16 +1,5 @@
 //! What the rows of the instruction table are made of.
 
-/// The value that a field of a row's words must have.
-#[derive(Clone, Copy, Debug, PartialEq, Eq)]
-pub struct Field {
-    /// The field's lowest bit.
-    pub position: u8,
-    /// How many bits it has.
-    pub width: u8,
-    /// What it must hold.
-    pub value: u8,
-}
-
 /// A kind of operand: where it stands in the word, and how its field is read.
 #[derive(Clone, Copy, Debug, PartialEq, Eq)]
 pub enum Operand {

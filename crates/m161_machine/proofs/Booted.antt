@@ -49,6 +49,7 @@ choice_is_other false false false false false false false false false = tt
 
 -- want of memory is no fault of a file
 never_memory : (file : List ℕ) (ram : ℕ) → first_fault file ram ≢ Some faults.NoMemory
+unfolding first_fault
 never_memory file ram h =
     let other : IsOther (first_fault file ram) =
     choice_is_other (is_truncated file) (is_not_elf32_big file) (is_not_executable file) (is_not_mips file) (has_bad_header_table file)

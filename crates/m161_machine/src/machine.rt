@@ -17,7 +17,7 @@ use std::marker::Model;
 
 /// A machine. Contracts see it as its history: what it was booted from, its log, and the state
 /// that the log's events lead to.
-#[derive(Debug, Drop)]
+#[derive(Drop)]
 pub struct Machine {
     processors: Vec<Cpu>,
     ram: Ram,

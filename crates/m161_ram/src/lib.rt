@@ -11,7 +11,7 @@ use std::alloc::{AllocError, Global};
 use std::marker::Model;
 
 /// RAM: a map from each physical address below its size to a byte.
-#[derive(Debug, Drop)]
+#[derive(Drop)]
 pub struct Ram {
     bytes: Vec<u8>,
 }

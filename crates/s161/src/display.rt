@@ -19,29 +19,25 @@ pub fn show_regs(alloc: Global, machine: &Machine, p: u32) -> Result<String, All
     requires { p < length machine.now.state.processors }
 {
     let mut text = String::new(alloc);
-    let state = state_name(machine.state(p));
-    let pc = machine.pc(p);
-    let slot = if machine.in_slot(p) { " slot" } else { "" };
-    writeln!(text, "cpu {p} {state} pc {pc:08x}{slot}")?;
-    for line in 0..8u8 {
-        write_four(&mut text, machine, p, line)?;
+    write_place(&mut text, machine, p)?;
+    for r in 0..32u8 {
+        write_register(&mut text, r, machine.reg(p, Reg::new(r)))?;
     }
-    let hi = machine.hi(p);
-    let lo = machine.lo(p);
-    writeln!(text, "hi {hi:08x} lo {lo:08x}")?;
+    writeln!(text, "hi {:08x} lo {:08x}", machine.hi(p), machine.lo(p))?;
     Ok(text)
 }
 
-// A line of four registers.
-fn write_four(text: &mut String, machine: &Machine, p: u32, line: u8) -> Result<(), AllocError>
-    requires processor { p < length machine.now.state.processors }
-    requires line { line < 8 }
+// What a processor is doing, and where.
+fn write_place(text: &mut String, machine: &Machine, p: u32) -> Result<(), AllocError>
+    requires { p < length machine.now.state.processors }
 {
-    let r = line * 4;
-    let a = machine.reg(p, Reg::new(r));
-    let b = machine.reg(p, Reg::new(r + 1));
-    let c = machine.reg(p, Reg::new(r + 2));
-    let d = machine.reg(p, Reg::new(r + 3));
-    let (s, t, u) = (r + 1, r + 2, r + 3);
-    writeln!(text, "r{r} {a:08x} r{s} {b:08x} r{t} {c:08x} r{u} {d:08x}")
+    let state = state_name(machine.state(p));
+    let slot = if machine.in_slot(p) { " slot" } else { "" };
+    writeln!(text, "cpu {p} {state} pc {:08x}{slot}", machine.pc(p))
+}
+
+// A register; four stand on a line.
+fn write_register(text: &mut String, r: u8, value: u32) -> Result<(), AllocError> {
+    let end = if r % 4 == 3 { "\n" } else { " " };
+    write!(text, "r{r} {value:08x}{end}")
 }

@@ -1,11 +1,12 @@
 //! Files, and what they load as in 4096 bytes of RAM.
 
-use m161_elf::{Image, LoadError, load};
+use super::same;
+use m161_elf::{LoadError, load};
 use std::alloc::{AllocError, Global};
 use std::test::Fail;
 
-/// A file of 112 bytes, as words: the header of 13, a program header of 8, and a segment of 7.
-const DEMO: [u32; 28] = [
+/// The header of a file with one segment, and that segment's program header, as words.
+const HEADERS: [u32; 21] = [
     0x7f45_4c46,
     0x0102_0100,
     0,
@@ -27,6 +28,10 @@ const DEMO: [u32; 28] = [
     0x1c,
     7,
     4,
+];
+
+/// The segment's words.
+const PROGRAM: [u32; 7] = [
     0x3c08_1234,
     0x3508_5678,
     0x2409_ffff,
@@ -36,7 +41,7 @@ const DEMO: [u32; 28] = [
     0x8d6c_0400,
 ];
 
-/// The places of some of its words.
+/// The places of some words of the headers.
 const CLASS: usize = 1;
 
 const TYPE: usize = 4;
@@ -53,85 +58,111 @@ const FILE_SIZE: usize = 17;
 
 const MEMORY_SIZE: usize = 18;
 
-const FIRST_WORD: usize = 21;
-
-/// The bytes of the demo file with some words changed.
-fn edited(alloc: Global, edits: &[(usize, u32)]) -> Result<Vec<u8>, AllocError> {
-    let mut words = DEMO;
+/// A file of these headers, with some of their words changed, and of these words.
+fn file_of(alloc: Global, edits: &[(usize, u32)], words: &[u32]) -> Result<Vec<u8>, AllocError> {
+    let mut headers = HEADERS;
     for (place, word) in edits {
-        if let Some(place) = words.get_mut(*place) {
+        if let Some(place) = headers.get_mut(*place) {
             *place = *word;
         }
     }
     let mut file = Vec::new(alloc);
-    for word in words {
+    for word in headers.iter().chain(words) {
         file.extend_from_slice(&word.to_be_bytes())?;
     }
     Ok(file)
 }
 
-/// What the demo file with some words changed is loaded as.
-fn load_edited(
-    alloc: Global,
-    edits: &[(usize, u32)],
-) -> Result<Result<Image, LoadError>, AllocError> {
-    let file = edited(alloc, edits)?;
-    Ok(load(alloc, &file, 4096))
+/// A file with these words at an address, where it begins.
+pub(crate) fn file_at(alloc: Global, entry: u32, words: &[u32]) -> Result<Vec<u8>, Fail> {
+    let size = u32::try_from(words.len())?.wrapping_mul(4);
+    let edits = [
+        (ENTRY, entry),
+        (ADDRESS, entry),
+        (FILE_SIZE, size),
+        (MEMORY_SIZE, size),
+    ];
+    Ok(file_of(alloc, &edits, words)?)
 }
 
-/// RAM of zeros, but for these bytes at 0x200.
-fn memory_of(alloc: Global, bytes: &[u8]) -> Result<Vec<u8>, AllocError> {
-    let mut memory = vec![in alloc; 0u8; 0x200]?;
-    memory.extend_from_slice(bytes)?;
-    for _ in memory.len()..4096 {
-        memory.push(0)?;
-    }
-    Ok(memory)
+/// Where the first bytes of the demo's file begin, with some words of its headers changed.
+fn entry_of(
+    alloc: Global,
+    edits: &[(usize, u32)],
+    length: usize,
+) -> Result<Result<u32, LoadError>, AllocError> {
+    let mut file = file_of(alloc, edits, &PROGRAM)?;
+    file.truncate(length);
+    Ok(load(alloc, &file, 4096).map(|image| image.entry))
+}
+
+/// Whether so many bytes of the demo's segment stand at 0x200 when its file is loaded with some
+/// words of its headers changed, and how many bytes of memory aren't zero.
+fn loaded(alloc: Global, edits: &[(usize, u32)], length: usize) -> Result<(bool, usize), Fail> {
+    let file = file_of(alloc, edits, &PROGRAM)?;
+    let memory = load(alloc, &file, 4096)?.bytes;
+    let stands = memory
+        .iter()
+        .skip(0x200)
+        .zip(file.iter().skip(84).take(length))
+        .all(|(a, b)| a == b);
+    Ok((stands, memory.iter().filter(|byte| **byte != 0).count()))
 }
 
 #[test]
 fn image_refusals(rt: HostRuntime) -> Result<(), Fail> {
-    let two_words = [
-        (FILE_SIZE, 8),
-        (MEMORY_SIZE, 8),
-        (FIRST_WORD, 0x3c08_bfff),
-        (FIRST_WORD + 1, 0xad00_7e08),
-    ];
-    let mut file = edited(rt.alloc(), &two_words)?;
-    file.truncate(92);
-    assert_eq!(rt;
-        load(rt.alloc(), &file, 4096).map(|image| image.entry),
-        Ok(0x8000_0200)
-    );
-    file.truncate(51);
-    assert_eq!(rt;
-        load(rt.alloc(), &file, 4096).map(|image| image.entry),
-        Err(LoadError::Truncated)
-    );
-    let cases = [
-        ([(CLASS, 0x0202_0100)].as_slice(), LoadError::NotElf32Big),
+    let cases: [(&[(usize, u32)], usize, Result<u32, LoadError>); 14] = [
+        (&[], 112, Ok(0x8000_0200)),
+        (&[(FILE_SIZE, 8), (MEMORY_SIZE, 8)], 92, Ok(0x8000_0200)),
         (
-            [(ADDRESS, 0x8000_0ffd), (FILE_SIZE, 0), (MEMORY_SIZE, 4)].as_slice(),
-            LoadError::SegmentOutsideRam,
+            &[(FILE_SIZE, 8), (MEMORY_SIZE, 8)],
+            51,
+            Err(LoadError::Truncated),
+        ),
+        (&[(CLASS, 0x0202_0100)], 112, Err(LoadError::NotElf32Big)),
+        (
+            &[(ADDRESS, 0x8000_0ffd), (FILE_SIZE, 0), (MEMORY_SIZE, 4)],
+            112,
+            Err(LoadError::SegmentOutsideRam),
         ),
         (
-            [(FILE_SIZE, 8), (MEMORY_SIZE, 4)].as_slice(),
-            LoadError::FileLargerThanMemory,
+            &[(FILE_SIZE, 8), (MEMORY_SIZE, 4)],
+            112,
+            Err(LoadError::FileLargerThanMemory),
         ),
+        (
+            &[(HEADER_COUNT, 0xffff_0000)],
+            112,
+            Err(LoadError::BadHeaderTable),
+        ),
+        (
+            &[(OFFSET, 0xffff_fff0), (FILE_SIZE, 0x20)],
+            112,
+            Err(LoadError::SegmentOutsideFile),
+        ),
+        (
+            &[(ADDRESS, 0x9fff_fffc), (FILE_SIZE, 0), (MEMORY_SIZE, 8)],
+            112,
+            Err(LoadError::SegmentOutsideRam),
+        ),
+        (
+            &[(ADDRESS, 0xffff_ffff), (FILE_SIZE, 0), (MEMORY_SIZE, 0)],
+            112,
+            Ok(0x8000_0200),
+        ),
+        (&[(ADDRESS, 0xa000_0200)], 112, Ok(0x8000_0200)),
+        (&[(TYPE, 0x0001_0008)], 112, Err(LoadError::NotExecutable)),
+        (&[(TYPE, 0x0002_0003)], 112, Err(LoadError::NotMips)),
+        (&[(ENTRY, 0x8000_0202)], 112, Err(LoadError::BadEntry)),
     ];
-    for (edits, fault) in cases {
-        assert_eq!(rt;
-            load_edited(rt.alloc(), edits)?.map(|image| image.entry),
-            Err(fault)
-        );
+    for (edits, length, wanted) in cases {
+        same(&rt, entry_of(rt.alloc(), edits, length)?, wanted);
     }
     Ok(())
 }
 
 #[test]
 fn truncated_image(rt: HostRuntime) -> Result<(), Fail> {
-    let file = edited(rt.alloc(), &[])?;
-    assert_eq!(rt; file.len(), 112);
     for length in 0..112 {
         let fault = if length < 52 {
             LoadError::Truncated
@@ -140,58 +171,20 @@ fn truncated_image(rt: HostRuntime) -> Result<(), Fail> {
         } else {
             LoadError::SegmentOutsideFile
         };
-        assert_eq!(rt;
-            load(rt.alloc(), &file[..length], 4096).map(|image| image.entry),
-            Err(fault),
-            "at {length}"
-        );
+        same(&rt, entry_of(rt.alloc(), &[], length)?, Err(fault));
     }
-    let image = load(rt.alloc(), &file, 4096)?;
-    assert_eq!(rt; image.entry, 0x8000_0200);
-    assert_eq!(rt; image.bytes, memory_of(rt.alloc(), &file[84..])?);
     Ok(())
 }
 
 #[test]
-fn damaged_headers(rt: HostRuntime) -> Result<(), Fail> {
-    let cases = [
-        (
-            [(HEADER_COUNT, 0xffff_0000)].as_slice(),
-            Err(LoadError::BadHeaderTable),
-        ),
-        (
-            [(OFFSET, 0xffff_fff0), (FILE_SIZE, 0x20)].as_slice(),
-            Err(LoadError::SegmentOutsideFile),
-        ),
-        (
-            [(ADDRESS, 0x9fff_fffc), (FILE_SIZE, 0), (MEMORY_SIZE, 8)].as_slice(),
-            Err(LoadError::SegmentOutsideRam),
-        ),
-        (
-            [(ADDRESS, 0xffff_ffff), (FILE_SIZE, 0), (MEMORY_SIZE, 0)].as_slice(),
-            Ok(0x8000_0200),
-        ),
-        (
-            [(TYPE, 0x0001_0008)].as_slice(),
-            Err(LoadError::NotExecutable),
-        ),
-        ([(TYPE, 0x0002_0003)].as_slice(), Err(LoadError::NotMips)),
-        ([(ENTRY, 0x8000_0202)].as_slice(), Err(LoadError::BadEntry)),
+fn segment_in_memory(rt: HostRuntime) -> Result<(), Fail> {
+    let cases: [(&[(usize, u32)], usize, usize); 3] = [
+        (&[], 28, 25),
+        (&[(ADDRESS, 0xa000_0200)], 28, 25),
+        (&[(FILE_SIZE, 4)], 4, 4),
     ];
-    for (edits, want) in cases {
-        assert_eq!(rt;
-            load_edited(rt.alloc(), edits)?.map(|image| image.entry),
-            want,
-            "{edits:?}"
-        );
+    for (edits, length, written) in cases {
+        same(&rt, loaded(rt.alloc(), edits, length)?, (true, written));
     }
-    let by_kseg1 = load_edited(rt.alloc(), &[(ADDRESS, 0xa000_0200)])??;
-    let by_kseg0 = load_edited(rt.alloc(), &[])??;
-    assert_eq!(rt; by_kseg1.bytes, by_kseg0.bytes);
-    let shorter = load_edited(rt.alloc(), &[(FILE_SIZE, 4)])??;
-    assert_eq!(rt;
-        shorter.bytes,
-        memory_of(rt.alloc(), &[0x3c, 0x08, 0x12, 0x34])?
-    );
     Ok(())
 }

@@ -5,22 +5,27 @@ use Rattle.m161_elf.proofs.loader.load.Goals.{in-Some-segment, in_default-segmen
 use Rattle.m161_elf.proofs.Bytes.{is_image-none, is_image-one, loads}
 use Rattle.m161_elf.proofs.Sound.{is_sound, no_fault}
 
+pub copy_segment-requires-clause-in_file : goal.copy_segment-requires-clause-in_file
+copy_segment-requires-clause-in_file c =
+    let none = no_fault c.fault.result _ c.in_default.not-Some c.fault.ensures.first in
+    (is_sound c.args.file.now c.args.ram _ none c.in-Some-segment.ensures).in_file
+
 pub copy_segment-requires-clause-in_ram : goal.copy_segment-requires-clause-in_ram
 copy_segment-requires-clause-in_ram c =
-    let none = no_fault c.fault.result _ c.in_default.not-Some c.fault.ensures in
+    let none = no_fault c.fault.result _ c.in_default.not-Some c.fault.ensures.first in
     let sound = is_sound c.args.file.now c.args.ram _ none c.in-Some-segment.ensures in
     let long : length c.deref_mut.result.now ≡ c.args.ram = grind (arith, length-replicate) in
     rw long sound.in_ram
 
 pub copy_segment-requires-clause-in_memory : goal.copy_segment-requires-clause-in_memory
 copy_segment-requires-clause-in_memory c =
-    let none = no_fault c.fault.result _ c.in_default.not-Some c.fault.ensures in
+    let none = no_fault c.fault.result _ c.in_default.not-Some c.fault.ensures.first in
     (is_sound c.args.file.now c.args.ram _ none c.in-Some-segment.ensures).in_memory
 
 pub returns : goal.returns
 returns c =
     let file = c.args.file.now in
-    let none = no_fault c.fault.result _ c.in_default.not-Some c.fault.ensures in
+    let none = no_fault c.fault.result _ c.in_default.not-Some c.fault.ensures.first in
     let zeros : c.in_ok-bytes.bytes.items ≡ replicate c.args.ram 0 = search rules in
     loads file c.args.ram _ _ none (elim c.match-segment.branch [
       | in-Some-segment w ↦
