@@ -141,8 +141,9 @@ e3fe7fff sc 30 32767 31
 42000010 rfe
 42000020 wait";
 
-/// Words with bits in fields that their rows don't use, which is this project's own rule, and the
-/// line of the canonical word.
+/// Words with bits in fields that their rows don't use, and the line of the canonical word: GNU
+/// as's for `syscall 0x12345`, `break 7`, `sync 1` and `wait 0x12345`; the last six are this
+/// project's own rule.
 const UNUSED: [(u32, &str); 10] = [
     (0x0048_d14c, "0000000c syscall"),
     (0x0007_000d, "0000000d break"),
