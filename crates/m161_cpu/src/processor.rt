@@ -32,7 +32,7 @@ pub enum Outcome {
 }
 
 /// The way on after an instruction.
-#[derive(Clone, Copy, Debug, PartialEq, Eq)]
+#[derive(Clone, Copy)]
 pub(crate) enum Flow {
     /// To the next address.
     Next,

@@ -10,7 +10,7 @@ use crate::row::Row;
 use crate::target::Target;
 
 /// The kind of a shift.
-#[derive(Clone, Copy, Debug, PartialEq, Eq)]
+#[derive(Clone, Copy, PartialEq, Eq)]
 pub enum ShiftOp {
     Left,
     Right,
@@ -18,7 +18,7 @@ pub enum ShiftOp {
 }
 
 /// An operation on two registers, into a third.
-#[derive(Clone, Copy, Debug, PartialEq, Eq)]
+#[derive(Clone, Copy, PartialEq, Eq)]
 pub enum ArithOp {
     Add,
     Addu,
@@ -33,7 +33,7 @@ pub enum ArithOp {
 }
 
 /// An operation on two registers, into HI and LO.
-#[derive(Clone, Copy, Debug, PartialEq, Eq)]
+#[derive(Clone, Copy, PartialEq, Eq)]
 pub enum MultiplyOp {
     Mult,
     Multu,
@@ -42,14 +42,14 @@ pub enum MultiplyOp {
 }
 
 /// HI or LO.
-#[derive(Clone, Copy, Debug, PartialEq, Eq)]
+#[derive(Clone, Copy, PartialEq, Eq)]
 pub enum HiLo {
     Hi,
     Lo,
 }
 
 /// A branch's test of a register against zero.
-#[derive(Clone, Copy, Debug, PartialEq, Eq)]
+#[derive(Clone, Copy, PartialEq, Eq)]
 pub enum ZeroTest {
     Less,
     NotLess,
@@ -60,21 +60,21 @@ pub enum ZeroTest {
 }
 
 /// A branch's test of two registers.
-#[derive(Clone, Copy, Debug, PartialEq, Eq)]
+#[derive(Clone, Copy, PartialEq, Eq)]
 pub enum EqualTest {
     Equal,
     NotEqual,
 }
 
 /// A jump to a target in the word.
-#[derive(Clone, Copy, Debug, PartialEq, Eq)]
+#[derive(Clone, Copy, PartialEq, Eq)]
 pub enum JumpOp {
     Jump,
     JumpAndLink,
 }
 
 /// An operation on a register and an immediate.
-#[derive(Clone, Copy, Debug, PartialEq, Eq)]
+#[derive(Clone, Copy, PartialEq, Eq)]
 pub enum ImmediateOp {
     Addi,
     Addiu,
@@ -86,7 +86,7 @@ pub enum ImmediateOp {
 }
 
 /// A load from memory.
-#[derive(Clone, Copy, Debug, PartialEq, Eq)]
+#[derive(Clone, Copy, PartialEq, Eq)]
 pub enum LoadOp {
     Byte,
     Half,
@@ -99,7 +99,7 @@ pub enum LoadOp {
 }
 
 /// A store to memory.
-#[derive(Clone, Copy, Debug, PartialEq, Eq)]
+#[derive(Clone, Copy, PartialEq, Eq)]
 pub enum StoreOp {
     Byte,
     Half,
@@ -110,7 +110,7 @@ pub enum StoreOp {
 }
 
 /// An instruction without operands.
-#[derive(Clone, Copy, Debug, PartialEq, Eq)]
+#[derive(Clone, Copy, PartialEq, Eq)]
 pub enum PlainOp {
     Syscall,
     Break,
@@ -124,7 +124,7 @@ pub enum PlainOp {
 }
 
 /// A coprocessor that the machine doesn't have.
-#[derive(Clone, Copy, Debug, PartialEq, Eq)]
+#[derive(Clone, Copy, PartialEq, Eq)]
 pub enum Coprocessor {
     One,
     Two,
@@ -132,7 +132,7 @@ pub enum Coprocessor {
 }
 
 /// An instruction: a row of the table with its operands, or a word that fits no row.
-#[derive(Clone, Copy, Debug, PartialEq, Eq)]
+#[derive(Clone, Copy)]
 pub enum Instr {
     /// `sll`, `srl`, `sra`.
     Shift {

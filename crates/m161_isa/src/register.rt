@@ -5,7 +5,7 @@ ghost use Rattle.std.specs.Prelude.{◌≡◌, ◌<◌};
 use std::marker::Model;
 
 /// A register's number, 0 to 31: of a general register, or of one of coprocessor 0.
-#[derive(Clone, Copy, Debug, PartialEq, Eq)]
+#[derive(Clone, Copy, PartialEq, Eq)]
 pub struct Reg {
     number: u32,
 }

@@ -6,7 +6,7 @@ ghost use Rattle.m161_isa.specs.Table.{content, all_rows};
 use crate::table::{Effect, Operand};
 
 /// A row of the instruction table, by its name; in the order of the manual's opcode tables.
-#[derive(Clone, Copy, Debug, PartialEq, Eq)]
+#[derive(Clone, Copy, PartialEq, Eq)]
 pub enum Row {
     Sll,
     Srl,

@@ -1,7 +1,7 @@
 //! What the rows of the instruction table are made of.
 
 /// A kind of operand: where it stands in the word, and how its field is read.
-#[derive(Clone, Copy, Debug, PartialEq, Eq)]
+#[derive(Clone, Copy, PartialEq, Eq)]
 pub enum Operand {
     /// The general register in bits 15..11.
     Rd,
@@ -29,7 +29,7 @@ pub enum Operand {
 
 /// The name of what a row does to its operands. One effect serves several rows, since a kind of
 /// operand says how its value is read.
-#[derive(Clone, Copy, Debug, PartialEq, Eq)]
+#[derive(Clone, Copy, PartialEq, Eq)]
 pub enum Effect {
     /// Left, with zeros.
     ShiftLeft,

@@ -2,7 +2,7 @@
 
 use super::same;
 use m161_decode::{decode, encode, is_canonical};
-use m161_isa::{Coprocessor, Instr, Reg, has_row, row_of};
+use m161_isa::{Instr, Reg, has_row, row_of};
 use std::alloc::{AllocError, Global};
 use std::fmt::Write;
 use std::test::Fail;
@@ -254,29 +254,27 @@ fn agrees_with_an_assembler(rt: HostRuntime) -> Result<(), Fail> {
 
 #[test]
 fn tells_misfits_apart(rt: HostRuntime) {
-    for (opcodes, unit) in [
-        ([17, 49, 57], Coprocessor::One),
-        ([18, 50, 58], Coprocessor::Two),
-        ([19, 51, 59], Coprocessor::Three),
+    // a word without a row, and the word of its instruction: of a coprocessor's the opcode alone,
+    // of a reserved one the word itself
+    for (word, again) in [
+        (0x4412_3456, 0x4400_0000),
+        (0xc412_3456, 0x4400_0000),
+        (0xe412_3456, 0x4400_0000),
+        (0x4812_3456, 0x4800_0000),
+        (0xc812_3456, 0x4800_0000),
+        (0xe812_3456, 0x4800_0000),
+        (0x4c12_3456, 0x4c00_0000),
+        (0xcc12_3456, 0x4c00_0000),
+        (0xec12_3456, 0x4c00_0000),
+        (0xffff_ffff, 0xffff_ffff),
+        (0x0000_0001, 0x0000_0001),
+        (0x0402_0000, 0x0402_0000),
+        (0x4020_0000, 0x4020_0000),
+        (0x4200_0000, 0x4200_0000),
+        (0x5000_0000, 0x5000_0000),
     ] {
-        let absent = Instr::Absent(unit);
-        let found = opcodes.map(|opcode: u32| decode((opcode << 26) + 0x0012_3456));
-        same(
-            &rt,
-            (found, encode(&absent)),
-            ([absent; 3], opcodes[0] << 26),
-        );
-    }
-    for word in [
-        0xffff_ffff,
-        0x0000_0001,
-        0x0402_0000,
-        0x4020_0000,
-        0x4200_0000,
-        0x5000_0000,
-    ] {
-        let reserved = Instr::Reserved(word);
-        let found = (decode(word), encode(&reserved), is_canonical(word));
-        same(&rt, found, (reserved, word, false));
+        let instr = decode(word);
+        let found = (has_row(&instr), encode(&instr), is_canonical(word));
+        same(&rt, found, (false, again, false));
     }
 }
