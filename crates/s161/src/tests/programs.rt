@@ -35,7 +35,7 @@ fn link_registers(rt: HostRuntime) -> Result<(), Fail> {
 }
 
 #[test]
-fn divisions(rt: HostRuntime) -> Result<(), Fail> {
+fn arithmetic_divisions(rt: HostRuntime) -> Result<(), Fail> {
     // ori $8, $0, 7; div $8, $0
     let a = left(&rt, ENTRY, &[0x3408_0007, 0x0100_001a], 0)?;
     same(&rt, (a.lo, a.hi), (0xffff_ffff, 7));
@@ -46,7 +46,7 @@ fn divisions(rt: HostRuntime) -> Result<(), Fail> {
 }
 
 #[test]
-fn merges(rt: HostRuntime) -> Result<(), Fail> {
+fn arithmetic_merges(rt: HostRuntime) -> Result<(), Fail> {
     // lwl, lwr, swl and swr of $8 at 0($16) to 3($16), and what $8 and the word there are then
     for (word, register, memory) in [
         (0x8a08_0000, 0x1122_3344, 0x1122_3344),
