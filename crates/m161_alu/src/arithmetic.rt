@@ -1,12 +1,12 @@
 //! Sums, shifts, products and quotients.
 
-ghost use Rattle.std.specs.Prelude.{◌≡◌, ◌<◌, ◌+ℤ◌, ◌-ℤ◌};
+ghost use Rattle.std.specs.Prelude.{◌≡◌, ◌+ℤ◌, ◌-ℤ◌};
 ghost use Rattle.m161_alu.specs.Word.{signed, word_of_signed};
 ghost use Rattle.m161_alu.specs.Results.{shifted, product, quotient};
 
-use m161_isa::ShiftOp;
+use m161_isa::{Amount, ShiftOp};
 
-/// How a product, a quotient or a comparison reads its words.
+/// How a product, a quotient or a comparison reads its words: as two's complement, or as they are.
 #[derive(Clone, Copy, Debug, PartialEq, Eq)]
 pub enum Signedness {
     Signed,
@@ -16,7 +16,9 @@ pub enum Signedness {
 /// What a product or a quotient leaves in HI and LO.
 #[derive(Clone, Copy, Debug, PartialEq, Eq)]
 pub struct HiLoPair {
+    /// The upper word of a product, or a remainder.
     pub hi: u32,
+    /// The lower word of a product, or a quotient.
     pub lo: u32,
 }
 
@@ -37,14 +39,14 @@ pub fn sub_checked(a: u32, b: u32) -> Option<u32>
 }
 
 /// A word shifted by so many bits.
-pub fn shift(op: ShiftOp, word: u32, amount: u8) -> u32
-    requires { amount < 32 }
+pub fn shift(op: ShiftOp, word: u32, amount: Amount) -> u32
     ensures { result ≡ shifted op word amount }
 {
+    let bits = amount.bits();
     match op {
-        ShiftOp::Left => word << amount,
-        ShiftOp::Right => word >> amount,
-        ShiftOp::RightArithmetic => (word.cast_signed() >> amount).cast_unsigned(),
+        ShiftOp::Left => word << bits,
+        ShiftOp::Right => word >> bits,
+        ShiftOp::RightArithmetic => (word.cast_signed() >> bits).cast_unsigned(),
     }
 }
 

@@ -1,17 +1,16 @@
 //! Merges of a word of memory and a register, byte by byte.
 
-ghost use Rattle.std.specs.Prelude.{◌≡◌, ◌<◌};
+ghost use Rattle.std.specs.Prelude.{◌≡◌, ◌%◌};
 ghost use Rattle.m161_alu.specs.Merge.{merged_left, merged_right};
 
-/// The register after `lwl` at the byte of this place in the word: the memory's bytes from there
-/// to the word's end, then the register's low bytes.
-pub fn merge_left(memory: u32, register: u32, place: u8) -> u32
-    requires { place < 4 }
-    ensures { result ≡ merged_left memory register place }
+/// The register after `lwl` of a byte's address, with the word of memory that holds it: the
+/// memory's bytes from there to the word's end, then the register's low bytes.
+pub fn merge_left(memory: u32, register: u32, address: u32) -> u32
+    ensures { result ≡ merged_left memory register (address % 4) }
 {
     let memory = memory.to_be_bytes();
     let register = register.to_be_bytes();
-    u32::from_be_bytes(match place {
+    u32::from_be_bytes(match address % 4 {
         0 => memory,
         1 => [memory[1], memory[2], memory[3], register[3]],
         2 => [memory[2], memory[3], register[2], register[3]],
@@ -19,15 +18,14 @@ pub fn merge_left(memory: u32, register: u32, place: u8) -> u32
     })
 }
 
-/// The register after `lwr` at the byte of this place in the word: the register's high bytes,
-/// then the memory's bytes from the word's start to there.
-pub fn merge_right(memory: u32, register: u32, place: u8) -> u32
-    requires { place < 4 }
-    ensures { result ≡ merged_right memory register place }
+/// The register after `lwr` of a byte's address, with the word of memory that holds it: the
+/// register's high bytes, then the memory's bytes from the word's start to there.
+pub fn merge_right(memory: u32, register: u32, address: u32) -> u32
+    ensures { result ≡ merged_right memory register (address % 4) }
 {
     let memory = memory.to_be_bytes();
     let register = register.to_be_bytes();
-    u32::from_be_bytes(match place {
+    u32::from_be_bytes(match address % 4 {
         0 => [register[0], register[1], register[2], memory[0]],
         1 => [register[0], register[1], memory[0], memory[1]],
         2 => [register[0], memory[0], memory[1], memory[2]],

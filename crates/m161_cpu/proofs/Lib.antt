@@ -1,2 +1,3 @@
 mod Stepping
 pub mod Missing
+mod Sizes

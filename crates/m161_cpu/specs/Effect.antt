@@ -160,7 +160,20 @@ effect_of p m effect.StoreWordRight (t ∷ o ∷ b ∷ []) =
     option_map (λ at. store_word at (merged_left t.value (word_at m at) (3 - place_in_word o b))) (access_word m o b)
 -- memory is in step already
 effect_of p m effect.Synchronize [] = Some nothing
--- traps, links, coprocessor 0 and the TLB aren't there yet
+-- these need a part that isn't there yet: traps, links, coprocessor 0, the TLB
+effect_of p m effect.SystemCall _ = None
+effect_of p m effect.Breakpoint _ = None
+effect_of p m effect.LoadLinked _ = None
+effect_of p m effect.StoreConditional _ = None
+effect_of p m effect.MoveFromCop0 _ = None
+effect_of p m effect.MoveToCop0 _ = None
+effect_of p m effect.ReadTlb _ = None
+effect_of p m effect.WriteTlbIndexed _ = None
+effect_of p m effect.WriteTlbRandom _ = None
+effect_of p m effect.ProbeTlb _ = None
+effect_of p m effect.RestoreFromException _ = None
+effect_of p m effect.WaitForInterrupt _ = None
+-- no row has another number of operands
 effect_of p m _ _ = None
 
 -- what an instruction changes, by its row and the numbers of its operands

@@ -64,11 +64,7 @@ fn with_immediate(op: ImmediateOp, s: u32, immediate: Immediate) -> Option<u32>
 fn shifted_by(op: ShiftOp, t: u32, amount: Amount) -> Option<u32>
     ensures { WritesFrom (λ d a. Shift op d a amount) t result }
 {
-    match op {
-        ShiftOp::Left => Some(shift(ShiftOp::Left, t, amount.bits())),
-        ShiftOp::Right => Some(shift(ShiftOp::Right, t, amount.bits())),
-        ShiftOp::RightArithmetic => Some(shift(ShiftOp::RightArithmetic, t, amount.bits())),
-    }
+    Some(shift(op, t, amount))
 }
 
 // What a shift by a register writes.
@@ -76,12 +72,8 @@ fn shifted_by(op: ShiftOp, t: u32, amount: Amount) -> Option<u32>
 fn shifted_by_register(op: ShiftOp, t: u32, s: u32) -> Option<u32>
     ensures { Writes (ShiftVariable op) t s result }
 {
-    let bits = (s % 32) as u8;
-    match op {
-        ShiftOp::Left => Some(shift(ShiftOp::Left, t, bits)),
-        ShiftOp::Right => Some(shift(ShiftOp::Right, t, bits)),
-        ShiftOp::RightArithmetic => Some(shift(ShiftOp::RightArithmetic, t, bits)),
-    }
+    let amount = Amount::new((s % 32) as u8);
+    Some(shift(op, t, amount))
 }
 
 // What `lui` writes.
@@ -99,20 +91,20 @@ fn plain(op: PlainOp) -> Option<Flow>
 {
     match op {
         PlainOp::Sync => Some(Flow::Next),
-        PlainOp::Syscall => None,
-        PlainOp::Break => None,
-        PlainOp::Tlbr => None,
-        PlainOp::Tlbwi => None,
-        PlainOp::Tlbwr => None,
-        PlainOp::Tlbp => None,
-        PlainOp::Rfe => None,
-        PlainOp::Wait => None,
+        PlainOp::Syscall
+        | PlainOp::Break
+        | PlainOp::Tlbr
+        | PlainOp::Tlbwi
+        | PlainOp::Tlbwr
+        | PlainOp::Tlbp
+        | PlainOp::Rfe
+        | PlainOp::Wait => None,
     }
 }
 
 impl Cpu {
-    // Executes the instruction of a word, and says how it goes on from there. Nothing where it
-    // needs a part that isn't there yet; nothing is changed then.
+    /// Executes the instruction of a word, and says how it goes on from there. Nothing where it
+    /// needs a part that isn't there yet; nothing is changed then.
     #[tactic(auto, unfolding(crate::specs::Step::change_in, crate::specs::Execute::change_by))]
     pub(crate) fn perform(&mut self, word: u32, ram: &mut Ram) -> Option<Flow>
         ensures { Executes (change_in self.old ram.old word) self.old ram.old result self.new ram.new }
@@ -174,10 +166,10 @@ impl Cpu {
                 base,
             } => { store(op, self.reg(rt), self.address(offset, base), ram) }
             Instr::Plain(op) => plain(op),
-            Instr::MoveFromCop0 { .. } => None,
-            Instr::MoveToCop0 { .. } => None,
-            Instr::Absent(_) => None,
-            Instr::Reserved(_) => None,
+            Instr::MoveFromCop0 { .. }
+            | Instr::MoveToCop0 { .. }
+            | Instr::Absent(_)
+            | Instr::Reserved(_) => None,
         }
     }
 

@@ -81,12 +81,10 @@ impl Cpu {
         }
         let address = self.jump_target(target);
         match op {
-            JumpOp::Jump => Some(Flow::Jump(address)),
-            JumpOp::JumpAndLink => {
-                self.link(Reg::new(31));
-                Some(Flow::Jump(address))
-            }
+            JumpOp::Jump => {}
+            JumpOp::JumpAndLink => self.link(Reg::new(31)),
         }
+        Some(Flow::Jump(address))
     }
 
     /// `beq` and `bne`.
@@ -103,12 +101,11 @@ impl Cpu {
         if self.in_slot() {
             return None;
         }
-        let equal = self.reg(rs) == self.reg(rt);
-        let target = self.branch_target(offset);
-        match test {
-            EqualTest::Equal => Some(way(equal, target)),
-            EqualTest::NotEqual => Some(way(!equal, target)),
-        }
+        let taken = match test {
+            EqualTest::Equal => self.reg(rs) == self.reg(rt),
+            EqualTest::NotEqual => self.reg(rs) != self.reg(rt),
+        };
+        Some(way(taken, self.branch_target(offset)))
     }
 
     /// Branches on a test against zero; the register is read before a link is written.
@@ -121,18 +118,9 @@ impl Cpu {
         }
         let flow = way(branch_taken(test, self.reg(rs)), self.branch_target(offset));
         match test {
-            ZeroTest::Less => Some(flow),
-            ZeroTest::NotLess => Some(flow),
-            ZeroTest::NotGreater => Some(flow),
-            ZeroTest::Greater => Some(flow),
-            ZeroTest::LessAndLink => {
-                self.link(Reg::new(31));
-                Some(flow)
-            }
-            ZeroTest::NotLessAndLink => {
-                self.link(Reg::new(31));
-                Some(flow)
-            }
+            ZeroTest::Less | ZeroTest::NotLess | ZeroTest::NotGreater | ZeroTest::Greater => {}
+            ZeroTest::LessAndLink | ZeroTest::NotLessAndLink => self.link(Reg::new(31)),
         }
+        Some(flow)
     }
 }

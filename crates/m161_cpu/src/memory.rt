@@ -54,11 +54,11 @@ pub(crate) fn loaded(op: LoadOp, address: u32, word: u32, ram: &Ram) -> Option<u
         LoadOp::Word => Some(ram.word(ram_address(address, 4, size)?)),
         LoadOp::WordLeft => {
             let at = ram_address(address / 4 * 4, 4, size)?;
-            Some(merge_left(ram.word(at), word, (address % 4) as u8))
+            Some(merge_left(ram.word(at), word, address))
         }
         LoadOp::WordRight => {
             let at = ram_address(address / 4 * 4, 4, size)?;
-            Some(merge_right(ram.word(at), word, (address % 4) as u8))
+            Some(merge_right(ram.word(at), word, address))
         }
         LoadOp::Linked => None,
     }
@@ -89,12 +89,12 @@ pub(crate) fn store(op: StoreOp, word: u32, address: u32, ram: &mut Ram) -> Opti
         }
         StoreOp::WordLeft => {
             let at = ram_address(address / 4 * 4, 4, size)?;
-            ram.set_word(at, merge_right(word, ram.word(at), (3 - address % 4) as u8));
+            ram.set_word(at, merge_right(word, ram.word(at), 3 - address % 4));
             Some(Flow::Next)
         }
         StoreOp::WordRight => {
             let at = ram_address(address / 4 * 4, 4, size)?;
-            ram.set_word(at, merge_left(word, ram.word(at), (3 - address % 4) as u8));
+            ram.set_word(at, merge_left(word, ram.word(at), 3 - address % 4));
             Some(Flow::Next)
         }
         StoreOp::Conditional => None,

@@ -1,6 +1,6 @@
 //! The registers of a processor.
 
-ghost use Rattle.std.specs.Prelude.{◌≡◌, ◌+◌, ◌-◌, ◌^◌, ◌<◌, ◌%◌, slice_index, OnOk};
+ghost use Rattle.std.specs.Prelude.{◌≡◌, ◌+◌, ◌-◌, ◌^◌, ◌<◌, ◌%◌, length, slice_index, OnOk};
 ghost use Rattle.m161_cpu.specs.Processor.{stopped, started, with_register, advanced};
 ghost use Rattle.m161_cpu.specs.Step.{counted, fetched, step_in, step_of, Steps};
 ghost use Rattle.m161_cpu.specs.declared.processor.ProcessorState.TheVariants.{Running};
@@ -115,7 +115,7 @@ impl Cpu {
         };
     }
 
-    // A write to register 0 is lost.
+    /// Writes a register; a write to register 0 is lost.
     pub(crate) fn set_reg(&mut self, register: Reg, word: u32)
         ensures { self.new ≡ with_register register word self.old }
     {
@@ -125,14 +125,12 @@ impl Cpu {
         }
     }
 
-    // Writes HI and LO.
-    pub(crate) fn set_hi_lo(&mut self, pair: HiLoPair) -> Option<Flow>
-        ensures after { self.new ≡ record self.old { hi = pair.hi; lo = pair.lo } }
-        ensures next { result ≡ Some Flow.Next }
+    /// Writes HI and LO.
+    pub(crate) fn set_hi_lo(&mut self, pair: HiLoPair)
+        ensures { self.new ≡ record self.old { hi = pair.hi; lo = pair.lo } }
     {
         self.hi = pair.hi;
         self.lo = pair.lo;
-        Some(Flow::Next)
     }
 
     /// One Step of processor `c`. Refused where it needs a part that isn't there yet; nothing is
@@ -142,6 +140,7 @@ impl Cpu {
         requires room { self.old.count < 2 ^ 64 - 1 }
         ensures step { Steps (step_of self.old ram.old) self.old ram.old result self.new ram.new }
         ensures counted { OnOk result (self.new.count ≡ self.old.count + 1) }
+        ensures size { length ram.new ≡ length ram.old }
     {
         match self.state {
             ProcessorState::Stopped => {
@@ -153,22 +152,17 @@ impl Cpu {
     }
 
     // One Step of a running processor.
-    #[tactic(auto, using(crate::proofs::Stepping::ran_so, crate::proofs::Stepping::refused_so))]
+    #[tactic(auto, using(crate::proofs::Stepping::ran_so, crate::proofs::Stepping::refused_so, crate::proofs::Sizes::executed_size))]
     fn run_one(&mut self, ram: &mut Ram) -> Result<Outcome, NotYet>
         requires room { self.old.count < 2 ^ 64 - 1 }
         ensures step { Steps (step_in Running self.old ram.old) self.old ram.old result self.new ram.new }
         ensures counted { OnOk result (self.new.count ≡ self.old.count + 1) }
+        ensures size { length ram.new ≡ length ram.old }
     {
-        match self.fetch(ram) {
-            Some(word) => match self.perform(word, ram) {
-                Some(flow) => {
-                    self.advance(flow);
-                    Ok(Outcome::Ran)
-                }
-                None => Err(NotYet),
-            },
-            None => Err(NotYet),
-        }
+        let word = self.fetch(ram).ok_or(NotYet)?;
+        let flow = self.perform(word, ram).ok_or(NotYet)?;
+        self.advance(flow);
+        Ok(Outcome::Ran)
     }
 
     // The word at pc.

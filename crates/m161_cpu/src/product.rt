@@ -16,12 +16,14 @@ impl Cpu {
     {
         let s = self.reg(rs);
         let t = self.reg(rt);
-        match op {
-            MultiplyOp::Mult => self.set_hi_lo(mult(Signedness::Signed, s, t)),
-            MultiplyOp::Multu => self.set_hi_lo(mult(Signedness::Unsigned, s, t)),
-            MultiplyOp::Div => self.set_hi_lo(div(Signedness::Signed, s, t)),
-            MultiplyOp::Divu => self.set_hi_lo(div(Signedness::Unsigned, s, t)),
-        }
+        let pair = match op {
+            MultiplyOp::Mult => mult(Signedness::Signed, s, t),
+            MultiplyOp::Multu => mult(Signedness::Unsigned, s, t),
+            MultiplyOp::Div => div(Signedness::Signed, s, t),
+            MultiplyOp::Divu => div(Signedness::Unsigned, s, t),
+        };
+        self.set_hi_lo(pair);
+        Some(Flow::Next)
     }
 
     /// `mfhi` and `mflo`.
@@ -29,16 +31,12 @@ impl Cpu {
     pub(crate) fn move_from(&mut self, from: HiLo, rd: Reg) -> Option<Flow>
         ensures { (m : List ℕ) → Executes (change_by self.old m (MoveFrom from rd)) self.old m result self.new m }
     {
-        match from {
-            HiLo::Hi => {
-                self.set_reg(rd, self.hi());
-                Some(Flow::Next)
-            }
-            HiLo::Lo => {
-                self.set_reg(rd, self.lo());
-                Some(Flow::Next)
-            }
-        }
+        let word = match from {
+            HiLo::Hi => self.hi(),
+            HiLo::Lo => self.lo(),
+        };
+        self.set_reg(rd, word);
+        Some(Flow::Next)
     }
 
     /// `mthi` and `mtlo`.
@@ -47,15 +45,11 @@ impl Cpu {
         ensures { (m : List ℕ) → Executes (change_by self.old m (MoveTo to rs)) self.old m result self.new m }
     {
         let word = self.reg(rs);
-        match to {
-            HiLo::Hi => self.set_hi_lo(HiLoPair {
-                hi: word,
-                lo: self.lo(),
-            }),
-            HiLo::Lo => self.set_hi_lo(HiLoPair {
-                hi: self.hi(),
-                lo: word,
-            }),
-        }
+        let (hi, lo) = match to {
+            HiLo::Hi => (word, self.lo()),
+            HiLo::Lo => (self.hi(), word),
+        };
+        self.set_hi_lo(HiLoPair { hi, lo });
+        Some(Flow::Next)
     }
 }

@@ -15,36 +15,42 @@ pub fn narrow(word: u32, at: u32, width: u32) -> u8
     ((word >> at) % (1 << width)) as u8
 }
 
+/// The register in bits 25 to 21.
 pub fn rs(word: u32) -> Reg
     ensures { result ≡ rs_of word }
 {
     Reg::new(narrow(word, 21, 5))
 }
 
+/// The register in bits 20 to 16.
 pub fn rt(word: u32) -> Reg
     ensures { result ≡ rt_of word }
 {
     Reg::new(narrow(word, 16, 5))
 }
 
+/// The register in bits 15 to 11.
 pub fn rd(word: u32) -> Reg
     ensures { result ≡ rd_of word }
 {
     Reg::new(narrow(word, 11, 5))
 }
 
+/// The shift amount, bits 10 to 6.
 pub fn amount(word: u32) -> Amount
     ensures { result ≡ amount_of word }
 {
     Amount::new(narrow(word, 6, 5))
 }
 
+/// The low half of the word.
 pub fn immediate(word: u32) -> Immediate
     ensures { result ≡ immediate_of word }
 {
     Immediate::new((word % (1 << 16)) as u16)
 }
 
+/// The low 26 bits, a jump's target in words.
 pub fn target(word: u32) -> Target
     ensures { result ≡ target_of word }
 {

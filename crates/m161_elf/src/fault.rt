@@ -1,6 +1,6 @@
 //! Why a file is refused.
 
-ghost use Rattle.std.specs.Prelude.{◌≡◌, ◌+◌, ◌≤◌, length, IfNone};
+ghost use Rattle.std.specs.Prelude.{◌≡◌, ◌≢◌, ◌+◌, ◌≤◌, length, IfNone, IfSome};
 ghost use Rattle.m161_elf.specs.Header.{header_count_of, header_table_of};
 ghost use Rattle.m161_elf.specs.Image.{first_fault, has_bad_entry, has_bad_header_table, is_larger_in_file, is_not_elf32_big, is_not_executable, is_not_mips, is_outside_file, is_outside_ram};
 
@@ -24,6 +24,7 @@ const MIPS: u16 = 8;
 #[tactic(auto, unfolding(crate::specs::Image::first_fault))]
 pub(crate) fn fault(file: &[u8], ram: u32) -> Option<LoadError>
     ensures first { result ≡ first_fault file.now ram }
+    ensures kind { IfSome result (λ e. e ≢ LoadError.NoMemory) }
     ensures header { IfNone result (52 ≤ length file.now) }
     ensures count { IfNone result (header_count_of file.now ≡ 1) }
     ensures table { IfNone result (header_table_of file.now + 32 ≤ length file.now) }

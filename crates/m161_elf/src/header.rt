@@ -7,17 +7,22 @@ ghost use Rattle.m161_elf.specs.Header.{half_at, header_at, header_count_of, hea
 /// The size of the ELF header.
 pub(crate) const HEADER_SIZE: usize = 52;
 
-/// The places of its fields.
+/// The place of the kind of file.
 pub(crate) const E_TYPE: usize = 16;
 
+/// The place of the kind of processor.
 pub(crate) const E_MACHINE: usize = 18;
 
+/// The place of the first instruction's address.
 pub(crate) const E_ENTRY: usize = 24;
 
+/// The place of the program headers' offset.
 pub(crate) const E_PHOFF: usize = 28;
 
+/// The place of a program header's size.
 pub(crate) const E_PHENTSIZE: usize = 42;
 
+/// The place of the number of program headers.
 pub(crate) const E_PHNUM: usize = 44;
 
 /// The size of a program header.

@@ -1,6 +1,6 @@
 //! File bytes to memory.
 
-ghost use Rattle.std.specs.Prelude.{◌≡◌, false, length, slice_index, EachIndex};
+ghost use Rattle.std.specs.Prelude.{◌≡◌, Err, None, false, length, slice_index, EachIndex};
 ghost use Rattle.m161_elf.specs.Copied.{copied_byte};
 ghost use Rattle.m161_elf.specs.Image.{first_fault, is_larger_in_file, is_outside_file, is_outside_ram, Loads};
 
@@ -12,7 +12,8 @@ use std::alloc::Global;
 
 /// The memory that a file leaves in `ram` bytes of RAM, or the first fault that holds.
 pub fn load(alloc: Global, file: &[u8], ram: u32) -> Result<Image, LoadError>
-    ensures { Loads file.now ram (first_fault file.now ram) result }
+    ensures answer { Loads file.now ram (first_fault file.now ram) result }
+    ensures memory { result ≡ Err LoadError.NoMemory → first_fault file.now ram ≡ None }
 {
     if let Some(fault) = fault(file, ram) {
         return Err(fault);

@@ -9,7 +9,7 @@ use crate::register::Reg;
 use crate::row::Row;
 use crate::target::Target;
 
-/// The kind of a shift.
+/// The kind of a shift: left, right with zeros, or right with the sign.
 #[derive(Clone, Copy, PartialEq, Eq)]
 pub enum ShiftOp {
     Left,
@@ -17,7 +17,7 @@ pub enum ShiftOp {
     RightArithmetic,
 }
 
-/// An operation on two registers, into a third.
+/// An operation on two registers, into a third: the row of that name.
 #[derive(Clone, Copy, PartialEq, Eq)]
 pub enum ArithOp {
     Add,
@@ -32,7 +32,7 @@ pub enum ArithOp {
     Sltu,
 }
 
-/// An operation on two registers, into HI and LO.
+/// An operation on two registers, into HI and LO: the row of that name.
 #[derive(Clone, Copy, PartialEq, Eq)]
 pub enum MultiplyOp {
     Mult,
@@ -48,7 +48,8 @@ pub enum HiLo {
     Lo,
 }
 
-/// A branch's test of a register against zero.
+/// A branch's test of a register against zero, signed; two leave the return address in register
+/// 31, taken or not.
 #[derive(Clone, Copy, PartialEq, Eq)]
 pub enum ZeroTest {
     Less,
@@ -66,14 +67,14 @@ pub enum EqualTest {
     NotEqual,
 }
 
-/// A jump to a target in the word.
+/// A jump to a target in the word; one leaves the return address in register 31.
 #[derive(Clone, Copy, PartialEq, Eq)]
 pub enum JumpOp {
     Jump,
     JumpAndLink,
 }
 
-/// An operation on a register and an immediate.
+/// An operation on a register and an immediate: the row of that name.
 #[derive(Clone, Copy, PartialEq, Eq)]
 pub enum ImmediateOp {
     Addi,
@@ -85,7 +86,7 @@ pub enum ImmediateOp {
     Xori,
 }
 
-/// A load from memory.
+/// A load from memory: what is read, and how a part of a word is extended. `Linked` is `ll`.
 #[derive(Clone, Copy, PartialEq, Eq)]
 pub enum LoadOp {
     Byte,
@@ -98,7 +99,7 @@ pub enum LoadOp {
     Linked,
 }
 
-/// A store to memory.
+/// A store to memory: what of the register is written. `Conditional` is `sc`.
 #[derive(Clone, Copy, PartialEq, Eq)]
 pub enum StoreOp {
     Byte,
@@ -109,7 +110,7 @@ pub enum StoreOp {
     Conditional,
 }
 
-/// An instruction without operands.
+/// An instruction without operands: the row of that name.
 #[derive(Clone, Copy, PartialEq, Eq)]
 pub enum PlainOp {
     Syscall,

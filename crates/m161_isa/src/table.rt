@@ -45,7 +45,7 @@ pub enum Effect {
     SystemCall,
     /// Trap Bp.
     Breakpoint,
-    /// Nothing, where memory is in step already.
+    /// Waits for earlier loads and stores; nothing here, since each is whole when its Step ends.
     Synchronize,
     /// HI into a register.
     MoveFromHi,
@@ -71,13 +71,13 @@ pub enum Effect {
     Difference,
     /// The difference modulo 2^32.
     DifferenceModulo,
-    /// Bit by bit.
+    /// The bits that both have.
     And,
-    /// Bit by bit.
+    /// The bits that one or both have.
     Or,
-    /// Bit by bit.
+    /// The bits that exactly one has.
     Xor,
-    /// Bit by bit.
+    /// The bits that neither has.
     Nor,
     /// 1 where less, signed, else 0.
     SetOnLess,
@@ -87,9 +87,9 @@ pub enum Effect {
     BranchOnLess,
     /// Not below zero, signed.
     BranchOnNotLess,
-    /// The same, and the return address into register 31 in either case.
+    /// Below zero, signed; the return address into register 31, taken or not.
     BranchOnLessAndLink,
-    /// The same, and the return address into register 31 in either case.
+    /// Not below zero, signed; the return address into register 31, taken or not.
     BranchOnNotLessAndLink,
     /// A jump that leaves the return address in register 31.
     JumpAndLink,

@@ -1,4 +1,3 @@
 pub mod Replay
 pub mod Stepping
 pub mod Made
-pub mod Booted

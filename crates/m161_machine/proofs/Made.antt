@@ -45,9 +45,9 @@ pub step_made : (start : Start) (log : List Entry) (p : ℕ) (o : Outcome) (proc
     p < length processors → length log < start.conf.log →
     old ≡ get_or processors p old →
     Steps (step_of old memory) old memory (Ok o) new left →
-    new.count ≡ old.count + 1 →
+    new.count ≡ old.count + 1 → length left ≡ length memory →
     Made (history start log) start log p o (slice_set processors p new) left off
-step_made start log p o processors memory left off old new a allowed inside room here steps counted =
+step_made start log p o processors memory left off old new a allowed inside room here steps counted size =
     let x : Stepped = record { outcome = o; processor = new; memory = left } in
     let h = history start log in
     let old_is : old ≡ processor_at p h.state.processors =
@@ -67,6 +67,9 @@ step_made start log p o processors memory left off old new a allowed inside room
         memory_is = ap (λ (t : State). t.memory) (sym state_is);
         off_is = a.off_is ∙ ap (λ (t : State). t.off) (sym state_is);
         conf_is = ap (λ (t : State). t.conf) state_is ∙ a.conf_is;
+        is_loaded = a.is_loaded;
+        limits_hold = a.limits_hold;
+        ram_is = size ∙ a.ram_is;
         size_is = length-set processors p new ∙ a.size_is;
         accepted_is = ap (λ (t : State). t.accepted) state_is ∙ ap (λ n. n + 1) a.accepted_is ∙ sym longer;
         log_fits = omega (arith, longer, room);
@@ -104,16 +107,16 @@ pub made_of : (m : History) (start : Start) (log : List Entry) (p : ℕ) (o : Ou
     (p < length m.state.processors) × (length m.log < m.start.conf.log) →
     old ≡ get_or processors p old →
     Steps (step_of old memory) old memory (Ok o) new left →
-    new.count ≡ old.count + 1 →
+    new.count ≡ old.count + 1 → length left ≡ length memory →
     Made m start log p o (slice_set processors p new) left off
-made_of m start log p o processors memory left off old new view a allowed inside here steps counted =
+made_of m start log p o processors memory left off old new view a allowed inside here steps counted size =
     let P : History → Type 0 = λ x.
     refusal x.state (Step p) ≡ None → (p < length x.state.processors) × (length x.log < x.start.conf.log) →
     Made x start log p o (slice_set processors p new) left off in
     subst P view
     (λ allowed inside. step_made start log p o processors memory left off old new a allowed
     (let same : length processors ≡ length (history start log).state.processors = ap length a.processors_are in omega (arith, same, inside.0))
-    inside.1 here steps counted)
+    inside.1 here steps counted size)
     allowed inside
 
 pub refused_of : (m : History) (start : Start) (log : List Entry) (p : ℕ) (processors : List Processor) (memory left : List ℕ) (off : Bool) (old new : Processor) (e : NotYet) →

@@ -1,4 +1,4 @@
-use Rattle.std.specs.Prelude.{◌≡◌, ℕ, ◌-◌, ◌≤◌, Bool, false, List, [], ◌∷◌, ◌++◌, map, length, replicate, Option, None, Some, Result, Ok, Err, All, if◌then◌else◌}
+use Rattle.std.specs.Prelude.{◌≡◌, ℕ, ◌-◌, ◌≤◌, Bool, true, false, List, [], ◌∷◌, ◌++◌, map, length, replicate, Option, None, Some, Result, Ok, Err, All, if◌then◌else◌}
 use Rattle.m161_elf.specs.declared.image.LoadError.{LoadError}
 use Rattle.m161_elf.specs.Image.{first_fault, IsImage}
 use Rattle.m161_cpu.specs.declared.processor.Outcome.{Outcome}
@@ -105,6 +105,10 @@ Boots file conf (Some first) (Err e) = e ≡ first
 Boots file conf None (Ok m) = IsBooted file conf m
 Boots file conf None (Err e) = e ≡ NoMemory
 
+-- a start is what some file without a fault leaves
+abbrev pub IsLoaded : Start → Type 0
+IsLoaded start = (file : List ℕ) × (first_fault file start.conf.ram ≡ None) × IsImage file start.conf.ram start.entry start.bytes
+
 -- what the parts of a machine have to do with its history
 pub record Agrees (h : History) (processors : List Processor) (memory : List ℕ) (off : Bool) : Type 0 where
   pub replay : IsReplay h
@@ -112,6 +116,9 @@ pub record Agrees (h : History) (processors : List Processor) (memory : List ℕ
   pub memory_is : memory ≡ h.state.memory
   pub off_is : off ≡ h.state.off
   pub conf_is : h.state.conf ≡ h.start.conf
+  pub is_loaded : IsLoaded h.start
+  pub limits_hold : is_within_limits h.start.conf ≡ true
+  pub ram_is : length memory ≡ h.start.conf.ram
   pub size_is : length processors ≡ h.start.conf.processors
   pub accepted_is : h.state.accepted ≡ length h.log
   pub log_fits : length h.log ≤ h.start.conf.log

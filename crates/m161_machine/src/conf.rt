@@ -4,6 +4,7 @@ ghost use Rattle.std.specs.Prelude.{◌≡◌};
 ghost use Rattle.m161_machine.specs.Conf.{is_within_limits};
 
 use m161_elf::LoadError;
+use std::alloc::AllocError;
 use thiserror::Error;
 
 /// The size of a machine.
@@ -43,4 +44,32 @@ pub enum BootError {
     /// Memory was refused.
     #[error("out of memory")]
     NoMemory,
+}
+
+impl From<AllocError> for BootError {
+    ghost use Rattle.std.specs.Prelude.{◌≡◌};
+    ghost use Rattle.m161_machine.specs.declared.conf.BootError.{BootError};
+
+    ghost from_gives = { λ _ result. result ≡ BootError.NoMemory };
+
+    fn from(_error: AllocError) -> BootError {
+        BootError::NoMemory
+    }
+}
+
+impl From<LoadError> for BootError {
+    ghost use Rattle.std.specs.Prelude.{◌≡◌, ◌≢◌};
+    ghost use Rattle.m161_elf.specs.declared.image.LoadError.{LoadError};
+    ghost use Rattle.m161_machine.specs.declared.conf.BootError.{BootError};
+
+    ghost from_gives = { λ error result.
+        (error ≡ LoadError.NoMemory → result ≡ BootError.NoMemory)
+        × (error ≢ LoadError.NoMemory → result ≡ BootError.Load error) };
+
+    fn from(error: LoadError) -> BootError {
+        match error {
+            LoadError::NoMemory => BootError::NoMemory,
+            fault => BootError::Load(fault),
+        }
+    }
 }

@@ -16,7 +16,9 @@ pub enum Event {
 /// An accepted event and what it came to.
 #[derive(Clone, Copy, Debug, PartialEq, Eq)]
 pub struct Entry {
+    /// What was done.
     pub event: Event,
+    /// What it came to.
     pub outcome: Outcome,
 }
 

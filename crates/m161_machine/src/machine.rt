@@ -1,15 +1,16 @@
 //! The machine.
 
-ghost use Rattle.std.specs.Prelude.{◌≡◌, ◌≢◌, ◌+◌, ◌<◌, [], ◌∷◌, length, slice_index, IfNone, IfOk};
+ghost use Rattle.std.specs.Prelude.{◌≡◌, ◌+◌, ◌<◌, ◌≤◌, true, [], ◌∷◌, length, slice_index, IfNone, IfOk};
 ghost use Rattle.m161_cpu.specs.Processor.{started};
 ghost use Rattle.m161_machine.specs.declared.event.Event.TheVariants as events;
+ghost use Rattle.m161_machine.specs.Conf.{is_within_limits};
 ghost use Rattle.m161_machine.specs.State.{processor_at, refusal, word_in};
-ghost use Rattle.m161_machine.specs.History.{boot_fault, Boots, Answers, IsReplay};
+ghost use Rattle.m161_machine.specs.History.{boot_fault, Boots, Answers, IsLoaded, IsReplay};
 
 use crate::conf::{BootError, Conf};
 use crate::event::{Entry, Event, Refusal};
 use m161_cpu::{Cpu, Outcome, ProcessorState};
-use m161_elf::{Image, LoadError, load};
+use m161_elf::{Image, load};
 use m161_isa::Reg;
 use m161_ram::Ram;
 use std::alloc::{AllocError, Global};
@@ -42,18 +43,6 @@ impl Model for Machine {
         × (m.conf.log ≤ vec_capacity m.log) };
 }
 
-// Why a file isn't loaded, as an error of the boot.
-fn error_of(error: LoadError) -> BootError
-    ensures memory { error ≡ LoadError.NoMemory → result ≡ BootError.NoMemory }
-    ensures fault { error ≢ LoadError.NoMemory → result ≡ BootError.Load error }
-{
-    if error == LoadError::NoMemory {
-        BootError::NoMemory
-    } else {
-        BootError::Load(error)
-    }
-}
-
 // The processors at boot: one, started at the entry.
 fn first_processor(alloc: Global, entry: u32) -> Result<Vec<Cpu>, AllocError>
     ensures { IfOk result (λ processors. processors.items ≡ started entry 0 0 0 ∷ []) }
@@ -68,25 +57,18 @@ fn first_processor(alloc: Global, entry: u32) -> Result<Vec<Cpu>, AllocError>
 impl Machine {
     /// Boots a file. The machine keeps what was loaded beside its memory, so it takes twice the
     /// RAM of its configuration, and the log's room.
+    ///
+    /// Errors: the configuration is outside the limits, the file isn't loaded, memory was refused.
     pub fn boot(alloc: Global, file: &[u8], conf: Conf) -> Result<Machine, BootError>
         ensures { Boots file.now conf (boot_fault file.now conf) result }
     {
         if !conf.is_within_limits() {
             return Err(BootError::BadConf);
         }
-        let image = match load(alloc, file, conf.ram) {
-            Ok(image) => image,
-            Err(error) => return Err(error_of(error)),
-        };
-        let Ok(bytes) = Vec::from_slice(alloc, image.bytes.as_slice()) else {
-            return Err(BootError::NoMemory);
-        };
-        let Ok(processors) = first_processor(alloc, image.entry) else {
-            return Err(BootError::NoMemory);
-        };
-        let Ok(log) = Vec::with_capacity(alloc, conf.log as usize) else {
-            return Err(BootError::NoMemory);
-        };
+        let image = load(alloc, file, conf.ram)?;
+        let bytes = Vec::from_slice(alloc, image.bytes.as_slice())?;
+        let processors = first_processor(alloc, image.entry)?;
+        let log = Vec::with_capacity(alloc, conf.log as usize)?;
         Ok(Machine {
             processors,
             ram: Ram::from_bytes(bytes),
@@ -97,7 +79,9 @@ impl Machine {
         })
     }
 
-    /// One Step of a processor.
+    /// One Step of a processor; it takes no memory.
+    ///
+    /// Errors: the first refusal that holds. Nothing is changed then, and nothing logged.
     pub fn step(&mut self, p: u32) -> Result<Outcome, Refusal>
         ensures answers { Answers self.old (events.Step p) result self.new }
         ensures processors { length self.new.state.processors ≡ length self.old.state.processors }
@@ -108,14 +92,11 @@ impl Machine {
         let Machine {
             processors,
             ram,
-            off: _,
             log,
-            image: _,
-            conf: _,
+            ..
         } = self;
-        let outcome = match processors[p as usize].step(p as usize, ram) {
-            Ok(outcome) => outcome,
-            Err(_) => return Err(Refusal::NotYet),
+        let Ok(outcome) = processors[p as usize].step(p as usize, ram) else {
+            return Err(Refusal::NotYet);
         };
         log.push_reserved(Entry {
             event: Event::Step(p),
@@ -140,10 +121,18 @@ impl Machine {
         }
     }
 
-    /// Every machine is the replay of its log: from what it was booted from, the log's events are
-    /// accepted one after the other with the log's outcomes, and end in the machine's state.
+    /// What holds of every machine: it is the replay of its log. From what it was booted from, the
+    /// log's events are accepted one after the other with the log's outcomes, and end in the
+    /// machine's state. The state keeps the configuration, which is within the limits.
     pub fn replay(&self)
-        ensures { IsReplay self.now }
+        ensures replay { IsReplay self.now }
+        ensures file { IsLoaded self.now.start }
+        ensures limits { is_within_limits self.now.start.conf ≡ true }
+        ensures conf { self.now.state.conf ≡ self.now.start.conf }
+        ensures ram { length self.now.state.memory ≡ self.now.start.conf.ram }
+        ensures processors { length self.now.state.processors ≡ self.now.start.conf.processors }
+        ensures accepted { self.now.state.accepted ≡ length self.now.log }
+        ensures room { length self.now.log ≤ self.now.start.conf.log }
     {
         let _log = &self.log;
     }
@@ -151,7 +140,8 @@ impl Machine {
     /// A general register of a processor.
     pub fn reg(&self, p: u32, register: Reg) -> u32
         requires { p < length self.now.state.processors }
-        ensures { result ≡ slice_index (processor_at p self.now.state.processors).registers register }
+        ensures value { result ≡ slice_index (processor_at p self.now.state.processors).registers register }
+        ensures zero { register ≡ 0 → result ≡ 0 }
     {
         self.processors[p as usize].reg(register)
     }

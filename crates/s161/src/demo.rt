@@ -1,5 +1,7 @@
 //! The built-in image, and its run.
 
+ghost use Rattle.std.specs.Prelude.{◌≡◌, IfErr};
+
 use crate::display::show_regs;
 use crate::fault::Fault;
 use m161_machine::{Conf, Machine};
@@ -37,9 +39,11 @@ pub static IMAGE: [u8; 112] = [
 const STEPS: u32 = 7;
 
 /// Boots the image, makes seven Steps and shows processor 0's registers.
-pub fn demo(alloc: Global) -> Result<String, Fault> {
+pub fn demo(alloc: Global) -> Result<String, Fault>
+    ensures { IfErr result (λ fault. fault ≡ Fault.Memory) }
+{
     let mut machine = Machine::boot(alloc, &IMAGE, CONF)?;
-    'steps: for _ in 0..STEPS {
+    for _ in 0..STEPS {
         if machine.step(0).is_err() {
             break;
         }

@@ -1,5 +1,9 @@
 //! Why a command ends early.
 
+ghost use Rattle.std.specs.Prelude.{◌≡◌};
+ghost use Rattle.s161.specs.Faults.{fault_of_boot};
+ghost use Rattle.s161.specs.declared.fault.Fault.TheVariants.{Memory};
+
 use m161_elf::LoadError;
 use m161_machine::BootError;
 use std::alloc::AllocError;
@@ -14,17 +18,23 @@ pub enum Fault {
     Image(LoadError),
     #[error("s161: memory")]
     Memory,
+    #[error("s161: input")]
+    Input,
     #[error("s161: output")]
     Output,
 }
 
 impl From<AllocError> for Fault {
+    ghost from_gives = { λ _ fault. fault ≡ Memory };
+
     fn from(_error: AllocError) -> Fault {
         Fault::Memory
     }
 }
 
 impl From<BootError> for Fault {
+    ghost from_gives = { λ error fault. fault ≡ fault_of_boot error };
+
     fn from(error: BootError) -> Fault {
         match error {
             BootError::BadConf => Fault::Conf,

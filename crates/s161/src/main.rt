@@ -11,6 +11,9 @@
 //! reader and writers.
 #![tactic(auto)]
 
+ghost use Rattle.std.specs.Prelude.{◌≡◌, ◌≢◌, ◌⊎◌, IfErr};
+ghost use Rattle.std.specs.IoError.{error_kind};
+
 mod command;
 mod demo;
 mod display;
@@ -23,13 +26,14 @@ mod work;
 use crate::fault::Fault;
 use crate::files::HostFiles;
 use crate::work::{report, work};
-use std::alloc::AllocError;
-use std::env;
+use std::io::ErrorKind;
 use std::process::ExitCode;
+use std::{env, io};
 
 fn main(rt: HostRuntime) -> ExitCode {
-    let Some(words) = arguments(&rt) else {
-        return ExitCode::from(report(Fault::Memory, &mut rt.stderr()));
+    let words = match arguments(&rt) {
+        Ok(words) => words,
+        Err(fault) => return ExitCode::from(report(fault, &mut rt.stderr())),
     };
     let mut files = HostFiles::new(&rt);
     ExitCode::from(work(
@@ -42,7 +46,22 @@ fn main(rt: HostRuntime) -> ExitCode {
     ))
 }
 
-// The words of the command line, where there is memory for them.
-fn arguments(rt: &HostRuntime) -> Option<Vec<String>> {
-    env::args(rt).ok()?.collect(rt.alloc()).ok()
+// The words of the command line.
+fn arguments(rt: &HostRuntime) -> Result<Vec<String>, Fault>
+    ensures { IfErr result (λ fault. (fault ≡ Fault.Input) ⊎ (fault ≡ Fault.Memory)) }
+{
+    let words = env::args(rt).map_err(fault_of_words)?;
+    Ok(words.collect(rt.alloc())?)
+}
+
+// Why the words aren't read: one of them isn't UTF-8, or memory was refused.
+fn fault_of_words(error: io::Error) -> Fault
+    ensures input { error_kind error ≡ ErrorKind.InvalidData → result ≡ Fault.Input }
+    ensures memory { error_kind error ≢ ErrorKind.InvalidData → result ≡ Fault.Memory }
+{
+    if error.kind() == ErrorKind::InvalidData {
+        Fault::Input
+    } else {
+        Fault::Memory
+    }
 }

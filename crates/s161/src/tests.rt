@@ -5,8 +5,10 @@ mod commands;
 mod images;
 mod instructions;
 mod machines;
+mod processors;
 mod programs;
 mod results;
+mod rows;
 
 use std::fmt::Debug;
 use std::process::Abort;

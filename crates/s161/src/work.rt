@@ -1,6 +1,9 @@
 //! The work of a command line.
 
-ghost use Rattle.std.specs.Prelude.{◌≤◌, ◌≡◌};
+ghost use Rattle.std.specs.Prelude.{◌≡◌, ◌≢◌, ◌≤◌, IfErr, OnOk, map};
+ghost use Rattle.std.specs.Io.KnownBytes.{Appends};
+ghost use Rattle.clap.specs.Words.{kind_of};
+ghost use Rattle.s161.specs.Commands.{IsTaken};
 
 use crate::command::{Task, parse};
 use crate::demo::demo;
@@ -29,7 +32,9 @@ where
     I: Read,
     O: Write,
     E: Write,
-    ensures { result ≤ 2 }
+    ensures taken { result ≡ 0 → IsTaken (map S.text words.now) }
+    ensures refused { result ≡ 2 → ¬ IsTaken (map S.text words.now) }
+    ensures within { result ≤ 2 }
 {
     let made = match parse(rt.alloc(), words) {
         Ok(Task::Demo) => demo(rt.alloc()),
@@ -42,7 +47,10 @@ where
 }
 
 // Writes all of an output.
-fn put<O: Write>(output: &mut O, bytes: &[u8]) -> Result<(), Fault> {
+fn put<O: Write>(output: &mut O, bytes: &[u8]) -> Result<(), Fault>
+    ensures ok { OnOk result (Appends (O.contents output.old) (O.contents output.new) bytes.now) }
+    ensures err { IfErr result (λ fault. fault ≡ Fault.Output) }
+{
     match output.write_all(bytes) {
         Ok(()) => Ok(()),
         Err(_) => Err(Fault::Output),
@@ -59,8 +67,8 @@ pub fn report<E: Write>(fault: Fault, errors: &mut E) -> u8
 
 // Says why a command line isn't taken, in clap's own words.
 fn refuse<O: Write, E: Write>(alloc: Global, error: &Error, output: &mut O, errors: &mut E) -> u8
-    ensures refused { 1 ≤ result }
-    ensures within { result ≤ 2 }
+    ensures refused { result ≡ 2 → kind_of error.now ≢ ErrorKind.OutOfMemory }
+    ensures within { (1 ≤ result) × (result ≤ 2) }
 {
     if error.kind() == ErrorKind::OutOfMemory {
         return report(Fault::Memory, errors);

@@ -1,11 +1,15 @@
 //! Command lines.
 
 use super::same;
+use crate::fault::Fault;
 use crate::files::FileSource;
 use crate::work::work;
+use m161_elf::LoadError;
+use m161_machine::BootError;
 use std::alloc::Global;
 use std::io;
 use std::io::{ErrorKind, Write};
+use std::test::Fail;
 
 /// What the demo prints.
 const DEMO: &str = "cpu 0 running pc 8000021c
@@ -100,15 +104,27 @@ fn demo(rt: HostRuntime) {
 
 #[test]
 fn failing_output(rt: HostRuntime) {
-    // every other output takes no byte without an error
+    // an error after each number of bytes
     for room in 0..DEMO.len() {
-        let found = demo_into(&rt, room, usize::MAX, room % 2 == 0);
+        let found = demo_into(&rt, room, usize::MAX, true);
         same(&rt, found, (1, (room, true), (FAILED.len(), true)));
     }
-    // standard error fails too
+}
+
+#[test]
+fn output_that_takes_no_more(rt: HostRuntime) {
+    // no error, but no byte either, after each number of bytes
+    for room in 0..DEMO.len() {
+        let found = demo_into(&rt, room, usize::MAX, false);
+        same(&rt, found, (1, (room, true), (FAILED.len(), true)));
+    }
+}
+
+#[test]
+fn both_outputs_fail(rt: HostRuntime) {
     for (fails, room) in [(true, 0), (false, 0), (true, 3), (false, 3)] {
         let found = demo_into(&rt, 26, room, fails);
-        same(&rt, found, (1, (26, true), (room, true)));
+        same(&rt, (fails, found), (fails, (1, (26, true), (room, true))));
     }
 }
 
@@ -124,7 +140,35 @@ fn command_line(rt: HostRuntime) {
         let mut output = Memory::new(rt.alloc(), usize::MAX, true);
         let mut errors = Memory::new(rt.alloc(), usize::MAX, true);
         let status = run(&rt, words, &mut output, &mut errors);
-        let found = (status, output.bytes.is_empty(), errors.bytes.is_empty());
-        same(&rt, found, (2, !on_output, on_output));
+        let found = [output.bytes.is_empty(), errors.bytes.is_empty()];
+        same(
+            &rt,
+            (words, status, found),
+            (words, 2, [!on_output, on_output]),
+        );
     }
+}
+
+#[test]
+fn fault_texts(rt: HostRuntime) -> Result<(), Fail> {
+    for (fault, text) in [
+        (Fault::Conf, "s161: conf"),
+        (
+            Fault::Image(LoadError::Truncated),
+            "s161: image 1 Truncated",
+        ),
+        (Fault::Memory, "s161: memory"),
+        (Fault::Input, "s161: input"),
+        (Fault::Output, "s161: output"),
+        (Fault::from(BootError::BadConf), "s161: conf"),
+        (
+            Fault::from(BootError::Load(LoadError::BadEntry)),
+            "s161: image 9 BadEntry",
+        ),
+        (Fault::from(BootError::NoMemory), "s161: memory"),
+    ] {
+        let found = format!(in rt.alloc(); "{fault}")?;
+        same(&rt, found.as_str(), text);
+    }
+    Ok(())
 }

@@ -111,54 +111,76 @@ fn loaded(alloc: Global, edits: &[(usize, u32)], length: usize) -> Result<(bool,
 
 #[test]
 fn image_refusals(rt: HostRuntime) -> Result<(), Fail> {
-    let cases: [(&[(usize, u32)], usize, Result<u32, LoadError>); 14] = [
-        (&[], 112, Ok(0x8000_0200)),
-        (&[(FILE_SIZE, 8), (MEMORY_SIZE, 8)], 92, Ok(0x8000_0200)),
+    type Loaded = Result<u32, (u8, &'static str)>;
+    let taken: Loaded = Ok(0x8000_0200);
+    let cases: [(&[(usize, u32)], usize, Loaded); 14] = [
+        (&[], 112, taken),
+        (&[(FILE_SIZE, 8), (MEMORY_SIZE, 8)], 92, taken),
         (
             &[(FILE_SIZE, 8), (MEMORY_SIZE, 8)],
             51,
-            Err(LoadError::Truncated),
+            Err((1, "Truncated")),
         ),
-        (&[(CLASS, 0x0202_0100)], 112, Err(LoadError::NotElf32Big)),
-        (
-            &[(ADDRESS, 0x8000_0ffd), (FILE_SIZE, 0), (MEMORY_SIZE, 4)],
-            112,
-            Err(LoadError::SegmentOutsideRam),
-        ),
-        (
-            &[(FILE_SIZE, 8), (MEMORY_SIZE, 4)],
-            112,
-            Err(LoadError::FileLargerThanMemory),
-        ),
+        (&[(CLASS, 0x0202_0100)], 112, Err((2, "NotElf32Big"))),
+        (&[(TYPE, 0x0001_0008)], 112, Err((3, "NotExecutable"))),
+        (&[(TYPE, 0x0002_0003)], 112, Err((4, "NotMips"))),
         (
             &[(HEADER_COUNT, 0xffff_0000)],
             112,
-            Err(LoadError::BadHeaderTable),
+            Err((5, "BadHeaderTable")),
         ),
         (
             &[(OFFSET, 0xffff_fff0), (FILE_SIZE, 0x20)],
             112,
-            Err(LoadError::SegmentOutsideFile),
+            Err((6, "SegmentOutsideFile")),
+        ),
+        (
+            &[(ADDRESS, 0x8000_0ffd), (FILE_SIZE, 0), (MEMORY_SIZE, 4)],
+            112,
+            Err((7, "SegmentOutsideRam")),
         ),
         (
             &[(ADDRESS, 0x9fff_fffc), (FILE_SIZE, 0), (MEMORY_SIZE, 8)],
             112,
-            Err(LoadError::SegmentOutsideRam),
+            Err((7, "SegmentOutsideRam")),
         ),
+        (
+            &[(FILE_SIZE, 8), (MEMORY_SIZE, 4)],
+            112,
+            Err((8, "FileLargerThanMemory")),
+        ),
+        (&[(ENTRY, 0x8000_0202)], 112, Err((9, "BadEntry"))),
         (
             &[(ADDRESS, 0xffff_ffff), (FILE_SIZE, 0), (MEMORY_SIZE, 0)],
             112,
-            Ok(0x8000_0200),
+            taken,
         ),
-        (&[(ADDRESS, 0xa000_0200)], 112, Ok(0x8000_0200)),
-        (&[(TYPE, 0x0001_0008)], 112, Err(LoadError::NotExecutable)),
-        (&[(TYPE, 0x0002_0003)], 112, Err(LoadError::NotMips)),
-        (&[(ENTRY, 0x8000_0202)], 112, Err(LoadError::BadEntry)),
+        (&[(ADDRESS, 0xa000_0200)], 112, taken),
     ];
-    for (edits, length, wanted) in cases {
-        same(&rt, entry_of(rt.alloc(), edits, length)?, wanted);
+    for &(edits, length, wanted) in &cases {
+        let found = entry_of(rt.alloc(), edits, length)?;
+        let found = found.map_err(|error| (error.number(), error.name()));
+        same(&rt, (edits, length, found), (edits, length, wanted));
     }
     Ok(())
+}
+
+#[test]
+fn load_errors(rt: HostRuntime) {
+    for (error, number, name) in [
+        (LoadError::Truncated, 1, "Truncated"),
+        (LoadError::NotElf32Big, 2, "NotElf32Big"),
+        (LoadError::NotExecutable, 3, "NotExecutable"),
+        (LoadError::NotMips, 4, "NotMips"),
+        (LoadError::BadHeaderTable, 5, "BadHeaderTable"),
+        (LoadError::SegmentOutsideFile, 6, "SegmentOutsideFile"),
+        (LoadError::SegmentOutsideRam, 7, "SegmentOutsideRam"),
+        (LoadError::FileLargerThanMemory, 8, "FileLargerThanMemory"),
+        (LoadError::BadEntry, 9, "BadEntry"),
+        (LoadError::NoMemory, 10, "NoMemory"),
+    ] {
+        same(&rt, (error.number(), error.name()), (number, name));
+    }
 }
 
 #[test]
@@ -171,7 +193,8 @@ fn truncated_image(rt: HostRuntime) -> Result<(), Fail> {
         } else {
             LoadError::SegmentOutsideFile
         };
-        same(&rt, entry_of(rt.alloc(), &[], length)?, Err(fault));
+        let found = entry_of(rt.alloc(), &[], length)?;
+        same(&rt, (length, found), (length, Err(fault)));
     }
     Ok(())
 }
@@ -184,7 +207,8 @@ fn segment_in_memory(rt: HostRuntime) -> Result<(), Fail> {
         (&[(FILE_SIZE, 4)], 4, 4),
     ];
     for (edits, length, written) in cases {
-        same(&rt, loaded(rt.alloc(), edits, length)?, (true, written));
+        let found = loaded(rt.alloc(), edits, length)?;
+        same(&rt, (edits, found), (edits, (true, written)));
     }
     Ok(())
 }

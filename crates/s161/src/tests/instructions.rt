@@ -1,8 +1,8 @@
 //! Words against what another assembler says of them.
 
 use super::same;
-use m161_decode::{decode, encode, is_canonical};
-use m161_isa::{Instr, Reg, has_row, row_of};
+use m161_decode::{at_most_one_row, decode, encode, is_canonical, round_trips};
+use m161_isa::{Effect, Instr, ROWS, Reg, Row, has_row, row_of, rows_in_order};
 use std::alloc::{AllocError, Global};
 use std::fmt::Write;
 use std::test::Fail;
@@ -253,6 +253,28 @@ fn agrees_with_an_assembler(rt: HostRuntime) -> Result<(), Fail> {
 }
 
 #[test]
+fn words_of_every_row(rt: HostRuntime) {
+    // two words for a row with operands
+    for row in &ROWS {
+        let name = row.name();
+        let names = WORDS
+            .lines()
+            .filter(|line| line.split(' ').nth(1) == Some(name));
+        let wanted = if row.operands().is_empty() { 1 } else { 2 };
+        same(&rt, (name, names.count()), (name, wanted));
+    }
+}
+
+#[test]
+fn laws_and_effects(rt: HostRuntime) {
+    rows_in_order();
+    at_most_one_row();
+    round_trips();
+    let found = [Effect::ShiftLeft, Effect::ShiftRight].map(|it| Row::Srlv.effect() == it);
+    same(&rt, found, [false, true]);
+}
+
+#[test]
 fn tells_misfits_apart(rt: HostRuntime) {
     // a word without a row, and the word of its instruction: of a coprocessor's the opcode alone,
     // of a reserved one the word itself
@@ -275,6 +297,6 @@ fn tells_misfits_apart(rt: HostRuntime) {
     ] {
         let instr = decode(word);
         let found = (has_row(&instr), encode(&instr), is_canonical(word));
-        same(&rt, found, (false, again, false));
+        same(&rt, (word, found), (word, (false, again, false)));
     }
 }

@@ -92,32 +92,100 @@ fn demo_six_steps(rt: HostRuntime) -> Result<(), Fail> {
     Ok(())
 }
 
+/// What a Step comes to after the smallest machine has executed so many, and what is looked at
+/// before that Step and after it.
+pub(crate) fn tried(
+    rt: &(impl Abort + AllocGlobal),
+    words: &[u32],
+    steps: usize,
+    register: u8,
+) -> Result<(Seen, Result<Outcome, Refusal>, Seen), Fail> {
+    let mut machine = booted(rt.alloc(), ENTRY, words)?;
+    run_steps(rt, &mut machine, steps);
+    let before = look(rt, &machine, register);
+    let answer = machine.step(0);
+    Ok((before, answer, look(rt, &machine, register)))
+}
+
+/// Words that aren't executed yet, with 80000000 in register 16, 7fffffff in 9 and 1 in 10.
+static NOT_YET: [(&str, u32); 26] = [
+    ("lw $8, 0($0)", 0x8c08_0000),
+    ("lw $8, 0x1000($16)", 0x8e08_1000),
+    ("sb $9, 0x1000($16)", 0xa209_1000),
+    ("lw $8, 0x401($16)", 0x8e08_0401),
+    ("lw $8, 0x402($16)", 0x8e08_0402),
+    ("lh $8, 0x401($16)", 0x8608_0401),
+    ("lhu $8, 0x403($16)", 0x9608_0403),
+    ("sh $9, 0x401($16)", 0xa609_0401),
+    ("sw $9, 0x402($16)", 0xae09_0402),
+    ("add $8, $9, $10", 0x012a_4020),
+    ("addi $8, $9, 1", 0x2128_0001),
+    ("sub $8, $16, $10", 0x020a_4022),
+    ("syscall", 0x0000_000c),
+    ("break", 0x0000_000d),
+    ("mfc0 $8, $12", 0x4008_6000),
+    ("mtc0 $8, $12", 0x4088_6000),
+    ("tlbr", 0x4200_0001),
+    ("tlbwi", 0x4200_0002),
+    ("tlbwr", 0x4200_0006),
+    ("tlbp", 0x4200_0008),
+    ("rfe", 0x4200_0010),
+    ("wait", 0x4200_0020),
+    ("ll $8, 0($16)", 0xc208_0000),
+    ("sc $8, 0($16)", 0xe208_0000),
+    ("coprocessor 1", 0x4400_0000),
+    ("no row", 0xffff_ffff),
+];
+
 #[test]
 fn not_yet(rt: HostRuntime) -> Result<(), Fail> {
-    // jr $0 and its slot are executed, and address 0 is refused; then lw $8, 0($0), outside kseg0
-    // and kseg1; lw $8, 1($16); syscall; break; mfc0; rfe; ll; sc; coprocessor 1; no instruction
-    let cases: [(&[u32], usize, u32); 11] = [
-        (&[0x0000_0008, 0], 2, 0),
-        (&[0x8c08_0000], 0, ENTRY),
-        (&[0x8e08_0001], 0, ENTRY),
-        (&[0x0000_000c], 0, ENTRY),
-        (&[0x0000_000d], 0, ENTRY),
-        (&[0x4008_6000], 0, ENTRY),
-        (&[0x4200_0010], 0, ENTRY),
-        (&[0xc208_0000], 0, ENTRY),
-        (&[0xe208_0000], 0, ENTRY),
-        (&[0x4400_0000], 0, ENTRY),
-        (&[0xffff_ffff], 0, ENTRY),
-    ];
-    for (words, steps, pc) in cases {
-        let mut machine = booted(rt.alloc(), ENTRY, words)?;
-        run_steps(&rt, &mut machine, steps);
-        let before = look(&rt, &machine, 8);
-        same(&rt, (before.pc, before.entries), (pc, steps));
-        same(&rt, machine.step(0), Err(Refusal::NotYet));
-        same(&rt, look(&rt, &machine, 8), before);
+    for &(name, word) in &NOT_YET {
+        // lui $16, 0x8000; lw $8, 0xffc($16), the last word of RAM; lui $9, 0x7fff;
+        // ori $9, $9, 0xffff; ori $10, $0, 1; ori $8, $0, 5
+        let words = [
+            0x3c10_8000,
+            0x8e08_0ffc,
+            0x3c09_7fff,
+            0x3529_ffff,
+            0x340a_0001,
+            0x3408_0005,
+            word,
+        ];
+        let (before, answer, after) = tried(&rt, &words, 6, 8)?;
+        let refused = (name, before.register, before.entries, answer);
+        same(&rt, refused, (name, 5, 6, Err(Refusal::NotYet)));
+        same(&rt, (name, after), (name, before));
     }
     Ok(())
+}
+
+#[test]
+fn fetches_not_yet(rt: HostRuntime) -> Result<(), Fail> {
+    // nop; nop; jr $0; nop: outside kseg0 and kseg1. lui and ori of $8; jr $8; nop: past RAM, and
+    // misaligned
+    for (words, address) in [
+        ([0, 0, 0x0000_0008, 0], 0),
+        ([0x3c08_8000, 0x3508_1000, 0x0100_0008, 0], 0x8000_1000),
+        ([0x3c08_8000, 0x3508_0202, 0x0100_0008, 0], 0x8000_0202),
+    ] {
+        let (before, answer, after) = tried(&rt, &words, 4, 8)?;
+        let refused = (words, before.pc, before.entries, answer);
+        same(&rt, refused, (words, address, 4, Err(Refusal::NotYet)));
+        same(&rt, (address, after), (address, before));
+    }
+    Ok(())
+}
+
+#[test]
+fn refusals(rt: HostRuntime) {
+    for (refusal, number, name) in [
+        (Refusal::BadProcessor, 1, "BadProcessor"),
+        (Refusal::Off, 2, "Off"),
+        (Refusal::LogFull, 3, "LogFull"),
+        (Refusal::NotYet, 7, "NotYet"),
+    ] {
+        same(&rt, (refusal.number(), refusal.name()), (number, name));
+    }
 }
 
 /// Why a machine isn't booted from so many bytes of the demo's image, if it isn't.
@@ -142,22 +210,20 @@ fn configuration(rt: HostRuntime) -> Result<(), Fail> {
             processors,
             log,
         };
-        same(&rt, boot_error(rt.alloc(), length, conf), error);
+        let found = boot_error(rt.alloc(), length, conf);
+        same(&rt, (conf, length, found), (conf, length, error));
     }
 
     let mut machine = Machine::boot(rt.alloc(), &IMAGE, Conf { log: 1, ..CONF })?;
-    for (p, answer) in [
-        (9, Err(Refusal::BadProcessor)),
-        (0, Ok(Outcome::Ran)),
-        (0, Err(Refusal::LogFull)),
-        (9, Err(Refusal::BadProcessor)),
+    for (p, answer, entries) in [
+        (9, Err(Refusal::BadProcessor), 0),
+        (0, Ok(Outcome::Ran), 1),
+        (0, Err(Refusal::LogFull), 1),
+        (9, Err(Refusal::BadProcessor), 1),
     ] {
-        same(&rt, machine.step(p), answer);
+        let found = machine.step(p);
+        same(&rt, (p, found, machine.log().len()), (p, answer, entries));
     }
-    same(
-        &rt,
-        (Refusal::LogFull.number(), Refusal::NotYet.name()),
-        (3, "NotYet"),
-    );
+    machine.replay();
     Ok(())
 }

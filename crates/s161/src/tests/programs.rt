@@ -1,14 +1,14 @@
 //! Instructions on a machine: small programs, their words by GNU as 2.40 for mips-linux-gnu, and
 //! what they leave by the machine's specification.
 
-use super::machines::{ENTRY, Seen, booted, look, run_steps};
+use super::machines::{ENTRY, Seen, booted, look, run_steps, tried};
 use super::same;
 use m161_machine::Refusal;
 use std::process::Abort;
 use std::test::Fail;
 
 /// What the words leave when each was executed once, in order, with this register.
-fn left(
+pub(crate) fn left(
     rt: &(impl Abort + AllocGlobal),
     entry: u32,
     words: &[u32],
@@ -21,16 +21,36 @@ fn left(
 
 #[test]
 fn link_registers(rt: HostRuntime) -> Result<(), Fail> {
-    // bltzal $0
-    let a = left(&rt, ENTRY, &[0x0410_0004], 31)?;
-    same(&rt, (a.register, a.pc), (0x8000_0208, 0x8000_0204));
-    // lui $31, 0x8000; bgezal $31
-    let b = left(&rt, 0x8000_01fc, &[0x3c1f_8000, 0x07f1_0004], 31)?;
-    same(&rt, (b.register, b.pc), (0x8000_0208, 0x8000_0204));
-    // lui $8, 0x8000; ori $8, $8, 0x0400; jalr $8, $8; nop
-    let words = [0x3c08_8000, 0x3508_0400, 0x0100_4009, 0];
-    let c = left(&rt, 0x8000_01f8, &words, 8)?;
-    same(&rt, (c.register, c.pc), (0x8000_0208, 0x8000_0400));
+    // the last word but the slot's stands at 80000200; what is left in a register and pc
+    let cases: [(u32, &[u32], u8, [u32; 2]); 4] = [
+        // bltzal $0; nop
+        (ENTRY, &[0x0410_0004, 0], 31, [0x8000_0208, 0x8000_0208]),
+        // lui $31, 0x8000; bgezal $31; nop
+        (
+            0x8000_01fc,
+            &[0x3c1f_8000, 0x07f1_0004, 0],
+            31,
+            [0x8000_0208, 0x8000_0208],
+        ),
+        // lui $8, 0x8000; ori $8, $8, 0x0400; jalr $8, $8; nop
+        (
+            0x8000_01f8,
+            &[0x3c08_8000, 0x3508_0400, 0x0100_4009, 0],
+            8,
+            [0x8000_0208, 0x8000_0400],
+        ),
+        // by kseg1, whose upper bits a jump keeps: jal 0x80000254; nop
+        (
+            0xa000_0200,
+            &[0x0c00_0095, 0],
+            31,
+            [0xa000_0208, 0xa000_0254],
+        ),
+    ];
+    for (entry, words, register, wanted) in cases {
+        let found = left(&rt, entry, words, register)?;
+        same(&rt, (words, [found.register, found.pc]), (words, wanted));
+    }
     Ok(())
 }
 
@@ -90,20 +110,41 @@ fn arithmetic_merges(rt: HostRuntime) -> Result<(), Fail> {
 
 #[test]
 fn delay_slots(rt: HostRuntime) -> Result<(), Fail> {
-    // the target of a taken branch, an untaken one and a jump, each with addiu $10, $0, 5 after it
+    // a taken branch, an untaken one and a jump, each with addiu $10, $0, 5 after it, and where
+    // they lead
     for (word, address) in [
         (0x1000_0002, 0x8000_020c),
         (0x1400_0002, 0x8000_0208),
         (0x0800_0080, 0x8000_0200),
     ] {
-        let found = left(&rt, ENTRY, &[word, 0x240a_0005], 10)?;
-        same(&rt, (word, found.register, found.pc), (word, 5, address));
+        let cases: [(&[u32], bool, u32, u32); 2] = [
+            (&[word], true, 0, 0x8000_0204),
+            (&[word, 0x240a_0005], false, 5, address),
+        ];
+        for (words, in_slot, register, pc) in cases {
+            let found = left(&rt, ENTRY, words, 10)?;
+            let found = (words, found.in_slot, found.register, found.pc);
+            same(&rt, found, (words, in_slot, register, pc));
+        }
     }
-    // a branch in a slot
-    let mut machine = booted(rt.alloc(), ENTRY, &[0x1000_0002, 0x1000_0002])?;
-    run_steps(&rt, &mut machine, 1);
-    same(&rt, machine.step(0), Err(Refusal::NotYet));
-    let found = look(&rt, &machine, 0);
-    same(&rt, (found.in_slot, found.entries), (true, 1));
+    Ok(())
+}
+
+#[test]
+fn branches_in_slots(rt: HostRuntime) -> Result<(), Fail> {
+    // after a taken branch, an untaken one and jumps: branches and jumps of each kind
+    for (first, second) in [
+        (0x1000_0002, 0x1000_0002),
+        (0x1400_0002, 0x1000_0002),
+        (0x1400_0002, 0x0410_0002),
+        (0x1400_0002, 0x0c00_0095),
+        (0x0800_0095, 0x0100_0008),
+        (0x0410_0002, 0x0100_f809),
+    ] {
+        let (before, answer, after) = tried(&rt, &[first, second], 1, 31)?;
+        let refused = (first, second, before.in_slot, answer);
+        same(&rt, refused, (first, second, true, Err(Refusal::NotYet)));
+        same(&rt, (first, second, after), (first, second, before));
+    }
     Ok(())
 }

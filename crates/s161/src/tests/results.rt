@@ -5,7 +5,7 @@ use m161_alu::{
     HiLoPair, Signedness, add_checked, branch_taken, div, merge_left, merge_right, mult,
     set_on_less, shift, sub_checked,
 };
-use m161_isa::{ShiftOp, ZeroTest};
+use m161_isa::{Amount, ShiftOp, ZeroTest};
 
 #[test]
 fn results(rt: HostRuntime) {
@@ -18,12 +18,21 @@ fn results(rt: HostRuntime) {
         (signed, 7, 0xffff_fffe, 1, 0xffff_fffd),
         (unsigned, 0xffff_fff9, 2, 1, 0x7fff_fffc),
     ] {
-        same(&rt, div(signedness, a, b), HiLoPair { hi, lo });
+        let found = div(signedness, a, b);
+        same(&rt, (a, b, found), (a, b, HiLoPair { hi, lo }));
     }
-    let products = [signed, unsigned].map(|it| mult(it, 0xffff_ffff, 0xffff_ffff).hi);
-    same(&rt, products, [0, 0xffff_fffe]);
+    for (signedness, a, b, hi, lo) in [
+        (signed, 0xffff_ffff, 0xffff_ffff, 0, 1),
+        (unsigned, 0xffff_ffff, 0xffff_ffff, 0xffff_fffe, 1),
+        (signed, 0x1234_5678, 0x9abc_def0, 0xf8cc_93d6, 0x242d_2080),
+        (unsigned, 0x1234_5678, 0x9abc_def0, 0x0b00_ea4e, 0x242d_2080),
+        (signed, 0x8000_0000, 0x8000_0000, 0x4000_0000, 0),
+    ] {
+        let found = mult(signedness, a, b);
+        same(&rt, (a, b, found), (a, b, HiLoPair { hi, lo }));
+    }
     let shifts = [ShiftOp::Left, ShiftOp::Right, ShiftOp::RightArithmetic];
-    let shifted = shifts.map(|op| shift(op, 0x8000_0001, 1));
+    let shifted = shifts.map(|op| shift(op, 0x8000_0001, Amount::new(1)));
     same(&rt, shifted, [2, 0x4000_0000, 0xc000_0000]);
     let sums = [
         add_checked(0x7fff_ffff, 0x11),

@@ -22,8 +22,8 @@ copy_segment-requires-clause-in_memory c =
     let none = no_fault c.fault.result _ c.in_default.not-Some c.fault.ensures.first in
     (is_sound c.args.file.now c.args.ram _ none c.in-Some-segment.ensures).in_memory
 
-pub returns : goal.returns
-returns c =
+pub returns-clause-answer : goal.returns-clause-answer
+returns-clause-answer c =
     let file = c.args.file.now in
     let none = no_fault c.fault.result _ c.in_default.not-Some c.fault.ensures.first in
     let zeros : c.in_ok-bytes.bytes.items ≡ replicate c.args.ram 0 = search rules in
