@@ -167,7 +167,7 @@ fn image_refusals(rt: HostRuntime) -> Result<(), Fail> {
 
 #[test]
 fn load_errors(rt: HostRuntime) {
-    for (error, number, name) in [
+    for &(error, number, name) in &[
         (LoadError::Truncated, 1, "Truncated"),
         (LoadError::NotElf32Big, 2, "NotElf32Big"),
         (LoadError::NotExecutable, 3, "NotExecutable"),

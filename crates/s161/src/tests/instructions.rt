@@ -278,7 +278,7 @@ fn laws_and_effects(rt: HostRuntime) {
 fn tells_misfits_apart(rt: HostRuntime) {
     // a word without a row, and the word of its instruction: of a coprocessor's the opcode alone,
     // of a reserved one the word itself
-    for (word, again) in [
+    for &(word, again) in &[
         (0x4412_3456, 0x4400_0000),
         (0xc412_3456, 0x4400_0000),
         (0xe412_3456, 0x4400_0000),

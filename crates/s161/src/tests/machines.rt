@@ -161,16 +161,15 @@ fn not_yet(rt: HostRuntime) -> Result<(), Fail> {
 
 #[test]
 fn fetches_not_yet(rt: HostRuntime) -> Result<(), Fail> {
-    // nop; nop; jr $0; nop: outside kseg0 and kseg1. lui and ori of $8; jr $8; nop: past RAM, and
-    // misaligned
-    for (words, address) in [
-        ([0, 0, 0x0000_0008, 0], 0),
-        ([0x3c08_8000, 0x3508_1000, 0x0100_0008, 0], 0x8000_1000),
-        ([0x3c08_8000, 0x3508_0202, 0x0100_0008, 0], 0x8000_0202),
+    // jr $0; nop: outside kseg0 and kseg1. lui and ori of $8; jr $8; nop: past RAM, and misaligned
+    for &(words, steps, address) in &[
+        ([0x0000_0008, 0, 0, 0], 2, 0),
+        ([0x3c08_8000, 0x3508_1000, 0x0100_0008, 0], 4, 0x8000_1000),
+        ([0x3c08_8000, 0x3508_0202, 0x0100_0008, 0], 4, 0x8000_0202),
     ] {
-        let (before, answer, after) = tried(&rt, &words, 4, 8)?;
+        let (before, answer, after) = tried(&rt, &words, steps, 8)?;
         let refused = (words, before.pc, before.entries, answer);
-        same(&rt, refused, (words, address, 4, Err(Refusal::NotYet)));
+        same(&rt, refused, (words, address, steps, Err(Refusal::NotYet)));
         same(&rt, (address, after), (address, before));
     }
     Ok(())
@@ -197,7 +196,7 @@ fn boot_error(alloc: Global, length: usize, conf: Conf) -> Option<BootError> {
 fn configuration(rt: HostRuntime) -> Result<(), Fail> {
     let bad = Some(BootError::BadConf);
     let truncated = Some(BootError::Load(LoadError::Truncated));
-    for (ram, processors, log, length, error) in [
+    for &(ram, processors, log, length, error) in &[
         (4097, 1, 7, 112, bad),
         (1_048_576, 33, 7, 112, bad),
         (1_048_576, 2, 7, 112, bad),

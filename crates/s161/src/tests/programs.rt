@@ -1,5 +1,5 @@
 //! Instructions on a machine: small programs, their words by GNU as 2.40 for mips-linux-gnu, and
-//! what they leave by the machine's specification.
+//! what they leave, worked out from Kane's descriptions and this project's own rules.
 
 use super::machines::{ENTRY, Seen, booted, look, run_steps, tried};
 use super::same;
@@ -47,7 +47,7 @@ fn link_registers(rt: HostRuntime) -> Result<(), Fail> {
             [0xa000_0208, 0xa000_0254],
         ),
     ];
-    for (entry, words, register, wanted) in cases {
+    for &(entry, words, register, wanted) in &cases {
         let found = left(&rt, entry, words, register)?;
         same(&rt, (words, [found.register, found.pc]), (words, wanted));
     }
@@ -68,7 +68,7 @@ fn arithmetic_divisions(rt: HostRuntime) -> Result<(), Fail> {
 #[test]
 fn arithmetic_merges(rt: HostRuntime) -> Result<(), Fail> {
     // lwl, lwr, swl and swr of $8 at 0($16) to 3($16), and what $8 and the word there are then
-    for (word, register, memory) in [
+    for &(word, register, memory) in &[
         (0x8a08_0000, 0x1122_3344, 0x1122_3344),
         (0x8a08_0001, 0x2233_44dd, 0x1122_3344),
         (0x8a08_0002, 0x3344_ccdd, 0x1122_3344),
@@ -121,7 +121,7 @@ fn delay_slots(rt: HostRuntime) -> Result<(), Fail> {
             (&[word], true, 0, 0x8000_0204),
             (&[word, 0x240a_0005], false, 5, address),
         ];
-        for (words, in_slot, register, pc) in cases {
+        for &(words, in_slot, register, pc) in &cases {
             let found = left(&rt, ENTRY, words, 10)?;
             let found = (words, found.in_slot, found.register, found.pc);
             same(&rt, found, (words, in_slot, register, pc));
@@ -133,7 +133,7 @@ fn delay_slots(rt: HostRuntime) -> Result<(), Fail> {
 #[test]
 fn branches_in_slots(rt: HostRuntime) -> Result<(), Fail> {
     // after a taken branch, an untaken one and jumps: branches and jumps of each kind
-    for (first, second) in [
+    for &(first, second) in &[
         (0x1000_0002, 0x1000_0002),
         (0x1400_0002, 0x1000_0002),
         (0x1400_0002, 0x0410_0002),

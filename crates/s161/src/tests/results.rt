@@ -1,4 +1,4 @@
-//! Values from the machine's specification.
+//! Values worked out from Kane's descriptions and this project's own rules.
 
 use super::same;
 use m161_alu::{

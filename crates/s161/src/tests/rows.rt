@@ -1,5 +1,5 @@
 //! Each row that runs so far, on a machine: its word by GNU as 2.40 for mips-linux-gnu, and what
-//! it leaves by the machine's specification.
+//! it leaves, worked out from Kane's descriptions.
 
 use super::machines::{ENTRY, Seen};
 use super::programs::left;
@@ -169,7 +169,6 @@ fn rows_of_memory_run(rt: HostRuntime) -> Result<(), Fail> {
 
 #[test]
 fn rows_of_jumps_run(rt: HostRuntime) -> Result<(), Fail> {
-    let _marker = 1u8;
     for &(name, word, s, pc, link) in &JUMPS {
         let found = left_by(&rt, [s, 5], &[word, 0], 31)?;
         let found = [found.pc, found.register];
