@@ -1,14 +1,7 @@
-use Rattle.std.specs.Prelude.{ℕ, ◌+◌, ◌-◌, ◌%◌, ◌==◌, nat_lt, nat_le, if◌then◌else◌, Option, None, Some}
+use Rattle.std.specs.Prelude.{ℕ, ◌+◌, ◌%◌, ◌==◌, nat_le, if◌then◌else◌, Option, None, Some}
+use Rattle.m161_isa.specs.Address.{physical}
 
 -- Addresses that reach RAM without the TLB. Kane, MIPS RISC Architecture, "Virtual memory".
-
--- kseg0 and kseg1 give the physical address less their base
-abbrev pub physical : ℕ → Option ℕ
-physical address =
-    if nat_lt address 0x80000000 then None
-    else if nat_lt address 0xa0000000 then Some (address - 0x80000000)
-    else if nat_lt address 0xc0000000 then Some (address - 0xa0000000)
-    else None
 
 -- the physical address, where so many bytes from it on are RAM
 abbrev pub within : ℕ → ℕ → Option ℕ → Option ℕ

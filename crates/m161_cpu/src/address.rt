@@ -1,18 +1,9 @@
 //! Addresses that are RAM without the TLB.
 
 ghost use Rattle.std.specs.Prelude.{◌≡◌, ◌+◌, ◌≤◌, ◌<◌, IfSome};
-ghost use Rattle.m161_cpu.specs.Address.{direct, physical};
+ghost use Rattle.m161_cpu.specs.Address.{direct};
 
-// The physical address of one in kseg0 or kseg1, which are two views of the same 2^29 bytes.
-fn physical_of(address: u32) -> Option<u32>
-    ensures { result ≡ physical address }
-{
-    if (0x8000_0000..0xc000_0000).contains(&address) {
-        Some(address % 0x2000_0000)
-    } else {
-        None
-    }
-}
+use m161_isa::physical;
 
 /// The physical address of an access of so many bytes, aligned to them, where it is RAM, of which
 /// there are `size` bytes.
@@ -24,7 +15,7 @@ pub fn ram_address(address: u32, width: u32, size: u32) -> Option<u32>
     if address % width != 0 {
         return None;
     }
-    let at = physical_of(address)?;
+    let at = physical(address)?;
     if u64::from(at) + u64::from(width) > u64::from(size) {
         return None;
     }

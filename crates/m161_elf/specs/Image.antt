@@ -1,6 +1,7 @@
-use Rattle.std.specs.Prelude.{◌≡◌, ℕ, ◌+◌, ◌-◌, ◌*◌, ◌%◌, ◌^◌, ◌<◌, Bool, not, ◌==◌, nat_lt, nat_le, nat_eq, ◌&&◌, ◌||◌, if◌then◌else◌, min, List, [], ◌∷◌, length, find, reverse, slice_index, Option, None, Some, Result, Ok, Err}
+use Rattle.std.specs.Prelude.{◌≡◌, ℕ, ◌+◌, ◌-◌, ◌*◌, ◌%◌, ◌^◌, ◌<◌, Bool, false, not, ◌==◌, nat_lt, nat_le, nat_eq, ◌&&◌, ◌||◌, if◌then◌else◌, min, List, [], ◌∷◌, length, find, reverse, slice_index, Option, None, Some, Result, Ok, Err}
 use Rattle.std.specs.List.{list_any, starts_with}
 use Rattle.std.specs.Option.{option_map_or}
+use Rattle.m161_isa.specs.Address.{physical}
 use Rattle.m161_elf.specs.declared.header.ProgramHeader.{ProgramHeader}
 use Rattle.m161_elf.specs.declared.image.Image.{Image}
 use Rattle.m161_elf.specs.declared.image.LoadError.{LoadError}
@@ -9,17 +10,13 @@ use Rattle.m161_elf.specs.Header.{type_of, machine_of, entry_of, header_table_of
 
 -- The memory that a file leaves, and the faults for which it is refused.
 
--- so many bytes from an address on are RAM, in the segment of 2^29 bytes that begins at a base
-abbrev pub is_ram_from : ℕ → ℕ → ℕ → ℕ → Bool
-is_ram_from base ram address size = nat_le base address && nat_le (address + size) (base + min ram (2 ^ 29))
-
--- they are RAM by kseg0, or they are by kseg1
+-- so many bytes from an address on are RAM, all of them by kseg0 or all by kseg1
 abbrev pub is_in_ram : ℕ → ℕ → ℕ → Bool
-is_in_ram ram address size = is_ram_from 0x80000000 ram address size || is_ram_from 0xa0000000 ram address size
+is_in_ram ram address size = option_map_or (λ at. nat_le (at + size) (min ram (2 ^ 29))) (physical address) false
 
--- the physical address of one in kseg0 or kseg1: less its segment's base
-abbrev pub physical : ℕ → ℕ
-physical address = if nat_lt address 0xa0000000 then address - 0x80000000 else address - 0xa0000000
+-- the physical byte that an address names; 0 for one outside kseg0 and kseg1, which no segment with memory has
+abbrev pub place_of : ℕ → ℕ
+place_of address = option_map_or (λ at. at) (physical address) 0
 
 -- the faults, in their order
 
@@ -72,12 +69,12 @@ first_fault file ram =
 
 -- the segment has a byte at this physical address
 abbrev pub covers : ℕ → ProgramHeader → Bool
-covers at s = nat_le (physical s.address) at && nat_lt at (physical s.address + s.memory_size)
+covers at s = nat_le (place_of s.address) at && nat_lt at (place_of s.address + s.memory_size)
 
 -- that byte: the file's, or zero past the file's part
 abbrev pub segment_byte : List ℕ → ℕ → ProgramHeader → ℕ
 segment_byte file at s =
-    if nat_lt at (physical s.address + s.file_size) then slice_index file (s.offset + (at - physical s.address)) else 0
+    if nat_lt at (place_of s.address + s.file_size) then slice_index file (s.offset + (at - place_of s.address)) else 0
 
 -- the byte at a physical address: that of the last segment that has one there, or 0
 abbrev pub image_byte : List ℕ → ℕ → ℕ

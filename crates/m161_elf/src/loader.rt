@@ -4,7 +4,7 @@ ghost use Rattle.std.specs.Prelude.{◌≡◌, Err, None, false, length, slice_i
 ghost use Rattle.m161_elf.specs.Copied.{copied_byte};
 ghost use Rattle.m161_elf.specs.Image.{first_fault, is_larger_in_file, is_outside_file, is_outside_ram, Loads};
 
-use crate::address::physical;
+use crate::address::place_of;
 use crate::fault::fault;
 use crate::header::{E_ENTRY, ProgramHeader, segment, word};
 use crate::image::{Image, LoadError};
@@ -38,7 +38,7 @@ fn copy_segment(memory: &mut [u8], file: &[u8], segment: &ProgramHeader)
     if segment.file_size == 0 {
         return;
     }
-    let start = physical(segment.address) as usize;
+    let start = place_of(segment.address) as usize;
     let offset = segment.offset as usize;
     let size = segment.file_size as usize;
     memory[start..start + size].copy_from_slice(&file[offset..offset + size]);

@@ -1,3 +1,4 @@
 pub mod Table
 pub mod Instr
 pub mod Laws
+pub mod Address

@@ -7,6 +7,8 @@
 //! table    69 rows (`Row`), each with a name, the fields that a word of it must have,
 //!          its operands in the order of the assembly text, and its effect
 //! code     `Instr`, what a word is decoded into
+//! kseg0    80000000 to 9fffffff, and kseg1, a0000000 to bfffffff: two views of the first 2^29
+//!          bytes of physical memory, without the TLB
 //! ```
 //!
 //! The table itself is `specs/Table.antt`: one line for each row, in the order of the manual's
@@ -14,6 +16,7 @@
 //! are MIPS II's; `wait` is System/161's.
 #![tactic(auto)]
 
+mod address;
 mod amount;
 mod immediate;
 mod instr;
@@ -22,6 +25,7 @@ mod row;
 mod table;
 mod target;
 
+pub use address::physical;
 pub use amount::Amount;
 pub use immediate::Immediate;
 pub use instr::{

@@ -1,6 +1,7 @@
-//! Bytes and words of memory.
+//! Bytes and words of memory, and the addresses that name them.
 
 use super::same;
+use m161_isa::physical;
 use m161_ram::Ram;
 use std::alloc::AllocError;
 
@@ -15,4 +16,19 @@ fn words_and_bytes(rt: HostRuntime) -> Result<(), AllocError> {
     let ram = Ram::from_bytes(vec![in rt.alloc(); 0xab, 0xcd, 0xef, 0x01]?);
     same(&rt, (ram.size(), ram.word(0)), (4, 0xabcd_ef01));
     Ok(())
+}
+
+#[test]
+fn physical_addresses(rt: HostRuntime) {
+    for (address, wanted) in [
+        (0, None),
+        (0x7fff_ffff, None),
+        (0x8000_0000, Some(0)),
+        (0x9fff_ffff, Some(0x1fff_ffff)),
+        (0xa000_0000, Some(0)),
+        (0xbfff_ffff, Some(0x1fff_ffff)),
+        (0xc000_0000, None),
+    ] {
+        same(&rt, (address, physical(address)), (address, wanted));
+    }
 }
