@@ -1,3 +1,4 @@
 pub mod Replay
 pub mod Stepping
 pub mod Made
+pub mod Booted
