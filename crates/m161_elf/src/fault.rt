@@ -1,6 +1,6 @@
 //! Why a file is refused.
 
-ghost use Rattle.std.specs.Prelude.{◌≡◌, ◌≢◌, ◌+◌, ◌≤◌, length, IfNone, IfSome};
+ghost use Rattle.std.specs.Prelude.{◌≡◌, ◌≢◌, ◌+◌, ◌≤◌, false, length, IfNone, IfSome};
 ghost use Rattle.m161_elf.specs.Header.{header_count_of, header_table_of};
 ghost use Rattle.m161_elf.specs.Image.{first_fault, has_bad_entry, has_bad_header_table, is_larger_in_file, is_not_elf32_big, is_not_executable, is_not_mips, is_outside_file, is_outside_ram};
 
@@ -28,6 +28,7 @@ pub(crate) fn fault(file: &[u8], ram: u32) -> Option<LoadError>
     ensures header { IfNone result (52 ≤ length file.now) }
     ensures count { IfNone result (header_count_of file.now ≡ 1) }
     ensures table { IfNone result (header_table_of file.now + 32 ≤ length file.now) }
+    ensures entry { IfNone result (has_bad_entry file.now ram ≡ false) }
 {
     if file.len() < HEADER_SIZE {
         return Some(LoadError::Truncated);

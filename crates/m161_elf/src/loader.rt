@@ -1,8 +1,8 @@
 //! File bytes to memory.
 
-ghost use Rattle.std.specs.Prelude.{◌≡◌, Err, None, false, length, slice_index, EachIndex};
+ghost use Rattle.std.specs.Prelude.{◌≡◌, ◌%◌, Err, None, false, true, length, slice_index, EachIndex, IfOk};
 ghost use Rattle.m161_elf.specs.Copied.{copied_byte};
-ghost use Rattle.m161_elf.specs.Image.{first_fault, is_larger_in_file, is_outside_file, is_outside_ram, Loads};
+ghost use Rattle.m161_elf.specs.Image.{first_fault, is_in_ram, is_larger_in_file, is_outside_file, is_outside_ram, Loads};
 
 use crate::address::place_of;
 use crate::fault::fault;
@@ -13,6 +13,7 @@ use std::alloc::Global;
 /// The memory that a file leaves in `ram` bytes of RAM, or the first fault that holds.
 pub fn load(alloc: Global, file: &[u8], ram: u32) -> Result<Image, LoadError>
     ensures answer { Loads file.now ram (first_fault file.now ram) result }
+    ensures entry { IfOk result (λ image. (image.entry % 4 ≡ 0) × (is_in_ram ram image.entry 1 ≡ true)) }
     ensures memory { result ≡ Err LoadError.NoMemory → first_fault file.now ram ≡ None }
 {
     if let Some(fault) = fault(file, ram) {

@@ -1,6 +1,7 @@
 //! The machine.
 
-ghost use Rattle.std.specs.Prelude.{◌≡◌, ◌+◌, ◌<◌, ◌≤◌, true, [], ◌∷◌, length, slice_index, IfNone, IfOk};
+ghost use Rattle.std.specs.Prelude.{◌≡◌, ◌+◌, ◌<◌, ◌≤◌, true, [], ◌∷◌, length, slice_index, IfNone, IfOk, IsSome};
+ghost use Rattle.m161_cpu.specs.Address.{direct};
 ghost use Rattle.m161_cpu.specs.Processor.{started};
 ghost use Rattle.m161_machine.specs.declared.event.Event.TheVariants as events;
 ghost use Rattle.m161_machine.specs.Conf.{is_within_limits};
@@ -60,7 +61,8 @@ impl Machine {
     ///
     /// Errors: the configuration is outside the limits, the file isn't loaded, memory was refused.
     pub fn boot(alloc: Global, file: &[u8], conf: Conf) -> Result<Machine, BootError>
-        ensures { Boots file.now conf (boot_fault file.now conf) result }
+        ensures answer { Boots file.now conf (boot_fault file.now conf) result }
+        ensures fetch { IfOk result (λ m. IsSome (direct conf.ram 4 m.start.entry)) }
     {
         if !conf.is_within_limits() {
             return Err(BootError::BadConf);

@@ -8,6 +8,6 @@ use Rattle.s161.proofs.demo.demo.Goals as goal
 pub returns-in_err-machine : goal.returns-in_err-machine
 unfolding first_fault
 returns-in_err-machine c =
-    let why : c.in_err-machine.field-0.0 ≡ NoMemory = c.in_err-machine.ensures in
+    let why : c.in_err-machine.field-0.0 ≡ NoMemory = c.in_err-machine.ensures.answer in
     let memory = ap fault_of_boot why in
     search (rules, memory)
