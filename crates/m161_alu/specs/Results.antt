@@ -11,10 +11,10 @@ use Rattle.m161_alu.specs.Word.{signed, modulo}
 
 -- What instructions compute. Kane, MIPS RISC Architecture, instruction descriptions.
 
--- a word as a whole number
-abbrev pub value_of : Signedness → ℕ → ℤ
-value_of Signed word = signed word
-value_of Unsigned word = pos word
+-- the whole number that a word is read as
+abbrev pub integer_of : Signedness → ℕ → ℤ
+integer_of Signed word = signed word
+integer_of Unsigned word = pos word
 
 -- a word shifted: times a power of two modulo 2^32, or divided by it, rounded down
 abbrev pub shifted : ShiftOp → ℕ → ℕ → ℕ
@@ -28,26 +28,26 @@ halves n = record { hi = n / 2 ^ 32; lo = n % 2 ^ 32 }
 
 -- the product
 abbrev pub product : Signedness → ℕ → ℕ → HiLoPair
-product s a b = halves (modulo (2 ^ 64) (value_of s a *ℤ value_of s b))
+product s a b = halves (modulo (2 ^ 64) (integer_of s a *ℤ integer_of s b))
 
 -- the quotient, toward zero, and the remainder, with the dividend's sign. A division by zero has an answer by this project's own rule
 abbrev pub quotient : Signedness → ℕ → ℕ → HiLoPair
 quotient s a b =
     if b == 0 then record { hi = a; lo = 2 ^ 32 - 1 }
     else record {
-      hi = modulo (2 ^ 32) (int_rem (value_of s a) (value_of s b));
-      lo = modulo (2 ^ 32) (int_div (value_of s a) (value_of s b));
+      hi = modulo (2 ^ 32) (int_rem (integer_of s a) (integer_of s b));
+      lo = modulo (2 ^ 32) (int_div (integer_of s a) (integer_of s b));
     }
 
 -- one word is less than another
 abbrev pub is_less : Signedness → ℕ → ℕ → Bool
-is_less s a b = int_lt (value_of s a) (value_of s b)
+is_less s a b = int_lt (integer_of s a) (integer_of s b)
 
 -- a branch on a test against zero is taken
 abbrev pub is_taken : ZeroTest → ℕ → Bool
 is_taken zero.Less word = int_lt (signed word) (pos 0)
-is_taken zero.NotLess word = not (int_lt (signed word) (pos 0))
+is_taken zero.GreaterOrEqual word = not (int_lt (signed word) (pos 0))
 is_taken zero.LessAndLink word = int_lt (signed word) (pos 0)
-is_taken zero.NotLessAndLink word = not (int_lt (signed word) (pos 0))
-is_taken zero.NotGreater word = not (int_lt (pos 0) (signed word))
+is_taken zero.GreaterOrEqualAndLink word = not (int_lt (signed word) (pos 0))
+is_taken zero.LessOrEqual word = not (int_lt (pos 0) (signed word))
 is_taken zero.Greater word = int_lt (pos 0) (signed word)

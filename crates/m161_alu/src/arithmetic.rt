@@ -23,6 +23,7 @@ pub struct HiLoPair {
 }
 
 /// The signed sum, or `None` where it isn't a signed word.
+#[inline(always)]
 pub fn add_checked(a: u32, b: u32) -> Option<u32>
     ensures { result ≡ word_of_signed (signed a +ℤ signed b) }
 {
@@ -31,6 +32,7 @@ pub fn add_checked(a: u32, b: u32) -> Option<u32>
 }
 
 /// The signed difference, or `None` where it isn't a signed word.
+#[inline(always)]
 pub fn sub_checked(a: u32, b: u32) -> Option<u32>
     ensures { result ≡ word_of_signed (signed a -ℤ signed b) }
 {
@@ -38,7 +40,8 @@ pub fn sub_checked(a: u32, b: u32) -> Option<u32>
     Some(difference.cast_unsigned())
 }
 
-/// A word shifted by so many bits.
+/// A word shifted by an amount.
+#[inline(always)]
 pub fn shift(op: ShiftOp, word: u32, amount: Amount) -> u32
     ensures { result ≡ shifted op word amount }
 {
@@ -51,6 +54,7 @@ pub fn shift(op: ShiftOp, word: u32, amount: Amount) -> u32
 }
 
 /// The upper and the lower word of a product.
+#[inline(always)]
 pub fn mult(signedness: Signedness, a: u32, b: u32) -> HiLoPair
     ensures { result ≡ product signedness a b }
 {
@@ -68,6 +72,7 @@ pub fn mult(signedness: Signedness, a: u32, b: u32) -> HiLoPair
 
 /// The remainder, for HI, and the quotient, for LO. A division by zero gives LO ffffffff and the
 /// dividend in HI; 80000000 by ffffffff signed gives LO 80000000 and HI 0.
+#[inline(always)]
 pub fn div(signedness: Signedness, a: u32, b: u32) -> HiLoPair
     ensures { result ≡ quotient signedness a b }
 {

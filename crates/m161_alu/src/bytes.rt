@@ -5,6 +5,7 @@ ghost use Rattle.m161_alu.specs.Merge.{merged_left, merged_right};
 
 /// The register after `lwl` of a byte's address, with the word of memory that holds it: the
 /// memory's bytes from there to the word's end, then the register's low bytes.
+#[inline(always)]
 pub fn merge_left(memory: u32, register: u32, address: u32) -> u32
     ensures { result ≡ merged_left memory register (address % 4) }
 {
@@ -20,6 +21,7 @@ pub fn merge_left(memory: u32, register: u32, address: u32) -> u32
 
 /// The register after `lwr` of a byte's address, with the word of memory that holds it: the
 /// register's high bytes, then the memory's bytes from the word's start to there.
+#[inline(always)]
 pub fn merge_right(memory: u32, register: u32, address: u32) -> u32
     ensures { result ≡ merged_right memory register (address % 4) }
 {

@@ -1,7 +1,7 @@
 use Rattle.std.specs.Prelude.{Option, None, Some, IsSome, is_some, ◌==◌, ◌↔◌, IsTrue}
 use Rattle.std.proofs.Common.{◌≡◌, ℕ, refl, ap, sym, ◌∙◌, inl}
 use Rattle.std.proofs.lemmas.Bool.Decides.{Decides-eqb}
-use Rattle.m161_isa.specs.declared.row.Row.{Row}
+use Rattle.m161_isa.specs.declared.table.Row.{Row}
 use Rattle.m161_isa.specs.declared.instr.Instr.{Instr}
 use Rattle.m161_isa.specs.Table.{row_that_fits, IsCanonical}
 use Rattle.m161_isa.specs.Instr.{instr_by, instr_of, word_of}

@@ -1,6 +1,6 @@
 use Rattle.std.specs.Prelude.{Option, None, Some}
 use Rattle.std.proofs.Common.{◌≡◌, ℕ, ap, sym, ◌∙◌}
-use Rattle.m161_isa.specs.declared.row.Row.{Row}
+use Rattle.m161_isa.specs.declared.table.Row.{Row}
 use Rattle.m161_isa.specs.declared.instr.Instr.{Instr}
 use Rattle.m161_isa.specs.Table.{row_that_fits, numbers_of}
 use Rattle.m161_isa.specs.Instr.{row_of_instr, numbers_of_instr, instr_by, instr_of}

@@ -1,5 +1,5 @@
 use Rattle.std.specs.Prelude.{◌≡◌, ℕ, Option, None, Some}
-use Rattle.m161_isa.specs.declared.row.Row.{Row}
+use Rattle.m161_isa.specs.declared.table.Row.{Row}
 use Rattle.m161_isa.specs.declared.instr.Instr.{Instr}
 use Rattle.m161_isa.specs.Table.{Fits, FitsNone, absent_in}
 use Rattle.m161_isa.specs.Instr.{row_of_instr, instr_by, misfit}

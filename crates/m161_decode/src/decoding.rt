@@ -8,30 +8,64 @@ ghost use Rattle.m161_decode.specs.Stands.{Stands};
 use crate::fields::{amount, immediate, narrow, rd, rs, rt, target};
 use m161_isa::{
     ArithOp, Coprocessor, EqualTest, HiLo, ImmediateOp, Instr, JumpOp, LoadOp, MultiplyOp, PlainOp,
-    ShiftOp, StoreOp, ZeroTest,
+    Row, ShiftOp, StoreOp, ZeroTest, has_row, row_of,
 };
 
 /// The instruction of a word: the row that it fits and the numbers in its operand fields; or
 /// `Absent`, by its opcode, or `Reserved` where it fits none.
+///
+/// The matches below list the rows once more, by the bits that select them: a search of the table
+/// would cost a Step some seventy tests.
+#[inline(always)]
 pub fn decode(word: u32) -> Instr
     ensures row { row_of_instr result ≡ row_that_fits word }
     ensures operands { numbers_of_instr result ≡ numbers_of word (row_that_fits word) }
     ensures value { result ≡ instr_of word }
 {
-    by_opcode(word)
+    by_opcode::<Elsewhere>(word)
 }
 
-fn by_opcode(word: u32) -> Instr
+/// The same as `decode`, for the one place in a program that decodes all the time: its code is
+/// compiled into its caller, however large that is and whoever else calls `decode`.
+#[inline(always)]
+pub fn decode_in_step(word: u32) -> Instr
+    ensures row { row_of_instr result ≡ row_that_fits word }
+    ensures operands { numbers_of_instr result ≡ numbers_of word (row_that_fits word) }
+    ensures value { result ≡ instr_of word }
+{
+    by_opcode::<InStep>(word)
+}
+
+// Who decodes. The compiler makes a copy of the decoder for each, and so inlines the one of a Step,
+// which has one caller.
+struct InStep;
+
+struct Elsewhere;
+
+/// The row that a word fits; `None` for an absent or reserved word.
+pub fn row_that_fits(word: u32) -> Option<Row>
+    ensures { result ≡ row_that_fits word }
+{
+    let instr = decode(word);
+    if has_row(&instr) {
+        Some(row_of(&instr))
+    } else {
+        None
+    }
+}
+
+#[inline(always)]
+fn by_opcode<Caller>(word: u32) -> Instr
     ensures { Stands word result }
 {
     match narrow(word, 26, 6) {
-        0 => special(word),
+        0 => special::<Caller>(word),
         1 => regimm(word),
         2 => jump(JumpOp::Jump, word),
         3 => jump(JumpOp::JumpAndLink, word),
         4 => branch_equal(EqualTest::Equal, word),
         5 => branch_equal(EqualTest::NotEqual, word),
-        6 => branch_zero(ZeroTest::NotGreater, word),
+        6 => branch_zero(ZeroTest::LessOrEqual, word),
         7 => branch_zero(ZeroTest::Greater, word),
         8 => with_immediate(ImmediateOp::Addi, word),
         9 => with_immediate(ImmediateOp::Addiu, word),
@@ -67,7 +101,8 @@ fn by_opcode(word: u32) -> Instr
 }
 
 /// Opcode 0: by the funct.
-fn special(word: u32) -> Instr
+#[inline(always)]
+fn special<Caller>(word: u32) -> Instr
     requires { bits_of word 26 6 ≡ 0 }
     ensures { Stands word result }
 {
@@ -121,20 +156,22 @@ fn special(word: u32) -> Instr
 }
 
 /// Opcode 1: by rt.
+#[inline(always)]
 fn regimm(word: u32) -> Instr
     requires { bits_of word 26 6 ≡ 1 }
     ensures { Stands word result }
 {
     match narrow(word, 16, 5) {
         0 => branch_zero(ZeroTest::Less, word),
-        1 => branch_zero(ZeroTest::NotLess, word),
+        1 => branch_zero(ZeroTest::GreaterOrEqual, word),
         16 => branch_zero(ZeroTest::LessAndLink, word),
-        17 => branch_zero(ZeroTest::NotLessAndLink, word),
+        17 => branch_zero(ZeroTest::GreaterOrEqualAndLink, word),
         _ => Instr::Reserved(word),
     }
 }
 
 /// Opcode 16: by bit 25.
+#[inline(always)]
 fn cop0(word: u32) -> Instr
     requires { bits_of word 26 6 ≡ 16 }
     ensures { Stands word result }
@@ -147,6 +184,7 @@ fn cop0(word: u32) -> Instr
 }
 
 /// Opcode 16 with bit 25 set: by the funct.
+#[inline(always)]
 fn cop0_function(word: u32) -> Instr
     requires opcode { bits_of word 26 6 ≡ 16 }
     requires function { bits_of word 25 1 ≡ 1 }
@@ -164,6 +202,7 @@ fn cop0_function(word: u32) -> Instr
 }
 
 /// Opcode 16 with bit 25 clear: by rs.
+#[inline(always)]
 fn cop0_move(word: u32) -> Instr
     requires opcode { bits_of word 26 6 ≡ 16 }
     requires plain { bits_of word 25 1 ≢ 1 }
@@ -182,6 +221,7 @@ fn cop0_move(word: u32) -> Instr
     }
 }
 
+#[inline(always)]
 fn shift(op: ShiftOp, word: u32) -> Instr
     ensures { result ≡ Instr.Shift op (rd_of word) (rt_of word) (amount_of word) }
 {
@@ -193,6 +233,7 @@ fn shift(op: ShiftOp, word: u32) -> Instr
     }
 }
 
+#[inline(always)]
 fn shift_variable(op: ShiftOp, word: u32) -> Instr
     ensures { result ≡ Instr.ShiftVariable op (rd_of word) (rt_of word) (rs_of word) }
 {
@@ -204,6 +245,7 @@ fn shift_variable(op: ShiftOp, word: u32) -> Instr
     }
 }
 
+#[inline(always)]
 fn multiply(op: MultiplyOp, word: u32) -> Instr
     ensures { result ≡ Instr.Multiply op (rs_of word) (rt_of word) }
 {
@@ -214,6 +256,7 @@ fn multiply(op: MultiplyOp, word: u32) -> Instr
     }
 }
 
+#[inline(always)]
 fn arith(op: ArithOp, word: u32) -> Instr
     ensures { result ≡ Instr.Arith op (rd_of word) (rs_of word) (rt_of word) }
 {
@@ -225,6 +268,7 @@ fn arith(op: ArithOp, word: u32) -> Instr
     }
 }
 
+#[inline(always)]
 fn branch_zero(test: ZeroTest, word: u32) -> Instr
     ensures { result ≡ Instr.BranchZero test (rs_of word) (immediate_of word) }
 {
@@ -235,6 +279,7 @@ fn branch_zero(test: ZeroTest, word: u32) -> Instr
     }
 }
 
+#[inline(always)]
 fn branch_equal(test: EqualTest, word: u32) -> Instr
     ensures { result ≡ Instr.BranchEqual test (rs_of word) (rt_of word) (immediate_of word) }
 {
@@ -246,6 +291,7 @@ fn branch_equal(test: EqualTest, word: u32) -> Instr
     }
 }
 
+#[inline(always)]
 fn jump(op: JumpOp, word: u32) -> Instr
     ensures { result ≡ Instr.Jump op (target_of word) }
 {
@@ -255,6 +301,7 @@ fn jump(op: JumpOp, word: u32) -> Instr
     }
 }
 
+#[inline(always)]
 fn with_immediate(op: ImmediateOp, word: u32) -> Instr
     ensures { result ≡ Instr.Immediate op (rt_of word) (rs_of word) (immediate_of word) }
 {
@@ -266,6 +313,7 @@ fn with_immediate(op: ImmediateOp, word: u32) -> Instr
     }
 }
 
+#[inline(always)]
 fn load(op: LoadOp, word: u32) -> Instr
     ensures { result ≡ Instr.Load op (rt_of word) (immediate_of word) (rs_of word) }
 {
@@ -277,6 +325,7 @@ fn load(op: LoadOp, word: u32) -> Instr
     }
 }
 
+#[inline(always)]
 fn store(op: StoreOp, word: u32) -> Instr
     ensures { result ≡ Instr.Store op (rt_of word) (immediate_of word) (rs_of word) }
 {

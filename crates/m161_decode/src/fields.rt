@@ -7,6 +7,7 @@ ghost use Rattle.m161_isa.specs.Instr.{rs_of, rt_of, rd_of, amount_of, immediate
 use m161_isa::{Amount, Immediate, Reg, Target};
 
 /// The `width` bits of the word from bit `at` on.
+#[inline(always)]
 pub fn narrow(word: u32, at: u32, width: u32) -> u8
     requires place { at < 32 }
     requires size { width ≤ 8 }
@@ -16,6 +17,7 @@ pub fn narrow(word: u32, at: u32, width: u32) -> u8
 }
 
 /// The register in bits 25 to 21.
+#[inline(always)]
 pub fn rs(word: u32) -> Reg
     ensures { result ≡ rs_of word }
 {
@@ -23,6 +25,7 @@ pub fn rs(word: u32) -> Reg
 }
 
 /// The register in bits 20 to 16.
+#[inline(always)]
 pub fn rt(word: u32) -> Reg
     ensures { result ≡ rt_of word }
 {
@@ -30,6 +33,7 @@ pub fn rt(word: u32) -> Reg
 }
 
 /// The register in bits 15 to 11.
+#[inline(always)]
 pub fn rd(word: u32) -> Reg
     ensures { result ≡ rd_of word }
 {
@@ -37,6 +41,7 @@ pub fn rd(word: u32) -> Reg
 }
 
 /// The shift amount, bits 10 to 6.
+#[inline(always)]
 pub fn amount(word: u32) -> Amount
     ensures { result ≡ amount_of word }
 {
@@ -44,6 +49,7 @@ pub fn amount(word: u32) -> Amount
 }
 
 /// The low half of the word.
+#[inline(always)]
 pub fn immediate(word: u32) -> Immediate
     ensures { result ≡ immediate_of word }
 {
@@ -51,6 +57,7 @@ pub fn immediate(word: u32) -> Immediate
 }
 
 /// The low 26 bits, a jump's target in words.
+#[inline(always)]
 pub fn target(word: u32) -> Target
     ensures { result ≡ target_of word }
 {

@@ -1,3 +1,3 @@
-pub mod Bytes
 pub mod Copied
+pub mod OneMore
 pub mod Sound

@@ -1,15 +1,15 @@
 //! Why a file is refused.
 
-ghost use Rattle.std.specs.Prelude.{◌≡◌, ◌≢◌, ◌+◌, ◌≤◌, false, length, IfNone, IfSome};
-ghost use Rattle.m161_elf.specs.Header.{header_count_of, header_table_of};
-ghost use Rattle.m161_elf.specs.Image.{first_fault, has_bad_entry, has_bad_header_table, is_larger_in_file, is_not_elf32_big, is_not_executable, is_not_mips, is_outside_file, is_outside_ram};
+ghost use Rattle.std.specs.Prelude.{◌≡◌, ◌≢◌, ◌≤◌, false, length, IfNone, IfSome};
+ghost use Rattle.m161_elf.specs.Image.{first_fault, has_bad_entry, has_bad_header_table, is_not_elf32_big, is_not_executable, is_not_mips};
 
 use crate::address::is_in_ram;
 use crate::header::{
-    E_ENTRY, E_MACHINE, E_PHENTSIZE, E_PHNUM, E_PHOFF, E_TYPE, HEADER_SIZE, PROGRAM_HEADER_SIZE,
-    ProgramHeader, half, segment, word,
+    E_ENTRY, E_MACHINE, E_PHENTSIZE, E_PHOFF, E_TYPE, HEADER_SIZE, PROGRAM_HEADER_SIZE, e_phnum,
+    file_half, file_word,
 };
 use crate::image::LoadError;
+use crate::segments::segment_faults;
 
 /// How a big-endian ELF32 file of version 1 begins.
 const IDENTIFICATION: [u8; 7] = [0x7f, b'E', b'L', b'F', 1, 2, 1];
@@ -26,8 +26,7 @@ pub(crate) fn fault(file: &[u8], ram: u32) -> Option<LoadError>
     ensures first { result ≡ first_fault file.now ram }
     ensures kind { IfSome result (λ e. e ≢ LoadError.NoMemory) }
     ensures header { IfNone result (52 ≤ length file.now) }
-    ensures count { IfNone result (header_count_of file.now ≡ 1) }
-    ensures table { IfNone result (header_table_of file.now + 32 ≤ length file.now) }
+    ensures table { IfNone result (has_bad_header_table file.now ≡ false) }
     ensures entry { IfNone result (has_bad_entry file.now ram ≡ false) }
 {
     if file.len() < HEADER_SIZE {
@@ -45,12 +44,12 @@ pub(crate) fn fault(file: &[u8], ram: u32) -> Option<LoadError>
     if has_bad_header_table(file) {
         return Some(LoadError::BadHeaderTable);
     }
-    let segment = segment(file);
-    if segment.is_some_and(|s| is_outside_file(file, &s)) {
+    let faults = segment_faults(file, ram);
+    if faults.outside_file {
         Some(LoadError::SegmentOutsideFile)
-    } else if segment.is_some_and(|s| is_outside_ram(ram, &s)) {
+    } else if faults.outside_ram {
         Some(LoadError::SegmentOutsideRam)
-    } else if segment.is_some_and(|s| is_larger_in_file(&s)) {
+    } else if faults.larger_in_file {
         Some(LoadError::FileLargerThanMemory)
     } else if has_bad_entry(file, ram) {
         Some(LoadError::BadEntry)
@@ -69,49 +68,30 @@ fn is_not_executable(file: &[u8]) -> bool
     requires { 52 ≤ length file.now }
     ensures { result ≡ is_not_executable file.now }
 {
-    half(file, E_TYPE) != EXECUTABLE
+    file_half(file, E_TYPE) != EXECUTABLE
 }
 
 fn is_not_mips(file: &[u8]) -> bool
     requires { 52 ≤ length file.now }
     ensures { result ≡ is_not_mips file.now }
 {
-    half(file, E_MACHINE) != MIPS
+    file_half(file, E_MACHINE) != MIPS
 }
 
 fn has_bad_header_table(file: &[u8]) -> bool
     requires { 52 ≤ length file.now }
     ensures { result ≡ has_bad_header_table file.now }
 {
-    let count = half(file, E_PHNUM);
+    let count = e_phnum(file);
     let size = u64::from(PROGRAM_HEADER_SIZE) * u64::from(count);
-    let end = u64::from(word(file, E_PHOFF)) + size;
-    count != 1 || half(file, E_PHENTSIZE) != PROGRAM_HEADER_SIZE || (file.len() as u64) < end
-}
-
-fn is_outside_file(file: &[u8], segment: &ProgramHeader) -> bool
-    ensures { result ≡ is_outside_file file.now segment.now }
-{
-    let end = u64::from(segment.offset) + u64::from(segment.file_size);
-    segment.file_size != 0 && (file.len() as u64) < end
-}
-
-fn is_outside_ram(ram: u32, segment: &ProgramHeader) -> bool
-    ensures { result ≡ is_outside_ram ram segment.now }
-{
-    segment.memory_size != 0 && !is_in_ram(ram, segment.address, segment.memory_size)
-}
-
-fn is_larger_in_file(segment: &ProgramHeader) -> bool
-    ensures { result ≡ is_larger_in_file segment.now }
-{
-    segment.memory_size < segment.file_size
+    let end = u64::from(file_word(file, E_PHOFF)) + size;
+    count != 0 && (file_half(file, E_PHENTSIZE) != PROGRAM_HEADER_SIZE || (file.len() as u64) < end)
 }
 
 fn has_bad_entry(file: &[u8], ram: u32) -> bool
     requires { 52 ≤ length file.now }
     ensures { result ≡ has_bad_entry file.now ram }
 {
-    let entry = word(file, E_ENTRY);
+    let entry = file_word(file, E_ENTRY);
     entry % 4 != 0 || !is_in_ram(ram, entry, 1)
 }

@@ -14,8 +14,8 @@ pub struct Image {
     pub bytes: Vec<u8>,
 }
 
-/// Why a file isn't loaded. Each is answered where none above it holds; the first nine are
-/// decided before any memory is asked for.
+/// Why a file isn't loaded. Each is answered only where none above it holds, `NoMemory` only where
+/// no fault holds.
 #[derive(Clone, Copy, Debug, PartialEq, Eq, Error)]
 pub enum LoadError {
     /// The file has under 52 bytes.
@@ -30,7 +30,7 @@ pub enum LoadError {
     /// e_machine isn't 8.
     #[error("the file is not for MIPS")]
     NotMips,
-    /// e_phnum isn't 1, e_phentsize isn't 32, or the table ends past the file's end.
+    /// There are program headers, and e_phentsize isn't 32 or the table ends past the file's end.
     #[error("the table of program headers is bad")]
     BadHeaderTable,
     /// A segment's bytes end past the file's end.

@@ -3,15 +3,17 @@
 //! ```text
 //! header           52 bytes: identification 0, e_type 16, e_machine 18, e_entry 24, e_phoff 28,
 //!                  e_phentsize 42, e_phnum 44
-//! program header   32 bytes: type 0, offset 4, vaddr 8, paddr 12, filesz 16, memsz 20, flags 24,
-//!                  align 28
+//! program header   32 bytes: p_type 0, p_offset 4, p_vaddr 8, p_paddr 12, p_filesz 16, p_memsz 20,
+//!                  p_flags 24, p_align 28
 //! numbers          big-endian: an address, offset, size or type has 4 bytes, the others 2
 //! ```
 //!
-//! A segment's addresses name RAM by kseg0 (from 80000000) or kseg1 (from a0000000), each less
-//! its base. Other headers than PT_LOAD, sections, flags, paddr and the bytes of the ABI are
-//! ignored. So far a file has exactly one program header. Source: the ELF32 specification and
-//! its MIPS supplement; the order of the faults is this project's own.
+//! A file has any number of program headers, in a table at e_phoff. Those of type PT_LOAD are the
+//! segments to load, in the table's order: at each address stands the byte of the last segment
+//! that has one there, zero past p_filesz, or else 0. A segment's addresses name RAM by kseg0 (from
+//! 80000000) or kseg1 (from a0000000), each less its base. Other headers, sections, p_flags,
+//! p_paddr and the bytes of the ABI are ignored. Source: the ELF32 specification and its MIPS
+//! supplement; the order of the faults, and that the last segment counts, are this project's own.
 #![tactic(auto)]
 
 mod address;
@@ -19,7 +21,10 @@ mod fault;
 mod header;
 mod image;
 mod loader;
+mod segments;
+mod span;
 
 pub use header::ProgramHeader;
 pub use image::{Image, LoadError};
-pub use loader::load;
+pub use loader::{load, loads};
+pub use span::Span;

@@ -1,7 +1,7 @@
 use Rattle.std.specs.Prelude.{[], Option, None, Some}
 use Rattle.std.proofs.Common.{◌≡◌, ℕ, refl}
-use Rattle.m161_isa.specs.declared.row.Row.{Row}
-use Rattle.m161_isa.specs.declared.row.Row.TheVariants as rows
+use Rattle.m161_isa.specs.declared.table.Row.{Row}
+use Rattle.m161_isa.specs.declared.table.Row.TheVariants as rows
 use Rattle.m161_isa.specs.declared.instr.Coprocessor.{Coprocessor}
 use Rattle.m161_isa.specs.Table.{absent_in, numbers_of}
 use Rattle.m161_isa.specs.Instr.{row_of_instr, numbers_of_instr, misfit, instr_by}

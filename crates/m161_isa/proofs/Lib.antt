@@ -2,3 +2,4 @@ pub mod OneRow
 pub mod InstrBy
 pub mod Kept
 pub mod RoundTrips
+pub mod Words

@@ -4,9 +4,9 @@ use Rattle.std.specs.Bool.{Decides}
 use Rattle.std.proofs.Common.{◌≡◌, ℕ, ◌/◌, List, [], ◌∷◌, true, false, zero, suc, refl, inl, inr, arith}
 use Rattle.std.proofs.lemmas.Bool.Decides.{Decides-eqb, Decides-and, nat_tests}
 use Rattle.std.proofs.lemmas.Bool.{or_cases}
-use Rattle.m161_isa.specs.declared.row.Row.{Row}
-use Rattle.m161_isa.specs.declared.row.Row.TheVariants as rows
-use Rattle.m161_isa.specs.Table.{Field, bits_of, content, all_rows, HasFields, Fits, FitsNone, has_fields, fits, row_that_fits}
+use Rattle.m161_isa.specs.declared.table.Row.{Row}
+use Rattle.m161_isa.specs.declared.table.Row.TheVariants as rows
+use Rattle.m161_isa.specs.Table.{Field, bits_of, table, all_rows, code_of, HasFields, Fits, FitsNone, has_fields, fits, row_that_fits}
 use Rattle.m161_isa.specs.Laws.{OneRow, FindsTheRow}
 
 -- A word fits one row at most: a test over the table's pairs of rows, which computes, and what follows from it.
@@ -18,7 +18,7 @@ has_fields-Decides word (f ∷ fs) =
     Decides-and _ _ (Decides-eqb (bits_of word f.position f.width) f.value) (has_fields-Decides word fs)
 
 pub fits-Decides : (word : ℕ) (r : Row) → Decides (fits word r) (Fits word r)
-fits-Decides word r = has_fields-Decides word (content r).fields
+fits-Decides word r = has_fields-Decides word (table r).fields
 
 -- two fields that no word has both: the same bits with two values, or rs against its highest bit
 abbrev clash : Field → Field → Bool
@@ -37,82 +37,25 @@ are_apart (f ∷ fs) gs = clashes f gs || are_apart fs gs
 -- each row is apart from those below it
 abbrev all_apart : List Row → Bool
 all_apart [] = true
-all_apart (r ∷ rs) = list_all (λ s. are_apart (content r).fields (content s).fields) rs && all_apart rs
+all_apart (r ∷ rs) = list_all (λ s. are_apart (table r).fields (table s).fields) rs && all_apart rs
 
 all_apart-all_rows : all_apart all_rows ≡ true
 all_apart-all_rows = refl
 
--- where a row stands in the table
+-- where what a search finds stands
+found_at : {X : Type 0} (p : X → Bool) (xs : List X) (x : X) → find p xs ≡ Some x → (i : ℕ) × (slice_get xs i ≡ Some x)
+found_at p [] x e = cc
+found_at p (y ∷ ys) x e =
+    elim (p y) as (λ b. cond b (Some y) (find p ys) ≡ Some x → (i : ℕ) × (slice_get (y ∷ ys) i ≡ Some x))
+    [ true ↦ λ f. (0, f) | false ↦ λ f. let (i, at) = found_at p ys x f in (suc i, at) ] e
+
+-- where a row stands in the table: its code is found there. The last equation is checked at each of the 68 other rows
+code_found : (r : Row) → row_that_fits (code_of r) ≡ Some r
+code_found rows.Sll = refl
+code_found _ = refl
+
 listed : (r : Row) → (i : ℕ) × (slice_get all_rows i ≡ Some r)
-listed rows.Sll = (0, refl)
-listed rows.Srl = (1, refl)
-listed rows.Sra = (2, refl)
-listed rows.Sllv = (3, refl)
-listed rows.Srlv = (4, refl)
-listed rows.Srav = (5, refl)
-listed rows.Jr = (6, refl)
-listed rows.Jalr = (7, refl)
-listed rows.Syscall = (8, refl)
-listed rows.Break = (9, refl)
-listed rows.Sync = (10, refl)
-listed rows.Mfhi = (11, refl)
-listed rows.Mthi = (12, refl)
-listed rows.Mflo = (13, refl)
-listed rows.Mtlo = (14, refl)
-listed rows.Mult = (15, refl)
-listed rows.Multu = (16, refl)
-listed rows.Div = (17, refl)
-listed rows.Divu = (18, refl)
-listed rows.Add = (19, refl)
-listed rows.Addu = (20, refl)
-listed rows.Sub = (21, refl)
-listed rows.Subu = (22, refl)
-listed rows.And = (23, refl)
-listed rows.Or = (24, refl)
-listed rows.Xor = (25, refl)
-listed rows.Nor = (26, refl)
-listed rows.Slt = (27, refl)
-listed rows.Sltu = (28, refl)
-listed rows.Bltz = (29, refl)
-listed rows.Bgez = (30, refl)
-listed rows.Bltzal = (31, refl)
-listed rows.Bgezal = (32, refl)
-listed rows.J = (33, refl)
-listed rows.Jal = (34, refl)
-listed rows.Beq = (35, refl)
-listed rows.Bne = (36, refl)
-listed rows.Blez = (37, refl)
-listed rows.Bgtz = (38, refl)
-listed rows.Addi = (39, refl)
-listed rows.Addiu = (40, refl)
-listed rows.Slti = (41, refl)
-listed rows.Sltiu = (42, refl)
-listed rows.Andi = (43, refl)
-listed rows.Ori = (44, refl)
-listed rows.Xori = (45, refl)
-listed rows.Lui = (46, refl)
-listed rows.Lb = (47, refl)
-listed rows.Lh = (48, refl)
-listed rows.Lwl = (49, refl)
-listed rows.Lw = (50, refl)
-listed rows.Lbu = (51, refl)
-listed rows.Lhu = (52, refl)
-listed rows.Lwr = (53, refl)
-listed rows.Sb = (54, refl)
-listed rows.Sh = (55, refl)
-listed rows.Swl = (56, refl)
-listed rows.Sw = (57, refl)
-listed rows.Swr = (58, refl)
-listed rows.Ll = (59, refl)
-listed rows.Sc = (60, refl)
-listed rows.Mfc0 = (61, refl)
-listed rows.Mtc0 = (62, refl)
-listed rows.Tlbr = (63, refl)
-listed rows.Tlbwi = (64, refl)
-listed rows.Tlbwr = (65, refl)
-listed rows.Tlbp = (66, refl)
-listed rows.Rfe = (67, refl)
-listed rows.Wait = (68, refl)
+listed r = found_at (fits (code_of r)) all_rows r (code_found r)
 
 both : (x y : Bool) → (x && y) ≡ true → (x ≡ true) × (y ≡ true)
 both true y e = (refl, e)
@@ -164,9 +107,9 @@ found_in word r (s ∷ rs) zero apart at h =
     rw (e, t) refl
 found_in word r (s ∷ rs) (suc i) apart at h =
     let (here, below) = both _ _ apart in
-    let d = passes (λ q. are_apart (content s).fields (content q).fields) rs i r here at in
+    let d = passes (λ q. are_apart (table s).fields (table q).fields) rs i r here at in
     let rest = found_in word r rs i below at h in
-    by_test (fits word s) (Some s) (find (fits word) rs) (Some r) (λ t. not_apart word (content s).fields (content r).fields d ((fits-Decides word s).0 t) h) rest
+    by_test (fits word s) (Some s) (find (fits word) rs) (Some r) (λ t. not_apart word (table s).fields (table r).fields d ((fits-Decides word s).0 t) h) rest
 
 -- a word that fits a row finds it
 pub row_that_fits-is : (word : ℕ) (r : Row) → Fits word r → row_that_fits word ≡ Some r

@@ -1,7 +1,7 @@
 use Rattle.std.specs.Prelude.{Option, None, Some}
 use Rattle.std.proofs.Common.{◌≡◌, ℕ, refl, ap, sym, ◌∙◌, inl, inr}
-use Rattle.m161_isa.specs.declared.row.Row.{Row}
-use Rattle.m161_isa.specs.declared.row.Row.TheVariants as rows
+use Rattle.m161_isa.specs.declared.table.Row.{Row}
+use Rattle.m161_isa.specs.declared.table.Row.TheVariants as rows
 use Rattle.m161_isa.specs.declared.instr.Coprocessor.{Coprocessor}
 use Rattle.m161_isa.specs.declared.instr.Coprocessor.TheVariants as coprocessor
 use Rattle.m161_isa.specs.Table.{row_that_fits, numbers_of, absent_in, word_with}

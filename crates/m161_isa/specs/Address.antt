@@ -3,8 +3,8 @@ use Rattle.std.specs.Prelude.{ℕ, ◌-◌, nat_lt, if◌then◌else◌, Option,
 -- Addresses that name physical ones without the TLB. Kane, MIPS RISC Architecture, "Virtual memory".
 
 -- kseg0 and kseg1, two views of the first 2^29 physical bytes: the address less the segment's base
-abbrev pub physical : ℕ → Option ℕ
-physical address =
+abbrev pub unmapped : ℕ → Option ℕ
+unmapped address =
     if nat_lt address 0x80000000 then None
     else if nat_lt address 0xa0000000 then Some (address - 0x80000000)
     else if nat_lt address 0xc0000000 then Some (address - 0xa0000000)

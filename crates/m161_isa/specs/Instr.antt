@@ -1,6 +1,6 @@
 use Rattle.std.specs.Prelude.{ℕ, ◌*◌, ◌^◌, Bool, true, false, List, [], ◌∷◌, Option, None, Some}
-use Rattle.m161_isa.specs.declared.row.Row.{Row}
-use Rattle.m161_isa.specs.declared.row.Row.TheVariants as rows
+use Rattle.m161_isa.specs.declared.table.Row.{Row}
+use Rattle.m161_isa.specs.declared.table.Row.TheVariants as rows
 use Rattle.m161_isa.specs.declared.instr.Instr.{Instr}
 use Rattle.m161_isa.specs.declared.instr.Instr.TheVariants.{Shift, ShiftVariable, JumpRegister, JumpAndLinkRegister, MoveFrom, MoveTo, Multiply, Arith, BranchZero, Jump, BranchEqual, Immediate, LoadUpper, Load, Store, MoveFromCop0, MoveToCop0, Plain, Absent, Reserved}
 use Rattle.m161_isa.specs.declared.instr.ShiftOp.TheVariants as shift
@@ -20,7 +20,7 @@ use Rattle.m161_isa.specs.Table.{bits_of, row_that_fits, absent_in, word_with}
 
 -- What the code's instructions have to do with the table: an instruction is a row and the numbers of its operands.
 
--- the row that an instruction is of
+-- the row that an instruction is of; a list of its own, since it ties the code's type to the rows
 abbrev pub row_of_instr : Instr → Option Row
 row_of_instr (Shift shift.Left _ _ _) = Some rows.Sll
 row_of_instr (Shift shift.Right _ _ _) = Some rows.Srl
@@ -52,14 +52,14 @@ row_of_instr (Arith arith.Nor _ _ _) = Some rows.Nor
 row_of_instr (Arith arith.Slt _ _ _) = Some rows.Slt
 row_of_instr (Arith arith.Sltu _ _ _) = Some rows.Sltu
 row_of_instr (BranchZero zero.Less _ _) = Some rows.Bltz
-row_of_instr (BranchZero zero.NotLess _ _) = Some rows.Bgez
+row_of_instr (BranchZero zero.GreaterOrEqual _ _) = Some rows.Bgez
 row_of_instr (BranchZero zero.LessAndLink _ _) = Some rows.Bltzal
-row_of_instr (BranchZero zero.NotLessAndLink _ _) = Some rows.Bgezal
+row_of_instr (BranchZero zero.GreaterOrEqualAndLink _ _) = Some rows.Bgezal
 row_of_instr (Jump jump.Jump _) = Some rows.J
 row_of_instr (Jump jump.JumpAndLink _) = Some rows.Jal
 row_of_instr (BranchEqual equal.Equal _ _ _) = Some rows.Beq
 row_of_instr (BranchEqual equal.NotEqual _ _ _) = Some rows.Bne
-row_of_instr (BranchZero zero.NotGreater _ _) = Some rows.Blez
+row_of_instr (BranchZero zero.LessOrEqual _ _) = Some rows.Blez
 row_of_instr (BranchZero zero.Greater _ _) = Some rows.Bgtz
 row_of_instr (Immediate immediate.Addi _ _ _) = Some rows.Addi
 row_of_instr (Immediate immediate.Addiu _ _ _) = Some rows.Addiu
@@ -147,7 +147,7 @@ abbrev pub misfit : ℕ → Option Coprocessor → Instr
 misfit word None = Reserved word
 misfit word (Some unit) = Absent unit
 
--- the instruction of a word, by the row that it fits
+-- the instruction of a word, by the row that it fits; a list of its own, since it goes the other way
 abbrev pub instr_by : ℕ → Option Row → Instr
 instr_by word None = misfit word (absent_in word)
 instr_by word (Some rows.Sll) = Shift shift.Left (rd_of word) (rt_of word) (amount_of word)
@@ -180,14 +180,14 @@ instr_by word (Some rows.Nor) = Arith arith.Nor (rd_of word) (rs_of word) (rt_of
 instr_by word (Some rows.Slt) = Arith arith.Slt (rd_of word) (rs_of word) (rt_of word)
 instr_by word (Some rows.Sltu) = Arith arith.Sltu (rd_of word) (rs_of word) (rt_of word)
 instr_by word (Some rows.Bltz) = BranchZero zero.Less (rs_of word) (immediate_of word)
-instr_by word (Some rows.Bgez) = BranchZero zero.NotLess (rs_of word) (immediate_of word)
+instr_by word (Some rows.Bgez) = BranchZero zero.GreaterOrEqual (rs_of word) (immediate_of word)
 instr_by word (Some rows.Bltzal) = BranchZero zero.LessAndLink (rs_of word) (immediate_of word)
-instr_by word (Some rows.Bgezal) = BranchZero zero.NotLessAndLink (rs_of word) (immediate_of word)
+instr_by word (Some rows.Bgezal) = BranchZero zero.GreaterOrEqualAndLink (rs_of word) (immediate_of word)
 instr_by word (Some rows.J) = Jump jump.Jump (target_of word)
 instr_by word (Some rows.Jal) = Jump jump.JumpAndLink (target_of word)
 instr_by word (Some rows.Beq) = BranchEqual equal.Equal (rs_of word) (rt_of word) (immediate_of word)
 instr_by word (Some rows.Bne) = BranchEqual equal.NotEqual (rs_of word) (rt_of word) (immediate_of word)
-instr_by word (Some rows.Blez) = BranchZero zero.NotGreater (rs_of word) (immediate_of word)
+instr_by word (Some rows.Blez) = BranchZero zero.LessOrEqual (rs_of word) (immediate_of word)
 instr_by word (Some rows.Bgtz) = BranchZero zero.Greater (rs_of word) (immediate_of word)
 instr_by word (Some rows.Addi) = Immediate immediate.Addi (rt_of word) (rs_of word) (immediate_of word)
 instr_by word (Some rows.Addiu) = Immediate immediate.Addiu (rt_of word) (rs_of word) (immediate_of word)

@@ -1,5 +1,5 @@
 use Rattle.std.specs.Prelude.{◌≡◌, ℕ, ◌⊎◌, ◌↔◌, None, Some}
-use Rattle.m161_isa.specs.declared.row.Row.{Row}
+use Rattle.m161_isa.specs.declared.table.Row.{Row}
 use Rattle.m161_isa.specs.declared.instr.Instr.TheVariants.{Reserved}
 use Rattle.m161_isa.specs.Table.{Fits, FitsNone, row_that_fits, IsCanonical}
 use Rattle.m161_isa.specs.Instr.{instr_of, word_of}

@@ -1,10 +1,10 @@
-use Rattle.std.specs.Prelude.{◌≡◌, ℕ, ◌+◌, ◌*◌, ◌/◌, ◌%◌, ◌^◌, Bool, true, ◌==◌, ◌&&◌, ◌||◌, if◌then◌else◌, List, [], ◌∷◌, map, find, Option, None, Some, codes}
-use Rattle.m161_isa.specs.declared.row.Row.{Row}
-use Rattle.m161_isa.specs.declared.row.Row.TheVariants as rows
-use Rattle.m161_isa.specs.declared.table.Operand.{Operand}
-use Rattle.m161_isa.specs.declared.table.Operand.TheVariants as operand
-use Rattle.m161_isa.specs.declared.table.Effect.{Effect}
-use Rattle.m161_isa.specs.declared.table.Effect.TheVariants as effect
+use Rattle.std.specs.Prelude.{◌≡◌, ℕ, ◌+◌, ◌*◌, ◌/◌, ◌%◌, ◌^◌, ◌<◌, Bool, true, ◌==◌, ◌&&◌, ◌||◌, if◌then◌else◌, List, [], ◌∷◌, map, find, Option, None, Some, codes}
+use Rattle.m161_isa.specs.declared.table.Row.{Row}
+use Rattle.m161_isa.specs.declared.table.Row.TheVariants as rows
+use Rattle.m161_isa.specs.declared.operand.Operand.{Operand}
+use Rattle.m161_isa.specs.declared.operand.Operand.TheVariants as operand
+use Rattle.m161_isa.specs.declared.effect.Effect.{Effect}
+use Rattle.m161_isa.specs.declared.effect.Effect.TheVariants as effect
 use Rattle.m161_isa.specs.declared.instr.Coprocessor.{Coprocessor}
 use Rattle.m161_isa.specs.declared.instr.Coprocessor.TheVariants as coprocessor
 
@@ -20,15 +20,15 @@ pub record Field : Type 0 where
   pub width : ℕ
   pub value : ℕ
 
--- what a row holds: its name, the fields of its words, its operands as the assembly text has them, and its effect
-pub record Content : Type 0 where
+-- what the table has in a row's line: its name, the fields of its words, its operands as the assembly text has them, and its effect
+pub record Columns : Type 0 where
   pub name : List ℕ
   pub fields : List Field
   pub operands : List Operand
   pub effect : Effect
 
-abbrev pub row : List ℕ → List Field → List Operand → Effect → Content
-row name fields operands what = record { name = name; fields = fields; operands = operands; effect = what }
+abbrev columns : List ℕ → List Field → List Operand → Effect → Columns
+columns name fields operands what = record { name = name; fields = fields; operands = operands; effect = what }
 
 abbrev pub field : ℕ → ℕ → ℕ → Field
 field position width value = record { position = position; width = width; value = value }
@@ -53,79 +53,79 @@ cop0 n = field 26 6 16 ∷ field 21 5 n ∷ []
 abbrev pub cop0_function : ℕ → List Field
 cop0_function n = field 26 6 16 ∷ field 25 1 1 ∷ field 0 6 n ∷ []
 
--- the table
-abbrev pub content : Row → Content
-content rows.Sll = row (codes "sll") (special 0) (operand.Rd ∷ operand.Rt ∷ operand.Amount ∷ []) effect.ShiftLeft
-content rows.Srl = row (codes "srl") (special 2) (operand.Rd ∷ operand.Rt ∷ operand.Amount ∷ []) effect.ShiftRight
-content rows.Sra = row (codes "sra") (special 3) (operand.Rd ∷ operand.Rt ∷ operand.Amount ∷ []) effect.ShiftRightArithmetic
-content rows.Sllv = row (codes "sllv") (special 4) (operand.Rd ∷ operand.Rt ∷ operand.Rs ∷ []) effect.ShiftLeft
-content rows.Srlv = row (codes "srlv") (special 6) (operand.Rd ∷ operand.Rt ∷ operand.Rs ∷ []) effect.ShiftRight
-content rows.Srav = row (codes "srav") (special 7) (operand.Rd ∷ operand.Rt ∷ operand.Rs ∷ []) effect.ShiftRightArithmetic
-content rows.Jr = row (codes "jr") (special 8) (operand.Rs ∷ []) effect.Jump
-content rows.Jalr = row (codes "jalr") (special 9) (operand.Rd ∷ operand.Rs ∷ []) effect.JumpAndLinkRegister
-content rows.Syscall = row (codes "syscall") (special 12) [] effect.SystemCall
-content rows.Break = row (codes "break") (special 13) [] effect.Breakpoint
-content rows.Sync = row (codes "sync") (special 15) [] effect.Synchronize
-content rows.Mfhi = row (codes "mfhi") (special 16) (operand.Rd ∷ []) effect.MoveFromHi
-content rows.Mthi = row (codes "mthi") (special 17) (operand.Rs ∷ []) effect.MoveToHi
-content rows.Mflo = row (codes "mflo") (special 18) (operand.Rd ∷ []) effect.MoveFromLo
-content rows.Mtlo = row (codes "mtlo") (special 19) (operand.Rs ∷ []) effect.MoveToLo
-content rows.Mult = row (codes "mult") (special 24) (operand.Rs ∷ operand.Rt ∷ []) effect.Multiply
-content rows.Multu = row (codes "multu") (special 25) (operand.Rs ∷ operand.Rt ∷ []) effect.MultiplyUnsigned
-content rows.Div = row (codes "div") (special 26) (operand.Rs ∷ operand.Rt ∷ []) effect.Divide
-content rows.Divu = row (codes "divu") (special 27) (operand.Rs ∷ operand.Rt ∷ []) effect.DivideUnsigned
-content rows.Add = row (codes "add") (special 32) (operand.Rd ∷ operand.Rs ∷ operand.Rt ∷ []) effect.Sum
-content rows.Addu = row (codes "addu") (special 33) (operand.Rd ∷ operand.Rs ∷ operand.Rt ∷ []) effect.SumModulo
-content rows.Sub = row (codes "sub") (special 34) (operand.Rd ∷ operand.Rs ∷ operand.Rt ∷ []) effect.Difference
-content rows.Subu = row (codes "subu") (special 35) (operand.Rd ∷ operand.Rs ∷ operand.Rt ∷ []) effect.DifferenceModulo
-content rows.And = row (codes "and") (special 36) (operand.Rd ∷ operand.Rs ∷ operand.Rt ∷ []) effect.And
-content rows.Or = row (codes "or") (special 37) (operand.Rd ∷ operand.Rs ∷ operand.Rt ∷ []) effect.Or
-content rows.Xor = row (codes "xor") (special 38) (operand.Rd ∷ operand.Rs ∷ operand.Rt ∷ []) effect.Xor
-content rows.Nor = row (codes "nor") (special 39) (operand.Rd ∷ operand.Rs ∷ operand.Rt ∷ []) effect.Nor
-content rows.Slt = row (codes "slt") (special 42) (operand.Rd ∷ operand.Rs ∷ operand.Rt ∷ []) effect.SetOnLess
-content rows.Sltu = row (codes "sltu") (special 43) (operand.Rd ∷ operand.Rs ∷ operand.Rt ∷ []) effect.SetOnLessUnsigned
-content rows.Bltz = row (codes "bltz") (regimm 0) (operand.Rs ∷ operand.Branch ∷ []) effect.BranchOnLess
-content rows.Bgez = row (codes "bgez") (regimm 1) (operand.Rs ∷ operand.Branch ∷ []) effect.BranchOnNotLess
-content rows.Bltzal = row (codes "bltzal") (regimm 16) (operand.Rs ∷ operand.Branch ∷ []) effect.BranchOnLessAndLink
-content rows.Bgezal = row (codes "bgezal") (regimm 17) (operand.Rs ∷ operand.Branch ∷ []) effect.BranchOnNotLessAndLink
-content rows.J = row (codes "j") (opcode 2) (operand.Jump ∷ []) effect.Jump
-content rows.Jal = row (codes "jal") (opcode 3) (operand.Jump ∷ []) effect.JumpAndLink
-content rows.Beq = row (codes "beq") (opcode 4) (operand.Rs ∷ operand.Rt ∷ operand.Branch ∷ []) effect.BranchOnEqual
-content rows.Bne = row (codes "bne") (opcode 5) (operand.Rs ∷ operand.Rt ∷ operand.Branch ∷ []) effect.BranchOnNotEqual
-content rows.Blez = row (codes "blez") (opcode 6) (operand.Rs ∷ operand.Branch ∷ []) effect.BranchOnNotGreater
-content rows.Bgtz = row (codes "bgtz") (opcode 7) (operand.Rs ∷ operand.Branch ∷ []) effect.BranchOnGreater
-content rows.Addi = row (codes "addi") (opcode 8) (operand.Rt ∷ operand.Rs ∷ operand.Signed ∷ []) effect.Sum
-content rows.Addiu = row (codes "addiu") (opcode 9) (operand.Rt ∷ operand.Rs ∷ operand.Signed ∷ []) effect.SumModulo
-content rows.Slti = row (codes "slti") (opcode 10) (operand.Rt ∷ operand.Rs ∷ operand.Signed ∷ []) effect.SetOnLess
-content rows.Sltiu = row (codes "sltiu") (opcode 11) (operand.Rt ∷ operand.Rs ∷ operand.Signed ∷ []) effect.SetOnLessUnsigned
-content rows.Andi = row (codes "andi") (opcode 12) (operand.Rt ∷ operand.Rs ∷ operand.Unsigned ∷ []) effect.And
-content rows.Ori = row (codes "ori") (opcode 13) (operand.Rt ∷ operand.Rs ∷ operand.Unsigned ∷ []) effect.Or
-content rows.Xori = row (codes "xori") (opcode 14) (operand.Rt ∷ operand.Rs ∷ operand.Unsigned ∷ []) effect.Xor
-content rows.Lui = row (codes "lui") (opcode 15) (operand.Rt ∷ operand.Unsigned ∷ []) effect.LoadUpper
-content rows.Lb = row (codes "lb") (opcode 32) (operand.Rt ∷ operand.Offset ∷ operand.Base ∷ []) effect.LoadByte
-content rows.Lh = row (codes "lh") (opcode 33) (operand.Rt ∷ operand.Offset ∷ operand.Base ∷ []) effect.LoadHalf
-content rows.Lwl = row (codes "lwl") (opcode 34) (operand.Rt ∷ operand.Offset ∷ operand.Base ∷ []) effect.LoadWordLeft
-content rows.Lw = row (codes "lw") (opcode 35) (operand.Rt ∷ operand.Offset ∷ operand.Base ∷ []) effect.LoadWord
-content rows.Lbu = row (codes "lbu") (opcode 36) (operand.Rt ∷ operand.Offset ∷ operand.Base ∷ []) effect.LoadByteUnsigned
-content rows.Lhu = row (codes "lhu") (opcode 37) (operand.Rt ∷ operand.Offset ∷ operand.Base ∷ []) effect.LoadHalfUnsigned
-content rows.Lwr = row (codes "lwr") (opcode 38) (operand.Rt ∷ operand.Offset ∷ operand.Base ∷ []) effect.LoadWordRight
-content rows.Sb = row (codes "sb") (opcode 40) (operand.Rt ∷ operand.Offset ∷ operand.Base ∷ []) effect.StoreByte
-content rows.Sh = row (codes "sh") (opcode 41) (operand.Rt ∷ operand.Offset ∷ operand.Base ∷ []) effect.StoreHalf
-content rows.Swl = row (codes "swl") (opcode 42) (operand.Rt ∷ operand.Offset ∷ operand.Base ∷ []) effect.StoreWordLeft
-content rows.Sw = row (codes "sw") (opcode 43) (operand.Rt ∷ operand.Offset ∷ operand.Base ∷ []) effect.StoreWord
-content rows.Swr = row (codes "swr") (opcode 46) (operand.Rt ∷ operand.Offset ∷ operand.Base ∷ []) effect.StoreWordRight
-content rows.Ll = row (codes "ll") (opcode 48) (operand.Rt ∷ operand.Offset ∷ operand.Base ∷ []) effect.LoadLinked
-content rows.Sc = row (codes "sc") (opcode 56) (operand.Rt ∷ operand.Offset ∷ operand.Base ∷ []) effect.StoreConditional
-content rows.Mfc0 = row (codes "mfc0") (cop0 0) (operand.Rt ∷ operand.Cop0 ∷ []) effect.MoveFromCop0
-content rows.Mtc0 = row (codes "mtc0") (cop0 4) (operand.Rt ∷ operand.Cop0 ∷ []) effect.MoveToCop0
-content rows.Tlbr = row (codes "tlbr") (cop0_function 1) [] effect.ReadTlb
-content rows.Tlbwi = row (codes "tlbwi") (cop0_function 2) [] effect.WriteTlbIndexed
-content rows.Tlbwr = row (codes "tlbwr") (cop0_function 6) [] effect.WriteTlbRandom
-content rows.Tlbp = row (codes "tlbp") (cop0_function 8) [] effect.ProbeTlb
-content rows.Rfe = row (codes "rfe") (cop0_function 16) [] effect.RestoreFromException
-content rows.Wait = row (codes "wait") (cop0_function 32) [] effect.WaitForInterrupt
+-- the table: a row has its one line here, and the code's line is proved to be the same
+abbrev pub table : Row → Columns
+table rows.Sll = columns (codes "sll") (special 0) (operand.Rd ∷ operand.Rt ∷ operand.Amount ∷ []) effect.ShiftLeft
+table rows.Srl = columns (codes "srl") (special 2) (operand.Rd ∷ operand.Rt ∷ operand.Amount ∷ []) effect.ShiftRight
+table rows.Sra = columns (codes "sra") (special 3) (operand.Rd ∷ operand.Rt ∷ operand.Amount ∷ []) effect.ShiftRightArithmetic
+table rows.Sllv = columns (codes "sllv") (special 4) (operand.Rd ∷ operand.Rt ∷ operand.Rs ∷ []) effect.ShiftLeft
+table rows.Srlv = columns (codes "srlv") (special 6) (operand.Rd ∷ operand.Rt ∷ operand.Rs ∷ []) effect.ShiftRight
+table rows.Srav = columns (codes "srav") (special 7) (operand.Rd ∷ operand.Rt ∷ operand.Rs ∷ []) effect.ShiftRightArithmetic
+table rows.Jr = columns (codes "jr") (special 8) (operand.Rs ∷ []) effect.Jump
+table rows.Jalr = columns (codes "jalr") (special 9) (operand.Rd ∷ operand.Rs ∷ []) effect.JumpAndLinkRegister
+table rows.Syscall = columns (codes "syscall") (special 12) [] effect.SystemCall
+table rows.Break = columns (codes "break") (special 13) [] effect.Breakpoint
+table rows.Sync = columns (codes "sync") (special 15) [] effect.Synchronize
+table rows.Mfhi = columns (codes "mfhi") (special 16) (operand.Rd ∷ []) effect.MoveFromHi
+table rows.Mthi = columns (codes "mthi") (special 17) (operand.Rs ∷ []) effect.MoveToHi
+table rows.Mflo = columns (codes "mflo") (special 18) (operand.Rd ∷ []) effect.MoveFromLo
+table rows.Mtlo = columns (codes "mtlo") (special 19) (operand.Rs ∷ []) effect.MoveToLo
+table rows.Mult = columns (codes "mult") (special 24) (operand.Rs ∷ operand.Rt ∷ []) effect.Multiply
+table rows.Multu = columns (codes "multu") (special 25) (operand.Rs ∷ operand.Rt ∷ []) effect.MultiplyUnsigned
+table rows.Div = columns (codes "div") (special 26) (operand.Rs ∷ operand.Rt ∷ []) effect.Divide
+table rows.Divu = columns (codes "divu") (special 27) (operand.Rs ∷ operand.Rt ∷ []) effect.DivideUnsigned
+table rows.Add = columns (codes "add") (special 32) (operand.Rd ∷ operand.Rs ∷ operand.Rt ∷ []) effect.Sum
+table rows.Addu = columns (codes "addu") (special 33) (operand.Rd ∷ operand.Rs ∷ operand.Rt ∷ []) effect.SumModulo
+table rows.Sub = columns (codes "sub") (special 34) (operand.Rd ∷ operand.Rs ∷ operand.Rt ∷ []) effect.Difference
+table rows.Subu = columns (codes "subu") (special 35) (operand.Rd ∷ operand.Rs ∷ operand.Rt ∷ []) effect.DifferenceModulo
+table rows.And = columns (codes "and") (special 36) (operand.Rd ∷ operand.Rs ∷ operand.Rt ∷ []) effect.And
+table rows.Or = columns (codes "or") (special 37) (operand.Rd ∷ operand.Rs ∷ operand.Rt ∷ []) effect.Or
+table rows.Xor = columns (codes "xor") (special 38) (operand.Rd ∷ operand.Rs ∷ operand.Rt ∷ []) effect.Xor
+table rows.Nor = columns (codes "nor") (special 39) (operand.Rd ∷ operand.Rs ∷ operand.Rt ∷ []) effect.Nor
+table rows.Slt = columns (codes "slt") (special 42) (operand.Rd ∷ operand.Rs ∷ operand.Rt ∷ []) effect.SetOnLess
+table rows.Sltu = columns (codes "sltu") (special 43) (operand.Rd ∷ operand.Rs ∷ operand.Rt ∷ []) effect.SetOnLessUnsigned
+table rows.Bltz = columns (codes "bltz") (regimm 0) (operand.Rs ∷ operand.Branch ∷ []) effect.BranchOnLess
+table rows.Bgez = columns (codes "bgez") (regimm 1) (operand.Rs ∷ operand.Branch ∷ []) effect.BranchOnGreaterOrEqual
+table rows.Bltzal = columns (codes "bltzal") (regimm 16) (operand.Rs ∷ operand.Branch ∷ []) effect.BranchOnLessAndLink
+table rows.Bgezal = columns (codes "bgezal") (regimm 17) (operand.Rs ∷ operand.Branch ∷ []) effect.BranchOnGreaterOrEqualAndLink
+table rows.J = columns (codes "j") (opcode 2) (operand.Jump ∷ []) effect.Jump
+table rows.Jal = columns (codes "jal") (opcode 3) (operand.Jump ∷ []) effect.JumpAndLink
+table rows.Beq = columns (codes "beq") (opcode 4) (operand.Rs ∷ operand.Rt ∷ operand.Branch ∷ []) effect.BranchOnEqual
+table rows.Bne = columns (codes "bne") (opcode 5) (operand.Rs ∷ operand.Rt ∷ operand.Branch ∷ []) effect.BranchOnNotEqual
+table rows.Blez = columns (codes "blez") (opcode 6) (operand.Rs ∷ operand.Branch ∷ []) effect.BranchOnLessOrEqual
+table rows.Bgtz = columns (codes "bgtz") (opcode 7) (operand.Rs ∷ operand.Branch ∷ []) effect.BranchOnGreater
+table rows.Addi = columns (codes "addi") (opcode 8) (operand.Rt ∷ operand.Rs ∷ operand.Signed ∷ []) effect.Sum
+table rows.Addiu = columns (codes "addiu") (opcode 9) (operand.Rt ∷ operand.Rs ∷ operand.Signed ∷ []) effect.SumModulo
+table rows.Slti = columns (codes "slti") (opcode 10) (operand.Rt ∷ operand.Rs ∷ operand.Signed ∷ []) effect.SetOnLess
+table rows.Sltiu = columns (codes "sltiu") (opcode 11) (operand.Rt ∷ operand.Rs ∷ operand.Signed ∷ []) effect.SetOnLessUnsigned
+table rows.Andi = columns (codes "andi") (opcode 12) (operand.Rt ∷ operand.Rs ∷ operand.Unsigned ∷ []) effect.And
+table rows.Ori = columns (codes "ori") (opcode 13) (operand.Rt ∷ operand.Rs ∷ operand.Unsigned ∷ []) effect.Or
+table rows.Xori = columns (codes "xori") (opcode 14) (operand.Rt ∷ operand.Rs ∷ operand.Unsigned ∷ []) effect.Xor
+table rows.Lui = columns (codes "lui") (opcode 15) (operand.Rt ∷ operand.Unsigned ∷ []) effect.LoadUpper
+table rows.Lb = columns (codes "lb") (opcode 32) (operand.Rt ∷ operand.Offset ∷ operand.Base ∷ []) effect.LoadByte
+table rows.Lh = columns (codes "lh") (opcode 33) (operand.Rt ∷ operand.Offset ∷ operand.Base ∷ []) effect.LoadHalf
+table rows.Lwl = columns (codes "lwl") (opcode 34) (operand.Rt ∷ operand.Offset ∷ operand.Base ∷ []) effect.LoadWordLeft
+table rows.Lw = columns (codes "lw") (opcode 35) (operand.Rt ∷ operand.Offset ∷ operand.Base ∷ []) effect.LoadWord
+table rows.Lbu = columns (codes "lbu") (opcode 36) (operand.Rt ∷ operand.Offset ∷ operand.Base ∷ []) effect.LoadByteUnsigned
+table rows.Lhu = columns (codes "lhu") (opcode 37) (operand.Rt ∷ operand.Offset ∷ operand.Base ∷ []) effect.LoadHalfUnsigned
+table rows.Lwr = columns (codes "lwr") (opcode 38) (operand.Rt ∷ operand.Offset ∷ operand.Base ∷ []) effect.LoadWordRight
+table rows.Sb = columns (codes "sb") (opcode 40) (operand.Rt ∷ operand.Offset ∷ operand.Base ∷ []) effect.StoreByte
+table rows.Sh = columns (codes "sh") (opcode 41) (operand.Rt ∷ operand.Offset ∷ operand.Base ∷ []) effect.StoreHalf
+table rows.Swl = columns (codes "swl") (opcode 42) (operand.Rt ∷ operand.Offset ∷ operand.Base ∷ []) effect.StoreWordLeft
+table rows.Sw = columns (codes "sw") (opcode 43) (operand.Rt ∷ operand.Offset ∷ operand.Base ∷ []) effect.StoreWord
+table rows.Swr = columns (codes "swr") (opcode 46) (operand.Rt ∷ operand.Offset ∷ operand.Base ∷ []) effect.StoreWordRight
+table rows.Ll = columns (codes "ll") (opcode 48) (operand.Rt ∷ operand.Offset ∷ operand.Base ∷ []) effect.LoadLinked
+table rows.Sc = columns (codes "sc") (opcode 56) (operand.Rt ∷ operand.Offset ∷ operand.Base ∷ []) effect.StoreConditional
+table rows.Mfc0 = columns (codes "mfc0") (cop0 0) (operand.Rt ∷ operand.Cop0 ∷ []) effect.MoveFromCop0
+table rows.Mtc0 = columns (codes "mtc0") (cop0 4) (operand.Rt ∷ operand.Cop0 ∷ []) effect.MoveToCop0
+table rows.Tlbr = columns (codes "tlbr") (cop0_function 1) [] effect.ReadTlb
+table rows.Tlbwi = columns (codes "tlbwi") (cop0_function 2) [] effect.WriteTlbIndexed
+table rows.Tlbwr = columns (codes "tlbwr") (cop0_function 6) [] effect.WriteTlbRandom
+table rows.Tlbp = columns (codes "tlbp") (cop0_function 8) [] effect.ProbeTlb
+table rows.Rfe = columns (codes "rfe") (cop0_function 16) [] effect.RestoreFromException
+table rows.Wait = columns (codes "wait") (cop0_function 32) [] effect.WaitForInterrupt
 
--- the rows, in the table's order
+-- the rows, in the table's order; a list of its own, since no definition can go through the names of an enum
 abbrev pub all_rows : List Row
 all_rows =
     rows.Sll ∷ rows.Srl ∷ rows.Sra ∷ rows.Sllv ∷ rows.Srlv ∷ rows.Srav ∷ rows.Jr ∷ rows.Jalr ∷ rows.Syscall ∷ rows.Break ∷
@@ -143,7 +143,7 @@ HasFields word (f ∷ fs) = (bits_of word f.position f.width ≡ f.value) × Has
 
 -- the word fits the row
 abbrev pub Fits : ℕ → Row → Type 0
-Fits word r = HasFields word (content r).fields
+Fits word r = HasFields word (table r).fields
 
 -- the same as a test
 abbrev pub has_fields : ℕ → List Field → Bool
@@ -151,7 +151,7 @@ has_fields word [] = true
 has_fields word (f ∷ fs) = (bits_of word f.position f.width == f.value) && has_fields word fs
 
 abbrev pub fits : ℕ → Row → Bool
-fits word r = has_fields word (content r).fields
+fits word r = has_fields word (table r).fields
 
 -- the word fits no row
 abbrev pub FitsNone : ℕ → Type 0
@@ -161,28 +161,37 @@ FitsNone word = (r : Row) → Fits word r → ⊥
 abbrev pub row_that_fits : ℕ → Option Row
 row_that_fits word = find (fits word) all_rows
 
--- where the field of an operand stands
-abbrev pub place_of : Operand → ℕ × ℕ
-place_of operand.Rd = (11, 5)
-place_of operand.Rs = (21, 5)
-place_of operand.Rt = (16, 5)
-place_of operand.Amount = (6, 5)
-place_of operand.Signed = (0, 16)
-place_of operand.Unsigned = (0, 16)
-place_of operand.Offset = (0, 16)
-place_of operand.Base = (21, 5)
-place_of operand.Branch = (0, 16)
-place_of operand.Jump = (0, 26)
-place_of operand.Cop0 = (11, 5)
+-- the lowest bit of an operand's field
+abbrev pub position_of : Operand → ℕ
+position_of operand.Signed = 0
+position_of operand.Unsigned = 0
+position_of operand.Offset = 0
+position_of operand.Branch = 0
+position_of operand.Jump = 0
+position_of operand.Amount = 6
+position_of operand.Rd = 11
+position_of operand.Cop0 = 11
+position_of operand.Rt = 16
+position_of operand.Rs = 21
+position_of operand.Base = 21
+
+-- the width of an operand's field
+abbrev pub width_of : Operand → ℕ
+width_of operand.Signed = 16
+width_of operand.Unsigned = 16
+width_of operand.Offset = 16
+width_of operand.Branch = 16
+width_of operand.Jump = 26
+width_of _ = 5
 
 -- the number in an operand's field
 abbrev pub number_of : ℕ → Operand → ℕ
-number_of word o = bits_of word (place_of o).0 (place_of o).1
+number_of word o = bits_of word (position_of o) (width_of o)
 
 -- the numbers in the fields of a row's operands
 abbrev pub numbers_of : ℕ → Option Row → List ℕ
 numbers_of word None = []
-numbers_of word (Some r) = map (number_of word) (content r).operands
+numbers_of word (Some r) = map (number_of word) (table r).operands
 
 -- the opcode is one of a coprocessor: its own, or one of its loads and stores
 abbrev pub is_opcode_of : ℕ → ℕ → Bool
@@ -201,14 +210,24 @@ abbrev pub sum_of_fields : List Field → ℕ
 sum_of_fields [] = 0
 sum_of_fields (f ∷ fs) = f.value * 2 ^ f.position + sum_of_fields fs
 
+-- the word with a row's fields, and zeros elsewhere
+abbrev pub code_of : Row → ℕ
+code_of r = sum_of_fields (table r).fields
+
 -- the numbers of operands at their places
 abbrev pub sum_of_operands : List Operand → List ℕ → ℕ
-sum_of_operands (o ∷ os) (n ∷ ns) = n * 2 ^ (place_of o).0 + sum_of_operands os ns
+sum_of_operands (o ∷ os) (n ∷ ns) = n * 2 ^ position_of o + sum_of_operands os ns
 sum_of_operands _ _ = 0
+
+-- each operand has a number, which its field can hold
+abbrev pub AreOperands : List Operand → List ℕ → Type 0
+AreOperands [] [] = Unit {0}
+AreOperands (o ∷ os) (n ∷ ns) = (n < 2 ^ width_of o) × AreOperands os ns
+AreOperands _ _ = ⊥
 
 -- the word of a row with these operands, all its other bits zero
 abbrev pub word_with : Row → List ℕ → ℕ
-word_with r numbers = sum_of_fields (content r).fields + sum_of_operands (content r).operands numbers
+word_with r numbers = code_of r + sum_of_operands (table r).operands numbers
 
 -- the word fits a row, and its bits outside the row's fields and operands are zero
 abbrev pub IsCanonical : ℕ → Type 0

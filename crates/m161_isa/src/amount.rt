@@ -5,7 +5,7 @@ ghost use Rattle.std.specs.Prelude.{◌≡◌, ◌<◌};
 use std::marker::Model;
 
 /// A shift amount, 0 to 31 bits.
-#[derive(Clone, Copy, PartialEq, Eq)]
+#[derive(Clone, Copy, Debug, PartialEq, Eq)]
 pub struct Amount {
     bits: u32,
 }
@@ -24,6 +24,7 @@ impl Model for Amount {
 
 impl Amount {
     /// The amount of this many bits.
+    #[inline(always)]
     pub const fn new(bits: u8) -> Amount
         requires { bits < 32 }
         ensures { result ≡ bits }
@@ -32,6 +33,7 @@ impl Amount {
     }
 
     /// Its number of bits.
+    #[inline(always)]
     pub const fn bits(self) -> u8
         ensures value { result ≡ self }
         ensures small { result < 32 }

@@ -5,7 +5,7 @@ ghost use Rattle.std.specs.Prelude.{◌≡◌};
 use std::marker::Model;
 
 /// The immediate field of a word: its lower half.
-#[derive(Clone, Copy, PartialEq, Eq)]
+#[derive(Clone, Copy, Debug, PartialEq, Eq)]
 pub struct Immediate {
     half: u32,
 }
@@ -24,6 +24,7 @@ impl Model for Immediate {
 
 impl Immediate {
     /// The immediate of this half-word.
+    #[inline(always)]
     pub const fn new(half: u16) -> Immediate
         ensures { result ≡ half }
     {
@@ -31,6 +32,7 @@ impl Immediate {
     }
 
     /// The half-word.
+    #[inline(always)]
     pub const fn half(self) -> u16
         ensures { result ≡ self }
     {

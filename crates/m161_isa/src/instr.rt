@@ -6,11 +6,11 @@ ghost use Rattle.m161_isa.specs.Instr.{row_of_instr, is_misfit};
 use crate::amount::Amount;
 use crate::immediate::Immediate;
 use crate::register::Reg;
-use crate::row::Row;
+use crate::table::Row;
 use crate::target::Target;
 
 /// The kind of a shift: left, right with zeros, or right with the sign.
-#[derive(Clone, Copy, PartialEq, Eq)]
+#[derive(Clone, Copy, Debug, PartialEq, Eq)]
 pub enum ShiftOp {
     Left,
     Right,
@@ -18,7 +18,7 @@ pub enum ShiftOp {
 }
 
 /// An operation on two registers, into a third: the row of that name.
-#[derive(Clone, Copy, PartialEq, Eq)]
+#[derive(Clone, Copy, Debug, PartialEq, Eq)]
 pub enum ArithOp {
     Add,
     Addu,
@@ -33,7 +33,7 @@ pub enum ArithOp {
 }
 
 /// An operation on two registers, into HI and LO: the row of that name.
-#[derive(Clone, Copy, PartialEq, Eq)]
+#[derive(Clone, Copy, Debug, PartialEq, Eq)]
 pub enum MultiplyOp {
     Mult,
     Multu,
@@ -42,7 +42,7 @@ pub enum MultiplyOp {
 }
 
 /// HI or LO.
-#[derive(Clone, Copy, PartialEq, Eq)]
+#[derive(Clone, Copy, Debug, PartialEq, Eq)]
 pub enum HiLo {
     Hi,
     Lo,
@@ -50,32 +50,32 @@ pub enum HiLo {
 
 /// A branch's test of a register against zero, signed; two leave the return address in register
 /// 31, taken or not.
-#[derive(Clone, Copy, PartialEq, Eq)]
+#[derive(Clone, Copy, Debug, PartialEq, Eq)]
 pub enum ZeroTest {
     Less,
-    NotLess,
+    GreaterOrEqual,
     LessAndLink,
-    NotLessAndLink,
-    NotGreater,
+    GreaterOrEqualAndLink,
+    LessOrEqual,
     Greater,
 }
 
 /// A branch's test of two registers.
-#[derive(Clone, Copy, PartialEq, Eq)]
+#[derive(Clone, Copy, Debug, PartialEq, Eq)]
 pub enum EqualTest {
     Equal,
     NotEqual,
 }
 
 /// A jump to a target in the word; one leaves the return address in register 31.
-#[derive(Clone, Copy, PartialEq, Eq)]
+#[derive(Clone, Copy, Debug, PartialEq, Eq)]
 pub enum JumpOp {
     Jump,
     JumpAndLink,
 }
 
 /// An operation on a register and an immediate: the row of that name.
-#[derive(Clone, Copy, PartialEq, Eq)]
+#[derive(Clone, Copy, Debug, PartialEq, Eq)]
 pub enum ImmediateOp {
     Addi,
     Addiu,
@@ -87,7 +87,7 @@ pub enum ImmediateOp {
 }
 
 /// A load from memory: what is read, and how a part of a word is extended. `Linked` is `ll`.
-#[derive(Clone, Copy, PartialEq, Eq)]
+#[derive(Clone, Copy, Debug, PartialEq, Eq)]
 pub enum LoadOp {
     Byte,
     Half,
@@ -100,7 +100,7 @@ pub enum LoadOp {
 }
 
 /// A store to memory: what of the register is written. `Conditional` is `sc`.
-#[derive(Clone, Copy, PartialEq, Eq)]
+#[derive(Clone, Copy, Debug, PartialEq, Eq)]
 pub enum StoreOp {
     Byte,
     Half,
@@ -111,7 +111,7 @@ pub enum StoreOp {
 }
 
 /// An instruction without operands: the row of that name.
-#[derive(Clone, Copy, PartialEq, Eq)]
+#[derive(Clone, Copy, Debug, PartialEq, Eq)]
 pub enum PlainOp {
     Syscall,
     Break,
@@ -125,7 +125,7 @@ pub enum PlainOp {
 }
 
 /// A coprocessor that the machine doesn't have.
-#[derive(Clone, Copy, PartialEq, Eq)]
+#[derive(Clone, Copy, Debug, PartialEq, Eq)]
 pub enum Coprocessor {
     One,
     Two,
@@ -133,7 +133,7 @@ pub enum Coprocessor {
 }
 
 /// An instruction: a row of the table with its operands, or a word that fits no row.
-#[derive(Clone, Copy)]
+#[derive(Clone, Copy, Debug, PartialEq, Eq)]
 pub enum Instr {
     /// `sll`, `srl`, `sra`.
     Shift {
@@ -257,6 +257,9 @@ fn is_misfit(instr: &Instr) -> bool
 }
 
 /// The row of an instruction that is of one.
+///
+/// It and the functions below list the rows by the instruction, which holds no row itself, so that
+/// decoding goes straight to the operation.
 pub fn row_of(instr: &Instr) -> Row
     requires { IsSome (row_of_instr instr.now) }
     ensures { row_of_instr instr.now ≡ Some result }
@@ -355,10 +358,10 @@ fn branch_zero_row(test: ZeroTest) -> Row
 {
     match test {
         ZeroTest::Less => Row::Bltz,
-        ZeroTest::NotLess => Row::Bgez,
+        ZeroTest::GreaterOrEqual => Row::Bgez,
         ZeroTest::LessAndLink => Row::Bltzal,
-        ZeroTest::NotLessAndLink => Row::Bgezal,
-        ZeroTest::NotGreater => Row::Blez,
+        ZeroTest::GreaterOrEqualAndLink => Row::Bgezal,
+        ZeroTest::LessOrEqual => Row::Blez,
         ZeroTest::Greater => Row::Bgtz,
     }
 }
@@ -373,7 +376,8 @@ fn jump_row(op: JumpOp) -> Row
 }
 
 fn branch_equal_row(test: EqualTest) -> Row
-    ensures { (rs rt offset : ℕ) → row_of_instr (Instr.BranchEqual test rs rt offset) ≡ Some result }
+    ensures { (rs rt offset : ℕ) → row_of_instr (Instr.BranchEqual test rs rt offset)
+        ≡ Some result }
 {
     match test {
         EqualTest::Equal => Row::Beq,

@@ -5,7 +5,7 @@ ghost use Rattle.std.specs.Prelude.{◌≡◌, ◌<◌};
 use std::marker::Model;
 
 /// A register's number, 0 to 31: of a general register, or of one of coprocessor 0.
-#[derive(Clone, Copy, PartialEq, Eq)]
+#[derive(Clone, Copy, Debug, PartialEq, Eq)]
 pub struct Reg {
     number: u32,
 }
@@ -24,6 +24,7 @@ impl Model for Reg {
 
 impl Reg {
     /// The register of this number.
+    #[inline(always)]
     pub const fn new(number: u8) -> Reg
         requires { number < 32 }
         ensures { result ≡ number }
@@ -34,6 +35,7 @@ impl Reg {
     }
 
     /// Its number.
+    #[inline(always)]
     pub const fn number(self) -> u8
         ensures value { result ≡ self }
         ensures small { result < 32 }
@@ -42,6 +44,7 @@ impl Reg {
     }
 
     /// Its number, as a place in a table of registers.
+    #[inline(always)]
     pub const fn index(self) -> usize
         ensures value { result ≡ self }
         ensures small { result < 32 }

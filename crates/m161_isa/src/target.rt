@@ -5,7 +5,7 @@ ghost use Rattle.std.specs.Prelude.{◌≡◌, ◌<◌, ◌^◌};
 use std::marker::Model;
 
 /// The target field of a jump: bits 27..2 of the address that it jumps to.
-#[derive(Clone, Copy, PartialEq, Eq)]
+#[derive(Clone, Copy, Debug, PartialEq, Eq)]
 pub struct Target {
     field: u32,
 }
@@ -24,6 +24,7 @@ impl Model for Target {
 
 impl Target {
     /// The target of this field.
+    #[inline(always)]
     pub const fn new(field: u32) -> Target
         requires { field < 2 ^ 26 }
         ensures { result ≡ field }
@@ -32,6 +33,7 @@ impl Target {
     }
 
     /// The field, below 2^26.
+    #[inline(always)]
     pub const fn field(self) -> u32
         ensures value { result ≡ self }
         ensures small { result < 2 ^ 26 }

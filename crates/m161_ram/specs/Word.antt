@@ -1,6 +1,14 @@
 use Rattle.std.specs.Prelude.{ℕ, ◌+◌, ◌*◌, ◌/◌, ◌%◌, ◌^◌, List, slice_index, slice_set}
 
--- Words in memory, which is the list of its bytes from physical address 0 on. Kane, MIPS RISC Architecture, "Data formats": big-endian.
+-- Half-words and words in memory, which is the list of its bytes from physical address 0 on. Kane, MIPS RISC Architecture, "Data formats": big-endian.
+
+-- the half-word whose first byte is at an address
+abbrev pub half_at : List ℕ → ℕ → ℕ
+half_at memory at = slice_index memory at * 2 ^ 8 + slice_index memory (at + 1)
+
+-- memory with a half-word there
+abbrev pub with_half : List ℕ → ℕ → ℕ → List ℕ
+with_half memory at half = slice_set (slice_set memory at (half / 2 ^ 8)) (at + 1) (half % 2 ^ 8)
 
 -- the word whose first byte is at an address
 abbrev pub word_at : List ℕ → ℕ → ℕ

@@ -1,11 +1,18 @@
 //! Physical memory.
 //!
-//! RAM begins at physical address 0. A word is four bytes, the most significant first: the
-//! machine is big-endian (Kane, MIPS RISC Architecture, data formats).
+//! ```text
+//! RAM         bytes, from physical address 0 on; below 2^32 of them
+//! half-word   two bytes, the more significant first
+//! word        four bytes, the most significant first
+//! ```
+//!
+//! The content of a `Ram` is the list of its bytes. An address within the size is a condition of
+//! each access, and so is room for the whole half-word or word; it needn't be aligned. Only `new`
+//! takes memory. Source: Kane, MIPS RISC Architecture, data formats: the machine is big-endian.
 #![tactic(auto)]
 
 ghost use Rattle.std.specs.Prelude.{◌≡◌, ◌+◌, ◌^◌, ◌<◌, ◌≤◌, length, replicate, slice_index, slice_set, vec_len, IfOk};
-ghost use Rattle.m161_ram.specs.Word.{word_at, with_word};
+ghost use Rattle.m161_ram.specs.Word.{half_at, with_half, word_at, with_word};
 
 use std::alloc::{AllocError, Global};
 use std::marker::Model;
@@ -27,7 +34,7 @@ impl Model for Ram {
 }
 
 impl Ram {
-    /// So many bytes, all zero.
+    /// RAM of `size` bytes, all zero.
     pub fn new(alloc: Global, size: u32) -> Result<Ram, AllocError>
         ensures { IfOk result (λ ram. ram ≡ replicate size 0) }
     {
@@ -35,7 +42,7 @@ impl Ram {
         Ok(Ram { bytes })
     }
 
-    /// These bytes, from address 0 on.
+    /// RAM that holds these bytes, from address 0 on. Their number has to fit a `u32`.
     pub fn from_bytes(bytes: Vec<u8>) -> Ram
         requires { vec_len bytes < 2 ^ 32 }
         ensures { result ≡ bytes.items }
@@ -43,14 +50,24 @@ impl Ram {
         Ram { bytes }
     }
 
-    /// How many bytes there are.
+    /// The number of bytes.
+    #[inline(always)]
     pub fn size(&self) -> u32
         ensures { result ≡ length self.now }
     {
         self.bytes.len() as u32
     }
 
+    /// The bytes, from address 0 on.
+    #[inline(always)]
+    pub fn as_bytes(&self) -> &[u8]
+        ensures { result.now ≡ self.now }
+    {
+        self.bytes.as_slice()
+    }
+
     /// The byte at a physical address.
+    #[inline(always)]
     pub fn byte(&self, address: u32) -> u8
         requires { address < length self.now }
         ensures { result ≡ slice_index self.now address }
@@ -58,7 +75,8 @@ impl Ram {
         self.bytes[address as usize]
     }
 
-    /// Puts a byte at a physical address.
+    /// Writes a byte at a physical address.
+    #[inline(always)]
     pub fn set_byte(&mut self, address: u32, byte: u8)
         requires { address < length self.old }
         ensures { self.new ≡ slice_set self.old address byte }
@@ -66,7 +84,30 @@ impl Ram {
         self.bytes[address as usize] = byte;
     }
 
+    /// The half-word whose first byte is at a physical address.
+    #[inline(always)]
+    pub fn half(&self, address: u32) -> u16
+        requires { address + 2 ≤ length self.now }
+        ensures { result ≡ half_at self.now address }
+    {
+        let at = address as usize;
+        u16::from_be_bytes([self.bytes[at], self.bytes[at + 1]])
+    }
+
+    /// Writes a half-word, its first byte at a physical address.
+    #[inline(always)]
+    pub fn set_half(&mut self, address: u32, half: u16)
+        requires { address + 2 ≤ length self.old }
+        ensures { self.new ≡ with_half self.old address half }
+    {
+        let at = address as usize;
+        let bytes = half.to_be_bytes();
+        self.bytes[at] = bytes[0];
+        self.bytes[at + 1] = bytes[1];
+    }
+
     /// The word whose first byte is at a physical address.
+    #[inline(always)]
     pub fn word(&self, address: u32) -> u32
         requires { address + 4 ≤ length self.now }
         ensures { result ≡ word_at self.now address }
@@ -80,7 +121,8 @@ impl Ram {
         ])
     }
 
-    /// Puts a word at a physical address.
+    /// Writes a word, its first byte at a physical address.
+    #[inline(always)]
     pub fn set_word(&mut self, address: u32, word: u32)
         requires { address + 4 ≤ length self.old }
         ensures { self.new ≡ with_word self.old address word }
