@@ -1,0 +1,5 @@
+pub mod Console
+pub mod Outcome
+pub mod Registers
+pub mod Board
+pub mod Examples

@@ -1,0 +1,192 @@
+//! The board.
+
+ghost use Rattle.std.specs.Prelude.{◌≡◌, ◌-◌, ◌%◌, ◌^◌, ◌<◌, ◌≤◌, length};
+ghost use Rattle.m161_bus.specs.Board.{KeepsLines, KeepsSize, Reads, after_read, board_at_boot, board_read, board_written, irqs_through, irqs_with, with_word, word_of};
+ghost use Rattle.m161_bus.specs.Outcome.{Leaves};
+ghost use Rattle.m161_bus.specs.Registers.{IsThere};
+
+mod views;
+
+use crate::console::Console;
+use crate::lines::{PLACES, lines_of_all};
+use crate::place::Place;
+use crate::register::{Register, register_of};
+use std::marker::Model;
+use thiserror::Error;
+
+/// The address isn't that of an aligned word of the slots.
+#[derive(Clone, Copy, Debug, PartialEq, Eq, Error)]
+#[error("not an aligned word of the slots")]
+pub struct BusFault;
+
+/// How a processor that CPUE starts begins.
+#[derive(Clone, Copy, Debug, PartialEq, Eq)]
+pub struct StartWords {
+    /// Its first address.
+    pub pc: u32,
+    /// Register 4.
+    pub r4: u32,
+    /// Register 29: the end of its CRAM in kseg1.
+    pub r29: u32,
+}
+
+/// The bus with the controller and a console. It keeps the lines of each processor up to date, so
+/// that a Step reads them with one load.
+#[derive(Drop)]
+pub struct Board<D: Console> {
+    lines: [u32; PLACES],
+    ram: u32,
+    processors: u32,
+    irqe: u32,
+    started: u32,
+    off: bool,
+    places: [Place; PLACES],
+    console: D,
+}
+
+impl<D: Console> Model for Board<D> {
+    ghost use Rattle.std.specs.Prelude.{◌≡◌, ◌≤◌, length};
+    ghost use Rattle.m161_bus.specs.Board.{BoardState, KeepsLines, irqs_through};
+
+    ghost Value = { BoardState };
+
+    ghost view = { λ b. record {
+      ram = b.ram;
+      processors = b.processors;
+      irqe = b.irqe;
+      started = b.started;
+      off = b.off;
+      places = b.places;
+      console = D.content b.console;
+    } };
+
+    ghost invariant = { λ b.
+        KeepsLines b.lines (irqs_through b.irqe (D.content b.console)) b.places
+        × (length b.lines ≡ 32)
+        × (length b.places ≡ 32)
+        × (1 ≤ b.processors)
+        × (b.processors ≤ 32) };
+}
+
+// IRQS: the slots whose line is up. The console in slot 0 alone has a line.
+fn irqs_of<D: Console>(console: &D) -> u32
+    ensures { result ≡ irqs_with (D.content console.now) }
+{
+    u32::from(console.line())
+}
+
+// The lines of every processor.
+fn current_lines<D: Console>(places: &[Place; PLACES], irqe: u32, console: &D) -> [u32; PLACES]
+    requires { length places.now ≡ 32 }
+    ensures lines { KeepsLines result (irqs_through irqe (D.content console.now)) places.now }
+    ensures len { length result ≡ 32 }
+{
+    lines_of_all(places, irqs_of(console) & irqe)
+}
+
+// CPUS: a bit for each processor.
+fn cpus_of(processors: u32) -> u32
+    requires { (1 ≤ processors) × (processors ≤ 32) }
+    ensures { result ≡ 2 ^ processors - 1 }
+{
+    ((1u64 << processors) - 1) as u32
+}
+
+impl<D: Console> Board<D> {
+    /// A board as at boot. `ram` is in bytes. Does not allocate.
+    pub fn new(console: D, ram: u32, processors: u32) -> Board<D>
+        requires ram { (4096 ≤ ram) × (ram ≤ 16777216) × (ram % 4096 ≡ 0) }
+        requires processors { (1 ≤ processors) × (processors ≤ 32) }
+        ensures { result ≡ board_at_boot ram processors (D.content console) }
+    {
+        let irqe = u32::MAX;
+        let mut places = [Place::at_boot(0); PLACES];
+        places[0] = Place::at_boot(u32::MAX);
+        let lines = current_lines(&places, irqe, &console);
+        Board {
+            lines,
+            ram,
+            processors,
+            irqe,
+            started: 1,
+            off: false,
+            places,
+            console,
+        }
+    }
+
+    /// The word that processor `c` reads at a physical address; reading CHAR takes a byte. A bus
+    /// fault exactly where that isn't the address of an aligned word of the slots. Does not
+    /// allocate.
+    #[tactic(auto, unfolding(crate::specs::Board::board_read))]
+    pub fn read(&mut self, c: u32, at: u32) -> Result<u32, BusFault>
+        requires processor { c < self.old.processors }
+        ensures read { Reads (board_read c at self.old) self.old result self.new }
+        ensures size { KeepsSize self.old self.new }
+    {
+        let register = register_of(at, self.processors).ok_or(BusFault)?;
+        Ok(self.read_register(c, register))
+    }
+
+    /// Writes a word at a physical address. A bus fault exactly where that isn't the address of an
+    /// aligned word of the slots. Does not allocate.
+    #[tactic(auto, unfolding(crate::specs::Board::board_written))]
+    pub fn write(&mut self, c: u32, at: u32, word: u32) -> Result<(), BusFault>
+        requires processor { c < self.old.processors }
+        ensures write { Leaves (board_written c at word self.old) self.old result self.new }
+        ensures size { KeepsSize self.old self.new }
+    {
+        let register = register_of(at, self.processors).ok_or(BusFault)?;
+        self.write_register(register, word);
+        Ok(())
+    }
+
+    // The word that processor `c` reads from a register.
+    fn read_register(&mut self, c: u32, register: Register) -> u32
+        requires processor { c < self.old.processors }
+        requires there { IsThere self.old.processors register }
+        ensures word { result ≡ word_of c register self.old }
+        ensures after { self.new ≡ after_read register self.old }
+    {
+        match register {
+            Register::Constant(word) => word,
+            Register::Console(register) => {
+                let word = self.console.read(register);
+                self.lines = current_lines(&self.places, self.irqe, &self.console);
+                word
+            }
+            Register::RamSize => self.ram,
+            Register::Irqs => irqs_of(&self.console),
+            Register::Power => 0,
+            Register::Irqe => self.irqe,
+            Register::Cpus => cpus_of(self.processors),
+            Register::Cpue => self.started,
+            Register::SelfBit => 1 << c,
+            Register::Cirqe(p) => self.places[p as usize].cirqe(),
+            Register::Cipi(p) => u32::from(self.places[p as usize].cipi()),
+            Register::Cram(p, i) => self.places[p as usize].cram(i),
+        }
+    }
+
+    // Writes a word to a register.
+    fn write_register(&mut self, register: Register, word: u32)
+        requires { IsThere self.old.processors register }
+        ensures { self.new ≡ with_word register word self.old }
+    {
+        match register {
+            Register::Constant(_)
+            | Register::RamSize
+            | Register::Irqs
+            | Register::Cpus
+            | Register::SelfBit => {}
+            Register::Console(register) => self.console.write(register, word),
+            Register::Power => self.off = true,
+            Register::Irqe => self.irqe = word,
+            Register::Cpue => self.started |= word & cpus_of(self.processors),
+            Register::Cirqe(p) => self.places[p as usize].set_cirqe(word),
+            Register::Cipi(p) => self.places[p as usize].set_cipi(word != 0),
+            Register::Cram(p, i) => self.places[p as usize].set_cram(i, word),
+        }
+        self.lines = current_lines(&self.places, self.irqe, &self.console);
+    }
+}

@@ -1,0 +1,102 @@
+//! What a board shows, and the events of its console.
+
+ghost use Rattle.std.specs.Prelude.{◌≡◌, ◌<◌, ◌≤◌};
+ghost use Rattle.m161_bus.specs.Board.{KeepsSize, board_done, board_key, lines_of, start_words};
+ghost use Rattle.m161_bus.specs.Outcome.{Leaves, LeavesUnlessNoMemory};
+
+use crate::board::{Board, StartWords, current_lines};
+use crate::console::{Console, DoneError, KeyFull};
+
+/// Where the processors' places begin in kseg1.
+const PLACES_IN_KSEG1: u32 = 0xbfff_8000;
+
+/// Bytes of a processor's place.
+const PLACE_SIZE: u32 = 0x400;
+
+impl<D: Console> Board<D> {
+    /// The lines of processor `c`, as bits of Cause's IP: 00000400 the bus, 00000800 the
+    /// interprocessor interrupt. One load.
+    #[tactic(auto, unfolding(crate::specs::Board::lines_of))]
+    pub fn lines(&self, c: u32) -> u32
+        requires { c < self.now.processors }
+        ensures { result ≡ lines_of c self.now }
+    {
+        self.lines[c as usize]
+    }
+
+    /// CPUE: bit `c` is set where processor `c` was started.
+    pub fn started(&self) -> u32
+        ensures { result ≡ self.now.started }
+    {
+        self.started
+    }
+
+    /// Whether the machine was switched off.
+    pub fn is_off(&self) -> bool
+        ensures { result ≡ self.now.off }
+    {
+        self.off
+    }
+
+    /// Bytes of RAM.
+    pub fn ram(&self) -> u32
+        ensures { result ≡ self.now.ram }
+    {
+        self.ram
+    }
+
+    /// How many processors there are.
+    pub fn processors(&self) -> u32
+        ensures value { result ≡ self.now.processors }
+        ensures limits { (1 ≤ result) × (result ≤ 32) }
+    {
+        self.processors
+    }
+
+    /// How processor `c` begins where CPUE starts it now.
+    pub fn start_words(&self, c: u32) -> StartWords
+        requires { c < self.now.processors }
+        ensures { result ≡ start_words c self.now }
+    {
+        let place = &self.places[c as usize];
+        StartWords {
+            pc: place.cram(0),
+            r4: place.cram(1),
+            r29: PLACES_IN_KSEG1 + c * PLACE_SIZE + PLACE_SIZE,
+        }
+    }
+
+    /// The console.
+    pub fn console(&self) -> &D
+        ensures { D.content result.now ≡ self.now.console }
+    {
+        &self.console
+    }
+
+    /// All bytes that the console sent, the first one first.
+    pub fn output(&self) -> &[u8]
+        ensures { result.now ≡ self.now.console.output }
+    {
+        self.console.output()
+    }
+
+    /// Types a byte. Does not allocate.
+    pub fn key(&mut self, byte: u8) -> Result<(), KeyFull>
+        ensures key { Leaves (board_key byte self.old) self.old result self.new }
+        ensures size { KeepsSize self.old self.new }
+    {
+        self.console.key(byte)?;
+        self.lines = current_lines(&self.places, self.irqe, &self.console);
+        Ok(())
+    }
+
+    /// Sends the byte in the console's latch.
+    pub fn done(&mut self) -> Result<(), DoneError>
+        ensures done { LeavesUnlessNoMemory (board_done self.old) self.old result self.new }
+        ensures size { KeepsSize self.old self.new }
+    {
+        self.console.done()?;
+        self.lines = current_lines(&self.places, self.irqe, &self.console);
+        Ok(())
+    }
+}

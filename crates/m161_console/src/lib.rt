@@ -1,0 +1,15 @@
+//! A console that keeps its waiting bytes in a vector.
+//!
+//! ```text
+//! waiting  up to 256 bytes, in room made by `fresh`; the oldest is removed from the front
+//! latch    the byte that is being sent
+//! output   grows by a byte at each `done`; nothing else allocates after `fresh`
+//! ```
+//!
+//! A refused `done` keeps the byte in the latch, so that it can be sent later. What the registers
+//! and bits mean is in `m161_bus`.
+#![tactic(auto)]
+
+mod plain;
+
+pub use plain::PlainConsole;

@@ -1,0 +1,2 @@
+mod Ticks
+mod Worked

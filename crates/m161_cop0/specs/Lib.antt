@@ -1,0 +1,5 @@
+pub mod Registers
+pub mod Control
+pub mod Trap
+pub mod Clock
+pub use Rattle.m161_isa.specs.Table

@@ -1,0 +1,87 @@
+use Rattle.std.specs.Prelude.{◌≡◌, ℕ, ◌+◌, ◌-◌, ◌*◌, ◌/◌, ◌%◌, ◌^◌, Bool, ◌==◌, ◌&&◌, ◌||◌, if◌then◌else◌, ◌⊎◌}
+use Rattle.m161_isa.specs.Table.{bits_of}
+use Rattle.m161_cop0.specs.declared.exception.Exception.{Exception}
+use Rattle.m161_cop0.specs.declared.exception.Exception.TheVariants as exception
+use Rattle.m161_cop0.specs.declared.trap.Trap.{Trap}
+use Rattle.m161_cop0.specs.Registers.{number_of_exception}
+use Rattle.m161_cop0.specs.Control.{Control, has_bit}
+
+-- The entry of a trap and the return from it. Kane, MIPS RISC Architecture, "Exception processing".
+
+-- the address of a failed translation or of an error of addressing
+abbrev pub with_bad_address : ℕ → Control → Control
+with_bad_address address c = record c { bad_vaddr = address }
+
+-- with its page in EntryHi and in Context's BadVPN too
+abbrev pub with_bad_page : ℕ → Control → Control
+with_bad_page address c = record c {
+  bad_vaddr = address;
+  entry_hi = address / 2 ^ 12 * 2 ^ 12 + c.entry_hi % 2 ^ 12;
+  context = c.context / 2 ^ 21 * 2 ^ 21 + bits_of address 12 19 * 2 ^ 2;
+}
+
+-- what an exception leaves of its address
+abbrev pub with_address : Exception → ℕ → Control → Control
+with_address exception.Interrupt address c = c
+with_address exception.TlbModified address c = with_bad_page address c
+with_address exception.TlbLoad address c = with_bad_page address c
+with_address exception.TlbStore address c = with_bad_page address c
+with_address exception.AddressErrorLoad address c = with_bad_address address c
+with_address exception.AddressErrorStore address c = with_bad_address address c
+with_address exception.BusErrorFetch address c = c
+with_address exception.BusErrorData address c = c
+with_address exception.SystemCall address c = c
+with_address exception.Breakpoint address c = c
+with_address exception.ReservedInstruction address c = c
+with_address exception.CoprocessorUnusable address c = c
+with_address exception.Overflow address c = c
+
+-- two exceptions are one
+abbrev pub is : Exception → Exception → Bool
+is e f = number_of_exception e == number_of_exception f
+
+-- CE: the unit that wasn't usable, else zero
+abbrev pub unit_of : Trap → ℕ
+unit_of trap = if is trap.exception exception.CoprocessorUnusable then trap.unit % 2 ^ 2 else 0
+
+-- a miss in kuseg; a fetch that misses is TlbLoad too
+abbrev pub is_user_miss : Trap → Bool
+is_user_miss trap =
+    trap.user_miss && (is trap.exception exception.TlbLoad || is trap.exception exception.TlbStore)
+
+-- Status: the current pair to the previous one, the previous to the old; kernel mode, interrupts off
+abbrev pub pushed : ℕ → ℕ
+pushed status = status / 2 ^ 6 * 2 ^ 6 + status % 2 ^ 4 * 2 ^ 2
+
+-- Status: the previous pair to the current one, the old to the previous; the old stays
+abbrev pub popped : ℕ → ℕ
+popped status = status / 2 ^ 4 * 2 ^ 4 + bits_of status 2 4
+
+-- EPC: the instruction, or the branch before it where it is in a delay slot
+abbrev pub epc_of : Trap → ℕ
+epc_of trap = if trap.slot then (trap.pc + (2 ^ 32 - 4)) % 2 ^ 32 else trap.pc
+
+-- the registers after the entry of a trap
+unfoldable pub entered : Trap → Control → Control
+entered trap c = with_address trap.exception trap.address (record c {
+  status = pushed c.status;
+  epc = epc_of trap;
+  branch_delay = trap.slot;
+  unit = unit_of trap;
+  code = number_of_exception trap.exception;
+})
+
+-- the next address: by BEV, a user miss apart from all others
+unfoldable pub vector_of : Trap → Control → ℕ
+vector_of trap c =
+    if is_user_miss trap then (if has_bit c.status 22 then 0xbfc00100 else 0x80000000)
+    else (if has_bit c.status 22 then 0xbfc00180 else 0x80000080)
+
+-- the four next addresses
+abbrev pub IsVector : ℕ → Type 0
+IsVector address =
+    (address ≡ 0x80000000) ⊎ (address ≡ 0x80000080) ⊎ (address ≡ 0xbfc00100) ⊎ (address ≡ 0xbfc00180)
+
+-- `rfe`
+abbrev pub restored : Control → Control
+restored c = record c { status = popped c.status }

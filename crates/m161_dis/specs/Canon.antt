@@ -1,0 +1,78 @@
+use Rattle.std.specs.Prelude.{ℕ, zero, suc, ◌+◌, ◌-◌, ◌*◌, ◌/◌, ◌%◌, ◌^◌, false, ◌==◌, nat_lt, if◌then◌else◌, List, [], ◌∷◌, ◌++◌, Option, None, Some, codes, decimal}
+use Rattle.std.specs.Fmt.{digit_glyph}
+use Rattle.m161_isa.specs.declared.table.Row.{Row}
+use Rattle.m161_isa.specs.declared.operand.Operand.{Operand}
+use Rattle.m161_isa.specs.declared.operand.Operand.TheVariants as operand
+use Rattle.m161_isa.specs.Table.{table, row_that_fits, number_of, numbers_of, word_with}
+
+-- The one text of a word at an address, read off the instruction table.
+
+-- the last k hexadecimal digits of a number, in lower case
+abbrev pub hex : ℕ → ℕ → List ℕ
+hex zero n = []
+hex (suc k) n = digit_glyph false (n / 2 ^ (4 * k) % 16) ∷ hex k n
+
+abbrev pub hex_number : ℕ → ℕ → List ℕ
+hex_number k n = codes "0x" ++ hex k n
+
+-- a general register, or one of coprocessor 0
+abbrev pub register_text : ℕ → List ℕ
+register_text n = codes "$" ++ decimal n
+
+-- a field of 16 bits as a signed number
+abbrev pub signed_text : ℕ → List ℕ
+signed_text n = if nat_lt n 0x8000 then decimal n else codes "-" ++ decimal (0x10000 - n)
+
+-- where a branch at an address goes: the address after it, and its signed field in words
+abbrev pub branch_target : ℕ → ℕ → ℕ
+branch_target at n = (at + 4 + 4 * n + (if nat_lt n 0x8000 then 0 else 0xfffc0000)) % 2 ^ 32
+
+-- where a jump at an address goes: the upper four bits are those of the address after it
+abbrev pub jump_target : ℕ → ℕ → ℕ
+jump_target at n = (at + 4) % 2 ^ 32 / 2 ^ 28 * 2 ^ 28 + 4 * n
+
+-- the text of an operand, by its kind and its field; a base stands behind its offset
+abbrev pub operand_text : ℕ → Operand → ℕ → List ℕ
+operand_text at operand.Rd n = register_text n
+operand_text at operand.Rs n = register_text n
+operand_text at operand.Rt n = register_text n
+operand_text at operand.Cop0 n = register_text n
+operand_text at operand.Amount n = decimal n
+operand_text at operand.Signed n = signed_text n
+operand_text at operand.Offset n = signed_text n
+operand_text at operand.Unsigned n = hex_number 4 n
+operand_text at operand.Base n = codes "(" ++ register_text n ++ codes ")"
+operand_text at operand.Branch n = hex_number 8 (branch_target at n)
+operand_text at operand.Jump n = hex_number 8 (jump_target at n)
+
+-- the text before an operand: none before a base
+abbrev pub lead_of : Operand → List ℕ → List ℕ
+lead_of operand.Base lead = []
+lead_of _ lead = lead
+
+-- the texts of operands, with `lead` before the first and commas between
+abbrev pub operands_text : ℕ → ℕ → List ℕ → List Operand → List ℕ
+operands_text word at lead [] = []
+operands_text word at lead (o ∷ os) =
+    lead_of o lead ++ operand_text at o (number_of word o) ++ operands_text word at (codes ", ") os
+
+abbrev pub instruction_text : ℕ → ℕ → Row → List ℕ
+instruction_text word at r = (table r).name ++ operands_text word at (codes " ") (table r).operands
+
+abbrev pub data_text : ℕ → List ℕ
+data_text word = codes ".word " ++ hex_number 8 word
+
+-- the row of a canonical word: it fits the row, and has no bit beside the row's fields and operands
+abbrev pub canonical_by : ℕ → Option Row → Option Row
+canonical_by word None = None
+canonical_by word (Some r) = if word == word_with r (numbers_of word (Some r)) then Some r else None
+
+unfoldable pub canonical_row : ℕ → Option Row
+canonical_row word = canonical_by word (row_that_fits word)
+
+abbrev pub canon_by : ℕ → ℕ → Option Row → List ℕ
+canon_by word at None = data_text word
+canon_by word at (Some r) = instruction_text word at r
+
+abbrev pub canon : ℕ → ℕ → List ℕ
+canon word at = if word == 0 then codes "nop" else canon_by word at (canonical_row word)

@@ -1,0 +1,181 @@
+//! Words to assembly text.
+//!
+//! ```text
+//! nop                      the word 00000000
+//! addu $10, $8, $9         a canonical word: its row's name, and its operands as the table lists them
+//! lw $12, -4($29)          an offset with its sign, in decimal, before its base
+//! ori $8, $8, 0x5678       an unsigned immediate: four hexadecimal digits
+//! beq $8, $0, 0x80000200   a target: the address, eight digits
+//! .word 0x00000060         any other word
+//! ```
+//!
+//! Each word has one text at an address, which assembles there to the word again and to no other.
+//! Numbers are in lower case and registers in decimal. The form is this project's own, in the
+//! syntax of MIPS assemblers.
+#![tactic(auto)]
+
+ghost use Rattle.std.specs.Prelude.{◌≡◌, ◌≤◌, ◌<◌, ◌^◌, ◌++◌, IfOk, OnOk, false, string_bytes};
+ghost use Rattle.std.specs.Fmt.{digit_glyph};
+ghost use Rattle.m161_isa.specs.Table.{width_of};
+ghost use Rattle.m161_dis.specs.Canon.{canon, canon_by, canonical_row, operands_text, operand_text, lead_of, hex_number, signed_text, branch_target, jump_target};
+
+use m161_decode::{is_canonical, row_that_fits};
+use m161_isa::{Operand, Row};
+use std::alloc::{AllocError, Global};
+use std::fmt::Write;
+
+/// The text of the word that stands at an address.
+///
+/// # Errors
+/// Where there is no memory for it.
+pub fn line(alloc: Global, word: u32, at: u32) -> Result<String, AllocError>
+    ensures { IfOk result (λ text. string_bytes text ≡ canon word at) }
+{
+    let mut text = String::new(alloc);
+    if word == 0 {
+        text.push_str("nop")?;
+    } else {
+        write_word(&mut text, word, at)?;
+    }
+    Ok(text)
+}
+
+// A word other than `nop`: by its row, or as data.
+fn write_word(text: &mut String, word: u32, at: u32) -> Result<(), AllocError>
+    ensures { OnOk result (string_bytes text.new ≡ string_bytes text.old ++ canon_by word at (canonical_row word)) }
+{
+    match row_if_canonical(word) {
+        Some(row) => {
+            text.push_str(row.name())?;
+            write_operands(text, row.operands(), " ", word, at)
+        }
+        None => {
+            text.push_str(".word ")?;
+            write_hex_number(text, 8, word)
+        }
+    }
+}
+
+// The row of a canonical word.
+#[tactic(auto, using(crate::proofs::Rows::canonical_is, crate::proofs::Rows::other_is))]
+fn row_if_canonical(word: u32) -> Option<Row>
+    ensures { result ≡ canonical_row word }
+{
+    if is_canonical(word) {
+        row_that_fits(word)
+    } else {
+        None
+    }
+}
+
+// Operands, with `lead` before the first.
+fn write_operands(
+    text: &mut String,
+    operands: &[Operand],
+    lead: &str,
+    word: u32,
+    at: u32,
+) -> Result<(), AllocError>
+    ensures { OnOk result (string_bytes text.new ≡ string_bytes text.old ++ operands_text word at lead.now operands.now) }
+{
+    match operands {
+        [] => Ok(()),
+        [first, rest @ ..] => {
+            write_operand(text, *first, lead, first.number(word), at)?;
+            write_operands(text, rest, ", ", word, at)
+        }
+    }
+}
+
+// An operand, with `lead` before it unless it is a base.
+fn write_operand(
+    text: &mut String,
+    operand: Operand,
+    lead: &str,
+    number: u32,
+    at: u32,
+) -> Result<(), AllocError>
+    requires { number < 2 ^ width_of operand }
+    ensures { OnOk result (string_bytes text.new ≡ string_bytes text.old ++ lead_of operand lead.now ++ operand_text at operand number) }
+{
+    match operand {
+        Operand::Rd | Operand::Rs | Operand::Rt | Operand::Cop0 => write!(text, "{lead}${number}"),
+        Operand::Amount => write!(text, "{lead}{number}"),
+        Operand::Signed | Operand::Offset => {
+            text.push_str(lead)?;
+            write_signed(text, number)
+        }
+        Operand::Unsigned => {
+            text.push_str(lead)?;
+            write_hex_number(text, 4, number)
+        }
+        Operand::Base => write!(text, "(${number})"),
+        Operand::Branch => {
+            text.push_str(lead)?;
+            write_hex_number(text, 8, branch_goes_to(at, number))
+        }
+        Operand::Jump => {
+            text.push_str(lead)?;
+            write_hex_number(text, 8, jump_goes_to(at, number))
+        }
+    }
+}
+
+// A field of 16 bits as a signed number.
+fn write_signed(text: &mut String, number: u32) -> Result<(), AllocError>
+    requires { number < 2 ^ 16 }
+    ensures { OnOk result (string_bytes text.new ≡ string_bytes text.old ++ signed_text number) }
+{
+    if number < 0x8000 {
+        write!(text, "{number}")
+    } else {
+        let size = 0x1_0000 - number;
+        write!(text, "-{size}")
+    }
+}
+
+// `0x` and the last digits of a number.
+fn write_hex_number(text: &mut String, digits: u32, number: u32) -> Result<(), AllocError>
+    requires { digits ≤ 8 }
+    ensures { OnOk result (string_bytes text.new ≡ string_bytes text.old ++ hex_number digits number) }
+{
+    text.push_str("0x")?;
+    let mut left = digits;
+    while left > 0 {
+        left -= 1;
+        text.push(glyph((number >> (4 * left)) % 16))?;
+    }
+    Ok(())
+}
+
+// A hexadecimal digit.
+fn glyph(digit: u32) -> char
+    requires { digit < 16 }
+    ensures value { result ≡ digit_glyph false digit }
+    ensures ascii { result < 128 }
+{
+    if digit < 10 {
+        (b'0' + digit as u8) as char
+    } else {
+        (b'a' + (digit as u8 - 10)) as char
+    }
+}
+
+// Where a branch goes.
+fn branch_goes_to(at: u32, number: u32) -> u32
+    requires { number < 2 ^ 16 }
+    ensures { result ≡ branch_target at number }
+{
+    let beyond = if number < 0x8000 { 0 } else { 0xfffc_0000 };
+    at.wrapping_add(4)
+        .wrapping_add(4 * number)
+        .wrapping_add(beyond)
+}
+
+// Where a jump goes.
+fn jump_goes_to(at: u32, number: u32) -> u32
+    requires { number < 2 ^ 26 }
+    ensures { result ≡ jump_target at number }
+{
+    at.wrapping_add(4) / 0x1000_0000 * 0x1000_0000 + 4 * number
+}

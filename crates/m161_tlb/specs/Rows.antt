@@ -1,0 +1,22 @@
+use Rattle.std.specs.Prelude.{ℕ, ◌+◌, false, List, map, Option}
+use Rattle.std.specs.List.{position, range_with_len}
+use Rattle.m161_tlb.specs.declared.row.Row.{Row}
+use Rattle.m161_tlb.specs.Row.{matches}
+
+-- The TLB as a list of 64 rows.
+
+-- the lowest row that translates a page of an address space
+unfoldable pub find_row : List Row → ℕ → ℕ → Option ℕ
+find_row rows page id = position (matches page id) rows
+
+-- row i at a processor's start: page 0x80000 + i, all else zero
+abbrev pub start_row : ℕ → Row
+start_row i = record { page = 0x80000 + i; id = 0; frame = 0; n = false; d = false; v = false; g = false }
+
+-- the rows at a processor's start
+abbrev pub start_rows : List Row
+start_rows = map start_row (range_with_len 0 64)
+
+-- a row of zeros, as which a list is read past its end
+abbrev pub blank_row : Row
+blank_row = record { page = 0; id = 0; frame = 0; n = false; d = false; v = false; g = false }

@@ -1,0 +1,56 @@
+//! Translation rows: the TLB as a list of 64 rows.
+//!
+//! ```text
+//! row       page, identifier and frame numbers, and the flags N, D, V and G
+//! EntryHi   page 31..12, identifier 11..6, zero 5..0
+//! EntryLo   frame 31..12, N 11, D 10, V 9, G 8, zero 7..0
+//! match     a row matches a page and an identifier where its page is that page, and it has G
+//!           or that identifier
+//! find      the lowest row that matches
+//! start     row i holds page 0x80000 + i, all else zero
+//! ```
+//!
+//! The content of a `Tlb` is its list of rows (`rows`); what each method does to it stands on the
+//! trait, so that every implementation answers alike. Source: Kane, MIPS RISC Architecture, for
+//! the R3000; the start and the lowest row as the one that counts are this project's own.
+#![tactic(auto)]
+
+ghost use Rattle.std.specs.Prelude.{◌≡◌, ◌<◌, List, Some, slice_get, slice_set, IfSome};
+ghost use Rattle.m161_tlb.specs.Rows.{find_row, start_rows};
+
+mod frame;
+mod identifier;
+mod page;
+mod row;
+
+pub use frame::Frame;
+pub use identifier::Identifier;
+pub use page::Page;
+pub use row::{Row, words_and_rows};
+
+/// A table of 64 rows. None of its calls takes memory.
+pub trait Tlb: Drop {
+    ghost use Rattle.std.specs.Prelude.{List};
+    ghost use Rattle.m161_tlb.specs.declared.row.Row.{Row};
+
+    ghost rows: { Self → List Row };
+
+    /// The table at a processor's start.
+    fn empty() -> Self
+        ensures { rows result ≡ start_rows };
+
+    /// Row `i`.
+    fn read(&self, i: u8) -> Row
+        requires { i < 64 }
+        ensures { slice_get (rows self.now) i ≡ Some result };
+
+    /// Replaces row `i`.
+    fn write(&mut self, i: u8, row: Row)
+        requires { i < 64 }
+        ensures { rows self.new ≡ slice_set (rows self.old) i row };
+
+    /// The number of the lowest row that matches a page and an identifier.
+    fn find(&self, page: u32, id: u8) -> Option<u8>
+        ensures lowest { result ≡ find_row (rows self.now) page id }
+        ensures within { IfSome result (λ i. i < 64) };
+}

@@ -1,0 +1,6 @@
+use Rattle.std.proofs.Common.{◌≡◌, ◌*◌, ◌+◌, false}
+use Rattle.m161_tlb_scan.specs.Blocks.{LacksPage}
+use Rattle.m161_tlb_scan.proofs.Scan.has_page.Given as goal
+
+abbrev pub invariant-loop-i : goal.invariant-loop-i
+invariant-loop-i l = l.found ≡ false → LacksPage l.self l.page (l.block * 8) (l.block * 8 + l.i)
