@@ -1,3 +1,5 @@
-mod Stepping
-pub mod Missing
-mod Sizes
+mod Decoded
+mod Mapped
+mod Slots
+mod Linked
+pub mod Laws

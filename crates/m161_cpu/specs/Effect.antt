@@ -1,35 +1,38 @@
-use Rattle.std.specs.Prelude.{ℕ, ◌+◌, ◌-◌, ◌*◌, ◌/◌, ◌%◌, ◌^◌, ◌+ℤ◌, ◌-ℤ◌, Bool, true, false, not, ◌==◌, bit_and, bit_or, bit_xor, if◌then◌else◌, List, [], ◌∷◌, length, slice_index, slice_set, Option, None, Some}
-use Rattle.std.specs.Option.{option_map}
-use Rattle.std.specs.Int.{cast_signed, cast_unsigned, w8, w16, w32}
-use Rattle.m161_isa.specs.declared.row.Row.{Row}
-use Rattle.m161_isa.specs.declared.table.Operand.{Operand}
-use Rattle.m161_isa.specs.declared.table.Operand.TheVariants as operand
-use Rattle.m161_isa.specs.declared.table.Effect.{Effect}
-use Rattle.m161_isa.specs.declared.table.Effect.TheVariants as effect
+use Rattle.std.specs.Prelude.{ℕ, ◌+◌, ◌-◌, ◌*◌, ◌/◌, ◌%◌, ◌^◌, ◌+ℤ◌, ◌-ℤ◌, Bool, true, false, not, nat_le, ◌==◌, bit_and, bit_or, bit_xor, if◌then◌else◌, List, [], ◌∷◌, length, slice_get, slice_index, slice_index_or, Option, None, Some, Result, Ok, Err}
+use Rattle.m161_isa.specs.declared.table.Row.{Row}
+use Rattle.m161_isa.specs.declared.operand.Operand.{Operand}
+use Rattle.m161_isa.specs.declared.operand.Operand.TheVariants as operand
+use Rattle.m161_isa.specs.declared.effect.Effect.{Effect}
+use Rattle.m161_isa.specs.declared.effect.Effect.TheVariants as effect
 use Rattle.m161_isa.specs.declared.instr.ShiftOp.TheVariants as shift
 use Rattle.m161_isa.specs.declared.instr.ZeroTest.TheVariants as zero
-use Rattle.m161_isa.specs.Table.{content}
+use Rattle.m161_isa.specs.Table.{table}
 use Rattle.m161_alu.specs.declared.arithmetic.Signedness.TheVariants.{Signed, Unsigned}
 use Rattle.m161_alu.specs.declared.arithmetic.HiLoPair.{HiLoPair}
-use Rattle.m161_alu.specs.Word.{signed, word_of_signed}
+use Rattle.m161_alu.specs.Word.{signed, word_of_signed, sign_extended_byte, sign_extended_half}
 use Rattle.m161_alu.specs.Results.{shifted, product, quotient, is_less, is_taken}
 use Rattle.m161_alu.specs.Merge.{merged_left, merged_right}
-use Rattle.m161_ram.specs.Word.{word_at, with_word}
+use Rattle.m161_ram.specs.Word.{word_at, half_at}
+use Rattle.m161_tlb.specs.declared.row.Row.{Row as TlbRow}
+use Rattle.m161_tlb.specs.Row.{hi_word, lo_word, row_of_words}
+use Rattle.m161_tlb.specs.Rows.{find_row}
+use Rattle.m161_cop0.specs.Control.{Control, read_of, written, with_tlb_row, with_probe, identifier_of, index_row_of}
+use Rattle.m161_cop0.specs.Trap.{restored}
+use Rattle.m161_bus.specs.Board.{BoardState, board_written, lines_of}
+use Rattle.m161_cpu.specs.declared.fault.Access.TheVariants.{Load, Store}
+use Rattle.m161_cpu.specs.declared.fault.FaultKind.TheVariants as kind
 use Rattle.m161_cpu.specs.declared.processor.Flow.{Flow}
-use Rattle.m161_cpu.specs.declared.processor.Flow.TheVariants.{Next, Slot, Jump}
-use Rattle.m161_cpu.specs.Processor.{Processor, with_register}
-use Rattle.m161_cpu.specs.Address.{direct}
+use Rattle.m161_cpu.specs.declared.processor.Flow.TheVariants.{Next, NotTaken, Taken}
+use Rattle.m161_cpu.specs.declared.processor.ProcessorState.TheVariants.{Waiting}
+use Rattle.m161_cpu.specs.Processor.{Processor}
+use Rattle.m161_cpu.specs.Links.{LinkTo, End, is_to}
+use Rattle.m161_cpu.specs.Scene.{Scene, Change, byte_to, half_to, word_to, nothing, result_map, and_then}
+use Rattle.m161_cpu.specs.Fault.{Fault, fault}
+use Rattle.m161_cpu.specs.Translation.{physical_at, reach, reach_word_of, read_word, or_bus_error}
 
 -- What the rows of the instruction table do. Kane, MIPS RISC Architecture, instruction descriptions.
 
--- a byte and a half-word as signed words
-abbrev pub sign_extended_byte : ℕ → ℕ
-sign_extended_byte byte = cast_unsigned w32 (cast_signed w8 byte)
-
-abbrev pub sign_extended : ℕ → ℕ
-sign_extended half = cast_unsigned w32 (cast_signed w16 half)
-
--- the word that an operand stands for, by its kind and the number in its field
+-- the word that an operand is, by its kind and the number in its field
 abbrev pub value_of : Processor → Operand → ℕ → ℕ
 value_of p operand.Rd n = slice_index p.registers n
 value_of p operand.Rs n = slice_index p.registers n
@@ -37,188 +40,238 @@ value_of p operand.Rt n = slice_index p.registers n
 value_of p operand.Base n = slice_index p.registers n
 value_of p operand.Amount n = n
 value_of p operand.Unsigned n = n
-value_of p operand.Signed n = sign_extended n
-value_of p operand.Offset n = sign_extended n
-value_of p operand.Branch n = (p.pc + 4 + 4 * sign_extended n) % 2 ^ 32
+value_of p operand.Signed n = sign_extended_half n
+value_of p operand.Offset n = sign_extended_half n
+value_of p operand.Branch n = (p.pc + 4 + 4 * sign_extended_half n) % 2 ^ 32
 value_of p operand.Jump n = (p.pc + 4) % 2 ^ 32 / 2 ^ 28 * 2 ^ 28 + n * 4
 value_of p operand.Cop0 n = n
 
--- an operand of an instruction: the number in its field, and the word that it stands for
+-- an operand of an instruction: the number in its field, and the word that it is
 pub record Argument : Type 0 where
   pub number : ℕ
   pub value : ℕ
+
+abbrev pub blank : Argument
+blank = record { number = 0; value = 0 }
 
 abbrev pub arguments : Processor → List Operand → List ℕ → List Argument
 arguments p (o ∷ os) (n ∷ ns) = record { number = n; value = value_of p o n } ∷ arguments p os ns
 arguments p _ _ = []
 
--- what an instruction changes
-pub data Change : Type 0 where
-  nothing : Change
-  -- a register's new word
-  write : ℕ → ℕ → Change
-  -- the new words of HI and LO
-  write_hi_lo : ℕ → ℕ → Change
-  -- what is stored at a physical address
-  store_byte : ℕ → ℕ → Change
-  store_half : ℕ → ℕ → Change
-  store_word : ℕ → ℕ → Change
-  -- a branch to a target, taken or not
-  branch : Bool → ℕ → Change
-  -- the same, with the return address in a register
-  branch_and_link : ℕ → Bool → ℕ → Change
+-- a row has three operands at most; where it has fewer, the others are blank, and its effect doesn't look at them
+abbrev pub with_three : {R : Type 0} → (Argument → Argument → Argument → R) → List Argument → R
+with_three f [] = f blank blank blank
+with_three f (a ∷ []) = f a blank blank
+with_three f (a ∷ b ∷ []) = f a b blank
+with_three f (a ∷ b ∷ c ∷ _) = f a b c
 
--- where the halves of a pair go
+-- changes
+abbrev pub write : ℕ → ℕ → Change
+write r word = record nothing { register = Some (r, word) }
+
+abbrev pub write_hi_lo : ℕ → ℕ → Change
+write_hi_lo hi lo = record nothing { hi_lo = Some (record { hi = hi; lo = lo }) }
+
 abbrev pub write_pair : HiLoPair → Change
 write_pair pair = write_hi_lo pair.hi pair.lo
 
--- one where a test holds
+abbrev pub store_byte : ℕ → ℕ → Change
+store_byte byte at = record nothing { store = Some (byte_to at byte) }
+
+abbrev pub store_half : ℕ → ℕ → Change
+store_half half at = record nothing { store = Some (half_to at half) }
+
+abbrev pub store_word : ℕ → ℕ → Change
+store_word word at = record nothing { store = Some (word_to at word) }
+
+abbrev pub write_control : Control → Change
+write_control control = record nothing { control = Some control }
+
+abbrev pub write_row : ℕ → TlbRow → Change
+write_row i row = record nothing { row = Some (i, row) }
+
+-- the way after a branch: its delay slot comes next in either case
+abbrev pub branch_flow : Bool → ℕ → Flow
+branch_flow taken target = if taken then Taken target else NotTaken
+
+-- a branch to a target, taken or not; with the return address in a register
+abbrev pub branch : Bool → ℕ → Change
+branch taken target = record nothing { flow = branch_flow taken target }
+
+abbrev pub return_address : Processor → ℕ
+return_address p = (p.pc + 8) % 2 ^ 32
+
+abbrev pub branch_and_link : Processor → ℕ → Bool → ℕ → Change
+branch_and_link p r taken target = record (branch taken target) { register = Some (r, return_address p) }
+
+-- a branch; in a delay slot it is a reserved instruction
+abbrev pub outside_slot : Processor → Change → Result Change Fault
+outside_slot p change = if p.slot then Err (fault kind.ReservedInstruction) else Ok change
+
+-- a sum that is a signed word, or the trap
+abbrev pub unless_overflow : Option ℕ → Result ℕ Fault
+unless_overflow (Some sum) = Ok sum
+unless_overflow None = Err (fault kind.Overflow)
+
 abbrev pub one_if : Bool → ℕ
 one_if test = if test then 1 else 0
-
--- a branch; in a delay slot it traps, and that isn't there yet
-abbrev pub outside_slot : Processor → Change → Option Change
-outside_slot p change = if p.slot then None else Some change
 
 -- the address that a load or a store names
 abbrev pub address_of : Argument → Argument → ℕ
 address_of offset base = (base.value + offset.value) % 2 ^ 32
 
--- the physical address of an access of so many bytes
-abbrev pub access : List ℕ → ℕ → Argument → Argument → Option ℕ
-access memory width offset base = direct (length memory) width (address_of offset base)
-
--- the physical address of the word that holds an address
-abbrev pub access_word : List ℕ → Argument → Argument → Option ℕ
-access_word memory offset base = direct (length memory) 4 (address_of offset base / 4 * 4)
-
--- the address's place in that word
 abbrev pub place_in_word : Argument → Argument → ℕ
 place_in_word offset base = address_of offset base % 4
 
-abbrev pub half_at : List ℕ → ℕ → ℕ
-half_at memory at = slice_index memory at * 2 ^ 8 + slice_index memory (at + 1)
+-- a load and a store: what is made of the place in RAM that the address names
+abbrev pub load : Scene → ℕ → Argument → Argument → (ℕ → Change) → Result Change Fault
+load s width o b change = result_map change (reach Load width (address_of o b) (length s.around.memory) s.processor)
 
--- each effect, from its operands, HI, LO and memory; nothing where it needs a part that isn't there yet
-abbrev pub effect_of : Processor → List ℕ → Effect → List Argument → Option Change
+abbrev pub store : Scene → ℕ → Argument → Argument → (ℕ → Change) → Result Change Fault
+store s width o b change = result_map change (reach Store width (address_of o b) (length s.around.memory) s.processor)
+
+-- the same of the word that holds the address
+abbrev pub load_within : Scene → Argument → Argument → (ℕ → Change) → Result Change Fault
+load_within s o b change = result_map change (reach_word_of Load (address_of o b) (length s.around.memory) s.processor)
+
+abbrev pub store_within : Scene → Argument → Argument → (ℕ → Change) → Result Change Fault
+store_within s o b change = result_map change (reach_word_of Store (address_of o b) (length s.around.memory) s.processor)
+
+-- `lw` and `sw` reach the slots too
+abbrev pub write_read : ℕ → ℕ × BoardState → Change
+write_read r read = record (write r read.0) { board = Some read.1 }
+
+abbrev pub write_board : BoardState → Change
+write_board board = record nothing { board = Some board }
+
+abbrev pub store_word_to : Scene → ℕ → ℕ → Result Change Fault
+store_word_to s word at =
+    if nat_le (at + 4) (length s.around.memory) then Ok (store_word word at)
+    else result_map write_board (or_bus_error Store (board_written s.around.number at word s.around.board))
+
+abbrev pub word_stored : ℕ → ℕ → Scene → Result Change Fault
+word_stored address word s = and_then (physical_at Store 4 address s.processor) (store_word_to s word)
+
+-- `ll` links the processor to the word
+abbrev pub load_linked : Scene → ℕ → ℕ → Change
+load_linked s r at = record (write r (word_at s.around.memory at)) { link = LinkTo at }
+
+-- the processor's link, where it is live
+abbrev pub own_link : Scene → Option ℕ
+own_link s = slice_index_or s.around.links s.around.number None
+
+-- `sc` stores and gives 1 where the link names the word, else it gives 0; the link ends
+abbrev pub store_conditional : Scene → ℕ → ℕ → ℕ → Change
+store_conditional s r word at =
+    if is_to at (own_link s) then record (store_word word at) { register = Some (r, 1); link = End }
+    else record (write r 0) { link = End }
+
+-- the row that EntryHi and EntryLo hold
+abbrev pub entry_row : Control → TlbRow
+entry_row c = row_of_words c.entry_hi c.entry_lo
+
+-- `tlbr`: the two words of a row; a row's number is below 64, so it is there
+abbrev pub row_read : Control → Option TlbRow → Control
+row_read c None = c
+row_read c (Some row) = with_tlb_row (hi_word row) (lo_word row) c
+
+abbrev pub row_indexed : Processor → Control
+row_indexed p = row_read p.control (slice_get p.rows (index_row_of p.control))
+
+-- `tlbp`: the lowest row that matches EntryHi, whether it is valid or not
+abbrev pub probed : Processor → Control
+probed p = with_probe (find_row p.rows (p.control.entry_hi / 2 ^ 12) (identifier_of p.control)) p.control
+
+-- each effect, from its operands and what the Step sees
+abbrev pub effect_of : Scene → Effect → Argument → Argument → Argument → Result Change Fault
 -- shifts
-effect_of p m effect.ShiftLeft (d ∷ a ∷ n ∷ []) = Some (write d.number (shifted shift.Left a.value (n.value % 32)))
-effect_of p m effect.ShiftRight (d ∷ a ∷ n ∷ []) = Some (write d.number (shifted shift.Right a.value (n.value % 32)))
-effect_of p m effect.ShiftRightArithmetic (d ∷ a ∷ n ∷ []) = Some (write d.number (shifted shift.RightArithmetic a.value (n.value % 32)))
--- sums; one that isn't a signed word traps, and that isn't there yet
-effect_of p m effect.Sum (d ∷ a ∷ b ∷ []) = option_map (write d.number) (word_of_signed (signed a.value +ℤ signed b.value))
-effect_of p m effect.Difference (d ∷ a ∷ b ∷ []) = option_map (write d.number) (word_of_signed (signed a.value -ℤ signed b.value))
-effect_of p m effect.SumModulo (d ∷ a ∷ b ∷ []) = Some (write d.number ((a.value + b.value) % 2 ^ 32))
-effect_of p m effect.DifferenceModulo (d ∷ a ∷ b ∷ []) = Some (write d.number ((a.value + (2 ^ 32 - b.value)) % 2 ^ 32))
+effect_of s effect.ShiftLeft d a n = Ok (write d.number (shifted shift.Left a.value (n.value % 32)))
+effect_of s effect.ShiftRight d a n = Ok (write d.number (shifted shift.Right a.value (n.value % 32)))
+effect_of s effect.ShiftRightArithmetic d a n =
+    Ok (write d.number (shifted shift.RightArithmetic a.value (n.value % 32)))
+-- sums
+effect_of s effect.Sum d a b =
+    result_map (write d.number) (unless_overflow (word_of_signed (signed a.value +ℤ signed b.value)))
+effect_of s effect.Difference d a b =
+    result_map (write d.number) (unless_overflow (word_of_signed (signed a.value -ℤ signed b.value)))
+effect_of s effect.SumModulo d a b = Ok (write d.number ((a.value + b.value) % 2 ^ 32))
+effect_of s effect.DifferenceModulo d a b = Ok (write d.number ((a.value + (2 ^ 32 - b.value)) % 2 ^ 32))
 -- bit by bit, comparisons
-effect_of p m effect.And (d ∷ a ∷ b ∷ []) = Some (write d.number (bit_and a.value b.value))
-effect_of p m effect.Or (d ∷ a ∷ b ∷ []) = Some (write d.number (bit_or a.value b.value))
-effect_of p m effect.Xor (d ∷ a ∷ b ∷ []) = Some (write d.number (bit_xor a.value b.value))
-effect_of p m effect.Nor (d ∷ a ∷ b ∷ []) = Some (write d.number (2 ^ 32 - 1 - bit_or a.value b.value))
-effect_of p m effect.SetOnLess (d ∷ a ∷ b ∷ []) = Some (write d.number (one_if (is_less Signed a.value b.value)))
-effect_of p m effect.SetOnLessUnsigned (d ∷ a ∷ b ∷ []) = Some (write d.number (one_if (is_less Unsigned a.value b.value)))
-effect_of p m effect.LoadUpper (d ∷ i ∷ []) = Some (write d.number (i.value * 2 ^ 16))
+effect_of s effect.And d a b = Ok (write d.number (bit_and a.value b.value))
+effect_of s effect.Or d a b = Ok (write d.number (bit_or a.value b.value))
+effect_of s effect.Xor d a b = Ok (write d.number (bit_xor a.value b.value))
+effect_of s effect.Nor d a b = Ok (write d.number (2 ^ 32 - 1 - bit_or a.value b.value))
+effect_of s effect.SetOnLess d a b = Ok (write d.number (one_if (is_less Signed a.value b.value)))
+effect_of s effect.SetOnLessUnsigned d a b = Ok (write d.number (one_if (is_less Unsigned a.value b.value)))
+effect_of s effect.LoadUpper d i _ = Ok (write d.number (i.value * 2 ^ 16))
 -- products, quotients, HI and LO
-effect_of p m effect.Multiply (a ∷ b ∷ []) = Some (write_pair (product Signed a.value b.value))
-effect_of p m effect.MultiplyUnsigned (a ∷ b ∷ []) = Some (write_pair (product Unsigned a.value b.value))
-effect_of p m effect.Divide (a ∷ b ∷ []) = Some (write_pair (quotient Signed a.value b.value))
-effect_of p m effect.DivideUnsigned (a ∷ b ∷ []) = Some (write_pair (quotient Unsigned a.value b.value))
-effect_of p m effect.MoveFromHi (d ∷ []) = Some (write d.number p.hi)
-effect_of p m effect.MoveFromLo (d ∷ []) = Some (write d.number p.lo)
-effect_of p m effect.MoveToHi (s ∷ []) = Some (write_hi_lo s.value p.lo)
-effect_of p m effect.MoveToLo (s ∷ []) = Some (write_hi_lo p.hi s.value)
+effect_of s effect.Multiply a b _ = Ok (write_pair (product Signed a.value b.value))
+effect_of s effect.MultiplyUnsigned a b _ = Ok (write_pair (product Unsigned a.value b.value))
+effect_of s effect.Divide a b _ = Ok (write_pair (quotient Signed a.value b.value))
+effect_of s effect.DivideUnsigned a b _ = Ok (write_pair (quotient Unsigned a.value b.value))
+effect_of s effect.MoveFromHi d _ _ = Ok (write d.number s.processor.hi)
+effect_of s effect.MoveFromLo d _ _ = Ok (write d.number s.processor.lo)
+effect_of s effect.MoveToHi v _ _ = Ok (write_hi_lo v.value s.processor.lo)
+effect_of s effect.MoveToLo v _ _ = Ok (write_hi_lo s.processor.hi v.value)
 -- jumps
-effect_of p m effect.Jump (t ∷ []) = outside_slot p (branch true t.value)
-effect_of p m effect.JumpAndLink (t ∷ []) = outside_slot p (branch_and_link 31 true t.value)
-effect_of p m effect.JumpAndLinkRegister (d ∷ s ∷ []) = outside_slot p (branch_and_link d.number true s.value)
+effect_of s effect.Jump t _ _ = outside_slot s.processor (branch true t.value)
+effect_of s effect.JumpAndLink t _ _ = outside_slot s.processor (branch_and_link s.processor 31 true t.value)
+effect_of s effect.JumpAndLinkRegister d v _ =
+    outside_slot s.processor (branch_and_link s.processor d.number true v.value)
 -- branches
-effect_of p m effect.BranchOnEqual (a ∷ b ∷ t ∷ []) = outside_slot p (branch (a.value == b.value) t.value)
-effect_of p m effect.BranchOnNotEqual (a ∷ b ∷ t ∷ []) = outside_slot p (branch (not (a.value == b.value)) t.value)
-effect_of p m effect.BranchOnLess (s ∷ t ∷ []) = outside_slot p (branch (is_taken zero.Less s.value) t.value)
-effect_of p m effect.BranchOnNotLess (s ∷ t ∷ []) = outside_slot p (branch (is_taken zero.NotLess s.value) t.value)
-effect_of p m effect.BranchOnNotGreater (s ∷ t ∷ []) = outside_slot p (branch (is_taken zero.NotGreater s.value) t.value)
-effect_of p m effect.BranchOnGreater (s ∷ t ∷ []) = outside_slot p (branch (is_taken zero.Greater s.value) t.value)
-effect_of p m effect.BranchOnLessAndLink (s ∷ t ∷ []) = outside_slot p (branch_and_link 31 (is_taken zero.Less s.value) t.value)
-effect_of p m effect.BranchOnNotLessAndLink (s ∷ t ∷ []) = outside_slot p (branch_and_link 31 (is_taken zero.NotLess s.value) t.value)
+effect_of s effect.BranchOnEqual a b t = outside_slot s.processor (branch (a.value == b.value) t.value)
+effect_of s effect.BranchOnNotEqual a b t = outside_slot s.processor (branch (not (a.value == b.value)) t.value)
+effect_of s effect.BranchOnLess v t _ = outside_slot s.processor (branch (is_taken zero.Less v.value) t.value)
+effect_of s effect.BranchOnGreaterOrEqual v t _ =
+    outside_slot s.processor (branch (is_taken zero.GreaterOrEqual v.value) t.value)
+effect_of s effect.BranchOnLessOrEqual v t _ =
+    outside_slot s.processor (branch (is_taken zero.LessOrEqual v.value) t.value)
+effect_of s effect.BranchOnGreater v t _ = outside_slot s.processor (branch (is_taken zero.Greater v.value) t.value)
+effect_of s effect.BranchOnLessAndLink v t _ =
+    outside_slot s.processor (branch_and_link s.processor 31 (is_taken zero.Less v.value) t.value)
+effect_of s effect.BranchOnGreaterOrEqualAndLink v t _ =
+    outside_slot s.processor (branch_and_link s.processor 31 (is_taken zero.GreaterOrEqual v.value) t.value)
 -- loads
-effect_of p m effect.LoadByte (d ∷ o ∷ b ∷ []) = option_map (λ at. write d.number (sign_extended_byte (slice_index m at))) (access m 1 o b)
-effect_of p m effect.LoadByteUnsigned (d ∷ o ∷ b ∷ []) = option_map (λ at. write d.number (slice_index m at)) (access m 1 o b)
-effect_of p m effect.LoadHalf (d ∷ o ∷ b ∷ []) = option_map (λ at. write d.number (sign_extended (half_at m at))) (access m 2 o b)
-effect_of p m effect.LoadHalfUnsigned (d ∷ o ∷ b ∷ []) = option_map (λ at. write d.number (half_at m at)) (access m 2 o b)
-effect_of p m effect.LoadWord (d ∷ o ∷ b ∷ []) = option_map (λ at. write d.number (word_at m at)) (access m 4 o b)
-effect_of p m effect.LoadWordLeft (d ∷ o ∷ b ∷ []) =
-    option_map (λ at. write d.number (merged_left (word_at m at) d.value (place_in_word o b))) (access_word m o b)
-effect_of p m effect.LoadWordRight (d ∷ o ∷ b ∷ []) =
-    option_map (λ at. write d.number (merged_right (word_at m at) d.value (place_in_word o b))) (access_word m o b)
+effect_of s effect.LoadByte d o b =
+    load s 1 o b (λ at. write d.number (sign_extended_byte (slice_index s.around.memory at)))
+effect_of s effect.LoadByteUnsigned d o b = load s 1 o b (λ at. write d.number (slice_index s.around.memory at))
+effect_of s effect.LoadHalf d o b =
+    load s 2 o b (λ at. write d.number (sign_extended_half (half_at s.around.memory at)))
+effect_of s effect.LoadHalfUnsigned d o b = load s 2 o b (λ at. write d.number (half_at s.around.memory at))
+effect_of s effect.LoadWord d o b =
+    result_map (write_read d.number)
+    (read_word (address_of o b) s.processor s.around.number s.around.memory s.around.board)
+effect_of s effect.LoadWordLeft d o b =
+    load_within s o b (λ at. write d.number (merged_left (word_at s.around.memory at) d.value (place_in_word o b)))
+effect_of s effect.LoadWordRight d o b =
+    load_within s o b (λ at. write d.number (merged_right (word_at s.around.memory at) d.value (place_in_word o b)))
 -- stores; a merge of a register into memory is one of memory into a register from the other end
-effect_of p m effect.StoreByte (t ∷ o ∷ b ∷ []) = option_map (λ at. store_byte at (t.value % 2 ^ 8)) (access m 1 o b)
-effect_of p m effect.StoreHalf (t ∷ o ∷ b ∷ []) = option_map (λ at. store_half at (t.value % 2 ^ 16)) (access m 2 o b)
-effect_of p m effect.StoreWord (t ∷ o ∷ b ∷ []) = option_map (λ at. store_word at t.value) (access m 4 o b)
-effect_of p m effect.StoreWordLeft (t ∷ o ∷ b ∷ []) =
-    option_map (λ at. store_word at (merged_right t.value (word_at m at) (3 - place_in_word o b))) (access_word m o b)
-effect_of p m effect.StoreWordRight (t ∷ o ∷ b ∷ []) =
-    option_map (λ at. store_word at (merged_left t.value (word_at m at) (3 - place_in_word o b))) (access_word m o b)
+effect_of s effect.StoreByte t o b = store s 1 o b (store_byte (t.value % 2 ^ 8))
+effect_of s effect.StoreHalf t o b = store s 2 o b (store_half (t.value % 2 ^ 16))
+effect_of s effect.StoreWord t o b = word_stored (address_of o b) t.value s
+effect_of s effect.StoreWordLeft t o b =
+    store_within s o b (λ at. store_word (merged_right t.value (word_at s.around.memory at) (3 - place_in_word o b)) at)
+effect_of s effect.StoreWordRight t o b =
+    store_within s o b (λ at. store_word (merged_left t.value (word_at s.around.memory at) (3 - place_in_word o b)) at)
+-- links
+effect_of s effect.LoadLinked d o b = load s 4 o b (load_linked s d.number)
+effect_of s effect.StoreConditional t o b = store s 4 o b (store_conditional s t.number t.value)
 -- memory is in step already
-effect_of p m effect.Synchronize [] = Some nothing
--- these need a part that isn't there yet: traps, links, coprocessor 0, the TLB
-effect_of p m effect.SystemCall _ = None
-effect_of p m effect.Breakpoint _ = None
-effect_of p m effect.LoadLinked _ = None
-effect_of p m effect.StoreConditional _ = None
-effect_of p m effect.MoveFromCop0 _ = None
-effect_of p m effect.MoveToCop0 _ = None
-effect_of p m effect.ReadTlb _ = None
-effect_of p m effect.WriteTlbIndexed _ = None
-effect_of p m effect.WriteTlbRandom _ = None
-effect_of p m effect.ProbeTlb _ = None
-effect_of p m effect.RestoreFromException _ = None
-effect_of p m effect.WaitForInterrupt _ = None
--- no row has another number of operands
-effect_of p m _ _ = None
-
--- what an instruction changes, by its row and the numbers of its operands
-unfoldable pub change_of : Processor → List ℕ → Option Row → List ℕ → Option Change
-change_of p memory None numbers = None
-change_of p memory (Some r) numbers = effect_of p memory (content r).effect (arguments p (content r).operands numbers)
-
--- the return address of a jump or a branch
-abbrev pub return_address : Processor → ℕ
-return_address p = (p.pc + 8) % 2 ^ 32
-
--- the registers after a change
-abbrev pub processor_after : Change → Processor → Processor
-processor_after (write r word) p = with_register r word p
-processor_after (write_hi_lo hi lo) p = record p { hi = hi; lo = lo }
-processor_after (branch_and_link r taken target) p = with_register r (return_address p) p
-processor_after nothing p = p
-processor_after (store_byte at byte) p = p
-processor_after (store_half at half) p = p
-processor_after (store_word at word) p = p
-processor_after (branch taken target) p = p
-
--- the memory after a change
-abbrev pub memory_after : Change → List ℕ → List ℕ
-memory_after (store_byte at byte) m = slice_set m at byte
-memory_after (store_half at half) m = slice_set (slice_set m at (half / 2 ^ 8)) (at + 1) (half % 2 ^ 8)
-memory_after (store_word at word) m = with_word m at word
-memory_after nothing m = m
-memory_after (write r word) m = m
-memory_after (write_hi_lo hi lo) m = m
-memory_after (branch taken target) m = m
-memory_after (branch_and_link r taken target) m = m
-
--- the way after a branch: its delay slot comes next in either case
-abbrev pub branch_flow : Bool → ℕ → Flow
-branch_flow true target = Jump target
-branch_flow false target = Slot
-
--- the way on after a change
-abbrev pub flow_of : Change → Flow
-flow_of (branch taken target) = branch_flow taken target
-flow_of (branch_and_link r taken target) = branch_flow taken target
-flow_of nothing = Next
-flow_of (write r word) = Next
-flow_of (write_hi_lo hi lo) = Next
-flow_of (store_byte at byte) = Next
-flow_of (store_half at half) = Next
-flow_of (store_word at word) = Next
+effect_of s effect.Synchronize _ _ _ = Ok nothing
+-- traps
+effect_of s effect.SystemCall _ _ _ = Err (fault kind.SystemCall)
+effect_of s effect.Breakpoint _ _ _ = Err (fault kind.Breakpoint)
+-- coprocessor 0
+effect_of s effect.MoveFromCop0 t r _ =
+    Ok (write t.number (read_of r.number (lines_of s.around.number s.around.board) s.processor.control))
+effect_of s effect.MoveToCop0 t r _ = Ok (write_control (written r.number t.value s.processor.control))
+effect_of s effect.ReadTlb _ _ _ =
+    Ok (write_control (row_indexed s.processor))
+effect_of s effect.WriteTlbIndexed _ _ _ =
+    Ok (write_row (index_row_of s.processor.control) (entry_row s.processor.control))
+effect_of s effect.WriteTlbRandom _ _ _ =
+    Ok (write_row s.processor.control.random (entry_row s.processor.control))
+effect_of s effect.ProbeTlb _ _ _ = Ok (write_control (probed s.processor))
+effect_of s effect.RestoreFromException _ _ _ =
+    Ok (record (write_control (restored s.processor.control)) { link = End })
+effect_of s effect.WaitForInterrupt _ _ _ = Ok (record nothing { state = Some Waiting })

@@ -1,45 +1,77 @@
-use Rattle.std.specs.Prelude.{◌≡◌, ℕ, ◌+◌, ◌%◌, ◌^◌, List, slice_index, Option, None, Some}
-use Rattle.std.specs.Option.{option_map}
+use Rattle.std.specs.Prelude.{◌≡◌, ℕ, ◌+◌, ◌%◌, ◌^◌, List, slice_index, Option, None, Some, Result, Ok, Err}
 use Rattle.m161_isa.specs.declared.instr.Instr.{Instr}
+use Rattle.m161_isa.specs.declared.instr.Coprocessor.{Coprocessor}
+use Rattle.m161_isa.specs.declared.table.Row.{Row}
+use Rattle.m161_isa.specs.Table.{absent_in}
 use Rattle.m161_isa.specs.Instr.{row_of_instr, numbers_of_instr}
-use Rattle.m161_cpu.specs.declared.processor.Flow.{Flow}
+use Rattle.m161_isa.specs.declared.instr.Instr.TheVariants.{Absent}
+use Rattle.m161_bus.specs.Board.{BoardState}
+use Rattle.m161_cpu.specs.declared.fault.FaultKind.{FaultKind}
+use Rattle.m161_cpu.specs.declared.fault.FaultKind.TheVariants as kind
 use Rattle.m161_cpu.specs.Processor.{Processor}
-use Rattle.m161_cpu.specs.Effect.{Change, sign_extended, change_of, write, processor_after, memory_after, flow_of}
+use Rattle.m161_cpu.specs.Scene.{Around, Scene, Change, scene, result_map, processor_after, around_after}
+use Rattle.m161_cpu.specs.Fault.{Fault, fault, noted}
+use Rattle.m161_cpu.specs.Effect.{write}
+use Rattle.m161_cpu.specs.Step.{change_of_row, misfit_kind}
 
--- Effects on the code's instructions.
+-- Words that the clauses of the code's helpers share: effects on the code's instructions.
+
+abbrev pub unit_in : Instr → Option Coprocessor
+unit_in (Absent unit) = Some unit
+unit_in _ = None
+
+abbrev pub change_by_some : Scene → Instr → Option Row → Result Change Fault
+change_by_some s i (Some r) = change_of_row s r (numbers_of_instr i)
+change_by_some s i None = Err (fault (misfit_kind (unit_in i)))
 
 -- what an instruction changes: what its row does with the numbers of its operands
-unfoldable pub change_by : Processor → List ℕ → Instr → Option Change
-change_by p memory i = change_of p memory (row_of_instr i) (numbers_of_instr i)
+unfoldable pub change_by : Scene → Instr → Result Change Fault
+change_by s i = change_by_some s i (row_of_instr i)
 
--- a change was made, and this is the way on; or nothing was changed
-abbrev pub Executes : Option Change → Processor → List ℕ → Option Flow → Processor → List ℕ → Type 0
-Executes None p memory flow q left = (flow ≡ None) × (q ≡ p) × (left ≡ memory)
-Executes (Some c) p memory flow q left = (flow ≡ Some (flow_of c)) × (q ≡ processor_after c p) × (left ≡ memory_after c memory)
+-- a value was found; or this is why not, and the address at fault is noted
+abbrev pub Finds : {V : Type 0} → Result V Fault → Processor → Result V FaultKind → Processor → Type 0
+Finds r before (Ok value) after = (r ≡ Ok value) × (after ≡ before)
+Finds r before (Err kind) after = (f : Fault) × (r ≡ Err f) × (kind ≡ f.kind) × (after ≡ noted f.address before)
+
+-- a word was read, of RAM or of the slots, which leaves a board
+abbrev pub FindsWord : Result (ℕ × BoardState) Fault → Processor → BoardState → Result ℕ FaultKind → Processor → BoardState → Type 0
+FindsWord r before board (Ok word) after left = (r ≡ Ok (word, left)) × (after ≡ before)
+FindsWord r before board (Err kind) after left =
+    (f : Fault) × (r ≡ Err f) × (kind ≡ f.kind) × (after ≡ noted f.address before) × (left ≡ board)
+
+-- the processor and what is around it are as after a change; or as before it, with an address at fault noted
+pub record IsAfter (p : Processor) (a : Around) (after : Scene) : Type 0 where
+  pub processor_is : after.processor ≡ p
+  pub memory_is : after.around.memory ≡ a.memory
+  pub board_is : after.around.board ≡ a.board
+  pub links_are : after.around.links ≡ a.links
+
+-- a change was made; or this is why not, the address at fault is noted, and nothing else is changed
+abbrev pub Executes : Result Change Fault → Scene → Result Unit FaultKind → Scene → Type 0
+Executes (Ok c) before (Ok done) after = IsAfter (processor_after c before.processor) (around_after c before.around) after
+Executes (Ok c) before (Err kind) after = ⊥
+Executes (Err f) before (Ok done) after = ⊥
+Executes (Err f) before (Err kind) after = (kind ≡ f.kind) × IsAfter (noted f.address before.processor) before.around after
+
+-- an instruction that leaves all around the processor alone was executed
+abbrev pub Does : Instr → Processor → Result Unit FaultKind → Processor → Type 0
+Does i before result after = (a : Around) → Executes (change_by (scene before a) i) (scene before a) result (scene after a)
+
+-- a value, or why there is none: a fault without an address
+abbrev pub or_fault : Result ℕ FaultKind → Result ℕ Fault
+or_fault (Ok value) = Ok value
+or_fault (Err kind) = Err (fault kind)
 
 -- a row on the words s and t of two registers writes this value, if any, to a third
-abbrev pub Writes : (ℕ → ℕ → ℕ → Instr) → ℕ → ℕ → Option ℕ → Type 0
+abbrev pub Writes : (ℕ → ℕ → ℕ → Instr) → ℕ → ℕ → Result ℕ FaultKind → Type 0
 Writes instr s t value =
-    (p : Processor) (memory : List ℕ) (d a b : ℕ) →
-    slice_index p.registers a ≡ s → slice_index p.registers b ≡ t →
-    change_by p memory (instr d a b) ≡ option_map (write d) value
+    (here : Scene) (d a b : ℕ) →
+    slice_index here.processor.registers a ≡ s → slice_index here.processor.registers b ≡ t →
+    change_by here (instr d a b) ≡ result_map (write d) (or_fault value)
 
 -- a row on the word s of one register writes this value, if any, to another
-abbrev pub WritesFrom : (ℕ → ℕ → Instr) → ℕ → Option ℕ → Type 0
+abbrev pub WritesFrom : (ℕ → ℕ → Instr) → ℕ → Result ℕ FaultKind → Type 0
 WritesFrom instr s value =
-    (p : Processor) (memory : List ℕ) (d a : ℕ) →
-    slice_index p.registers a ≡ s → change_by p memory (instr d a) ≡ option_map (write d) value
-
--- a load from an address into a register with this word writes this value, if any
-abbrev pub Reads : (ℕ → ℕ → ℕ → Instr) → ℕ → ℕ → List ℕ → Option ℕ → Type 0
-Reads instr address word memory value =
-    (p : Processor) (d o b : ℕ) →
-    slice_index p.registers d ≡ word → (slice_index p.registers b + sign_extended o) % 2 ^ 32 ≡ address →
-    change_by p memory (instr d o b) ≡ option_map (write d) value
-
--- a store of a word at an address was made, or nothing was changed
-abbrev pub Stores : (ℕ → ℕ → ℕ → Instr) → ℕ → ℕ → List ℕ → Option Flow → List ℕ → Type 0
-Stores instr word address memory flow left =
-    (p : Processor) (t o b : ℕ) →
-    slice_index p.registers t ≡ word → (slice_index p.registers b + sign_extended o) % 2 ^ 32 ≡ address →
-    Executes (change_by p memory (instr t o b)) p memory flow p left
+    (here : Scene) (d a : ℕ) →
+    slice_index here.processor.registers a ≡ s →
+    change_by here (instr d a) ≡ result_map (write d) (or_fault value)

@@ -1,5 +1,8 @@
 pub mod Processor
-pub mod Address
+pub mod Scene
+pub mod Links
+pub mod Fault
+pub mod Translation
 pub mod Effect
 pub mod Step
 pub mod Execute

@@ -1,6 +1,10 @@
 use Rattle.std.specs.Prelude.{ℕ, ◌+◌, ◌%◌, ◌^◌, Bool, true, false, ◌==◌, if◌then◌else◌, List, slice_set, replicate}
+use Rattle.m161_alu.specs.declared.arithmetic.HiLoPair.{HiLoPair}
+use Rattle.m161_tlb.specs.declared.row.Row.{Row}
+use Rattle.m161_tlb.specs.Rows.{start_rows}
+use Rattle.m161_cop0.specs.Control.{Control, start}
 use Rattle.m161_cpu.specs.declared.processor.Flow.{Flow}
-use Rattle.m161_cpu.specs.declared.processor.Flow.TheVariants.{Next, Slot, Jump}
+use Rattle.m161_cpu.specs.declared.processor.Flow.TheVariants.{Next, NotTaken, Taken}
 use Rattle.m161_cpu.specs.declared.processor.ProcessorState.{ProcessorState}
 use Rattle.m161_cpu.specs.declared.processor.ProcessorState.TheVariants.{Stopped, Running}
 
@@ -15,6 +19,10 @@ pub record Processor : Type 0 where
   pub following : ℕ
   -- the present instruction is in a delay slot
   pub slot : Bool
+  -- coprocessor 0
+  pub control : Control
+  -- the TLB
+  pub rows : List Row
   pub state : ProcessorState
   -- how many Steps it has made
   pub count : ℕ
@@ -28,6 +36,8 @@ stopped = record {
   pc = 0;
   following = 0;
   slot = false;
+  control = start;
+  rows = start_rows;
   state = Stopped;
   count = 0;
 }
@@ -41,6 +51,8 @@ started pc r4 r29 count = record {
   pc = pc;
   following = (pc + 4) % 2 ^ 32;
   slot = false;
+  control = start;
+  rows = start_rows;
   state = Running;
   count = count;
 }
@@ -49,17 +61,29 @@ started pc r4 r29 count = record {
 abbrev pub with_register : ℕ → ℕ → Processor → Processor
 with_register r word p = record p { registers = if r == 0 then p.registers else slice_set p.registers r word }
 
--- the address after the next one: a jump's target, or the word after
+abbrev pub with_hi_lo : HiLoPair → Processor → Processor
+with_hi_lo pair p = record p { hi = pair.hi; lo = pair.lo }
+
+abbrev pub with_control : Control → Processor → Processor
+with_control control p = record p { control = control }
+
+abbrev pub with_row : ℕ → Row → Processor → Processor
+with_row i row p = record p { rows = slice_set p.rows i row }
+
+abbrev pub with_state : ProcessorState → Processor → Processor
+with_state state p = record p { state = state }
+
+-- the address after the next one: a taken branch's target, or the word after
 abbrev pub after_next : Flow → ℕ → ℕ
 after_next Next following = (following + 4) % 2 ^ 32
-after_next Slot following = (following + 4) % 2 ^ 32
-after_next (Jump target) following = target
+after_next NotTaken following = (following + 4) % 2 ^ 32
+after_next (Taken target) following = target
 
 -- what comes next is in a delay slot
 abbrev pub is_slot : Flow → Bool
 is_slot Next = false
-is_slot Slot = true
-is_slot (Jump target) = true
+is_slot NotTaken = true
+is_slot (Taken target) = true
 
 -- on to the next instruction
 abbrev pub advanced : Flow → Processor → Processor

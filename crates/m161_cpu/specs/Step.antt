@@ -1,64 +1,152 @@
-use Rattle.std.specs.Prelude.{◌≡◌, ℕ, ◌+◌, List, length, Option, None, Some, Result, Ok, Err}
-use Rattle.std.specs.Option.{option_map}
-use Rattle.m161_isa.specs.Table.{row_that_fits, numbers_of}
+use Rattle.std.specs.Prelude.{◌≡◌, ℕ, ◌+◌, Bool, not, ◌==◌, ◌&&◌, if◌then◌else◌, List, length, ◌⊎◌, Option, None, Some, Result, Ok, Err}
+use Rattle.m161_isa.specs.declared.table.Row.{Row}
+use Rattle.m161_isa.specs.declared.instr.Coprocessor.{Coprocessor}
+use Rattle.m161_isa.specs.declared.instr.Coprocessor.TheVariants as coprocessor
+use Rattle.m161_isa.specs.Table.{bits_of, table, row_that_fits, numbers_of, absent_in}
 use Rattle.m161_ram.specs.Word.{word_at}
+use Rattle.m161_cop0.specs.Control.{Control, is_pending, is_interrupted, may_use_cop0}
+use Rattle.m161_cop0.specs.Clock.{ticked}
+use Rattle.m161_cop0.specs.Trap.{IsVector}
+use Rattle.m161_bus.specs.Board.{BoardState, lines_of}
+use Rattle.m161_cpu.specs.declared.fault.Access.TheVariants.{Fetch}
+use Rattle.m161_cpu.specs.declared.fault.FaultKind.{FaultKind}
+use Rattle.m161_cpu.specs.declared.fault.FaultKind.TheVariants as kind
 use Rattle.m161_cpu.specs.declared.processor.ProcessorState.{ProcessorState}
-use Rattle.m161_cpu.specs.declared.processor.ProcessorState.TheVariants.{Stopped, Running}
+use Rattle.m161_cpu.specs.declared.processor.ProcessorState.TheVariants.{Stopped, Running, Waiting}
 use Rattle.m161_cpu.specs.declared.processor.Outcome.{Outcome}
-use Rattle.m161_cpu.specs.declared.processor.Outcome.TheVariants.{Ran, Idle}
-use Rattle.m161_cpu.specs.declared.processor.NotYet.{NotYet}
-use Rattle.m161_cpu.specs.Processor.{Processor, advanced}
-use Rattle.m161_cpu.specs.Address.{direct}
-use Rattle.m161_cpu.specs.Effect.{Change, change_of, processor_after, memory_after, flow_of}
+use Rattle.m161_cpu.specs.declared.processor.Outcome.TheVariants.{Ran, Trapped, Idle, PoweredOff, Taken}
+use Rattle.m161_cpu.specs.Processor.{Processor, with_state}
+use Rattle.m161_cpu.specs.Links.{LinkAct, Keep, End, links_after}
+use Rattle.m161_cpu.specs.Scene.{Around, Scene, Change, scene, result_map, and_then, changed, stored_by}
+use Rattle.m161_cpu.specs.Fault.{Fault, fault, exception_of, noted, vector, with_trap}
+use Rattle.m161_cpu.specs.Translation.{reach}
+use Rattle.m161_cpu.specs.Effect.{arguments, with_three, effect_of}
 
--- One Step of a processor.
+-- One Step of a processor. Kane, MIPS RISC Architecture; the order of its points is this project's own.
 
 -- what a Step gives
 pub record Stepped : Type 0 where
   pub outcome : Outcome
-  pub processor : Processor
-  pub memory : List ℕ
+  pub after : Scene
+  -- what it does to the processor's link, and the word of RAM that it stores to
+  pub link : LinkAct
+  pub stored : Option ℕ
 
--- a Step counts
+-- every Step counts
 abbrev pub counted : Processor → Processor
 counted p = record p { count = p.count + 1 }
 
--- what a processor leaves that isn't running
-abbrev pub idle : Processor → List ℕ → Stepped
-idle p memory = record { outcome = Idle; processor = counted p; memory = memory }
+-- one of a started processor ticks too
+abbrev pub tick : Processor → Processor
+tick p = counted (record p { control = ticked p.control })
 
--- what an instruction leaves, by what it changes
-abbrev pub ran : Processor → List ℕ → Change → Stepped
-ran p memory change = record {
-  outcome = Ran;
-  processor = counted (advanced (flow_of change) (processor_after change p));
-  memory = memory_after change memory;
+abbrev pub with_processor : (Processor → Processor) → Scene → Scene
+with_processor f s = scene (f s.processor) s.around
+
+-- a Step that executes nothing
+abbrev pub idle : (Processor → Processor) → Scene → Stepped
+idle f s = record { outcome = Idle; after = with_processor f s; link = Keep; stored = None }
+
+-- what an instruction leaves
+abbrev pub ran : Scene → Change → Stepped
+ran s change = record {
+  outcome = if (changed change s).around.board.off then PoweredOff else Ran;
+  after = with_processor tick (changed change s);
+  link = change.link;
+  stored = stored_by change.store;
 }
 
--- what the instruction of a word changes
-unfoldable pub change_in : Processor → List ℕ → ℕ → Option Change
-change_in p memory word = change_of p memory (row_that_fits word) (numbers_of word (row_that_fits word))
+-- the end of a processor's link
+abbrev pub unlinked : Around → Around
+unlinked a = record a { links = links_after a.number End None a.links }
+
+-- what a trap leaves: the registers of its entry; general registers, HI, LO, memory and the board are as they were
+abbrev pub trapped : Scene → Fault → Stepped
+trapped s f = record {
+  outcome = Trapped (exception_of f.kind) (vector f.kind (noted f.address s.processor));
+  after = scene (tick (with_trap f.kind (noted f.address s.processor))) (unlinked s.around);
+  link = End;
+  stored = None;
+}
+
+abbrev pub ended : Scene → Result Change Fault → Stepped
+ended s (Ok change) = ran s change
+ended s (Err f) = trapped s f
 
 -- the word at pc
-abbrev pub fetched : Processor → List ℕ → Option ℕ
-fetched p memory = option_map (word_at memory) (direct (length memory) 4 p.pc)
+abbrev pub fetched : Scene → Result ℕ Fault
+fetched s =
+    result_map (word_at s.around.memory) (reach Fetch 4 s.processor.pc (length s.around.memory) s.processor)
 
--- a fetched word's instruction
-abbrev pub execution : Processor → List ℕ → Option ℕ → Option Stepped
-execution p memory None = None
-execution p memory (Some word) = option_map (ran p memory) (change_in p memory word)
+-- what a row does with the numbers of its operands
+abbrev pub change_of_row : Scene → Row → List ℕ → Result Change Fault
+change_of_row s r numbers =
+    with_three (effect_of s (table r).effect) (arguments s.processor (table r).operands numbers)
 
--- one Step, by the processor's state; nothing where it needs a part that isn't there yet
-abbrev pub step_in : ProcessorState → Processor → List ℕ → Option Stepped
-step_in Stopped p memory = Some (idle p memory)
-step_in Running p memory = execution p memory (fetched p memory)
+-- a word that fits no row: a coprocessor that isn't there, or a reserved instruction
+abbrev pub misfit_kind : Option Coprocessor → FaultKind
+misfit_kind None = kind.ReservedInstruction
+misfit_kind (Some coprocessor.One) = kind.Coprocessor1Unusable
+misfit_kind (Some coprocessor.Two) = kind.Coprocessor2Unusable
+misfit_kind (Some coprocessor.Three) = kind.Coprocessor3Unusable
 
-unfoldable pub step_of : Processor → List ℕ → Option Stepped
-step_of p memory = step_in p.state p memory
+abbrev pub change_by_row : Scene → ℕ → Option Row → Result Change Fault
+change_by_row s word (Some r) = change_of_row s r (numbers_of word (Some r))
+change_by_row s word None = Err (fault (misfit_kind (absent_in word)))
 
--- what a Step answers and leaves: what it gives; or nothing is changed where it gives nothing
-abbrev pub Steps : Option Stepped → Processor → List ℕ → Result Outcome NotYet → Processor → List ℕ → Type 0
-Steps None p memory (Ok o) q left = ⊥
-Steps None p memory (Err e) q left = (q ≡ p) × (left ≡ memory)
-Steps (Some s) p memory (Ok o) q left = (o ≡ s.outcome) × (q ≡ s.processor) × (left ≡ s.memory)
-Steps (Some s) p memory (Err e) q left = ⊥
+-- opcode 16 in user mode without CU0, whatever row the word fits, or none
+abbrev pub is_unusable : Control → ℕ → Bool
+is_unusable c word = (bits_of word 26 6 == 16) && not (may_use_cop0 c)
+
+-- what the instruction of a word changes
+unfoldable pub change_in : Scene → ℕ → Result Change Fault
+change_in s word =
+    if is_unusable s.processor.control word then Err (fault kind.Coprocessor0Unusable)
+    else change_by_row s word (row_that_fits word)
+
+-- the lines of the board that the processor sees
+abbrev pub lines_in : Scene → ℕ
+lines_in s = lines_of s.around.number s.around.board
+
+-- interrupt, fetch, decode, effect or trap, in this order
+abbrev pub executed : Scene → Result Change Fault
+executed s =
+    if is_interrupted (lines_in s) s.processor.control then Err (fault kind.Interrupt)
+    else and_then (fetched s) (change_in s)
+
+abbrev pub running : Scene → Stepped
+running s = ended s (executed s)
+
+-- one Step, by the processor's state: a stopped one only counts; a waiting one is idle until an interrupt is pending
+abbrev pub step_in : ProcessorState → Scene → Stepped
+step_in Stopped s = idle counted s
+step_in Running s = running s
+step_in Waiting s =
+    if is_pending (lines_in s) s.processor.control then running (with_processor (with_state Running) s)
+    else idle tick s
+
+unfoldable pub step_of : Scene → Stepped
+step_of s = step_in s.processor.state s
+
+-- the same Step in two parts: a processor that rests is idle, and one that doesn't is running
+abbrev pub idle_after : Scene → Stepped
+idle_after s = record { outcome = Idle; after = s; link = Keep; stored = None }
+
+abbrev pub rested : Bool → Scene → Stepped
+rested rests after = if rests then idle_after after else running after
+
+-- a Step's outcome: no input, and a vector that is one of the four
+abbrev pub IsProper : Outcome → Type 0
+IsProper Ran = Unit {0}
+IsProper (Trapped code vector) = IsVector vector
+IsProper Idle = Unit {0}
+IsProper PoweredOff = Unit {0}
+IsProper Taken = ⊥
+
+-- a Step answers and leaves what it gives
+pub record Leaves (x : Stepped) (outcome : Outcome) (after : Scene) : Type 0 where
+  pub outcome_is : outcome ≡ x.outcome
+  pub processor_is : after.processor ≡ x.after.processor
+  pub memory_is : after.around.memory ≡ x.after.around.memory
+  pub board_is : after.around.board ≡ x.after.around.board
+  pub links_are : after.around.links ≡ x.after.around.links

@@ -1,121 +1,155 @@
 //! The effects of instructions.
 
-ghost use Rattle.std.specs.Prelude.{Some, ◌≡◌, ◌+◌, ◌*◌, ◌/◌, ◌%◌, ◌^◌, ◌<◌, ℕ, List, slice_index};
-ghost use Rattle.std.specs.Option.{option_map};
-ghost use Rattle.m161_isa.specs.declared.instr.Instr.TheVariants.{Arith, LoadUpper, Plain, Shift, ShiftVariable};
-ghost use Rattle.m161_cpu.specs.Effect.{sign_extended, write};
-ghost use Rattle.m161_cpu.specs.Processor.{Processor};
-ghost use Rattle.m161_cpu.specs.Step.{change_in};
-ghost use Rattle.m161_cpu.specs.Execute.{change_by, Executes, Writes, WritesFrom};
+ghost use Rattle.std.specs.Prelude.{Some, ◌≡◌, ◌+◌, ◌*◌, ◌/◌, ◌%◌, ◌^◌, ◌<◌, ◌≤◌, ℕ, length};
+ghost use Rattle.m161_isa.specs.declared.instr.Instr.TheVariants.{Arith, LoadUpper, Shift, ShiftVariable};
+ghost use Rattle.m161_bus.specs.Board.{KeepsSize};
+ghost use Rattle.m161_cpu.specs.Effect.{write};
+ghost use Rattle.m161_cpu.specs.Scene.{Around, Scene, here, result_map, scene};
+ghost use Rattle.m161_cpu.specs.Step.{change_in, is_unusable, misfit_kind};
+ghost use Rattle.m161_cpu.specs.Execute.{change_by, or_fault, Executes, Writes, WritesFrom};
 
-use crate::memory::{loaded, store};
-use crate::processor::{Cpu, Flow};
-use m161_alu::{Signedness, add_checked, set_on_less, shift, sub_checked};
-use m161_decode::decode;
-use m161_isa::{Amount, ArithOp, Immediate, ImmediateOp, Instr, PlainOp, Reg, ShiftOp};
+use crate::fault::FaultKind;
+use crate::links::Links;
+use crate::processor::Cpu;
+use m161_alu::{Signedness, add_checked, set_on_less, shift, sign_extend_half, sub_checked};
+use m161_bus::{Board, Console};
+use m161_decode::decode_in_step;
+use m161_isa::{Amount, ArithOp, Coprocessor, Immediate, ImmediateOp, Instr, Reg, ShiftOp};
 use m161_ram::Ram;
-
-/// A half-word as a signed word.
-pub(crate) fn sign_extend(half: u16) -> u32
-    ensures { result ≡ sign_extended half }
-{
-    i32::from(half.cast_signed()).cast_unsigned()
-}
+use m161_tlb::Tlb;
 
 // What a row on two registers writes to a third.
-#[tactic(auto, unfolding(crate::specs::Execute::change_by, crate::specs::Effect::change_of))]
-fn arithmetic(op: ArithOp, s: u32, t: u32) -> Option<u32>
+#[inline(always)]
+#[tactic(auto, unfolding(crate::specs::Execute::change_by))]
+fn arithmetic(op: ArithOp, s: u32, t: u32) -> Result<u32, FaultKind>
     ensures { Writes (Arith op) s t result }
 {
     match op {
-        ArithOp::Add => add_checked(s, t),
-        ArithOp::Addu => Some(s.wrapping_add(t)),
-        ArithOp::Sub => sub_checked(s, t),
-        ArithOp::Subu => Some(s.wrapping_sub(t)),
-        ArithOp::And => Some(s & t),
-        ArithOp::Or => Some(s | t),
-        ArithOp::Xor => Some(s ^ t),
-        ArithOp::Nor => Some(!(s | t)),
-        ArithOp::Slt => Some(u32::from(set_on_less(Signedness::Signed, s, t))),
-        ArithOp::Sltu => Some(u32::from(set_on_less(Signedness::Unsigned, s, t))),
+        ArithOp::Add => add_checked(s, t).ok_or(FaultKind::Overflow),
+        ArithOp::Addu => Ok(s.wrapping_add(t)),
+        ArithOp::Sub => sub_checked(s, t).ok_or(FaultKind::Overflow),
+        ArithOp::Subu => Ok(s.wrapping_sub(t)),
+        ArithOp::And => Ok(s & t),
+        ArithOp::Or => Ok(s | t),
+        ArithOp::Xor => Ok(s ^ t),
+        ArithOp::Nor => Ok(!(s | t)),
+        ArithOp::Slt => Ok(u32::from(set_on_less(Signedness::Signed, s, t))),
+        ArithOp::Sltu => Ok(u32::from(set_on_less(Signedness::Unsigned, s, t))),
     }
 }
 
 // What a row on a register and an immediate writes.
-#[tactic(auto, unfolding(crate::specs::Execute::change_by, crate::specs::Effect::change_of))]
-fn with_immediate(op: ImmediateOp, s: u32, immediate: Immediate) -> Option<u32>
+#[inline(always)]
+#[tactic(auto, unfolding(crate::specs::Execute::change_by))]
+fn with_immediate(op: ImmediateOp, s: u32, immediate: Immediate) -> Result<u32, FaultKind>
     ensures { WritesFrom (λ d a. Instr.Immediate op d a immediate) s result }
 {
-    let signed = sign_extend(immediate.half());
+    let signed = sign_extend_half(immediate.half());
     let unsigned = u32::from(immediate.half());
     match op {
-        ImmediateOp::Addi => add_checked(s, signed),
-        ImmediateOp::Addiu => Some(s.wrapping_add(signed)),
-        ImmediateOp::Slti => Some(u32::from(set_on_less(Signedness::Signed, s, signed))),
-        ImmediateOp::Sltiu => Some(u32::from(set_on_less(Signedness::Unsigned, s, signed))),
-        ImmediateOp::Andi => Some(s & unsigned),
-        ImmediateOp::Ori => Some(s | unsigned),
-        ImmediateOp::Xori => Some(s ^ unsigned),
+        ImmediateOp::Addi => add_checked(s, signed).ok_or(FaultKind::Overflow),
+        ImmediateOp::Addiu => Ok(s.wrapping_add(signed)),
+        ImmediateOp::Slti => Ok(u32::from(set_on_less(Signedness::Signed, s, signed))),
+        ImmediateOp::Sltiu => Ok(u32::from(set_on_less(Signedness::Unsigned, s, signed))),
+        ImmediateOp::Andi => Ok(s & unsigned),
+        ImmediateOp::Ori => Ok(s | unsigned),
+        ImmediateOp::Xori => Ok(s ^ unsigned),
     }
 }
 
 // What a shift by an amount writes.
-#[tactic(auto, unfolding(crate::specs::Execute::change_by, crate::specs::Effect::change_of))]
-fn shifted_by(op: ShiftOp, t: u32, amount: Amount) -> Option<u32>
+#[inline(always)]
+#[tactic(auto, unfolding(crate::specs::Execute::change_by))]
+fn shifted_by(op: ShiftOp, t: u32, amount: Amount) -> Result<u32, FaultKind>
     ensures { WritesFrom (λ d a. Shift op d a amount) t result }
 {
-    Some(shift(op, t, amount))
+    Ok(shift(op, t, amount))
 }
 
 // What a shift by a register writes.
-#[tactic(auto, unfolding(crate::specs::Execute::change_by, crate::specs::Effect::change_of))]
-fn shifted_by_register(op: ShiftOp, t: u32, s: u32) -> Option<u32>
+#[inline(always)]
+#[tactic(auto, unfolding(crate::specs::Execute::change_by))]
+fn shifted_by_register(op: ShiftOp, t: u32, s: u32) -> Result<u32, FaultKind>
     ensures { Writes (ShiftVariable op) t s result }
 {
     let amount = Amount::new((s % 32) as u8);
-    Some(shift(op, t, amount))
+    Ok(shift(op, t, amount))
 }
 
 // What `lui` writes.
-#[tactic(auto, unfolding(crate::specs::Execute::change_by, crate::specs::Effect::change_of))]
-fn upper(immediate: Immediate) -> Option<u32>
-    ensures { (p : Processor) (m : List ℕ) (d : ℕ) → change_by p m (LoadUpper d immediate) ≡ option_map (write d) result }
+#[inline(always)]
+#[tactic(auto, unfolding(crate::specs::Execute::change_by))]
+fn upper(immediate: Immediate) -> Result<u32, FaultKind>
+    ensures { (s : Scene) (d : ℕ) → change_by s (LoadUpper d immediate)
+        ≡ result_map (write d) (or_fault result) }
 {
-    Some(u32::from(immediate.half()) << 16)
+    Ok(u32::from(immediate.half()) << 16)
 }
 
-// A row without operands.
-#[tactic(auto, unfolding(crate::specs::Execute::change_by, crate::specs::Effect::change_of))]
-fn plain(op: PlainOp) -> Option<Flow>
-    ensures { (p : Processor) (m : List ℕ) → Executes (change_by p m (Plain op)) p m result p m }
+// A coprocessor that isn't there.
+fn absent(unit: Coprocessor) -> FaultKind
+    ensures { result ≡ misfit_kind (Some unit) }
 {
-    match op {
-        PlainOp::Sync => Some(Flow::Next),
-        PlainOp::Syscall
-        | PlainOp::Break
-        | PlainOp::Tlbr
-        | PlainOp::Tlbwi
-        | PlainOp::Tlbwr
-        | PlainOp::Tlbp
-        | PlainOp::Rfe
-        | PlainOp::Wait => None,
+    match unit {
+        Coprocessor::One => FaultKind::Coprocessor1Unusable,
+        Coprocessor::Two => FaultKind::Coprocessor2Unusable,
+        Coprocessor::Three => FaultKind::Coprocessor3Unusable,
     }
 }
 
-impl Cpu {
-    /// Executes the instruction of a word, and says how it goes on from there. Nothing where it
-    /// needs a part that isn't there yet; nothing is changed then.
-    #[tactic(auto, unfolding(crate::specs::Step::change_in, crate::specs::Execute::change_by))]
-    pub(crate) fn perform(&mut self, word: u32, ram: &mut Ram) -> Option<Flow>
-        ensures { Executes (change_in self.old ram.old word) self.old ram.old result self.new ram.new }
+impl<T: Tlb> Cpu<T> {
+    /// Executes the instruction of a word.
+    #[inline(always)]
+    #[tactic(auto, unfolding(crate::specs::Step::change_in), using(crate::proofs::Decoded::decoded))]
+    pub(crate) fn perform<D: Console>(
+        &mut self,
+        word: u32,
+        c: u32,
+        ram: &mut Ram,
+        board: &mut Board<D>,
+        links: &mut Links,
+    ) -> Result<(), FaultKind>
+        requires processor { (c < board.old.processors) × (board.old.processors ≤ 32) }
+        requires ram { length ram.old ≤ 2 ^ 29 }
+        ensures change { Executes (change_in (here self.old c ram.old board.old links.old) word)
+            (here self.old c ram.old board.old links.old) result
+            (here self.new c ram.new board.new links.new) }
+        ensures board { KeepsSize board.old board.new }
+        ensures size { length ram.new ≡ length ram.old }
     {
-        self.execute(&decode(word), ram)
+        if self.is_unusable(word) {
+            return Err(FaultKind::Coprocessor0Unusable);
+        }
+        self.execute(&decode_in_step(word), c, ram, board, links)
+    }
+
+    // Opcode 16 in user mode without CU0.
+    #[inline(always)]
+    fn is_unusable(&self, word: u32) -> bool
+        ensures { result ≡ is_unusable self.now.control word }
+    {
+        word >> 26 == 16 && !self.control.may_use_cop0()
     }
 
     // Executes an instruction of the table.
-    #[tactic(auto, using(crate::proofs::Missing::missing))]
-    fn execute(&mut self, instr: &Instr, ram: &mut Ram) -> Option<Flow>
-        ensures { Executes (change_by self.old ram.old instr.now) self.old ram.old result self.new ram.new }
+    #[inline(always)]
+    #[tactic(auto, using(crate::proofs::Decoded::misfits))]
+    fn execute<D: Console>(
+        &mut self,
+        instr: &Instr,
+        c: u32,
+        ram: &mut Ram,
+        board: &mut Board<D>,
+        links: &mut Links,
+    ) -> Result<(), FaultKind>
+        requires processor { (c < board.old.processors) × (board.old.processors ≤ 32) }
+        requires ram { length ram.old ≤ 2 ^ 29 }
+        ensures change { Executes (change_by
+            (here self.old c ram.old board.old links.old) instr.now)
+            (here self.old c ram.old board.old links.old) result
+            (here self.new c ram.new board.new links.new) }
+        ensures board { KeepsSize board.old board.new }
+        ensures size { length ram.new ≡ length ram.old }
     {
         match *instr {
             Instr::Shift { op, rd, rt, amount } => self.set_if(
@@ -155,36 +189,34 @@ impl Cpu {
                 rt,
                 offset,
                 base,
-            } => self.set_if(
-                rt,
-                loaded(op, self.address(offset, base), self.reg(rt), ram),
-            ),
+            } => self.load(op, rt, offset, base, c, ram, board, links),
             Instr::Store {
                 op,
                 rt,
                 offset,
                 base,
-            } => { store(op, self.reg(rt), self.address(offset, base), ram) }
-            Instr::Plain(op) => plain(op),
-            Instr::MoveFromCop0 { .. }
-            | Instr::MoveToCop0 { .. }
-            | Instr::Absent(_)
-            | Instr::Reserved(_) => None,
+            } => self.store(op, rt, offset, base, c, ram, board, links),
+            Instr::Plain(op) => self.plain(op, c, links),
+            Instr::MoveFromCop0 { rt, register } => self.move_from_cop0(
+                rt,
+                register,
+                board.lines(c),
+            ),
+            Instr::MoveToCop0 { rt, register } => self.move_to_cop0(rt, register),
+            Instr::Absent(unit) => Err(absent(unit)),
+            Instr::Reserved(_) => Err(FaultKind::ReservedInstruction),
         }
     }
 
     // Writes a register, where there is something to write.
-    fn set_if(&mut self, register: Reg, value: Option<u32>) -> Option<Flow>
-        ensures { (memory : List ℕ) → Executes (option_map (write register) value) self.old memory result self.new memory }
+    #[inline(always)]
+    fn set_if(&mut self, register: Reg, value: Result<u32, FaultKind>) -> Result<(), FaultKind>
+        ensures { (a : Around) → Executes (result_map (write register) (or_fault value))
+            (scene self.old a) result
+            (scene self.new a) }
     {
-        self.set_reg(register, value?);
-        Some(Flow::Next)
-    }
-
-    // The address that a load or a store names.
-    fn address(&self, offset: Immediate, base: Reg) -> u32
-        ensures { result ≡ (slice_index self.now.registers base + sign_extended offset) % 2 ^ 32 }
-    {
-        self.reg(base).wrapping_add(sign_extend(offset.half()))
+        let word = value?;
+        self.set(register, word);
+        Ok(())
     }
 }

@@ -2,37 +2,42 @@
 
 ghost use Rattle.std.specs.Prelude.{◌≡◌, ◌+◌, ◌*◌, ◌/◌, ◌%◌, ◌^◌, ℕ, List};
 ghost use Rattle.m161_isa.specs.declared.instr.Instr.TheVariants.{BranchEqual, BranchZero, Jump, JumpAndLinkRegister, JumpRegister};
-ghost use Rattle.m161_cpu.specs.Effect.{branch_flow, return_address, sign_extended};
+ghost use Rattle.m161_alu.specs.Word.{sign_extended_half};
+ghost use Rattle.m161_cpu.specs.Effect.{branch_flow, return_address};
 ghost use Rattle.m161_cpu.specs.Processor.{with_register};
-ghost use Rattle.m161_cpu.specs.Execute.{change_by, Executes};
+ghost use Rattle.m161_cpu.specs.Execute.{Does};
 
-use crate::execute::sign_extend;
+use crate::fault::FaultKind;
 use crate::processor::{Cpu, Flow};
-use m161_alu::branch_taken;
+use m161_alu::{branch_taken, sign_extend_half};
 use m161_isa::{EqualTest, Immediate, JumpOp, Reg, Target, ZeroTest};
+use m161_tlb::Tlb;
 
 // The way after a branch.
+#[inline(always)]
 fn way(taken: bool, target: u32) -> Flow
     ensures { result ≡ branch_flow taken target }
 {
     if taken {
-        Flow::Jump(target)
+        Flow::Taken(target)
     } else {
-        Flow::Slot
+        Flow::NotTaken
     }
 }
 
-impl Cpu {
+impl<T: Tlb> Cpu<T> {
     // The target of a branch from here.
+    #[inline(always)]
     fn branch_target(&self, offset: Immediate) -> u32
-        ensures { result ≡ (self.now.pc + 4 + 4 * sign_extended offset) % 2 ^ 32 }
+        ensures { result ≡ (self.now.pc + 4 + 4 * sign_extended_half offset) % 2 ^ 32 }
     {
         self.pc()
             .wrapping_add(4)
-            .wrapping_add(sign_extend(offset.half()).wrapping_mul(4))
+            .wrapping_add(sign_extend_half(offset.half()).wrapping_mul(4))
     }
 
     // The target of a jump from here: the upper four bits are those of the next address.
+    #[inline(always)]
     fn jump_target(&self, target: Target) -> u32
         ensures { result ≡ (self.now.pc + 4) % 2 ^ 32 / 2 ^ 28 * 2 ^ 28 + target * 4 }
     {
@@ -40,6 +45,7 @@ impl Cpu {
     }
 
     // Puts the return address into a register.
+    #[inline(always)]
     fn link(&mut self, register: Reg)
         ensures { self.new ≡ with_register register (return_address self.old) self.old }
     {
@@ -48,79 +54,97 @@ impl Cpu {
     }
 
     /// `jr`.
-    #[tactic(auto, unfolding(crate::specs::Execute::change_by, crate::specs::Effect::change_of))]
-    pub(crate) fn jump_register(&self, rs: Reg) -> Option<Flow>
-        ensures { (m : List ℕ) → Executes (change_by self.now m (JumpRegister rs)) self.now m result self.now m }
+    #[inline(always)]
+    #[tactic(auto, unfolding(crate::specs::Execute::change_by))]
+    pub(crate) fn jump_register(&mut self, rs: Reg) -> Result<(), FaultKind>
+        ensures { Does (JumpRegister rs) self.old result self.new }
     {
         if self.in_slot() {
-            return None;
+            return Err(FaultKind::ReservedInstruction);
         }
-        Some(Flow::Jump(self.reg(rs)))
+        let target = self.reg(rs);
+        self.advance(Flow::Taken(target));
+        Ok(())
     }
 
     /// `jalr`: the target is read before the link is written.
-    #[tactic(auto, unfolding(crate::specs::Execute::change_by, crate::specs::Effect::change_of))]
-    pub(crate) fn jump_and_link_register(&mut self, rd: Reg, rs: Reg) -> Option<Flow>
-        ensures { (m : List ℕ) → Executes (change_by self.old m (JumpAndLinkRegister rd rs)) self.old m result self.new m }
+    #[inline(always)]
+    #[tactic(auto, unfolding(crate::specs::Execute::change_by))]
+    pub(crate) fn jump_and_link_register(&mut self, rd: Reg, rs: Reg) -> Result<(), FaultKind>
+        ensures { Does (JumpAndLinkRegister rd rs) self.old result self.new }
     {
         if self.in_slot() {
-            return None;
+            return Err(FaultKind::ReservedInstruction);
         }
         let target = self.reg(rs);
         self.link(rd);
-        Some(Flow::Jump(target))
+        self.advance(Flow::Taken(target));
+        Ok(())
     }
 
     /// `j` and `jal`.
-    #[tactic(auto, unfolding(crate::specs::Execute::change_by, crate::specs::Effect::change_of))]
-    pub(crate) fn jump(&mut self, op: JumpOp, target: Target) -> Option<Flow>
-        ensures { (m : List ℕ) → Executes (change_by self.old m (Jump op target)) self.old m result self.new m }
+    #[inline(always)]
+    #[tactic(auto, unfolding(crate::specs::Execute::change_by))]
+    pub(crate) fn jump(&mut self, op: JumpOp, target: Target) -> Result<(), FaultKind>
+        ensures { Does (Jump op target) self.old result self.new }
     {
         if self.in_slot() {
-            return None;
+            return Err(FaultKind::ReservedInstruction);
         }
         let address = self.jump_target(target);
         match op {
             JumpOp::Jump => {}
             JumpOp::JumpAndLink => self.link(Reg::new(31)),
         }
-        Some(Flow::Jump(address))
+        self.advance(Flow::Taken(address));
+        Ok(())
     }
 
     /// `beq` and `bne`.
-    #[tactic(auto, unfolding(crate::specs::Execute::change_by, crate::specs::Effect::change_of))]
+    #[inline(always)]
+    #[tactic(auto, unfolding(crate::specs::Execute::change_by))]
     pub(crate) fn branch_equal(
-        &self,
+        &mut self,
         test: EqualTest,
         rs: Reg,
         rt: Reg,
         offset: Immediate,
-    ) -> Option<Flow>
-        ensures { (m : List ℕ) → Executes (change_by self.now m (BranchEqual test rs rt offset)) self.now m result self.now m }
+    ) -> Result<(), FaultKind>
+        ensures { Does (BranchEqual test rs rt offset) self.old result self.new }
     {
         if self.in_slot() {
-            return None;
+            return Err(FaultKind::ReservedInstruction);
         }
         let taken = match test {
             EqualTest::Equal => self.reg(rs) == self.reg(rt),
             EqualTest::NotEqual => self.reg(rs) != self.reg(rt),
         };
-        Some(way(taken, self.branch_target(offset)))
+        let flow = way(taken, self.branch_target(offset));
+        self.advance(flow);
+        Ok(())
     }
 
     /// Branches on a test against zero; the register is read before a link is written.
-    #[tactic(auto, unfolding(crate::specs::Execute::change_by, crate::specs::Effect::change_of))]
-    pub(crate) fn branch_zero(&mut self, test: ZeroTest, rs: Reg, offset: Immediate) -> Option<Flow>
-        ensures { (m : List ℕ) → Executes (change_by self.old m (BranchZero test rs offset)) self.old m result self.new m }
+    #[inline(always)]
+    #[tactic(auto, unfolding(crate::specs::Execute::change_by))]
+    pub(crate) fn branch_zero(
+        &mut self,
+        test: ZeroTest,
+        rs: Reg,
+        offset: Immediate,
+    ) -> Result<(), FaultKind>
+        ensures { Does (BranchZero test rs offset) self.old result self.new }
     {
         if self.in_slot() {
-            return None;
+            return Err(FaultKind::ReservedInstruction);
         }
         let flow = way(branch_taken(test, self.reg(rs)), self.branch_target(offset));
         match test {
-            ZeroTest::Less | ZeroTest::NotLess | ZeroTest::NotGreater | ZeroTest::Greater => {}
-            ZeroTest::LessAndLink | ZeroTest::NotLessAndLink => self.link(Reg::new(31)),
+            ZeroTest::Less | ZeroTest::GreaterOrEqual | ZeroTest::LessOrEqual | ZeroTest::Greater =>
+                {}
+            ZeroTest::LessAndLink | ZeroTest::GreaterOrEqualAndLink => self.link(Reg::new(31)),
         }
-        Some(flow)
+        self.advance(flow);
+        Ok(())
     }
 }

@@ -5,30 +5,39 @@
 //! hi, lo     the two words of a product, or remainder and quotient
 //! pc         the address of the present instruction; `following` is that of the next
 //! slot       the present instruction is in a branch's delay slot
-//! state      stopped until it is started, then running
+//! control    coprocessor 0; tlb: 64 rows
+//! link       the physical word of the last `ll`, where it is live
+//! state      stopped until it is started, then running or waiting
 //! count      its Steps, idle ones counted
 //!
 //! one Step   1 a stopped processor is idle
-//!            2 fetch at pc, by kseg0 or kseg1 within RAM
-//!            3 decode
-//!            4 the effect
-//!            5 on to the following address
+//!            2 a waiting one is idle until an interrupt is pending, whatever IEc says
+//!            3 an interrupt that is enabled traps; there is no fetch
+//!            4 fetch at pc
+//!            5 opcode 16 in user mode without CU0 traps, then words that fit no row
+//!            6 the effect, or its trap
+//!            7 Random and Count tick, also where the Step trapped or the processor waits
+//!
+//! addresses  kseg0 80000000, kseg1 a0000000 to physical 0; kuseg below and kseg2 above by the TLB
+//!            RAM from physical 0 on; the slots by aligned `lw` and `sw` alone
+//! a trap     leaves general registers, HI, LO, memory and devices as they were
 //! ```
 //!
 //! One delay slot follows each branch and jump, taken or not; the target counts from the branch's
-//! own address. A load may be used by the next instruction (this project's own rule).
-//!
-//! So far a Step is refused as not there yet, and changes nothing, where it would trap, where it
-//! has to do with coprocessor 0, the TLB or links (opcode 16, `ll`, `sc`), and where an address
-//! isn't aligned and within RAM by kseg0 or kseg1. A branch in a delay slot would trap.
-//! Source: Kane, MIPS RISC Architecture.
+//! own address, and a branch in a slot is a reserved instruction. A load may be used by the next
+//! instruction (this project's own rules). Source: Kane, MIPS RISC Architecture.
 #![tactic(auto)]
 
-mod address;
+mod control;
 mod execute;
+mod fault;
 mod flow;
+mod links;
 mod memory;
 mod processor;
 mod product;
+mod step;
+mod translation;
 
-pub use processor::{Cpu, NotYet, Outcome, ProcessorState};
+pub use links::Links;
+pub use processor::{Cpu, Outcome, ProcessorState};

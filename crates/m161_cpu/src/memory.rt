@@ -1,102 +1,268 @@
 //! Loads and stores.
 
-ghost use Rattle.std.specs.Prelude.{◌≡◌, ◌+◌, ◌*◌, ◌/◌, ◌%◌, ◌^◌, ◌≤◌, ◌<◌, length, slice_set};
+ghost use Rattle.std.specs.Prelude.{◌≡◌, ◌+◌, ◌-◌, ◌*◌, ◌/◌, ◌%◌, ◌^◌, ◌≤◌, ◌<◌, length, slice_index, Ok, Err};
 ghost use Rattle.m161_isa.specs.declared.instr.Instr.TheVariants.{Load, Store};
-ghost use Rattle.m161_cpu.specs.Effect.{half_at, sign_extended_byte};
-ghost use Rattle.m161_cpu.specs.Execute.{Reads, Stores};
+ghost use Rattle.m161_bus.specs.Board.{KeepsSize};
+ghost use Rattle.m161_alu.specs.Word.{sign_extended_half};
+ghost use Rattle.m161_cpu.specs.Effect.{word_stored};
+ghost use Rattle.m161_cpu.specs.Execute.{change_by, Executes, FindsWord};
+ghost use Rattle.m161_cpu.specs.Scene.{here};
+ghost use Rattle.m161_cpu.specs.Translation.{read_word};
 
-use crate::address::ram_address;
-use crate::execute::sign_extend;
-use crate::processor::Flow;
-use m161_alu::{merge_left, merge_right};
-use m161_isa::{LoadOp, StoreOp};
+use crate::fault::{Access, FaultKind};
+use crate::links::Links;
+use crate::processor::{Cpu, Flow};
+use crate::translation::bus_error;
+use m161_alu::{merge_left, merge_right, sign_extend_byte, sign_extend_half};
+use m161_bus::{Board, Console};
+use m161_isa::{Immediate, LoadOp, Reg, StoreOp};
 use m161_ram::Ram;
+use m161_tlb::Tlb;
 
-// A byte as a signed word.
-fn sign_extend_byte(byte: u8) -> u32
-    ensures { result ≡ sign_extended_byte byte }
-{
-    i32::from(byte.cast_signed()).cast_unsigned()
-}
-
-// The half-word at a physical address.
-fn half(ram: &Ram, at: u32) -> u16
-    requires within { at + 2 ≤ length ram.now }
-    requires fits { at + 2 ≤ 2 ^ 32 }
-    ensures { result ≡ half_at ram.now at }
-{
-    u16::from_be_bytes([ram.byte(at), ram.byte(at + 1)])
-}
-
-// Puts a half-word at a physical address.
-fn set_half(ram: &mut Ram, at: u32, half: u16)
-    requires within { at + 2 ≤ length ram.old }
-    requires fits { at + 2 ≤ 2 ^ 32 }
-    ensures { ram.new ≡ slice_set (slice_set ram.old at (half / 2 ^ 8)) (at + 1) (half % 2 ^ 8) }
-{
-    let bytes = half.to_be_bytes();
-    ram.set_byte(at, bytes[0]);
-    ram.set_byte(at + 1, bytes[1]);
-}
-
-/// What a load from an address reads into a register with this word; nothing where the address
-/// needs a part that isn't there yet.
-#[tactic(auto, unfolding(crate::specs::Execute::change_by, crate::specs::Effect::change_of))]
-pub(crate) fn loaded(op: LoadOp, address: u32, word: u32, ram: &Ram) -> Option<u32>
-    ensures { Reads (Load op) address word ram.now result }
-{
-    let size = ram.size();
-    match op {
-        LoadOp::Byte => Some(sign_extend_byte(ram.byte(ram_address(address, 1, size)?))),
-        LoadOp::ByteUnsigned => Some(u32::from(ram.byte(ram_address(address, 1, size)?))),
-        LoadOp::Half => Some(sign_extend(half(ram, ram_address(address, 2, size)?))),
-        LoadOp::HalfUnsigned => Some(u32::from(half(ram, ram_address(address, 2, size)?))),
-        LoadOp::Word => Some(ram.word(ram_address(address, 4, size)?)),
-        LoadOp::WordLeft => {
-            let at = ram_address(address / 4 * 4, 4, size)?;
-            Some(merge_left(ram.word(at), word, address))
-        }
-        LoadOp::WordRight => {
-            let at = ram_address(address / 4 * 4, 4, size)?;
-            Some(merge_right(ram.word(at), word, address))
-        }
-        LoadOp::Linked => None,
+impl<T: Tlb> Cpu<T> {
+    // The address that a load or a store names.
+    #[inline(always)]
+    fn address(&self, offset: Immediate, base: Reg) -> u32
+        ensures { result ≡ (slice_index self.now.registers base + sign_extended_half offset) % 2 ^ 32 }
+    {
+        self.reg(base).wrapping_add(sign_extend_half(offset.half()))
     }
-}
 
-/// Stores a word, or a part of it, at an address; nothing where the address needs a part that
-/// isn't there yet.
-#[tactic(auto, unfolding(crate::specs::Execute::change_by, crate::specs::Effect::change_of))]
-pub(crate) fn store(op: StoreOp, word: u32, address: u32, ram: &mut Ram) -> Option<Flow>
-    ensures { Stores (Store op) word address ram.old result ram.new }
-{
-    let size = ram.size();
-    match op {
-        StoreOp::Byte => {
-            let at = ram_address(address, 1, size)?;
-            ram.set_byte(at, (word % 0x100) as u8);
-            Some(Flow::Next)
+    /// Loads.
+    #[inline(always)]
+    #[tactic(auto, unfolding(crate::specs::Execute::change_by))]
+    pub(crate) fn load<D: Console>(
+        &mut self,
+        op: LoadOp,
+        rt: Reg,
+        offset: Immediate,
+        base: Reg,
+        c: u32,
+        ram: &Ram,
+        board: &mut Board<D>,
+        links: &mut Links,
+    ) -> Result<(), FaultKind>
+        requires processor { (c < board.old.processors) × (board.old.processors ≤ 32) }
+        requires ram { length ram.now ≤ 2 ^ 29 }
+        ensures load { Executes (change_by (here self.old c ram.now board.old links.old)
+            (Load op rt offset base))
+            (here self.old c ram.now board.old links.old) result
+            (here self.new c ram.now board.new links.new) }
+        ensures board { KeepsSize board.old board.new }
+    {
+        let address = self.address(offset, base);
+        let size = ram.size();
+        match op {
+            LoadOp::Byte => {
+                let at = self.reach(Access::Load, 1, address, size)?;
+                self.set(rt, sign_extend_byte(ram.byte(at)));
+            }
+            LoadOp::ByteUnsigned => {
+                let at = self.reach(Access::Load, 1, address, size)?;
+                self.set(rt, u32::from(ram.byte(at)));
+            }
+            LoadOp::Half => {
+                let at = self.reach(Access::Load, 2, address, size)?;
+                self.set(rt, sign_extend_half(ram.half(at)));
+            }
+            LoadOp::HalfUnsigned => {
+                let at = self.reach(Access::Load, 2, address, size)?;
+                self.set(rt, u32::from(ram.half(at)));
+            }
+            LoadOp::Word => {
+                let word = self.read_word(address, c, ram, board)?;
+                self.set(rt, word);
+            }
+            LoadOp::WordLeft => {
+                let at = self.reach_word_of(Access::Load, address, size)?;
+                self.set(rt, merge_left(ram.word(at), self.reg(rt), address));
+            }
+            LoadOp::WordRight => {
+                let at = self.reach_word_of(Access::Load, address, size)?;
+                self.set(rt, merge_right(ram.word(at), self.reg(rt), address));
+            }
+            LoadOp::Linked => {
+                let at = self.reach(Access::Load, 4, address, size)?;
+                links.link(c, at);
+                self.set(rt, ram.word(at));
+            }
         }
-        StoreOp::Half => {
-            let at = ram_address(address, 2, size)?;
-            set_half(ram, at, (word % 0x1_0000) as u16);
-            Some(Flow::Next)
+        Ok(())
+    }
+
+    /// A word of RAM or of the slots.
+    #[inline(always)]
+    fn read_word<D: Console>(
+        &mut self,
+        address: u32,
+        c: u32,
+        ram: &Ram,
+        board: &mut Board<D>,
+    ) -> Result<u32, FaultKind>
+        requires processor { c < board.old.processors }
+        requires ram { length ram.now ≤ 2 ^ 29 }
+        ensures word { FindsWord (read_word address self.old c ram.now board.old)
+            self.old board.old result self.new board.new }
+        ensures board { KeepsSize board.old board.new }
+    {
+        if let Some(at) = self.direct(4, address, ram.size()) {
+            return Ok(ram.word(at));
         }
-        StoreOp::Word => {
-            let at = ram_address(address, 4, size)?;
+        let word = self.read_word_elsewhere(address, c, ram, board)?;
+        Ok(word)
+    }
+
+    #[cold]
+    #[inline(never)]
+    fn read_word_elsewhere<D: Console>(
+        &mut self,
+        address: u32,
+        c: u32,
+        ram: &Ram,
+        board: &mut Board<D>,
+    ) -> Result<u32, FaultKind>
+        requires processor { c < board.old.processors }
+        ensures word { FindsWord (read_word address self.old c ram.now board.old)
+            self.old board.old result self.new board.new }
+        ensures board { KeepsSize board.old board.new }
+    {
+        let at = self.translate(Access::Load, 4, address)?;
+        if u64::from(at) + 4 <= u64::from(ram.size()) {
+            return Ok(ram.word(at));
+        }
+        match board.read(c, at) {
+            Ok(word) => Ok(word),
+            Err(_) => Err(bus_error(Access::Load)),
+        }
+    }
+
+    /// Stores.
+    #[inline(always)]
+    #[tactic(auto, unfolding(crate::specs::Execute::change_by))]
+    pub(crate) fn store<D: Console>(
+        &mut self,
+        op: StoreOp,
+        rt: Reg,
+        offset: Immediate,
+        base: Reg,
+        c: u32,
+        ram: &mut Ram,
+        board: &mut Board<D>,
+        links: &mut Links,
+    ) -> Result<(), FaultKind>
+        requires processor { (c < board.old.processors) × (board.old.processors ≤ 32) }
+        requires ram { length ram.old ≤ 2 ^ 29 }
+        ensures store { Executes (change_by (here self.old c ram.old board.old links.old)
+            (Store op rt offset base))
+            (here self.old c ram.old board.old links.old) result
+            (here self.new c ram.new board.new links.new) }
+        ensures board { KeepsSize board.old board.new }
+        ensures size { length ram.new ≡ length ram.old }
+    {
+        let address = self.address(offset, base);
+        let size = ram.size();
+        let word = self.reg(rt);
+        match op {
+            StoreOp::Byte => {
+                let at = self.reach(Access::Store, 1, address, size)?;
+                ram.set_byte(at, (word % 0x100) as u8);
+                links.store_to(at / 4 * 4);
+                self.advance(Flow::Next);
+            }
+            StoreOp::Half => {
+                let at = self.reach(Access::Store, 2, address, size)?;
+                ram.set_half(at, (word % 0x1_0000) as u16);
+                links.store_to(at / 4 * 4);
+                self.advance(Flow::Next);
+            }
+            StoreOp::Word => self.store_word(address, word, c, ram, board, links)?,
+            StoreOp::WordLeft => {
+                let at = self.reach_word_of(Access::Store, address, size)?;
+                ram.set_word(at, merge_right(word, ram.word(at), 3 - address % 4));
+                links.store_to(at);
+                self.advance(Flow::Next);
+            }
+            StoreOp::WordRight => {
+                let at = self.reach_word_of(Access::Store, address, size)?;
+                ram.set_word(at, merge_left(word, ram.word(at), 3 - address % 4));
+                links.store_to(at);
+                self.advance(Flow::Next);
+            }
+            StoreOp::Conditional => {
+                let at = self.reach(Access::Store, 4, address, size)?;
+                let linked = links.names(c, at);
+                if linked {
+                    ram.set_word(at, word);
+                    links.store_to(at);
+                }
+                links.unlink(c);
+                self.set(rt, u32::from(linked));
+            }
+        }
+        Ok(())
+    }
+
+    // Stores a word to RAM or to the slots.
+    #[inline(always)]
+    fn store_word<D: Console>(
+        &mut self,
+        address: u32,
+        word: u32,
+        c: u32,
+        ram: &mut Ram,
+        board: &mut Board<D>,
+        links: &mut Links,
+    ) -> Result<(), FaultKind>
+        requires processor { c < board.old.processors }
+        requires ram { length ram.old ≤ 2 ^ 29 }
+        ensures store { Executes
+            (word_stored address word (here self.old c ram.old board.old links.old))
+            (here self.old c ram.old board.old links.old) result
+            (here self.new c ram.new board.new links.new) }
+        ensures board { KeepsSize board.old board.new }
+        ensures size { length ram.new ≡ length ram.old }
+    {
+        if let Some(at) = self.direct(4, address, ram.size()) {
             ram.set_word(at, word);
-            Some(Flow::Next)
+            links.store_to(at);
+            self.advance(Flow::Next);
+            return Ok(());
         }
-        StoreOp::WordLeft => {
-            let at = ram_address(address / 4 * 4, 4, size)?;
-            ram.set_word(at, merge_right(word, ram.word(at), 3 - address % 4));
-            Some(Flow::Next)
+        self.store_word_elsewhere(address, word, c, ram, board, links)
+    }
+
+    #[cold]
+    #[inline(never)]
+    fn store_word_elsewhere<D: Console>(
+        &mut self,
+        address: u32,
+        word: u32,
+        c: u32,
+        ram: &mut Ram,
+        board: &mut Board<D>,
+        links: &mut Links,
+    ) -> Result<(), FaultKind>
+        requires processor { c < board.old.processors }
+        ensures store { Executes
+            (word_stored address word (here self.old c ram.old board.old links.old))
+            (here self.old c ram.old board.old links.old) result
+            (here self.new c ram.new board.new links.new) }
+        ensures board { KeepsSize board.old board.new }
+        ensures size { length ram.new ≡ length ram.old }
+    {
+        let at = self.translate(Access::Store, 4, address)?;
+        if u64::from(at) + 4 <= u64::from(ram.size()) {
+            ram.set_word(at, word);
+            links.store_to(at);
+            self.advance(Flow::Next);
+            return Ok(());
         }
-        StoreOp::WordRight => {
-            let at = ram_address(address / 4 * 4, 4, size)?;
-            ram.set_word(at, merge_left(word, ram.word(at), 3 - address % 4));
-            Some(Flow::Next)
+        match board.write(c, at, word) {
+            Ok(()) => {
+                self.advance(Flow::Next);
+                Ok(())
+            }
+            Err(_) => Err(bus_error(Access::Store)),
         }
-        StoreOp::Conditional => None,
     }
 }

@@ -1,16 +1,20 @@
-//! The registers of a processor.
+//! The registers of a processor, and one Step of it.
 
-ghost use Rattle.std.specs.Prelude.{◌≡◌, ◌+◌, ◌-◌, ◌^◌, ◌<◌, ◌%◌, length, slice_index, OnOk};
-ghost use Rattle.m161_cpu.specs.Processor.{stopped, started, with_register, advanced};
-ghost use Rattle.m161_cpu.specs.Step.{counted, fetched, step_in, step_of, Steps};
-ghost use Rattle.m161_cpu.specs.declared.processor.ProcessorState.TheVariants.{Running};
+ghost use Rattle.std.specs.Prelude.{◌≡◌, ◌+◌, ◌-◌, ◌^◌, ◌<◌, ◌≤◌, ◌%◌, if◌then◌else◌, length, slice_index, Ok, Err};
+ghost use Rattle.m161_bus.specs.Board.{lines_of};
+ghost use Rattle.m161_cop0.specs.Trap.{IsVector};
+ghost use Rattle.m161_cpu.specs.Processor.{stopped, started, with_register, with_hi_lo, advanced};
+ghost use Rattle.m161_cpu.specs.Scene.{Around, scene};
+ghost use Rattle.m161_cpu.specs.Fault.{vector, with_trap};
+ghost use Rattle.m161_cpu.specs.Step.{rested, step_of, tick};
 
 mod views;
 
-use crate::address::ram_address;
+use crate::fault::FaultKind;
 use m161_alu::HiLoPair;
+use m161_cop0::{Cop0, Exception, Trap};
 use m161_isa::Reg;
-use m161_ram::Ram;
+use m161_tlb::Tlb;
 use std::marker::Model;
 
 /// What a processor is doing.
@@ -20,15 +24,28 @@ pub enum ProcessorState {
     Stopped,
     /// It executes instructions.
     Running,
+    /// It waits until an interrupt is pending.
+    Waiting,
 }
 
-/// What a Step came to.
+/// The outcome of an event.
 #[derive(Clone, Copy, Debug, PartialEq, Eq)]
 pub enum Outcome {
     /// An instruction was executed.
     Ran,
-    /// The processor is stopped: only its Steps were counted.
+    /// A trap was entered.
+    Trapped {
+        /// Why.
+        code: Exception,
+        /// Where the processor goes on.
+        vector: u32,
+    },
+    /// The processor is stopped or waiting: no instruction was executed.
     Idle,
+    /// An instruction was executed that switched the machine off.
+    PoweredOff,
+    /// An input of a device was accepted; never the outcome of a Step.
+    Taken,
 }
 
 /// The way on after an instruction.
@@ -37,18 +54,14 @@ pub(crate) enum Flow {
     /// To the next address.
     Next,
     /// To the next address, a delay slot.
-    Slot,
+    NotTaken,
     /// To the next address, a delay slot, and from there to this one.
-    Jump(u32),
+    Taken(u32),
 }
 
-/// The Step needs a part that isn't there yet.
-#[derive(Clone, Copy, Debug, PartialEq, Eq)]
-pub struct NotYet;
-
-/// A processor.
+/// A processor, over any TLB.
 #[derive(Drop)]
-pub struct Cpu {
+pub struct Cpu<T: Tlb> {
     registers: [u32; 32],
     hi: u32,
     lo: u32,
@@ -57,10 +70,12 @@ pub struct Cpu {
     slot: bool,
     state: ProcessorState,
     count: u64,
+    pub(crate) control: Cop0,
+    pub(crate) tlb: T,
 }
 
-impl Model for Cpu {
-    ghost use Rattle.std.specs.Prelude.{◌≡◌, length, slice_index};
+impl<T: Tlb> Model for Cpu<T> {
+    ghost use Rattle.std.specs.Prelude.{◌≡◌, ◌≤◌, length, slice_index};
     ghost use Rattle.m161_cpu.specs.Processor.{Processor};
 
     ghost Value = { Processor };
@@ -72,16 +87,19 @@ impl Model for Cpu {
       pc = c.pc;
       following = c.following;
       slot = c.slot;
+      control = c.control;
+      rows = T.rows c.tlb;
       state = c.state;
       count = c.count;
     } };
 
-    ghost invariant = { λ c. (length c.registers ≡ 32) × (slice_index c.registers 0 ≡ 0) };
+    ghost invariant = { λ c.
+        (length c.registers ≡ 32) × (slice_index c.registers 0 ≡ 0) × (c.control.age ≤ c.count) };
 }
 
-impl Cpu {
-    /// A processor that was never started: all zero.
-    pub fn new() -> Cpu
+impl<T: Tlb> Cpu<T> {
+    /// A processor that was never started.
+    pub fn new() -> Cpu<T>
         ensures { result ≡ stopped }
     {
         Cpu {
@@ -93,6 +111,8 @@ impl Cpu {
             slot: false,
             state: ProcessorState::Stopped,
             count: 0,
+            control: Cop0::new(),
+            tlb: T::empty(),
         }
     }
 
@@ -112,10 +132,13 @@ impl Cpu {
             slot: false,
             state: ProcessorState::Running,
             count: self.count,
+            control: Cop0::new(),
+            tlb: T::empty(),
         };
     }
 
     /// Writes a register; a write to register 0 is lost.
+    #[inline(always)]
     pub(crate) fn set_reg(&mut self, register: Reg, word: u32)
         ensures { self.new ≡ with_register register word self.old }
     {
@@ -126,70 +149,119 @@ impl Cpu {
     }
 
     /// Writes HI and LO.
+    #[inline(always)]
     pub(crate) fn set_hi_lo(&mut self, pair: HiLoPair)
-        ensures { self.new ≡ record self.old { hi = pair.hi; lo = pair.lo } }
+        ensures { self.new ≡ with_hi_lo pair self.old }
     {
         self.hi = pair.hi;
         self.lo = pair.lo;
     }
 
-    /// One Step of processor `c`. Refused where it needs a part that isn't there yet; nothing is
-    /// changed then.
+    /// Waits until an interrupt is pending.
+    pub(crate) fn wait(&mut self)
+        ensures { self.new ≡ record self.old { state = ProcessorState.Waiting } }
+    {
+        self.state = ProcessorState::Waiting;
+    }
+
+    /// Writes a register, and goes on to the next instruction.
+    #[inline(always)]
+    pub(crate) fn set(&mut self, register: Reg, word: u32)
+        ensures { self.new ≡ advanced Flow.Next (with_register register word self.old) }
+    {
+        self.set_reg(register, word);
+        self.advance(Flow::Next);
+    }
+
+    /// The end of a Step of a started processor.
+    #[inline(always)]
+    pub(crate) fn tick(&mut self)
+        requires { self.old.count < 2 ^ 64 - 1 }
+        ensures { self.new ≡ tick self.old }
+    {
+        self.count += 1;
+        self.control.tick();
+    }
+
+    /// Whether it rests in this Step, in which the board's lines of it are these. A stopped one only
+    /// counts; a waiting one ticks, or runs again where an interrupt is pending.
+    #[inline(always)]
     #[tactic(auto, unfolding(crate::specs::Step::step_of))]
-    pub fn step(&mut self, _c: usize, ram: &mut Ram) -> Result<Outcome, NotYet>
-        requires room { self.old.count < 2 ^ 64 - 1 }
-        ensures step { Steps (step_of self.old ram.old) self.old ram.old result self.new ram.new }
-        ensures counted { OnOk result (self.new.count ≡ self.old.count + 1) }
-        ensures size { length ram.new ≡ length ram.old }
+    pub(crate) fn rests(&mut self, lines: u32) -> bool
+        requires { self.old.count < 2 ^ 64 - 1 }
+        ensures step { (a : Around) → lines_of a.number a.board ≡ lines
+            → step_of (scene self.old a) ≡ rested result (scene self.new a) }
+        ensures counted { self.new.count ≡ self.old.count + (if result then 1 else 0) }
+    {
+        self.state != ProcessorState::Running && self.rests_elsewhere(lines)
+    }
+
+    #[cold]
+    #[inline(never)]
+    #[tactic(auto, unfolding(crate::specs::Step::step_of))]
+    fn rests_elsewhere(&mut self, lines: u32) -> bool
+        requires { self.old.count < 2 ^ 64 - 1 }
+        ensures step { (a : Around) → lines_of a.number a.board ≡ lines
+            → step_of (scene self.old a) ≡ rested result (scene self.new a) }
+        ensures counted { self.new.count ≡ self.old.count + (if result then 1 else 0) }
     {
         match self.state {
             ProcessorState::Stopped => {
                 self.count += 1;
-                Ok(Outcome::Idle)
+                true
             }
-            ProcessorState::Running => self.run_one(ram),
+            ProcessorState::Running => false,
+            ProcessorState::Waiting => {
+                if self.control.pending(lines) {
+                    self.state = ProcessorState::Running;
+                    false
+                } else {
+                    self.tick();
+                    true
+                }
+            }
         }
     }
 
-    // One Step of a running processor.
-    #[tactic(auto, using(crate::proofs::Stepping::ran_so, crate::proofs::Stepping::refused_so, crate::proofs::Sizes::executed_size))]
-    fn run_one(&mut self, ram: &mut Ram) -> Result<Outcome, NotYet>
-        requires room { self.old.count < 2 ^ 64 - 1 }
-        ensures step { Steps (step_in Running self.old ram.old) self.old ram.old result self.new ram.new }
-        ensures counted { OnOk result (self.new.count ≡ self.old.count + 1) }
-        ensures size { length ram.new ≡ length ram.old }
+    /// Enters a trap; the address where it goes on.
+    #[cold]
+    #[inline(never)]
+    pub(crate) fn enter(&mut self, kind: FaultKind) -> u32
+        ensures processor { self.new ≡ with_trap kind self.old }
+        ensures vector { result ≡ vector kind self.old }
+        ensures place { IsVector result }
     {
-        let word = self.fetch(ram).ok_or(NotYet)?;
-        let flow = self.perform(word, ram).ok_or(NotYet)?;
-        self.advance(flow);
-        Ok(Outcome::Ran)
+        let trap = Trap {
+            exception: kind.exception(),
+            unit: kind.unit(),
+            user_miss: kind.is_user_miss(),
+            pc: self.pc,
+            slot: self.slot,
+            address: self.control.bad_vaddr(),
+        };
+        let vector = self.control.enter(trap);
+        self.pc = vector;
+        self.following = vector + 4;
+        self.slot = false;
+        vector
     }
 
-    // The word at pc.
-    fn fetch(&self, ram: &Ram) -> Option<u32>
-        ensures { result ≡ fetched self.now ram.now }
+    /// Goes on to the next instruction.
+    #[inline(always)]
+    pub(crate) fn advance(&mut self, flow: Flow)
+        ensures { self.new ≡ advanced flow self.old }
     {
-        let at = ram_address(self.pc, 4, ram.size())?;
-        Some(ram.word(at))
-    }
-
-    // Counts a Step and goes on to the next instruction.
-    fn advance(&mut self, flow: Flow)
-        requires { self.old.count < 2 ^ 64 - 1 }
-        ensures { self.new ≡ counted (advanced flow self.old) }
-    {
-        self.count += 1;
         self.pc = self.following;
         match flow {
             Flow::Next => {
                 self.following = self.following.wrapping_add(4);
                 self.slot = false;
             }
-            Flow::Slot => {
+            Flow::NotTaken => {
                 self.following = self.following.wrapping_add(4);
                 self.slot = true;
             }
-            Flow::Jump(target) => {
+            Flow::Taken(target) => {
                 self.following = target;
                 self.slot = true;
             }

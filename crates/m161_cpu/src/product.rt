@@ -2,17 +2,20 @@
 
 ghost use Rattle.std.specs.Prelude.{◌≡◌, ℕ, List};
 ghost use Rattle.m161_isa.specs.declared.instr.Instr.TheVariants.{MoveFrom, MoveTo, Multiply};
-ghost use Rattle.m161_cpu.specs.Execute.{change_by, Executes};
+ghost use Rattle.m161_cpu.specs.Execute.{Does};
 
+use crate::fault::FaultKind;
 use crate::processor::{Cpu, Flow};
 use m161_alu::{HiLoPair, Signedness, div, mult};
 use m161_isa::{HiLo, MultiplyOp, Reg};
+use m161_tlb::Tlb;
 
-impl Cpu {
+impl<T: Tlb> Cpu<T> {
     /// `mult`, `multu`, `div`, `divu`.
-    #[tactic(auto, unfolding(crate::specs::Execute::change_by, crate::specs::Effect::change_of))]
-    pub(crate) fn multiply(&mut self, op: MultiplyOp, rs: Reg, rt: Reg) -> Option<Flow>
-        ensures { (m : List ℕ) → Executes (change_by self.old m (Multiply op rs rt)) self.old m result self.new m }
+    #[inline(always)]
+    #[tactic(auto, unfolding(crate::specs::Execute::change_by))]
+    pub(crate) fn multiply(&mut self, op: MultiplyOp, rs: Reg, rt: Reg) -> Result<(), FaultKind>
+        ensures { Does (Multiply op rs rt) self.old result self.new }
     {
         let s = self.reg(rs);
         let t = self.reg(rt);
@@ -23,26 +26,29 @@ impl Cpu {
             MultiplyOp::Divu => div(Signedness::Unsigned, s, t),
         };
         self.set_hi_lo(pair);
-        Some(Flow::Next)
+        self.advance(Flow::Next);
+        Ok(())
     }
 
     /// `mfhi` and `mflo`.
-    #[tactic(auto, unfolding(crate::specs::Execute::change_by, crate::specs::Effect::change_of))]
-    pub(crate) fn move_from(&mut self, from: HiLo, rd: Reg) -> Option<Flow>
-        ensures { (m : List ℕ) → Executes (change_by self.old m (MoveFrom from rd)) self.old m result self.new m }
+    #[inline(always)]
+    #[tactic(auto, unfolding(crate::specs::Execute::change_by))]
+    pub(crate) fn move_from(&mut self, from: HiLo, rd: Reg) -> Result<(), FaultKind>
+        ensures { Does (MoveFrom from rd) self.old result self.new }
     {
         let word = match from {
             HiLo::Hi => self.hi(),
             HiLo::Lo => self.lo(),
         };
-        self.set_reg(rd, word);
-        Some(Flow::Next)
+        self.set(rd, word);
+        Ok(())
     }
 
     /// `mthi` and `mtlo`.
-    #[tactic(auto, unfolding(crate::specs::Execute::change_by, crate::specs::Effect::change_of))]
-    pub(crate) fn move_to(&mut self, to: HiLo, rs: Reg) -> Option<Flow>
-        ensures { (m : List ℕ) → Executes (change_by self.old m (MoveTo to rs)) self.old m result self.new m }
+    #[inline(always)]
+    #[tactic(auto, unfolding(crate::specs::Execute::change_by))]
+    pub(crate) fn move_to(&mut self, to: HiLo, rs: Reg) -> Result<(), FaultKind>
+        ensures { Does (MoveTo to rs) self.old result self.new }
     {
         let word = self.reg(rs);
         let (hi, lo) = match to {
@@ -50,6 +56,7 @@ impl Cpu {
             HiLo::Lo => (self.hi(), word),
         };
         self.set_hi_lo(HiLoPair { hi, lo });
-        Some(Flow::Next)
+        self.advance(Flow::Next);
+        Ok(())
     }
 }

@@ -1,12 +1,19 @@
-use Rattle.std.proofs.Common.{◌≡◌, refl, sym, ℕ, true, false, List, [], ◌∷◌, Option, None, Some, Ok, arith, rules}
+use Rattle.std.proofs.Common.{◌≡◌, ◌∙◌, refl, sym, ap, ℕ, ◌-◌, ◌^◌, ◌≤◌, true, List, [], ◌∷◌, length, replicate, Option, None, Some, Ok, arith, rules}
+use Rattle.std.specs.Prelude.{All}
+use Rattle.std.proofs.lemmas.List.{length-replicate}
+use Rattle.std.proofs.lemmas.List.Elements.{All-cons, All-replicate}
 use Rattle.m161_elf.specs.declared.image.Image.{Image}
 use Rattle.m161_elf.specs.declared.image.LoadError.{LoadError}
 use Rattle.m161_elf.specs.Image.{first_fault, Loads, IsImage}
-use Rattle.m161_cpu.specs.Processor.{Processor, started}
+use Rattle.m161_bus.specs.Console.{console_at_boot}
+use Rattle.m161_bus.specs.Board.{board_at_boot}
+use Rattle.m161_cpu.specs.Processor.{Processor, started, stopped}
+use Rattle.m161_cpu.specs.Links.{no_links}
 use Rattle.m161_machine.specs.declared.conf.Conf.{Conf}
 use Rattle.m161_machine.specs.declared.event.Entry.{Entry}
 use Rattle.m161_machine.specs.Conf.{is_within_limits}
-use Rattle.m161_machine.specs.History.{Start, history, IsLoaded, Agrees}
+use Rattle.m161_machine.specs.State.{Parts}
+use Rattle.m161_machine.specs.History.{Start, history, IsLoaded, Agrees, IsMade}
 
 -- what a load answers with an image says of the file
 
@@ -21,27 +28,41 @@ pub loaded : (file : List ℕ) (conf : Conf) (image : Image) →
 loaded file conf image h =
     let left = loaded_of file conf.ram (first_fault file conf.ram) image h in (file, left.0, left.1)
 
--- so far a machine has one processor
-one_processor : (conf : Conf) → is_within_limits conf ≡ true → conf.processors ≡ 1
-one_processor conf h = search rules
+one_at_least : (conf : Conf) → is_within_limits conf ≡ true → 1 ≤ conf.processors
+one_at_least conf h = search rules
+
+pub log_is_short : (conf : Conf) → is_within_limits conf ≡ true → conf.log ≤ 2 ^ 24
+log_is_short conf h = search rules
 
 -- the parts of a machine that was just booted
 pub agrees_at_boot : (start : Start) (processors : List Processor) (log : List Entry) →
-    IsLoaded start → is_within_limits start.conf ≡ true → processors ≡ started start.entry 0 0 0 ∷ [] → log ≡ [] →
-    Agrees (history start log) processors start.bytes false
-agrees_at_boot start processors log from_file within only empty =
-    let one : start.conf.processors ≡ 1 = one_processor start.conf within in
-    rw (empty, only) record {
+    IsLoaded start → is_within_limits start.conf ≡ true →
+    processors ≡ started start.entry 0 0 0 ∷ replicate (start.conf.processors - 1) stopped → log ≡ [] →
+    Agrees (history start log) (record {
+      processors = processors;
+      memory = start.bytes;
+      board = board_at_boot start.conf.ram start.conf.processors console_at_boot;
+      links = no_links;
+    })
+agrees_at_boot start processors log from_file within them empty =
+    let one = one_at_least start.conf within in
+    let others = length-replicate (start.conf.processors - 1) stopped in
+    rw (empty, them) record {
       replay = refl;
-      processors_are = rw one refl;
-      memory_is = refl;
-      off_is = refl;
-      conf_is = refl;
+      parts_are = refl;
+      sound = record {
+        conf_is = refl;
+        ram_is = from_file.2.size_is;
+        size_is = omega (arith, one, others);
+        board_is = refl;
+        links_are = refl;
+        made = All-replicate (IsMade []) 32 None tt;
+        accepted_is = refl;
+        counts = let P : Processor → Type 0 = λ p. p.count ≤ 0 in
+            All-cons P (started start.entry 0 0 0) (replicate (start.conf.processors - 1) stopped) (omega arith)
+            (All-replicate P (start.conf.processors - 1) stopped (omega arith));
+      };
       is_loaded = from_file;
       limits_hold = within;
-      ram_is = from_file.2.size_is;
-      size_is = sym one;
-      accepted_is = refl;
       log_fits = omega arith;
-      counts = λ k d below. let first : k ≡ 0 = omega arith in rw first (omega arith);
     }

@@ -1,4 +1,8 @@
 pub mod Replay
-pub mod Stepping
-pub mod Made
-pub mod Booted
+pub mod Continuing
+mod Linking
+mod Starting
+mod Places
+mod Inputs
+mod Made
+mod Booted

@@ -1,137 +1,184 @@
-use Rattle.std.proofs.Common.{◌≡◌, ◌∙◌, refl, ap, sym, subst, ℕ, ◌+◌, ◌<◌, ◌≤◌, Bool, List, [], ◌∷◌, ◌++◌, length, get_or, None, Some, Ok, Err, arith}
-use Rattle.std.specs.Prelude.{slice_set}
-use Rattle.std.proofs.lemmas.List.{get_or_read_under, length-append, length-set}
-use Rattle.std.proofs.lemmas.List.Elements.{All-set}
+use Rattle.std.proofs.Common.{◌≡◌, ◌∙◌, refl, ap, sym, subst, ℕ, ◌+◌, ◌<◌, ◌≤◌, List, [], ◌∷◌, ◌++◌, length, Option, None, Some, Ok, Err, arith}
+use Rattle.std.specs.Prelude.{slice_set, All}
+use Rattle.std.proofs.lemmas.List.{length-append, length-set}
+use Rattle.std.proofs.lemmas.List.Elements.{All-weaker}
+use Rattle.m161_bus.specs.Board.{BoardState}
 use Rattle.m161_cpu.specs.declared.processor.Outcome.{Outcome}
-use Rattle.m161_cpu.specs.declared.processor.NotYet.{NotYet}
-use Rattle.m161_cpu.specs.Processor.{Processor, stopped}
-use Rattle.m161_cpu.specs.Step.{Stepped, Steps, step_of}
+use Rattle.m161_cpu.specs.declared.processor.Outcome.TheVariants.{Taken}
+use Rattle.m161_cpu.specs.Processor.{Processor}
+use Rattle.m161_cpu.specs.Links.{LinkAct, Keep, LinkTo, End}
+use Rattle.m161_cpu.specs.Scene.{around, scene}
+use Rattle.m161_cpu.specs.Step.{Stepped, step_of}
+use Rattle.m161_cpu.proofs.Laws.{step_links}
+use Rattle.m161_machine.specs.declared.conf.Conf.{Conf}
+use Rattle.m161_machine.specs.declared.event.Event.{Event}
 use Rattle.m161_machine.specs.declared.event.Event.TheVariants.{Step}
 use Rattle.m161_machine.specs.declared.event.Entry.{Entry}
 use Rattle.m161_machine.specs.declared.event.Refusal.{Refusal}
-use Rattle.m161_machine.specs.declared.event.Refusal.TheVariants.{NotYet as NotYetRefusal}
-use Rattle.m161_machine.specs.State.{State, refusal, next, processor_at, with_step}
-use Rattle.m161_machine.specs.History.{Start, outcomes_of, history, History, entry, Agrees, Answers}
+use Rattle.m161_machine.specs.State.{Link, State, Parts, answer, live_links, next, parts_after, parts_of, processor_at, refusal, relinked, step_on, stepped, stores_after, with_board, with_step}
+use Rattle.m161_machine.specs.History.{Start, History, outcomes_of, history, entry, Agrees, Answers, IsMade, IsSound, Refuses}
+use Rattle.m161_machine.proofs.Linking.{all_made, live_after}
 use Rattle.m161_machine.proofs.Replay.{replayed_more, history_more}
-use Rattle.m161_machine.proofs.Stepping.{stepped_is, none_is}
 
--- a refused event
-pub refused : (s : State) (p : ℕ) (r : Refusal) → refusal s (Step p) ≡ Some r → next s (Step p) ≡ Err r
+-- A refused and an accepted event.
+
+pub refused : (s : State) (e : Event) (r : Refusal) → refusal s e ≡ Some r → Refuses (next s e) e r
 unfolding next
-refused s p r h = rw h refl
+refused s e r h = rw h refl
 
--- a Step that gives nothing
-pub refused_so_far : (s : State) (p : ℕ) →
-    refusal s (Step p) ≡ None → step_of (processor_at p s.processors) s.memory ≡ None → next s (Step p) ≡ Err NotYetRefusal
+pub allowed : (s : State) (e : Event) → refusal s e ≡ None → next s e ≡ answer s e
 unfolding next
-refused_so_far s p h g = rw (h, g) refl
+allowed s e h = rw h refl
 
--- a Step that gives something
-pub stepped : (s : State) (p : ℕ) (x : Stepped) →
-    refusal s (Step p) ≡ None → step_of (processor_at p s.processors) s.memory ≡ Some x →
-    next s (Step p) ≡ Ok (x.outcome, with_step p s x)
-unfolding next
-stepped s p x h g = rw (h, g) refl
+-- what an accepted event leaves: the parts agree with the longer history, which ends in the state that `next` gives
+pub record Made (m : History) (start : Start) (log : List Entry) (e : Event) (o : Outcome) (parts : Parts) : Type 0 where
+  pub agrees : Agrees (history start (log ++ entry e o ∷ [])) parts
+  pub answers : Answers m e (Ok o) (history start (log ++ entry e o ∷ []))
+  pub same_number : length (history start (log ++ entry e o ∷ [])).state.processors ≡ length m.state.processors
 
--- what an accepted Step of p leaves: the parts agree with the longer history, which ends in the state that `next` gives
-pub record Made (m : History) (start : Start) (log : List Entry) (p : ℕ) (o : Outcome) (processors : List Processor) (memory : List ℕ) (off : Bool) : Type 0 where
-  pub agrees : Agrees (history start (log ++ entry (Step p) o ∷ [])) processors memory off
-  pub answers : Answers m (Step p) (Ok o) (history start (log ++ entry (Step p) o ∷ []))
-  pub same_number : length (history start (log ++ entry (Step p) o ∷ [])).state.processors ≡ length m.state.processors
-
-pub step_made : (start : Start) (log : List Entry) (p : ℕ) (o : Outcome) (processors : List Processor) (memory left : List ℕ) (off : Bool) (old new : Processor) →
-    Agrees (history start log) processors memory off →
-    refusal (history start log).state (Step p) ≡ None →
-    p < length processors → length log < start.conf.log →
-    old ≡ get_or processors p old →
-    Steps (step_of old memory) old memory (Ok o) new left →
-    new.count ≡ old.count + 1 → length left ≡ length memory →
-    Made (history start log) start log p o (slice_set processors p new) left off
-step_made start log p o processors memory left off old new a allowed inside room here steps counted size =
-    let x : Stepped = record { outcome = o; processor = new; memory = left } in
+made : (start : Start) (log : List Entry) (e : Event) (o : Outcome) (t : State) (before parts : Parts) →
+    Agrees (history start log) before →
+    next (history start log).state e ≡ Ok (o, t) → length log < start.conf.log →
+    parts ≡ parts_of t → IsSound start.conf (length log + 1) t →
+    Made (history start log) start log e o parts
+made start log e o t before parts a gives room parts_are sound =
     let h = history start log in
-    let old_is : old ≡ processor_at p h.state.processors =
-    get_or_read_under processors p (length processors) old stopped here inside refl ∙ ap (processor_at p) a.processors_are in
-    let gives : next h.state (Step p) ≡ Ok (o, with_step p h.state x) =
-    stepped h.state p x allowed
-    (ap (λ q. step_of q h.state.memory) (sym old_is) ∙ ap (step_of old) (sym a.memory_is)
-    ∙ stepped_is (step_of old memory) old new memory left o steps) in
-    let state_is : (history start (log ++ entry (Step p) o ∷ [])).state ≡ with_step p h.state x =
-    history_more start log (Step p) o (with_step p h.state x) a.replay gives in
-    let longer : length (log ++ entry (Step p) o ∷ []) ≡ length log + 1 = length-append log (entry (Step p) o ∷ []) in
+    let state_is : (history start (log ++ entry e o ∷ [])).state ≡ t = history_more start log e o t a.replay gives in
+    let longer : length (log ++ entry e o ∷ []) ≡ length log + 1 = length-append log (entry e o ∷ []) in
+    let P : ℕ → State → Type 0 = λ n s. IsSound start.conf n s in
+    let sound_now : IsSound start.conf (length (log ++ entry e o ∷ [])) (history start (log ++ entry e o ∷ [])).state =
+    subst (λ n. P n (history start (log ++ entry e o ∷ [])).state) (sym longer) (subst (P (length log + 1)) (sym state_is) sound) in
     record {
       agrees = record {
-        replay = replayed_more start log (Step p) o (with_step p h.state x) a.replay gives
-            ∙ ap (λ t. Some (outcomes_of (log ++ entry (Step p) o ∷ []), t)) (sym state_is);
-        processors_are = ap (λ ps. slice_set ps p new) a.processors_are ∙ ap (λ (t : State). t.processors) (sym state_is);
-        memory_is = ap (λ (t : State). t.memory) (sym state_is);
-        off_is = a.off_is ∙ ap (λ (t : State). t.off) (sym state_is);
-        conf_is = ap (λ (t : State). t.conf) state_is ∙ a.conf_is;
+        replay = replayed_more start log e o t a.replay gives
+            ∙ ap (λ s. Some (outcomes_of (log ++ entry e o ∷ []), s)) (sym state_is);
+        parts_are = parts_are ∙ ap parts_of (sym state_is);
+        sound = sound_now;
         is_loaded = a.is_loaded;
         limits_hold = a.limits_hold;
-        ram_is = size ∙ a.ram_is;
-        size_is = length-set processors p new ∙ a.size_is;
-        accepted_is = ap (λ (t : State). t.accepted) state_is ∙ ap (λ n. n + 1) a.accepted_is ∙ sym longer;
         log_fits = omega (arith, longer, room);
-        counts = All-set (λ (q : Processor). q.count ≤ length (log ++ entry (Step p) o ∷ [])) processors p new
-            (let before : old.count ≤ length log = let P : Processor → Type 0 = λ q. q.count ≤ length log in
-            subst P (sym here) (a.counts p old inside) in omega (arith, longer, counted, before))
-            (λ k d inside'. omega (arith, longer, a.counts k d inside'));
       };
-      answers = (gives ∙ ap (λ t. Ok (o, t)) (sym state_is), refl, refl);
-      same_number = ap (λ (t : State). length t.processors) state_is ∙ length-set h.state.processors p new;
+      answers = (gives ∙ ap (λ s. Ok (o, s)) (sym state_is), refl, refl);
+      same_number = ap (λ (s : State). length s.processors) state_is ∙ sound.size_is ∙ sym a.sound.size_is;
     }
 
--- a Step that is refused
-pub step_refused : (start : Start) (log : List Entry) (p : ℕ) (processors : List Processor) (memory left : List ℕ) (off : Bool) (old new : Processor) (e : NotYet) →
-    Agrees (history start log) processors memory off →
-    refusal (history start log).state (Step p) ≡ None →
-    p < length processors →
-    old ≡ get_or processors p old →
-    Steps (step_of old memory) old memory (Err e) new left →
-    next (history start log).state (Step p) ≡ Err NotYetRefusal
-step_refused start log p processors memory left off old new e a allowed inside here steps =
-    let h = history start log in
-    let old_is : old ≡ processor_at p h.state.processors =
-    get_or_read_under processors p (length processors) old stopped here inside refl ∙ ap (processor_at p) a.processors_are in
-    refused_so_far h.state p allowed
-    (ap (λ q. step_of q h.state.memory) (sym old_is) ∙ ap (step_of old) (sym a.memory_is)
-    ∙ none_is (step_of old memory) old new memory left e steps)
-
--- both, for a machine whose value is this history
-
-pub made_of : (m : History) (start : Start) (log : List Entry) (p : ℕ) (o : Outcome) (processors : List Processor) (memory left : List ℕ) (off : Bool) (old new : Processor) →
+-- the same for a machine whose value is this history
+made_of : (m : History) (start : Start) (log : List Entry) (e : Event) (o : Outcome) (t : State) (before parts : Parts) →
     history start log ≡ m →
-    Agrees (history start log) processors memory off →
-    refusal m.state (Step p) ≡ None →
-    (p < length m.state.processors) × (length m.log < m.start.conf.log) →
-    old ≡ get_or processors p old →
-    Steps (step_of old memory) old memory (Ok o) new left →
-    new.count ≡ old.count + 1 → length left ≡ length memory →
-    Made m start log p o (slice_set processors p new) left off
-made_of m start log p o processors memory left off old new view a allowed inside here steps counted size =
+    Agrees (history start log) before →
+    next m.state e ≡ Ok (o, t) → length m.log < m.start.conf.log →
+    parts ≡ parts_of t → IsSound start.conf (length log + 1) t →
+    Made m start log e o parts
+made_of m start log e o t before parts view a gives room parts_are sound =
     let P : History → Type 0 = λ x.
-    refusal x.state (Step p) ≡ None → (p < length x.state.processors) × (length x.log < x.start.conf.log) →
-    Made x start log p o (slice_set processors p new) left off in
-    subst P view
-    (λ allowed inside. step_made start log p o processors memory left off old new a allowed
-    (let same : length processors ≡ length (history start log).state.processors = ap length a.processors_are in omega (arith, same, inside.0))
-    inside.1 here steps counted size)
-    allowed inside
+    next x.state e ≡ Ok (o, t) → length x.log < x.start.conf.log → Made x start log e o parts in
+    subst P view (λ gives room. made start log e o t before parts a gives room parts_are sound) gives room
 
-pub refused_of : (m : History) (start : Start) (log : List Entry) (p : ℕ) (processors : List Processor) (memory left : List ℕ) (off : Bool) (old new : Processor) (e : NotYet) →
+-- an input of a device: the board's state alone is another
+sound_input : (conf : Conf) (n : ℕ) (s : State) (board : BoardState) → IsSound conf n s → board.processors ≡ s.board.processors →
+    IsSound conf (n + 1) (with_board board s)
+sound_input conf n s board sound number = record {
+  conf_is = sound.conf_is;
+  ram_is = sound.ram_is;
+  size_is = sound.size_is;
+  board_is = number ∙ sound.board_is;
+  links_are = sound.links_are;
+  made = sound.made;
+  accepted_is = ap (λ k. k + 1) sound.accepted_is;
+  counts = All-weaker (λ (p : Processor). p.count ≤ n) (λ (p : Processor). p.count ≤ n + 1) (λ p h. omega (arith, h)) s.processors sound.counts;
+}
+
+pub input_made : (m : History) (start : Start) (log : List Entry) (e : Event) (before : Parts) (board : BoardState) →
     history start log ≡ m →
-    Agrees (history start log) processors memory off →
-    refusal m.state (Step p) ≡ None →
-    p < length m.state.processors →
-    old ≡ get_or processors p old →
-    Steps (step_of old memory) old memory (Err e) new left →
-    next m.state (Step p) ≡ Err NotYetRefusal
-refused_of m start log p processors memory left off old new e view a allowed inside here steps =
-    let P : History → Type 0 = λ x.
-    refusal x.state (Step p) ≡ None → p < length x.state.processors → next x.state (Step p) ≡ Err NotYetRefusal in
-    subst P view
-    (λ allowed inside. step_refused start log p processors memory left off old new e a allowed
-    (let same : length processors ≡ length (history start log).state.processors = ap length a.processors_are in omega (arith, same, inside))
-    here steps)
-    allowed inside
+    Agrees (history start log) before →
+    refusal m.state e ≡ None → length m.log < m.start.conf.log →
+    ((s : State) → s.board ≡ before.board → answer s e ≡ Ok (Taken, with_board board s)) →
+    board.processors ≡ before.board.processors →
+    Made m start log e Taken (record before { board = board })
+input_made m start log e before board view a allows room gives number =
+    let s = (history start log).state in
+    let state_is : s ≡ m.state = ap (λ (x : History). x.state) view in
+    let board_is : s.board ≡ before.board = sym (ap (λ (ps : Parts). ps.board) a.parts_are) in
+    let board_was : m.state.board ≡ before.board = sym (ap (λ (t : State). t.board) state_is) ∙ board_is in
+    let next_is : next m.state e ≡ Ok (Taken, with_board board s) =
+    allowed m.state e allows ∙ gives m.state board_was ∙ ap (λ t. Ok (Taken, with_board board t)) (sym state_is) in
+    made_of m start log e Taken (with_board board s) before (record before { board = board }) view a next_is room
+    (ap (λ (ps : Parts). record ps { board = board }) a.parts_are)
+    (sound_input start.conf (length log) s board a.sound (number ∙ sym (ap (λ (b : BoardState). b.processors) board_is)))
+
+-- one that the device refuses
+pub input_refused : (m : History) (start : Start) (log : List Entry) (e : Event) (before : Parts) (r : Refusal) →
+    history start log ≡ m →
+    Agrees (history start log) before →
+    refusal m.state e ≡ None →
+    ((s : State) → s.board ≡ before.board → Refuses (answer s e) e r) →
+    Refuses (next m.state e) e r
+input_refused m start log e before r view a allows gives =
+    let s = (history start log).state in
+    let state_is : s ≡ m.state = ap (λ (x : History). x.state) view in
+    let board_is : s.board ≡ before.board = sym (ap (λ (ps : Parts). ps.board) a.parts_are) in
+    let board_was : m.state.board ≡ before.board = sym (ap (λ (t : State). t.board) state_is) ∙ board_is in
+    subst (λ x. Refuses x e r) (sym (allowed m.state e allows)) (gives m.state board_was)
+
+-- a Step
+length_relinked : (p : ℕ) (act : LinkAct) (n : ℕ) (links : List (Option Link)) → length (relinked p act n links) ≡ length links
+length_relinked p Keep n links = refl
+length_relinked p (LinkTo word) n links = length-set links p (Some (record { word = word; made = n }))
+length_relinked p End n links = length-set links p None
+
+-- a Step on the parts of a state is the state's
+step_on_parts : (p : ℕ) (s : State) (parts : Parts) → parts ≡ parts_of s → step_on p parts ≡ stepped p s
+unfolding stepped
+step_on_parts p s parts same = ap (step_on p) same
+
+-- the parts after it are those of the state after it
+parts_stepped : (p : ℕ) (s : State) → All (IsMade s.stores) s.links →
+    parts_after p (stepped p s) (parts_of s) ≡ parts_of (with_step p (stepped p s) s)
+unfolding stepped
+parts_stepped p s links_made =
+    let x = step_of (scene (processor_at p s.processors) (around p s.memory s.board (live_links s.stores s.links))) in
+    let links_are : x.after.around.links ≡ live_links (stores_after x.stored s.stores) (relinked p x.link (length (stores_after x.stored s.stores)) s.links) =
+    step_links (scene (processor_at p s.processors) (around p s.memory s.board (live_links s.stores s.links)))
+    ∙ live_after p x.link x.stored s.stores s.links links_made in
+    ap (λ links. record (parts_after p x (parts_of s)) { links = links }) links_are
+
+pub step_made : (m : History) (start : Start) (log : List Entry) (p : ℕ) (before : Parts) →
+    history start log ≡ m →
+    Agrees (history start log) before →
+    refusal m.state (Step p) ≡ None → length m.log < m.start.conf.log →
+    (after : Parts) → after ≡ parts_after p (step_on p before) before →
+    length after.processors ≡ length before.processors → length after.memory ≡ length before.memory →
+    after.board.processors ≡ before.board.processors →
+    ((n : ℕ) → All (λ (q : Processor). q.count ≤ n) before.processors → All (λ (q : Processor). q.count ≤ n + 1) after.processors) →
+    (o : Outcome) → o ≡ (step_on p before).outcome →
+    Made m start log (Step p) o after
+step_made m start log p before view a allows room after after_is number size board counts o outcome_is =
+    let s = (history start log).state in
+    let x = stepped p s in
+    let t = with_step p x s in
+    let state_is : s ≡ m.state = ap (λ (y : History). y.state) view in
+    let x_is : step_on p before ≡ x = step_on_parts p s before a.parts_are in
+    let gives : next m.state (Step p) ≡ Ok (o, t) =
+    allowed m.state (Step p) allows ∙ ap (λ u. answer u (Step p)) (sym state_is)
+    ∙ ap (λ y. Ok (y, t)) (sym (outcome_is ∙ ap (λ (y : Stepped). y.outcome) x_is)) in
+    let parts_are : after ≡ parts_of t =
+    after_is ∙ ap (λ y. parts_after p y before) x_is ∙ ap (parts_after p x) a.parts_are ∙ parts_stepped p s a.sound.made in
+    let sound : IsSound start.conf (length log + 1) t = record {
+      conf_is = a.sound.conf_is;
+      ram_is = sym (ap (λ (ps : Parts). length ps.memory) parts_are) ∙ size ∙ ap (λ (ps : Parts). length ps.memory) a.parts_are ∙ a.sound.ram_is;
+      size_is = sym (ap (λ (ps : Parts). length ps.processors) parts_are) ∙ number ∙ ap (λ (ps : Parts). length ps.processors) a.parts_are ∙ a.sound.size_is;
+      board_is = sym (ap (λ (ps : Parts). ps.board.processors) parts_are) ∙ board ∙ ap (λ (ps : Parts). ps.board.processors) a.parts_are ∙ a.sound.board_is;
+      links_are = length_relinked p x.link (length (stores_after x.stored s.stores)) s.links ∙ a.sound.links_are;
+      made = all_made p x.link x.stored s.stores s.links a.sound.made;
+      accepted_is = ap (λ k. k + 1) a.sound.accepted_is;
+      counts = let Q : Parts → Type 0 = λ ps. All (λ (q : Processor). q.count ≤ length log + 1) ps.processors in
+          subst Q parts_are (counts (length log)
+          (let R : Parts → Type 0 = λ ps. All (λ (q : Processor). q.count ≤ length log) ps.processors in subst R (sym a.parts_are) a.sound.counts));
+    } in
+    made_of m start log (Step p) o t before after view a gives room parts_are sound
+
+-- the counts of a machine's processors
+pub counts_of : (h : History) (parts : Parts) → Agrees h parts → All (λ (q : Processor). q.count ≤ length h.log) parts.processors
+counts_of h parts a =
+    let R : Parts → Type 0 = λ ps. All (λ (q : Processor). q.count ≤ length h.log) ps.processors in
+    subst R (sym a.parts_are) a.sound.counts

@@ -1,4 +1,4 @@
-use Rattle.std.specs.Prelude.{◌≡◌, ℕ, ◌-◌, ◌≤◌, Bool, true, false, List, [], ◌∷◌, ◌++◌, map, length, replicate, Option, None, Some, Result, Ok, Err, All, if◌then◌else◌}
+use Rattle.std.specs.Prelude.{◌≡◌, ℕ, ◌-◌, ◌<◌, ◌≤◌, Bool, true, false, List, [], ◌∷◌, ◌++◌, map, length, replicate, Option, None, Some, Result, Ok, Err, All, if◌then◌else◌}
 use Rattle.m161_elf.specs.declared.image.LoadError.{LoadError}
 use Rattle.m161_elf.specs.Image.{first_fault, IsImage}
 use Rattle.m161_cpu.specs.declared.processor.Outcome.{Outcome}
@@ -10,7 +10,11 @@ use Rattle.m161_machine.specs.declared.event.Event.{Event}
 use Rattle.m161_machine.specs.declared.event.Entry.{Entry}
 use Rattle.m161_machine.specs.declared.event.Refusal.{Refusal}
 use Rattle.m161_machine.specs.Conf.{is_within_limits}
-use Rattle.m161_machine.specs.State.{State, next}
+use Rattle.m161_bus.specs.Console.{console_at_boot}
+use Rattle.m161_bus.specs.Board.{board_at_boot}
+use Rattle.m161_machine.specs.declared.event.Event.TheVariants.{Done}
+use Rattle.m161_machine.specs.declared.event.Refusal.TheVariants.{NoMemory as NoMemoryRefusal}
+use Rattle.m161_machine.specs.State.{CountUpTo, Link, State, Parts, parts_of, next}
 
 -- What a machine is: the replay of its log.
 
@@ -26,8 +30,10 @@ boot_state start = record {
   conf = start.conf;
   processors = started start.entry 0 0 0 ∷ replicate (start.conf.processors - 1) stopped;
   memory = start.bytes;
+  board = board_at_boot start.conf.ram start.conf.processors console_at_boot;
+  links = replicate 32 None;
+  stores = [];
   accepted = 0;
-  off = false;
 }
 
 -- one outcome more, in front
@@ -77,10 +83,28 @@ history start log = record {
 abbrev pub entry : Event → Outcome → Entry
 entry e o = record { event = e; outcome = o }
 
--- what an event answers and leaves: what `next` gives, with its entry appended to the log; or its refusal, and nothing is changed
+-- how an event is refused: as `next` says; where that accepts it, for want of memory, which Done alone may meet
+abbrev pub Refuses : Result (Outcome × State) Refusal → Event → Refusal → Type 0
+Refuses (Err first) e refusal = refusal ≡ first
+Refuses (Ok given) e refusal = (refusal ≡ NoMemoryRefusal) × (e ≡ Done)
+
+-- what an event answers and leaves: what `next` gives, with its entry appended to the log; or why it is refused, and nothing is changed
 abbrev pub Answers : History → Event → Result Outcome Refusal → History → Type 0
 Answers m e (Ok o) n = (next m.state e ≡ Ok (o, n.state)) × (n.log ≡ m.log ++ entry e o ∷ []) × (n.start ≡ m.start)
-Answers m e (Err refusal) n = (next m.state e ≡ Err refusal) × (n ≡ m)
+Answers m e (Err refusal) n = Refuses (next m.state e) e refusal × (n ≡ m)
+
+-- from m the events are accepted one after the other, and leave n: their entries are appended to the log
+pub record Continues (m : History) (events : List Event) (n : History) : Type 0 where
+  pub entries : List Entry
+  pub events_are : events_of entries ≡ events
+  pub run_is : run m.state events ≡ Some (outcomes_of entries, n.state)
+  pub log_is : n.log ≡ m.log ++ entries
+  pub start_is : n.start ≡ m.start
+
+-- why one event was made so many times of n: it was to be made no more, or the next is refused
+abbrev pub Ends : History → Event → ℕ → ℕ → Option Refusal → Type 0
+Ends m e n made None = made ≡ n
+Ends m e n made (Some refusal) = (made < n) × (next m.state e ≡ Err refusal)
 
 -- a machine that was just booted from a file
 pub record IsBooted (file : List ℕ) (conf : Conf) (m : History) : Type 0 where
@@ -109,18 +133,28 @@ Boots file conf None (Err e) = e ≡ NoMemory
 abbrev pub IsLoaded : Start → Type 0
 IsLoaded start = (file : List ℕ) × (first_fault file start.conf.ram ≡ None) × IsImage file start.conf.ram start.entry start.bytes
 
+-- a link was made when there were as many stores as now, at most
+abbrev pub IsMade : List ℕ → Option Link → Type 0
+IsMade stores None = Unit {0}
+IsMade stores (Some link) = link.made ≤ length stores
+
+-- what holds of each state of a machine that was booted with this configuration and has accepted n events
+pub record IsSound (conf : Conf) (n : ℕ) (s : State) : Type 0 where
+  pub conf_is : s.conf ≡ conf
+  pub ram_is : length s.memory ≡ conf.ram
+  pub size_is : length s.processors ≡ conf.processors
+  pub board_is : s.board.processors ≡ conf.processors
+  pub links_are : length s.links ≡ 32
+  pub made : All (IsMade s.stores) s.links
+  pub accepted_is : s.accepted ≡ n
+  -- so no count of Steps overflows
+  pub counts : CountUpTo n s.processors
+
 -- what the parts of a machine have to do with its history
-pub record Agrees (h : History) (processors : List Processor) (memory : List ℕ) (off : Bool) : Type 0 where
+pub record Agrees (h : History) (parts : Parts) : Type 0 where
   pub replay : IsReplay h
-  pub processors_are : processors ≡ h.state.processors
-  pub memory_is : memory ≡ h.state.memory
-  pub off_is : off ≡ h.state.off
-  pub conf_is : h.state.conf ≡ h.start.conf
+  pub parts_are : parts ≡ parts_of h.state
+  pub sound : IsSound h.start.conf (length h.log) h.state
   pub is_loaded : IsLoaded h.start
   pub limits_hold : is_within_limits h.start.conf ≡ true
-  pub ram_is : length memory ≡ h.start.conf.ram
-  pub size_is : length processors ≡ h.start.conf.processors
-  pub accepted_is : h.state.accepted ≡ length h.log
   pub log_fits : length h.log ≤ h.start.conf.log
-  -- so no count of Steps overflows
-  pub counts : All (λ (p : Processor). p.count ≤ length h.log) processors

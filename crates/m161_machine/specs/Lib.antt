@@ -2,3 +2,4 @@ pub mod Refusal
 pub mod Conf
 pub mod State
 pub mod History
+pub mod Kept

@@ -1,54 +1,179 @@
-use Rattle.std.specs.Prelude.{ℕ, ◌+◌, ◌%◌, Bool, nat_le, ◌==◌, ◌&&◌, if◌then◌else◌, List, length, slice_index_or, slice_set, Option, None, Some, Result, Ok, Err}
+use Rattle.std.specs.Prelude.{◌≡◌, ℕ, ◌+◌, ◌/◌, ◌%◌, ◌^◌, ◌≤◌, Bool, true, false, not, nat_le, ◌==◌, ◌&&◌, ◌||◌, if◌then◌else◌, List, [], ◌∷◌, ◌++◌, drop, length, map, slice_index_or, slice_set, Option, None, Some, Result, Ok, Err, All}
 use Rattle.m161_ram.specs.Word.{word_at}
+use Rattle.m161_bus.specs.declared.console.DoneError.{DoneError}
+use Rattle.m161_bus.specs.declared.console.DoneError.TheVariants as done
+use Rattle.m161_bus.specs.declared.console.KeyFull.{KeyFull}
+use Rattle.m161_bus.specs.Board.{BoardState, board_key, board_done, start_words}
 use Rattle.m161_cpu.specs.declared.processor.Outcome.{Outcome}
-use Rattle.m161_cpu.specs.Processor.{Processor, stopped}
+use Rattle.m161_cpu.specs.declared.processor.Outcome.TheVariants.{Taken}
+use Rattle.m161_cpu.specs.Processor.{Processor, stopped, started}
+use Rattle.m161_cpu.specs.Links.{LinkAct, Keep, LinkTo, End}
+use Rattle.m161_cpu.specs.Scene.{Scene, around, scene}
 use Rattle.m161_cpu.specs.Step.{Stepped, step_of}
 use Rattle.m161_machine.specs.declared.conf.Conf.{Conf}
 use Rattle.m161_machine.specs.declared.event.Event.{Event}
-use Rattle.m161_machine.specs.declared.event.Event.TheVariants.{Step}
+use Rattle.m161_machine.specs.declared.event.Event.TheVariants as event
 use Rattle.m161_machine.specs.declared.event.Refusal.{Refusal}
-use Rattle.m161_machine.specs.declared.event.Refusal.TheVariants.{BadProcessor, Off, LogFull, NotYet}
+use Rattle.m161_machine.specs.declared.event.Refusal.TheVariants.{BadProcessor, Off, LogFull, KeyFull as KeyFullRefusal, NothingSent, NoMemory}
 
 -- The state of a machine, and what an event does to it.
+
+-- a link of `ll`: the physical word, and how many stores there had been when it was made
+pub record Link : Type 0 where
+  pub word : ℕ
+  pub made : ℕ
 
 pub record State : Type 0 where
   pub conf : Conf
   pub processors : List Processor
   pub memory : List ℕ
+  pub board : BoardState
+  -- a link, or none, for each of 32 processors
+  pub links : List (Option Link)
+  -- the physical words of RAM that stores have touched, the oldest first
+  pub stores : List ℕ
   -- how many events were accepted
   pub accepted : ℕ
-  pub off : Bool
 
 -- a processor by its number
 abbrev pub processor_at : ℕ → List Processor → Processor
 processor_at p processors = slice_index_or processors p stopped
 
--- the word at a physical address, where it is aligned and within RAM
-abbrev pub word_in : List ℕ → ℕ → Option ℕ
-word_in memory at = if (at % 4 == 0) && nat_le (at + 4) (length memory) then Some (word_at memory at) else None
+-- one of these words is this one
+abbrev pub touches : ℕ → List ℕ → Bool
+touches word [] = false
+touches word (w ∷ ws) = (word == w) || touches word ws
 
--- the state after a Step of a processor
-abbrev pub with_step : ℕ → State → Stepped → State
-with_step p s x = record s { processors = slice_set s.processors p x.processor; memory = x.memory; accepted = s.accepted + 1 }
+-- the word of a link that is live: no store since it was made has touched the word
+abbrev pub live : List ℕ → Option Link → Option ℕ
+live stores None = None
+live stores (Some link) = if touches link.word (drop link.made stores) then None else Some link.word
 
--- what a Step of a processor answers: it is refused where it gives nothing
-abbrev pub answered : ℕ → State → Option Stepped → Result (Outcome × State) Refusal
-answered p s None = Err NotYet
-answered p s (Some x) = Ok (x.outcome, with_step p s x)
+abbrev pub live_links : List ℕ → List (Option Link) → List (Option ℕ)
+live_links stores links = map (live stores) links
 
--- the first refusal that holds of an event, but for that of a part that isn't there yet
+-- what a Step of processor p gives
+unfoldable pub stepped : ℕ → State → Stepped
+stepped p s = step_of (scene (processor_at p s.processors) (around p s.memory s.board (live_links s.stores s.links)))
+
+-- a store more, where there was one
+abbrev pub stores_after : Option ℕ → List ℕ → List ℕ
+stores_after None stores = stores
+stores_after (Some word) stores = stores ++ word ∷ []
+
+-- a processor's link after its Step, where there have been so many stores
+abbrev pub relinked : ℕ → LinkAct → ℕ → List (Option Link) → List (Option Link)
+relinked p Keep stores links = links
+relinked p (LinkTo word) stores links = slice_set links p (Some (record { word = word; made = stores }))
+relinked p End stores links = slice_set links p None
+
+-- bit c of a mask is set
+abbrev pub has_bit : ℕ → ℕ → Bool
+has_bit mask c = mask / 2 ^ c % 2 == 1
+
+-- processor c is started where CPUE has its bit now and hadn't before: at the words of its CRAM, its Steps stay counted
+abbrev pub started_by : ℕ → BoardState → ℕ → Processor → Processor
+started_by before board c p =
+    if has_bit board.started c && not (has_bit before c)
+    then started (start_words c board).pc (start_words c board).r4 (start_words c board).r29 p.count
+    else p
+
+-- the processors from number c on
+abbrev pub with_starts : ℕ → BoardState → ℕ → List Processor → List Processor
+with_starts before board c [] = []
+with_starts before board c (p ∷ ps) = started_by before board c p ∷ with_starts before board (c + 1) ps
+
+-- the state after a Step: what the Step gives, and then the processors that it started
+abbrev pub with_step : ℕ → Stepped → State → State
+with_step p x s = record s {
+  processors = with_starts s.board.started x.after.around.board 0 (slice_set s.processors p x.after.processor);
+  memory = x.after.around.memory;
+  board = x.after.around.board;
+  links = relinked p x.link (length (stores_after x.stored s.stores)) s.links;
+  stores = stores_after x.stored s.stores;
+  accepted = s.accepted + 1;
+}
+
+-- the state after an input of a device
+abbrev pub with_board : BoardState → State → State
+with_board board s = record s { board = board; accepted = s.accepted + 1 }
+
+-- the answer of the first test that holds
+abbrev pub first_of : List (Bool × Refusal) → Option Refusal
+first_of [] = None
+first_of (test ∷ rest) = if test.0 then Some test.1 else first_of rest
+
+-- why an event is refused, whatever it would do
+abbrev pub is_full : State → Bool
+is_full s = nat_le s.conf.log s.accepted
+
 abbrev pub refusal : State → Event → Option Refusal
-refusal s (Step p) =
-    if nat_le (length s.processors) p then Some BadProcessor
-    else if s.off then Some Off
-    else if nat_le s.conf.log s.accepted then Some LogFull
-    else None
+refusal s (event.Step p) =
+    first_of ((nat_le (length s.processors) p, BadProcessor) ∷ (s.board.off, Off) ∷ (is_full s, LogFull) ∷ [])
+refusal s (event.Key byte) = first_of ((s.board.off, Off) ∷ (is_full s, LogFull) ∷ [])
+refusal s event.Done = first_of ((s.board.off, Off) ∷ (is_full s, LogFull) ∷ [])
+
+-- what a device answers
+abbrev pub answered_key : State → Result BoardState KeyFull → Result (Outcome × State) Refusal
+answered_key s (Ok board) = Ok (Taken, with_board board s)
+answered_key s (Err e) = Err KeyFullRefusal
+
+abbrev pub refusal_of_done : DoneError → Refusal
+refusal_of_done done.NothingSent = NothingSent
+refusal_of_done done.NoMemory = NoMemory
+
+abbrev pub answered_done : State → Result BoardState DoneError → Result (Outcome × State) Refusal
+answered_done s (Ok board) = Ok (Taken, with_board board s)
+answered_done s (Err e) = Err (refusal_of_done e)
 
 -- an answer, unless there is a refusal
 abbrev pub unless : Option Refusal → Result (Outcome × State) Refusal → Result (Outcome × State) Refusal
 unless None answer = answer
 unless (Some r) answer = Err r
 
+-- what an event does where it isn't refused, and what the device says
+abbrev pub answer : State → Event → Result (Outcome × State) Refusal
+answer s (event.Step p) = Ok ((stepped p s).outcome, with_step p (stepped p s) s)
+answer s (event.Key byte) = answered_key s (board_key byte s.board)
+answer s event.Done = answered_done s (board_done s.board)
+
 -- what an event gives: its outcome and the state after it, or the first refusal that holds
 unfoldable pub next : State → Event → Result (Outcome × State) Refusal
-next s (Step p) = unless (refusal s (Step p)) (answered p s (step_of (processor_at p s.processors) s.memory))
+next s e = unless (refusal s e) (answer s e)
+
+-- the word at a physical address, where it is aligned and within RAM
+abbrev pub word_in : List ℕ → ℕ → Option ℕ
+word_in memory at = if (at % 4 == 0) && nat_le (at + 4) (length memory) then Some (word_at memory at) else None
+
+-- the parts of a state that a machine keeps; of a link only its word, where it is live
+pub record Parts : Type 0 where
+  pub processors : List Processor
+  pub memory : List ℕ
+  pub board : BoardState
+  pub links : List (Option ℕ)
+
+abbrev pub parts : List Processor → List ℕ → BoardState → List (Option ℕ) → Parts
+parts processors memory board links =
+    record { processors = processors; memory = memory; board = board; links = links }
+
+abbrev pub parts_of : State → Parts
+parts_of s = record { processors = s.processors; memory = s.memory; board = s.board; links = live_links s.stores s.links }
+
+-- a Step of processor p on these parts
+abbrev pub step_on : ℕ → Parts → Stepped
+step_on p parts = step_of (scene (processor_at p parts.processors) (around p parts.memory parts.board parts.links))
+
+abbrev pub parts_after : ℕ → Stepped → Parts → Parts
+parts_after p x parts = record {
+  processors = with_starts parts.board.started x.after.around.board 0 (slice_set parts.processors p x.after.processor);
+  memory = x.after.around.memory;
+  board = x.after.around.board;
+  links = x.after.around.links;
+}
+
+abbrev pub stepped_parts : ℕ → Parts → Parts
+stepped_parts p before = parts_after p (step_on p before) before
+
+-- each of these processors has made n Steps at most
+abbrev pub CountUpTo : ℕ → List Processor → Type 0
+CountUpTo n processors = All (λ (p : Processor). p.count ≤ n) processors

@@ -12,7 +12,7 @@ use thiserror::Error;
 pub struct Conf {
     /// Bytes of RAM: 4,096 to 16,777,216, in pages of 4,096.
     pub ram: u32,
-    /// Processors: 1 so far.
+    /// Processors: 1 to 32.
     pub processors: u32,
     /// Entries of the log: 1 to 16,777,216.
     pub log: u32,
@@ -26,7 +26,8 @@ impl Conf {
         self.ram >= 4096
             && self.ram <= 16_777_216
             && self.ram % 4096 == 0
-            && self.processors == 1
+            && self.processors >= 1
+            && self.processors <= 32
             && self.log >= 1
             && self.log <= 16_777_216
     }

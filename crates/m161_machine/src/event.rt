@@ -11,14 +11,18 @@ use thiserror::Error;
 pub enum Event {
     /// One Step of this processor.
     Step(u32),
+    /// A byte is typed at the console.
+    Key(u8),
+    /// The console has sent the byte in its latch.
+    Done,
 }
 
-/// An accepted event and what it came to.
+/// An accepted event and its outcome.
 #[derive(Clone, Copy, Debug, PartialEq, Eq)]
 pub struct Entry {
     /// What was done.
     pub event: Event,
-    /// What it came to.
+    /// Its outcome.
     pub outcome: Outcome,
 }
 
@@ -34,13 +38,19 @@ pub enum Refusal {
     /// The log has no room left.
     #[error("the log is full")]
     LogFull,
-    /// The Step needs a part that isn't there yet.
-    #[error("the step needs a part that isn't there yet")]
-    NotYet,
+    /// 256 typed bytes are waiting.
+    #[error("256 typed bytes are waiting")]
+    KeyFull,
+    /// The console isn't sending a byte.
+    #[error("the console isn't sending a byte")]
+    NothingSent,
+    /// Memory was refused; of an event `Done` alone.
+    #[error("out of memory")]
+    NoMemory,
 }
 
 impl Refusal {
-    /// Its number; 4 to 6 are for refusals of events that aren't there yet.
+    /// Its number.
     pub fn number(self) -> u8
         ensures { result ≡ number_of_refusal self }
     {
@@ -48,7 +58,9 @@ impl Refusal {
             Refusal::BadProcessor => 1,
             Refusal::Off => 2,
             Refusal::LogFull => 3,
-            Refusal::NotYet => 7,
+            Refusal::KeyFull => 4,
+            Refusal::NothingSent => 5,
+            Refusal::NoMemory => 6,
         }
     }
 
@@ -60,7 +72,9 @@ impl Refusal {
             Refusal::BadProcessor => "BadProcessor",
             Refusal::Off => "Off",
             Refusal::LogFull => "LogFull",
-            Refusal::NotYet => "NotYet",
+            Refusal::KeyFull => "KeyFull",
+            Refusal::NothingSent => "NothingSent",
+            Refusal::NoMemory => "NoMemory",
         }
     }
 }

@@ -1,35 +1,42 @@
 //! The machine.
 
-ghost use Rattle.std.specs.Prelude.{◌≡◌, ◌+◌, ◌<◌, ◌≤◌, true, [], ◌∷◌, length, slice_index, IfNone, IfOk, IsSome};
-ghost use Rattle.m161_cpu.specs.Address.{direct};
-ghost use Rattle.m161_cpu.specs.Processor.{started};
+ghost use Rattle.std.specs.Prelude.{◌≡◌, ◌+◌, ◌-◌, ◌%◌, ◌<◌, ◌≤◌, ◌^◌, true, List, [], ◌∷◌, ◌++◌, length, replicate, IfNone, IfOk};
+ghost use Rattle.m161_elf.specs.Image.{is_in_ram};
+ghost use Rattle.m161_cpu.specs.Processor.{started, stopped};
+ghost use Rattle.m161_machine.specs.declared.event.Entry.{Entry};
 ghost use Rattle.m161_machine.specs.declared.event.Event.TheVariants as events;
 ghost use Rattle.m161_machine.specs.Conf.{is_within_limits};
-ghost use Rattle.m161_machine.specs.State.{processor_at, refusal, word_in};
-ghost use Rattle.m161_machine.specs.History.{boot_fault, Boots, Answers, IsLoaded, IsReplay};
+ghost use Rattle.m161_machine.specs.State.{refusal};
+ghost use Rattle.m161_machine.specs.History.{boot_fault, Boots, Answers, Continues, Ends, IsLoaded, IsReplay};
+
+mod views;
 
 use crate::conf::{BootError, Conf};
-use crate::event::{Entry, Event, Refusal};
-use m161_cpu::{Cpu, Outcome, ProcessorState};
+use crate::event::{Event, Refusal};
+use crate::kept::Kept;
+use crate::step::step_parts;
+use m161_bus::{Board, Console, DoneError};
+use m161_cpu::{Cpu, Links, Outcome};
 use m161_elf::{Image, load};
-use m161_isa::Reg;
 use m161_ram::Ram;
+use m161_tlb::Tlb;
 use std::alloc::{AllocError, Global};
 use std::marker::Model;
 
-/// A machine. Contracts see it as its history: what it was booted from, its log, and the state
-/// that the log's events lead to.
+/// A machine, over any TLB and any console. Contracts see it as its history: what it was booted
+/// from, its log, and the state that the log's events lead to.
 #[derive(Drop)]
-pub struct Machine {
-    processors: Vec<Cpu>,
+pub struct Machine<T: Tlb, D: Console> {
+    processors: Vec<Cpu<T>>,
     ram: Ram,
-    off: bool,
-    log: Vec<Entry>,
+    board: Board<D>,
+    links: Links,
+    log: Vec<Kept>,
     image: Image,
     conf: Conf,
 }
 
-impl Model for Machine {
+impl<T: Tlb, D: Console> Model for Machine<T, D> {
     ghost use Rattle.std.specs.Prelude.{◌≡◌, ◌≤◌, vec_capacity};
     ghost use Rattle.m161_machine.specs.History.{History, history, Agrees};
 
@@ -40,51 +47,102 @@ impl Model for Machine {
 
     ghost invariant = { λ m.
         Agrees (history (record { bytes = m.image.bytes.items; entry = m.image.entry; conf = m.conf }) m.log.items)
-        m.processors.items m.ram m.off
+        (record { processors = m.processors.items; memory = m.ram; board = m.board; links = m.links })
         × (m.conf.log ≤ vec_capacity m.log) };
 }
 
-// The processors at boot: one, started at the entry.
-fn first_processor(alloc: Global, entry: u32) -> Result<Vec<Cpu>, AllocError>
-    ensures { IfOk result (λ processors. processors.items ≡ started entry 0 0 0 ∷ []) }
+// The processors at boot: the first, started at the entry, and the others, stopped.
+fn first_processors<T: Tlb>(
+    alloc: Global,
+    number: u32,
+    entry: u32,
+) -> Result<Vec<Cpu<T>>, AllocError>
+    requires { 1 ≤ number }
+    ensures { IfOk result (λ processors.
+        processors.items ≡ started entry 0 0 0 ∷ replicate (number - 1) stopped) }
 {
     let mut first = Cpu::new();
     first.start(entry, 0, 0);
-    let mut processors = Vec::with_capacity(alloc, 1)?;
+    let mut processors = Vec::with_capacity(alloc, number as usize)?;
     processors.push_reserved(first);
+    for made in 1..number {
+        processors.push_reserved(Cpu::new());
+    }
     Ok(processors)
 }
 
-impl Machine {
+impl<T: Tlb, D: Console> Machine<T, D> {
     /// Boots a file. The machine keeps what was loaded beside its memory, so it takes twice the
-    /// RAM of its configuration, and the log's room.
+    /// RAM of its configuration, the log's room of four bytes an entry, and the console's room.
     ///
     /// Errors: the configuration is outside the limits, the file isn't loaded, memory was refused.
-    pub fn boot(alloc: Global, file: &[u8], conf: Conf) -> Result<Machine, BootError>
+    pub fn boot(alloc: Global, file: &[u8], conf: Conf) -> Result<Machine<T, D>, BootError>
         ensures answer { Boots file.now conf (boot_fault file.now conf) result }
-        ensures fetch { IfOk result (λ m. IsSome (direct conf.ram 4 m.start.entry)) }
+        ensures entry { IfOk result (λ m. (m.start.entry % 4 ≡ 0)
+            × (is_in_ram conf.ram m.start.entry 1 ≡ true)) }
     {
         if !conf.is_within_limits() {
             return Err(BootError::BadConf);
         }
         let image = load(alloc, file, conf.ram)?;
         let bytes = Vec::from_slice(alloc, image.bytes.as_slice())?;
-        let processors = first_processor(alloc, image.entry)?;
+        let processors = first_processors(alloc, conf.processors, image.entry)?;
         let log = Vec::with_capacity(alloc, conf.log as usize)?;
+        let console = D::fresh(alloc)?;
         Ok(Machine {
             processors,
             ram: Ram::from_bytes(bytes),
-            off: false,
+            board: Board::new(console, conf.ram, conf.processors),
+            links: Links::new(),
             log,
             image,
             conf,
         })
     }
 
-    /// One Step of a processor; it takes no memory.
+    /// One Step of a processor; it does not allocate.
     ///
     /// Errors: the first refusal that holds. Nothing is changed then, and nothing logged.
+    #[inline(never)]
     pub fn step(&mut self, p: u32) -> Result<Outcome, Refusal>
+        ensures answers { Answers self.old (events.Step p) result self.new }
+        ensures processors { length self.new.state.processors ≡ length self.old.state.processors }
+    {
+        let (_, refusal) = self.steps(p, 1);
+        match refusal {
+            Some(refusal) => Err(refusal),
+            None => Ok(self.last_outcome()),
+        }
+    }
+
+    // The outcome of the last entry.
+    fn last_outcome(&self) -> Outcome
+        requires { 0 < length self.now.log }
+        ensures { (before : List Entry) (e : Entry) → self.now.log ≡ before ++ e ∷ []
+            → result ≡ e.outcome }
+    {
+        self.log[self.log.len() - 1].entry().outcome
+    }
+
+    /// Steps of a processor, one after the other, until `n` are made or one is refused: how many
+    /// were made, and the refusal. The same as so many calls of `step`, in less time.
+    #[inline(never)]
+    pub fn steps(&mut self, p: u32, n: u32) -> (u32, Option<Refusal>)
+        ensures run { Continues self.old (replicate result.0 (events.Step p)) self.new }
+        ensures end { Ends self.new (events.Step p) n result.0 result.1 }
+        ensures processors { length self.new.state.processors ≡ length self.old.state.processors }
+    {
+        for made in 0..n {
+            if let Err(refusal) = self.one_step(p) {
+                return (made, Some(refusal));
+            }
+        }
+        (n, None)
+    }
+
+    // One Step, compiled into its one caller: the only place where a program has it.
+    #[inline(always)]
+    fn one_step(&mut self, p: u32) -> Result<Outcome, Refusal>
         ensures answers { Answers self.old (events.Step p) result self.new }
         ensures processors { length self.new.state.processors ≡ length self.old.state.processors }
     {
@@ -94,32 +152,92 @@ impl Machine {
         let Machine {
             processors,
             ram,
+            board,
+            links,
             log,
-            ..
+            image: _,
+            conf: _,
         } = self;
-        let Ok(outcome) = processors[p as usize].step(p as usize, ram) else {
-            return Err(Refusal::NotYet);
-        };
-        log.push_reserved(Entry {
-            event: Event::Step(p),
-            outcome,
-        });
+        let outcome = step_parts(processors, p, ram, board, links);
+        log.push_reserved(Kept::of_step(p, outcome));
         Ok(outcome)
     }
 
-    // The first refusal of a Step that holds, but for that of a part that isn't there yet.
+    // The first refusal of a Step that holds.
+    #[inline(always)]
     fn refusal(&self, p: u32) -> Option<Refusal>
         ensures value { result ≡ refusal self.now.state (events.Step p) }
-        ensures within { IfNone result ((p < length self.now.state.processors) × (length self.now.log < self.now.start.conf.log)) }
+        ensures within { IfNone result ((p < length self.now.state.processors)
+            × (length self.now.log < self.now.start.conf.log)) }
     {
         if p as usize >= self.processors.len() {
             Some(Refusal::BadProcessor)
-        } else if self.off {
+        } else {
+            self.refusal_of_input()
+        }
+    }
+
+    // The first refusal that holds of any event.
+    #[inline(always)]
+    fn refusal_of_input(&self) -> Option<Refusal>
+        ensures value { result ≡ refusal self.now.state events.Done }
+        ensures room { IfNone result (length self.now.log < self.now.start.conf.log) }
+    {
+        if self.board.is_off() {
             Some(Refusal::Off)
         } else if self.log.len() >= self.conf.log as usize {
             Some(Refusal::LogFull)
         } else {
             None
+        }
+    }
+
+    /// Types a byte at the console; it does not allocate.
+    ///
+    /// Errors: the first refusal that holds. Nothing is changed then, and nothing logged.
+    pub fn key(&mut self, byte: u8) -> Result<Outcome, Refusal>
+        ensures { Answers self.old (events.Key byte) result self.new }
+    {
+        if let Some(refusal) = self.refusal_of_input() {
+            return Err(refusal);
+        }
+        match self.board.key(byte) {
+            Ok(()) => {}
+            Err(_) => return Err(Refusal::KeyFull),
+        }
+        self.log.push_reserved(Kept::of_key(byte));
+        Ok(Outcome::Taken)
+    }
+
+    /// The console has sent the byte in its latch.
+    ///
+    /// Errors: the first refusal that holds; `NoMemory` where none does. Nothing is changed then,
+    /// and nothing logged.
+    pub fn done(&mut self) -> Result<Outcome, Refusal>
+        ensures { Answers self.old events.Done result self.new }
+    {
+        if let Some(refusal) = self.refusal_of_input() {
+            return Err(refusal);
+        }
+        match self.board.done() {
+            Ok(()) => {}
+            Err(DoneError::NothingSent) => return Err(Refusal::NothingSent),
+            Err(DoneError::NoMemory) => return Err(Refusal::NoMemory),
+        }
+        self.log.push_reserved(Kept::of_done());
+        Ok(Outcome::Taken)
+    }
+
+    /// An event, by its kind.
+    ///
+    /// Errors: as `step`, `key` or `done`.
+    pub fn event(&mut self, event: Event) -> Result<Outcome, Refusal>
+        ensures { Answers self.old event result self.new }
+    {
+        match event {
+            Event::Step(p) => self.step(p),
+            Event::Key(byte) => self.key(byte),
+            Event::Done => self.done(),
         }
     }
 
@@ -137,94 +255,5 @@ impl Machine {
         ensures room { length self.now.log ≤ self.now.start.conf.log }
     {
         let _log = &self.log;
-    }
-
-    /// A general register of a processor.
-    pub fn reg(&self, p: u32, register: Reg) -> u32
-        requires { p < length self.now.state.processors }
-        ensures value { result ≡ slice_index (processor_at p self.now.state.processors).registers register }
-        ensures zero { register ≡ 0 → result ≡ 0 }
-    {
-        self.processors[p as usize].reg(register)
-    }
-
-    /// HI of a processor.
-    pub fn hi(&self, p: u32) -> u32
-        requires { p < length self.now.state.processors }
-        ensures { result ≡ (processor_at p self.now.state.processors).hi }
-    {
-        self.processors[p as usize].hi()
-    }
-
-    /// LO of a processor.
-    pub fn lo(&self, p: u32) -> u32
-        requires { p < length self.now.state.processors }
-        ensures { result ≡ (processor_at p self.now.state.processors).lo }
-    {
-        self.processors[p as usize].lo()
-    }
-
-    /// The address of a processor's present instruction.
-    pub fn pc(&self, p: u32) -> u32
-        requires { p < length self.now.state.processors }
-        ensures { result ≡ (processor_at p self.now.state.processors).pc }
-    {
-        self.processors[p as usize].pc()
-    }
-
-    /// Whether a processor's present instruction is in a delay slot.
-    pub fn in_slot(&self, p: u32) -> bool
-        requires { p < length self.now.state.processors }
-        ensures { result ≡ (processor_at p self.now.state.processors).slot }
-    {
-        self.processors[p as usize].in_slot()
-    }
-
-    /// What a processor is doing.
-    pub fn state(&self, p: u32) -> ProcessorState
-        requires { p < length self.now.state.processors }
-        ensures { result ≡ (processor_at p self.now.state.processors).state }
-    {
-        self.processors[p as usize].state()
-    }
-
-    /// How many Steps a processor has made, idle ones counted.
-    pub fn count(&self, p: u32) -> u64
-        requires { p < length self.now.state.processors }
-        ensures { result ≡ (processor_at p self.now.state.processors).count }
-    {
-        self.processors[p as usize].count()
-    }
-
-    /// The word at a physical address; `None` where it is misaligned or outside RAM.
-    pub fn word(&self, address: u32) -> Option<u32>
-        ensures { result ≡ word_in self.now.state.memory address }
-    {
-        if address % 4 == 0 && u64::from(address) + 4 <= u64::from(self.ram.size()) {
-            Some(self.ram.word(address))
-        } else {
-            None
-        }
-    }
-
-    /// The accepted events with their outcomes, oldest first.
-    pub fn log(&self) -> &[Entry]
-        ensures { result.now ≡ self.now.log }
-    {
-        self.log.as_slice()
-    }
-
-    /// How many processors it has.
-    pub fn processors(&self) -> u32
-        ensures { result ≡ length self.now.state.processors }
-    {
-        self.conf.processors
-    }
-
-    /// Whether it was switched off.
-    pub fn is_off(&self) -> bool
-        ensures { result ≡ self.now.state.off }
-    {
-        self.off
     }
 }

@@ -1,17 +1,37 @@
 //! What a processor shows.
 
-ghost use Rattle.std.specs.Prelude.{◌≡◌, slice_index};
+ghost use Rattle.std.specs.Prelude.{◌≡◌, ◌<◌, Some, slice_get, slice_index};
+ghost use Rattle.m161_cop0.specs.Control.{read_of};
+ghost use Rattle.m161_cop0.specs.Registers.{number_of_register};
 
 use crate::processor::{Cpu, ProcessorState};
+use m161_cop0::Register;
 use m161_isa::Reg;
+use m161_tlb::{Row, Tlb};
 
-impl Cpu {
+impl<T: Tlb> Cpu<T> {
     /// A general register.
     pub fn reg(&self, register: Reg) -> u32
         ensures value { result ≡ slice_index self.now.registers register }
         ensures zero { register ≡ 0 → result ≡ 0 }
     {
         self.registers[register.index()]
+    }
+
+    /// A register of coprocessor 0, where the board's lines of this processor are these (Cause shows
+    /// them).
+    pub fn cop(&self, register: Register, lines: u32) -> u32
+        ensures { result ≡ read_of (number_of_register register) lines self.now.control }
+    {
+        self.control.read(register.number(), lines)
+    }
+
+    /// A row of the TLB.
+    pub fn row(&self, i: u8) -> Row
+        requires { i < 64 }
+        ensures { slice_get self.now.rows i ≡ Some result }
+    {
+        self.tlb.read(i)
     }
 
     /// HI.

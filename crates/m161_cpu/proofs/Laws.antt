@@ -1,0 +1,33 @@
+use Rattle.std.proofs.Common.{◌≡◌, refl, Bool, true, false, Result, Ok, Err}
+use Rattle.std.specs.Prelude.{if◌then◌else◌}
+use Rattle.m161_cop0.specs.Control.{is_pending}
+use Rattle.m161_cpu.specs.declared.processor.ProcessorState.{ProcessorState}
+use Rattle.m161_cpu.specs.declared.processor.ProcessorState.TheVariants.{Stopped, Running, Waiting}
+use Rattle.m161_cpu.specs.Processor.{Processor, with_state}
+use Rattle.m161_cpu.specs.Links.{links_after}
+use Rattle.m161_cpu.specs.Scene.{Around, Scene, Change, scene}
+use Rattle.m161_cpu.specs.Fault.{Fault}
+use Rattle.m161_cpu.specs.Step.{Stepped, ended, executed, idle, lines_in, running, step_in, step_of, tick, with_processor}
+
+-- What a Step leaves of the links is told by what it does to its own, and by its store.
+
+abbrev pub Links : Around → Stepped → Type 0
+Links a x = x.after.around.links ≡ links_after a.number x.link x.stored a.links
+
+links_ended : (s : Scene) (r : Result Change Fault) → Links s.around (ended s r)
+links_ended s (Ok change) = refl
+links_ended s (Err f) = refl
+
+links_waiting : (s : Scene) (pending : Bool) →
+    Links s.around (if pending then running (with_processor (with_state Running) s) else idle tick s)
+links_waiting s true = links_ended (with_processor (with_state Running) s) (executed (with_processor (with_state Running) s))
+links_waiting s false = refl
+
+links_in : (state : ProcessorState) (s : Scene) → Links s.around (step_in state s)
+links_in Stopped s = refl
+links_in Running s = links_ended s (executed s)
+links_in Waiting s = links_waiting s (is_pending (lines_in s) s.processor.control)
+
+pub step_links : (s : Scene) → Links s.around (step_of s)
+unfolding step_of
+step_links s = links_in s.processor.state s

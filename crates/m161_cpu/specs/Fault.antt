@@ -1,0 +1,85 @@
+use Rattle.std.specs.Prelude.{ℕ, ◌+◌, Bool, true, false, Option, None, Some}
+use Rattle.m161_cop0.specs.declared.exception.Exception.{Exception}
+use Rattle.m161_cop0.specs.declared.exception.Exception.TheVariants as exception
+use Rattle.m161_cop0.specs.declared.trap.Trap.{Trap}
+use Rattle.m161_cop0.specs.Control.{Control}
+use Rattle.m161_cop0.specs.Trap.{entered, vector_of, with_bad_address}
+use Rattle.m161_cpu.specs.declared.fault.FaultKind.{FaultKind}
+use Rattle.m161_cpu.specs.declared.fault.FaultKind.TheVariants as kind
+use Rattle.m161_cpu.specs.Processor.{Processor}
+
+-- Why an instruction isn't executed, and the trap that it makes. Kane, MIPS RISC Architecture, "Exception processing".
+
+-- the kind, and the address that BadVAddr gets, where there is one
+pub record Fault : Type 0 where
+  pub kind : FaultKind
+  pub address : Option ℕ
+
+abbrev pub fault : FaultKind → Fault
+fault kind = record { kind = kind; address = None }
+
+abbrev pub fault_at : FaultKind → ℕ → Fault
+fault_at kind address = record { kind = kind; address = Some address }
+
+-- the exception of a kind
+abbrev pub exception_of : FaultKind → Exception
+exception_of kind.Interrupt = exception.Interrupt
+exception_of kind.TlbModified = exception.TlbModified
+exception_of kind.TlbLoad = exception.TlbLoad
+exception_of kind.TlbStore = exception.TlbStore
+exception_of kind.UserMissLoad = exception.TlbLoad
+exception_of kind.UserMissStore = exception.TlbStore
+exception_of kind.AddressErrorLoad = exception.AddressErrorLoad
+exception_of kind.AddressErrorStore = exception.AddressErrorStore
+exception_of kind.BusErrorFetch = exception.BusErrorFetch
+exception_of kind.BusErrorData = exception.BusErrorData
+exception_of kind.SystemCall = exception.SystemCall
+exception_of kind.Breakpoint = exception.Breakpoint
+exception_of kind.ReservedInstruction = exception.ReservedInstruction
+exception_of kind.Coprocessor0Unusable = exception.CoprocessorUnusable
+exception_of kind.Coprocessor1Unusable = exception.CoprocessorUnusable
+exception_of kind.Coprocessor2Unusable = exception.CoprocessorUnusable
+exception_of kind.Coprocessor3Unusable = exception.CoprocessorUnusable
+exception_of kind.Overflow = exception.Overflow
+
+-- the coprocessor that isn't usable, else 0
+abbrev pub unit_of : FaultKind → ℕ
+unit_of kind.Coprocessor1Unusable = 1
+unit_of kind.Coprocessor2Unusable = 2
+unit_of kind.Coprocessor3Unusable = 3
+unit_of _ = 0
+
+-- no row matched an address in kuseg
+abbrev pub is_user_miss : FaultKind → Bool
+is_user_miss kind.UserMissLoad = true
+is_user_miss kind.UserMissStore = true
+is_user_miss _ = false
+
+-- the address at fault is put into BadVAddr
+abbrev pub noted : Option ℕ → Processor → Processor
+noted None p = p
+noted (Some address) p = record p { control = with_bad_address address p.control }
+
+-- the trap of a fault at the present instruction; the address at fault is in BadVAddr
+abbrev pub trap_of : FaultKind → Processor → Trap
+trap_of kind p = record {
+  exception = exception_of kind;
+  unit = unit_of kind;
+  user_miss = is_user_miss kind;
+  pc = p.pc;
+  slot = p.slot;
+  address = p.control.bad_vaddr;
+}
+
+-- where it goes on
+abbrev pub vector : FaultKind → Processor → ℕ
+vector kind p = vector_of (trap_of kind p) p.control
+
+-- a processor that has entered the trap
+abbrev pub with_trap : FaultKind → Processor → Processor
+with_trap kind p = record p {
+  control = entered (trap_of kind p) p.control;
+  pc = vector kind p;
+  following = vector kind p + 4;
+  slot = false;
+}

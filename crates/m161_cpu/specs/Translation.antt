@@ -1,0 +1,116 @@
+use Rattle.std.specs.Prelude.{ℕ, ◌+◌, ◌*◌, ◌/◌, ◌%◌, ◌^◌, Bool, true, false, not, nat_lt, nat_le, ◌==◌, ◌&&◌, ◌||◌, if◌then◌else◌, List, slice_get, length, Option, None, Some, Result, Ok, Err}
+use Rattle.m161_isa.specs.Address.{unmapped}
+use Rattle.m161_ram.specs.Word.{word_at}
+use Rattle.m161_tlb.specs.declared.row.Row.{Row}
+use Rattle.m161_tlb.specs.Rows.{find_row}
+use Rattle.m161_cop0.specs.Control.{identifier_of, is_user}
+use Rattle.m161_bus.specs.declared.board.BusFault.{BusFault}
+use Rattle.m161_bus.specs.Board.{BoardState, board_read}
+use Rattle.m161_cpu.specs.declared.fault.Access.{Access}
+use Rattle.m161_cpu.specs.declared.fault.Access.TheVariants.{Fetch, Load, Store}
+use Rattle.m161_cpu.specs.declared.fault.FaultKind.TheVariants as kind
+use Rattle.m161_cpu.specs.Processor.{Processor}
+use Rattle.m161_cpu.specs.Fault.{Fault, fault, fault_at}
+use Rattle.m161_cpu.specs.Scene.{result_map, and_then}
+
+-- Addresses to physical ones, and where these lead. Kane, MIPS RISC Architecture, "Memory management".
+
+abbrev pub is_store : Access → Bool
+is_store Fetch = false
+is_store Load = false
+is_store Store = true
+
+-- a misaligned address, or one of the kernel's in user mode
+abbrev pub address_error : Access → ℕ → Fault
+address_error access address = fault_at (if is_store access then kind.AddressErrorStore else kind.AddressErrorLoad) address
+
+-- the row that matches isn't valid
+abbrev pub invalid : Access → ℕ → Fault
+invalid access address = fault_at (if is_store access then kind.TlbStore else kind.TlbLoad) address
+
+-- no row matches: an address in kuseg has a vector of its own
+abbrev pub miss : Access → ℕ → Fault
+miss access address =
+    if nat_lt address 0x80000000
+    then fault_at (if is_store access then kind.UserMissStore else kind.UserMissLoad) address
+    else invalid access address
+
+-- a physical address, and the number of the row that gave it, where the address is mapped
+pub record Physical : Type 0 where
+  pub at : ℕ
+  pub row : Option ℕ
+
+abbrev pub physical : ℕ → Option ℕ → Physical
+physical at row = record { at = at; row = row }
+
+-- what a matching row gives
+abbrev pub through : Access → ℕ → ℕ → Row → Result Physical Fault
+through access address i row =
+    if not row.v then Err (invalid access address)
+    else if is_store access && not row.d then Err (fault_at kind.TlbModified address)
+    else Ok (physical (row.frame * 2 ^ 12 + address % 2 ^ 12) (Some i))
+
+-- the same by the row's place in the TLB; a row's number is below 64, so it is there
+abbrev pub through_row : Access → ℕ → ℕ → Option Row → Result Physical Fault
+through_row access address i None = Err (miss access address)
+through_row access address i (Some row) = through access address i row
+
+abbrev pub by_row : Access → ℕ → List Row → Option ℕ → Result Physical Fault
+by_row access address rows None = Err (miss access address)
+by_row access address rows (Some i) = through_row access address i (slice_get rows i)
+
+-- the lowest row that matches the address's page and EntryHi's identifier
+abbrev pub by_page : Access → ℕ → Processor → Result Physical Fault
+by_page access address p =
+    by_row access address p.rows (find_row p.rows (address / 2 ^ 12) (identifier_of p.control))
+
+-- kseg0 and kseg1 directly; kuseg and kseg2 by their rows
+abbrev pub by_segment : Access → ℕ → Processor → Option ℕ → Result Physical Fault
+by_segment access address p (Some at) = Ok (physical at None)
+by_segment access address p None = by_page access address p
+
+-- an address that isn't aligned to the access's width, or one of the kernel's in user mode
+unfoldable pub is_misaddressed : ℕ → ℕ → Processor → Bool
+is_misaddressed width address p = not (address % width == 0) || (is_user p.control && nat_le 0x80000000 address)
+
+-- the physical address of an access that has to be aligned to its width
+abbrev pub translate : Access → ℕ → ℕ → Processor → Result Physical Fault
+translate access width address p =
+    if is_misaddressed width address p then Err (address_error access address)
+    else by_segment access address p (unmapped address)
+
+-- the same without the row
+unfoldable pub physical_at : Access → ℕ → ℕ → Processor → Result ℕ Fault
+physical_at access width address p = result_map (λ (to : Physical). to.at) (translate access width address p)
+
+-- nothing answers on the bus
+abbrev pub bus_error : Access → Fault
+bus_error Fetch = fault kind.BusErrorFetch
+bus_error Load = fault kind.BusErrorData
+bus_error Store = fault kind.BusErrorData
+
+-- a physical address, where the bytes of this width from it on are RAM, of which there are `size`
+abbrev pub in_ram : Access → ℕ → ℕ → ℕ → Result ℕ Fault
+in_ram access width size at = if nat_le (at + width) size then Ok at else Err (bus_error access)
+
+-- the place in RAM of an access
+abbrev pub reach : Access → ℕ → ℕ → ℕ → Processor → Result ℕ Fault
+reach access width address size p = and_then (physical_at access width address p) (in_ram access width size)
+
+-- the place in RAM of the word that holds an address, which needn't be aligned
+abbrev pub reach_word_of : Access → ℕ → ℕ → Processor → Result ℕ Fault
+reach_word_of access address size p =
+    and_then (physical_at access 1 address p) (λ at. in_ram access 4 size (at / 4 * 4))
+
+-- a word of RAM or of the slots, as processor c reads it, and the board after it was read
+abbrev pub or_bus_error : {V : Type 0} → Access → Result V BusFault → Result V Fault
+or_bus_error access (Ok value) = Ok value
+or_bus_error access (Err e) = Err (bus_error access)
+
+abbrev pub word_read : ℕ → List ℕ → BoardState → ℕ → Result (ℕ × BoardState) Fault
+word_read c memory board at =
+    if nat_le (at + 4) (length memory) then Ok (word_at memory at, board)
+    else or_bus_error Load (board_read c at board)
+
+abbrev pub read_word : ℕ → Processor → ℕ → List ℕ → BoardState → Result (ℕ × BoardState) Fault
+read_word address p c memory board = and_then (physical_at Load 4 address p) (word_read c memory board)

@@ -1,0 +1,88 @@
+//! Why an instruction isn't executed.
+
+ghost use Rattle.std.specs.Prelude.{◌≡◌, ◌<◌};
+ghost use Rattle.m161_cpu.specs.Fault.{exception_of, unit_of, is_user_miss};
+
+use m161_cop0::Exception;
+
+/// Why memory is accessed.
+#[derive(Clone, Copy, Debug, PartialEq, Eq)]
+pub(crate) enum Access {
+    Fetch,
+    Load,
+    Store,
+}
+
+/// Why an instruction isn't executed: the exception, with what its trap depends on beside. It has
+/// no fields, so that an instruction's result stays in a register.
+#[derive(Clone, Copy, Debug, PartialEq, Eq)]
+pub(crate) enum FaultKind {
+    Interrupt,
+    TlbModified,
+    /// The row isn't valid, or there is none for an address in kseg2.
+    TlbLoad,
+    TlbStore,
+    /// There is no row for an address in kuseg.
+    UserMissLoad,
+    UserMissStore,
+    AddressErrorLoad,
+    AddressErrorStore,
+    BusErrorFetch,
+    BusErrorData,
+    SystemCall,
+    Breakpoint,
+    ReservedInstruction,
+    Coprocessor0Unusable,
+    Coprocessor1Unusable,
+    Coprocessor2Unusable,
+    Coprocessor3Unusable,
+    Overflow,
+}
+
+impl FaultKind {
+    /// Its exception.
+    pub(crate) fn exception(self) -> Exception
+        ensures { result ≡ exception_of self }
+    {
+        match self {
+            FaultKind::Interrupt => Exception::Interrupt,
+            FaultKind::TlbModified => Exception::TlbModified,
+            FaultKind::TlbLoad | FaultKind::UserMissLoad => Exception::TlbLoad,
+            FaultKind::TlbStore | FaultKind::UserMissStore => Exception::TlbStore,
+            FaultKind::AddressErrorLoad => Exception::AddressErrorLoad,
+            FaultKind::AddressErrorStore => Exception::AddressErrorStore,
+            FaultKind::BusErrorFetch => Exception::BusErrorFetch,
+            FaultKind::BusErrorData => Exception::BusErrorData,
+            FaultKind::SystemCall => Exception::SystemCall,
+            FaultKind::Breakpoint => Exception::Breakpoint,
+            FaultKind::ReservedInstruction => Exception::ReservedInstruction,
+            FaultKind::Coprocessor0Unusable
+            | FaultKind::Coprocessor1Unusable
+            | FaultKind::Coprocessor2Unusable
+            | FaultKind::Coprocessor3Unusable => Exception::CoprocessorUnusable,
+            FaultKind::Overflow => Exception::Overflow,
+        }
+    }
+
+    /// The coprocessor that isn't usable, else 0.
+    pub(crate) fn unit(self) -> u8
+        ensures { result ≡ unit_of self }
+    {
+        match self {
+            FaultKind::Coprocessor1Unusable => 1,
+            FaultKind::Coprocessor2Unusable => 2,
+            FaultKind::Coprocessor3Unusable => 3,
+            _ => 0,
+        }
+    }
+
+    /// Whether no row matched an address in kuseg.
+    pub(crate) fn is_user_miss(self) -> bool
+        ensures { result ≡ is_user_miss self }
+    {
+        match self {
+            FaultKind::UserMissLoad | FaultKind::UserMissStore => true,
+            _ => false,
+        }
+    }
+}

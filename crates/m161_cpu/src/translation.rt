@@ -1,0 +1,208 @@
+//! Addresses to physical ones.
+
+ghost use Rattle.std.specs.Prelude.{◌≡◌, ◌+◌, ◌≤◌, ◌<◌, ◌/◌, ◌^◌, Ok, Some, IfOk, IfSome};
+ghost use Rattle.m161_cpu.specs.Execute.{Finds};
+ghost use Rattle.m161_cpu.specs.Fault.{noted};
+ghost use Rattle.m161_cpu.specs.Scene.{result_map};
+ghost use Rattle.m161_cpu.specs.Translation.{Physical, address_error, bus_error, by_page, invalid, is_misaddressed, miss, physical_at, reach, reach_word_of};
+ghost use Rattle.m161_tlb.specs.Rows.{find_row};
+ghost use Rattle.m161_cop0.specs.Control.{identifier_of};
+
+use crate::fault::{Access, FaultKind};
+use crate::processor::Cpu;
+use m161_isa::unmapped;
+use m161_tlb::Tlb;
+
+/// The fault where nothing answers on the bus.
+pub(crate) fn bus_error(access: Access) -> FaultKind
+    ensures { result ≡ (bus_error access).kind }
+{
+    match access {
+        Access::Fetch => FaultKind::BusErrorFetch,
+        Access::Load | Access::Store => FaultKind::BusErrorData,
+    }
+}
+
+impl<T: Tlb> Cpu<T> {
+    /// The place in RAM, of which there are `size` bytes, of an access by kseg0 in kernel mode, where
+    /// it is aligned to its width. All other accesses go through `reach_elsewhere`.
+    #[inline(always)]
+    #[tactic(auto, unfolding(crate::specs::Translation::physical_at, crate::specs::Translation::is_misaddressed))]
+    pub(crate) fn direct(&self, width: u32, address: u32, size: u32) -> Option<u32>
+        requires width { 0 < width }
+        requires size { size ≤ 2 ^ 29 }
+        ensures value { (access : Access)
+            → IfSome result (λ at. physical_at access width address self.now ≡ Ok at) }
+        ensures within { IfSome result (λ at. at + width ≤ size) }
+    {
+        let at = address.wrapping_sub(0x8000_0000);
+        if address % width == 0
+            && u64::from(at) + u64::from(width) <= u64::from(size)
+            && !self.control.is_user()
+        {
+            Some(at)
+        } else {
+            None
+        }
+    }
+
+    /// The place in RAM of an access that has to be aligned to its width.
+    #[inline(always)]
+    pub(crate) fn reach(
+        &mut self,
+        access: Access,
+        width: u32,
+        address: u32,
+        size: u32,
+    ) -> Result<u32, FaultKind>
+        requires width { 0 < width }
+        requires size { size ≤ 2 ^ 29 }
+        ensures found { Finds (reach access width address size self.old) self.old result self.new }
+        ensures within { IfOk result (λ at. at + width ≤ size) }
+    {
+        if let Some(at) = self.direct(width, address, size) {
+            return Ok(at);
+        }
+        let at = self.reach_elsewhere(access, width, address, size)?;
+        Ok(at)
+    }
+
+    #[cold]
+    #[inline(never)]
+    fn reach_elsewhere(
+        &mut self,
+        access: Access,
+        width: u32,
+        address: u32,
+        size: u32,
+    ) -> Result<u32, FaultKind>
+        requires width { 0 < width }
+        ensures found { Finds (reach access width address size self.old) self.old result self.new }
+        ensures within { IfOk result (λ at. at + width ≤ size) }
+    {
+        let at = self.translate(access, width, address)?;
+        if u64::from(at) + u64::from(width) > u64::from(size) {
+            return Err(bus_error(access));
+        }
+        Ok(at)
+    }
+
+    /// The place in RAM of the word that holds an address, which needn't be aligned.
+    #[inline(always)]
+    pub(crate) fn reach_word_of(
+        &mut self,
+        access: Access,
+        address: u32,
+        size: u32,
+    ) -> Result<u32, FaultKind>
+        ensures found { Finds (reach_word_of access address size self.old) self.old
+            result self.new }
+        ensures within { IfOk result (λ at. at + 4 ≤ size) }
+    {
+        let at = self.translate(access, 1, address)? / 4 * 4;
+        if u64::from(at) + 4 > u64::from(size) {
+            return Err(bus_error(access));
+        }
+        Ok(at)
+    }
+
+    /// The physical address of an access that has to be aligned to its width.
+    #[cold]
+    #[inline(never)]
+    #[tactic(auto, unfolding(crate::specs::Translation::physical_at))]
+    pub(crate) fn translate(
+        &mut self,
+        access: Access,
+        width: u32,
+        address: u32,
+    ) -> Result<u32, FaultKind>
+        requires { 0 < width }
+        ensures { Finds (physical_at access width address self.old) self.old result self.new }
+    {
+        if self.is_misaddressed(width, address) {
+            return Err(self.address_error(access, address));
+        }
+        if let Some(at) = unmapped(address) {
+            return Ok(at);
+        }
+        self.mapped(access, address)
+    }
+
+    // The address isn't aligned to the access's width, or it is one of the kernel's in user mode.
+    #[tactic(auto, unfolding(crate::specs::Translation::is_misaddressed))]
+    fn is_misaddressed(&self, width: u32, address: u32) -> bool
+        requires { 0 < width }
+        ensures { result ≡ is_misaddressed width address self.now }
+    {
+        address % width != 0 || (self.control.is_user() && address >= 0x8000_0000)
+    }
+
+    // The physical address of one in kuseg or kseg2, by the lowest row that matches.
+    fn mapped(&mut self, access: Access, address: u32) -> Result<u32, FaultKind>
+        ensures { Finds (result_map (λ (to : Physical). to.at) (by_page access address self.old))
+            self.old result self.new }
+    {
+        let Some(i) = self.matching_row(address) else {
+            return Err(self.miss(access, address));
+        };
+        let row = self.row(i);
+        if !row.v {
+            return Err(self.invalid(access, address));
+        }
+        if access == Access::Store && !row.d {
+            return Err(self.note(address, FaultKind::TlbModified));
+        }
+        Ok((row.frame.number() << 12) + address % (1 << 12))
+    }
+
+    // The lowest row that matches an address and EntryHi's identifier.
+    fn matching_row(&self, address: u32) -> Option<u8>
+        ensures lowest { result ≡ find_row self.now.rows (address / 2 ^ 12)
+            (identifier_of self.now.control) }
+        ensures within { IfSome result (λ i. i < 64) }
+    {
+        self.tlb.find(address >> 12, self.control.identifier())
+    }
+
+    // Puts an address at fault into BadVAddr.
+    fn note(&mut self, address: u32, kind: FaultKind) -> FaultKind
+        ensures kind { result ≡ kind }
+        ensures noted { self.new ≡ noted (Some address) self.old }
+    {
+        self.control.set_bad_vaddr(address);
+        kind
+    }
+
+    fn address_error(&mut self, access: Access, address: u32) -> FaultKind
+        ensures kind { result ≡ (address_error access address).kind }
+        ensures noted { self.new ≡ noted (Some address) self.old }
+    {
+        match access {
+            Access::Fetch | Access::Load => self.note(address, FaultKind::AddressErrorLoad),
+            Access::Store => self.note(address, FaultKind::AddressErrorStore),
+        }
+    }
+
+    fn invalid(&mut self, access: Access, address: u32) -> FaultKind
+        ensures kind { result ≡ (invalid access address).kind }
+        ensures noted { self.new ≡ noted (Some address) self.old }
+    {
+        match access {
+            Access::Fetch | Access::Load => self.note(address, FaultKind::TlbLoad),
+            Access::Store => self.note(address, FaultKind::TlbStore),
+        }
+    }
+
+    fn miss(&mut self, access: Access, address: u32) -> FaultKind
+        ensures kind { result ≡ (miss access address).kind }
+        ensures noted { self.new ≡ noted (Some address) self.old }
+    {
+        if address >= 0x8000_0000 {
+            return self.invalid(access, address);
+        }
+        match access {
+            Access::Fetch | Access::Load => self.note(address, FaultKind::UserMissLoad),
+            Access::Store => self.note(address, FaultKind::UserMissStore),
+        }
+    }
+}

@@ -1,0 +1,43 @@
+use Rattle.std.proofs.Common.{◌≡◌, ◌∙◌, refl, sym, length, arith}
+use Rattle.m161_machine.specs.declared.event.Event.TheVariants.{Step}
+use Rattle.m161_machine.specs.State.{Parts}
+use Rattle.m161_machine.proofs.Made.{counts_of, refused, step_made, Made}
+use Rattle.m161_machine.proofs.Booted.{log_is_short}
+use Rattle.m161_machine.specs.History.{history}
+use Rattle.m161_machine.proofs.machine.Machine.one_step.Given.{Over}
+use Rattle.m161_machine.proofs.machine.Machine.one_step.Goals as goal
+
+pub returns-in-Some-clause-answers : goal.returns-in-Some-clause-answers
+returns-in-Some-clause-answers g c = (refused c.args.self.now.state (Step c.args.p) c.in-Some.refusal (sym c.in-Some.ensures.value), refl)
+
+-- what the Step leaves
+made : (g : Over) (c : goal.After-push_reserved g) → Made c.args.self.now
+    (record { bytes = c.self.inside.image.bytes.items; entry = c.self.inside.image.entry; conf = c.self.inside.conf })
+    c.self.inside.log.items (Step c.args.p) c.step_parts-outcome.result
+    (record { processors = c.step_parts-outcome.new.processors.items; memory = c.step_parts-outcome.new.ram; board = c.step_parts-outcome.new.board; links = c.step_parts-outcome.new.links })
+made g c =
+    step_made c.args.self.now _ c.self.inside.log.items c.args.p
+    (record { processors = c.self.inside.processors.items; memory = c.self.inside.ram; board = c.self.inside.board; links = c.self.inside.links })
+    c.self.view_is c.self.invariant.0
+    (sym c.refusal.ensures.value ∙ c.in_default.is) c.in_default.ensures.within.1
+    (record { processors = c.step_parts-outcome.new.processors.items; memory = c.step_parts-outcome.new.ram; board = c.step_parts-outcome.new.board; links = c.step_parts-outcome.new.links })
+    c.step_parts-outcome.ensures.parts c.step_parts-outcome.ensures.number c.step_parts-outcome.ensures.size c.step_parts-outcome.ensures.board.1 c.step_parts-outcome.ensures.counts
+    c.step_parts-outcome.result c.step_parts-outcome.ensures.outcome
+
+pub invariant_of-self : goal.invariant_of-self
+invariant_of-self g c =
+    let m = made g c in
+    rw (c.push_reserved.ensures.items, c.of_step.ensures) (m.agrees, omega (arith, c.self.invariant.1, c.push_reserved.ensures.capacity))
+
+pub returns-clause-answers : goal.returns-clause-answers
+returns-clause-answers g c = let m = made g c in rw (c.push_reserved.ensures.items, c.of_step.ensures) m.answers
+
+pub returns-clause-processors : goal.returns-clause-processors
+returns-clause-processors g c = let m = made g c in rw (c.push_reserved.ensures.items, c.of_step.ensures) m.same_number
+
+pub step_parts-outcome-requires-clause-room : goal.step_parts-outcome-requires-clause-room
+step_parts-outcome-requires-clause-room g c = (
+  length c.self.inside.log.items,
+  omega (arith, c.self.invariant.0.log_fits, log_is_short c.self.inside.conf c.self.invariant.0.limits_hold),
+  counts_of (history (record { bytes = c.self.inside.image.bytes.items; entry = c.self.inside.image.entry; conf = c.self.inside.conf }) c.self.inside.log.items) _ c.self.invariant.0,
+)

@@ -1,0 +1,30 @@
+use Rattle.std.specs.Prelude.{ℕ, ◌-◌, ◌/◌, ◌%◌, ◌==◌, if◌then◌else◌, Option, None, Some}
+use Rattle.m161_cop0.specs.declared.exception.Exception.{Exception}
+use Rattle.m161_cop0.specs.declared.exception.Exception.TheVariants.{Interrupt}
+use Rattle.m161_cop0.specs.Registers.{exception_with}
+use Rattle.m161_cpu.specs.declared.processor.Outcome.{Outcome}
+use Rattle.m161_cpu.specs.declared.processor.Outcome.TheVariants.{Ran, Trapped, Idle, PoweredOff, Taken}
+use Rattle.m161_machine.specs.declared.event.Event.TheVariants.{Step, Key, Done}
+use Rattle.m161_machine.specs.declared.event.Entry.{Entry}
+
+-- The word that the machine keeps of an entry: a processor or a byte, and a place below 64 for the kind of event and its outcome.
+
+-- the four addresses where a trap goes on
+abbrev pub vector_with : ℕ → ℕ
+vector_with n =
+    if n == 0 then 0x80000000 else if n == 1 then 0x80000080 else if n == 2 then 0xbfc00100 else 0xbfc00180
+
+abbrev pub or_interrupt : Option Exception → Exception
+or_interrupt (Some exception) = exception
+or_interrupt None = Interrupt
+
+abbrev pub outcome_with : ℕ → Outcome
+outcome_with place =
+    if place == 0 then Ran else if place == 1 then Idle else if place == 2 then PoweredOff
+    else Trapped (or_interrupt (exception_with ((place - 4) / 4))) (vector_with ((place - 4) % 4))
+
+abbrev pub entry_of : ℕ → Entry
+entry_of word =
+    if word % 64 == 62 then record { event = Key (word / 64); outcome = Taken }
+    else if word % 64 == 63 then record { event = Done; outcome = Taken }
+    else record { event = Step (word / 64); outcome = outcome_with (word % 64) }

@@ -1,0 +1,173 @@
+//! Entries of the log as they are kept: four bytes each, since every Step writes one.
+
+ghost use Rattle.std.specs.Prelude.{◌≡◌, ◌+◌, ◌*◌, ◌/◌, ◌%◌, ◌<◌, ◌≤◌, ◌^◌};
+ghost use Rattle.m161_cop0.specs.Trap.{IsVector};
+ghost use Rattle.m161_cpu.specs.declared.processor.Outcome.TheVariants as outcomes;
+ghost use Rattle.m161_cpu.specs.Step.{IsProper};
+ghost use Rattle.m161_machine.specs.declared.event.Event.TheVariants as events;
+ghost use Rattle.m161_machine.specs.History.{entry};
+ghost use Rattle.m161_machine.specs.Kept.{vector_with, outcome_with};
+
+use crate::event::{Entry, Event};
+use m161_cop0::Exception;
+use m161_cpu::Outcome;
+use std::marker::Model;
+
+/// The place of a typed byte.
+const KEY: u32 = 62;
+
+/// The place of a byte that was sent.
+const DONE: u32 = 63;
+
+/// An entry. Contracts see it as that.
+#[derive(Drop)]
+pub(crate) struct Kept {
+    word: u32,
+}
+
+impl Model for Kept {
+    ghost use Rattle.std.specs.Prelude.{◌≡◌, ◌/◌, ◌%◌, ◌<◌};
+    ghost use Rattle.m161_machine.specs.declared.event.Entry.{Entry};
+    ghost use Rattle.m161_machine.specs.Kept.{entry_of};
+
+    ghost Value = { Entry };
+
+    ghost view = { λ k. entry_of k.word };
+
+    // a typed byte is one
+    ghost invariant = { λ k. k.word % 64 ≡ 62 → k.word / 64 < 256 };
+}
+
+// The number of an address where a trap goes on.
+fn vector_number(vector: u32) -> u32
+    requires { IsVector vector }
+    ensures small { result < 4 }
+    ensures value { vector_with result ≡ vector }
+{
+    match vector {
+        0x8000_0000 => 0,
+        0x8000_0080 => 1,
+        0xbfc0_0100 => 2,
+        _ => 3,
+    }
+}
+
+// The address of a number.
+fn vector_at(number: u32) -> u32
+    ensures { result ≡ vector_with number }
+{
+    match number {
+        0 => 0x8000_0000,
+        1 => 0x8000_0080,
+        2 => 0xbfc0_0100,
+        _ => 0xbfc0_0180,
+    }
+}
+
+// The place of a Step's outcome.
+#[inline(always)]
+fn place(outcome: Outcome) -> u32
+    requires { IsProper outcome }
+    ensures small { result < 62 }
+    ensures value { outcome_with result ≡ outcome }
+{
+    match outcome {
+        Outcome::Ran => 0,
+        other => place_of_other(other),
+    }
+}
+
+// The place of an outcome that few Steps have.
+#[cold]
+#[inline(never)]
+fn place_of_other(outcome: Outcome) -> u32
+    requires { IsProper outcome }
+    ensures small { result < 62 }
+    ensures value { outcome_with result ≡ outcome }
+{
+    match outcome {
+        Outcome::Ran => 0,
+        Outcome::Idle => 1,
+        Outcome::PoweredOff => 2,
+        Outcome::Trapped { code, vector } => place_of_trap(code, vector),
+        Outcome::Taken => 0,
+    }
+}
+
+fn place_of_trap(code: Exception, vector: u32) -> u32
+    requires { IsVector vector }
+    ensures small { result < 62 }
+    ensures large { 4 ≤ result }
+    ensures value { outcome_with result ≡ outcomes.Trapped code vector }
+{
+    4 + u32::from(code.number()) * 4 + vector_number(vector)
+}
+
+// The outcome of a Step at a place.
+fn outcome_at(place: u32) -> Outcome
+    requires { place < 62 }
+    ensures { result ≡ outcome_with place }
+{
+    match place {
+        0 => Outcome::Ran,
+        1 => Outcome::Idle,
+        2 => Outcome::PoweredOff,
+        _ => {
+            let trap = place.saturating_sub(4);
+            Outcome::Trapped {
+                code: Exception::from_number((trap / 4) as u8).unwrap_or(Exception::Interrupt),
+                vector: vector_at(trap % 4),
+            }
+        }
+    }
+}
+
+impl Kept {
+    /// A Step of a processor, and its outcome.
+    #[inline(always)]
+    pub(crate) fn of_step(p: u32, outcome: Outcome) -> Kept
+        requires small { p < 2 ^ 26 }
+        requires proper { IsProper outcome }
+        ensures { result ≡ entry (events.Step p) outcome }
+    {
+        Kept {
+            word: p * 64 + place(outcome),
+        }
+    }
+
+    /// A typed byte.
+    pub(crate) fn of_key(byte: u8) -> Kept
+        ensures { result ≡ entry (events.Key byte) outcomes.Taken }
+    {
+        Kept {
+            word: u32::from(byte) * 64 + KEY,
+        }
+    }
+
+    /// A byte that was sent.
+    pub(crate) fn of_done() -> Kept
+        ensures { result ≡ entry events.Done outcomes.Taken }
+    {
+        Kept { word: DONE }
+    }
+
+    /// The entry.
+    pub(crate) fn entry(&self) -> Entry
+        ensures { result ≡ self.now }
+    {
+        match self.word % 64 {
+            KEY => Entry {
+                event: Event::Key((self.word / 64) as u8),
+                outcome: Outcome::Taken,
+            },
+            DONE => Entry {
+                event: Event::Done,
+                outcome: Outcome::Taken,
+            },
+            place => Entry {
+                event: Event::Step(self.word / 64),
+                outcome: outcome_at(place),
+            },
+        }
+    }
+}

@@ -1,0 +1,168 @@
+//! What a machine shows. No view allocates but `copy_log`.
+
+ghost use Rattle.std.specs.Prelude.{◌≡◌, ◌<◌, Some, length, slice_get, slice_index, IfOk};
+ghost use Rattle.m161_bus.specs.Board.{lines_of};
+ghost use Rattle.m161_cop0.specs.Control.{read_of};
+ghost use Rattle.m161_cop0.specs.Registers.{number_of_register};
+ghost use Rattle.m161_machine.specs.State.{processor_at, word_in};
+
+use crate::conf::Conf;
+use crate::event::Entry;
+use crate::machine::Machine;
+use m161_bus::Console;
+use m161_cop0::Register;
+use m161_cpu::ProcessorState;
+use m161_isa::Reg;
+use m161_tlb::{Row, Tlb};
+use std::alloc::{AllocError, Global};
+
+impl<T: Tlb, D: Console> Machine<T, D> {
+    /// A general register of a processor.
+    pub fn reg(&self, p: u32, register: Reg) -> u32
+        requires { p < length self.now.state.processors }
+        ensures value { result ≡ slice_index
+            (processor_at p self.now.state.processors).registers register }
+        ensures zero { register ≡ 0 → result ≡ 0 }
+    {
+        self.processors[p as usize].reg(register)
+    }
+
+    /// HI of a processor.
+    pub fn hi(&self, p: u32) -> u32
+        requires { p < length self.now.state.processors }
+        ensures { result ≡ (processor_at p self.now.state.processors).hi }
+    {
+        self.processors[p as usize].hi()
+    }
+
+    /// LO of a processor.
+    pub fn lo(&self, p: u32) -> u32
+        requires { p < length self.now.state.processors }
+        ensures { result ≡ (processor_at p self.now.state.processors).lo }
+    {
+        self.processors[p as usize].lo()
+    }
+
+    /// The address of a processor's present instruction.
+    pub fn pc(&self, p: u32) -> u32
+        requires { p < length self.now.state.processors }
+        ensures { result ≡ (processor_at p self.now.state.processors).pc }
+    {
+        self.processors[p as usize].pc()
+    }
+
+    /// Whether a processor's present instruction is in a delay slot.
+    pub fn in_slot(&self, p: u32) -> bool
+        requires { p < length self.now.state.processors }
+        ensures { result ≡ (processor_at p self.now.state.processors).slot }
+    {
+        self.processors[p as usize].in_slot()
+    }
+
+    /// What a processor is doing.
+    pub fn state(&self, p: u32) -> ProcessorState
+        requires { p < length self.now.state.processors }
+        ensures { result ≡ (processor_at p self.now.state.processors).state }
+    {
+        self.processors[p as usize].state()
+    }
+
+    /// How many Steps a processor has made, idle ones counted.
+    pub fn count(&self, p: u32) -> u64
+        requires { p < length self.now.state.processors }
+        ensures { result ≡ (processor_at p self.now.state.processors).count }
+    {
+        self.processors[p as usize].count()
+    }
+
+    /// The word at a physical address; `None` where it is misaligned or outside RAM.
+    pub fn word(&self, address: u32) -> Option<u32>
+        ensures { result ≡ word_in self.now.state.memory address }
+    {
+        if address % 4 == 0 && u64::from(address) + 4 <= u64::from(self.ram.size()) {
+            Some(self.ram.word(address))
+        } else {
+            None
+        }
+    }
+
+    /// How many events were accepted.
+    pub fn log_len(&self) -> usize
+        ensures { result ≡ length self.now.log }
+    {
+        self.log.len()
+    }
+
+    /// An accepted event with its outcome; the oldest is the first.
+    pub fn log_at(&self, i: usize) -> Entry
+        requires { i < length self.now.log }
+        ensures { slice_get self.now.log i ≡ Some result }
+    {
+        self.log[i].entry()
+    }
+
+    /// The accepted events with their outcomes, oldest first.
+    pub fn copy_log(&self, alloc: Global) -> Result<Vec<Entry>, AllocError>
+        ensures { IfOk result (λ entries. entries.items ≡ self.now.log) }
+    {
+        let mut entries = Vec::with_capacity(alloc, self.log.len())?;
+        for kept in self.log.iter() {
+            entries.push_reserved(kept.entry());
+        }
+        Ok(entries)
+    }
+
+    /// Its configuration.
+    pub fn conf(&self) -> Conf
+        ensures { result ≡ self.now.start.conf }
+    {
+        self.conf
+    }
+
+    /// A register of coprocessor 0 of a processor. Cause shows the board's lines as they are now.
+    pub fn cop(&self, p: u32, register: Register) -> u32
+        requires { p < length self.now.state.processors }
+        ensures { result ≡ read_of (number_of_register register)
+            (lines_of p self.now.state.board)
+            (processor_at p self.now.state.processors).control }
+    {
+        self.processors[p as usize].cop(register, self.board.lines(p))
+    }
+
+    /// A row of a processor's TLB.
+    pub fn row(&self, p: u32, i: u8) -> Row
+        requires processor { p < length self.now.state.processors }
+        requires row { i < 64 }
+        ensures { slice_get (processor_at p self.now.state.processors).rows i ≡ Some result }
+    {
+        self.processors[p as usize].row(i)
+    }
+
+    /// The bytes that the console has sent, the first one first.
+    pub fn output(&self) -> &[u8]
+        ensures { result.now ≡ self.now.state.board.console.output }
+    {
+        self.board.output()
+    }
+
+    /// RAM, from physical address 0 on.
+    pub fn memory(&self) -> &[u8]
+        ensures { result.now ≡ self.now.state.memory }
+    {
+        self.ram.as_bytes()
+    }
+
+    /// How many processors it has.
+    pub fn processors(&self) -> u32
+        ensures { result ≡ length self.now.state.processors }
+    {
+        self.conf.processors
+    }
+
+    /// Whether it was switched off.
+    pub fn is_off(&self) -> bool
+        ensures { result ≡ self.now.state.board.off }
+    {
+        self.board.is_off()
+    }
+}

@@ -1,0 +1,75 @@
+//! A Step on the parts of a machine.
+
+ghost use Rattle.std.specs.Prelude.{◌≡◌, ◌+◌, ◌-◌, ◌^◌, ◌<◌, ◌≤◌, length, ℕ};
+ghost use Rattle.m161_bus.specs.Board.{KeepsSize};
+ghost use Rattle.m161_cpu.specs.Step.{IsProper};
+ghost use Rattle.m161_machine.specs.State.{CountUpTo, parts, started_by, step_on, stepped_parts, with_starts};
+
+use m161_bus::{Board, Console};
+use m161_cpu::{Cpu, Links, Outcome};
+use m161_ram::Ram;
+use m161_tlb::Tlb;
+
+/// Makes a Step of processor `p`, and starts the processors that it started by CPUE.
+#[inline(always)]
+pub(crate) fn step_parts<T: Tlb, D: Console>(
+    processors: &mut Vec<Cpu<T>>,
+    p: u32,
+    ram: &mut Ram,
+    board: &mut Board<D>,
+    links: &mut Links,
+) -> Outcome
+    requires processor { p < length processors.old.items }
+    requires number { (length processors.old.items ≡ board.old.processors)
+        × (board.old.processors ≤ 32) }
+    requires ram { length ram.old ≤ 2 ^ 29 }
+    requires room { (n : ℕ) × (n < 2 ^ 64 - 1) × CountUpTo n processors.old.items }
+    ensures outcome { result ≡
+        (step_on p (parts processors.old.items ram.old board.old links.old)).outcome }
+    ensures parts { parts processors.new.items ram.new board.new links.new ≡
+        stepped_parts p (parts processors.old.items ram.old board.old links.old) }
+    ensures counts { (n : ℕ)
+        → CountUpTo n processors.old.items → CountUpTo (n + 1) processors.new.items }
+    ensures number { length processors.new.items ≡ length processors.old.items }
+    ensures size { length ram.new ≡ length ram.old }
+    ensures board { KeepsSize board.old board.new }
+    ensures proper { IsProper result }
+{
+    let before = board.started();
+    let outcome = processors[p as usize].step(p, ram, board, links);
+    start_new(processors, board, before);
+    outcome
+}
+
+// Starts the processors that CPUE has now and hadn't before.
+#[inline(always)]
+fn start_new<T: Tlb, D: Console>(processors: &mut Vec<Cpu<T>>, board: &Board<D>, before: u32)
+    requires { (length processors.old.items ≡ board.now.processors) × (board.now.processors ≤ 32) }
+    ensures { processors.new.items ≡ with_starts before board.now 0 processors.old.items }
+{
+    if board.started() != before {
+        start_others(processors, board, before);
+    }
+}
+
+#[cold]
+#[inline(never)]
+fn start_others<T: Tlb, D: Console>(processors: &mut Vec<Cpu<T>>, board: &Board<D>, before: u32)
+    requires { (length processors.old.items ≡ board.now.processors) × (board.now.processors ≤ 32) }
+    ensures { processors.new.items ≡ with_starts before board.now 0 processors.old.items }
+{
+    for c in 0..board.processors() {
+        start_if_new(&mut processors[c as usize], c, board, before);
+    }
+}
+
+// Starts a processor that CPUE has now and hadn't before.
+fn start_if_new<T: Tlb, D: Console>(cpu: &mut Cpu<T>, c: u32, board: &Board<D>, before: u32)
+    requires { (c < board.now.processors) × (c < 32) }
+    ensures { cpu.new ≡ started_by before board.now c cpu.old }
+{
+    if (board.started() >> c) % 2 == 1 && (before >> c) % 2 == 0 {
+        let words = board.start_words(c);
+        cpu.start(words.pc, words.r4, words.r29);
+    }
+}
