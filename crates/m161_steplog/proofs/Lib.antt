@@ -1,0 +1,11 @@
+mod Reading
+mod Parts
+mod Decimal
+mod Hex
+mod Feeds
+mod Codes
+mod LogLines
+mod Logs
+mod ScheduleLines
+mod Progress
+mod Verdicts

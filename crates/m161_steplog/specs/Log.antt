@@ -1,0 +1,30 @@
+use Rattle.std.specs.Prelude.{◌≡◌, ◌⊎◌, ℕ, List, [], ◌∷◌, ◌++◌, map, flat_map, codes}
+use Rattle.std.specs.List.{AllByRecursion}
+use Rattle.m161_machine.specs.declared.event.Entry.{Entry}
+use Rattle.m161_steplog.specs.Text.{entry_text, IsProper}
+
+-- The text of a log.
+
+-- a first line, then a line for each entry
+abbrev pub log_text : List Entry → List ℕ
+log_text es = codes "m161 log 1\n" ++ flat_map (λ e. entry_text e ++ codes "\n") es
+
+-- the text, or the text without its last line end
+abbrev pub IsLogText : List ℕ → List Entry → Type 0
+IsLogText text es = (text ≡ log_text es) ⊎ (text ++ 10 ∷ [] ≡ log_text es)
+
+-- this is the text of a log with these entries
+abbrev pub IsLog : List ℕ → List Entry → Type 0
+IsLog text es = AllByRecursion IsProper es × IsLogText text es
+
+-- the lines of a log, without their ends
+abbrev pub log_lines : List Entry → List (List ℕ)
+log_lines es = codes "m161 log 1" ∷ map entry_text es
+
+abbrev pub AreLogLines : List (List ℕ) → Type 0
+AreLogLines lines = (es : List Entry) × AllByRecursion IsProper es × (lines ≡ log_lines es)
+
+-- How the code sees an entry: its line is no other's.
+pub record IsDistinct (e : Entry) : Type 0 where
+  pub proper : IsProper e
+  pub alone : (x : Entry) → IsProper x → entry_text e ≡ entry_text x → e ≡ x

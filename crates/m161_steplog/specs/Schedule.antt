@@ -1,0 +1,70 @@
+use Rattle.std.specs.Prelude.{◌≡◌, ℕ, ◌+◌, ◌≤◌, List, [], ◌∷◌, ◌++◌, Option, Some, IfSome, map, flat_map, replicate, length, decimal}
+use Rattle.std.specs.List.{AllByRecursion}
+use Rattle.m161_machine.specs.declared.event.Event.{Event}
+use Rattle.m161_machine.specs.declared.event.Event.TheVariants as events
+use Rattle.m161_steplog.specs.declared.schedule.Item.{Item}
+use Rattle.m161_steplog.specs.declared.schedule.Item.TheVariants as items
+use Rattle.m161_steplog.specs.Parts.{◌␣◌, IsWord}
+use Rattle.m161_steplog.specs.Text.{event_text, IsEvent}
+
+-- The text of a schedule: a list of events, some of them Steps that are written once for several.
+
+-- what a line of a schedule has
+pub data Line : Type 0 where
+  Blank : Line
+  Comment : (text : List ℕ) → Line
+  Once : (event : Event) → Line
+  Times : (p n : ℕ) → Line
+
+-- a comment begins with `#`
+abbrev pub line_text : Line → List ℕ
+line_text Blank = []
+line_text (Comment text) = 35 ∷ text
+line_text (Once e) = event_text e
+line_text (Times p n) = event_text (events.Step p) ␣ decimal n
+
+abbrev pub line_events : Line → List Event
+line_events Blank = []
+line_events (Comment text) = []
+line_events (Once e) = e ∷ []
+line_events (Times p n) = replicate n (events.Step p)
+
+-- how many Steps one line may ask for
+abbrev pub IsCount : ℕ → Type 0
+IsCount n = (1 ≤ n) × (n ≤ 1_000_000)
+
+-- the numbers of a line are within their limits
+abbrev pub IsLine : Line → Type 0
+IsLine Blank = Unit {0}
+IsLine (Comment text) = Unit {0}
+IsLine (Once e) = IsEvent e
+IsLine (Times p n) = IsWord p × IsCount n
+
+-- these are the lines of a schedule with these events
+pub record IsSchedule (lines : List (List ℕ)) (es : List Event) : Type 0 where
+  pub content : List Line
+  pub each : AllByRecursion IsLine content
+  pub text : lines ≡ map line_text content
+  pub events : es ≡ flat_map line_events content
+  pub room : length es ≤ 16_777_216
+
+-- these are the lines of a schedule
+abbrev pub AreScheduleLines : List (List ℕ) → Type 0
+AreScheduleLines lines = (es : List Event) × IsSchedule lines es
+
+-- How the code sees a line.
+
+abbrev pub item_events : Item → List Event
+item_events items.Nothing = []
+item_events (items.Repeated e n) = replicate n e
+
+-- a line is read: the result has its events, or there is no such line
+pub record ReadsLine (text : List ℕ) (result : Option Item) : Type 0 where
+  pub found : IfSome result (λ item.
+      (line : Line) × IsLine line × (text ≡ line_text line) × (line_events line ≡ item_events item))
+  pub only : (line : Line) → IsLine line → text ≡ line_text line
+      → (item : Item) × (result ≡ Some item) × (line_events line ≡ item_events item)
+
+-- events were appended, within the limit
+abbrev pub Appends : List Event → List Event → List Event → Type 0
+Appends before added after = (after ≡ before ++ added) × (length before + length added ≤ 16_777_216)

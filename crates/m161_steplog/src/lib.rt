@@ -1,0 +1,39 @@
+//! The texts of a machine's log and of a schedule of events; and `verify`, which makes a log once
+//! more on a machine that it boots, and finds the first entry that differs.
+//!
+//! ```text
+//! schedule  s P        a Step of processor P
+//!           s P N      N Steps of it, 1 to 1,000,000
+//!           k HH       a byte is typed
+//!           o          the console has sent its byte
+//!           #...       a comment; an empty line is ignored too
+//!
+//! log       m161 log 1                   the first line; then a line for each entry:
+//!           s P ran                      an instruction was executed
+//!           s P trap CODE VECTOR         a trap was entered
+//!           s P idle                     no instruction was executed
+//!           s P off                      the instruction switched the machine off
+//!           k HH taken    o taken        an input was accepted
+//! ```
+//!
+//! P, N and CODE are decimal without leading zeros, P below 2^32, CODE 0 to 12 as in Cause. HH is
+//! two and VECTOR eight lower case hexadecimal digits. One space stands between the parts of a
+//! line, and none before or after them. Each line ends with a line feed, which the last may lack.
+//! A schedule has at most 16,777,216 events. A fault names the first bad line, from 1; the line
+//! that passes the limit is bad, and line 1 of an empty log. The texts are this project's own.
+#![tactic(auto)]
+
+mod cut;
+mod digits;
+mod fault;
+mod line;
+mod log;
+mod schedule;
+mod shown;
+mod verdict;
+
+pub use fault::Fault;
+pub use log::{entry_line, read_log, write_log};
+pub use m161_machine::{BootError, Conf, Entry, Event, Exception, Outcome};
+pub use schedule::read_schedule;
+pub use verdict::{Verdict, verify};

@@ -1,0 +1,82 @@
+//! The text of a log.
+
+ghost use Rattle.std.specs.Prelude.{◌≡◌, ℕ, List, IfOk, IsErrOf, string_bytes};
+ghost use Rattle.std.specs.List.{AllByRecursion};
+ghost use Rattle.m161_machine.specs.declared.event.Entry.{Entry};
+ghost use Rattle.m161_steplog.specs.declared.fault.Fault.TheVariants as faults;
+ghost use Rattle.m161_steplog.specs.Text.{entry_text};
+ghost use Rattle.m161_steplog.specs.Lines.{lines_of, FirstBad, IsRead};
+ghost use Rattle.m161_steplog.specs.Log.{log_text, log_lines, IsLog, IsDistinct, AreLogLines};
+
+use crate::cut::next_line;
+use crate::fault::Fault;
+use crate::line::entry_of;
+use crate::shown::ShownEntry;
+use m161_machine::Entry;
+use std::alloc::{AllocError, Global};
+
+/// An entry's line, without its end.
+///
+/// # Errors
+/// Memory was refused.
+pub fn entry_line(alloc: Global, entry: &Entry) -> Result<String, AllocError>
+    ensures { IfOk result (λ line. string_bytes line ≡ entry_text entry.now) }
+{
+    format!(in alloc; "{}", ShownEntry(*entry))
+}
+
+/// The text of a log. Every list of entries has one, also one that no machine makes.
+///
+/// # Errors
+/// Memory was refused.
+pub fn write_log(alloc: Global, entries: &[Entry]) -> Result<String, AllocError>
+    ensures { IfOk result (λ text. string_bytes text ≡ log_text entries.now) }
+{
+    let mut text = String::from_str(alloc, "m161 log 1\n")?;
+    for entry in entries {
+        let line = entry_line(alloc, entry)?;
+        text.push_str(line.as_str())?;
+        text.push_str("\n")?;
+    }
+    Ok(text)
+}
+
+// The entries of a log's text, line by line.
+fn entries_of(alloc: Global, text: &str) -> Result<Vec<Entry>, Fault>
+    ensures found { IfOk result (λ v.
+        AllByRecursion IsDistinct v.items × (lines_of text.now ≡ log_lines v.items)) }
+    ensures line { (n : ℕ) → IsErrOf result (faults.Line n) → FirstBad AreLogLines text.now n }
+{
+    let Some((header, after)) = next_line(text) else {
+        return Err(Fault::Line(1));
+    };
+    if header != "m161 log 1" {
+        return Err(Fault::Line(1));
+    }
+    let mut entries = Vec::new(alloc);
+    let mut number = 1u64;
+    let mut rest = after;
+    while let Some((line, more)) = next_line(rest) {
+        number += 1;
+        let Some(entry) = entry_of(line) else {
+            return Err(Fault::Line(number));
+        };
+        entries.push(entry)?;
+        rest = more;
+    }
+    Ok(entries)
+}
+
+/// The entries of a log's text.
+///
+/// # Errors
+/// The first bad line; or memory was refused.
+pub fn read_log(alloc: Global, text: &str) -> Result<Vec<Entry>, Fault>
+    // What is read is the log of this text.
+    ensures found { IfOk result (λ entries. IsLog text.now entries.items) }
+    // A log is read wherever the text is one, unless memory is refused.
+    ensures only { (es : List Entry) → IsLog text.now es → IsRead es result }
+    ensures line { (n : ℕ) → IsErrOf result (faults.Line n) → FirstBad AreLogLines text.now n }
+{
+    entries_of(alloc, text)
+}

@@ -1,0 +1,150 @@
+//! The text of a schedule.
+
+ghost use Rattle.std.specs.Prelude.{◌≡◌, ℕ, ◌+◌, ◌<◌, ◌≤◌, List, ◌++◌, length, decimal, replicate, IfOk, OnOk, IsErrOf};
+ghost use Rattle.m161_machine.specs.declared.event.Event.{Event};
+ghost use Rattle.m161_machine.specs.declared.event.Event.TheVariants as events;
+ghost use Rattle.m161_steplog.specs.declared.fault.Fault.TheVariants as faults;
+ghost use Rattle.m161_steplog.specs.Lines.{lines_of, FirstBad, IsRead};
+ghost use Rattle.m161_steplog.specs.Parts.{Reads, ReadsBoth, IsWord};
+ghost use Rattle.m161_steplog.specs.Text.{event_text, IsEvent};
+ghost use Rattle.m161_steplog.specs.Schedule.{item_events, Appends, IsCount, ReadsLine, IsSchedule, AreScheduleLines};
+
+use crate::cut::{cut_at_space, next_line};
+use crate::digits::{byte_of, decimal_of};
+use crate::fault::Fault;
+use m161_machine::Event;
+use std::alloc::{AllocError, Global};
+
+/// The most events of a schedule.
+const MOST_EVENTS: usize = 16_777_216;
+
+/// What a line of a schedule asks for.
+#[derive(Clone, Copy)]
+pub(crate) enum Item {
+    /// No event: the line is blank or a comment.
+    Nothing,
+    /// This event, this many times.
+    Repeated(Event, u32),
+}
+
+// The event of a text.
+fn event_of(text: &str) -> Option<Event>
+    ensures { Reads IsEvent event_text text.now result }
+{
+    match text {
+        "o" => Some(Event::Done),
+        _ => {
+            let (kind, rest) = cut_at_space(text)?;
+            match kind {
+                "s" => Some(Event::Step(decimal_of(rest)?)),
+                "k" => Some(Event::Key(byte_of(rest)?)),
+                _ => None,
+            }
+        }
+    }
+}
+
+// How many Steps a line asks for.
+fn count_of(text: &str) -> Option<u32>
+    ensures { Reads IsCount decimal text.now result }
+{
+    let count = decimal_of(text)?;
+    if count == 0 || count > 1_000_000 {
+        return None;
+    }
+    Some(count)
+}
+
+// A processor, and how many Steps of it.
+fn times_of(text: &str) -> Option<(u32, u32)>
+    ensures { ReadsBoth IsWord IsCount decimal decimal text.now result }
+{
+    let (p, count) = cut_at_space(text)?;
+    let p = decimal_of(p)?;
+    let count = count_of(count)?;
+    Some((p, count))
+}
+
+// The same, after the event's name.
+fn steps_of(text: &str) -> Option<(u32, u32)>
+    ensures { ReadsBoth IsWord IsCount (λ p. event_text (events.Step p)) decimal text.now result }
+{
+    let (kind, rest) = cut_at_space(text)?;
+    match kind {
+        "s" => times_of(rest),
+        _ => None,
+    }
+}
+
+// What a line asks for.
+fn item_of(line: &str) -> Option<Item>
+    ensures { ReadsLine line.now result }
+{
+    if line.is_empty() {
+        return Some(Item::Nothing);
+    }
+    if line.starts_with('#') {
+        return Some(Item::Nothing);
+    }
+    match event_of(line) {
+        Some(event) => Some(Item::Repeated(event, 1)),
+        None => match steps_of(line) {
+            Some((p, count)) => Some(Item::Repeated(Event::Step(p), count)),
+            None => None,
+        },
+    }
+}
+
+// Appends an event `count` times.
+fn push_times(events: &mut Vec<Event>, event: Event, count: u32) -> Result<(), AllocError>
+    ensures { OnOk result (events.new.items ≡ events.old.items ++ replicate count event) }
+{
+    for _i in 0..count {
+        events.push(event)?;
+    }
+    Ok(())
+}
+
+// Appends the events of line `number`, unless they pass the limit.
+fn push_item(events: &mut Vec<Event>, item: Item, number: u64) -> Result<(), Fault>
+    requires { length events.old.items ≤ 16_777_216 }
+    ensures ok { OnOk result (Appends events.old.items (item_events item) events.new.items) }
+    ensures full { (n : ℕ) → IsErrOf result (faults.Line n)
+        → (n ≡ number) × (16_777_216 < length events.old.items + length (item_events item)) }
+{
+    match item {
+        Item::Nothing => Ok(()),
+        Item::Repeated(event, count) => {
+            if events.len() + count as usize > MOST_EVENTS {
+                return Err(Fault::Line(number));
+            }
+            push_times(events, event, count)?;
+            Ok(())
+        }
+    }
+}
+
+/// The events of a schedule's text.
+///
+/// # Errors
+/// The first bad line; or memory was refused.
+pub fn read_schedule(alloc: Global, text: &str) -> Result<Vec<Event>, Fault>
+    // What is read is the schedule of this text.
+    ensures found { IfOk result (λ events. IsSchedule (lines_of text.now) events.items) }
+    // A schedule is read wherever the text has one, unless memory is refused.
+    ensures only { (es : List Event) → IsSchedule (lines_of text.now) es → IsRead es result }
+    ensures line { (n : ℕ) → IsErrOf result (faults.Line n) → FirstBad AreScheduleLines text.now n }
+{
+    let mut events = Vec::new(alloc);
+    let mut number = 0u64;
+    let mut rest = text;
+    while let Some((line, more)) = next_line(rest) {
+        number += 1;
+        let Some(item) = item_of(line) else {
+            return Err(Fault::Line(number));
+        };
+        push_item(&mut events, item, number)?;
+        rest = more;
+    }
+    Ok(events)
+}

@@ -1,0 +1,51 @@
+//! A log, made once more on a machine.
+
+ghost use Rattle.m161_machine.specs.History.{boot_fault};
+ghost use Rattle.m161_steplog.specs.Verdict.{Verifies, Repeats};
+
+use m161_bus::Console;
+use m161_machine::{BootError, Conf, Entry, Machine, Refusal};
+use m161_tlb::Tlb;
+use std::alloc::Global;
+
+/// Whether a machine makes the entries of a log.
+#[derive(Clone, Copy, Debug, PartialEq, Eq)]
+pub enum Verdict {
+    /// Each entry's event is accepted, with the entry's outcome.
+    Agrees,
+    /// The first entry, counted from 0, whose event is refused or has another outcome.
+    Differs(usize),
+}
+
+// Whether a machine accepts an entry's event, with the entry's outcome.
+fn repeats<T: Tlb, D: Console>(machine: &mut Machine<T, D>, entry: Entry) -> Result<bool, BootError>
+    ensures { Repeats machine.old entry machine.new result }
+{
+    match machine.event(entry.event) {
+        Ok(outcome) => Ok(outcome == entry.outcome),
+        Err(Refusal::NoMemory) => Err(BootError::NoMemory),
+        Err(_) => Ok(false),
+    }
+}
+
+/// Makes the events of a log on a machine that is booted from a file, over any TLB and any
+/// console, and compares the outcomes.
+///
+/// # Errors
+/// The machine isn't booted; or memory was refused, by the boot or by an event `Done`.
+pub fn verify<T: Tlb, D: Console>(
+    alloc: Global,
+    file: &[u8],
+    conf: Conf,
+    log: &[Entry],
+) -> Result<Verdict, BootError>
+    ensures { Verifies file.now conf (boot_fault file.now conf) log.now result }
+{
+    let mut machine: Machine<T, D> = Machine::boot(alloc, file, conf)?;
+    for (k, entry) in log.iter().enumerate() {
+        if !repeats(&mut machine, *entry)? {
+            return Ok(Verdict::Differs(k));
+        }
+    }
+    Ok(Verdict::Agrees)
+}
