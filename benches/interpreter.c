@@ -1,19 +1,14 @@
 /* A plain interpreter of the benchmark's loop, to compare the machine with: one switch on the
  * opcode and one on the function, addresses checked for alignment and for RAM, one delay slot,
- * and a log entry written each step. The argument is a number of runs of 1,000,000 steps. */
+ * and a log entry written each step. The arguments are a number of runs and, unless it is
+ * 1,000,000, the number of steps of each. */
 #include <stdint.h>
 #include <stdio.h>
 #include <stdlib.h>
 #include <string.h>
 #include <time.h>
 
-#define STEPS 1000000u
 #define RAM 65536u
-
-struct entry {
-    uint32_t kind, processor;
-    uint32_t outcome;
-};
 
 struct cpu {
     uint32_t r[32], hi, lo, pc, next;
@@ -24,7 +19,7 @@ struct cpu {
 struct machine {
     struct cpu cpu;
     uint8_t *ram;
-    struct entry *log;
+    uint32_t *log; /* four bytes an entry: the processor, and what its step came to */
     uint32_t log_len, log_room;
 };
 
@@ -174,21 +169,23 @@ static int step(struct machine *m) {
     c->next = target;
     c->slot = slot;
     c->count++;
-    m->log[m->log_len++] = (struct entry){0, 0, 0};
+    m->log[m->log_len++] = 0;
     return 1;
 }
 
-static int run(uint32_t *word, uint64_t *steps) {
-    struct machine m = {.cpu = {.pc = 0x80000200u, .next = 0x80000204u}, .log_room = STEPS};
+static int run(uint32_t room, uint32_t *word, uint64_t *steps) {
+    struct machine m = {.cpu = {.pc = 0x80000200u, .next = 0x80000204u}, .log_room = room};
     m.ram = calloc(RAM, 1);
-    m.log = malloc((size_t)STEPS * sizeof *m.log);
+    m.log = malloc((size_t)room * sizeof *m.log);
     if (!m.ram || !m.log)
         return 0;
     for (size_t i = 0; i < sizeof program / sizeof *program; i++)
         put_word(m.ram + 0x200 + 4 * i, program[i]);
-    for (uint32_t i = 0; i < STEPS; i++)
+    for (uint32_t i = 0; i < room; i++)
         if (!step(&m))
             break;
+    /* the log is read, for all that the compiler knows */
+    __asm__ volatile("" : : "r"(m.log) : "memory");
     *word += m.cpu.r[17];
     *steps += m.cpu.count;
     free(m.ram);
@@ -201,9 +198,10 @@ int main(int argc, char **argv) {
     uint32_t word = 0;
     uint64_t steps = 0;
     long times = argc > 1 ? atol(argv[1]) : 0;
+    uint32_t room = argc > 2 ? (uint32_t)atol(argv[2]) : 1000000;
     clock_gettime(CLOCK_MONOTONIC, &a);
     for (long i = 0; i < times; i++)
-        if (!run(&word, &steps))
+        if (!run(room, &word, &steps))
             return 1;
     clock_gettime(CLOCK_MONOTONIC, &b);
     printf("%llu %08x\n", (unsigned long long)steps, word);

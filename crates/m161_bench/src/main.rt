@@ -1,25 +1,26 @@
-//! The machine's side of the benchmark: steps through a loop of loads, stores, shifts, sums and a
+//! The machine's side of the benchmark: Steps through a loop of loads, stores, shifts, sums and a
 //! branch with its slot, the log's entry written each Step.
 //!
-//! The argument is a number of runs. Each boots the image anew and makes 1,000,000 Steps, as many
-//! as its log has room for. The sum of the runs' last words goes to standard output, and the
-//! nanoseconds that they took to standard error.
+//! The arguments are a number of runs and, unless it is 1,000,000, the number of Steps of each.
+//! Each run boots the image anew, with a log of that size, and makes the Steps. The sum of the
+//! runs' last words goes to standard output, and the nanoseconds that they took to standard error.
+//!
+//! As a user's program does, this one also calls `decode` and makes a Step by itself, so that the
+//! compiler has the same reasons to inline the loop of Steps or not.
 #![tactic(auto)]
 
-use m161_isa::Reg;
+use m161_console::PlainConsole;
+use m161_decode::decode;
+use m161_isa::{Reg, has_row};
 use m161_machine::{Conf, Machine};
+use m161_tlb_scan::Scan;
 use std::alloc::Global;
 use std::env;
 use std::process::ExitCode;
 use std::time::Instant;
 
+/// The Steps of a run where the arguments don't say.
 const STEPS: u32 = 1_000_000;
-
-const CONF: Conf = Conf {
-    ram: 65_536,
-    processors: 1,
-    log: STEPS,
-};
 
 /// An ELF file of one segment at 80000200, with the program below.
 ///
@@ -51,49 +52,71 @@ static IMAGE: [u8; 140] = [
     0xa2, 0x0d, 0x00, 0x04, 0x16, 0x40, 0xff, 0xf5, 0x02, 0x32, 0x88, 0x21,
 ];
 
-// The last word of a run, and how many Steps it made.
-fn run(alloc: Global) -> Option<(u32, u64)> {
-    let mut machine = Machine::boot(alloc, &IMAGE, CONF).ok()?;
-    for _ in 0..STEPS {
-        let _ = machine.step(0);
-    }
+// Whether each word of the program has a row.
+fn is_program() -> bool {
+    IMAGE[84..].chunks_exact(4).all(|bytes| {
+        let word = bytes
+            .iter()
+            .fold(0u32, |word, byte| (word << 8) | u32::from(*byte));
+        has_row(&decode(word))
+    })
+}
+
+// The last word of a run, and how many Steps it made; the first one by itself.
+fn run(alloc: Global, steps: u32) -> Option<(u32, u64)> {
+    let conf = Conf {
+        ram: 65_536,
+        processors: 1,
+        log: steps,
+    };
+    let mut machine: Machine<Scan, PlainConsole> = Machine::boot(alloc, &IMAGE, conf).ok()?;
+    machine.step(0).ok()?;
+    let _ = machine.steps(0, steps);
     if machine.processors() == 0 {
         return None;
     }
     Some((machine.reg(0, Reg::new(17)), machine.count(0)))
 }
 
-// The sums of the words and the Steps of so many runs.
-fn runs(alloc: Global, times: u32) -> Option<(u32, u64)> {
+// The sums of the words and the Steps of some runs.
+fn runs(alloc: Global, times: u32, steps: u32) -> Option<(u32, u64)> {
     let mut word = 0u32;
-    let mut steps = 0u64;
+    let mut count = 0u64;
     for _ in 0..times {
-        let (last, made) = run(alloc)?;
+        let (last, made) = run(alloc, steps)?;
         word = word.wrapping_add(last);
-        steps = steps.saturating_add(made);
+        count = count.saturating_add(made);
     }
-    Some((word, steps))
+    Some((word, count))
 }
 
-// The number in the first argument.
-fn times(rt: &HostRuntime) -> Option<u32> {
-    env::args(rt).ok()?.nth(1)?.parse().ok()
+// The numbers in the first two arguments: of the runs, and of the Steps of each.
+fn arguments(rt: &HostRuntime) -> Option<(u32, u32)> {
+    let mut words = env::args(rt).ok()?.skip(1);
+    let times = words.next()?.parse().ok()?;
+    match words.next() {
+        Some(steps) => Some((times, steps.parse().ok()?)),
+        None => Some((times, STEPS)),
+    }
 }
 
 fn main(rt: HostRuntime) -> ExitCode {
-    let Some(times) = times(&rt) else {
+    let Some((times, steps)) = arguments(&rt) else {
         return ExitCode::from(2);
     };
+    if !is_program() {
+        return ExitCode::from(1);
+    }
     let Ok(start) = Instant::now(&rt) else {
         return ExitCode::from(1);
     };
-    let Some((word, steps)) = runs(rt.alloc(), times) else {
+    let Some((word, count)) = runs(rt.alloc(), times, steps) else {
         return ExitCode::from(1);
     };
     let Ok(took) = start.elapsed(&rt) else {
         return ExitCode::from(1);
     };
     let nanoseconds = took.as_nanos();
-    let said = println!(rt; "{steps} {word:08x}").is_ok() && eprintln!(rt; "{nanoseconds}").is_ok();
+    let said = println!(rt; "{count} {word:08x}").is_ok() && eprintln!(rt; "{nanoseconds}").is_ok();
     ExitCode::from(if said { 0 } else { 1 })
 }

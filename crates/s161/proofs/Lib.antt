@@ -1,1 +1,3 @@
-pub mod Taking
+pub mod Accepting
+pub mod Hex
+pub mod Shown

@@ -3,7 +3,7 @@
 ghost use Rattle.std.specs.Prelude.{◌≡◌, ◌≢◌, IfErr, IfOk, map};
 ghost use Rattle.clap.specs.Words.{app_of, kind_of};
 ghost use Rattle.clap.specs.declared.error.kind.ErrorKind.TheVariants.{OutOfMemory};
-ghost use Rattle.s161.specs.Commands.{IsTaken, command_line};
+ghost use Rattle.s161.specs.Commands.{IsAccepted, command_line};
 
 use clap::{Command, Error};
 use std::alloc::{AllocError, Global};
@@ -30,9 +30,9 @@ fn definition<'a>(alloc: Global) -> Result<Command<'a>, AllocError>
 
 /// Reads the words of a command line; the first is the program's name.
 pub fn parse<S: AsStr>(alloc: Global, words: &[S]) -> Result<Task, Error>
-    ensures taken { IfOk result (λ _. IsTaken (map S.text words.now)) }
-    ensures refused { IfErr result (λ error. kind_of error ≢ OutOfMemory
-        → ¬ IsTaken (map S.text words.now)) }
+    ensures accepted { IfOk result (λ _. IsAccepted (map S.text words.now)) }
+    ensures rejected { IfErr result (λ error. kind_of error ≢ OutOfMemory
+        → ¬ IsAccepted (map S.text words.now)) }
 {
     let command = definition(alloc)?;
     // there is one command so far

@@ -2,9 +2,10 @@
 
 ghost use Rattle.std.specs.Prelude.{◌≡◌, IfErr};
 
+use crate::Machine;
 use crate::display::show_regs;
 use crate::fault::Fault;
-use m161_machine::{Conf, Machine};
+use m161_machine::Conf;
 use std::alloc::Global;
 
 /// The size of the demo's machine.
@@ -43,10 +44,6 @@ pub fn demo(alloc: Global) -> Result<String, Fault>
     ensures { IfErr result (λ fault. fault ≡ Fault.Memory) }
 {
     let mut machine = Machine::boot(alloc, &IMAGE, CONF)?;
-    for _ in 0..STEPS {
-        if machine.step(0).is_err() {
-            break;
-        }
-    }
+    machine.steps(0, STEPS);
     Ok(show_regs(alloc, &machine, 0)?)
 }

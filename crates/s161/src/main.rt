@@ -4,11 +4,11 @@
 //! s161 demo    boots the built-in image, makes seven Steps and prints processor 0's registers
 //!
 //! exit         0 a finished command; 1 a fault, named in one line on standard error;
-//!              2 a command line that isn't taken
+//!              2 a rejected command line, and a call for help
 //! ```
 //!
-//! `main` only collects the arguments; the work stands in `work`, over any source of files,
-//! reader and writers.
+//! `main` only collects the arguments and names the streams; the work is in `work`, over any
+//! source of files, reader and writers.
 #![tactic(auto)]
 
 ghost use Rattle.std.specs.Prelude.{◌≡◌, ◌≢◌, ◌⊎◌, IfErr};
@@ -16,6 +16,7 @@ ghost use Rattle.std.specs.IoError.{error_kind};
 
 mod command;
 mod demo;
+mod digits;
 mod display;
 mod fault;
 mod files;
@@ -25,21 +26,21 @@ mod work;
 
 use crate::fault::Fault;
 use crate::files::HostFiles;
-use crate::work::{report, work};
+use crate::work::start;
+use m161_console::PlainConsole;
+use m161_tlb_scan::Scan;
 use std::io::ErrorKind;
 use std::process::ExitCode;
 use std::{env, io};
 
+/// The machine that the program runs.
+pub(crate) type Machine = m161_machine::Machine<Scan, PlainConsole>;
+
 fn main(rt: HostRuntime) -> ExitCode {
-    let words = match arguments(&rt) {
-        Ok(words) => words,
-        Err(fault) => return ExitCode::from(report(fault, &mut rt.stderr())),
-    };
-    let mut files = HostFiles::new(&rt);
-    ExitCode::from(work(
+    ExitCode::from(start(
         &rt,
-        words.as_slice(),
-        &mut files,
+        arguments(&rt),
+        &mut HostFiles::new(&rt),
         &mut rt.stdin(),
         &mut rt.stdout(),
         &mut rt.stderr(),

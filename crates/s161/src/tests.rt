@@ -1,19 +1,30 @@
-//! Tests of all crates, with words, texts and registers from outside the program.
+//! Tests of all crates, with words, texts and registers from outside the program. A file is named
+//! for the crate that it tests; `instructions` and `programs` run words on a machine. A worked row
+//! goes into `programs`, or with other events into `traps`, `cop0`, `tlb`, `bus` or `processors`, in
+//! the form that `listing` says. `sample` runs a whole small kernel of two processors.
 
-mod bytes;
-mod commands;
-mod images;
+mod alu;
+mod bus;
+mod cop0;
+mod cpu;
+mod decode;
+mod elf;
 mod instructions;
-mod machines;
+mod isa;
+mod listing;
+mod machine;
 mod processors;
+mod program;
 mod programs;
-mod results;
-mod rows;
+mod ram;
+mod sample;
+mod tlb;
+mod traps;
 
 use std::fmt::Debug;
 use std::process::Abort;
 
-/// Fails the test where a value isn't the one that is wanted.
-pub(crate) fn same<T: PartialEq + Debug + Copy>(rt: &impl Abort, found: T, wanted: T) {
-    assert_eq!(rt; found, wanted);
+/// Fails the test where a value isn't the expected one.
+pub(crate) fn same<T: PartialEq + Debug + Copy>(rt: &impl Abort, found: T, expected: T) {
+    assert_eq!(rt; found, expected);
 }

@@ -1,9 +1,9 @@
 //! The work of a command line.
 
-ghost use Rattle.std.specs.Prelude.{◌≡◌, ◌≢◌, ◌≤◌, IfErr, OnOk, map};
+ghost use Rattle.std.specs.Prelude.{◌≡◌, ◌≢◌, ◌≤◌, true, false, IfErr, IfOk, OnOk, map, string_bytes};
 ghost use Rattle.std.specs.Io.KnownBytes.{Appends};
 ghost use Rattle.clap.specs.Words.{kind_of};
-ghost use Rattle.s161.specs.Commands.{IsTaken};
+ghost use Rattle.s161.specs.Commands.{IsAccepted};
 
 use crate::command::{Task, parse};
 use crate::demo::demo;
@@ -15,8 +15,37 @@ use std::alloc::Global;
 use std::convert::AsStr;
 use std::io::{Read, Write};
 
-/// Does what a command line says, and answers the exit status: 0 a finished command, 1 a fault,
-/// 2 a command line that isn't taken. An output is made whole before it is written.
+/// The whole program: the work of a command line, or the fault of reading its words. The result
+/// is the exit status.
+pub fn start<A, F, I, O, E>(
+    rt: &A,
+    words: Result<Vec<String>, Fault>,
+    files: &mut F,
+    input: &mut I,
+    output: &mut O,
+    errors: &mut E,
+) -> u8
+where
+    A: AllocGlobal,
+    F: FileSource,
+    I: Read,
+    O: Write,
+    E: Write,
+    ensures accepted { result ≡ 0
+        → IfOk words (λ ws. IsAccepted (map string_bytes ws.items)) }
+    ensures rejected { result ≡ 2
+        → IfOk words (λ ws. ¬ IsAccepted (map string_bytes ws.items)) }
+    ensures unread { IfErr words (λ _. result ≡ 1) }
+    ensures within { result ≤ 2 }
+{
+    match words {
+        Ok(words) => work(rt, words.as_slice(), files, input, output, errors),
+        Err(unread) => report(unread, errors),
+    }
+}
+
+/// Does what a command line says. The result is the exit status: 0 a finished command, 1 a fault,
+/// 2 a rejected command line. An output is made whole before it is written.
 pub fn work<A, S, F, I, O, E>(
     rt: &A,
     words: &[S],
@@ -32,13 +61,13 @@ where
     I: Read,
     O: Write,
     E: Write,
-    ensures taken { result ≡ 0 → IsTaken (map S.text words.now) }
-    ensures refused { result ≡ 2 → ¬ IsTaken (map S.text words.now) }
+    ensures accepted { result ≡ 0 → IsAccepted (map S.text words.now) }
+    ensures rejected { result ≡ 2 → ¬ IsAccepted (map S.text words.now) }
     ensures within { result ≤ 2 }
 {
     let made = match parse(rt.alloc(), words) {
         Ok(Task::Demo) => demo(rt.alloc()),
-        Err(error) => return refuse(rt.alloc(), &error, output, errors),
+        Err(error) => return reject(rt.alloc(), &error, output, errors),
     };
     match made.and_then(|text| put(output, text.as_bytes())) {
         Ok(()) => 0,
@@ -57,7 +86,7 @@ fn put<O: Write>(output: &mut O, bytes: &[u8]) -> Result<(), Fault>
     }
 }
 
-/// Says a fault on standard error; the exit status.
+/// Writes a fault's line on standard error. The result is the exit status.
 pub fn report<E: Write>(fault: Fault, errors: &mut E) -> u8
     ensures { result ≡ 1 }
 {
@@ -65,9 +94,9 @@ pub fn report<E: Write>(fault: Fault, errors: &mut E) -> u8
     1
 }
 
-// Says why a command line isn't taken, in clap's own words.
-fn refuse<O: Write, E: Write>(alloc: Global, error: &Error, output: &mut O, errors: &mut E) -> u8
-    ensures refused { result ≡ 2 → kind_of error.now ≢ ErrorKind.OutOfMemory }
+// Writes clap's text of a rejected command line. The result is the exit status.
+fn reject<O: Write, E: Write>(alloc: Global, error: &Error, output: &mut O, errors: &mut E) -> u8
+    ensures rejected { result ≡ 2 → kind_of error.now ≢ ErrorKind.OutOfMemory }
     ensures within { (1 ≤ result) × (result ≤ 2) }
 {
     if error.kind() == ErrorKind::OutOfMemory {
@@ -76,10 +105,27 @@ fn refuse<O: Write, E: Write>(alloc: Global, error: &Error, output: &mut O, erro
     let Ok(text) = error.to_string(alloc) else {
         return report(Fault::Memory, errors);
     };
-    let written = if error.use_stderr() {
-        put(errors, text.as_bytes())
+    write_rejection(text.as_bytes(), !error.use_stderr(), output, errors)
+}
+
+// Writes a text on standard output where it is help, else on standard error. The result is the
+// exit status: 2 where all of it was written.
+fn write_rejection<O: Write, E: Write>(
+    text: &[u8],
+    is_help: bool,
+    output: &mut O,
+    errors: &mut E,
+) -> u8
+    ensures help { result ≡ 2 → is_help ≡ true
+        → Appends (O.contents output.old) (O.contents output.new) text.now }
+    ensures usage { result ≡ 2 → is_help ≡ false
+        → Appends (E.contents errors.old) (E.contents errors.new) text.now }
+    ensures within { (1 ≤ result) × (result ≤ 2) }
+{
+    let written = if is_help {
+        put(output, text)
     } else {
-        put(output, text.as_bytes())
+        put(errors, text)
     };
     match written {
         Ok(()) => 2,

@@ -1,68 +1,551 @@
-//! A processor by itself, over its memory.
+//! Several processors, their interrupts, and links.
 
-use super::same;
-use m161_cpu::{Cpu, NotYet, Outcome, ProcessorState};
-use m161_isa::Reg;
-use m161_ram::Ram;
-use std::alloc::AllocError;
-use std::process::Abort;
+use super::listing::Left::{Cop, Count, Entries, Memory, Pc, Register, State};
+use super::listing::{
+    ADDRESS_STORE, ENTRY, IDLE, RAN, Run, SYSCALL, Stage, check_runs, check_with,
+};
+use m161_machine::Event::Step;
+use m161_machine::{ProcessorState, Register as R};
+use std::test::Fail;
 
-/// What a processor shows beside its registers: its state, count and slot; pc, HI and LO.
-fn shown(cpu: &Cpu) -> (ProcessorState, u64, bool, [u32; 3]) {
-    let words = [cpu.pc(), cpu.hi(), cpu.lo()];
-    (cpu.state(), cpu.count(), cpu.in_slot(), words)
-}
+static PROCESSORS: [Run; 13] = [
+    Run {
+        name: "link-lost: a store of another processor",
+        ram: 4_096,
+        processors: 2,
+        entry: ENTRY,
+        base: ENTRY,
+        program: &[
+            (0x3c08_bfff, "lui $8, 0xbfff"),
+            (0x3c09_8000, "lui $9, 0x8000"),
+            (0x352c_0230, "ori $12, $9, 0x0230"),
+            (0x350a_8400, "ori $10, $8, 0x8400"),
+            (0xad4c_0300, "sw $12, 768($10)"),
+            (0x340b_0002, "ori $11, $0, 0x0002"),
+            (0xad0b_7e14, "sw $11, 32276($8)"),
+            (0xc12d_0400, "ll $13, 1024($9)"),
+            (0x340e_0055, "ori $14, $0, 0x0055"),
+            (0xe12e_0400, "sc $14, 1024($9)"),
+            (0x0000_0000, "nop"),
+            (0x0000_0000, "nop"),
+            (0x3c09_8000, "lui $9, 0x8000"),
+            (0xad20_0400, "sw $0, 1024($9)"),
+        ],
+        stages: &[
+            Stage {
+                events: &[(Step(0), 8, RAN), (Step(1), 2, RAN)],
+                left: &[(0, Register(13, 0))],
+            },
+            Stage {
+                events: &[(Step(0), 2, RAN)],
+                left: &[(0, Register(14, 0)), (0, Memory(0x400, 0))],
+            },
+        ],
+    },
+    Run {
+        name: "link-lost: a trap and rfe",
+        ram: 4_096,
+        processors: 1,
+        entry: 0x8000_0090,
+        base: 0x8000_0080,
+        program: &[
+            (0x401b_7000, "mfc0 $27, $14"),
+            (0x277b_0004, "addiu $27, $27, 4"),
+            (0x0360_0008, "jr $27"),
+            (0x4200_0010, "rfe"),
+            (0x3c09_8000, "lui $9, 0x8000"),
+            (0xc12d_0400, "ll $13, 1024($9)"),
+            (0x0000_000c, "syscall"),
+            (0x340e_0055, "ori $14, $0, 0x0055"),
+            (0xe12e_0400, "sc $14, 1024($9)"),
+        ],
+        stages: &[Stage {
+            events: &[(Step(0), 2, RAN), (Step(0), 1, SYSCALL), (Step(0), 6, RAN)],
+            left: &[
+                (0, Register(14, 0)),
+                (0, Memory(0x400, 0)),
+                (0, Pc(0x8000_00a4)),
+            ],
+        }],
+    },
+    Run {
+        name: "link-lost: a link that holds",
+        ram: 4_096,
+        processors: 1,
+        entry: ENTRY,
+        base: ENTRY,
+        program: &[
+            (0x3c09_8000, "lui $9, 0x8000"),
+            (0xc12d_0400, "ll $13, 1024($9)"),
+            (0x340e_0055, "ori $14, $0, 0x0055"),
+            (0xe12e_0400, "sc $14, 1024($9)"),
+            (0x340f_0066, "ori $15, $0, 0x0066"),
+            (0xe12f_0400, "sc $15, 1024($9)"),
+        ],
+        stages: &[
+            Stage {
+                events: &[(Step(0), 4, RAN)],
+                left: &[(0, Register(14, 1)), (0, Memory(0x400, 0x55))],
+            },
+            Stage {
+                events: &[(Step(0), 2, RAN)],
+                left: &[(0, Register(15, 0)), (0, Memory(0x400, 0x55))],
+            },
+        ],
+    },
+    Run {
+        name: "a link ended by rfe",
+        ram: 4_096,
+        processors: 1,
+        entry: ENTRY,
+        base: ENTRY,
+        program: &[
+            (0x3c09_8000, "lui $9, 0x8000"),
+            (0xc12d_0400, "ll $13, 1024($9)"),
+            (0x340e_0055, "ori $14, $0, 0x0055"),
+            (0x4200_0010, "rfe"),
+            (0xe12e_0400, "sc $14, 1024($9)"),
+        ],
+        stages: &[Stage {
+            events: &[(Step(0), 5, RAN)],
+            left: &[(0, Register(14, 0)), (0, Memory(0x400, 0))],
+        }],
+    },
+    Run {
+        name: "a link ended by a store of its own processor",
+        ram: 4_096,
+        processors: 1,
+        entry: ENTRY,
+        base: ENTRY,
+        program: &[
+            (0x3c09_8000, "lui $9, 0x8000"),
+            (0xc12d_0400, "ll $13, 1024($9)"),
+            (0x340e_0055, "ori $14, $0, 0x0055"),
+            (0xad20_0400, "sw $0, 1024($9)"),
+            (0xe12e_0400, "sc $14, 1024($9)"),
+        ],
+        stages: &[Stage {
+            events: &[(Step(0), 5, RAN)],
+            left: &[(0, Register(14, 0)), (0, Memory(0x400, 0))],
+        }],
+    },
+    Run {
+        name: "a store of the same processor to the next word",
+        ram: 4_096,
+        processors: 1,
+        entry: ENTRY,
+        base: ENTRY,
+        program: &[
+            (0x3c09_8000, "lui $9, 0x8000"),
+            (0xc12d_0400, "ll $13, 1024($9)"),
+            (0x340e_0055, "ori $14, $0, 0x0055"),
+            (0xad2e_0404, "sw $14, 1028($9)"),
+            (0xe12e_0400, "sc $14, 1024($9)"),
+        ],
+        stages: &[Stage {
+            events: &[(Step(0), 5, RAN)],
+            left: &[(0, Register(14, 1)), (0, Memory(0x400, 0x55))],
+        }],
+    },
+    Run {
+        name: "sc of another word",
+        ram: 4_096,
+        processors: 1,
+        entry: ENTRY,
+        base: ENTRY,
+        program: &[
+            (0x3c09_8000, "lui $9, 0x8000"),
+            (0xc12d_0400, "ll $13, 1024($9)"),
+            (0x340e_0055, "ori $14, $0, 0x0055"),
+            (0x340f_0066, "ori $15, $0, 0x0066"),
+            (0xe12e_0404, "sc $14, 1028($9)"),
+            (0xe12f_0400, "sc $15, 1024($9)"),
+        ],
+        stages: &[
+            Stage {
+                events: &[(Step(0), 5, RAN)],
+                left: &[(0, Register(14, 0)), (0, Memory(0x404, 0))],
+            },
+            Stage {
+                events: &[(Step(0), 1, RAN)],
+                left: &[(0, Register(15, 0)), (0, Memory(0x400, 0))],
+            },
+        ],
+    },
+    Run {
+        name: "sc by the other name of the word",
+        ram: 4_096,
+        processors: 1,
+        entry: ENTRY,
+        base: ENTRY,
+        program: &[
+            (0x3c08_a000, "lui $8, 0xa000"),
+            (0x3c09_8000, "lui $9, 0x8000"),
+            (0xc12d_0400, "ll $13, 1024($9)"),
+            (0x340e_0055, "ori $14, $0, 0x0055"),
+            (0xe10e_0400, "sc $14, 1024($8)"),
+        ],
+        stages: &[Stage {
+            events: &[(Step(0), 5, RAN)],
+            left: &[(0, Register(14, 1)), (0, Memory(0x400, 0x55))],
+        }],
+    },
+    Run {
+        name: "sc without ll",
+        ram: 4_096,
+        processors: 1,
+        entry: ENTRY,
+        base: ENTRY,
+        program: &[
+            (0x3c09_8000, "lui $9, 0x8000"),
+            (0x340e_0055, "ori $14, $0, 0x0055"),
+            (0xe12e_0000, "sc $14, 0($9)"),
+        ],
+        stages: &[Stage {
+            events: &[(Step(0), 3, RAN)],
+            left: &[(0, Register(14, 0)), (0, Memory(0, 0))],
+        }],
+    },
+    Run {
+        name: "a trap of sc before the link is looked at",
+        ram: 4_096,
+        processors: 1,
+        entry: ENTRY,
+        base: ENTRY,
+        program: &[
+            (0x3c09_8000, "lui $9, 0x8000"),
+            (0xe12e_0401, "sc $14, 1025($9)"),
+        ],
+        stages: &[Stage {
+            events: &[(Step(0), 1, RAN), (Step(0), 1, ADDRESS_STORE)],
+            left: &[(0, Cop(R::BadVaddr, 0x8000_0401))],
+        }],
+    },
+    Run {
+        name: "two links to one word",
+        ram: 4_096,
+        processors: 2,
+        entry: ENTRY,
+        base: ENTRY,
+        program: &[
+            (0x3c08_bfff, "lui $8, 0xbfff"),
+            (0x3c09_8000, "lui $9, 0x8000"),
+            (0x352c_0230, "ori $12, $9, 0x0230"),
+            (0x350a_8400, "ori $10, $8, 0x8400"),
+            (0xad4c_0300, "sw $12, 768($10)"),
+            (0x340b_0002, "ori $11, $0, 0x0002"),
+            (0xad0b_7e14, "sw $11, 32276($8)"),
+            (0xc12d_0400, "ll $13, 1024($9)"),
+            (0x340e_0055, "ori $14, $0, 0x0055"),
+            (0xe12e_0400, "sc $14, 1024($9)"),
+            (0x0000_0000, "nop"),
+            (0x0000_0000, "nop"),
+            (0x3c09_8000, "lui $9, 0x8000"),
+            (0xc12d_0400, "ll $13, 1024($9)"),
+            (0x340e_0066, "ori $14, $0, 0x0066"),
+            (0xe12e_0400, "sc $14, 1024($9)"),
+        ],
+        stages: &[
+            Stage {
+                events: &[(Step(0), 8, RAN), (Step(1), 4, RAN)],
+                left: &[(1, Register(14, 1)), (0, Memory(0x400, 0x66))],
+            },
+            Stage {
+                events: &[(Step(0), 2, RAN)],
+                left: &[(0, Register(14, 0)), (0, Memory(0x400, 0x66))],
+            },
+        ],
+    },
+    Run {
+        name: "interprocessor",
+        ram: 4_096,
+        processors: 2,
+        entry: ENTRY,
+        base: ENTRY,
+        program: &[
+            (0x3c08_bfff, "lui $8, 0xbfff"),
+            (0x3c09_8000, "lui $9, 0x8000"),
+            (0x3529_0230, "ori $9, $9, 0x0230"),
+            (0x350a_8400, "ori $10, $8, 0x8400"),
+            (0xad49_0300, "sw $9, 768($10)"),
+            (0x340b_0002, "ori $11, $0, 0x0002"),
+            (0xad0b_7e14, "sw $11, 32276($8)"),
+            (0x340c_0001, "ori $12, $0, 0x0001"),
+            (0xad4c_0004, "sw $12, 4($10)"),
+            (0x8d4d_0004, "lw $13, 4($10)"),
+            (0xad40_0004, "sw $0, 4($10)"),
+            (0x0000_0000, "nop"),
+            (0x3c08_bfff, "lui $8, 0xbfff"),
+            (0x8d09_7e18, "lw $9, 32280($8)"),
+            (0x340a_0800, "ori $10, $0, 0x0800"),
+            (0x408a_6000, "mtc0 $10, $12"),
+            (0x4200_0020, "wait"),
+            (0x0000_0000, "nop"),
+        ],
+        stages: &[
+            Stage {
+                events: &[(Step(1), 1, IDLE), (Step(0), 7, RAN)],
+                left: &[
+                    (1, State(ProcessorState::Running)),
+                    (1, Pc(0x8000_0230)),
+                    (1, Register(29, 0xbfff_8800)),
+                    (1, Register(4, 0)),
+                    (1, Count(1)),
+                ],
+            },
+            Stage {
+                events: &[(Step(1), 5, RAN), (Step(1), 1, IDLE)],
+                left: &[
+                    (1, State(ProcessorState::Waiting)),
+                    (1, Register(9, 2)),
+                    (1, Count(7)),
+                ],
+            },
+            Stage {
+                events: &[(Step(0), 2, RAN)],
+                left: &[
+                    (1, Cop(R::Cause, 0x800)),
+                    (1, State(ProcessorState::Waiting)),
+                    (0, Cop(R::Cause, 0)),
+                ],
+            },
+            Stage {
+                events: &[(Step(1), 1, RAN)],
+                left: &[
+                    (1, State(ProcessorState::Running)),
+                    (1, Pc(0x8000_0248)),
+                    (1, Cop(R::Epc, 0)),
+                ],
+            },
+            Stage {
+                events: &[(Step(0), 2, RAN)],
+                left: &[(0, Register(13, 1)), (1, Cop(R::Cause, 0))],
+            },
+        ],
+    },
+    Run {
+        name: "32 processors",
+        ram: 4_096,
+        processors: 32,
+        entry: ENTRY,
+        base: ENTRY,
+        program: &[
+            (0x3c08_bfff, "lui $8, 0xbfff"),
+            (0x350a_8000, "ori $10, $8, 0x8000"),
+            (0x3c09_8000, "lui $9, 0x8000"),
+            (0x3529_0240, "ori $9, $9, 0x0240"),
+            (0x3c0b_c000, "lui $11, 0xc000"),
+            (0xad49_0300, "sw $9, 768($10)"),
+            (0xad4a_0304, "sw $10, 772($10)"),
+            (0x254a_0400, "addiu $10, $10, 1024"),
+            (0x154b_fffc, "bne $10, $11, 0x80000214"),
+            (0x0000_0000, "nop"),
+            (0x240c_ffff, "addiu $12, $0, -1"),
+            (0xad0c_7e14, "sw $12, 32276($8)"),
+            (0x8d0d_7e14, "lw $13, 32276($8)"),
+            (0x0000_0000, "nop"),
+            (0x0000_0000, "nop"),
+            (0x0000_0000, "nop"),
+            (0x3c08_bfff, "lui $8, 0xbfff"),
+            (0x8d09_7e18, "lw $9, 32280($8)"),
+        ],
+        stages: &[
+            Stage {
+                events: &[
+                    (Step(0), 1, RAN),
+                    (Step(1), 1, IDLE),
+                    (Step(2), 1, IDLE),
+                    (Step(3), 1, IDLE),
+                    (Step(4), 1, IDLE),
+                    (Step(5), 1, IDLE),
+                    (Step(6), 1, IDLE),
+                    (Step(7), 1, IDLE),
+                    (Step(8), 1, IDLE),
+                    (Step(9), 1, IDLE),
+                    (Step(10), 1, IDLE),
+                    (Step(11), 1, IDLE),
+                    (Step(12), 1, IDLE),
+                    (Step(13), 1, IDLE),
+                    (Step(14), 1, IDLE),
+                    (Step(15), 1, IDLE),
+                    (Step(16), 1, IDLE),
+                    (Step(17), 1, IDLE),
+                    (Step(18), 1, IDLE),
+                    (Step(19), 1, IDLE),
+                    (Step(20), 1, IDLE),
+                    (Step(21), 1, IDLE),
+                    (Step(22), 1, IDLE),
+                    (Step(23), 1, IDLE),
+                    (Step(24), 1, IDLE),
+                    (Step(25), 1, IDLE),
+                    (Step(26), 1, IDLE),
+                    (Step(27), 1, IDLE),
+                    (Step(28), 1, IDLE),
+                    (Step(29), 1, IDLE),
+                    (Step(30), 1, IDLE),
+                    (Step(31), 1, IDLE),
+                ],
+                left: &[
+                    (0, Count(1)),
+                    (1, Count(1)),
+                    (31, Count(1)),
+                    (31, State(ProcessorState::Stopped)),
+                ],
+            },
+            Stage {
+                events: &[(Step(0), 167, RAN)],
+                left: &[
+                    (0, Register(13, 0xffff_ffff)),
+                    (0, Count(168)),
+                    (1, State(ProcessorState::Running)),
+                    (31, State(ProcessorState::Running)),
+                ],
+            },
+            Stage {
+                events: &[
+                    (Step(1), 2, RAN),
+                    (Step(2), 2, RAN),
+                    (Step(3), 2, RAN),
+                    (Step(4), 2, RAN),
+                    (Step(5), 2, RAN),
+                    (Step(6), 2, RAN),
+                    (Step(7), 2, RAN),
+                    (Step(8), 2, RAN),
+                    (Step(9), 2, RAN),
+                    (Step(10), 2, RAN),
+                    (Step(11), 2, RAN),
+                    (Step(12), 2, RAN),
+                    (Step(13), 2, RAN),
+                    (Step(14), 2, RAN),
+                    (Step(15), 2, RAN),
+                    (Step(16), 2, RAN),
+                    (Step(17), 2, RAN),
+                    (Step(18), 2, RAN),
+                    (Step(19), 2, RAN),
+                    (Step(20), 2, RAN),
+                    (Step(21), 2, RAN),
+                    (Step(22), 2, RAN),
+                    (Step(23), 2, RAN),
+                    (Step(24), 2, RAN),
+                    (Step(25), 2, RAN),
+                    (Step(26), 2, RAN),
+                    (Step(27), 2, RAN),
+                    (Step(28), 2, RAN),
+                    (Step(29), 2, RAN),
+                    (Step(30), 2, RAN),
+                    (Step(31), 2, RAN),
+                ],
+                left: &[
+                    (1, Register(9, 2)),
+                    (2, Register(9, 4)),
+                    (3, Register(9, 8)),
+                    (4, Register(9, 0x10)),
+                    (5, Register(9, 0x20)),
+                    (6, Register(9, 0x40)),
+                    (7, Register(9, 0x80)),
+                    (8, Register(9, 0x100)),
+                    (9, Register(9, 0x200)),
+                    (10, Register(9, 0x400)),
+                    (11, Register(9, 0x800)),
+                    (12, Register(9, 0x1000)),
+                    (13, Register(9, 0x2000)),
+                    (14, Register(9, 0x4000)),
+                    (15, Register(9, 0x8000)),
+                    (16, Register(9, 0x0001_0000)),
+                    (17, Register(9, 0x0002_0000)),
+                    (18, Register(9, 0x0004_0000)),
+                    (19, Register(9, 0x0008_0000)),
+                    (20, Register(9, 0x0010_0000)),
+                    (21, Register(9, 0x0020_0000)),
+                    (22, Register(9, 0x0040_0000)),
+                    (23, Register(9, 0x0080_0000)),
+                    (24, Register(9, 0x0100_0000)),
+                    (25, Register(9, 0x0200_0000)),
+                    (26, Register(9, 0x0400_0000)),
+                    (27, Register(9, 0x0800_0000)),
+                    (28, Register(9, 0x1000_0000)),
+                    (29, Register(9, 0x2000_0000)),
+                    (30, Register(9, 0x4000_0000)),
+                    (31, Register(9, 0x8000_0000)),
+                    (1, Register(4, 0xbfff_8400)),
+                    (1, Register(29, 0xbfff_8800)),
+                    (31, Register(4, 0xbfff_fc00)),
+                    (31, Register(29, 0xc000_0000)),
+                    (31, Count(3)),
+                    (31, Cop(R::Random, 0x3d00)),
+                    (0, Entries(261)),
+                ],
+            },
+        ],
+    },
+];
 
-/// Its registers.
-fn registers(cpu: &Cpu) -> [u32; 32] {
-    let mut words = [0; 32];
-    for r in 0..32u8 {
-        words[usize::from(r)] = cpu.reg(Reg::new(r));
-    }
-    words
-}
+/// Processor 0 links the word at 0x400, then 1 makes a store, then 0 an `sc` of 55.
+static LINKED: Run = Run {
+    name: "a store between",
+    ram: 4_096,
+    processors: 2,
+    entry: ENTRY,
+    base: ENTRY,
+    program: &[
+        (0x3c08_bfff, "lui $8, 0xbfff"),
+        (0x3c09_8000, "lui $9, 0x8000"),
+        (0x352c_0230, "ori $12, $9, 0x0230"),
+        (0x350a_8400, "ori $10, $8, 0x8400"),
+        (0xad4c_0300, "sw $12, 768($10)"),
+        (0x340b_0002, "ori $11, $0, 0x0002"),
+        (0xad0b_7e14, "sw $11, 32276($8)"),
+        (0xc12d_0400, "ll $13, 1024($9)"),
+        (0x340e_0055, "ori $14, $0, 0x0055"),
+        (0xe12e_0400, "sc $14, 1024($9)"),
+        (0x0000_0000, "nop"),
+        (0x0000_0000, "nop"),
+        (0x3c09_8000, "lui $9, 0x8000"),
+        (0xad20_0400, "sw $0, 1024($9)"),
+    ],
+    stages: &[Stage {
+        events: &[(Step(0), 8, RAN)],
+        left: &[],
+    }],
+};
 
-/// One Step of a processor that has made few.
-fn step(rt: &impl Abort, cpu: &mut Cpu, ram: &mut Ram) -> Result<Outcome, NotYet> {
-    assert!(rt; cpu.count() < 100);
-    cpu.step(0, ram)
+/// Instructions of processor 1 between: the text, the word, and what the `sc` of 0 gives.
+static BETWEEN: [(&str, u32, u32); 21] = [
+    ("sb $0, 1024($9)", 0xa120_0400, 0),
+    ("sb $0, 1027($9)", 0xa120_0403, 0),
+    ("sh $0, 1024($9)", 0xa520_0400, 0),
+    ("sh $0, 1026($9)", 0xa520_0402, 0),
+    ("sw $0, 1024($9)", 0xad20_0400, 0),
+    ("swl $0, 1024($9)", 0xa920_0400, 0),
+    ("swl $0, 1027($9)", 0xa920_0403, 0),
+    ("swr $0, 1024($9)", 0xb920_0400, 0),
+    ("swr $0, 1027($9)", 0xb920_0403, 0),
+    ("sb $0, 1023($9)", 0xa120_03ff, 1),
+    ("sb $0, 1028($9)", 0xa120_0404, 1),
+    ("sh $0, 1022($9)", 0xa520_03fe, 1),
+    ("sh $0, 1028($9)", 0xa520_0404, 1),
+    ("sw $0, 1020($9)", 0xad20_03fc, 1),
+    ("sw $0, 1028($9)", 0xad20_0404, 1),
+    ("swl $0, 1028($9)", 0xa920_0404, 1),
+    ("swr $0, 1031($9)", 0xb920_0407, 1),
+    ("swl $0, 1023($9)", 0xa920_03ff, 1),
+    ("sc $0, 1024($9)", 0xe120_0400, 1),
+    ("lw $10, 1024($9)", 0x8d2a_0400, 1),
+    ("ll $10, 1024($9)", 0xc12a_0400, 1),
+];
+
+#[test]
+fn processors(rt: HostRuntime) -> Result<(), Fail> {
+    check_runs(&rt, &PROCESSORS)
 }
 
 #[test]
-fn one_processor(rt: HostRuntime) -> Result<(), AllocError> {
-    // addiu $8, $4, 1; lw $8, 0($29)
-    let mut ram = Ram::new(rt.alloc(), 4096)?;
-    ram.set_word(0x200, 0x2488_0001);
-    ram.set_word(0x204, 0x8fa8_0000);
-    let mut wanted = [0; 32];
-
-    let mut cpu = Cpu::new();
-    same(
-        &rt,
-        shown(&cpu),
-        (ProcessorState::Stopped, 0, false, [0; 3]),
-    );
-    same(&rt, step(&rt, &mut cpu, &mut ram), Ok(Outcome::Idle));
-    same(
-        &rt,
-        shown(&cpu),
-        (ProcessorState::Stopped, 1, false, [0; 3]),
-    );
-    same(&rt, registers(&cpu), wanted);
-
-    cpu.start(0x8000_0200, 0x11, 0xbfff_8400);
-    wanted[4] = 0x11;
-    wanted[29] = 0xbfff_8400;
-    let start = [0x8000_0200, 0, 0];
-    same(&rt, shown(&cpu), (ProcessorState::Running, 1, false, start));
-    same(&rt, registers(&cpu), wanted);
-
-    // it runs the first word; the second reads past RAM
-    same(&rt, step(&rt, &mut cpu, &mut ram), Ok(Outcome::Ran));
-    same(&rt, step(&rt, &mut cpu, &mut ram), Err(NotYet));
-    wanted[8] = 0x12;
-    let next = [0x8000_0204, 0, 0];
-    same(&rt, shown(&cpu), (ProcessorState::Running, 2, false, next));
-    same(&rt, registers(&cpu), wanted);
+fn stores_between(rt: HostRuntime) -> Result<(), Fail> {
+    for &(text, word, given) in &BETWEEN {
+        let stored = if given == 1 { 0x55 } else { 0 };
+        let events = [(Step(1), 2, RAN), (Step(0), 2, RAN)];
+        let left = [(0, Register(14, given)), (0, Memory(0x400, stored))];
+        check_with(&rt, &LINKED, &[(13, word)], text, &events, &left)?;
+    }
     Ok(())
 }

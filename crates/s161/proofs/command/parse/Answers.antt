@@ -1,11 +1,11 @@
 use Rattle.std.proofs.Common.{rules}
-use Rattle.s161.proofs.Taking.{taken, refused}
+use Rattle.s161.proofs.Accepting.{accepted, rejected}
 use Rattle.s161.proofs.command.parse.Goals as goal
 
-pub returns-in_err-_matches-clause-refused : goal.returns-in_err-_matches-clause-refused
-returns-in_err-_matches-clause-refused g c =
-    let refused = refused _ _ c.in_err-_matches.field-0.0 c.in_ok-command.ensures c.in_err-_matches.ensures.kinds in
-    search (rules, refused)
+pub returns-in_err-_matches-clause-rejected : goal.returns-in_err-_matches-clause-rejected
+returns-in_err-_matches-clause-rejected g c =
+    let rejected = rejected _ _ c.in_err-_matches.field-0.0 c.in_ok-command.ensures c.in_err-_matches.ensures.kinds in
+    search (rules, rejected)
 
-pub returns-clause-taken : goal.returns-clause-taken
-returns-clause-taken g c = taken _ _ c.in_ok-command.ensures c.in_ok-_matches.ensures.kinds
+pub returns-clause-accepted : goal.returns-clause-accepted
+returns-clause-accepted g c = accepted _ _ c.in_ok-command.ensures c.in_ok-_matches.ensures.kinds

@@ -68,10 +68,10 @@ fn merges_and_tests(rt: HostRuntime) {
     }
     for (test, want) in [
         (ZeroTest::Less, [true, false, false]),
-        (ZeroTest::NotLess, [false, true, true]),
+        (ZeroTest::GreaterOrEqual, [false, true, true]),
         (ZeroTest::LessAndLink, [true, false, false]),
-        (ZeroTest::NotLessAndLink, [false, true, true]),
-        (ZeroTest::NotGreater, [true, true, false]),
+        (ZeroTest::GreaterOrEqualAndLink, [false, true, true]),
+        (ZeroTest::LessOrEqual, [true, true, false]),
         (ZeroTest::Greater, [false, false, true]),
     ] {
         same(

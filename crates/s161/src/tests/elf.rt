@@ -1,4 +1,4 @@
-//! Files, and what they load as in 4096 bytes of RAM.
+//! Files, and what they load as in 4,096 bytes of RAM.
 
 use super::same;
 use m161_elf::{LoadError, load};
@@ -75,10 +75,20 @@ fn file_of(alloc: Global, edits: &[(usize, u32)], words: &[u32]) -> Result<Vec<u
 
 /// A file with these words at an address, where it begins.
 pub(crate) fn file_at(alloc: Global, entry: u32, words: &[u32]) -> Result<Vec<u8>, Fail> {
+    file_from(alloc, entry, entry, words)
+}
+
+/// A file with these words at an address, which begins at another.
+pub(crate) fn file_from(
+    alloc: Global,
+    entry: u32,
+    address: u32,
+    words: &[u32],
+) -> Result<Vec<u8>, Fail> {
     let size = u32::try_from(words.len())?.wrapping_mul(4);
     let edits = [
         (ENTRY, entry),
-        (ADDRESS, entry),
+        (ADDRESS, address),
         (FILE_SIZE, size),
         (MEMORY_SIZE, size),
     ];
@@ -112,10 +122,10 @@ fn loaded(alloc: Global, edits: &[(usize, u32)], length: usize) -> Result<(bool,
 #[test]
 fn image_refusals(rt: HostRuntime) -> Result<(), Fail> {
     type Loaded = Result<u32, (u8, &'static str)>;
-    let taken: Loaded = Ok(0x8000_0200);
+    let loaded: Loaded = Ok(0x8000_0200);
     let cases: [(&[(usize, u32)], usize, Loaded); 14] = [
-        (&[], 112, taken),
-        (&[(FILE_SIZE, 8), (MEMORY_SIZE, 8)], 92, taken),
+        (&[], 112, loaded),
+        (&[(FILE_SIZE, 8), (MEMORY_SIZE, 8)], 92, loaded),
         (
             &[(FILE_SIZE, 8), (MEMORY_SIZE, 8)],
             51,
@@ -153,14 +163,14 @@ fn image_refusals(rt: HostRuntime) -> Result<(), Fail> {
         (
             &[(ADDRESS, 0xffff_ffff), (FILE_SIZE, 0), (MEMORY_SIZE, 0)],
             112,
-            taken,
+            loaded,
         ),
-        (&[(ADDRESS, 0xa000_0200)], 112, taken),
+        (&[(ADDRESS, 0xa000_0200)], 112, loaded),
     ];
-    for &(edits, length, wanted) in &cases {
+    for &(edits, length, expected) in &cases {
         let found = entry_of(rt.alloc(), edits, length)?;
         let found = found.map_err(|error| (error.number(), error.name()));
-        same(&rt, (edits, length, found), (edits, length, wanted));
+        same(&rt, (edits, length, found), (edits, length, expected));
     }
     Ok(())
 }
@@ -210,5 +220,18 @@ fn segment_in_memory(rt: HostRuntime) -> Result<(), Fail> {
         let found = loaded(rt.alloc(), edits, length)?;
         same(&rt, (edits, found), (edits, (true, written)));
     }
+    Ok(())
+}
+
+#[test]
+fn largest_memory(rt: HostRuntime) -> Result<(), Fail> {
+    let file = file_of(rt.alloc(), &[], &PROGRAM)?;
+    let memory = load(rt.alloc(), &file, 16_777_216)?.bytes;
+    let ends = (memory.get(0x200).copied(), memory.get(0x00ff_ffff).copied());
+    same(
+        &rt,
+        (memory.len(), ends),
+        (16_777_216, (Some(0x3c), Some(0))),
+    );
     Ok(())
 }

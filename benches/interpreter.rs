@@ -1,0 +1,195 @@
+//! A plain interpreter of the benchmark's loop in safe Rust, to compare the machine with: one match
+//! on the opcode and one on the function, addresses checked for alignment and for RAM, one delay
+//! slot, and a log entry written each step. The arguments are a number of runs and, unless it is
+//! 1,000,000, the number of steps of each.
+use std::hint::black_box;
+use std::time::Instant;
+
+const RAM: u32 = 65_536;
+
+const PROGRAM: [u32; 14] = [
+    0x3c108000, 0x36101000, 0x8e080000, 0x01114821, 0x000950c0, 0x00095942, 0x014b4826, 0xae090000,
+    0x920c0002, 0x26520001, 0x0189682a, 0xa20d0004, 0x1640fff5, 0x02328821,
+];
+
+struct Machine {
+    r: [u32; 32],
+    hi: u32,
+    lo: u32,
+    pc: u32,
+    next: u32,
+    slot: bool,
+    count: u64,
+    ram: Vec<u8>,
+    log: Vec<u32>,
+    room: usize,
+}
+
+/// The place in RAM of an access of `width` bytes.
+fn place(address: u32, width: u32) -> Option<usize> {
+    if !(0x8000_0000..0xc000_0000).contains(&address) || address % width != 0 {
+        return None;
+    }
+    let at = address & 0x1fff_ffff;
+    (at <= RAM - width).then_some(at as usize)
+}
+
+impl Machine {
+    fn word(&self, at: usize) -> Option<u32> {
+        let bytes = self.ram.get(at..at + 4)?;
+        Some(u32::from_be_bytes(bytes.try_into().ok()?))
+    }
+
+    fn set(&mut self, at: usize, bytes: &[u8]) -> Option<()> {
+        self.ram.get_mut(at..at + bytes.len())?.copy_from_slice(bytes);
+        Some(())
+    }
+
+    /// One step; `None` where it would trap.
+    fn step(&mut self) -> Option<()> {
+        if self.log.len() >= self.room {
+            return None;
+        }
+        let w = self.word(place(self.pc, 4)?)?;
+        let (s, t) = (self.r[(w >> 21 & 31) as usize], self.r[(w >> 16 & 31) as usize]);
+        let (i, si, sa) = (w & 0xffff, w as u16 as i16 as u32, w >> 6 & 31);
+        let (rt, rd) = ((w >> 16 & 31) as usize, (w >> 11 & 31) as usize);
+        let address = s.wrapping_add(si);
+        let mut target = self.next.wrapping_add(4);
+        let mut slot = false;
+        let mut write = None;
+        let mut branch = None;
+        match w >> 26 {
+            0 => {
+                let value = match w & 63 {
+                    0 => t << sa,
+                    2 => t >> sa,
+                    3 => (t as i32 >> sa) as u32,
+                    4 => t << (s & 31),
+                    6 => t >> (s & 31),
+                    7 => (t as i32 >> (s & 31)) as u32,
+                    9 => self.pc.wrapping_add(8),
+                    16 => self.hi,
+                    18 => self.lo,
+                    33 => s.wrapping_add(t),
+                    35 => s.wrapping_sub(t),
+                    36 => s & t,
+                    37 => s | t,
+                    38 => s ^ t,
+                    39 => !(s | t),
+                    42 => u32::from((s as i32) < t as i32),
+                    43 => u32::from(s < t),
+                    8 | 15 | 17 | 19 | 24 | 25 | 27 => 0,
+                    _ => return None,
+                };
+                match w & 63 {
+                    8 => (target, slot) = (s, true),
+                    9 => (target, slot, write) = (s, true, Some((rd, value))),
+                    15 => {}
+                    17 => self.hi = s,
+                    19 => self.lo = s,
+                    24 => {
+                        let p = i64::from(s as i32) * i64::from(t as i32);
+                        (self.hi, self.lo) = ((p >> 32) as u32, p as u32);
+                    }
+                    25 => {
+                        let p = u64::from(s) * u64::from(t);
+                        (self.hi, self.lo) = ((p >> 32) as u32, p as u32);
+                    }
+                    27 => {
+                        self.lo = s.checked_div(t).unwrap_or(0xffff_ffff);
+                        self.hi = s.checked_rem(t).unwrap_or(s);
+                    }
+                    _ => write = Some((rd, value)),
+                }
+            }
+            2 => (target, slot) = (self.next & 0xf000_0000 | (w & 0x3ff_ffff) << 2, true),
+            3 => {
+                write = Some((31, self.pc.wrapping_add(8)));
+                (target, slot) = (self.next & 0xf000_0000 | (w & 0x3ff_ffff) << 2, true);
+            }
+            4 => branch = Some(s == t),
+            5 => branch = Some(s != t),
+            6 => branch = Some(s as i32 <= 0),
+            7 => branch = Some(s as i32 > 0),
+            9 => write = Some((rt, address)),
+            10 => write = Some((rt, u32::from((s as i32) < si as i32))),
+            11 => write = Some((rt, u32::from(s < si))),
+            12 => write = Some((rt, s & i)),
+            13 => write = Some((rt, s | i)),
+            14 => write = Some((rt, s ^ i)),
+            15 => write = Some((rt, i << 16)),
+            32 => write = Some((rt, *self.ram.get(place(address, 1)?)? as i8 as u32)),
+            33 | 37 => {
+                let at = place(address, 2)?;
+                let half = u16::from_be_bytes(self.ram.get(at..at + 2)?.try_into().ok()?);
+                let value = if w >> 26 == 33 { half as i16 as u32 } else { u32::from(half) };
+                write = Some((rt, value));
+            }
+            35 => write = Some((rt, self.word(place(address, 4)?)?)),
+            36 => write = Some((rt, u32::from(*self.ram.get(place(address, 1)?)?))),
+            40 => self.set(place(address, 1)?, &[t as u8])?,
+            41 => self.set(place(address, 2)?, &(t as u16).to_be_bytes())?,
+            43 => self.set(place(address, 4)?, &t.to_be_bytes())?,
+            _ => return None,
+        }
+        if let Some(taken) = branch {
+            slot = true;
+            if taken {
+                target = self.pc.wrapping_add(4).wrapping_add(si << 2);
+            }
+        }
+        if slot && self.slot {
+            return None;
+        }
+        if let Some((d @ 1.., value)) = write {
+            self.r[d] = value;
+        }
+        (self.pc, self.next, self.slot) = (self.next, target, slot);
+        self.count += 1;
+        self.log.push(0);
+        Some(())
+    }
+}
+
+/// The last word of a run, and how many steps it made.
+fn run(steps: u32) -> (u32, u64) {
+    let mut machine = Machine {
+        r: [0; 32],
+        hi: 0,
+        lo: 0,
+        pc: 0x8000_0200,
+        next: 0x8000_0204,
+        slot: false,
+        count: 0,
+        ram: vec![0; RAM as usize],
+        log: Vec::with_capacity(steps as usize),
+        room: steps as usize,
+    };
+    for (i, word) in PROGRAM.iter().enumerate() {
+        let at = 0x200 + 4 * i;
+        machine.ram[at..at + 4].copy_from_slice(&word.to_be_bytes());
+    }
+    for _ in 0..steps {
+        if machine.step().is_none() {
+            break;
+        }
+    }
+    black_box(&machine.log);
+    (machine.r[17], machine.count)
+}
+
+fn main() {
+    let mut words = std::env::args().skip(1).map(|word| word.parse::<u32>().unwrap_or(0));
+    let times = words.next().unwrap_or(0);
+    let steps = words.next().unwrap_or(1_000_000);
+    let start = Instant::now();
+    let (mut word, mut count) = (0u32, 0u64);
+    for _ in 0..times {
+        let (last, made) = run(steps);
+        word = word.wrapping_add(last);
+        count += made;
+    }
+    println!("{count} {word:08x}");
+    eprintln!("{}", start.elapsed().as_nanos());
+}

@@ -1,0 +1,17 @@
+use Rattle.std.proofs.Common.{◌≡◌, ◌∙◌, ◌+◌, ℕ, List, [], ◌∷◌, ◌++◌, ap, map, sym, arith}
+use Rattle.std.specs.List.{range_with_len}
+use Rattle.std.proofs.lemmas.List.{flat_map_more}
+use Rattle.std.proofs.lemmas.List.FromFn.{map-range_with_len_more}
+use Rattle.s161.specs.Texts.{ended, text_of}
+
+-- Texts of lines.
+
+-- one more line
+pub text_of_more : (lines : List (List ℕ)) (line : List ℕ) → text_of (lines ++ line ∷ []) ≡ text_of lines ++ ended line
+text_of_more lines line = sym (flat_map_more ended [] lines line)
+
+-- one more of counted lines, after a first
+pub text_of_counted : (first : List ℕ) (line : ℕ → List ℕ) (n : ℕ)
+    → text_of (first ∷ map line (range_with_len 0 (n + 1))) ≡ text_of (first ∷ map line (range_with_len 0 n)) ++ ended (line n)
+text_of_counted first line n =
+    ap (λ lines. text_of (first ∷ lines)) (map-range_with_len_more line 0 n n (omega arith)) ∙ text_of_more (first ∷ map line (range_with_len 0 n)) (line n)

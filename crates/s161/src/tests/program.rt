@@ -1,0 +1,238 @@
+//! Command lines, and what the program writes.
+
+use super::same;
+use crate::fault::Fault;
+use crate::files::FileSource;
+use crate::work::{start, work};
+use m161_elf::LoadError;
+use m161_machine::BootError;
+use std::alloc::Global;
+use std::io;
+use std::io::{ErrorKind, Write};
+use std::test::Fail;
+
+/// What the demo prints.
+const DEMO: &str = "cpu 0 running pc 8000021c
+r0 00000000 r1 00000000 r2 00000000 r3 00000000
+r4 00000000 r5 00000000 r6 00000000 r7 00000000
+r8 12345678 r9 ffffffff r10 12345677 r11 80000000
+r12 12345677 r13 00000000 r14 00000000 r15 00000000
+r16 00000000 r17 00000000 r18 00000000 r19 00000000
+r20 00000000 r21 00000000 r22 00000000 r23 00000000
+r24 00000000 r25 00000000 r26 00000000 r27 00000000
+r28 00000000 r29 00000000 r30 00000000 r31 00000000
+hi 00000000 lo 00000000
+";
+
+/// What clap writes on standard output for `--help`.
+const HELP: &str = "A proved emulator of System/161
+
+Usage: s161 <COMMAND>
+
+Commands:
+  demo  Makes seven Steps of the built-in image
+  help  Print this message or the help of the given subcommand(s)
+
+Options:
+  -h, --help  Print help
+";
+
+/// What clap writes on standard error for the word `foo`.
+const USAGE: &str = "error: unrecognized subcommand 'foo'
+
+Usage: s161 <COMMAND>
+
+For more information, try '--help'.
+";
+
+/// The line of an output that fails.
+const FAILED: &str = "s161: output\n";
+
+/// A source with no files.
+#[derive(Drop)]
+struct NoFiles;
+
+impl FileSource for NoFiles {
+    fn read(&mut self, _alloc: Global, _name: &str) -> io::Result<Vec<u8>> {
+        Err(io::Error::from(ErrorKind::NotFound))
+    }
+}
+
+/// A writer into memory with room for some bytes; then it fails, or writes none without an error.
+#[derive(Drop)]
+struct Memory {
+    bytes: Vec<u8>,
+    room: usize,
+    fails: bool,
+}
+
+impl Memory {
+    fn new(alloc: Global, room: usize, fails: bool) -> Memory {
+        Memory {
+            bytes: Vec::new(alloc),
+            room,
+            fails,
+        }
+    }
+
+    /// How many bytes were written, and whether the text begins with them.
+    fn written(&self, text: &str) -> (usize, bool) {
+        (self.bytes.len(), text.as_bytes().starts_with(&self.bytes))
+    }
+}
+
+impl Write for Memory {
+    fn write(&mut self, buf: &[u8]) -> io::Result<usize> {
+        let count = buf.len().min(self.room);
+        if count == 0 && self.fails {
+            return Err(io::Error::from(ErrorKind::BrokenPipe));
+        }
+        self.bytes.extend_from_slice(&buf[..count])?;
+        self.room -= count;
+        Ok(count)
+    }
+
+    fn flush(&mut self) -> io::Result<()> {
+        Ok(())
+    }
+}
+
+/// What a run leaves: its exit status, and how much of two texts was written on the streams.
+type Left = (u8, (usize, bool), (usize, bool));
+
+/// All of a text, or none.
+fn all(text: &str) -> (usize, bool) {
+    (text.len(), true)
+}
+
+/// Does what a command line says, over streams with room for some bytes, against the texts that
+/// they should begin.
+fn run(rt: &HostRuntime, words: &[&str], texts: [&str; 2], room: [usize; 2], fails: bool) -> Left {
+    let mut input: &[u8] = &[];
+    let mut output = Memory::new(rt.alloc(), room[0], fails);
+    let mut errors = Memory::new(rt.alloc(), room[1], fails);
+    let status = work(
+        rt,
+        words,
+        &mut NoFiles,
+        &mut input,
+        &mut output,
+        &mut errors,
+    );
+    (status, output.written(texts[0]), errors.written(texts[1]))
+}
+
+/// Room for every text.
+const FREE: [usize; 2] = [usize::MAX, usize::MAX];
+
+#[test]
+fn demo(rt: HostRuntime) {
+    let found = run(&rt, &["s161", "demo"], [DEMO, ""], FREE, true);
+    same(&rt, found, (0, all(DEMO), all("")));
+}
+
+#[test]
+fn failing_output(rt: HostRuntime) {
+    // after each number of bytes an error, or no byte without an error
+    for fails in [true, false] {
+        for room in 0..DEMO.len() {
+            let rooms = [room, usize::MAX];
+            let found = run(&rt, &["s161", "demo"], [DEMO, FAILED], rooms, fails);
+            same(&rt, found, (1, (room, true), all(FAILED)));
+        }
+    }
+}
+
+#[test]
+fn both_outputs_fail(rt: HostRuntime) {
+    for (fails, room) in [(true, 0), (false, 0), (true, 3), (false, 3)] {
+        let found = run(&rt, &["s161", "demo"], [DEMO, FAILED], [26, room], fails);
+        same(&rt, (fails, found), (fails, (1, (26, true), (room, true))));
+    }
+}
+
+#[test]
+fn rejected_command_lines(rt: HostRuntime) {
+    let found = run(&rt, &["s161", "--help"], [HELP, ""], FREE, true);
+    same(&rt, found, (2, all(HELP), all("")));
+    let found = run(&rt, &["s161", "foo"], ["", USAGE], FREE, true);
+    same(&rt, found, (2, all(""), all(USAGE)));
+    let cases: [&[&str]; 2] = [&["s161"], &["s161", "demo", "x"]];
+    for words in cases {
+        let (status, output, _) = run(&rt, words, ["", ""], FREE, true);
+        same(&rt, (words, status, output), (words, 2, all("")));
+    }
+}
+
+#[test]
+fn failing_rejections(rt: HostRuntime) {
+    for fails in [true, false] {
+        for room in 0..HELP.len() {
+            let rooms = [room, usize::MAX];
+            let found = run(&rt, &["s161", "--help"], [HELP, FAILED], rooms, fails);
+            same(&rt, found, (1, (room, true), all(FAILED)));
+        }
+        for room in 0..USAGE.len() {
+            let rooms = [usize::MAX, room];
+            let found = run(&rt, &["s161", "foo"], ["", USAGE], rooms, fails);
+            same(&rt, found, (1, all(""), (room, true)));
+        }
+    }
+}
+
+/// Starts the program on words that were read, or weren't.
+fn started(rt: &HostRuntime, words: Result<Vec<String>, Fault>, texts: [&str; 2]) -> Left {
+    let mut input: &[u8] = &[];
+    let mut output = Memory::new(rt.alloc(), usize::MAX, true);
+    let mut errors = Memory::new(rt.alloc(), usize::MAX, true);
+    let status = start(
+        rt,
+        words,
+        &mut NoFiles,
+        &mut input,
+        &mut output,
+        &mut errors,
+    );
+    (status, output.written(texts[0]), errors.written(texts[1]))
+}
+
+#[test]
+fn starts(rt: HostRuntime) -> Result<(), Fail> {
+    let mut words = Vec::new(rt.alloc());
+    words.push(String::from_str(rt.alloc(), "s161")?)?;
+    words.push(String::from_str(rt.alloc(), "demo")?)?;
+    let found = started(&rt, Ok(words), [DEMO, ""]);
+    same(&rt, found, (0, all(DEMO), all("")));
+    for &(fault, line) in &[
+        (Fault::Input, "s161: input\n"),
+        (Fault::Memory, "s161: memory\n"),
+    ] {
+        let found = started(&rt, Err(fault), ["", line]);
+        same(&rt, found, (1, all(""), all(line)));
+    }
+    Ok(())
+}
+
+#[test]
+fn fault_texts(rt: HostRuntime) -> Result<(), Fail> {
+    for (fault, text) in [
+        (Fault::Conf, "s161: conf"),
+        (
+            Fault::Image(LoadError::Truncated),
+            "s161: image 1 Truncated",
+        ),
+        (Fault::Memory, "s161: memory"),
+        (Fault::Input, "s161: input"),
+        (Fault::Output, "s161: output"),
+        (Fault::from(BootError::BadConf), "s161: conf"),
+        (
+            Fault::from(BootError::Load(LoadError::BadEntry)),
+            "s161: image 9 BadEntry",
+        ),
+        (Fault::from(BootError::NoMemory), "s161: memory"),
+    ] {
+        let found = format!(in rt.alloc(); "{fault}")?;
+        same(&rt, found.as_str(), text);
+    }
+    Ok(())
+}
