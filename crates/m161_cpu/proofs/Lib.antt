@@ -1,5 +1,6 @@
 mod Decoded
+mod Linked
 mod Mapped
 mod Slots
-mod Linked
+pub mod Fetched
 pub mod Laws

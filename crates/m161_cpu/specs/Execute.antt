@@ -1,4 +1,4 @@
-use Rattle.std.specs.Prelude.{◌≡◌, ℕ, ◌+◌, ◌%◌, ◌^◌, List, slice_index, Option, None, Some, Result, Ok, Err}
+use Rattle.std.specs.Prelude.{◌≡◌, ℕ, ◌+◌, ◌%◌, ◌^◌, Bool, if◌then◌else◌, List, slice_index, Option, None, Some, Result, Ok, Err}
 use Rattle.m161_isa.specs.declared.instr.Instr.{Instr}
 use Rattle.m161_isa.specs.declared.instr.Coprocessor.{Coprocessor}
 use Rattle.m161_isa.specs.declared.table.Row.{Row}
@@ -8,13 +8,22 @@ use Rattle.m161_isa.specs.declared.instr.Instr.TheVariants.{Absent}
 use Rattle.m161_bus.specs.Board.{BoardState}
 use Rattle.m161_cpu.specs.declared.fault.FaultKind.{FaultKind}
 use Rattle.m161_cpu.specs.declared.fault.FaultKind.TheVariants as kind
+use Rattle.m161_cpu.specs.declared.processor.Outcome.TheVariants.{Idle}
 use Rattle.m161_cpu.specs.Processor.{Processor}
+use Rattle.m161_cpu.specs.Links.{Keep}
 use Rattle.m161_cpu.specs.Scene.{Around, Scene, Change, scene, result_map, processor_after, around_after}
 use Rattle.m161_cpu.specs.Fault.{Fault, fault, noted}
 use Rattle.m161_cpu.specs.Effect.{write}
-use Rattle.m161_cpu.specs.Step.{change_of_row, misfit_kind}
+use Rattle.m161_cpu.specs.Step.{Stepped, change_of_row, misfit_kind, running}
 
--- Words that the clauses of the code's helpers share: effects on the code's instructions.
+-- Words that the clauses of the code's helpers share: a Step in two parts, and effects on the code's instructions.
+
+-- the same Step in two parts: a processor that rests is idle, and one that doesn't is running
+abbrev pub idle_after : Scene → Stepped
+idle_after s = record { outcome = Idle; after = s; link = Keep; stored = None }
+
+abbrev pub rested : Bool → Scene → Stepped
+rested rests after = if rests then idle_after after else running after
 
 abbrev pub unit_in : Instr → Option Coprocessor
 unit_in (Absent unit) = Some unit

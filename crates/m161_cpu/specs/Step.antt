@@ -73,10 +73,10 @@ abbrev pub ended : Scene → Result Change Fault → Stepped
 ended s (Ok change) = ran s change
 ended s (Err f) = trapped s f
 
--- the word at pc
-abbrev pub fetched : Scene → Result ℕ Fault
-fetched s =
-    result_map (word_at s.around.memory) (reach Fetch 4 s.processor.pc (length s.around.memory) s.processor)
+-- the word at pc, in this memory
+abbrev pub word_at_pc : List ℕ → Processor → Result ℕ Fault
+word_at_pc memory p = result_map (word_at memory) (reach Fetch 4 p.pc (length memory) p)
+
 
 -- what a row does with the numbers of its operands
 abbrev pub change_of_row : Scene → Row → List ℕ → Result Change Fault
@@ -99,20 +99,26 @@ abbrev pub is_unusable : Control → ℕ → Bool
 is_unusable c word = (bits_of word 26 6 == 16) && not (may_use_cop0 c)
 
 -- what the instruction of a word changes
-unfoldable pub change_in : Scene → ℕ → Result Change Fault
-change_in s word =
-    if is_unusable s.processor.control word then Err (fault kind.Coprocessor0Unusable)
-    else change_by_row s word (row_that_fits word)
+abbrev pub change_in : Scene → ℕ → Result Change Fault
+change_in s word = change_by_row s word (row_that_fits word)
+
+-- a word, where it may be executed
+abbrev pub usable : Control → ℕ → Result ℕ Fault
+usable c word = if is_unusable c word then Err (fault kind.Coprocessor0Unusable) else Ok word
+
+-- the word at pc, where it may be executed
+abbrev pub fetched : List ℕ → Processor → Result ℕ Fault
+fetched memory p = and_then (word_at_pc memory p) (usable p.control)
 
 -- the lines of the board that the processor sees
 abbrev pub lines_in : Scene → ℕ
 lines_in s = lines_of s.around.number s.around.board
 
--- interrupt, fetch, decode, effect or trap, in this order
-abbrev pub executed : Scene → Result Change Fault
+-- interrupt, fetch, coprocessor 0 unusable, decode, effect or trap, in this order
+unfoldable pub executed : Scene → Result Change Fault
 executed s =
     if is_interrupted (lines_in s) s.processor.control then Err (fault kind.Interrupt)
-    else and_then (fetched s) (change_in s)
+    else and_then (fetched s.around.memory s.processor) (change_in s)
 
 abbrev pub running : Scene → Stepped
 running s = ended s (executed s)
@@ -127,13 +133,6 @@ step_in Waiting s =
 
 unfoldable pub step_of : Scene → Stepped
 step_of s = step_in s.processor.state s
-
--- the same Step in two parts: a processor that rests is idle, and one that doesn't is running
-abbrev pub idle_after : Scene → Stepped
-idle_after s = record { outcome = Idle; after = s; link = Keep; stored = None }
-
-abbrev pub rested : Bool → Scene → Stepped
-rested rests after = if rests then idle_after after else running after
 
 -- a Step's outcome: no input, and a vector that is one of the four
 abbrev pub IsProper : Outcome → Type 0

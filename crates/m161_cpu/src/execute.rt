@@ -5,7 +5,7 @@ ghost use Rattle.m161_isa.specs.declared.instr.Instr.TheVariants.{Arith, LoadUpp
 ghost use Rattle.m161_bus.specs.Board.{KeepsSize};
 ghost use Rattle.m161_cpu.specs.Effect.{write};
 ghost use Rattle.m161_cpu.specs.Scene.{Around, Scene, here, result_map, scene};
-ghost use Rattle.m161_cpu.specs.Step.{change_in, is_unusable, misfit_kind};
+ghost use Rattle.m161_cpu.specs.Step.{change_in, misfit_kind};
 ghost use Rattle.m161_cpu.specs.Execute.{change_by, or_fault, Executes, Writes, WritesFrom};
 
 use crate::fault::FaultKind;
@@ -98,9 +98,9 @@ fn absent(unit: Coprocessor) -> FaultKind
 }
 
 impl<T: Tlb> Cpu<T> {
-    /// Executes the instruction of a word.
+    /// Executes the instruction of a word that may be executed.
     #[inline(always)]
-    #[tactic(auto, unfolding(crate::specs::Step::change_in), using(crate::proofs::Decoded::decoded))]
+    #[tactic(auto, using(crate::proofs::Decoded::decoded))]
     pub(crate) fn perform<D: Console>(
         &mut self,
         word: u32,
@@ -117,18 +117,7 @@ impl<T: Tlb> Cpu<T> {
         ensures board { KeepsSize board.old board.new }
         ensures size { length ram.new ≡ length ram.old }
     {
-        if self.is_unusable(word) {
-            return Err(FaultKind::Coprocessor0Unusable);
-        }
         self.execute(&decode_in_step(word), c, ram, board, links)
-    }
-
-    // Opcode 16 in user mode without CU0.
-    #[inline(always)]
-    fn is_unusable(&self, word: u32) -> bool
-        ensures { result ≡ is_unusable self.now.control word }
-    {
-        word >> 26 == 16 && !self.control.may_use_cop0()
     }
 
     // Executes an instruction of the table.

@@ -23,7 +23,8 @@ impl<T: Tlb> Cpu<T> {
     // The address that a load or a store names.
     #[inline(always)]
     fn address(&self, offset: Immediate, base: Reg) -> u32
-        ensures { result ≡ (slice_index self.now.registers base + sign_extended_half offset) % 2 ^ 32 }
+        ensures { result ≡
+            (slice_index self.now.registers base + sign_extended_half offset) % 2 ^ 32 }
     {
         self.reg(base).wrapping_add(sign_extend_half(offset.half()))
     }
@@ -105,9 +106,26 @@ impl<T: Tlb> Cpu<T> {
             self.old board.old result self.new board.new }
         ensures board { KeepsSize board.old board.new }
     {
-        if let Some(at) = self.direct(4, address, ram.size()) {
-            return Ok(ram.word(at));
+        match self.direct(4, address, ram.size()) {
+            Some(at) => Ok(ram.word(at)),
+            None => self.read_word_aside(address, c, ram, board),
         }
+    }
+
+    // A call of `read_word_elsewhere`, whose result has its place on the stack here alone.
+    #[inline(always)]
+    fn read_word_aside<D: Console>(
+        &mut self,
+        address: u32,
+        c: u32,
+        ram: &Ram,
+        board: &mut Board<D>,
+    ) -> Result<u32, FaultKind>
+        requires processor { c < board.old.processors }
+        ensures word { FindsWord (read_word address self.old c ram.now board.old)
+            self.old board.old result self.new board.new }
+        ensures board { KeepsSize board.old board.new }
+    {
         let word = self.read_word_elsewhere(address, c, ram, board)?;
         Ok(word)
     }

@@ -6,7 +6,8 @@ ghost use Rattle.m161_cop0.specs.Trap.{IsVector};
 ghost use Rattle.m161_cpu.specs.Processor.{stopped, started, with_register, with_hi_lo, advanced};
 ghost use Rattle.m161_cpu.specs.Scene.{Around, scene};
 ghost use Rattle.m161_cpu.specs.Fault.{vector, with_trap};
-ghost use Rattle.m161_cpu.specs.Step.{rested, step_of, tick};
+ghost use Rattle.m161_cpu.specs.Step.{step_of, tick};
+ghost use Rattle.m161_cpu.specs.Execute.{rested};
 
 mod views;
 

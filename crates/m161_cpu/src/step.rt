@@ -1,11 +1,13 @@
 //! One Step.
 
-ghost use Rattle.std.specs.Prelude.{◌≡◌, ◌+◌, ◌-◌, ◌^◌, ◌<◌, ◌≤◌, length};
+ghost use Rattle.std.specs.Prelude.{◌≡◌, ◌+◌, ◌-◌, ◌^◌, ◌<◌, ◌≤◌, None, length};
 ghost use Rattle.m161_bus.specs.Board.{KeepsSize, lines_of};
-ghost use Rattle.m161_cpu.specs.declared.fault.Access.TheVariants as access;
+ghost use Rattle.m161_cpu.specs.declared.processor.Outcome.TheVariants as outcomes;
+ghost use Rattle.m161_cpu.specs.Links.{End, links_after};
 ghost use Rattle.m161_cpu.specs.Scene.{here};
+ghost use Rattle.m161_cpu.specs.Fault.{exception_of, vector, with_trap};
 ghost use Rattle.m161_cpu.specs.Execute.{Executes, Finds};
-ghost use Rattle.m161_cpu.specs.Step.{executed, fetched, running, step_of, IsProper, Leaves};
+ghost use Rattle.m161_cpu.specs.Step.{executed, fetched, is_unusable, running, step_of, tick, IsProper, Leaves};
 
 use crate::fault::{Access, FaultKind};
 use crate::links::Links;
@@ -66,25 +68,39 @@ impl<T: Tlb> Cpu<T> {
             Ok(()) => {
                 self.tick();
                 if board.is_off() {
-                    Outcome::PoweredOff
+                    powered_off()
                 } else {
                     Outcome::Ran
                 }
             }
-            Err(kind) => {
-                links.unlink(c);
-                let vector = self.enter(kind);
-                self.tick();
-                Outcome::Trapped {
-                    code: kind.exception(),
-                    vector,
-                }
-            }
+            Err(kind) => self.trap(kind, c, links),
+        }
+    }
+
+    // The end of a Step that traps.
+    #[cold]
+    #[inline(never)]
+    fn trap(&mut self, kind: FaultKind, c: u32, links: &mut Links) -> Outcome
+        requires processor { c < 32 }
+        requires room { self.old.count < 2 ^ 64 - 1 }
+        ensures outcome { result ≡ outcomes.Trapped (exception_of kind) (vector kind self.old) }
+        ensures processor { self.new ≡ tick (with_trap kind self.old) }
+        ensures links { links.new ≡ links_after c End None links.old }
+        ensures counted { self.new.count ≡ self.old.count + 1 }
+        ensures proper { IsProper result }
+    {
+        links.unlink(c);
+        let vector = self.enter(kind);
+        self.tick();
+        Outcome::Trapped {
+            code: kind.exception(),
+            vector,
         }
     }
 
     // Looks for an interrupt, fetches an instruction and executes it.
     #[inline(always)]
+    #[tactic(auto, unfolding(crate::specs::Step::executed))]
     fn execute_next<D: Console>(
         &mut self,
         c: u32,
@@ -105,7 +121,59 @@ impl<T: Tlb> Cpu<T> {
         if self.control.interrupts(lines) {
             return Err(FaultKind::Interrupt);
         }
-        let at = self.reach(Access::Fetch, 4, self.pc(), ram.size())?;
-        self.perform(ram.word(at), c, ram, board, links)
+        let word = self.fetch(ram)?;
+        self.perform(word, c, ram, board, links)
     }
+
+    // The word at pc, where the processor may execute it. By kseg0 in kernel mode it may execute
+    // any.
+    #[inline(always)]
+    #[tactic(auto, using(crate::proofs::Fetched::in_kernel_mode))]
+    fn fetch(&mut self, ram: &Ram) -> Result<u32, FaultKind>
+        requires ram { length ram.now ≤ 2 ^ 29 }
+        ensures { Finds (fetched ram.now self.old) self.old result self.new }
+    {
+        match self.direct(4, self.pc(), ram.size()) {
+            Some(at) => Ok(ram.word(at)),
+            None => self.fetch_aside(ram),
+        }
+    }
+
+    // A call of `fetch_elsewhere`, whose result has its place on the stack here alone.
+    #[inline(always)]
+    fn fetch_aside(&mut self, ram: &Ram) -> Result<u32, FaultKind>
+        ensures { Finds (fetched ram.now self.old) self.old result self.new }
+    {
+        let word = self.fetch_elsewhere(ram)?;
+        Ok(word)
+    }
+
+    #[cold]
+    #[inline(never)]
+    fn fetch_elsewhere(&mut self, ram: &Ram) -> Result<u32, FaultKind>
+        ensures { Finds (fetched ram.now self.old) self.old result self.new }
+    {
+        let at = self.reach_elsewhere(Access::Fetch, 4, self.pc(), ram.size())?;
+        let word = ram.word(at);
+        if self.is_unusable(word) {
+            return Err(FaultKind::Coprocessor0Unusable);
+        }
+        Ok(word)
+    }
+
+    // Opcode 16 in user mode without CU0.
+    fn is_unusable(&self, word: u32) -> bool
+        ensures { result ≡ is_unusable self.now.control word }
+    {
+        word >> 26 == 16 && !self.control.may_use_cop0()
+    }
+}
+
+// The outcome of a Step that switched the machine off; a call, since few do.
+#[cold]
+#[inline(never)]
+fn powered_off() -> Outcome
+    ensures { result ≡ outcomes.PoweredOff }
+{
+    Outcome::PoweredOff
 }

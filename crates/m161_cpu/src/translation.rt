@@ -1,12 +1,12 @@
 //! Addresses to physical ones.
 
-ghost use Rattle.std.specs.Prelude.{◌≡◌, ◌+◌, ◌≤◌, ◌<◌, ◌/◌, ◌^◌, Ok, Some, IfOk, IfSome};
+ghost use Rattle.std.specs.Prelude.{◌≡◌, ◌+◌, ◌≤◌, ◌<◌, ◌/◌, ◌^◌, false, Ok, Some, IfOk, IfSome};
 ghost use Rattle.m161_cpu.specs.Execute.{Finds};
 ghost use Rattle.m161_cpu.specs.Fault.{noted};
 ghost use Rattle.m161_cpu.specs.Scene.{result_map};
 ghost use Rattle.m161_cpu.specs.Translation.{Physical, address_error, bus_error, by_page, invalid, is_misaddressed, miss, physical_at, reach, reach_word_of};
 ghost use Rattle.m161_tlb.specs.Rows.{find_row};
-ghost use Rattle.m161_cop0.specs.Control.{identifier_of};
+ghost use Rattle.m161_cop0.specs.Control.{identifier_of, is_user};
 
 use crate::fault::{Access, FaultKind};
 use crate::processor::Cpu;
@@ -24,8 +24,8 @@ pub(crate) fn bus_error(access: Access) -> FaultKind
 }
 
 impl<T: Tlb> Cpu<T> {
-    /// The place in RAM, of which there are `size` bytes, of an access by kseg0 in kernel mode, where
-    /// it is aligned to its width. All other accesses go through `reach_elsewhere`.
+    /// The place in RAM, of which there are `size` bytes, of an access by kseg0 in kernel mode that
+    /// is aligned to its width. All other accesses go through `reach_elsewhere`.
     #[inline(always)]
     #[tactic(auto, unfolding(crate::specs::Translation::physical_at, crate::specs::Translation::is_misaddressed))]
     pub(crate) fn direct(&self, width: u32, address: u32, size: u32) -> Option<u32>
@@ -34,6 +34,7 @@ impl<T: Tlb> Cpu<T> {
         ensures value { (access : Access)
             → IfSome result (λ at. physical_at access width address self.now ≡ Ok at) }
         ensures within { IfSome result (λ at. at + width ≤ size) }
+        ensures kernel { IfSome result (λ _. is_user self.now.control ≡ false) }
     {
         let at = address.wrapping_sub(0x8000_0000);
         if address % width == 0
@@ -60,16 +61,34 @@ impl<T: Tlb> Cpu<T> {
         ensures found { Finds (reach access width address size self.old) self.old result self.new }
         ensures within { IfOk result (λ at. at + width ≤ size) }
     {
-        if let Some(at) = self.direct(width, address, size) {
-            return Ok(at);
+        match self.direct(width, address, size) {
+            Some(at) => Ok(at),
+            None => self.reach_aside(access, width, address, size),
         }
+    }
+
+    // A call of `reach_elsewhere`, whose result has its place on the stack here alone, and not on
+    // the way that most accesses take.
+    #[inline(always)]
+    fn reach_aside(
+        &mut self,
+        access: Access,
+        width: u32,
+        address: u32,
+        size: u32,
+    ) -> Result<u32, FaultKind>
+        requires width { 0 < width }
+        ensures found { Finds (reach access width address size self.old) self.old result self.new }
+        ensures within { IfOk result (λ at. at + width ≤ size) }
+    {
         let at = self.reach_elsewhere(access, width, address, size)?;
         Ok(at)
     }
 
+    /// The place in RAM of an access by another way than `direct`.
     #[cold]
     #[inline(never)]
-    fn reach_elsewhere(
+    pub(crate) fn reach_elsewhere(
         &mut self,
         access: Access,
         width: u32,
