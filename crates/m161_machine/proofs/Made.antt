@@ -1,5 +1,6 @@
-use Rattle.std.proofs.Common.{◌≡◌, ◌∙◌, refl, ap, sym, subst, ℕ, ◌+◌, ◌<◌, ◌≤◌, List, [], ◌∷◌, ◌++◌, length, Option, None, Some, Ok, Err, arith}
-use Rattle.std.specs.Prelude.{slice_set, All}
+use Rattle.std.proofs.Common.{◌≡◌, ◌∙◌, refl, ap, sym, subst, true, false, ℕ, ◌+◌, ◌<◌, ◌≤◌, List, [], ◌∷◌, ◌++◌, length, Option, None, Some, Ok, Err, arith}
+use Rattle.std.specs.Prelude.{nat_le, slice_set, All}
+use Rattle.std.proofs.lemmas.Bool.Decides.{nat_tests}
 use Rattle.std.proofs.lemmas.List.{length-append, length-set}
 use Rattle.std.proofs.lemmas.List.Elements.{All-weaker}
 use Rattle.m161_bus.specs.Board.{BoardState}
@@ -15,6 +16,7 @@ use Rattle.m161_machine.specs.declared.event.Event.{Event}
 use Rattle.m161_machine.specs.declared.event.Event.TheVariants.{Step}
 use Rattle.m161_machine.specs.declared.event.Entry.{Entry}
 use Rattle.m161_machine.specs.declared.event.Refusal.{Refusal}
+use Rattle.m161_machine.specs.declared.event.Refusal.TheVariants.{Off, LogFull}
 use Rattle.m161_machine.specs.State.{Link, State, Parts, answer, live_links, next, parts_after, parts_of, processor_at, refusal, relinked, step_on, stepped, stores_after, with_board, with_step}
 use Rattle.m161_machine.specs.History.{Start, History, outcomes_of, history, entry, Agrees, Answers, IsMade, IsSound, Refuses}
 use Rattle.m161_machine.proofs.Linking.{all_made, live_after}
@@ -26,9 +28,41 @@ pub refused : (s : State) (e : Event) (r : Refusal) → refusal s e ≡ Some r �
 unfolding next
 refused s e r h = rw h refl
 
+pub refused_by : (s : State) (e : Event) (r : Refusal) → refusal s e ≡ Some r → next s e ≡ Err r
+unfolding next
+refused_by s e r h = rw h refl
+
 pub allowed : (s : State) (e : Event) → refusal s e ≡ None → next s e ≡ answer s e
 unfolding next
 allowed s e h = rw h refl
+
+-- a Step of a machine that is on, whose log has room
+by_tests : (s : State) (p : ℕ) → nat_le (length s.processors) p ≡ false → s.board.off ≡ false → nat_le s.conf.log s.accepted ≡ false →
+    refusal s (Step p) ≡ None
+by_tests s p place on room = rw (place, on, room) refl
+
+pub not_refused : (m : History) (start : Start) (log : List Entry) (p : ℕ) (parts : Parts) →
+    history start log ≡ m →
+    Agrees (history start log) parts →
+    p < length m.state.processors → m.state.board.off ≡ false → length m.log < m.start.conf.log →
+    refusal m.state (Step p) ≡ None
+not_refused m start log p parts view a =
+    let P : History → Type 0 = λ x.
+    p < length x.state.processors → x.state.board.off ≡ false → length x.log < x.start.conf.log → refusal x.state (Step p) ≡ None in
+    subst P view (λ place on room.
+    by_tests (history start log).state p (grind (arith, nat_tests, place)) on (grind (arith, nat_tests, room, a.sound.conf_is, a.sound.accepted_is)))
+
+pub refused_off : (s : State) (p : ℕ) → p < length s.processors → s.board.off ≡ true → next s (Step p) ≡ Err Off
+unfolding next
+refused_off s p place off = let there : nat_le (length s.processors) p ≡ false = grind (arith, nat_tests, place) in rw (there, off) refl
+
+pub refused_full : (s : State) (p : ℕ) → p < length s.processors → s.board.off ≡ false → s.conf.log ≤ s.accepted →
+    next s (Step p) ≡ Err LogFull
+unfolding next
+refused_full s p place on full =
+    let there : nat_le (length s.processors) p ≡ false = grind (arith, nat_tests, place) in
+    let is : nat_le s.conf.log s.accepted ≡ true = grind (arith, nat_tests, full) in
+    rw (there, on, is) refl
 
 -- what an accepted event leaves: the parts agree with the longer history, which ends in the state that `next` gives
 pub record Made (m : History) (start : Start) (log : List Entry) (e : Event) (o : Outcome) (parts : Parts) : Type 0 where

@@ -1,6 +1,6 @@
 //! The machine.
 
-ghost use Rattle.std.specs.Prelude.{◌≡◌, ◌+◌, ◌-◌, ◌%◌, ◌<◌, ◌≤◌, ◌^◌, true, List, [], ◌∷◌, ◌++◌, length, replicate, IfNone, IfOk};
+ghost use Rattle.std.specs.Prelude.{◌≡◌, ◌⊎◌, ◌+◌, ◌-◌, ◌%◌, ◌<◌, ◌≤◌, ◌^◌, true, false, Ok, List, [], ◌∷◌, ◌++◌, length, replicate, IfNone, IfOk};
 ghost use Rattle.m161_elf.specs.Image.{is_in_ram};
 ghost use Rattle.m161_cpu.specs.Processor.{started, stopped};
 ghost use Rattle.m161_machine.specs.declared.event.Entry.{Entry};
@@ -42,12 +42,16 @@ impl<T: Tlb, D: Console> Model for Machine<T, D> {
 
     ghost Value = { History };
 
-    ghost view = { λ m.
-        history (record { bytes = m.image.bytes.items; entry = m.image.entry; conf = m.conf }) m.log.items };
+    ghost view = { λ m. history
+        (record { bytes = m.image.bytes.items; entry = m.image.entry; conf = m.conf })
+        m.log.items };
 
     ghost invariant = { λ m.
-        Agrees (history (record { bytes = m.image.bytes.items; entry = m.image.entry; conf = m.conf }) m.log.items)
-        (record { processors = m.processors.items; memory = m.ram; board = m.board; links = m.links })
+        Agrees (history
+            (record { bytes = m.image.bytes.items; entry = m.image.entry; conf = m.conf })
+            m.log.items)
+        (record {
+            processors = m.processors.items; memory = m.ram; board = m.board; links = m.links })
         × (m.conf.log ≤ vec_capacity m.log) };
 }
 
@@ -132,23 +136,61 @@ impl<T: Tlb, D: Console> Machine<T, D> {
         ensures end { Ends self.new (events.Step p) n result.0 result.1 }
         ensures processors { length self.new.state.processors ≡ length self.old.state.processors }
     {
-        for made in 0..n {
-            if let Err(refusal) = self.one_step(p) {
-                return (made, Some(refusal));
+        if n == 0 {
+            return (0, None);
+        }
+        if let Some(refusal) = self.refusal(p) {
+            return (0, Some(refusal));
+        }
+        let most = n.min(self.room());
+        let made = self.steps_in_room(p, most);
+        self.replay();
+        if made == n {
+            (n, None)
+        } else if self.is_off() {
+            (made, Some(Refusal::Off))
+        } else {
+            (made, Some(Refusal::LogFull))
+        }
+    }
+
+    // How many entries more the log has room for.
+    fn room(&self) -> u32
+        ensures { length self.now.log + result ≡ self.now.start.conf.log }
+    {
+        self.conf.log - self.log.len() as u32
+    }
+
+    // Steps until `most` are made or one of them switches the machine off: how many were made. No
+    // other refusal can come between, so the loop tests for none.
+    #[inline(always)]
+    fn steps_in_room(&mut self, p: u32, most: u32) -> u32
+        requires place { p < length self.old.state.processors }
+        requires on { self.old.state.board.off ≡ false }
+        requires room { length self.old.log + most ≤ self.old.start.conf.log }
+        ensures run { Continues self.old (replicate result (events.Step p)) self.new }
+        ensures end { result ≡ most ⊎ (result < most) × (self.new.state.board.off ≡ true) }
+        ensures log { length self.new.log ≡ length self.old.log + result }
+        ensures processors { length self.new.state.processors ≡ length self.old.state.processors }
+    {
+        for made in 0..most {
+            self.one_step(p);
+            if self.is_off() {
+                return made + 1;
             }
         }
-        (n, None)
+        most
     }
 
     // One Step, compiled into its one caller: the only place where a program has it.
     #[inline(always)]
-    fn one_step(&mut self, p: u32) -> Result<Outcome, Refusal>
-        ensures answers { Answers self.old (events.Step p) result self.new }
+    fn one_step(&mut self, p: u32) -> Outcome
+        requires place { p < length self.old.state.processors }
+        requires on { self.old.state.board.off ≡ false }
+        requires room { length self.old.log < self.old.start.conf.log }
+        ensures answers { Answers self.old (events.Step p) (Ok result) self.new }
         ensures processors { length self.new.state.processors ≡ length self.old.state.processors }
     {
-        if let Some(refusal) = self.refusal(p) {
-            return Err(refusal);
-        }
         let Machine {
             processors,
             ram,
@@ -160,7 +202,7 @@ impl<T: Tlb, D: Console> Machine<T, D> {
         } = self;
         let outcome = step_parts(processors, p, ram, board, links);
         log.push_reserved(Kept::of_step(p, outcome));
-        Ok(outcome)
+        outcome
     }
 
     // The first refusal of a Step that holds.
@@ -169,6 +211,7 @@ impl<T: Tlb, D: Console> Machine<T, D> {
         ensures value { result ≡ refusal self.now.state (events.Step p) }
         ensures within { IfNone result ((p < length self.now.state.processors)
             × (length self.now.log < self.now.start.conf.log)) }
+        ensures on { IfNone result (self.now.state.board.off ≡ false) }
     {
         if p as usize >= self.processors.len() {
             Some(Refusal::BadProcessor)
@@ -182,6 +225,7 @@ impl<T: Tlb, D: Console> Machine<T, D> {
     fn refusal_of_input(&self) -> Option<Refusal>
         ensures value { result ≡ refusal self.now.state events.Done }
         ensures room { IfNone result (length self.now.log < self.now.start.conf.log) }
+        ensures on { IfNone result (self.now.state.board.off ≡ false) }
     {
         if self.board.is_off() {
             Some(Refusal::Off)

@@ -1,14 +1,11 @@
 use Rattle.std.proofs.Common.{◌≡◌, ◌∙◌, refl, sym, length, arith}
 use Rattle.m161_machine.specs.declared.event.Event.TheVariants.{Step}
 use Rattle.m161_machine.specs.State.{Parts}
-use Rattle.m161_machine.proofs.Made.{counts_of, refused, step_made, Made}
+use Rattle.m161_machine.proofs.Made.{counts_of, not_refused, step_made, Made}
 use Rattle.m161_machine.proofs.Booted.{log_is_short}
 use Rattle.m161_machine.specs.History.{history}
 use Rattle.m161_machine.proofs.machine.Machine.one_step.Given.{Over}
 use Rattle.m161_machine.proofs.machine.Machine.one_step.Goals as goal
-
-pub returns-in-Some-clause-answers : goal.returns-in-Some-clause-answers
-returns-in-Some-clause-answers g c = (refused c.args.self.now.state (Step c.args.p) c.in-Some.refusal (sym c.in-Some.ensures.value), refl)
 
 -- what the Step leaves
 made : (g : Over) (c : goal.After-push_reserved g) → Made c.args.self.now
@@ -19,7 +16,7 @@ made g c =
     step_made c.args.self.now _ c.self.inside.log.items c.args.p
     (record { processors = c.self.inside.processors.items; memory = c.self.inside.ram; board = c.self.inside.board; links = c.self.inside.links })
     c.self.view_is c.self.invariant.0
-    (sym c.refusal.ensures.value ∙ c.in_default.is) c.in_default.ensures.within.1
+    (not_refused c.args.self.now _ c.self.inside.log.items c.args.p _ c.self.view_is c.self.invariant.0 c.requires.place c.requires.on c.requires.room) c.requires.room
     (record { processors = c.step_parts-outcome.new.processors.items; memory = c.step_parts-outcome.new.ram; board = c.step_parts-outcome.new.board; links = c.step_parts-outcome.new.links })
     c.step_parts-outcome.ensures.parts c.step_parts-outcome.ensures.number c.step_parts-outcome.ensures.size c.step_parts-outcome.ensures.board.1 c.step_parts-outcome.ensures.counts
     c.step_parts-outcome.result c.step_parts-outcome.ensures.outcome

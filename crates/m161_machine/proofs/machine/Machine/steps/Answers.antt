@@ -1,11 +1,19 @@
-use Rattle.std.proofs.Common.{◌∙◌}
+use Rattle.std.proofs.Common.{◌≡◌, ◌∙◌, sym, arith, rules}
 use Rattle.m161_machine.specs.declared.event.Event.TheVariants.{Step}
-use Rattle.m161_machine.proofs.Continuing.{repeats_more}
+use Rattle.m161_machine.proofs.Made.{refused_by, refused_off, refused_full}
 use Rattle.m161_machine.proofs.machine.Machine.steps.Goals as goal
 
-pub loop-made-preserved : goal.loop-made-preserved
-loop-made-preserved g c = (
-  repeats_more c.args.self.now c.loop-made.self c.one_step.new.self c.loop-made.made (Step c.args.p) c.in_default.field-0
-      c.loop-made.invariant.0 c.in_default.ensures.answers,
-  c.in_default.ensures.processors ∙ c.loop-made.invariant.1,
+pub returns-in-Some-clause-end : goal.returns-in-Some-clause-end
+returns-in-Some-clause-end g c = (search rules, refused_by c.args.self.now.state (Step c.args.p) c.in-Some.refusal (sym c.in-Some.ensures.value))
+
+pub returns-then-is_off-clause-end : goal.returns-then-is_off-clause-end
+returns-then-is_off-clause-end g c = (
+  search rules,
+  refused_off c.steps_in_room-made.new.self.state c.args.p (search rules) (sym c.is_off.ensures ∙ c.if-is_off.true),
+)
+
+pub returns-else-is_off-clause-end : goal.returns-else-is_off-clause-end
+returns-else-is_off-clause-end g c = (
+  search rules,
+  refused_full c.steps_in_room-made.new.self.state c.args.p (search rules) (sym c.is_off.ensures ∙ c.if-is_off.false) (search rules),
 )
