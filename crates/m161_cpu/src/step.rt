@@ -2,10 +2,10 @@
 
 ghost use Rattle.std.specs.Prelude.{◌≡◌, ◌+◌, ◌-◌, ◌^◌, ◌<◌, ◌≤◌, None, length};
 ghost use Rattle.m161_bus.specs.Board.{KeepsSize, lines_of};
-ghost use Rattle.m161_cpu.specs.declared.processor.Outcome.TheVariants as outcomes;
 ghost use Rattle.m161_cpu.specs.Links.{End, links_after};
 ghost use Rattle.m161_cpu.specs.Scene.{here};
-ghost use Rattle.m161_cpu.specs.Fault.{exception_of, vector, with_trap};
+ghost use Rattle.m161_cop0.specs.Trap.{IsVector};
+ghost use Rattle.m161_cpu.specs.Fault.{vector, with_trap};
 ghost use Rattle.m161_cpu.specs.Execute.{Executes, Finds};
 ghost use Rattle.m161_cpu.specs.Step.{executed, fetched, is_unusable, running, step_of, tick, IsProper, Leaves};
 
@@ -68,34 +68,37 @@ impl<T: Tlb> Cpu<T> {
             Ok(()) => {
                 self.tick();
                 if board.is_off() {
-                    powered_off()
+                    Outcome::PoweredOff
                 } else {
                     Outcome::Ran
                 }
             }
-            Err(kind) => self.trap(kind, c, links),
+            Err(kind) => {
+                let vector = self.trap(kind, c, links);
+                Outcome::Trapped {
+                    code: kind.exception(),
+                    vector,
+                }
+            }
         }
     }
 
-    // The end of a Step that traps.
+    // The end of a Step that traps; the address where the processor goes on.
     #[cold]
     #[inline(never)]
-    fn trap(&mut self, kind: FaultKind, c: u32, links: &mut Links) -> Outcome
+    fn trap(&mut self, kind: FaultKind, c: u32, links: &mut Links) -> u32
         requires processor { c < 32 }
         requires room { self.old.count < 2 ^ 64 - 1 }
-        ensures outcome { result ≡ outcomes.Trapped (exception_of kind) (vector kind self.old) }
+        ensures vector { result ≡ vector kind self.old }
         ensures processor { self.new ≡ tick (with_trap kind self.old) }
         ensures links { links.new ≡ links_after c End None links.old }
         ensures counted { self.new.count ≡ self.old.count + 1 }
-        ensures proper { IsProper result }
+        ensures place { IsVector result }
     {
         links.unlink(c);
         let vector = self.enter(kind);
         self.tick();
-        Outcome::Trapped {
-            code: kind.exception(),
-            vector,
-        }
+        vector
     }
 
     // Looks for an interrupt, fetches an instruction and executes it.
@@ -167,13 +170,4 @@ impl<T: Tlb> Cpu<T> {
     {
         word >> 26 == 16 && !self.control.may_use_cop0()
     }
-}
-
-// The outcome of a Step that switched the machine off; a call, since few do.
-#[cold]
-#[inline(never)]
-fn powered_off() -> Outcome
-    ensures { result ≡ outcomes.PoweredOff }
-{
-    Outcome::PoweredOff
 }

@@ -173,13 +173,15 @@ impl<T: Tlb, D: Console> Machine<T, D> {
         ensures log { length self.new.log ≡ length self.old.log + result }
         ensures processors { length self.new.state.processors ≡ length self.old.state.processors }
     {
-        for made in 0..most {
+        let mut made = 0;
+        while made < most {
+            made += 1;
             self.one_step(p);
             if self.is_off() {
-                return made + 1;
+                return made;
             }
         }
-        most
+        made
     }
 
     // One Step, compiled into its one caller: the only place where a program has it.

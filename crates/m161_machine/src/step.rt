@@ -36,9 +36,17 @@ pub(crate) fn step_parts<T: Tlb, D: Console>(
     ensures proper { IsProper result }
 {
     let before = board.started();
-    let outcome = processors[p as usize].step(p, ram, board, links);
-    start_new(processors, board, before);
-    outcome
+    match processors[p as usize].step(p, ram, board, links) {
+        // an arm of its own, so that the outcome of most Steps is known without a test
+        Outcome::Ran => {
+            start_new(processors, board, before);
+            Outcome::Ran
+        }
+        other => {
+            start_new(processors, board, before);
+            other
+        }
+    }
 }
 
 // Starts the processors that CPUE has now and hadn't before.

@@ -1,4 +1,4 @@
-use Rattle.std.proofs.Common.{◌≡◌, ◌∙◌, ◌∷◌, [], sym, ap, length, arith}
+use Rattle.std.proofs.Common.{◌≡◌, ◌∙◌, ◌∷◌, [], sym, ap, length, arith, rules}
 use Rattle.std.proofs.lemmas.List.{length-append}
 use Rattle.m161_machine.specs.declared.event.Event.TheVariants.{Step}
 use Rattle.m161_machine.specs.History.{entry}
@@ -19,4 +19,5 @@ loop-made-preserved g c =
       c.one_step.ensures.processors ∙ c.loop-made.invariant.2,
       c.one_step.ensures.answers.2 ∙ c.loop-made.invariant.3,
       sym c.is_off.ensures ∙ c.if-is_off.false,
+      search rules,
     )

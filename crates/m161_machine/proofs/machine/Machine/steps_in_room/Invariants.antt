@@ -1,4 +1,4 @@
-use Rattle.std.proofs.Common.{◌≡◌, ◌+◌, false, length, replicate}
+use Rattle.std.proofs.Common.{◌≡◌, ◌+◌, ◌-◌, ◌≤◌, false, length, replicate}
 use Rattle.m161_machine.specs.declared.event.Event.TheVariants.{Step}
 use Rattle.m161_machine.specs.History.{Continues}
 use Rattle.m161_machine.proofs.machine.Machine.steps_in_room.Given as goal
@@ -9,3 +9,7 @@ invariant-loop-made g l = Continues l.fn.self (replicate l.made (Step l.p)) l.se
     × (length l.self.state.processors ≡ length l.fn.self.state.processors)
     × (l.self.start ≡ l.fn.self.start)
     × (l.self.state.board.off ≡ false)
+    × (l.made ≤ l.most)
+
+abbrev pub decreases-loop-made : goal.decreases-loop-made
+decreases-loop-made g l = l.most - l.made
