@@ -70,13 +70,14 @@ pub struct Cpu<T: Tlb> {
     following: u32,
     slot: bool,
     state: ProcessorState,
-    count: u64,
+    // The Steps that didn't tick: those before its start.
+    unticked: u64,
     pub(crate) control: Cop0,
     pub(crate) tlb: T,
 }
 
 impl<T: Tlb> Model for Cpu<T> {
-    ghost use Rattle.std.specs.Prelude.{◌≡◌, ◌≤◌, length, slice_index};
+    ghost use Rattle.std.specs.Prelude.{◌≡◌, ◌+◌, ◌<◌, ◌^◌, length, slice_index};
     ghost use Rattle.m161_cpu.specs.Processor.{Processor};
 
     ghost Value = { Processor };
@@ -91,11 +92,13 @@ impl<T: Tlb> Model for Cpu<T> {
       control = c.control;
       rows = T.rows c.tlb;
       state = c.state;
-      count = c.count;
+      count = c.unticked + c.control.age;
     } };
 
     ghost invariant = { λ c.
-        (length c.registers ≡ 32) × (slice_index c.registers 0 ≡ 0) × (c.control.age ≤ c.count) };
+        (length c.registers ≡ 32)
+        × (slice_index c.registers 0 ≡ 0)
+        × (c.unticked + c.control.age < 2 ^ 64) };
 }
 
 impl<T: Tlb> Cpu<T> {
@@ -111,7 +114,7 @@ impl<T: Tlb> Cpu<T> {
             following: 0,
             slot: false,
             state: ProcessorState::Stopped,
-            count: 0,
+            unticked: 0,
             control: Cop0::new(),
             tlb: T::empty(),
         }
@@ -132,7 +135,7 @@ impl<T: Tlb> Cpu<T> {
             following: pc.wrapping_add(4),
             slot: false,
             state: ProcessorState::Running,
-            count: self.count,
+            unticked: self.count(),
             control: Cop0::new(),
             tlb: T::empty(),
         };
@@ -180,7 +183,6 @@ impl<T: Tlb> Cpu<T> {
         requires { self.old.count < 2 ^ 64 - 1 }
         ensures { self.new ≡ tick self.old }
     {
-        self.count += 1;
         self.control.tick();
     }
 
@@ -208,7 +210,7 @@ impl<T: Tlb> Cpu<T> {
     {
         match self.state {
             ProcessorState::Stopped => {
-                self.count += 1;
+                self.unticked += 1;
                 true
             }
             ProcessorState::Running => false,

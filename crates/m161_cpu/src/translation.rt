@@ -4,7 +4,7 @@ ghost use Rattle.std.specs.Prelude.{◌≡◌, ◌+◌, ◌≤◌, ◌<◌, ◌/
 ghost use Rattle.m161_cpu.specs.Execute.{Finds};
 ghost use Rattle.m161_cpu.specs.Fault.{noted};
 ghost use Rattle.m161_cpu.specs.Scene.{result_map};
-ghost use Rattle.m161_cpu.specs.Translation.{Physical, address_error, bus_error, by_page, invalid, is_misaddressed, miss, physical_at, reach, reach_word_of};
+ghost use Rattle.m161_cpu.specs.Translation.{IsWidth, Physical, address_error, bus_error, by_page, invalid, is_misaddressed, miss, physical_at, reach, reach_word_of};
 ghost use Rattle.m161_tlb.specs.Rows.{find_row};
 ghost use Rattle.m161_cop0.specs.Control.{identifier_of, is_user};
 
@@ -29,7 +29,7 @@ impl<T: Tlb> Cpu<T> {
     #[inline(always)]
     #[tactic(auto, unfolding(crate::specs::Translation::physical_at, crate::specs::Translation::is_misaddressed))]
     pub(crate) fn direct(&self, width: u32, address: u32, size: u32) -> Option<u32>
-        requires width { 0 < width }
+        requires width { IsWidth width }
         requires size { size ≤ 2 ^ 29 }
         ensures value { (access : Access)
             → IfSome result (λ at. physical_at access width address self.now ≡ Ok at) }
@@ -37,9 +37,7 @@ impl<T: Tlb> Cpu<T> {
         ensures kernel { IfSome result (λ _. is_user self.now.control ≡ false) }
     {
         let at = address.wrapping_sub(0x8000_0000);
-        if address % width == 0
-            && u64::from(at) + u64::from(width) <= u64::from(size)
-            && !self.control.is_user()
+        if address % width == 0 && at < size / width * width && !self.control.is_user()
         {
             Some(at)
         } else {
@@ -56,7 +54,7 @@ impl<T: Tlb> Cpu<T> {
         address: u32,
         size: u32,
     ) -> Result<u32, FaultKind>
-        requires width { 0 < width }
+        requires width { IsWidth width }
         requires size { size ≤ 2 ^ 29 }
         ensures found { Finds (reach access width address size self.old) self.old result self.new }
         ensures within { IfOk result (λ at. at + width ≤ size) }

@@ -67,6 +67,14 @@ impl Cop0 {
         63 - (self.age % 56) as u8
     }
 
+    /// The ticks since the start.
+    #[inline(always)]
+    pub fn age(&self) -> u64
+        ensures { result ≡ self.now.age }
+    {
+        self.age
+    }
+
     /// BadVAddr.
     pub fn bad_vaddr(&self) -> u32
         ensures { result ≡ self.now.bad_vaddr }

@@ -73,6 +73,6 @@ impl<T: Tlb> Cpu<T> {
     pub fn count(&self) -> u64
         ensures { result ≡ self.now.count }
     {
-        self.count
+        self.unticked + self.control.age()
     }
 }
