@@ -3,9 +3,10 @@ use Rattle.std.specs.Prelude.{if◌then◌else◌}
 use Rattle.m161_cop0.specs.Control.{is_pending}
 use Rattle.m161_cpu.specs.declared.processor.ProcessorState.{ProcessorState}
 use Rattle.m161_cpu.specs.declared.processor.ProcessorState.TheVariants.{Stopped, Running, Waiting}
+use Rattle.m161_cpu.specs.declared.processor.Outcome.TheVariants.{Ran, PoweredOff}
 use Rattle.m161_cpu.specs.Processor.{Processor, with_state}
 use Rattle.m161_cpu.specs.Links.{links_after}
-use Rattle.m161_cpu.specs.Scene.{Around, Scene, Change, scene}
+use Rattle.m161_cpu.specs.Scene.{Around, Scene, Change, changed, scene}
 use Rattle.m161_cpu.specs.Fault.{Fault}
 use Rattle.m161_cpu.specs.Step.{Stepped, ended, executed, idle, lines_in, running, step_in, step_of, tick, with_processor}
 
@@ -31,3 +32,30 @@ links_in Waiting s = links_waiting s (is_pending (lines_in s) s.processor.contro
 pub step_links : (s : Scene) → Links s.around (step_of s)
 unfolding step_of
 step_links s = links_in s.processor.state s
+
+-- A Step whose outcome is Ran leaves the machine on.
+
+abbrev IsOn : Stepped → Type 0
+IsOn x = x.outcome ≡ Ran → x.after.around.board.off ≡ false
+
+on_by : (off : Bool) → (if off then PoweredOff else Ran) ≡ Ran → off ≡ false
+on_by true h = absurd (let bad : PoweredOff ≡ Ran = h in cc)
+on_by false h = refl
+
+on_ended : (s : Scene) (r : Result Change Fault) → IsOn (ended s r)
+on_ended s (Ok change) = on_by (changed change s).around.board.off
+on_ended s (Err f) = λ h. absurd (cc)
+
+on_waiting : (s : Scene) (pending : Bool) →
+    IsOn (if pending then running (with_processor (with_state Running) s) else idle tick s)
+on_waiting s true = on_ended (with_processor (with_state Running) s) (executed (with_processor (with_state Running) s))
+on_waiting s false = λ h. absurd (cc)
+
+on_in : (state : ProcessorState) (s : Scene) → IsOn (step_in state s)
+on_in Stopped s = λ h. absurd (cc)
+on_in Running s = on_ended s (executed s)
+on_in Waiting s = on_waiting s (is_pending (lines_in s) s.processor.control)
+
+pub ran_on : (s : Scene) → (step_of s).outcome ≡ Ran → (step_of s).after.around.board.off ≡ false
+unfolding step_of
+ran_on s = on_in s.processor.state s

@@ -1,23 +1,23 @@
-use Rattle.std.proofs.Common.{◌≡◌, ◌∙◌, refl, ap, sym, subst, true, false, ℕ, ◌+◌, ◌<◌, ◌≤◌, List, [], ◌∷◌, ◌++◌, length, Option, None, Some, Ok, Err, arith}
+use Rattle.std.proofs.Common.{◌≡◌, ◌∙◌, refl, ap, sym, subst, true, false, ℕ, ◌+◌, ◌<◌, ◌≤◌, List, [], ◌∷◌, ◌++◌, length, Option, None, Some, Result, Ok, Err, arith}
 use Rattle.std.specs.Prelude.{nat_le, slice_set, All}
 use Rattle.std.proofs.lemmas.Bool.Decides.{nat_tests}
 use Rattle.std.proofs.lemmas.List.{length-append, length-set}
 use Rattle.std.proofs.lemmas.List.Elements.{All-weaker}
 use Rattle.m161_bus.specs.Board.{BoardState}
 use Rattle.m161_cpu.specs.declared.processor.Outcome.{Outcome}
-use Rattle.m161_cpu.specs.declared.processor.Outcome.TheVariants.{Taken}
+use Rattle.m161_cpu.specs.declared.processor.Outcome.TheVariants.{Ran, Taken}
 use Rattle.m161_cpu.specs.Processor.{Processor}
 use Rattle.m161_cpu.specs.Links.{LinkAct, Keep, LinkTo, End}
 use Rattle.m161_cpu.specs.Scene.{around, scene}
 use Rattle.m161_cpu.specs.Step.{Stepped, step_of}
-use Rattle.m161_cpu.proofs.Laws.{step_links}
+use Rattle.m161_cpu.proofs.Laws.{ran_on, step_links}
 use Rattle.m161_machine.specs.declared.conf.Conf.{Conf}
 use Rattle.m161_machine.specs.declared.event.Event.{Event}
 use Rattle.m161_machine.specs.declared.event.Event.TheVariants.{Step}
 use Rattle.m161_machine.specs.declared.event.Entry.{Entry}
 use Rattle.m161_machine.specs.declared.event.Refusal.{Refusal}
 use Rattle.m161_machine.specs.declared.event.Refusal.TheVariants.{Off, LogFull}
-use Rattle.m161_machine.specs.State.{Link, State, Parts, answer, live_links, next, parts_after, parts_of, processor_at, refusal, relinked, step_on, stepped, stores_after, with_board, with_step}
+use Rattle.m161_machine.specs.State.{Link, State, Parts, answer, live_links, next, parts_after, parts_of, processor_at, refusal, relinked, step_on, stepped, stores_after, unless, with_board, with_step}
 use Rattle.m161_machine.specs.History.{Start, History, outcomes_of, history, entry, Agrees, Answers, IsMade, IsSound, Refuses}
 use Rattle.m161_machine.proofs.Linking.{all_made, live_after}
 use Rattle.m161_machine.proofs.Replay.{replayed_more, history_more}
@@ -210,6 +210,20 @@ step_made m start log p before view a allows room after after_is number size boa
           (let R : Parts → Type 0 = λ ps. All (λ (q : Processor). q.count ≤ length log) ps.processors in subst R (sym a.parts_are) a.sound.counts));
     } in
     made_of m start log (Step p) o t before after view a gives room parts_are sound
+
+-- a Step whose outcome is Ran leaves the machine on
+ran_by : (r : Option Refusal) (s t : State) (p : ℕ) → unless r (answer s (Step p)) ≡ Ok (Ran, t) → t.board.off ≡ false
+unfolding stepped
+ran_by (Some r) s t p h = absurd (let bad : ◌≡◌ {A = Result (Outcome × State) Refusal} (Err r) (Ok (Ran, t)) = h in cc)
+ran_by None s t p h =
+    let x = step_of (scene (processor_at p s.processors) (around p s.memory s.board (live_links s.stores s.links))) in
+    let pair : ◌≡◌ {A = Outcome × State} (x.outcome, with_step p x s) (Ran, t) = cc in
+    let board_is : x.after.around.board ≡ t.board = ap (λ (y : Outcome × State). y.1.board) pair in
+    sym (ap (λ (b : BoardState). b.off) board_is) ∙ ran_on (scene (processor_at p s.processors) (around p s.memory s.board (live_links s.stores s.links))) (ap (λ (y : Outcome × State). y.0) pair)
+
+pub ran_is_on : (s t : State) (p : ℕ) (o : Outcome) → next s (Step p) ≡ Ok (o, t) → o ≡ Ran → t.board.off ≡ false
+unfolding next
+ran_is_on s t p o h ran = ran_by (refusal s (Step p)) s t p (h ∙ ap (λ (x : Outcome). Ok (x, t)) ran)
 
 -- the counts of a machine's processors
 pub counts_of : (h : History) (parts : Parts) → Agrees h parts → All (λ (q : Processor). q.count ≤ length h.log) parts.processors

@@ -176,12 +176,24 @@ impl<T: Tlb, D: Console> Machine<T, D> {
         let mut made = 0;
         while made < most {
             made += 1;
-            self.one_step(p);
-            if self.is_off() {
+            let outcome = self.one_step(p);
+            if self.went_off(outcome) {
                 return made;
             }
         }
         made
+    }
+
+    // Whether a Step with this outcome switched it off; where it ran there is no need to look.
+    #[inline(always)]
+    fn went_off(&self, outcome: Outcome) -> bool
+        requires { outcome ≡ Outcome.Ran → self.now.state.board.off ≡ false }
+        ensures { result ≡ self.now.state.board.off }
+    {
+        match outcome {
+            Outcome::Ran => false,
+            _ => self.is_off(),
+        }
     }
 
     // One Step, compiled into its one caller: the only place where a program has it.
@@ -191,6 +203,7 @@ impl<T: Tlb, D: Console> Machine<T, D> {
         requires on { self.old.state.board.off ≡ false }
         requires room { length self.old.log < self.old.start.conf.log }
         ensures answers { Answers self.old (events.Step p) (Ok result) self.new }
+        ensures ran { result ≡ Outcome.Ran → self.new.state.board.off ≡ false }
         ensures processors { length self.new.state.processors ≡ length self.old.state.processors }
     {
         let Machine {

@@ -1,7 +1,7 @@
 use Rattle.std.proofs.Common.{◌≡◌, ◌∙◌, refl, sym, length, arith}
 use Rattle.m161_machine.specs.declared.event.Event.TheVariants.{Step}
 use Rattle.m161_machine.specs.State.{Parts}
-use Rattle.m161_machine.proofs.Made.{counts_of, not_refused, step_made, Made}
+use Rattle.m161_machine.proofs.Made.{counts_of, not_refused, ran_is_on, step_made, Made}
 use Rattle.m161_machine.proofs.Booted.{log_is_short}
 use Rattle.m161_machine.specs.History.{history}
 use Rattle.m161_machine.proofs.machine.Machine.one_step.Given.{Over}
@@ -28,6 +28,11 @@ invariant_of-self g c =
 
 pub returns-clause-answers : goal.returns-clause-answers
 returns-clause-answers g c = let m = made g c in rw (c.push_reserved.ensures.items, c.of_step.ensures) m.answers
+
+pub returns-clause-ran : goal.returns-clause-ran
+returns-clause-ran g c =
+    let m = made g c in
+    rw (c.push_reserved.ensures.items, c.of_step.ensures) (ran_is_on c.args.self.now.state _ c.args.p c.step_parts-outcome.result m.answers.0)
 
 pub returns-clause-processors : goal.returns-clause-processors
 returns-clause-processors g c = let m = made g c in rw (c.push_reserved.ensures.items, c.of_step.ensures) m.same_number
