@@ -101,9 +101,10 @@ impl Ram {
         ensures { self.new ≡ with_half self.old address half }
     {
         let at = address as usize;
-        let bytes = half.to_be_bytes();
-        self.bytes[at] = bytes[0];
-        self.bytes[at + 1] = bytes[1];
+        let [first, second] = half.to_be_bytes();
+        let bytes = self.bytes.as_mut_slice();
+        bytes[at] = first;
+        bytes[at + 1] = second;
     }
 
     /// The word whose first byte is at a physical address.
@@ -128,10 +129,11 @@ impl Ram {
         ensures { self.new ≡ with_word self.old address word }
     {
         let at = address as usize;
-        let bytes = word.to_be_bytes();
-        self.bytes[at] = bytes[0];
-        self.bytes[at + 1] = bytes[1];
-        self.bytes[at + 2] = bytes[2];
-        self.bytes[at + 3] = bytes[3];
+        let [first, second, third, fourth] = word.to_be_bytes();
+        let bytes = self.bytes.as_mut_slice();
+        bytes[at] = first;
+        bytes[at + 1] = second;
+        bytes[at + 2] = third;
+        bytes[at + 3] = fourth;
     }
 }
