@@ -46,8 +46,8 @@ pub(crate) enum Register {
     Cram(u32, u32),
 }
 
-/// The register at a physical address, on a board with this number of processors. `None` where that isn't
-/// the address of an aligned word of the slots.
+/// The register at a physical address, on a board with this number of processors. `None` where
+/// that isn't the address of an aligned word of the slots.
 #[tactic(auto, unfolding(crate::specs::Registers::register_of))]
 pub(crate) fn register_of(at: u32, processors: u32) -> Option<Register>
     requires { processors ≤ 32 }

@@ -1,11 +1,13 @@
 //! Loads and stores.
 
-ghost use Rattle.std.specs.Prelude.{◌≡◌, ◌+◌, ◌-◌, ◌*◌, ◌/◌, ◌%◌, ◌^◌, ◌≤◌, ◌<◌, length, slice_index, Ok, Err};
+ghost use Rattle.std.specs.Prelude.{◌≡◌, ◌+◌, ◌-◌, ◌*◌, ◌/◌, ◌%◌, ◌^◌, ◌≤◌, ◌<◌, length, slice_index, Some, Ok, Err};
 ghost use Rattle.m161_isa.specs.declared.instr.Instr.TheVariants.{Load, Store};
 ghost use Rattle.m161_bus.specs.Board.{KeepsSize};
 ghost use Rattle.m161_alu.specs.Word.{sign_extended_half};
 ghost use Rattle.m161_cpu.specs.Effect.{word_stored};
 ghost use Rattle.m161_cpu.specs.Execute.{change_by, Executes, FindsWord};
+ghost use Rattle.m161_cpu.specs.Links.{after_store};
+ghost use Rattle.m161_cpu.specs.Processor.{advanced};
 ghost use Rattle.m161_cpu.specs.Scene.{here};
 ghost use Rattle.m161_cpu.specs.Translation.{read_word};
 
@@ -184,27 +186,23 @@ impl<T: Tlb> Cpu<T> {
             StoreOp::Byte => {
                 let at = self.reach(Access::Store, 1, address, size)?;
                 ram.set_byte(at, (word % 0x100) as u8);
-                links.store_to(at / 4 * 4);
-                self.advance(Flow::Next);
+                self.end_store(at / 4 * 4, links);
             }
             StoreOp::Half => {
                 let at = self.reach(Access::Store, 2, address, size)?;
                 ram.set_half(at, (word % 0x1_0000) as u16);
-                links.store_to(at / 4 * 4);
-                self.advance(Flow::Next);
+                self.end_store(at / 4 * 4, links);
             }
             StoreOp::Word => self.store_word(address, word, c, ram, board, links)?,
             StoreOp::WordLeft => {
                 let at = self.reach_word_of(Access::Store, address, size)?;
                 ram.set_word(at, merge_right(word, ram.word(at), 3 - address % 4));
-                links.store_to(at);
-                self.advance(Flow::Next);
+                self.end_store(at, links);
             }
             StoreOp::WordRight => {
                 let at = self.reach_word_of(Access::Store, address, size)?;
                 ram.set_word(at, merge_left(word, ram.word(at), 3 - address % 4));
-                links.store_to(at);
-                self.advance(Flow::Next);
+                self.end_store(at, links);
             }
             StoreOp::Conditional => {
                 let at = self.reach(Access::Store, 4, address, size)?;
@@ -218,6 +216,16 @@ impl<T: Tlb> Cpu<T> {
             }
         }
         Ok(())
+    }
+
+    // Goes on after a store to a word of RAM, which ends the links to it.
+    #[inline(always)]
+    fn end_store(&mut self, at: u32, links: &mut Links)
+        ensures processor { self.new ≡ advanced Flow.Next self.old }
+        ensures links { links.new ≡ after_store (Some at) links.old }
+    {
+        links.store_to(at);
+        self.advance(Flow::Next);
     }
 
     // Stores a word to RAM or to the slots.
@@ -242,8 +250,7 @@ impl<T: Tlb> Cpu<T> {
     {
         if let Some(at) = self.direct(4, address, ram.size()) {
             ram.set_word(at, word);
-            links.store_to(at);
-            self.advance(Flow::Next);
+            self.end_store(at, links);
             return Ok(());
         }
         self.store_word_elsewhere(address, word, c, ram, board, links)
@@ -271,8 +278,7 @@ impl<T: Tlb> Cpu<T> {
         let at = self.translate(Access::Store, 4, address)?;
         if u64::from(at) + 4 <= u64::from(ram.size()) {
             ram.set_word(at, word);
-            links.store_to(at);
-            self.advance(Flow::Next);
+            self.end_store(at, links);
             return Ok(());
         }
         match board.write(c, at, word) {

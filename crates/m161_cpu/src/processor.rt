@@ -186,8 +186,8 @@ impl<T: Tlb> Cpu<T> {
         self.control.tick();
     }
 
-    /// Whether it rests in this Step, in which the board's lines of it are these. A stopped one only
-    /// counts; a waiting one ticks, or runs again where an interrupt is pending.
+    /// Whether it rests in this Step, in which the board's lines of it are these. A stopped one
+    /// only counts; a waiting one ticks, or runs again where an interrupt is pending.
     #[inline(always)]
     #[tactic(auto, unfolding(crate::specs::Step::step_of))]
     pub(crate) fn rests(&mut self, lines: u32) -> bool

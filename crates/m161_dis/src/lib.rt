@@ -2,7 +2,7 @@
 //!
 //! ```text
 //! nop                      the word 00000000
-//! addu $10, $8, $9         a canonical word: its row's name, and its operands as the table lists them
+//! addu $10, $8, $9         a canonical word: its row's name and its operands, in the table's order
 //! lw $12, -4($29)          an offset with its sign, in decimal, before its base
 //! ori $8, $8, 0x5678       an unsigned immediate: four hexadecimal digits
 //! beq $8, $0, 0x80000200   a target: the address, eight digits
@@ -42,7 +42,8 @@ pub fn line(alloc: Global, word: u32, at: u32) -> Result<String, AllocError>
 
 // A word other than `nop`: by its row, or as data.
 fn write_word(text: &mut String, word: u32, at: u32) -> Result<(), AllocError>
-    ensures { OnOk result (string_bytes text.new ≡ string_bytes text.old ++ canon_by word at (canonical_row word)) }
+    ensures { OnOk result (string_bytes text.new
+        ≡ string_bytes text.old ++ canon_by word at (canonical_row word)) }
 {
     match row_if_canonical(word) {
         Some(row) => {
@@ -76,7 +77,8 @@ fn write_operands(
     word: u32,
     at: u32,
 ) -> Result<(), AllocError>
-    ensures { OnOk result (string_bytes text.new ≡ string_bytes text.old ++ operands_text word at lead.now operands.now) }
+    ensures { OnOk result (string_bytes text.new
+        ≡ string_bytes text.old ++ operands_text word at lead.now operands.now) }
 {
     match operands {
         [] => Ok(()),
@@ -96,7 +98,8 @@ fn write_operand(
     at: u32,
 ) -> Result<(), AllocError>
     requires { number < 2 ^ width_of operand }
-    ensures { OnOk result (string_bytes text.new ≡ string_bytes text.old ++ lead_of operand lead.now ++ operand_text at operand number) }
+    ensures { OnOk result (string_bytes text.new
+        ≡ string_bytes text.old ++ lead_of operand lead.now ++ operand_text at operand number) }
 {
     match operand {
         Operand::Rd | Operand::Rs | Operand::Rt | Operand::Cop0 => write!(text, "{lead}${number}"),
@@ -137,7 +140,8 @@ fn write_signed(text: &mut String, number: u32) -> Result<(), AllocError>
 // `0x` and the last digits of a number.
 fn write_hex_number(text: &mut String, digits: u32, number: u32) -> Result<(), AllocError>
     requires { digits ≤ 8 }
-    ensures { OnOk result (string_bytes text.new ≡ string_bytes text.old ++ hex_number digits number) }
+    ensures { OnOk result (string_bytes text.new
+        ≡ string_bytes text.old ++ hex_number digits number) }
 {
     text.push_str("0x")?;
     let mut left = digits;

@@ -15,8 +15,8 @@ abbrev pub is_in_ram : ℕ → ℕ → ℕ → Bool
 is_in_ram ram address size = option_map_or (λ at. nat_le (at + size) (min ram (2 ^ 29))) (unmapped address) false
 
 -- the physical byte that an address names; 0 for one outside kseg0 and kseg1, which no segment with memory has
-abbrev pub place_of : ℕ → ℕ
-place_of address = option_map_or (λ at. at) (unmapped address) 0
+abbrev pub place_in_ram : ℕ → ℕ
+place_in_ram address = option_map_or (λ at. at) (unmapped address) 0
 
 -- the faults, in their order
 
@@ -75,12 +75,12 @@ first_fault file ram =
 
 -- the segment has a byte at this physical address
 abbrev pub covers : ℕ → ProgramHeader → Bool
-covers at s = nat_le (place_of s.p_vaddr) at && nat_lt at (place_of s.p_vaddr + s.p_memsz)
+covers at s = nat_le (place_in_ram s.p_vaddr) at && nat_lt at (place_in_ram s.p_vaddr + s.p_memsz)
 
 -- that byte: the file's, or zero past the file's part
 abbrev pub segment_byte : List ℕ → ℕ → ProgramHeader → ℕ
 segment_byte file at s =
-    if nat_lt at (place_of s.p_vaddr + s.p_filesz) then slice_index file (s.p_offset + (at - place_of s.p_vaddr)) else 0
+    if nat_lt at (place_in_ram s.p_vaddr + s.p_filesz) then slice_index file (s.p_offset + (at - place_in_ram s.p_vaddr)) else 0
 
 -- the byte at a physical address that segments leave: that of the last one that has a byte there, or 0
 abbrev pub byte_left : List ℕ → List ProgramHeader → ℕ → ℕ

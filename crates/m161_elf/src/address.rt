@@ -1,7 +1,7 @@
 //! The addresses of RAM.
 
 ghost use Rattle.std.specs.Prelude.{◌≡◌};
-ghost use Rattle.m161_elf.specs.Image.{is_in_ram, place_of};
+ghost use Rattle.m161_elf.specs.Image.{is_in_ram, place_in_ram};
 
 use m161_isa::unmapped;
 
@@ -17,8 +17,8 @@ pub(crate) fn is_in_ram(ram: u32, address: u32, size: u32) -> bool
 }
 
 /// The physical byte that an address names; 0 for one outside kseg0 and kseg1.
-pub(crate) fn place_of(address: u32) -> u32
-    ensures { result ≡ place_of address }
+pub(crate) fn place_in_ram(address: u32) -> u32
+    ensures { result ≡ place_in_ram address }
 {
     unmapped(address).unwrap_or(0)
 }

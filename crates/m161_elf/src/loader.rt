@@ -7,7 +7,7 @@ ghost use Rattle.m161_elf.specs.Image.{byte_left, first_fault, has_bad_header_ta
 ghost use Rattle.m161_elf.specs.Sound.{IsSound, IsSoundSegment};
 ghost use Rattle.m161_elf.specs.Span.{span_at, Lists};
 
-use crate::address::place_of;
+use crate::address::place_in_ram;
 use crate::fault::fault;
 use crate::header::{E_ENTRY, ProgramHeader, e_phnum, file_word, segment};
 use crate::image::{Image, LoadError};
@@ -65,7 +65,7 @@ fn copy_bytes(memory: &mut [u8], file: &[u8], segment: &ProgramHeader)
     if segment.p_filesz == 0 {
         return;
     }
-    let start = place_of(segment.p_vaddr) as usize;
+    let start = place_in_ram(segment.p_vaddr) as usize;
     let offset = segment.p_offset as usize;
     let size = segment.p_filesz as usize;
     memory[start..start + size].copy_from_slice(&file[offset..offset + size]);
@@ -81,7 +81,7 @@ fn clear_rest(memory: &mut [u8], segment: &ProgramHeader)
     if segment.p_memsz == 0 {
         return;
     }
-    let start = place_of(segment.p_vaddr) as usize;
+    let start = place_in_ram(segment.p_vaddr) as usize;
     let rest = start + segment.p_filesz as usize;
     let end = start + segment.p_memsz as usize;
     memory[rest..end].fill(0);

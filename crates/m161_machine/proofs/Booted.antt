@@ -12,7 +12,7 @@ use Rattle.m161_cpu.specs.Links.{no_links}
 use Rattle.m161_machine.specs.declared.conf.Conf.{Conf}
 use Rattle.m161_machine.specs.declared.event.Entry.{Entry}
 use Rattle.m161_machine.specs.Conf.{is_within_limits}
-use Rattle.m161_machine.specs.State.{Parts}
+use Rattle.m161_machine.specs.Parts.{Parts}
 use Rattle.m161_machine.specs.History.{Start, history, IsLoaded, Agrees, IsMade}
 
 -- what a load answers with an image says of the file

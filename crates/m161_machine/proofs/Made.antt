@@ -17,7 +17,8 @@ use Rattle.m161_machine.specs.declared.event.Event.TheVariants.{Step}
 use Rattle.m161_machine.specs.declared.event.Entry.{Entry}
 use Rattle.m161_machine.specs.declared.event.Refusal.{Refusal}
 use Rattle.m161_machine.specs.declared.event.Refusal.TheVariants.{Off, LogFull}
-use Rattle.m161_machine.specs.State.{Link, State, Parts, answer, live_links, next, parts_after, parts_of, processor_at, refusal, relinked, step_on, stepped, stores_after, unless, with_board, with_step}
+use Rattle.m161_machine.specs.State.{Link, State, answer, live_links, next, processor_at, refusal, relinked, stepped, stores_after, unless, with_board, with_step}
+use Rattle.m161_machine.specs.Parts.{Parts, parts_after, parts_of, step_on}
 use Rattle.m161_machine.specs.History.{Start, History, outcomes_of, history, entry, Agrees, Answers, IsMade, IsSound, Refuses}
 use Rattle.m161_machine.proofs.Linking.{all_made, live_after}
 use Rattle.m161_machine.proofs.Replay.{replayed_more, history_more}

@@ -14,7 +14,8 @@ use Rattle.m161_bus.specs.Console.{console_at_boot}
 use Rattle.m161_bus.specs.Board.{board_at_boot}
 use Rattle.m161_machine.specs.declared.event.Event.TheVariants.{Done}
 use Rattle.m161_machine.specs.declared.event.Refusal.TheVariants.{NoMemory as NoMemoryRefusal}
-use Rattle.m161_machine.specs.State.{CountUpTo, Link, State, Parts, parts_of, next}
+use Rattle.m161_machine.specs.State.{Link, State, next}
+use Rattle.m161_machine.specs.Parts.{CountUpTo, Parts, parts_of}
 
 -- What a machine is: the replay of its log.
 

@@ -3,3 +3,4 @@ pub mod Conf
 pub mod State
 pub mod History
 pub mod Kept
+pub mod Parts

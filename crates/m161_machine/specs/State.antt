@@ -1,4 +1,4 @@
-use Rattle.std.specs.Prelude.{◌≡◌, ℕ, ◌+◌, ◌/◌, ◌%◌, ◌^◌, ◌≤◌, Bool, true, false, not, nat_le, ◌==◌, ◌&&◌, ◌||◌, if◌then◌else◌, List, [], ◌∷◌, ◌++◌, drop, length, map, slice_index_or, slice_set, Option, None, Some, Result, Ok, Err, All}
+use Rattle.std.specs.Prelude.{◌≡◌, ℕ, ◌+◌, ◌/◌, ◌%◌, ◌^◌, ◌≤◌, Bool, true, false, not, nat_le, ◌==◌, ◌&&◌, ◌||◌, if◌then◌else◌, List, [], ◌∷◌, ◌++◌, drop, length, map, slice_index_or, slice_set, Option, None, Some, Result, Ok, Err}
 use Rattle.m161_ram.specs.Word.{word_at}
 use Rattle.m161_bus.specs.declared.console.DoneError.{DoneError}
 use Rattle.m161_bus.specs.declared.console.DoneError.TheVariants as done
@@ -144,36 +144,3 @@ next s e = unless (refusal s e) (answer s e)
 -- the word at a physical address, where it is aligned and within RAM
 abbrev pub word_in : List ℕ → ℕ → Option ℕ
 word_in memory at = if (at % 4 == 0) && nat_le (at + 4) (length memory) then Some (word_at memory at) else None
-
--- the parts of a state that a machine keeps; of a link only its word, where it is live
-pub record Parts : Type 0 where
-  pub processors : List Processor
-  pub memory : List ℕ
-  pub board : BoardState
-  pub links : List (Option ℕ)
-
-abbrev pub parts : List Processor → List ℕ → BoardState → List (Option ℕ) → Parts
-parts processors memory board links =
-    record { processors = processors; memory = memory; board = board; links = links }
-
-abbrev pub parts_of : State → Parts
-parts_of s = record { processors = s.processors; memory = s.memory; board = s.board; links = live_links s.stores s.links }
-
--- a Step of processor p on these parts
-abbrev pub step_on : ℕ → Parts → Stepped
-step_on p parts = step_of (scene (processor_at p parts.processors) (around p parts.memory parts.board parts.links))
-
-abbrev pub parts_after : ℕ → Stepped → Parts → Parts
-parts_after p x parts = record {
-  processors = with_starts parts.board.started x.after.around.board 0 (slice_set parts.processors p x.after.processor);
-  memory = x.after.around.memory;
-  board = x.after.around.board;
-  links = x.after.around.links;
-}
-
-abbrev pub stepped_parts : ℕ → Parts → Parts
-stepped_parts p before = parts_after p (step_on p before) before
-
--- each of these processors has made n Steps at most
-abbrev pub CountUpTo : ℕ → List Processor → Type 0
-CountUpTo n processors = All (λ (p : Processor). p.count ≤ n) processors

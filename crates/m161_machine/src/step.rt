@@ -3,7 +3,8 @@
 ghost use Rattle.std.specs.Prelude.{◌≡◌, ◌+◌, ◌-◌, ◌^◌, ◌<◌, ◌≤◌, length, ℕ};
 ghost use Rattle.m161_bus.specs.Board.{KeepsSize};
 ghost use Rattle.m161_cpu.specs.Step.{IsProper};
-ghost use Rattle.m161_machine.specs.State.{CountUpTo, parts, started_by, step_on, stepped_parts, with_starts};
+ghost use Rattle.m161_machine.specs.State.{started_by, with_starts};
+ghost use Rattle.m161_machine.specs.Parts.{CountUpTo, parts, step_on, stepped_parts};
 
 use m161_bus::{Board, Console};
 use m161_cpu::{Cpu, Links, Outcome};

@@ -49,7 +49,8 @@ impl Cop0 {
     }
 }
 
-// The age at which a tick brings Count to Compare; 0 where Compare is zero or no age is large enough.
+// The age at which a tick brings Count to Compare; 0 where Compare is zero or no age is large
+// enough.
 fn fire(age: u64, offset: u32, compare: u32) -> u64
     ensures { IsFire age offset compare result }
 {

@@ -18,8 +18,8 @@ impl<T: Tlb> Cpu<T> {
         self.registers[register.index()]
     }
 
-    /// A register of coprocessor 0, where the board's lines of this processor are these (Cause shows
-    /// them).
+    /// A register of coprocessor 0, where the board's lines of this processor are these (Cause
+    /// shows them).
     pub fn cop(&self, register: Register, lines: u32) -> u32
         ensures { result ≡ read_of (number_of_register register) lines self.now.control }
     {

@@ -4,7 +4,7 @@ use Rattle.m161_bus.specs.Board.{board_done}
 use Rattle.m161_bus.specs.Outcome.{LeavesUnlessNoMemory}
 use Rattle.m161_machine.specs.declared.event.Event.TheVariants.{Key, Done}
 use Rattle.m161_cpu.specs.declared.processor.Outcome.TheVariants.{Taken}
-use Rattle.m161_machine.specs.State.{Parts}
+use Rattle.m161_machine.specs.Parts.{Parts}
 use Rattle.m161_machine.specs.History.{Start}
 use Rattle.m161_machine.proofs.Inputs.{key_accepted, key_refused, done_accepted, done_refused}
 use Rattle.m161_machine.proofs.Made.{refused, input_made, input_refused, Made}
