@@ -1,7 +1,9 @@
 /* A plain interpreter of the benchmark's loop, to compare the machine with: one switch on the
- * opcode and one on the function, addresses checked for alignment and for RAM, one delay slot,
- * and a log entry written each step. The arguments are a number of runs and, unless it is
- * 1,000,000, the number of steps of each. */
+ * opcode and one on the function, addresses checked for alignment, for RAM and for user mode, one
+ * delay slot, a test for an interrupt, a tick that may raise the timer, the links that a store
+ * ends, the power switch, and a log entry written each step. What a trap, a wait or a link would
+ * need ends the run, since the loop meets none. The arguments are a number of runs and, unless it
+ * is 1,000,000, the number of steps of each. */
 #include <stdint.h>
 #include <stdio.h>
 #include <stdlib.h>
@@ -12,12 +14,15 @@
 
 struct cpu {
     uint32_t r[32], hi, lo, pc, next;
-    int slot;
-    uint64_t count;
+    int slot, waiting;
+    uint32_t status, ip, mask; /* IP and, where interrupts are on, IM, in Cause's places */
+    uint64_t count, fire;      /* the steps so far, and the one that raises the timer */
 };
 
 struct machine {
     struct cpu cpu;
+    uint32_t lines; /* the bus's lines, in Cause's places */
+    int off, linked;
     uint8_t *ram;
     uint32_t *log; /* four bytes an entry: the processor, and what its step came to */
     uint32_t log_len, log_room;
@@ -37,8 +42,8 @@ static void put_word(uint8_t *p, uint32_t w) {
 }
 
 /* The place in RAM of an access of so many bytes, or -1. */
-static int64_t place(uint32_t address, uint32_t width) {
-    if (address < 0x80000000u || address >= 0xc0000000u || address % width)
+static int64_t place(const struct cpu *c, uint32_t address, uint32_t width) {
+    if (address < 0x80000000u || address >= 0xc0000000u || address % width || c->status & 2)
         return -1;
     uint32_t at = address & 0x1fffffffu;
     return (uint64_t)at + width <= RAM ? (int64_t)at : -1;
@@ -47,9 +52,11 @@ static int64_t place(uint32_t address, uint32_t width) {
 /* One step; 0 where it would trap. */
 static int step(struct machine *m) {
     struct cpu *c = &m->cpu;
-    if (m->log_len >= m->log_room)
+    if (m->off || m->log_len >= m->log_room || c->waiting)
         return 0;
-    int64_t at = place(c->pc, 4);
+    if ((c->ip | m->lines) & c->mask)
+        return 0;
+    int64_t at = place(c, c->pc, 4);
     if (at < 0)
         return 0;
     uint32_t w = get_word(m->ram + at);
@@ -121,13 +128,13 @@ static int step(struct machine *m) {
     case 14: d = rt, value = s ^ i; break;
     case 15: d = rt, value = i << 16; break;
     case 32:
-        if ((at = place(s + si, 1)) < 0)
+        if ((at = place(c, s + si, 1)) < 0)
             return 0;
         d = rt, value = (uint32_t)(int8_t)m->ram[at];
         break;
     case 33:
     case 37:
-        if ((at = place(s + si, 2)) < 0)
+        if ((at = place(c, s + si, 2)) < 0)
             return 0;
         value = (uint32_t)m->ram[at] << 8 | m->ram[at + 1];
         if (w >> 26 == 33)
@@ -135,29 +142,35 @@ static int step(struct machine *m) {
         d = rt;
         break;
     case 35:
-        if ((at = place(s + si, 4)) < 0)
+        if ((at = place(c, s + si, 4)) < 0)
             return 0;
         d = rt, value = get_word(m->ram + at);
         break;
     case 36:
-        if ((at = place(s + si, 1)) < 0)
+        if ((at = place(c, s + si, 1)) < 0)
             return 0;
         d = rt, value = m->ram[at];
         break;
     case 40:
-        if ((at = place(s + si, 1)) < 0)
+        if ((at = place(c, s + si, 1)) < 0)
             return 0;
         m->ram[at] = t;
+        if (m->linked)
+            return 0;
         break;
     case 41:
-        if ((at = place(s + si, 2)) < 0)
+        if ((at = place(c, s + si, 2)) < 0)
             return 0;
         m->ram[at] = t >> 8, m->ram[at + 1] = t;
+        if (m->linked)
+            return 0;
         break;
     case 43:
-        if ((at = place(s + si, 4)) < 0)
+        if ((at = place(c, s + si, 4)) < 0)
             return 0;
         put_word(m->ram + at, t);
+        if (m->linked)
+            return 0;
         break;
     default: return 0;
     }
@@ -168,28 +181,35 @@ static int step(struct machine *m) {
     c->pc = c->next;
     c->next = target;
     c->slot = slot;
-    c->count++;
+    if (++c->count == c->fire)
+        return 0;
     m->log[m->log_len++] = 0;
     return 1;
 }
 
 static int run(uint32_t room, uint32_t *word, uint64_t *steps) {
-    struct machine m = {.cpu = {.pc = 0x80000200u, .next = 0x80000204u}, .log_room = room};
-    m.ram = calloc(RAM, 1);
-    m.log = malloc((size_t)room * sizeof *m.log);
-    if (!m.ram || !m.log)
+    struct machine *m = calloc(1, sizeof *m);
+    if (!m)
+        return 0;
+    m->cpu.pc = 0x80000200u, m->cpu.next = 0x80000204u;
+    m->log_room = room;
+    m->ram = calloc(RAM, 1);
+    m->log = malloc((size_t)room * sizeof *m->log);
+    if (!m->ram || !m->log)
         return 0;
     for (size_t i = 0; i < sizeof program / sizeof *program; i++)
-        put_word(m.ram + 0x200 + 4 * i, program[i]);
+        put_word(m->ram + 0x200 + 4 * i, program[i]);
+    /* the machine is read and written elsewhere, for all that the compiler knows */
+    __asm__ volatile("" : : "r"(m) : "memory");
     for (uint32_t i = 0; i < room; i++)
-        if (!step(&m))
+        if (!step(m))
             break;
-    /* the log is read, for all that the compiler knows */
-    __asm__ volatile("" : : "r"(m.log) : "memory");
-    *word += m.cpu.r[17];
-    *steps += m.cpu.count;
-    free(m.ram);
-    free(m.log);
+    __asm__ volatile("" : : "r"(m) : "memory");
+    *word += m->cpu.r[17];
+    *steps += m->cpu.count;
+    free(m->ram);
+    free(m->log);
+    free(m);
     return 1;
 }
 

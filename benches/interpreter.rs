@@ -1,7 +1,9 @@
 //! A plain interpreter of the benchmark's loop in safe Rust, to compare the machine with: one match
-//! on the opcode and one on the function, addresses checked for alignment and for RAM, one delay
-//! slot, and a log entry written each step. The arguments are a number of runs and, unless it is
-//! 1,000,000, the number of steps of each.
+//! on the opcode and one on the function, addresses checked for alignment, for RAM and for user
+//! mode, one delay slot, a test for an interrupt, a tick that may raise the timer, the links that a
+//! store ends, the power switch, and a log entry written each step. What a trap, a wait or a link
+//! would need ends the run, since the loop meets none. The arguments are a number of runs and,
+//! unless it is 1,000,000, the number of steps of each.
 use std::hint::black_box;
 use std::time::Instant;
 
@@ -19,22 +21,36 @@ struct Machine {
     pc: u32,
     next: u32,
     slot: bool,
+    waiting: bool,
+    status: u32,
+    /// IP and, where interrupts are on, IM, in Cause's places.
+    ip: u32,
+    mask: u32,
+    /// The steps so far, and the one that raises the timer.
     count: u64,
+    fire: u64,
+    /// The bus's lines, in Cause's places.
+    lines: u32,
+    off: bool,
+    linked: bool,
     ram: Vec<u8>,
     log: Vec<u32>,
     room: usize,
 }
 
-/// The place in RAM of an access of `width` bytes.
-fn place(address: u32, width: u32) -> Option<usize> {
-    if !(0x8000_0000..0xc000_0000).contains(&address) || address % width != 0 {
-        return None;
-    }
-    let at = address & 0x1fff_ffff;
-    (at <= RAM - width).then_some(at as usize)
-}
-
 impl Machine {
+    /// The place in RAM of an access of `width` bytes.
+    fn place(&self, address: u32, width: u32) -> Option<usize> {
+        if !(0x8000_0000..0xc000_0000).contains(&address)
+            || address % width != 0
+            || self.status & 2 != 0
+        {
+            return None;
+        }
+        let at = address & 0x1fff_ffff;
+        (at <= RAM - width).then_some(at as usize)
+    }
+
     fn word(&self, at: usize) -> Option<u32> {
         let bytes = self.ram.get(at..at + 4)?;
         Some(u32::from_be_bytes(bytes.try_into().ok()?))
@@ -42,15 +58,18 @@ impl Machine {
 
     fn set(&mut self, at: usize, bytes: &[u8]) -> Option<()> {
         self.ram.get_mut(at..at + bytes.len())?.copy_from_slice(bytes);
-        Some(())
+        (!self.linked).then_some(())
     }
 
     /// One step; `None` where it would trap.
     fn step(&mut self) -> Option<()> {
-        if self.log.len() >= self.room {
+        if self.off || self.log.len() >= self.room || self.waiting {
             return None;
         }
-        let w = self.word(place(self.pc, 4)?)?;
+        if (self.ip | self.lines) & self.mask != 0 {
+            return None;
+        }
+        let w = self.word(self.place(self.pc, 4)?)?;
         let (s, t) = (self.r[(w >> 21 & 31) as usize], self.r[(w >> 16 & 31) as usize]);
         let (i, si, sa) = (w & 0xffff, w as u16 as i16 as u32, w >> 6 & 31);
         let (rt, rd) = ((w >> 16 & 31) as usize, (w >> 11 & 31) as usize);
@@ -119,18 +138,18 @@ impl Machine {
             13 => write = Some((rt, s | i)),
             14 => write = Some((rt, s ^ i)),
             15 => write = Some((rt, i << 16)),
-            32 => write = Some((rt, *self.ram.get(place(address, 1)?)? as i8 as u32)),
+            32 => write = Some((rt, *self.ram.get(self.place(address, 1)?)? as i8 as u32)),
             33 | 37 => {
-                let at = place(address, 2)?;
+                let at = self.place(address, 2)?;
                 let half = u16::from_be_bytes(self.ram.get(at..at + 2)?.try_into().ok()?);
                 let value = if w >> 26 == 33 { half as i16 as u32 } else { u32::from(half) };
                 write = Some((rt, value));
             }
-            35 => write = Some((rt, self.word(place(address, 4)?)?)),
-            36 => write = Some((rt, u32::from(*self.ram.get(place(address, 1)?)?))),
-            40 => self.set(place(address, 1)?, &[t as u8])?,
-            41 => self.set(place(address, 2)?, &(t as u16).to_be_bytes())?,
-            43 => self.set(place(address, 4)?, &t.to_be_bytes())?,
+            35 => write = Some((rt, self.word(self.place(address, 4)?)?)),
+            36 => write = Some((rt, u32::from(*self.ram.get(self.place(address, 1)?)?))),
+            40 => self.set(self.place(address, 1)?, &[t as u8])?,
+            41 => self.set(self.place(address, 2)?, &(t as u16).to_be_bytes())?,
+            43 => self.set(self.place(address, 4)?, &t.to_be_bytes())?,
             _ => return None,
         }
         if let Some(taken) = branch {
@@ -147,6 +166,9 @@ impl Machine {
         }
         (self.pc, self.next, self.slot) = (self.next, target, slot);
         self.count += 1;
+        if self.count == self.fire {
+            return None;
+        }
         self.log.push(0);
         Some(())
     }
@@ -154,18 +176,27 @@ impl Machine {
 
 /// The last word of a run, and how many steps it made.
 fn run(steps: u32) -> (u32, u64) {
-    let mut machine = Machine {
+    // it is made and read elsewhere, for all that the compiler knows
+    let mut machine = black_box(Machine {
         r: [0; 32],
         hi: 0,
         lo: 0,
         pc: 0x8000_0200,
         next: 0x8000_0204,
         slot: false,
+        waiting: false,
+        status: 0,
+        ip: 0,
+        mask: 0,
         count: 0,
+        fire: 0,
+        lines: 0,
+        off: false,
+        linked: false,
         ram: vec![0; RAM as usize],
         log: Vec::with_capacity(steps as usize),
         room: steps as usize,
-    };
+    });
     for (i, word) in PROGRAM.iter().enumerate() {
         let at = 0x200 + 4 * i;
         machine.ram[at..at + 4].copy_from_slice(&word.to_be_bytes());
@@ -175,7 +206,7 @@ fn run(steps: u32) -> (u32, u64) {
             break;
         }
     }
-    black_box(&machine.log);
+    black_box(&machine);
     (machine.r[17], machine.count)
 }
 

@@ -1,9 +1,10 @@
 //! The machine's side of the benchmark: Steps through a loop of loads, stores, shifts, sums and a
 //! branch with its slot, the log's entry written each Step.
 //!
-//! The arguments are a number of runs and, unless it is 1,000,000, the number of Steps of each.
-//! Each run boots the image anew, with a log of that size, and makes the Steps. The sum of the
-//! runs' last words goes to standard output, and the nanoseconds that they took to standard error.
+//! The arguments are a number of runs, then, unless it is 1,000,000, the number of Steps of each,
+//! and then, unless the loop runs in kseg0, the row of the TLB that maps it. Each run boots the
+//! image anew, with a log of that size, and makes the Steps. The sum of the runs' last words goes
+//! to standard output, and the nanoseconds that they took to standard error.
 //!
 //! As a user's program does, this one also calls `decode` and makes a Step by itself, so that the
 //! compiler has the same reasons to inline the loop of Steps or not.
@@ -52,6 +53,47 @@ static IMAGE: [u8; 140] = [
     0xa2, 0x0d, 0x00, 0x04, 0x16, 0x40, 0xff, 0xf5, 0x02, 0x32, 0x88, 0x21,
 ];
 
+/// An ELF file of one segment at 80000fd4: a program that maps the page of the same loop, at
+/// 00400000, and jumps there. The loop's data is in its page, behind it.
+///
+/// ```text
+///       lui $8, 0x0040
+///       mtc0 $8, $10            EntryHi
+///       ori $9, $0, 0x1700
+///       mtc0 $9, $2             EntryLo: frame 1, writable, valid, global
+///       ori $10, $0, 0          the row, in the upper byte
+///       mtc0 $10, $0            Index
+///       tlbwi
+///       lui $16, 0x0040
+///       ori $16, $16, 0x0800
+///       jr $8
+///       nop
+/// loop:
+/// ```
+static MAPPED_IMAGE: [u8; 176] = [
+    0x7f, 0x45, 0x4c, 0x46, 0x01, 0x02, 0x01, 0x00, 0x00, 0x00, 0x00, 0x00, 0x00, 0x00, 0x00, 0x00,
+    0x00, 0x02, 0x00, 0x08, 0x00, 0x00, 0x00, 0x01, 0x80, 0x00, 0x0f, 0xd4, 0x00, 0x00, 0x00, 0x34,
+    0x00, 0x00, 0x00, 0x00, 0x00, 0x00, 0x00, 0x00, 0x00, 0x34, 0x00, 0x20, 0x00, 0x01, 0x00, 0x00,
+    0x00, 0x00, 0x00, 0x00, 0x00, 0x00, 0x00, 0x01, 0x00, 0x00, 0x00, 0x54, 0x80, 0x00, 0x0f, 0xd4,
+    0x80, 0x00, 0x0f, 0xd4, 0x00, 0x00, 0x00, 0x5c, 0x00, 0x00, 0x00, 0x5c, 0x00, 0x00, 0x00, 0x07,
+    0x00, 0x00, 0x00, 0x04, 0x3c, 0x08, 0x00, 0x40, 0x40, 0x88, 0x50, 0x00, 0x34, 0x09, 0x17, 0x00,
+    0x40, 0x89, 0x10, 0x00, 0x34, 0x0a, 0x00, 0x00, 0x40, 0x8a, 0x00, 0x00, 0x42, 0x00, 0x00, 0x02,
+    0x3c, 0x10, 0x00, 0x40, 0x36, 0x10, 0x08, 0x00, 0x01, 0x00, 0x00, 0x08, 0x00, 0x00, 0x00, 0x00,
+    0x8e, 0x08, 0x00, 0x00, 0x01, 0x11, 0x48, 0x21, 0x00, 0x09, 0x50, 0xc0, 0x00, 0x09, 0x59, 0x42,
+    0x01, 0x4b, 0x48, 0x26, 0xae, 0x09, 0x00, 0x00, 0x92, 0x0c, 0x00, 0x02, 0x26, 0x52, 0x00, 0x01,
+    0x01, 0x89, 0x68, 0x2a, 0xa2, 0x0d, 0x00, 0x04, 0x16, 0x40, 0xff, 0xf5, 0x02, 0x32, 0x88, 0x21,
+];
+
+/// The place of the row's number in `MAPPED_IMAGE`.
+const ROW: usize = 102;
+
+// The image of the loop mapped by a row.
+fn mapped_by(row: u8) -> [u8; 176] {
+    let mut image = MAPPED_IMAGE;
+    image[ROW] = row;
+    image
+}
+
 // Whether each word of the program has a row.
 fn is_program() -> bool {
     IMAGE[84..].chunks_exact(4).all(|bytes| {
@@ -63,13 +105,13 @@ fn is_program() -> bool {
 }
 
 // The last word of a run, and how many Steps it made; the first one by itself.
-fn run(alloc: Global, steps: u32) -> Option<(u32, u64)> {
+fn run(alloc: Global, image: &[u8], steps: u32) -> Option<(u32, u64)> {
     let conf = Conf {
         ram: 65_536,
         processors: 1,
         log: steps,
     };
-    let mut machine: Machine<Scan, PlainConsole> = Machine::boot(alloc, &IMAGE, conf).ok()?;
+    let mut machine: Machine<Scan, PlainConsole> = Machine::boot(alloc, image, conf).ok()?;
     machine.step(0).ok()?;
     let _ = machine.steps(0, steps);
     if machine.processors() == 0 {
@@ -79,29 +121,50 @@ fn run(alloc: Global, steps: u32) -> Option<(u32, u64)> {
 }
 
 // The sums of the words and the Steps of some runs.
-fn runs(alloc: Global, times: u32, steps: u32) -> Option<(u32, u64)> {
+fn runs(alloc: Global, image: &[u8], times: u32, steps: u32) -> Option<(u32, u64)> {
     let mut word = 0u32;
     let mut count = 0u64;
     for _ in 0..times {
-        let (last, made) = run(alloc, steps)?;
+        let (last, made) = run(alloc, image, steps)?;
         word = word.wrapping_add(last);
         count = count.saturating_add(made);
     }
     Some((word, count))
 }
 
-// The numbers in the first two arguments: of the runs, and of the Steps of each.
-fn arguments(rt: &HostRuntime) -> Option<(u32, u32)> {
+/// What the arguments ask for.
+#[derive(Clone, Copy)]
+struct Task {
+    runs: u32,
+    steps: u32,
+    row: Option<u8>,
+}
+
+// The numbers in the first three arguments.
+fn arguments(rt: &HostRuntime) -> Option<Task> {
     let mut words = env::args(rt).ok()?.skip(1);
-    let times = words.next()?.parse().ok()?;
-    match words.next() {
-        Some(steps) => Some((times, steps.parse().ok()?)),
-        None => Some((times, STEPS)),
+    let runs = words.next()?.parse().ok()?;
+    let steps = match words.next() {
+        Some(steps) => steps.parse().ok()?,
+        None => STEPS,
+    };
+    let row = match words.next() {
+        Some(row) => Some(row.parse().ok()?),
+        None => None,
+    };
+    Some(Task { runs, steps, row })
+}
+
+// The words and the Steps of the runs.
+fn make(alloc: Global, task: &Task) -> Option<(u32, u64)> {
+    match task.row {
+        Some(row) => runs(alloc, &mapped_by(row), task.runs, task.steps),
+        None => runs(alloc, &IMAGE, task.runs, task.steps),
     }
 }
 
 fn main(rt: HostRuntime) -> ExitCode {
-    let Some((times, steps)) = arguments(&rt) else {
+    let Some(task) = arguments(&rt) else {
         return ExitCode::from(2);
     };
     if !is_program() {
@@ -110,7 +173,7 @@ fn main(rt: HostRuntime) -> ExitCode {
     let Ok(start) = Instant::now(&rt) else {
         return ExitCode::from(1);
     };
-    let Some((word, count)) = runs(rt.alloc(), times, steps) else {
+    let Some((word, count)) = make(rt.alloc(), &task) else {
         return ExitCode::from(1);
     };
     let Ok(took) = start.elapsed(&rt) else {
