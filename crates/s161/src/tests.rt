@@ -1,7 +1,8 @@
 //! Tests of all crates, with words, texts and registers from outside the program. A file is named
 //! for the crate that it tests; `instructions` and `programs` run words on a machine. A worked row
-//! goes into `programs`, or with other events into `traps`, `cop0`, `tlb`, `bus` or `processors`, in
-//! the form that `listing` says. `sample` runs a whole small kernel of two processors.
+//! goes into `programs`, or with other events into `traps`, `cop0`, `tlb`, `fetches`, `bus` or
+//! `processors`, in the form that `listing` says. `sample` runs a whole small kernel of two
+//! processors.
 
 mod alu;
 mod bus;
@@ -9,6 +10,7 @@ mod cop0;
 mod cpu;
 mod decode;
 mod elf;
+mod fetches;
 mod instructions;
 mod isa;
 mod listing;
