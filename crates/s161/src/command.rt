@@ -5,14 +5,93 @@ ghost use Rattle.clap.specs.Words.{app_of, kind_of};
 ghost use Rattle.clap.specs.declared.error.kind.ErrorKind.TheVariants.{OutOfMemory};
 ghost use Rattle.s161.specs.Commands.{IsAccepted, command_line};
 
-use clap::{Command, Error};
+use clap::{Arg, ArgAction, ArgMatches, Command, Error, value_parser};
+use m161_machine::Conf;
 use std::alloc::{AllocError, Global};
 use std::convert::AsStr;
 
 /// A command, with its words read.
 #[derive(Clone, Copy)]
-pub enum Task {
+pub enum Task<'a> {
+    /// The built-in image.
     Demo,
+    /// An image, under a schedule.
+    Run(RunTask<'a>),
+}
+
+/// What `run` is asked for.
+#[derive(Clone, Copy)]
+pub struct RunTask<'a> {
+    /// The image's name.
+    pub image: &'a str,
+    /// The machine's size.
+    pub conf: Conf,
+    /// Whether the log is shown.
+    pub show_log: bool,
+}
+
+const STATUSES: &str = "\
+Exit status:
+  0  a finished demo, or a machine that switched itself off
+  1  a fault, named on standard error, or a refused event
+  2  a rejected command line, or a call for help
+  3  the schedule ended
+
+Example:
+  printf 's 0 1000\\nk 41\\ns 0 1000\\n' | s161 run kernel.elf";
+
+const SCHEDULE: &str = "\
+The schedule is read from standard input, an event a line:
+  s P [N]  N Steps of processor P, 1 to 1000000; one where N is left out
+  k HH     a byte is typed at the console, two hexadecimal digits
+  o        the console has sent its byte
+  # ...    a comment; an empty line is ignored too
+
+Exit status:
+  0  the machine switched itself off
+  1  a fault, named on standard error, or a refused event
+  2  a rejected command line, or a call for help
+  3  the schedule ended
+
+Example:
+  printf 's 0 1000\\nk 41\\ns 0 1000\\n' | s161 run kernel.elf --show-log";
+
+// The definition of `run`.
+fn run_definition<'a>(alloc: Global) -> Result<Command<'a>, AllocError> {
+    let image = Arg::new(alloc, "image")
+        .value_name("IMAGE")
+        .help("An ELF file")
+        .required(true);
+    let ram = Arg::new(alloc, "ram")
+        .long("ram")
+        .value_name("N")
+        .help("Bytes of RAM, 4096 to 16777216 in pages of 4096")
+        .value_parser(value_parser!(u32))
+        .default_value("1048576");
+    let cpus = Arg::new(alloc, "cpus")
+        .long("cpus")
+        .value_name("N")
+        .help("Processors, 1 to 32")
+        .value_parser(value_parser!(u32))
+        .default_value("1");
+    let log = Arg::new(alloc, "log")
+        .long("log")
+        .value_name("N")
+        .help("Room of the log, 1 to 16777216 events")
+        .value_parser(value_parser!(u32))
+        .default_value("65536");
+    let show_log = Arg::new(alloc, "show-log")
+        .long("show-log")
+        .help("Prints the log too")
+        .action(ArgAction::SetTrue);
+    Command::new(alloc, "run")
+        .about("Runs an image under a schedule of events")
+        .after_help(SCHEDULE)
+        .arg(image)?
+        .arg(ram)?
+        .arg(cpus)?
+        .arg(log)?
+        .arg(show_log)
 }
 
 // The program's definition of its command line.
@@ -20,22 +99,43 @@ fn definition<'a>(alloc: Global) -> Result<Command<'a>, AllocError>
     ensures { IfOk result (λ command. app_of command ≡ command_line) }
 {
     let demo = Command::new(alloc, "demo").about("Makes seven Steps of the built-in image");
-    Ok(
-        Command::new(alloc, "s161")
-            .about("A proved emulator of System/161")
-            .subcommand_required(true)
-            .subcommand(demo)?,
-    )
+    let run = run_definition(alloc)?;
+    Command::new(alloc, "s161")
+        .about("A proved emulator of System/161")
+        .after_help(STATUSES)
+        .subcommand_required(true)
+        .subcommand(demo)?
+        .subcommand(run)
+}
+
+// What the words of `run` ask for.
+fn run_task_of<'a>(given: &ArgMatches<'a>) -> RunTask<'a> {
+    RunTask {
+        image: given.get_str("image").unwrap_or(""),
+        conf: Conf {
+            ram: given.get_one::<u32>("ram").unwrap_or(1_048_576),
+            processors: given.get_one::<u32>("cpus").unwrap_or(1),
+            log: given.get_one::<u32>("log").unwrap_or(65_536),
+        },
+        show_log: given.get_flag("show-log"),
+    }
+}
+
+// What the words of a command line ask for.
+fn task_of<'a>(matches: &ArgMatches<'a>) -> Task<'a> {
+    match matches.subcommand() {
+        Some(("run", given)) => Task::Run(run_task_of(given)),
+        _ => Task::Demo,
+    }
 }
 
 /// Reads the words of a command line; the first is the program's name.
-pub fn parse<S: AsStr>(alloc: Global, words: &[S]) -> Result<Task, Error>
+pub fn parse<'a, S: AsStr>(alloc: Global, words: &'a [S]) -> Result<Task<'a>, Error>
     ensures accepted { IfOk result (λ _. IsAccepted (map S.text words.now)) }
     ensures rejected { IfErr result (λ error. kind_of error ≢ OutOfMemory
         → ¬ IsAccepted (map S.text words.now)) }
 {
     let command = definition(alloc)?;
-    // there is one command so far
-    let _matches = command.try_get_matches_from(words)?;
-    Ok(Task::Demo)
+    let matches = command.try_get_matches_from(words)?;
+    Ok(task_of(&matches))
 }

@@ -1,8 +1,10 @@
 //! Where files come from.
 
+use crate::input::read_whole;
 use std::alloc::Global;
+use std::fs::File;
+use std::io;
 use std::rt::Files;
-use std::{fs, io};
 
 /// A source of files.
 pub trait FileSource {
@@ -23,7 +25,7 @@ impl<'a, R: Files + AllocGlobal> HostFiles<'a, R> {
 }
 
 impl<R: Files + AllocGlobal> FileSource for HostFiles<'_, R> {
-    fn read(&mut self, _alloc: Global, name: &str) -> io::Result<Vec<u8>> {
-        fs::read(self.rt, name)
+    fn read(&mut self, alloc: Global, name: &str) -> io::Result<Vec<u8>> {
+        read_whole(alloc, &mut File::open(self.rt, name)?)
     }
 }
