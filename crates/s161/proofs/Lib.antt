@@ -1,3 +1,4 @@
 pub mod Accepting
 pub mod Hex
+pub mod Making
 pub mod Shown

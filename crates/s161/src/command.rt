@@ -1,9 +1,9 @@
 //! The command line.
 
-ghost use Rattle.std.specs.Prelude.{◌≡◌, ◌≢◌, IfErr, IfOk, map};
-ghost use Rattle.clap.specs.Words.{app_of, kind_of};
+ghost use Rattle.std.specs.Prelude.{◌≡◌, ◌≢◌, IfErr, IfOk, false, map};
+ghost use Rattle.clap.specs.Words.{app_of, kind_of, rule_of};
 ghost use Rattle.clap.specs.declared.error.kind.ErrorKind.TheVariants.{OutOfMemory};
-ghost use Rattle.s161.specs.Commands.{IsAccepted, command_line};
+ghost use Rattle.s161.specs.Commands.{IsAccepted, IsLocal, command_line, image_rule, number_rule, run_line, show_log_rule};
 
 use clap::{Arg, ArgAction, ArgMatches, Command, Error, value_parser};
 use m161_machine::Conf;
@@ -56,42 +56,56 @@ Exit status:
 Example:
   printf 's 0 1000\\nk 41\\ns 0 1000\\n' | s161 run kernel.elf --show-log";
 
-// The definition of `run`.
-fn run_definition<'a>(alloc: Global) -> Result<Command<'a>, AllocError> {
-    let image = Arg::new(alloc, "image")
+// An option of `run` with a number of 32 bits.
+fn number_option<'a>(alloc: Global, name: &'a str, help: &'a str, default: &'a str) -> Arg<'a>
+    ensures rule { rule_of result ≡ number_rule name.entry.now default.entry.now }
+    ensures local { result.global ≡ false }
+{
+    Arg::new(alloc, name)
+        .long(name)
+        .value_name("N")
+        .help(help)
+        .value_parser(value_parser!(u32))
+        .default_value(default)
+}
+
+// The image of `run`.
+fn image_argument<'a>(alloc: Global) -> Arg<'a>
+    ensures rule { rule_of result ≡ image_rule }
+    ensures local { result.global ≡ false }
+{
+    Arg::new(alloc, "image")
         .value_name("IMAGE")
         .help("An ELF file")
-        .required(true);
-    let ram = Arg::new(alloc, "ram")
-        .long("ram")
-        .value_name("N")
-        .help("Bytes of RAM, 4096 to 16777216 in pages of 4096")
-        .value_parser(value_parser!(u32))
-        .default_value("1048576");
-    let cpus = Arg::new(alloc, "cpus")
-        .long("cpus")
-        .value_name("N")
-        .help("Processors, 1 to 32")
-        .value_parser(value_parser!(u32))
-        .default_value("1");
-    let log = Arg::new(alloc, "log")
-        .long("log")
-        .value_name("N")
-        .help("Room of the log, 1 to 16777216 events")
-        .value_parser(value_parser!(u32))
-        .default_value("65536");
-    let show_log = Arg::new(alloc, "show-log")
+        .required(true)
+}
+
+// The option of `run` that shows the log.
+fn show_log_option<'a>(alloc: Global) -> Arg<'a>
+    ensures rule { rule_of result ≡ show_log_rule }
+    ensures local { result.global ≡ false }
+{
+    Arg::new(alloc, "show-log")
         .long("show-log")
         .help("Prints the log too")
-        .action(ArgAction::SetTrue);
+        .action(ArgAction::SetTrue)
+}
+
+// The definition of `run`.
+fn run_definition<'a>(alloc: Global) -> Result<Command<'a>, AllocError>
+    ensures shape { IfOk result (λ command. app_of command ≡ run_line) }
+    ensures local { IfOk result IsLocal }
+{
+    let ram_help = "Bytes of RAM, 4096 to 16777216 in pages of 4096";
+    let log_help = "Room of the log, 1 to 16777216 events";
     Command::new(alloc, "run")
         .about("Runs an image under a schedule of events")
         .after_help(SCHEDULE)
-        .arg(image)?
-        .arg(ram)?
-        .arg(cpus)?
-        .arg(log)?
-        .arg(show_log)
+        .arg(image_argument(alloc))?
+        .arg(number_option(alloc, "ram", ram_help, "1048576"))?
+        .arg(number_option(alloc, "cpus", "Processors, 1 to 32", "1"))?
+        .arg(number_option(alloc, "log", log_help, "65536"))?
+        .arg(show_log_option(alloc))
 }
 
 // The program's definition of its command line.

@@ -55,7 +55,7 @@ fn main(rt: HostRuntime) -> ExitCode {
 }
 
 // The words of the command line.
-fn arguments<'a>(rt: &HostRuntime) -> Result<Vec<String>, Fault<'a>>
+fn arguments(rt: &HostRuntime) -> Result<Vec<String>, Fault<'static>>
     ensures { IfErr result (λ fault. (fault ≡ Fault.Input) ⊎ (fault ≡ Fault.Memory)) }
 {
     let words = env::args(rt).map_err(fault_of_words)?;
@@ -63,7 +63,7 @@ fn arguments<'a>(rt: &HostRuntime) -> Result<Vec<String>, Fault<'a>>
 }
 
 // Why the words aren't read: one of them isn't UTF-8, or memory was refused.
-fn fault_of_words<'a>(error: io::Error) -> Fault<'a>
+fn fault_of_words(error: io::Error) -> Fault<'static>
     ensures input { error_kind error ≡ ErrorKind.InvalidData → result ≡ Fault.Input }
     ensures memory { error_kind error ≢ ErrorKind.InvalidData → result ≡ Fault.Memory }
 {

@@ -1,5 +1,8 @@
 //! An image, run under a schedule.
 
+ghost use Rattle.std.specs.Prelude.{◌≡◌, IfOk};
+ghost use Rattle.s161.specs.Runs.{IsRun, status_of};
+
 use crate::Machine;
 use crate::command::RunTask;
 use crate::events::{Stop, make_events};
@@ -28,7 +31,10 @@ pub fn run<'a, F: FileSource, I: Read>(
     files: &mut F,
     input: &mut I,
     task: RunTask<'a>,
-) -> Result<Finished, Fault<'a>> {
+) -> Result<Finished, Fault<'a>>
+    ensures { IfOk result (λ done. IsRun task.entry.conf task.entry.show_log
+        (I.remaining input.old) done.text.items done.status) }
+{
     let file = read_file(alloc, files, task.image)?;
     let schedule = read_input(alloc, input)?;
     let events = read_schedule(alloc, schedule.as_str())?;
@@ -41,7 +47,9 @@ pub fn run<'a, F: FileSource, I: Read>(
 }
 
 // The exit status of a run.
-fn status(stop: Stop) -> u8 {
+fn status(stop: Stop) -> u8
+    ensures { result ≡ status_of stop }
+{
     match stop {
         Stop::Off => 0,
         Stop::Refused(_, _) => 1,

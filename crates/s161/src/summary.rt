@@ -1,5 +1,9 @@
 //! What `run` prints.
 
+ghost use Rattle.std.specs.Prelude.{◌≡◌, ◌++◌, ◌<◌, length, IfOk, OnOk};
+ghost use Rattle.m161_steplog.specs.Log.{log_text};
+ghost use Rattle.s161.specs.Runs.{output_text, started_text, summary_text};
+
 use crate::Machine;
 use crate::display::show_regs;
 use crate::events::Stop;
@@ -14,7 +18,9 @@ pub fn summary(
     machine: &Machine,
     stop: Stop,
     show_log: bool,
-) -> Result<Vec<u8>, AllocError> {
+) -> Result<Vec<u8>, AllocError>
+    ensures { IfOk result (λ text. text.items ≡ summary_text machine.now stop show_log) }
+{
     let mut text = Vec::new(alloc);
     push_output(&mut text, machine.output())?;
     for p in 0..machine.processors() {
@@ -29,7 +35,9 @@ pub fn summary(
 }
 
 // The bytes that the console has sent, and a line end where they lack one.
-fn push_output(text: &mut Vec<u8>, output: &[u8]) -> Result<(), AllocError> {
+fn push_output(text: &mut Vec<u8>, output: &[u8]) -> Result<(), AllocError>
+    ensures { OnOk result (text.new.items ≡ text.old.items ++ output_text output.now) }
+{
     text.extend_from_slice(output)?;
     if let Some(last) = output.last() {
         if *last != b'\n' {
@@ -45,15 +53,23 @@ fn push_processor(
     text: &mut Vec<u8>,
     machine: &Machine,
     p: u32,
-) -> Result<(), AllocError> {
-    if machine.state(p) == ProcessorState::Stopped {
-        return Ok(());
+) -> Result<(), AllocError>
+    requires { p < length machine.now.state.processors }
+    ensures { OnOk result (text.new.items
+        ≡ text.old.items ++ started_text machine.now.state.processors p) }
+{
+    match machine.state(p) {
+        ProcessorState::Stopped => Ok(()),
+        ProcessorState::Running | ProcessorState::Waiting => {
+            let shown = show_regs(alloc, machine, p)?;
+            text.extend_from_slice(shown.as_bytes())
+        }
     }
-    let shown = show_regs(alloc, machine, p)?;
-    text.extend_from_slice(shown.as_bytes())
 }
 
-fn push_log(alloc: Global, text: &mut Vec<u8>, machine: &Machine) -> Result<(), AllocError> {
+fn push_log(alloc: Global, text: &mut Vec<u8>, machine: &Machine) -> Result<(), AllocError>
+    ensures { OnOk result (text.new.items ≡ text.old.items ++ log_text machine.now.log) }
+{
     let entries = machine.copy_log(alloc)?;
     let log = write_log(alloc, &entries)?;
     text.extend_from_slice(log.as_bytes())

@@ -1,9 +1,11 @@
 //! The work of a command line.
 
-ghost use Rattle.std.specs.Prelude.{◌≡◌, ◌≢◌, ◌≤◌, true, false, IfErr, IfOk, OnOk, map, string_bytes};
+ghost use Rattle.std.specs.Prelude.{◌≡◌, ◌≢◌, ◌≤◌, Bool, true, false, IfErr, IfOk, OnOk, map, string_bytes};
 ghost use Rattle.std.specs.Io.KnownBytes.{Appends};
 ghost use Rattle.clap.specs.Words.{kind_of};
+ghost use Rattle.m161_machine.specs.declared.conf.Conf.{Conf};
 ghost use Rattle.s161.specs.Commands.{IsAccepted};
+ghost use Rattle.s161.specs.Runs.{Printed};
 
 use crate::command::{RunTask, Task, parse};
 use crate::demo::demo;
@@ -20,7 +22,7 @@ use std::io::{Read, Write};
 /// is the exit status.
 pub fn start<A, F, I, O, E>(
     rt: &A,
-    words: Result<Vec<String>, Fault<'_>>,
+    words: Result<Vec<String>, Fault<'static>>,
     files: &mut F,
     input: &mut I,
     output: &mut O,
@@ -33,10 +35,10 @@ where
     O: Write,
     E: Write,
     ensures accepted { result ≡ 0
-        → IfOk words (λ ws. IsAccepted (map string_bytes ws.items)) }
+        → IfOk words.entry (λ ws. IsAccepted (map string_bytes ws.items)) }
     ensures rejected { result ≡ 2
-        → IfOk words (λ ws. ¬ IsAccepted (map string_bytes ws.items)) }
-    ensures unread { IfErr words (λ _. result ≡ 1) }
+        → IfOk words.entry (λ ws. ¬ IsAccepted (map string_bytes ws.items)) }
+    ensures unread { IfErr words.entry (λ _. result ≡ 1) }
     ensures within { result ≤ 3 }
 {
     match words {
@@ -65,6 +67,9 @@ where
     E: Write,
     ensures accepted { result ≡ 0 → IsAccepted (map S.text words.now) }
     ensures rejected { result ≡ 2 → ¬ IsAccepted (map S.text words.now) }
+    ensures ended { result ≡ 3 → IsAccepted (map S.text words.now)
+        × ((conf : Conf) × (show_log : Bool) × Printed conf show_log
+        (I.remaining input.old) (O.contents output.old) (O.contents output.new) 3) }
     ensures within { result ≤ 3 }
 {
     let alloc = rt.alloc();
@@ -96,7 +101,9 @@ fn do_run<'a, F: FileSource, I: Read, O: Write>(
     input: &mut I,
     output: &mut O,
 ) -> Result<u8, Fault<'a>>
-    ensures { IfOk result (λ status. status ≤ 3) }
+    ensures printed { IfOk result (Printed task.entry.conf task.entry.show_log
+        (I.remaining input.old) (O.contents output.old) (O.contents output.new)) }
+    ensures within { IfOk result (λ status. (status ≤ 3) × (status ≢ 2)) }
 {
     let finished = run(alloc, files, input, task)?;
     put(output, finished.text.as_slice())?;
