@@ -1,12 +1,14 @@
 use Rattle.std.proofs.Common.{◌≡◌, ◌∙◌, refl, sym, ap, subst, ℕ, zero, suc, ◌+◌, ◌<◌, ◌≤◌, List, [], ◌∷◌, ◌++◌, length, take, drop, replicate, slice_get, Bool, true, false, nat_le, Option, None, Some, IsSomeAnd, MatchOption, Result, Ok, Err, arith}
 use Rattle.std.proofs.lemmas.List.{append_assoc, map-append, drop-take, take-append-drop, take-replicate, take-take}
 use Rattle.m161_cpu.specs.declared.processor.Outcome.{Outcome}
+use Rattle.m161_machine.specs.declared.conf.BootError.{BootError}
+use Rattle.m161_machine.specs.declared.conf.Conf.{Conf}
 use Rattle.m161_machine.specs.declared.event.Event.{Event}
 use Rattle.m161_machine.specs.declared.event.Event.TheVariants.{Step, Key, Done}
 use Rattle.m161_machine.specs.declared.event.Entry.{Entry}
 use Rattle.m161_machine.specs.declared.event.Refusal.{Refusal}
 use Rattle.m161_machine.specs.State.{State, first_of, is_full, next, unless, answer}
-use Rattle.m161_machine.specs.History.{History, run, going_on, after_outcome, events_of, outcomes_of, Continues, Ends, Refuses}
+use Rattle.m161_machine.specs.History.{History, run, going_on, after_outcome, events_of, outcomes_of, Boots, Continues, Ends, IsBooted, Refuses}
 use Rattle.m161_machine.proofs.Continuing.{refused_as}
 use Rattle.s161.specs.Runs.{IsRefusedAt}
 
@@ -149,3 +151,8 @@ switched b0 m n (e ∷ es) is other c =
     by : (b : Bool) → n.state.board.off ≡ b → b0 ≡ false → b ≡ true
     by true e on = refl
     by false e on = absurd (other (e ∙ sym on))
+
+-- a machine that was booted
+pub booted_ok : (file : List ℕ) (conf : Conf) (fault : Option BootError) (m : History) → Boots file conf fault (Ok m) → IsBooted file conf m
+booted_ok file conf (Some first) m h = absurd h
+booted_ok file conf None m h = h

@@ -1,8 +1,16 @@
-use Rattle.std.proofs.Common.{◌≡◌, ◌∙◌, ap, ap₂, codes}
+use Rattle.std.proofs.Common.{◌≡◌, ◌∙◌, ◌||◌, false, ap, ap₂, codes}
 use Rattle.std.proofs.lemmas.Result.{IfOk-weaker}
-use Rattle.clap.specs.Words.{app_of, new_app, with_rule}
+use Rattle.clap.specs.Words.{AddsArg, app_of, new_app, with_rule}
+use Rattle.clap.specs.declared.builder.arg.Arg.{Arg}
+use Rattle.clap.specs.declared.builder.command.Command.{Command}
+use Rattle.clap.specs.declared.builder.command.Command.TheViews.{out-Command}
 use Rattle.clap.specs.Simple.{app_of_fields}
+use Rattle.s161.specs.Commands.{IsLocal}
 use Rattle.s161.proofs.command.run_definition.Goals as goal
+
+-- one argument more, which isn't global
+local_more : {old new : Command} {a : Arg} → AddsArg old a new → IsLocal old → a.global ≡ false → IsLocal new
+local_more {old = old} {a = a} added old_is global = added.globals ∙ ap (λ b. b || a.global) old_is ∙ global
 
 pub returns-clause-shape : goal.returns-clause-shape
 returns-clause-shape c =
@@ -14,4 +22,10 @@ returns-clause-shape c =
     IfOk-weaker c.arg-5.result _ _ (λ command h. h.shape c.show_log_option.ensures.local ∙ ap₂ with_rule four c.show_log_option.ensures.rule) c.arg-5.ensures
 
 pub returns-clause-local : goal.returns-clause-local
-returns-clause-local c = ?
+returns-clause-local c =
+    let base : (out-Command c.after_help.result).has_globals ≡ false = ap (λ f. f.has_globals) c.after_help.ensures ∙ ap (λ f. f.has_globals) c.about.ensures ∙ c.new.ensures.local in
+    let one = local_more c.in_ok-arg.ensures base c.image_argument.ensures.local in
+    let two = local_more c.in_ok-arg-2.ensures one c.number_option.ensures.local in
+    let three = local_more c.in_ok-arg-3.ensures two c.number_option-2.ensures.local in
+    let four = local_more c.in_ok-arg-4.ensures three c.number_option-3.ensures.local in
+    IfOk-weaker c.arg-5.result _ _ (λ command h. local_more h four c.show_log_option.ensures.local) c.arg-5.ensures
