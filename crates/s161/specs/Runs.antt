@@ -13,6 +13,8 @@ use Rattle.m161_machine.specs.History.{History, Continues, IsBooted, Refuses}
 use Rattle.m161_steplog.specs.Lines.{lines_of}
 use Rattle.m161_steplog.specs.Log.{log_text}
 use Rattle.m161_steplog.specs.Schedule.{IsSchedule}
+use Rattle.s161.specs.declared.command.Task.{Task}
+use Rattle.s161.specs.declared.command.Task.TheVariants.{Demo, Run}
 use Rattle.s161.specs.declared.events.Stop.{Stop}
 use Rattle.s161.specs.declared.events.Stop.TheVariants.{Off, End, Refused}
 use Rattle.s161.specs.Texts.{◌␣◌, ended, show_regs_text}
@@ -101,3 +103,8 @@ pub record IsRun (conf : Conf) (show_log : Bool) (input : Option (List ℕ)) (te
 abbrev pub Printed : Conf → Bool → Option (List ℕ) → Option (List ℕ) → Option (List ℕ) → ℕ → Type 0
 Printed conf show_log input before after status =
     (text : List ℕ) × IsRun conf show_log input text status × Appends before after text
+
+-- a task was finished with this exit status, and printed what belongs to it
+abbrev pub Finishes : Task → Option (List ℕ) → Option (List ℕ) → Option (List ℕ) → ℕ → Type 0
+Finishes Demo input before after status = status ≡ 0
+Finishes (Run task) input before after status = Printed task.conf task.show_log input before after status

@@ -1,9 +1,9 @@
 //! The command line.
 
-ghost use Rattle.std.specs.Prelude.{◌≡◌, ◌≢◌, IfErr, IfOk, false, map};
-ghost use Rattle.clap.specs.Words.{app_of, kind_of, rule_of};
+ghost use Rattle.std.specs.Prelude.{◌≡◌, ◌≢◌, [], IfErr, IfOk, codes, false, map, unwrap_or};
+ghost use Rattle.clap.specs.Words.{app_of, first_of, found_of, kind_of, one_of, rows_of, rule_of, subcommand_of, subcommand_rows_of};
 ghost use Rattle.clap.specs.declared.error.kind.ErrorKind.TheVariants.{OutOfMemory};
-ghost use Rattle.s161.specs.Commands.{IsAccepted, IsLocal, command_line, image_rule, number_rule, run_line, show_log_rule};
+ghost use Rattle.s161.specs.Commands.{IsAccepted, IsAsked, IsFlag, IsLocal, IsNumberOf, IsTask, command_line, image_rule, number_rule, run_line, show_log_rule};
 
 use clap::{Arg, ArgAction, ArgMatches, Command, Error, value_parser};
 use m161_machine::Conf;
@@ -122,21 +122,49 @@ fn definition<'a>(alloc: Global) -> Result<Command<'a>, AllocError>
         .subcommand(run)
 }
 
+// The number of an option of `run`.
+fn number_given<'a>(given: &ArgMatches<'a>, name: &str, default: u32) -> u32
+    ensures { IsNumberOf default (one_of name.now (rows_of (found_of given.now))) result }
+{
+    given.get_one::<u32>(name).unwrap_or(default)
+}
+
+// The image of `run`.
+fn image_given<'a>(given: &ArgMatches<'a>) -> &'a str
+    ensures { result.now ≡ unwrap_or (first_of (codes "image") (rows_of (found_of given.now))) [] }
+{
+    match given.get_str("image") {
+        Some(name) => name,
+        None => "",
+    }
+}
+
+// Whether `run` is to show the log.
+fn show_log_given<'a>(given: &ArgMatches<'a>) -> bool
+    ensures { IsFlag (one_of (codes "show-log") (rows_of (found_of given.now))) result }
+{
+    given.get_flag("show-log")
+}
+
 // What the words of `run` ask for.
-fn run_task_of<'a>(given: &ArgMatches<'a>) -> RunTask<'a> {
+fn run_task_of<'a>(given: &ArgMatches<'a>) -> RunTask<'a>
+    ensures { IsAsked (rows_of (found_of given.now)) result }
+{
     RunTask {
-        image: given.get_str("image").unwrap_or(""),
+        image: image_given(given),
         conf: Conf {
-            ram: given.get_one::<u32>("ram").unwrap_or(1_048_576),
-            processors: given.get_one::<u32>("cpus").unwrap_or(1),
-            log: given.get_one::<u32>("log").unwrap_or(65_536),
+            ram: number_given(given, "ram", 1_048_576),
+            processors: number_given(given, "cpus", 1),
+            log: number_given(given, "log", 65_536),
         },
-        show_log: given.get_flag("show-log"),
+        show_log: show_log_given(given),
     }
 }
 
 // What the words of a command line ask for.
-fn task_of<'a>(matches: &ArgMatches<'a>) -> Task<'a> {
+fn task_of<'a>(matches: &ArgMatches<'a>) -> Task<'a>
+    ensures { IsTask (subcommand_rows_of matches.now) result }
+{
     match matches.subcommand() {
         Some(("run", given)) => Task::Run(run_task_of(given)),
         _ => Task::Demo,
@@ -148,6 +176,7 @@ pub fn parse<'a, S: AsStr>(alloc: Global, words: &'a [S]) -> Result<Task<'a>, Er
     ensures accepted { IfOk result (λ _. IsAccepted (map S.text words.now)) }
     ensures rejected { IfErr result (λ error. kind_of error ≢ OutOfMemory
         → ¬ IsAccepted (map S.text words.now)) }
+    ensures task { IfOk result (IsTask (subcommand_of command_line (map S.text words.now))) }
 {
     let command = definition(alloc)?;
     let matches = command.try_get_matches_from(words)?;

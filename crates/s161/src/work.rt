@@ -1,11 +1,11 @@
 //! The work of a command line.
 
-ghost use Rattle.std.specs.Prelude.{◌≡◌, ◌≢◌, ◌≤◌, Bool, true, false, IfErr, IfOk, OnOk, map, string_bytes};
+ghost use Rattle.std.specs.Prelude.{◌≡◌, ◌≢◌, ◌⊎◌, ◌≤◌, true, false, IfErr, IfOk, OnOk, map, string_bytes};
 ghost use Rattle.std.specs.Io.KnownBytes.{Appends};
-ghost use Rattle.clap.specs.Words.{kind_of};
-ghost use Rattle.m161_machine.specs.declared.conf.Conf.{Conf};
-ghost use Rattle.s161.specs.Commands.{IsAccepted};
-ghost use Rattle.s161.specs.Runs.{Printed};
+ghost use Rattle.clap.specs.Words.{kind_of, subcommand_of};
+ghost use Rattle.s161.specs.declared.command.Task.{Task};
+ghost use Rattle.s161.specs.Commands.{IsAccepted, IsTask, command_line};
+ghost use Rattle.s161.specs.Runs.{Finishes, Printed};
 
 use crate::command::{RunTask, Task, parse};
 use crate::demo::demo;
@@ -67,9 +67,11 @@ where
     E: Write,
     ensures accepted { result ≡ 0 → IsAccepted (map S.text words.now) }
     ensures rejected { result ≡ 2 → ¬ IsAccepted (map S.text words.now) }
-    ensures ended { result ≡ 3 → IsAccepted (map S.text words.now)
-        × ((conf : Conf) × (show_log : Bool) × Printed conf show_log
-        (I.remaining input.old) (O.contents output.old) (O.contents output.new) 3) }
+    ensures ended { result ≡ 3 → IsAccepted (map S.text words.now) }
+    ensures finished { (result ≡ 0) ⊎ (result ≡ 3)
+        → (task : Task) × IsTask (subcommand_of command_line (map S.text words.now)) task
+        × Finishes task (I.remaining input.old)
+        (O.contents output.old) (O.contents output.new) result }
     ensures within { result ≤ 3 }
 {
     let alloc = rt.alloc();
