@@ -1,6 +1,7 @@
-use Rattle.std.specs.Prelude.{◌≡◌, ℕ, ◌-◌, ◌==◌, Bool, true, false, if◌then◌else◌, List, [], ◌∷◌, ◌++◌, Option, None, Some, IsSomeAnd, IfSome, codes, decimal, flat_map, length, slice_get, take}
+use Rattle.std.specs.Prelude.{◌≡◌, ◌⊎◌, ℕ, ◌-◌, ◌==◌, Bool, true, false, if◌then◌else◌, List, [], ◌∷◌, ◌++◌, Option, None, Some, IsSomeAnd, IfSome, codes, decimal, flat_map, length, slice_get, take}
 use Rattle.std.specs.Io.KnownBytes.{Appends}
 use Rattle.std.specs.List.{range_with_len}
+use Rattle.clap.specs.Words.{Text, subcommand_of}
 use Rattle.m161_cpu.specs.declared.processor.ProcessorState.{ProcessorState}
 use Rattle.m161_cpu.specs.declared.processor.ProcessorState.TheVariants.{Stopped, Running, Waiting}
 use Rattle.m161_cpu.specs.Processor.{Processor}
@@ -17,6 +18,7 @@ use Rattle.s161.specs.declared.command.Task.{Task}
 use Rattle.s161.specs.declared.command.Task.TheVariants.{Demo, Run}
 use Rattle.s161.specs.declared.events.Stop.{Stop}
 use Rattle.s161.specs.declared.events.Stop.TheVariants.{Off, End, Refused}
+use Rattle.s161.specs.Commands.{IsTask, command_line}
 use Rattle.s161.specs.Texts.{◌␣◌, ended, show_regs_text}
 
 -- What `run` makes, prints and answers.
@@ -108,3 +110,12 @@ Printed conf show_log input before after status =
 abbrev pub Finishes : Task → Option (List ℕ) → Option (List ℕ) → Option (List ℕ) → ℕ → Type 0
 Finishes Demo input before after status = status ≡ 0
 Finishes (Run task) input before after status = Printed task.conf task.show_log input before after status
+
+-- a command line's task was finished
+abbrev pub Does : List Text → Option (List ℕ) → Option (List ℕ) → Option (List ℕ) → ℕ → Type 0
+Does words input before after status =
+    (task : Task) × IsTask (subcommand_of command_line words) task × Finishes task input before after status
+
+-- the exit status of a finished demo or of a run with no fault and no refused event
+abbrev pub IsDone : ℕ → Type 0
+IsDone status = (status ≡ 0) ⊎ (status ≡ 3)

@@ -1,11 +1,10 @@
 //! The work of a command line.
 
-ghost use Rattle.std.specs.Prelude.{◌≡◌, ◌≢◌, ◌⊎◌, ◌≤◌, true, false, IfErr, IfOk, OnOk, map, string_bytes};
+ghost use Rattle.std.specs.Prelude.{◌≡◌, ◌≢◌, ◌≤◌, true, false, IfErr, IfOk, OnOk, map, string_bytes};
 ghost use Rattle.std.specs.Io.KnownBytes.{Appends};
-ghost use Rattle.clap.specs.Words.{kind_of, subcommand_of};
-ghost use Rattle.s161.specs.declared.command.Task.{Task};
-ghost use Rattle.s161.specs.Commands.{IsAccepted, IsTask, command_line};
-ghost use Rattle.s161.specs.Runs.{Finishes, Printed};
+ghost use Rattle.clap.specs.Words.{kind_of};
+ghost use Rattle.s161.specs.Commands.{IsAccepted};
+ghost use Rattle.s161.specs.Runs.{Does, IsDone, Printed};
 
 use crate::command::{RunTask, Task, parse};
 use crate::demo::demo;
@@ -34,10 +33,12 @@ where
     I: Read,
     O: Write,
     E: Write,
-    ensures accepted { result ≡ 0
+    ensures accepted { IsDone result
         → IfOk words.entry (λ ws. IsAccepted (map string_bytes ws.items)) }
     ensures rejected { result ≡ 2
         → IfOk words.entry (λ ws. ¬ IsAccepted (map string_bytes ws.items)) }
+    ensures finished { IsDone result → IfOk words.entry (λ ws. Does (map string_bytes ws.items)
+        (I.remaining input.old) (O.contents output.old) (O.contents output.new) result) }
     ensures unread { IfErr words.entry (λ _. result ≡ 1) }
     ensures within { result ≤ 3 }
 {
@@ -65,12 +66,9 @@ where
     I: Read,
     O: Write,
     E: Write,
-    ensures accepted { result ≡ 0 → IsAccepted (map S.text words.now) }
+    ensures accepted { IsDone result → IsAccepted (map S.text words.now) }
     ensures rejected { result ≡ 2 → ¬ IsAccepted (map S.text words.now) }
-    ensures ended { result ≡ 3 → IsAccepted (map S.text words.now) }
-    ensures finished { (result ≡ 0) ⊎ (result ≡ 3)
-        → (task : Task) × IsTask (subcommand_of command_line (map S.text words.now)) task
-        × Finishes task (I.remaining input.old)
+    ensures finished { IsDone result → Does (map S.text words.now) (I.remaining input.old)
         (O.contents output.old) (O.contents output.new) result }
     ensures within { result ≤ 3 }
 {
