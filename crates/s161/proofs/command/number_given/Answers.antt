@@ -12,5 +12,5 @@ returns c =
     let P : Option (List ℕ) → Type 0 = λ text. IsNumberOf c.args.default text c.unwrap_or.result in
     subst P (one_text-rows found c.args.name.now)
     (number_of _ (λ bs r. ParsesUnsigned 32 10 bs r × ExplainsUnsignedError 10 bs r × HasUnsignedDigitsIfOk bs r)
-        (one_text found c.args.name.now) c.get_one.result c.args.default c.unwrap_or.result
-        c.get_one.ensures.none c.get_one.ensures.value (λ t x g. g.0) c.unwrap_or.ensures)
+    (one_text found c.args.name.now) c.get_one.result c.args.default c.unwrap_or.result
+    c.get_one.ensures.none c.get_one.ensures.value (λ t x g. g.0) c.unwrap_or.ensures)
