@@ -373,32 +373,44 @@ fn faults(rt: HostRuntime) -> Result<(), Fail> {
 /// The words of a run of the one file.
 const WORDS: [&str; 3] = ["s161", "run", "image"];
 
-#[test]
-fn readers(rt: HostRuntime) -> Result<(), Fail> {
+/// Runs `power-off`'s image over a reader, against the texts that it should write.
+fn over<I: Read>(rt: &impl AllocGlobal, input: &mut I, texts: [&str; 2]) -> Result<Left, Fail> {
     let file = file_at(rt.alloc(), ENTRY, &POWER_OFF)?;
     let mut files = OneFile {
         name: "image",
         bytes: &file,
     };
+    Ok(left(rt, &WORDS, &mut files, input, texts))
+}
+
+#[test]
+fn slow_reader(rt: HostRuntime) -> Result<(), Fail> {
     let output = joined(&rt, &[&POWERED_OFF, &["stop: off\n"]])?;
-    // a byte a call, with interruptions
     let mut slow = Slow::new(b"s 0 2\n");
-    let found = left(&rt, &WORDS, &mut files, &mut slow, [output.as_str(), ""]);
+    let found = over(&rt, &mut slow, [output.as_str(), ""])?;
     same(&rt, found, (0, all(output.as_str()), all("")));
+    Ok(())
+}
+
+#[test]
+fn failing_readers(rt: HostRuntime) -> Result<(), Fail> {
     for &(kind, line) in &[
         (ErrorKind::BrokenPipe, "s161: input\n"),
         (ErrorKind::OutOfMemory, "s161: memory\n"),
     ] {
-        let found = left(&rt, &WORDS, &mut files, &mut Failing(kind), ["", line]);
+        let found = over(&rt, &mut Failing(kind), ["", line])?;
         same(&rt, found, (1, all(""), all(line)));
     }
-    // neither UTF-8
-    let mut input: &[u8] = b"s 0 2\n# \xff\n";
+    Ok(())
+}
+
+#[test]
+fn inputs_that_are_no_text(rt: HostRuntime) -> Result<(), Fail> {
     let line = "s161: input\n";
-    let found = left(&rt, &WORDS, &mut files, &mut input, ["", line]);
+    let mut input: &[u8] = b"s 0 2\n# \xff\n";
+    let found = over(&rt, &mut input, ["", line])?;
     same(&rt, found, (1, all(""), all(line)));
-    // nor within the limit
-    let found = left(&rt, &WORDS, &mut files, &mut Endless, ["", line]);
+    let found = over(&rt, &mut Endless, ["", line])?;
     same(&rt, found, (1, all(""), all(line)));
     Ok(())
 }
@@ -434,7 +446,7 @@ fn failing_output_of_a_run(rt: HostRuntime) -> Result<(), Fail> {
     let file = file_at(rt.alloc(), ENTRY, &POWER_OFF)?;
     let text = joined(&rt, &[&POWERED_OFF, &["stop: off\n"]])?;
     let failed = "s161: output\n";
-    for room in [0, 26, text.len() - 1] {
+    for room in [0, 26, 300] {
         let mut files = OneFile {
             name: "image",
             bytes: &file,
