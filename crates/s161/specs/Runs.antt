@@ -5,7 +5,6 @@ use Rattle.clap.specs.Words.{Text, subcommand_of}
 use Rattle.m161_cpu.specs.declared.processor.ProcessorState.{ProcessorState}
 use Rattle.m161_cpu.specs.declared.processor.ProcessorState.TheVariants.{Stopped, Running, Waiting}
 use Rattle.m161_cpu.specs.Processor.{Processor}
-use Rattle.m161_machine.specs.declared.conf.Conf.{Conf}
 use Rattle.m161_machine.specs.declared.event.Event.{Event}
 use Rattle.m161_machine.specs.declared.event.Refusal.{Refusal}
 use Rattle.m161_machine.specs.Refusal.{name_of_refusal, number_of_refusal}
@@ -14,6 +13,7 @@ use Rattle.m161_machine.specs.History.{History, Continues, IsBooted, Refuses}
 use Rattle.m161_steplog.specs.Lines.{lines_of}
 use Rattle.m161_steplog.specs.Log.{log_text}
 use Rattle.m161_steplog.specs.Schedule.{IsSchedule}
+use Rattle.s161.specs.declared.command.RunTask.{RunTask}
 use Rattle.s161.specs.declared.command.Task.{Task}
 use Rattle.s161.specs.declared.command.Task.TheVariants.{Demo, Run}
 use Rattle.s161.specs.declared.events.Stop.{Stop}
@@ -86,11 +86,12 @@ status_of Off = 0
 status_of (Refused k refusal) = 1
 status_of End = 3
 
--- a run that was finished: what it prints and its exit status, where standard input has these bytes, as far as they are known
-pub record IsRun (conf : Conf) (show_log : Bool) (input : Option (List ℕ)) (text : List ℕ) (status : ℕ) : Type 0 where
+-- a run that was finished: what it prints and its exit status, where the image's file and standard input have these bytes, as far as they are known
+pub record IsRun (task : RunTask) (known : Option (List ℕ)) (input : Option (List ℕ)) (text : List ℕ) (status : ℕ) : Type 0 where
   pub file : List ℕ
+  pub is_file : IfSome known (λ bytes. file ≡ bytes)
   pub booted : History
-  pub is_booted : IsBooted file conf booted
+  pub is_booted : IsBooted file task.conf booted
   pub schedule : List ℕ
   pub is_input : IfSome input (λ bytes. schedule ≡ bytes)
   pub events : List Event
@@ -98,23 +99,24 @@ pub record IsRun (conf : Conf) (show_log : Bool) (input : Option (List ℕ)) (te
   pub machine : History
   pub stop : Stop
   pub makes : Makes booted events stop machine
-  pub text_is : text ≡ summary_text machine stop show_log
+  pub text_is : text ≡ summary_text machine stop task.show_log
   pub status_is : status ≡ status_of stop
 
 -- a finished run printed its text
-abbrev pub Printed : Conf → Bool → Option (List ℕ) → Option (List ℕ) → Option (List ℕ) → ℕ → Type 0
-Printed conf show_log input before after status =
-    (text : List ℕ) × IsRun conf show_log input text status × Appends before after text
+abbrev pub Printed : RunTask → Option (List ℕ) → Option (List ℕ) → Option (List ℕ) → Option (List ℕ) → ℕ → Type 0
+Printed task known input before after status =
+    (text : List ℕ) × IsRun task known input text status × Appends before after text
 
 -- a task was finished with this exit status, and printed what belongs to it
-abbrev pub Finishes : Task → Option (List ℕ) → Option (List ℕ) → Option (List ℕ) → ℕ → Type 0
-Finishes Demo input before after status = status ≡ 0
-Finishes (Run task) input before after status = Printed task.conf task.show_log input before after status
+abbrev pub Finishes : Task → (Text → Option (List ℕ)) → Option (List ℕ) → Option (List ℕ) → Option (List ℕ) → ℕ → Type 0
+Finishes Demo files input before after status = status ≡ 0
+Finishes (Run task) files input before after status =
+    Printed task (files task.image.now) input before after status
 
--- a command line's task was finished
-abbrev pub Does : List Text → Option (List ℕ) → Option (List ℕ) → Option (List ℕ) → ℕ → Type 0
-Does words input before after status =
-    (task : Task) × IsTask (subcommand_of command_line words) task × Finishes task input before after status
+-- a command line's task was finished, over files and a standard input with these bytes, and a standard output that had and has these
+abbrev pub Does : List Text → (Text → Option (List ℕ)) → Option (List ℕ) → Option (List ℕ) → Option (List ℕ) → ℕ → Type 0
+Does words files input before after status =
+    (task : Task) × IsTask (subcommand_of command_line words) task × Finishes task files input before after status
 
 -- the exit status of a finished demo or of a run with no fault and no refused event
 abbrev pub IsDone : ℕ → Type 0

@@ -30,25 +30,16 @@ pub struct RunTask<'a> {
     pub show_log: bool,
 }
 
-const STATUSES: &str = "\
-Exit status:
-  0  a finished demo, or a machine that switched itself off
-  1  a fault, named on standard error, or a refused event
-  2  a rejected command line, or a call for help
-  3  the schedule ended
-
-Example:
-  printf 's 0 1000\\nk 41\\ns 0 1000\\n' | s161 run kernel.elf";
-
-const SCHEDULE: &str = "\
-The schedule is read from standard input, an event a line:
+/// What the help of the program and of `run` ends with.
+const AFTER_HELP: &str = "\
+The schedule of run is read from standard input, an event a line:
   s P [N]  N Steps of processor P, 1 to 1000000; one where N is left out
   k HH     a byte is typed at the console, two hexadecimal digits
   o        the console has sent its byte
   # ...    a comment; an empty line is ignored too
 
 Exit status:
-  0  the machine switched itself off
+  0  a finished demo, or a machine that switched itself off
   1  a fault, named on standard error, or a refused event
   2  a rejected command line, or a call for help
   3  the schedule ended
@@ -100,7 +91,7 @@ fn run_definition<'a>(alloc: Global) -> Result<Command<'a>, AllocError>
     let log_help = "Room of the log, 1 to 16777216 events";
     Command::new(alloc, "run")
         .about("Runs an image under a schedule of events")
-        .after_help(SCHEDULE)
+        .after_help(AFTER_HELP)
         .arg(image_argument(alloc))?
         .arg(number_option(alloc, "ram", ram_help, "1048576"))?
         .arg(number_option(alloc, "cpus", "Processors, 1 to 32", "1"))?
@@ -116,7 +107,7 @@ fn definition<'a>(alloc: Global) -> Result<Command<'a>, AllocError>
     let run = run_definition(alloc)?;
     Command::new(alloc, "s161")
         .about("A proved emulator of System/161")
-        .after_help(STATUSES)
+        .after_help(AFTER_HELP)
         .subcommand_required(true)
         .subcommand(demo)?
         .subcommand(run)

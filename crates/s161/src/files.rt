@@ -1,5 +1,7 @@
 //! Where files come from.
 
+ghost use Rattle.std.specs.Prelude.{◌≡◌, ℕ, List, Option, None, IfOk, IfSome};
+
 use crate::input::read_whole;
 use std::alloc::Global;
 use std::fs::File;
@@ -8,8 +10,13 @@ use std::rt::Files;
 
 /// A source of files.
 pub trait FileSource {
+    // The bytes of the file of a name, where they are known.
+    ghost known: { Self → List ℕ → Option (List ℕ) } = { λ _ _. None };
+
     /// The bytes of the file of this name.
-    fn read(&mut self, alloc: Global, name: &str) -> io::Result<Vec<u8>>;
+    fn read(&mut self, alloc: Global, name: &str) -> io::Result<Vec<u8>>
+        ensures { IfOk result (λ bytes. IfSome (known self.old name.now) (λ file.
+            bytes.items ≡ file)) };
 }
 
 /// The files of the host.

@@ -50,7 +50,9 @@ pub fn read_file<'a, F: FileSource>(
     files: &mut F,
     name: &'a str,
 ) -> Result<Vec<u8>, Fault<'a>>
-    ensures { IfErr result (λ fault. (fault ≡ Fault.File name.entry) ⊎ (fault ≡ Fault.Memory)) }
+    ensures whole { IfOk result (λ bytes. IfSome (F.known files.old name.entry.now) (λ known.
+        bytes.items ≡ known)) }
+    ensures err { IfErr result (λ fault. (fault ≡ Fault.File name.entry) ⊎ (fault ≡ Fault.Memory)) }
 {
     match files.read(alloc, name) {
         Ok(bytes) => Ok(bytes),

@@ -32,7 +32,7 @@ pub fn run<'a, F: FileSource, I: Read>(
     input: &mut I,
     task: RunTask<'a>,
 ) -> Result<Finished, Fault<'a>>
-    ensures { IfOk result (λ done. IsRun task.entry.conf task.entry.show_log
+    ensures { IfOk result (λ done. IsRun task.entry (F.known files.old task.entry.image.now)
         (I.remaining input.old) done.text.items done.status) }
 {
     let file = read_file(alloc, files, task.image)?;

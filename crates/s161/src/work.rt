@@ -38,7 +38,8 @@ where
     ensures rejected { result ≡ 2
         → IfOk words.entry (λ ws. ¬ IsAccepted (map string_bytes ws.items)) }
     ensures finished { IsDone result → IfOk words.entry (λ ws. Does (map string_bytes ws.items)
-        (I.remaining input.old) (O.contents output.old) (O.contents output.new) result) }
+        (F.known files.old) (I.remaining input.old) (O.contents output.old)
+        (O.contents output.new) result) }
     ensures unread { IfErr words.entry (λ _. result ≡ 1) }
     ensures within { result ≤ 3 }
 {
@@ -68,8 +69,8 @@ where
     E: Write,
     ensures accepted { IsDone result → IsAccepted (map S.text words.now) }
     ensures rejected { result ≡ 2 → ¬ IsAccepted (map S.text words.now) }
-    ensures finished { IsDone result → Does (map S.text words.now) (I.remaining input.old)
-        (O.contents output.old) (O.contents output.new) result }
+    ensures finished { IsDone result → Does (map S.text words.now) (F.known files.old)
+        (I.remaining input.old) (O.contents output.old) (O.contents output.new) result }
     ensures within { result ≤ 3 }
 {
     let alloc = rt.alloc();
@@ -101,7 +102,7 @@ fn do_run<'a, F: FileSource, I: Read, O: Write>(
     input: &mut I,
     output: &mut O,
 ) -> Result<u8, Fault<'a>>
-    ensures printed { IfOk result (Printed task.entry.conf task.entry.show_log
+    ensures printed { IfOk result (Printed task.entry (F.known files.old task.entry.image.now)
         (I.remaining input.old) (O.contents output.old) (O.contents output.new)) }
     ensures within { IfOk result (λ status. (status ≤ 3) × (status ≢ 2)) }
 {

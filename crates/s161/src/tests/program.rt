@@ -34,6 +34,12 @@ Commands:
 Options:
   -h, --help  Print help
 
+The schedule of run is read from standard input, an event a line:
+  s P [N]  N Steps of processor P, 1 to 1000000; one where N is left out
+  k HH     a byte is typed at the console, two hexadecimal digits
+  o        the console has sent its byte
+  # ...    a comment; an empty line is ignored too
+
 Exit status:
   0  a finished demo, or a machine that switched itself off
   1  a fault, named on standard error, or a refused event
@@ -41,7 +47,7 @@ Exit status:
   3  the schedule ended
 
 Example:
-  printf 's 0 1000\\nk 41\\ns 0 1000\\n' | s161 run kernel.elf
+  printf 's 0 1000\\nk 41\\ns 0 1000\\n' | s161 run kernel.elf --show-log
 ";
 
 /// What clap writes on standard error for the word `foo`.

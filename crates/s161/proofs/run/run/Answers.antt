@@ -11,8 +11,11 @@ returns g c =
     let known = g.I.Read.remaining c.args.input.now in
     let P : List ℕ → Type 0 = λ schedule. IfSome known (λ bytes. schedule ≡ bytes) in
     let Q : List Event → Type 0 = λ events. IsSchedule (lines_of c.as_str.result.now) events in
+    let file_known = g.F.FileSource.known c.args.files.now c.args.task.image.now in
+    let R : List ℕ → Type 0 = λ file. IfSome file_known (λ bytes. file ≡ bytes) in
     record {
       file = c.deref.result.now;
+      is_file = subst R (sym c.deref.ensures.value) c.in_ok-file.ensures.whole;
       booted = c.in_ok-machine.machine;
       is_booted = booted_ok c.deref.result.now c.args.task.conf (boot_fault c.deref.result.now c.args.task.conf) c.in_ok-machine.machine c.in_ok-machine.ensures.answer;
       schedule = c.as_str.result.now;

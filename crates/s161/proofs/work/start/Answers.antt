@@ -12,5 +12,5 @@ returns-in-Ok-clause-accepted g c = λ done.
 
 pub returns-in-Ok-clause-finished : goal.returns-in-Ok-clause-finished
 returns-in-Ok-clause-finished g c = λ done.
-    let P : List (String Global) → Type 0 = λ words. Does (map string_bytes words) (g.I.Read.remaining c.args.input.now) (g.O.Write.contents c.args.output.now) (g.O.Write.contents c.work.new.output) c.work.result in
+    let P : List (String Global) → Type 0 = λ words. Does (map string_bytes words) (g.F.FileSource.known c.args.files.now) (g.I.Read.remaining c.args.input.now) (g.O.Write.contents c.args.output.now) (g.O.Write.contents c.work.new.output) c.work.result in
     rw c.in-Ok.is (subst P c.as_slice.ensures.value (c.work.ensures.finished done))
