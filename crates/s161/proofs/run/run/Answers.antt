@@ -1,4 +1,4 @@
-use Rattle.std.proofs.Common.{◌≡◌, ◌∙◌, List, ℕ, IfSome, ap, subst, sym}
+use Rattle.std.proofs.Common.{◌≡◌, List, ℕ, IfSome, subst, sym}
 use Rattle.m161_machine.specs.declared.event.Event.{Event}
 use Rattle.m161_machine.specs.History.{boot_fault}
 use Rattle.m161_steplog.specs.Lines.{lines_of}
