@@ -1,3 +1,5 @@
 pub mod Accepting
+pub mod Asked
 pub mod Hex
+pub mod Making
 pub mod Shown

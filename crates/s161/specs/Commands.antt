@@ -1,13 +1,82 @@
-use Rattle.std.specs.Prelude.{◌≡◌, List, [], true, codes}
-use Rattle.clap.specs.Words.{App, Text, fault_of, new_app, with_subcommand}
+use Rattle.std.specs.Prelude.{◌≡◌, ◌≢◌, ℕ, ◌<◌, ◌^◌, Bool, true, false, List, [], ◌∷◌, Option, None, Some, IfSome, IsSomeAnd, codes, pos, unwrap_or}
+use Rattle.std.specs.Str.Parse.{IsNumeral, digits_value, without_leading_plus}
+use Rattle.clap.specs.Words.{App, Row, Rule, Text, fault_of, first_of, new_app, new_rule, one_of, with_rule, with_subcommand}
 use Rattle.clap.specs.Simple.{new_shape, on_top}
+use Rattle.clap.specs.declared.builder.command.Command.{Command}
+use Rattle.clap.specs.declared.builder.command.Command.TheViews.{out-Command}
+use Rattle.clap.specs.declared.builder.action.ArgAction.TheVariants.{SetTrue}
+use Rattle.clap.specs.declared.builder.value_parser.ValueParser.TheVariants.{Signed}
+use Rattle.s161.specs.declared.command.RunTask.{RunTask}
+use Rattle.s161.specs.declared.command.Task.{Task}
+use Rattle.s161.specs.declared.command.Task.TheVariants.{Demo, Run}
 
 -- The command line, in clap's own words.
 
--- the program needs a command, and has the one `demo`
+-- an option `--name N`, a number of 32 bits
+abbrev pub number_rule : Text → Text → Rule
+number_rule name default = record (new_rule name) {
+  long = Some name;
+  value_names = 1;
+  parser = Some (Signed (pos 0) (pos 4294967295));
+  defaults = default ∷ [];
+}
+
+abbrev pub image_rule : Rule
+image_rule = record (new_rule (codes "image")) { value_names = 1; required = true }
+
+abbrev pub show_log_rule : Rule
+show_log_rule =
+    record (new_rule (codes "show-log")) { long = Some (codes "show-log"); action = Some SetTrue }
+
+-- `run` takes an image and options
+abbrev pub run_line : App
+run_line =
+    with_rule (with_rule (with_rule (with_rule (with_rule (new_app (codes "run")) image_rule)
+    (number_rule (codes "ram") (codes "1048576")))
+    (number_rule (codes "cpus") (codes "1")))
+    (number_rule (codes "log") (codes "65536")))
+    show_log_rule
+
+-- the program needs a command, `demo` or `run`
 abbrev pub command_line : App
-command_line = with_subcommand (on_top (λ s. record s { subcommand_required = true }) (new_app (codes "s161"))) (new_shape (codes "demo"))
+command_line =
+    with_subcommand (with_subcommand (on_top (λ s. record s { subcommand_required = true }) (new_app (codes "s161")))
+    (new_shape (codes "demo"))) run_line.top
 
 -- clap finds no fault in these words of a command line; the first is the program's name
 unfoldable pub IsAccepted : List Text → Type 0
 IsAccepted words = fault_of command_line words ≡ []
+
+-- a number of 32 bits in decimal digits, which a plus may precede
+abbrev pub IsNumber : Text → Type 0
+IsNumber text = IsNumeral 10 (without_leading_plus text) × (digits_value 10 (without_leading_plus text) < 2 ^ 32)
+
+-- an option's number is the one that clap's text of it writes, and else the default
+pub record HasNumber (default : ℕ) (text : Text) (n : ℕ) : Type 0 where
+  pub number : IsNumber text → n ≡ digits_value 10 (without_leading_plus text)
+  pub other : ¬ IsNumber text → n ≡ default
+
+abbrev pub IsNumberOf : ℕ → Option Text → ℕ → Type 0
+IsNumberOf default None n = n ≡ default
+IsNumberOf default (Some text) n = HasNumber default text n
+
+abbrev pub IsFlag : Option Text → Bool → Type 0
+IsFlag None flag = flag ≡ false
+IsFlag (Some text) flag = (text ≡ codes "true" → flag ≡ true) × (text ≡ codes "false" → flag ≡ false)
+
+-- `run` asks for this, by what clap gives for each of its arguments
+pub record IsAsked (rows : List Row) (task : RunTask) : Type 0 where
+  pub image : task.image.now ≡ unwrap_or (first_of (codes "image") rows) []
+  pub ram : IsNumberOf 1_048_576 (one_of (codes "ram") rows) task.conf.ram
+  pub cpus : IsNumberOf 1 (one_of (codes "cpus") rows) task.conf.processors
+  pub log : IsNumberOf 65_536 (one_of (codes "log") rows) task.conf.log
+  pub show_log : IsFlag (one_of (codes "show-log") rows) task.show_log
+
+-- a command, with its arguments, asks for this
+abbrev pub IsTask : Option (Text × List Row) → Task → Type 0
+IsTask command Demo = IfSome command (λ given. given.0 ≢ codes "run")
+IsTask command (Run task) = IsSomeAnd command (λ given. (given.0 ≡ codes "run") × IsAsked given.1 task)
+
+-- no argument of the command is one of its subcommands' too
+abbrev pub IsLocal : Command → Type 0
+IsLocal command = (out-Command command).has_globals ≡ false

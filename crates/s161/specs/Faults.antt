@@ -1,7 +1,9 @@
 use Rattle.m161_machine.specs.declared.conf.BootError.{BootError}
 use Rattle.m161_machine.specs.declared.conf.BootError.TheVariants.{BadConf, Load, NoMemory}
+use Rattle.m161_steplog.specs.declared.fault.Fault.{Fault as TextFault}
+use Rattle.m161_steplog.specs.declared.fault.Fault.TheVariants as text
 use Rattle.s161.specs.declared.fault.Fault.{Fault}
-use Rattle.s161.specs.declared.fault.Fault.TheVariants.{Conf, Image, Memory}
+use Rattle.s161.specs.declared.fault.Fault.TheVariants.{Conf, Image, Memory, Schedule}
 
 -- Why a command ends early.
 
@@ -10,3 +12,8 @@ abbrev pub fault_of_boot : BootError → Fault
 fault_of_boot BadConf = Conf
 fault_of_boot (Load e) = Image e
 fault_of_boot NoMemory = Memory
+
+-- why a schedule isn't read, as a fault of the command
+abbrev pub fault_of_schedule : TextFault → Fault
+fault_of_schedule (text.Line n) = Schedule n
+fault_of_schedule text.NoMemory = Memory

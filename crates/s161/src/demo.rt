@@ -40,7 +40,7 @@ pub static IMAGE: [u8; 112] = [
 const STEPS: u32 = 7;
 
 /// Boots the image, makes seven Steps and shows processor 0's registers.
-pub fn demo(alloc: Global) -> Result<String, Fault>
+pub fn demo<'a>(alloc: Global) -> Result<String, Fault<'a>>
     ensures { IfErr result (λ fault. fault ≡ Fault.Memory) }
 {
     let mut machine = Machine::boot(alloc, &IMAGE, CONF)?;

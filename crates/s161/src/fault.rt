@@ -1,7 +1,7 @@
 //! Why a command ends early.
 
 ghost use Rattle.std.specs.Prelude.{◌≡◌};
-ghost use Rattle.s161.specs.Faults.{fault_of_boot};
+ghost use Rattle.s161.specs.Faults.{fault_of_boot, fault_of_schedule};
 ghost use Rattle.s161.specs.declared.fault.Fault.TheVariants.{Memory};
 
 use m161_elf::LoadError;
@@ -11,7 +11,11 @@ use thiserror::Error;
 
 /// Why a command ends early; its text is the line on standard error.
 #[derive(Clone, Copy, Debug, Error)]
-pub enum Fault {
+pub enum Fault<'a> {
+    #[error("s161: file {0}")]
+    File(&'a str),
+    #[error("s161: schedule line {0}")]
+    Schedule(u64),
     #[error("s161: conf")]
     Conf,
     #[error("s161: image {} {}", .0.number(), .0.name())]
@@ -24,22 +28,33 @@ pub enum Fault {
     Output,
 }
 
-impl From<AllocError> for Fault {
+impl<'a> From<AllocError> for Fault<'a> {
     ghost from_gives = { λ _ fault. fault ≡ Memory };
 
-    fn from(_error: AllocError) -> Fault {
+    fn from(_error: AllocError) -> Fault<'a> {
         Fault::Memory
     }
 }
 
-impl From<BootError> for Fault {
+impl<'a> From<BootError> for Fault<'a> {
     ghost from_gives = { λ error fault. fault ≡ fault_of_boot error };
 
-    fn from(error: BootError) -> Fault {
+    fn from(error: BootError) -> Fault<'a> {
         match error {
             BootError::BadConf => Fault::Conf,
             BootError::Load(error) => Fault::Image(error),
             BootError::NoMemory => Fault::Memory,
+        }
+    }
+}
+
+impl<'a> From<m161_steplog::Fault> for Fault<'a> {
+    ghost from_gives = { λ error fault. fault ≡ fault_of_schedule error };
+
+    fn from(error: m161_steplog::Fault) -> Fault<'a> {
+        match error {
+            m161_steplog::Fault::Line(line) => Fault::Schedule(line),
+            m161_steplog::Fault::NoMemory => Fault::Memory,
         }
     }
 }

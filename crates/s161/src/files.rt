@@ -1,13 +1,22 @@
 //! Where files come from.
 
+ghost use Rattle.std.specs.Prelude.{◌≡◌, ℕ, List, Option, None, IfOk, IfSome};
+
+use crate::input::read_whole;
 use std::alloc::Global;
+use std::fs::File;
+use std::io;
 use std::rt::Files;
-use std::{fs, io};
 
 /// A source of files.
 pub trait FileSource {
+    // The bytes of the file of a name, where they are known.
+    ghost known: { Self → List ℕ → Option (List ℕ) } = { λ _ _. None };
+
     /// The bytes of the file of this name.
-    fn read(&mut self, alloc: Global, name: &str) -> io::Result<Vec<u8>>;
+    fn read(&mut self, alloc: Global, name: &str) -> io::Result<Vec<u8>>
+        ensures { IfOk result (λ bytes. IfSome (known self.old name.now) (λ file.
+            bytes.items ≡ file)) };
 }
 
 /// The files of the host.
@@ -23,7 +32,7 @@ impl<'a, R: Files + AllocGlobal> HostFiles<'a, R> {
 }
 
 impl<R: Files + AllocGlobal> FileSource for HostFiles<'_, R> {
-    fn read(&mut self, _alloc: Global, name: &str) -> io::Result<Vec<u8>> {
-        fs::read(self.rt, name)
+    fn read(&mut self, alloc: Global, name: &str) -> io::Result<Vec<u8>> {
+        read_whole(alloc, &mut File::open(self.rt, name)?)
     }
 }

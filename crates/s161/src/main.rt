@@ -1,10 +1,13 @@
 //! The program: a machine from the command line.
 //!
 //! ```text
-//! s161 demo    boots the built-in image, makes seven Steps and prints processor 0's registers
+//! s161 demo        boots the built-in image, makes seven Steps and prints processor 0's registers
+//! s161 run IMAGE   boots an ELF file, makes the events of the schedule on standard input, and
+//!                  prints the console's output, the started processors and why it stopped
 //!
-//! exit         0 a finished command; 1 a fault, named in one line on standard error;
-//!              2 a rejected command line, and a call for help
+//! exit             0 a finished demo, or a machine that switched itself off; 1 a fault, named in
+//!                  one line on standard error, or a refused event; 2 a rejected command line,
+//!                  and a call for help; 3 the schedule ended
 //! ```
 //!
 //! `main` only collects the arguments and names the streams; the work is in `work`, over any
@@ -18,8 +21,12 @@ mod command;
 mod demo;
 mod digits;
 mod display;
+mod events;
 mod fault;
 mod files;
+mod input;
+mod run;
+mod summary;
 #[cfg(test)]
 mod tests;
 mod work;
@@ -48,7 +55,7 @@ fn main(rt: HostRuntime) -> ExitCode {
 }
 
 // The words of the command line.
-fn arguments(rt: &HostRuntime) -> Result<Vec<String>, Fault>
+fn arguments(rt: &HostRuntime) -> Result<Vec<String>, Fault<'static>>
     ensures { IfErr result (λ fault. (fault ≡ Fault.Input) ⊎ (fault ≡ Fault.Memory)) }
 {
     let words = env::args(rt).map_err(fault_of_words)?;
@@ -56,7 +63,7 @@ fn arguments(rt: &HostRuntime) -> Result<Vec<String>, Fault>
 }
 
 // Why the words aren't read: one of them isn't UTF-8, or memory was refused.
-fn fault_of_words(error: io::Error) -> Fault
+fn fault_of_words(error: io::Error) -> Fault<'static>
     ensures input { error_kind error ≡ ErrorKind.InvalidData → result ≡ Fault.Input }
     ensures memory { error_kind error ≢ ErrorKind.InvalidData → result ≡ Fault.Memory }
 {

@@ -2,7 +2,7 @@
 //! for the crate that it tests; `instructions` and `programs` run words on a machine. A worked row
 //! goes into `programs`, or with other events into `traps`, `cop0`, `tlb`, `fetches`, `bus` or
 //! `processors`, in the form that `listing` says. `sample` runs a whole small kernel of two
-//! processors.
+//! processors. `program` and `run` try the program's commands over the streams of `streams`.
 
 mod alu;
 mod bus;
@@ -19,7 +19,10 @@ mod processors;
 mod program;
 mod programs;
 mod ram;
+mod run;
 mod sample;
+mod steplog;
+mod streams;
 mod tlb;
 mod traps;
 

@@ -4,11 +4,13 @@ ghost use Rattle.std.specs.Prelude.{◌≡◌, ◌≢◌, ◌≤◌, true, false
 ghost use Rattle.std.specs.Io.KnownBytes.{Appends};
 ghost use Rattle.clap.specs.Words.{kind_of};
 ghost use Rattle.s161.specs.Commands.{IsAccepted};
+ghost use Rattle.s161.specs.Runs.{Does, IsDone, Printed};
 
-use crate::command::{Task, parse};
+use crate::command::{RunTask, Task, parse};
 use crate::demo::demo;
 use crate::fault::Fault;
 use crate::files::FileSource;
+use crate::run::run;
 use clap::Error;
 use clap::error::ErrorKind;
 use std::alloc::Global;
@@ -19,7 +21,7 @@ use std::io::{Read, Write};
 /// is the exit status.
 pub fn start<A, F, I, O, E>(
     rt: &A,
-    words: Result<Vec<String>, Fault>,
+    words: Result<Vec<String>, Fault<'static>>,
     files: &mut F,
     input: &mut I,
     output: &mut O,
@@ -31,12 +33,15 @@ where
     I: Read,
     O: Write,
     E: Write,
-    ensures accepted { result ≡ 0
-        → IfOk words (λ ws. IsAccepted (map string_bytes ws.items)) }
+    ensures accepted { IsDone result
+        → IfOk words.entry (λ ws. IsAccepted (map string_bytes ws.items)) }
     ensures rejected { result ≡ 2
-        → IfOk words (λ ws. ¬ IsAccepted (map string_bytes ws.items)) }
-    ensures unread { IfErr words (λ _. result ≡ 1) }
-    ensures within { result ≤ 2 }
+        → IfOk words.entry (λ ws. ¬ IsAccepted (map string_bytes ws.items)) }
+    ensures finished { IsDone result → IfOk words.entry (λ ws. Does (map string_bytes ws.items)
+        (F.known files.old) (I.remaining input.old) (O.contents output.old)
+        (O.contents output.new) result) }
+    ensures unread { IfErr words.entry (λ _. result ≡ 1) }
+    ensures within { result ≤ 3 }
 {
     match words {
         Ok(words) => work(rt, words.as_slice(), files, input, output, errors),
@@ -44,13 +49,14 @@ where
     }
 }
 
-/// Does what a command line says. The result is the exit status: 0 a finished command, 1 a fault,
-/// 2 a rejected command line. An output is made whole before it is written.
+/// Does what a command line says. The result is the exit status: 0 a finished demo, or a machine
+/// that switched itself off; 1 a fault, or a refused event; 2 a rejected command line; 3 a schedule
+/// that ended. An output is made whole before it is written.
 pub fn work<A, S, F, I, O, E>(
     rt: &A,
     words: &[S],
-    _files: &mut F,
-    _input: &mut I,
+    files: &mut F,
+    input: &mut I,
     output: &mut O,
     errors: &mut E,
 ) -> u8
@@ -61,22 +67,52 @@ where
     I: Read,
     O: Write,
     E: Write,
-    ensures accepted { result ≡ 0 → IsAccepted (map S.text words.now) }
+    ensures accepted { IsDone result → IsAccepted (map S.text words.now) }
     ensures rejected { result ≡ 2 → ¬ IsAccepted (map S.text words.now) }
-    ensures within { result ≤ 2 }
+    ensures finished { IsDone result → Does (map S.text words.now) (F.known files.old)
+        (I.remaining input.old) (O.contents output.old) (O.contents output.new) result }
+    ensures within { result ≤ 3 }
 {
-    let made = match parse(rt.alloc(), words) {
-        Ok(Task::Demo) => demo(rt.alloc()),
-        Err(error) => return reject(rt.alloc(), &error, output, errors),
+    let alloc = rt.alloc();
+    let done = match parse(alloc, words) {
+        Ok(Task::Demo) => do_demo(alloc, output),
+        Ok(Task::Run(task)) => do_run(alloc, task, files, input, output),
+        Err(error) => return reject(alloc, &error, output, errors),
     };
-    match made.and_then(|text| put(output, text.as_bytes())) {
-        Ok(()) => 0,
+    match done {
+        Ok(status) => status,
         Err(fault) => report(fault, errors),
     }
 }
 
+// Prints the demo. The result is the exit status.
+fn do_demo<'a, O: Write>(alloc: Global, output: &mut O) -> Result<u8, Fault<'a>>
+    ensures { IfOk result (λ status. status ≡ 0) }
+{
+    let text = demo(alloc)?;
+    put(output, text.as_bytes())?;
+    Ok(0)
+}
+
+// Runs an image, and prints what it did. The result is the exit status.
+fn do_run<'a, F: FileSource, I: Read, O: Write>(
+    alloc: Global,
+    task: RunTask<'a>,
+    files: &mut F,
+    input: &mut I,
+    output: &mut O,
+) -> Result<u8, Fault<'a>>
+    ensures printed { IfOk result (Printed task.entry (F.known files.old task.entry.image.now)
+        (I.remaining input.old) (O.contents output.old) (O.contents output.new)) }
+    ensures within { IfOk result (λ status. (status ≤ 3) × (status ≢ 2)) }
+{
+    let finished = run(alloc, files, input, task)?;
+    put(output, finished.text.as_slice())?;
+    Ok(finished.status)
+}
+
 // Writes all of an output.
-fn put<O: Write>(output: &mut O, bytes: &[u8]) -> Result<(), Fault>
+fn put<'a, O: Write>(output: &mut O, bytes: &[u8]) -> Result<(), Fault<'a>>
     ensures ok { OnOk result (Appends (O.contents output.old) (O.contents output.new) bytes.now) }
     ensures err { IfErr result (λ fault. fault ≡ Fault.Output) }
 {
@@ -87,7 +123,7 @@ fn put<O: Write>(output: &mut O, bytes: &[u8]) -> Result<(), Fault>
 }
 
 /// Writes a fault's line on standard error. The result is the exit status.
-pub fn report<E: Write>(fault: Fault, errors: &mut E) -> u8
+pub fn report<E: Write>(fault: Fault<'_>, errors: &mut E) -> u8
     ensures { result ≡ 1 }
 {
     let _ = writeln!(errors, "{fault}");

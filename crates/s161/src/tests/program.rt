@@ -1,14 +1,11 @@
 //! Command lines, and what the program writes.
 
 use super::same;
+use super::streams::{FREE, Left, Memory, NoFiles, all};
 use crate::fault::Fault;
-use crate::files::FileSource;
 use crate::work::{start, work};
 use m161_elf::LoadError;
 use m161_machine::BootError;
-use std::alloc::Global;
-use std::io;
-use std::io::{ErrorKind, Write};
 use std::test::Fail;
 
 /// What the demo prints.
@@ -31,10 +28,26 @@ Usage: s161 <COMMAND>
 
 Commands:
   demo  Makes seven Steps of the built-in image
+  run   Runs an image under a schedule of events
   help  Print this message or the help of the given subcommand(s)
 
 Options:
   -h, --help  Print help
+
+The schedule of run is read from standard input, an event a line:
+  s P [N]  N Steps of processor P, 1 to 1000000; one where N is left out
+  k HH     a byte is typed at the console, two hexadecimal digits
+  o        the console has sent its byte
+  # ...    a comment; an empty line is ignored too
+
+Exit status:
+  0  a finished demo, or a machine that switched itself off
+  1  a fault, named on standard error, or a refused event
+  2  a rejected command line, or a call for help
+  3  the schedule ended
+
+Example:
+  printf 's 0 1000\\nk 41\\ns 0 1000\\n' | s161 run kernel.elf --show-log
 ";
 
 /// What clap writes on standard error for the word `foo`.
@@ -47,63 +60,6 @@ For more information, try '--help'.
 
 /// The line of an output that fails.
 const FAILED: &str = "s161: output\n";
-
-/// A source with no files.
-#[derive(Drop)]
-struct NoFiles;
-
-impl FileSource for NoFiles {
-    fn read(&mut self, _alloc: Global, _name: &str) -> io::Result<Vec<u8>> {
-        Err(io::Error::from(ErrorKind::NotFound))
-    }
-}
-
-/// A writer into memory with room for some bytes; then it fails, or writes none without an error.
-#[derive(Drop)]
-struct Memory {
-    bytes: Vec<u8>,
-    room: usize,
-    fails: bool,
-}
-
-impl Memory {
-    fn new(alloc: Global, room: usize, fails: bool) -> Memory {
-        Memory {
-            bytes: Vec::new(alloc),
-            room,
-            fails,
-        }
-    }
-
-    /// How many bytes were written, and whether the text begins with them.
-    fn written(&self, text: &str) -> (usize, bool) {
-        (self.bytes.len(), text.as_bytes().starts_with(&self.bytes))
-    }
-}
-
-impl Write for Memory {
-    fn write(&mut self, buf: &[u8]) -> io::Result<usize> {
-        let count = buf.len().min(self.room);
-        if count == 0 && self.fails {
-            return Err(io::Error::from(ErrorKind::BrokenPipe));
-        }
-        self.bytes.extend_from_slice(&buf[..count])?;
-        self.room -= count;
-        Ok(count)
-    }
-
-    fn flush(&mut self) -> io::Result<()> {
-        Ok(())
-    }
-}
-
-/// What a run leaves: its exit status, and how much of two texts was written on the streams.
-type Left = (u8, (usize, bool), (usize, bool));
-
-/// All of a text, or none.
-fn all(text: &str) -> (usize, bool) {
-    (text.len(), true)
-}
 
 /// Does what a command line says, over streams with room for some bytes, against the texts that
 /// they should begin.
@@ -121,9 +77,6 @@ fn run(rt: &HostRuntime, words: &[&str], texts: [&str; 2], room: [usize; 2], fai
     );
     (status, output.written(texts[0]), errors.written(texts[1]))
 }
-
-/// Room for every text.
-const FREE: [usize; 2] = [usize::MAX, usize::MAX];
 
 #[test]
 fn demo(rt: HostRuntime) {
@@ -181,7 +134,7 @@ fn failing_rejections(rt: HostRuntime) {
 }
 
 /// Starts the program on words that were read, or weren't.
-fn started(rt: &HostRuntime, words: Result<Vec<String>, Fault>, texts: [&str; 2]) -> Left {
+fn started(rt: &HostRuntime, words: Result<Vec<String>, Fault<'static>>, texts: [&str; 2]) -> Left {
     let mut input: &[u8] = &[];
     let mut output = Memory::new(rt.alloc(), usize::MAX, true);
     let mut errors = Memory::new(rt.alloc(), usize::MAX, true);
@@ -216,6 +169,8 @@ fn starts(rt: HostRuntime) -> Result<(), Fail> {
 #[test]
 fn fault_texts(rt: HostRuntime) -> Result<(), Fail> {
     for (fault, text) in [
+        (Fault::File("a.elf"), "s161: file a.elf"),
+        (Fault::Schedule(12), "s161: schedule line 12"),
         (Fault::Conf, "s161: conf"),
         (
             Fault::Image(LoadError::Truncated),

@@ -2,10 +2,10 @@ use Rattle.std.proofs.Common.{rules}
 use Rattle.s161.proofs.Accepting.{accepted, rejected}
 use Rattle.s161.proofs.command.parse.Goals as goal
 
-pub returns-in_err-_matches-clause-rejected : goal.returns-in_err-_matches-clause-rejected
-returns-in_err-_matches-clause-rejected g c =
-    let rejected = rejected _ _ c.in_err-_matches.field-0.0 c.in_ok-command.ensures c.in_err-_matches.ensures.kinds in
+pub returns-in_err-matches-clause-rejected : goal.returns-in_err-matches-clause-rejected
+returns-in_err-matches-clause-rejected g c =
+    let rejected = rejected _ _ c.in_err-matches.field-0.0 c.in_ok-command.ensures c.in_err-matches.ensures.kinds in
     search (rules, rejected)
 
 pub returns-clause-accepted : goal.returns-clause-accepted
-returns-clause-accepted g c = accepted _ _ c.in_ok-command.ensures c.in_ok-_matches.ensures.kinds
+returns-clause-accepted g c = accepted _ _ c.in_ok-command.ensures c.in_ok-matches.ensures.kinds

@@ -1,0 +1,123 @@
+use Rattle.std.specs.Prelude.{◌≡◌, ◌⊎◌, ℕ, ◌-◌, ◌==◌, Bool, true, false, if◌then◌else◌, List, [], ◌∷◌, ◌++◌, Option, None, Some, IsSomeAnd, IfSome, codes, decimal, flat_map, length, slice_get, take}
+use Rattle.std.specs.Io.KnownBytes.{Appends}
+use Rattle.std.specs.List.{range_with_len}
+use Rattle.clap.specs.Words.{Text, subcommand_of}
+use Rattle.m161_cpu.specs.declared.processor.ProcessorState.{ProcessorState}
+use Rattle.m161_cpu.specs.declared.processor.ProcessorState.TheVariants.{Stopped, Running, Waiting}
+use Rattle.m161_cpu.specs.Processor.{Processor}
+use Rattle.m161_machine.specs.declared.event.Event.{Event}
+use Rattle.m161_machine.specs.declared.event.Refusal.{Refusal}
+use Rattle.m161_machine.specs.Refusal.{name_of_refusal, number_of_refusal}
+use Rattle.m161_machine.specs.State.{State, next, processor_at}
+use Rattle.m161_machine.specs.History.{History, Continues, IsBooted, Refuses}
+use Rattle.m161_steplog.specs.Lines.{lines_of}
+use Rattle.m161_steplog.specs.Log.{log_text}
+use Rattle.m161_steplog.specs.Schedule.{IsSchedule}
+use Rattle.s161.specs.declared.command.RunTask.{RunTask}
+use Rattle.s161.specs.declared.command.Task.{Task}
+use Rattle.s161.specs.declared.command.Task.TheVariants.{Demo, Run}
+use Rattle.s161.specs.declared.events.Stop.{Stop}
+use Rattle.s161.specs.declared.events.Stop.TheVariants.{Off, End, Refused}
+use Rattle.s161.specs.Commands.{IsTask, command_line}
+use Rattle.s161.specs.Texts.{◌␣◌, ended, show_regs_text}
+
+-- What `run` makes, prints and answers.
+
+-- event k of these is refused in this state
+abbrev pub IsRefusedAt : List Event → ℕ → State → Refusal → Type 0
+IsRefusedAt events k s refusal = IsSomeAnd (slice_get events k) (λ e. Refuses (next s e) e refusal)
+
+-- a machine is on, and then off
+abbrev pub IsSwitchedOff : History → History → Type 0
+IsSwitchedOff m n = (m.state.board.off ≡ false) × (n.state.board.off ≡ true)
+
+-- why so many of these events were made of m, which left n, and no more: they switched it off; or they didn't, and there are no more, or the next is refused
+abbrev pub Stops : History → List Event → ℕ → Stop → History → Type 0
+Stops m events made Off n = IsSwitchedOff m n
+Stops m events made End n = (n.state.board.off ≡ m.state.board.off) × (made ≡ length events)
+Stops m events made (Refused k refusal) n =
+    (n.state.board.off ≡ m.state.board.off) × (made ≡ k) × IsRefusedAt events k n.state refusal
+
+-- of a machine the first of these events are made, which leave n, until one switches it off or is refused
+pub record Makes (m : History) (events : List Event) (stop : Stop) (n : History) : Type 0 where
+  pub made : ℕ
+  pub first : Continues m (take made events) n
+  pub why : Stops m events made stop n
+
+-- the line end that a text with this last byte lacks
+abbrev pub lacking_end : Option ℕ → List ℕ
+lacking_end None = []
+lacking_end (Some last) = if last == 10 then [] else 10 ∷ []
+
+-- what the console has sent, with a line end where that isn't empty and lacks one
+abbrev pub output_text : List ℕ → List ℕ
+output_text output = output ++ lacking_end (slice_get output (length output - 1))
+
+-- a text of a processor that is started
+abbrev pub if_started : ProcessorState → List ℕ → List ℕ
+if_started Stopped text = []
+if_started Running text = text
+if_started Waiting text = text
+
+abbrev pub started_text : List Processor → ℕ → List ℕ
+started_text processors p =
+    if_started (processor_at p processors).state (show_regs_text p (processor_at p processors))
+
+-- the started processors among the first n
+abbrev pub started_texts : List Processor → ℕ → List ℕ
+started_texts processors n = flat_map (started_text processors) (range_with_len 0 n)
+
+abbrev pub stop_text : Stop → List ℕ
+stop_text Off = codes "stop: off"
+stop_text End = codes "stop: end"
+stop_text (Refused k refusal) =
+    codes "stop: refused" ␣ decimal k ␣ decimal (number_of_refusal refusal) ␣ name_of_refusal refusal
+
+-- what `run` prints of a machine, and of its log where that is wanted
+abbrev pub summary_text : History → Stop → Bool → List ℕ
+summary_text m stop show_log =
+    output_text m.state.board.console.output
+    ++ started_texts m.state.processors (length m.state.processors)
+    ++ (if show_log then log_text m.log else [])
+    ++ ended (stop_text stop)
+
+abbrev pub status_of : Stop → ℕ
+status_of Off = 0
+status_of (Refused k refusal) = 1
+status_of End = 3
+
+-- a run that was finished: what it prints and its exit status, where the image's file and standard input have these bytes, as far as they are known
+pub record IsRun (task : RunTask) (known : Option (List ℕ)) (input : Option (List ℕ)) (text : List ℕ) (status : ℕ) : Type 0 where
+  pub file : List ℕ
+  pub is_file : IfSome known (λ bytes. file ≡ bytes)
+  pub booted : History
+  pub is_booted : IsBooted file task.conf booted
+  pub schedule : List ℕ
+  pub is_input : IfSome input (λ bytes. schedule ≡ bytes)
+  pub events : List Event
+  pub is_schedule : IsSchedule (lines_of schedule) events
+  pub machine : History
+  pub stop : Stop
+  pub makes : Makes booted events stop machine
+  pub text_is : text ≡ summary_text machine stop task.show_log
+  pub status_is : status ≡ status_of stop
+
+-- a finished run printed its text
+abbrev pub Printed : RunTask → Option (List ℕ) → Option (List ℕ) → Option (List ℕ) → Option (List ℕ) → ℕ → Type 0
+Printed task known input before after status =
+    (text : List ℕ) × IsRun task known input text status × Appends before after text
+
+-- a task was finished with this exit status, and printed what belongs to it
+abbrev pub Finishes : Task → (Text → Option (List ℕ)) → Option (List ℕ) → Option (List ℕ) → Option (List ℕ) → ℕ → Type 0
+Finishes Demo files input before after status = status ≡ 0
+Finishes (Run task) files input before after status =
+    Printed task (files task.image.now) input before after status
+
+-- a command line's task was finished, over files and a standard input with these bytes, and a standard output that had and has these
+abbrev pub Does : List Text → (Text → Option (List ℕ)) → Option (List ℕ) → Option (List ℕ) → Option (List ℕ) → ℕ → Type 0
+Does words files input before after status =
+    (task : Task) × IsTask (subcommand_of command_line words) task × Finishes task files input before after status
+
+-- the exit status of a finished demo or of a run with no fault and no refused event
+abbrev pub IsDone : ℕ → Type 0
+IsDone status = (status ≡ 0) ⊎ (status ≡ 3)

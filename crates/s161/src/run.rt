@@ -1,0 +1,58 @@
+//! An image, run under a schedule.
+
+ghost use Rattle.std.specs.Prelude.{◌≡◌, IfOk};
+ghost use Rattle.s161.specs.Runs.{IsRun, status_of};
+
+use crate::Machine;
+use crate::command::RunTask;
+use crate::events::{Stop, make_events};
+use crate::fault::Fault;
+use crate::files::FileSource;
+use crate::input::{read_file, read_input};
+use crate::summary::summary;
+use m161_steplog::read_schedule;
+use std::alloc::Global;
+use std::io::Read;
+
+/// What a finished command prints, and its exit status.
+#[derive(Drop)]
+pub struct Finished {
+    pub text: Vec<u8>,
+    pub status: u8,
+}
+
+/// Reads the image and then the schedule, boots the image, and makes the schedule's events until
+/// one switches the machine off or is refused.
+///
+/// # Errors
+/// The first fault.
+pub fn run<'a, F: FileSource, I: Read>(
+    alloc: Global,
+    files: &mut F,
+    input: &mut I,
+    task: RunTask<'a>,
+) -> Result<Finished, Fault<'a>>
+    ensures { IfOk result (λ done. IsRun task.entry (F.known files.old task.entry.image.now)
+        (I.remaining input.old) done.text.items done.status) }
+{
+    let file = read_file(alloc, files, task.image)?;
+    let schedule = read_input(alloc, input)?;
+    let events = read_schedule(alloc, schedule.as_str())?;
+    let mut machine = Machine::boot(alloc, &file, task.conf)?;
+    let stop = make_events(&mut machine, &events);
+    Ok(Finished {
+        text: summary(alloc, &machine, stop, task.show_log)?,
+        status: status(stop),
+    })
+}
+
+// The exit status of a run.
+fn status(stop: Stop) -> u8
+    ensures { result ≡ status_of stop }
+{
+    match stop {
+        Stop::Off => 0,
+        Stop::Refused(_, _) => 1,
+        Stop::End => 3,
+    }
+}

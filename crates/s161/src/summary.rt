@@ -1,0 +1,76 @@
+//! What `run` prints.
+
+ghost use Rattle.std.specs.Prelude.{◌≡◌, ◌++◌, ◌<◌, length, IfOk, OnOk};
+ghost use Rattle.m161_steplog.specs.Log.{log_text};
+ghost use Rattle.s161.specs.Runs.{output_text, started_text, summary_text};
+
+use crate::Machine;
+use crate::display::show_regs;
+use crate::events::Stop;
+use m161_machine::ProcessorState;
+use m161_steplog::write_log;
+use std::alloc::{AllocError, Global};
+
+/// The console's output, each started processor, the log where it is wanted, and why the events
+/// ended.
+pub fn summary(
+    alloc: Global,
+    machine: &Machine,
+    stop: Stop,
+    show_log: bool,
+) -> Result<Vec<u8>, AllocError>
+    ensures { IfOk result (λ text. text.items ≡ summary_text machine.now stop show_log) }
+{
+    let mut text = Vec::new(alloc);
+    push_output(&mut text, machine.output())?;
+    for p in 0..machine.processors() {
+        push_processor(alloc, &mut text, machine, p)?;
+    }
+    if show_log {
+        push_log(alloc, &mut text, machine)?;
+    }
+    let line = format!(in alloc; "{stop}\n")?;
+    text.extend_from_slice(line.as_bytes())?;
+    Ok(text)
+}
+
+// The bytes that the console has sent, and a line end where they lack one.
+fn push_output(text: &mut Vec<u8>, output: &[u8]) -> Result<(), AllocError>
+    ensures { OnOk result (text.new.items ≡ text.old.items ++ output_text output.now) }
+{
+    text.extend_from_slice(output)?;
+    if let Some(last) = output.last() {
+        if *last != b'\n' {
+            text.push(b'\n')?;
+        }
+    }
+    Ok(())
+}
+
+// A processor, if it was started.
+fn push_processor(
+    alloc: Global,
+    text: &mut Vec<u8>,
+    machine: &Machine,
+    p: u32,
+) -> Result<(), AllocError>
+    requires { p < length machine.now.state.processors }
+    ensures { OnOk result (text.new.items
+        ≡ text.old.items ++ started_text machine.now.state.processors p) }
+{
+    match machine.state(p) {
+        ProcessorState::Stopped => Ok(()),
+        ProcessorState::Running | ProcessorState::Waiting => {
+            let shown = show_regs(alloc, machine, p)?;
+            text.extend_from_slice(shown.as_bytes())
+        }
+    }
+}
+
+fn push_log(alloc: Global, text: &mut Vec<u8>, machine: &Machine) -> Result<(), AllocError>
+    ensures { OnOk result (text.new.items ≡ text.old.items ++ log_text machine.now.log) }
+{
+    let entries = machine.copy_log(alloc)?;
+    let log = write_log(alloc, &entries)?;
+    text.extend_from_slice(log.as_bytes())
+}
