@@ -137,7 +137,7 @@ impl<T: Tlb, D: Console> Session<T, D> {
             if k > 0 && self.is_at_break(*event) {
                 return Stop::Break(k);
             }
-            match self.machine.event(*event) {
+            match self.step(*event) {
                 Err(refusal) => return Stop::Refused(k, refusal),
                 Ok(outcome) => {
                     if outcome == Outcome::PoweredOff {
