@@ -1,2 +1,5 @@
 mod Sets
 mod Going
+mod Hex
+mod Shown
+mod Places

@@ -1,2 +1,3 @@
 pub mod Breakpoints
 pub mod Stops
+pub mod Shows

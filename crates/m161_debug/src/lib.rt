@@ -2,6 +2,8 @@
 #![tactic(auto)]
 
 mod breakpoints;
+mod digits;
+mod display;
 mod session;
 mod stop;
 

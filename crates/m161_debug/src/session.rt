@@ -1,16 +1,19 @@
 //! A session.
 
-ghost use Rattle.std.specs.Prelude.{◌≡◌, []};
+ghost use Rattle.std.specs.Prelude.{◌≡◌, ◌+◌, ◌*◌, ◌%◌, ◌<◌, ◌≤◌, [], true, length, string_bytes, IfOk};
+ghost use Rattle.m161_elf.specs.Image.{is_in_ram};
 ghost use Rattle.m161_machine.specs.History.{Answers};
 ghost use Rattle.m161_debug.specs.Breakpoints.{breakpoint, break_answer, break_fault, break_leaves, has, without_breakpoint, IsSet};
 ghost use Rattle.m161_debug.specs.Stops.{is_break, Stops};
+ghost use Rattle.m161_debug.specs.Shows.{show_code_text, show_cop0_text, show_mem_text, show_regs_text, show_tlb_text};
 
 use crate::breakpoints::{BreakError, Breakpoint, Breakpoints, MOST};
+use crate::display::{show_code, show_cop0, show_mem, show_regs, show_tlb};
 use crate::stop::Stop;
 use m161_bus::Console;
 use m161_machine::{Event, Machine, Outcome, Refusal};
 use m161_tlb::Tlb;
-use std::alloc::Global;
+use std::alloc::{AllocError, Global};
 use std::marker::Model;
 
 /// A machine that is debugged, with its breakpoints.
@@ -58,9 +61,11 @@ impl<T: Tlb, D: Console> Session<T, D> {
     /// There is no such processor; or there are 64 other breakpoints. Nothing is changed then.
     pub fn breakpoint(&mut self, p: u32, address: u32) -> Result<(), BreakError>
         ensures answer { result ≡ break_answer (break_fault (breakpoint p address) self.old) }
-        ensures after { self.new ≡ record self.old { breakpoints =
-            break_leaves (break_fault (breakpoint p address) self.old) (breakpoint p address)
-            self.old.breakpoints } }
+        ensures after { self.new ≡ record self.old {
+          breakpoints =
+              break_leaves (break_fault (breakpoint p address) self.old) (breakpoint p address)
+              self.old.breakpoints;
+        } }
     {
         let place = Breakpoint {
             processor: p,
@@ -83,7 +88,8 @@ impl<T: Tlb, D: Console> Session<T, D> {
     pub fn delete(&mut self, p: u32, address: u32) -> bool
         ensures found { result ≡ has (breakpoint p address) self.old.breakpoints }
         ensures after { self.new ≡ record self.old {
-            breakpoints = without_breakpoint (breakpoint p address) self.old.breakpoints } }
+          breakpoints = without_breakpoint (breakpoint p address) self.old.breakpoints;
+        } }
     {
         self.breakpoints.remove(Breakpoint {
             processor: p,
@@ -107,6 +113,71 @@ impl<T: Tlb, D: Console> Session<T, D> {
         ensures breakpoints { self.new.breakpoints ≡ self.old.breakpoints }
     {
         self.machine.event(event)
+    }
+
+    /// A processor's registers: its number, what it is doing, its address and whether that is in a
+    /// delay slot; the general registers, four a line; HI and LO.
+    ///
+    /// # Errors
+    /// Memory was refused.
+    pub fn show_regs(&self, p: u32) -> Result<String, AllocError>
+        requires { p < length self.now.machine.state.processors }
+        ensures { IfOk result (λ text. string_bytes text
+            ≡ show_regs_text p self.now.machine.state) }
+    {
+        show_regs(self.alloc, &self.machine, p)
+    }
+
+    /// A processor's registers of coprocessor 0, one a line, in the order of their numbers.
+    ///
+    /// # Errors
+    /// Memory was refused.
+    pub fn show_cop0(&self, p: u32) -> Result<String, AllocError>
+        requires { p < length self.now.machine.state.processors }
+        ensures { IfOk result (λ text. string_bytes text
+            ≡ show_cop0_text p self.now.machine.state) }
+    {
+        show_cop0(self.alloc, &self.machine, p)
+    }
+
+    /// The 64 rows of a processor's TLB, one a line: its number and its words in EntryHi and
+    /// EntryLo.
+    ///
+    /// # Errors
+    /// Memory was refused.
+    pub fn show_tlb(&self, p: u32) -> Result<String, AllocError>
+        requires { p < length self.now.machine.state.processors }
+        ensures { IfOk result (λ text. string_bytes text
+            ≡ show_tlb_text p self.now.machine.state) }
+    {
+        show_tlb(self.alloc, &self.machine, p)
+    }
+
+    /// `n` words of RAM from a physical address on, one a line.
+    ///
+    /// # Errors
+    /// Memory was refused.
+    pub fn show_mem(&self, address: u32, n: u32) -> Result<String, AllocError>
+        requires aligned { address % 4 ≡ 0 }
+        requires inside { address + 4 * n ≤ length self.now.machine.state.memory }
+        ensures { IfOk result (λ text. string_bytes text
+            ≡ show_mem_text address n self.now.machine.state) }
+    {
+        show_mem(self.alloc, &self.machine, address, n)
+    }
+
+    /// `n` instructions from an address in kseg0 or kseg1 on, one a line: its address, its word and
+    /// its text.
+    ///
+    /// # Errors
+    /// Memory was refused.
+    pub fn show_code(&self, address: u32, n: u32) -> Result<String, AllocError>
+        requires aligned { address % 4 ≡ 0 }
+        requires inside { is_in_ram (length self.now.machine.state.memory) address (4 * n) ≡ true }
+        ensures { IfOk result (λ text. string_bytes text
+            ≡ show_code_text address n self.now.machine.state) }
+    {
+        show_code(self.alloc, &self.machine, address, n)
     }
 
     // Whether a Step stands at a breakpoint.
