@@ -1,5 +1,8 @@
 mod Sets
 mod Going
+mod Readers
+mod Parts
+mod Decimal
 mod Hex
 mod Shown
 mod Places
