@@ -6,3 +6,6 @@ mod Decimal
 mod Hex
 mod Shown
 mod Places
+mod Asked
+mod Numerals
+mod Decimals

@@ -39,7 +39,7 @@ area_word Code = codes "x"
 
 -- a decimal number without leading zeros
 abbrev pub IsDecimal : List ℕ → Type 0
-IsDecimal digits = IsNumeral 10 digits × (get_or digits 0 48 ≡ 48 → length digits ≡ 1)
+IsDecimal digits = IsNumeral 10 digits × (get_or digits 0 0 ≡ 48 → length digits ≡ 1)
 
 -- how many events a number asks for: one too large for a list counts as 2^64 - 1
 abbrev pub count_of : List ℕ → ℕ

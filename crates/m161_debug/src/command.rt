@@ -138,6 +138,7 @@ fn command_with(word: &str, arguments: &str) -> Result<Command, CommandError>
     }
 }
 
+#[tactic(auto, using(crate::proofs::Asked::no_place))]
 fn breakpoint_of(change: Change, arguments: &str) -> Result<Command, CommandError>
     ensures { IsAsked (change_word change ␣ arguments.now) result }
 {
@@ -191,6 +192,7 @@ fn show_of(display: Display, arguments: &str) -> Result<Command, CommandError>
     }
 }
 
+#[tactic(auto, using(crate::proofs::Asked::no_span))]
 fn words_of(area: Area, arguments: &str) -> Result<Command, CommandError>
     ensures { IsAsked (area_word area ␣ arguments.now) result }
 {

@@ -6,6 +6,7 @@ mod command;
 mod digits;
 mod display;
 mod reading;
+mod room;
 mod session;
 mod stop;
 

@@ -1,6 +1,7 @@
 //! Parts of a command, read.
 
-ghost use Rattle.std.specs.Prelude.{◌^◌, ◌<◌, ◌≤◌, ◌≡◌, length, decimal, true, false, IfSome, IfNone};
+ghost use Rattle.std.specs.Prelude.{◌^◌, ◌<◌, ◌≤◌, ◌≡◌, length, decimal, true, false, get_or, IfSome, IfNone};
+ghost use Rattle.std.specs.Str.Parse.{AllDigits};
 ghost use Rattle.m161_steplog.specs.Parts.{Cuts, Reads, ReadsBoth, IsByte, IsWord, hex_digit, hex_text};
 ghost use Rattle.m161_debug.specs.Shows.{word_text};
 ghost use Rattle.m161_debug.specs.Commands.{count_of, IsDecimal};
@@ -89,15 +90,39 @@ pub(crate) fn span_of(text: &str) -> Option<(u32, u32)>
     Some((address, n))
 }
 
+// Whether bytes are digits.
+fn are_digits(bytes: &[u8]) -> bool
+    ensures yes { result ≡ true → AllDigits 10 bytes.now }
+    ensures no { result ≡ false → AllDigits 10 bytes.now → ⊥ }
+{
+    for byte in bytes {
+        if *byte < b'0' || *byte > b'9' {
+            return false;
+        }
+    }
+    true
+}
+
+// Whether a text begins with a zero and goes on.
+fn has_leading_zero(text: &str) -> bool
+    ensures yes { result ≡ true → (1 < length text.now) × (get_or text.now 0 0 ≡ 48) }
+    ensures no { result ≡ false → get_or text.now 0 0 ≡ 48 → length text.now ≤ 1 }
+{
+    text.len() > 1 && text.starts_with('0')
+}
+
 // Whether a text is a decimal number without leading zeros, of any size.
 fn is_decimal(text: &str) -> bool
     ensures yes { result ≡ true → IsDecimal text.now }
     ensures no { result ≡ false → IsDecimal text.now → ⊥ }
 {
-    if text.len() > 1 && text.starts_with('0') {
+    if text.is_empty() {
         return false;
     }
-    !text.is_empty() && text.as_bytes().iter().all(|b| b.is_ascii_digit())
+    if has_leading_zero(text) {
+        return false;
+    }
+    are_digits(text.as_bytes())
 }
 
 /// How many events a decimal number asks for; one above 2^64 - 1 counts as that.

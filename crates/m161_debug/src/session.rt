@@ -5,7 +5,10 @@ ghost use Rattle.m161_elf.specs.Image.{is_in_ram};
 ghost use Rattle.m161_machine.specs.History.{Answers};
 ghost use Rattle.m161_debug.specs.Breakpoints.{breakpoint, break_answer, break_fault, break_leaves, has, without_breakpoint, IsSet};
 ghost use Rattle.m161_debug.specs.Stops.{is_break, Stops};
+ghost use Rattle.m161_debug.specs.Obeys.{used_by};
 ghost use Rattle.m161_debug.specs.Shows.{show_code_text, show_cop0_text, show_mem_text, show_regs_text, show_tlb_text};
+
+mod commands;
 
 use crate::breakpoints::{BreakError, Breakpoint, Breakpoints, MOST};
 use crate::display::{show_code, show_cop0, show_mem, show_regs, show_tlb};
@@ -203,6 +206,7 @@ impl<T: Tlb, D: Console> Session<T, D> {
     pub fn go(&mut self, events: &[Event]) -> Stop
         ensures stop { Stops self.old.breakpoints self.old.machine events.now result self.new.machine }
         ensures breakpoints { self.new.breakpoints ≡ self.old.breakpoints }
+        ensures within { used_by result ≤ length events.now }
     {
         for (k, event) in events.iter().enumerate() {
             if k > 0 && self.is_at_break(*event) {

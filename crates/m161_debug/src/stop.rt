@@ -1,5 +1,8 @@
 //! Why a run stops.
 
+ghost use Rattle.std.specs.Prelude.{◌≡◌, ◌<◌, ◌^◌};
+ghost use Rattle.m161_debug.specs.Obeys.{used_by};
+
 use m161_machine::Refusal;
 
 /// Why a run over a list of events stops, and before or at which event, counted from 0.
@@ -13,4 +16,19 @@ pub enum Stop {
     Off(usize),
     /// All events are made, so many.
     End(usize),
+}
+
+impl Stop {
+    // How many events it uses up.
+    pub(crate) fn used(self) -> usize
+        requires { used_by self < 2 ^ 64 }
+        ensures { result ≡ used_by self }
+    {
+        match self {
+            Stop::Break(k) => k,
+            Stop::Refused(k, _) => k + 1,
+            Stop::Off(k) => k + 1,
+            Stop::End(n) => n,
+        }
+    }
 }

@@ -34,6 +34,19 @@ pub(crate) fn show_code<T: Tlb, D: Console>(
     Ok(text)
 }
 
+/// Whether so many bytes from an address on are in RAM, by kseg0 or kseg1.
+pub(crate) fn is_code_there(memory: &[u8], address: u32, size: u32) -> bool
+    ensures { result ≡ is_in_ram (length memory.now) address size }
+{
+    match unmapped(address) {
+        Some(at) => {
+            let end = u64::from(at) + u64::from(size);
+            end <= memory.len() as u64 && end <= 0x2000_0000
+        }
+        None => false,
+    }
+}
+
 // The line of an address.
 fn write_code_at<T: Tlb, D: Console>(
     alloc: Global,
