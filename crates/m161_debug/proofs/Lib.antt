@@ -8,4 +8,5 @@ mod Shown
 mod Places
 mod Asked
 mod Numerals
+mod Obeying
 mod Decimals

@@ -1,10 +1,11 @@
 //! What commands do to a session.
 
-ghost use Rattle.std.specs.Prelude.{◌≡◌, ◌<◌, ◌≤◌, ◌++◌, ◌+◌, Bool, true, None, Some, Ok, length, nat_le, string_bytes, string_capacity, string_len, IfOk, IsErr, OnErr, OnOk};
+ghost use Rattle.std.specs.Prelude.{◌≡◌, ◌<◌, ◌≤◌, ◌++◌, ◌+◌, Bool, true, None, Some, Ok, length, nat_le, codes, decimal, string_bytes, string_capacity, string_len, IfOk, IsErr, OnErr, OnOk};
 ghost use Rattle.m161_debug.specs.declared.command.Change.TheVariants as changes;
 ghost use Rattle.m161_debug.specs.declared.command.Command.TheVariants as commands;
 ghost use Rattle.m161_debug.specs.Breakpoints.{breakpoint, break_fault};
-ghost use Rattle.m161_debug.specs.Commands.{IsAsked};
+ghost use Rattle.m161_steplog.specs.Parts.{◌␣◌};
+ghost use Rattle.m161_debug.specs.Shows.{ended, word_text};
 ghost use Rattle.m161_debug.specs.Obeys.{area_text, display_text, error_of_break, is_shown, is_there, Commands, Obeys};
 
 use crate::breakpoints::{Breakpoint, MOST};
@@ -79,6 +80,16 @@ impl<T: Tlb, D: Console> Session<T, D> {
         }
     }
 
+    // What setting a breakpoint prints.
+    fn break_line(&self, p: u32, address: u32) -> Result<String, AllocError>
+        ensures { IfOk result (λ line. string_bytes line
+            ≡ ended (codes "break" ␣ decimal p ␣ word_text address)) }
+    {
+        let mut line = String::new(self.alloc);
+        writeln!(line, "break {p} {}", Word(address))?;
+        Ok(line)
+    }
+
     // Sets a breakpoint; the text first, since that alone may fail.
     fn set(
         &mut self,
@@ -94,10 +105,11 @@ impl<T: Tlb, D: Console> Session<T, D> {
             processor: p,
             address,
         };
-        if let Some(error) = self.break_fault(place) {
-            return Err(error);
+        match self.break_fault(place) {
+            Some(error) => return Err(error),
+            None => {}
         }
-        let line = format!(in self.alloc; "break {p} {}\n", Word(address))?;
+        let line = self.break_line(p, address)?;
         text.push_str(line.as_str())?;
         let _set = self.breakpoint(p, address);
         Ok(0)
