@@ -1,5 +1,5 @@
 -- What a line asks for.
-use Rattle.std.proofs.Common.{◌≡◌, ◌≢◌, ℕ, ◌<◌, List, [], ◌∷◌, ◌++◌, refl, ap, arith, ne_eqb, decimal, None}
+use Rattle.std.proofs.Common.{◌≡◌, ℕ, List, [], ◌∷◌, refl, ap, arith, ne_eqb, decimal, None}
 use Rattle.std.proofs.lemmas.Option.{none-some}
 use Rattle.m161_steplog.specs.Parts.{◌␣◌, Lacks, IsWord, ReadsBoth}
 use Rattle.m161_debug.specs.Shows.{word_text}

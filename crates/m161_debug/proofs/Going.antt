@@ -1,17 +1,14 @@
 -- A run, one event after the other.
-use Rattle.std.proofs.Common.{◌≡◌, ◌∙◌, ◌⊎◌, inl, inr, sym, ap, refl, subst, ℕ, zero, suc, ◌+◌, ◌<◌, ◌&&◌, Bool, true, false, nat_lt, if◌then◌else◌, List, [], ◌∷◌, ◌++◌, length, get_or, take, drop, slice_get, Some, Result, Ok, Err, arith}
+use Rattle.std.proofs.Common.{◌≡◌, ◌∙◌, inl, inr, sym, ap, refl, subst, ℕ, ◌+◌, ◌<◌, ◌&&◌, false, nat_lt, List, ◌∷◌, length, get_or, take, drop, slice_get, Some, Result, Ok, Err}
 use Rattle.std.proofs.lemmas.List.{take_more, at_drop_more}
 use Rattle.std.proofs.lemmas.Option.{slice_get-get_or}
 use Rattle.m161_cpu.specs.declared.processor.Outcome.{Outcome}
 use Rattle.m161_machine.specs.declared.event.Event.{Event}
-use Rattle.m161_machine.specs.declared.event.Event.TheVariants.{Done}
 use Rattle.m161_machine.specs.declared.event.Refusal.{Refusal}
-use Rattle.m161_machine.specs.declared.event.Refusal.TheVariants.{NoMemory}
 use Rattle.m161_machine.specs.State.{State, next}
 use Rattle.m161_machine.specs.History.{History, Answers, Continues, Refuses}
 use Rattle.m161_machine.proofs.Continuing.{continues_more}
 use Rattle.m161_debug.specs.declared.breakpoints.Breakpoint.{Breakpoint}
-use Rattle.m161_debug.specs.declared.stop.Stop.{Stop}
 use Rattle.m161_debug.specs.declared.stop.Stop.TheVariants.{Refused}
 use Rattle.m161_debug.specs.Stops.{is_break, is_power_off, extended, stop_after, stop_from, Stops}
 

@@ -1,4 +1,4 @@
-use Rattle.std.proofs.Common.{arith, ℕ, decimal}
+use Rattle.std.proofs.Common.{ℕ, decimal}
 use Rattle.m161_steplog.specs.Parts.{Lacks, IsWord}
 use Rattle.m161_debug.specs.Shows.{word_text}
 use Rattle.m161_debug.proofs.Hex.{hex_lacks_space}

@@ -1,5 +1,5 @@
-use Rattle.std.proofs.Common.{◌≡◌, ◌∙◌, ◌+◌, ◌*◌, ◌++◌, ℕ, List, sym, ap, arith}
-use Rattle.m161_debug.specs.Shows.{counted, ended, memory_line, text_of}
+use Rattle.std.proofs.Common.{◌∙◌, ◌+◌, ◌*◌, ◌++◌, ℕ, List, sym, ap}
+use Rattle.m161_debug.specs.Shows.{ended, memory_line}
 use Rattle.m161_debug.proofs.Shown.{counted_more}
 use Rattle.m161_debug.proofs.display.memory.show_mem.Goals as goal
 

@@ -1,4 +1,4 @@
-use Rattle.std.proofs.Common.{◌≡◌, ◌∙◌, ◌∷◌, ◌++◌, [], sym, ap, arith}
+use Rattle.std.proofs.Common.{◌≡◌, ◌∙◌, ◌∷◌, ◌++◌, sym, ap, arith}
 use Rattle.m161_machine.specs.State.{processor_at}
 use Rattle.m161_debug.specs.Shows.{counted, ended, hi_lo_line, place_line, registers_line, show_regs_text, text_of}
 use Rattle.m161_debug.proofs.Shown.{counted_more_after, text_of_more}

@@ -1,4 +1,3 @@
-use Rattle.std.proofs.Common.{rules}
 use Rattle.m161_debug.proofs.Sets.{set_without}
 use Rattle.m161_debug.proofs.session.Session.delete.Goals as goal
 

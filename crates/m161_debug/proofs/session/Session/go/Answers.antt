@@ -1,14 +1,12 @@
-use Rattle.std.proofs.Common.{◌≡◌, ◌∙◌, arith, rules, false}
-use Rattle.std.proofs.lemmas.Bool.Decides.{nat_tests}
-use Rattle.m161_machine.specs.declared.event.Event.TheVariants.{Done}
-use Rattle.m161_debug.specs.Stops.{is_power_off}
+use Rattle.std.proofs.Common.{◌∙◌, get_or, arith, rules}
+use Rattle.m161_machine.specs.declared.event.Event.TheVariants as events
 use Rattle.m161_debug.proofs.Going.{Passes, refused, goes_on, made_more}
 use Rattle.m161_debug.proofs.session.Session.go.Goals as goal
 use Rattle.m161_debug.proofs.session.Session.go.Goals.{else-k-gt0-via-then-k-gt0+else-is_at_break, else-k-gt0-via-else-k-gt0}
 
 pub returns-in-Err-clause-stop : goal.returns-in-Err-clause-stop
 returns-in-Err-clause-stop g c =
-    let passes : Passes c.args.self.now.breakpoints c.loop-k.k c.loop-k.self.machine _ = elim c.else-k-gt0.branch [
+    let passes : Passes c.args.self.now.breakpoints c.loop-k.k c.loop-k.self.machine (get_or c.args.events.now c.loop-k.k (events.Step 0)) = elim c.else-k-gt0.branch [
       | else-k-gt0-via-then-k-gt0+else-is_at_break w ↦ search rules
       | else-k-gt0-via-else-k-gt0 w ↦ search rules
     ] in
@@ -16,7 +14,7 @@ returns-in-Err-clause-stop g c =
 
 pub loop-k-preserved : goal.loop-k-preserved
 loop-k-preserved g c =
-    let passes : Passes c.args.self.now.breakpoints c.loop-k.k c.loop-k.self.machine _ = elim c.else-k-gt0.branch [
+    let passes : Passes c.args.self.now.breakpoints c.loop-k.k c.loop-k.self.machine (get_or c.args.events.now c.loop-k.k (events.Step 0)) = elim c.else-k-gt0.branch [
       | else-k-gt0-via-then-k-gt0+else-is_at_break w ↦ search rules
       | else-k-gt0-via-else-k-gt0 w ↦ search rules
     ] in

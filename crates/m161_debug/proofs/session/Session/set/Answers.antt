@@ -1,4 +1,4 @@
-use Rattle.std.proofs.Common.{◌≡◌, ◌∙◌, sym, ap, ◌++◌, rules, string_bytes, None}
+use Rattle.std.proofs.Common.{◌≡◌, rules, None}
 use Rattle.m161_debug.specs.Breakpoints.{breakpoint, break_fault}
 use Rattle.m161_debug.specs.Obeys.{error_of_break}
 use Rattle.m161_debug.proofs.Obeying.{set_done}
