@@ -2,6 +2,7 @@
 use Rattle.std.proofs.Common.{◌≡◌, refl, sym, subst, ℕ, List, ◌++◌, take, Option, None, Some, Result, Ok, Err, codes, decimal}
 use Rattle.m161_machine.specs.declared.event.Event.{Event}
 use Rattle.m161_steplog.specs.Parts.{◌␣◌}
+use Rattle.std.specs.Option.{option_map}
 use Rattle.m161_debug.specs.declared.breakpoints.BreakError.{BreakError}
 use Rattle.m161_debug.specs.declared.breakpoints.BreakError.TheVariants as breaks
 use Rattle.m161_debug.specs.declared.command.Change.TheVariants.{Set}
@@ -20,10 +21,10 @@ first_is_all n s rest (Ok used) t before after all done =
 first_is_all n s rest (Err e) t before after all failed = failed
 
 -- a breakpoint is set, and its line appended
-pub set_done : (s t : Debugged) (p address : ℕ) (rest : List Event) (before after : List ℕ) (fault : Option BreakError) → error_of_break fault ≡ None
+pub set_done : (s t : Debugged) (p address : ℕ) (rest : List Event) (before after : List ℕ) (fault : Option BreakError) → fault ≡ None
     → t ≡ record s { breakpoints = break_leaves fault (breakpoint p address) s.breakpoints }
     → after ≡ before ++ ended (codes "break" ␣ decimal p ␣ word_text address)
-    → DoesUnless (error_of_break fault) (Breakpoint Set p address) s rest (Ok 0) t before after
+    → DoesUnless (option_map error_of_break fault) (Breakpoint Set p address) s rest (Ok 0) t before after
 set_done s t p address rest before after None none is text = (ended (codes "break" ␣ decimal p ␣ word_text address), text, (refl, is, refl))
 set_done s t p address rest before after (Some breaks.BadProcessor) none is text = absurd (cc)
 set_done s t p address rest before after (Some breaks.TooMany) none is text = absurd (cc)

@@ -1,4 +1,5 @@
 use Rattle.std.specs.Prelude.{◌≡◌, ℕ, ◌+◌, ◌*◌, ◌%◌, ◌==◌, ◌&&◌, nat_le, Bool, if◌then◌else◌, List, ◌++◌, length, take, Option, None, Some, Result, Ok, Err, codes, decimal}
+use Rattle.std.specs.Option.{option_map}
 use Rattle.m161_elf.specs.Image.{is_in_ram}
 use Rattle.m161_cpu.specs.declared.processor.Outcome.{Outcome}
 use Rattle.m161_machine.specs.declared.event.Event.{Event}
@@ -28,10 +29,10 @@ use Rattle.m161_debug.specs.Commands.{IsAsked}
 
 -- What commands do.
 
-abbrev pub error_of_break : Option BreakError → Option CommandError
-error_of_break None = None
-error_of_break (Some breaks.BadProcessor) = Some BadProcessor
-error_of_break (Some breaks.TooMany) = Some TooMany
+-- the fault of a breakpoint, as an error of a command
+abbrev pub error_of_break : BreakError → CommandError
+error_of_break breaks.BadProcessor = BadProcessor
+error_of_break breaks.TooMany = TooMany
 
 -- the words are in RAM: physical addresses of memory, addresses in kseg0 or kseg1 of code
 abbrev pub is_there : Area → State → ℕ → ℕ → Bool
@@ -43,7 +44,7 @@ is_shown area s address n = nat_le 1 n && nat_le n 1024 && (address % 4 == 0) &&
 
 -- why a command isn't done
 abbrev pub fault_of : Debugged → Command → Option CommandError
-fault_of s (Breakpoint Set p address) = error_of_break (break_fault (breakpoint p address) s)
+fault_of s (Breakpoint Set p address) = option_map error_of_break (break_fault (breakpoint p address) s)
 fault_of s (Breakpoint Delete p address) = None
 fault_of s (Make event) = None
 fault_of s Go = None

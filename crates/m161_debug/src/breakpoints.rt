@@ -1,7 +1,7 @@
 //! A set of breakpoints in a fixed table.
 
 ghost use Rattle.std.specs.Prelude.{◌≡◌, ◌<◌, ◌++◌, ◌∷◌, [], length};
-ghost use Rattle.m161_debug.specs.Breakpoints.{has, is_same, without_breakpoint};
+ghost use Rattle.m161_debug.specs.Breakpoints.{breakpoint, has, is_same, without_breakpoint};
 
 use std::marker::Model;
 use thiserror::Error;
@@ -13,10 +13,17 @@ pub(crate) const MOST: usize = 64;
 #[derive(Clone, Copy)]
 pub(crate) struct Breakpoint {
     pub(crate) processor: u32,
-    pub(crate) address: u32,
+    address: u32,
 }
 
 impl Breakpoint {
+    /// The place of a processor at an address.
+    pub(crate) fn new(processor: u32, address: u32) -> Breakpoint
+        ensures { result ≡ breakpoint processor address }
+    {
+        Breakpoint { processor, address }
+    }
+
     // Whether both are the same place.
     fn is_same(self, other: Breakpoint) -> bool
         ensures { result ≡ is_same self other }
@@ -59,12 +66,8 @@ impl Breakpoints {
     pub(crate) fn new() -> Breakpoints
         ensures { result ≡ [] }
     {
-        let nowhere = Breakpoint {
-            processor: 0,
-            address: 0,
-        };
         Breakpoints {
-            table: [nowhere; MOST],
+            table: [Breakpoint::new(0, 0); MOST],
             len: 0,
         }
     }

@@ -4,6 +4,7 @@ ghost use Rattle.std.specs.Prelude.{◌≡◌, codes};
 ghost use Rattle.m161_steplog.specs.Parts.{◌␣◌, Lacks};
 ghost use Rattle.m161_debug.specs.Commands.{change_word, display_word, area_word, name_of_error, IsAsked};
 
+use crate::breakpoints::BreakError;
 use crate::reading::{byte_of, count_of, cut_at_space, decimal_of, place_of, span_of};
 use m161_machine::Event;
 use std::alloc::AllocError;
@@ -94,6 +95,21 @@ impl From<AllocError> for CommandError {
     }
 }
 
+impl From<BreakError> for CommandError {
+    ghost use Rattle.std.specs.Prelude.{◌≡◌};
+    ghost use Rattle.m161_debug.specs.declared.breakpoints.BreakError.{BreakError};
+    ghost use Rattle.m161_debug.specs.Obeys.{error_of_break};
+
+    ghost from_gives = { λ error result. result ≡ error_of_break error };
+
+    fn from(error: BreakError) -> CommandError {
+        match error {
+            BreakError::BadProcessor => CommandError::BadProcessor,
+            BreakError::TooMany => CommandError::TooMany,
+        }
+    }
+}
+
 /// What a line asks for; the error is that its word is unknown, or its arguments are bad.
 pub(crate) fn command_of(line: &str) -> Result<Command, CommandError>
     ensures { IsAsked line.now result }
@@ -127,7 +143,7 @@ fn command_with(word: &str, arguments: &str) -> Result<Command, CommandError>
         "d" => breakpoint_of(Change::Delete, arguments),
         "s" => step_of(arguments),
         "k" => key_of(arguments),
-        "o" => done_of(arguments),
+        "o" => Err(CommandError::BadArgument),
         "g" => go_of(arguments),
         "r" => show_of(Display::Regs, arguments),
         "c" => show_of(Display::Cop0, arguments),
@@ -164,14 +180,6 @@ fn key_of(arguments: &str) -> Result<Command, CommandError>
         Some(byte) => Ok(Command::Make(Event::Key(byte))),
         None => Err(CommandError::BadArgument),
     }
-}
-
-// `o` takes no arguments.
-fn done_of(arguments: &str) -> Result<Command, CommandError>
-    ensures { IsAsked (codes "o" ␣ arguments.now) result }
-{
-    let _arguments = arguments;
-    Err(CommandError::BadArgument)
 }
 
 fn go_of(arguments: &str) -> Result<Command, CommandError>

@@ -70,21 +70,27 @@ impl<T: Tlb, D: Console> Session<T, D> {
               self.old.breakpoints;
         } }
     {
-        let place = Breakpoint {
-            processor: p,
-            address,
-        };
-        if p >= self.machine.processors() {
-            return Err(BreakError::BadProcessor);
+        let place = Breakpoint::new(p, address);
+        if let Some(error) = self.break_fault(place) {
+            return Err(error);
         }
-        if self.breakpoints.has(place) {
-            return Ok(());
+        if !self.breakpoints.has(place) {
+            self.breakpoints.add(place);
         }
-        if self.breakpoints.len() >= MOST {
-            return Err(BreakError::TooMany);
-        }
-        self.breakpoints.add(place);
         Ok(())
+    }
+
+    // Why a breakpoint isn't set.
+    fn break_fault(&self, place: Breakpoint) -> Option<BreakError>
+        ensures { result ≡ break_fault place self.now }
+    {
+        if place.processor >= self.machine.processors() {
+            Some(BreakError::BadProcessor)
+        } else if !self.breakpoints.has(place) && self.breakpoints.len() >= MOST {
+            Some(BreakError::TooMany)
+        } else {
+            None
+        }
     }
 
     /// Takes a breakpoint out; whether it was there. It does not allocate.
@@ -94,10 +100,7 @@ impl<T: Tlb, D: Console> Session<T, D> {
           breakpoints = without_breakpoint (breakpoint p address) self.old.breakpoints;
         } }
     {
-        self.breakpoints.remove(Breakpoint {
-            processor: p,
-            address,
-        })
+        self.breakpoints.remove(Breakpoint::new(p, address))
     }
 
     /// What holds of every session: no breakpoint stands twice.
@@ -190,10 +193,7 @@ impl<T: Tlb, D: Console> Session<T, D> {
         match event {
             Event::Step(p) => {
                 p < self.machine.processors()
-                    && self.breakpoints.has(Breakpoint {
-                        processor: p,
-                        address: self.machine.pc(p),
-                    })
+                    && self.breakpoints.has(Breakpoint::new(p, self.machine.pc(p)))
             }
             Event::Key(_) => false,
             Event::Done => false,

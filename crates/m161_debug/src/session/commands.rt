@@ -1,14 +1,14 @@
 //! What commands do to a session.
 
-ghost use Rattle.std.specs.Prelude.{◌≡◌, ◌<◌, ◌≤◌, ◌++◌, ◌+◌, Bool, true, None, Some, Ok, length, nat_le, codes, decimal, string_bytes, string_capacity, string_len, IfOk, IsErr, OnErr, OnOk};
+ghost use Rattle.std.specs.Prelude.{◌≡◌, ◌<◌, ◌≤◌, ◌++◌, ◌+◌, Bool, true, None, Some, Ok, List, length, nat_le, codes, decimal, string_bytes, string_capacity, string_len, IfOk, IsErr, OnErr, OnOk};
+ghost use Rattle.m161_machine.specs.declared.event.Event.{Event};
 ghost use Rattle.m161_debug.specs.declared.command.Change.TheVariants as changes;
 ghost use Rattle.m161_debug.specs.declared.command.Command.TheVariants as commands;
-ghost use Rattle.m161_debug.specs.Breakpoints.{breakpoint, break_fault};
 ghost use Rattle.m161_steplog.specs.Parts.{◌␣◌};
 ghost use Rattle.m161_debug.specs.Shows.{ended, word_text};
-ghost use Rattle.m161_debug.specs.Obeys.{area_text, display_text, error_of_break, is_shown, is_there, Commands, Obeys};
+ghost use Rattle.m161_debug.specs.Obeys.{area_text, display_text, is_shown, is_there, Commands, Obeys};
 
-use crate::breakpoints::{Breakpoint, MOST};
+use crate::breakpoints::Breakpoint;
 use crate::command::{Area, Change, Command, CommandError, Display, command_of};
 use crate::digits::Word;
 use crate::display::is_code_there;
@@ -40,10 +40,8 @@ impl<T: Tlb, D: Console> Session<T, D> {
         ensures { Commands line.now self.old rest.now result self.new
             (string_bytes text.old) (string_bytes text.new) }
     {
-        match command_of(line) {
-            Ok(command) => self.obey(command, rest, text),
-            Err(error) => Err(error),
-        }
+        let command = command_of(line)?;
+        self.obey(command, rest, text)
     }
 
     // Does a command.
@@ -57,26 +55,13 @@ impl<T: Tlb, D: Console> Session<T, D> {
             (string_bytes text.old) (string_bytes text.new) }
     {
         match command {
-            Command::Breakpoint(Change::Set, p, address) => self.set(p, address, rest, text),
-            Command::Breakpoint(Change::Delete, p, address) => self.unset(p, address, rest, text),
-            Command::Make(event) => self.make(event, rest, text),
+            Command::Breakpoint(Change::Set, p, address) => self.set(p, address, text),
+            Command::Breakpoint(Change::Delete, p, address) => self.unset(p, address, text),
+            Command::Make(event) => self.make(event, text),
             Command::Go => self.go_all(rest, text),
             Command::GoFirst(n) => self.go_first(n, rest, text),
-            Command::Show(display, p) => self.show(display, p, rest, text),
-            Command::Words(area, address, n) => self.show_words(area, address, n, rest, text),
-        }
-    }
-
-    // Why a breakpoint isn't set.
-    fn break_fault(&self, place: Breakpoint) -> Option<CommandError>
-        ensures { result ≡ error_of_break (break_fault place self.now) }
-    {
-        if place.processor >= self.machine.processors() {
-            Some(CommandError::BadProcessor)
-        } else if !self.breakpoints.has(place) && self.breakpoints.len() >= MOST {
-            Some(CommandError::TooMany)
-        } else {
-            None
+            Command::Show(display, p) => self.show(display, p, text),
+            Command::Words(area, address, n) => self.show_words(area, address, n, text),
         }
     }
 
@@ -91,23 +76,12 @@ impl<T: Tlb, D: Console> Session<T, D> {
     }
 
     // Sets a breakpoint; the text first, since that alone may fail.
-    fn set(
-        &mut self,
-        p: u32,
-        address: u32,
-        _rest: &[Event],
-        text: &mut String,
-    ) -> Result<usize, CommandError>
-        ensures { Obeys (Ok (commands.Breakpoint changes.Set p address)) self.old _rest.now result
+    fn set(&mut self, p: u32, address: u32, text: &mut String) -> Result<usize, CommandError>
+        ensures { (rest : List Event) → Obeys (Ok (commands.Breakpoint changes.Set p address)) self.old rest result
             self.new (string_bytes text.old) (string_bytes text.new) }
     {
-        let place = Breakpoint {
-            processor: p,
-            address,
-        };
-        match self.break_fault(place) {
-            Some(error) => return Err(error),
-            None => {}
+        if let Some(error) = self.break_fault(Breakpoint::new(p, address)) {
+            return Err(CommandError::from(error));
         }
         let line = self.break_line(p, address)?;
         text.push_str(line.as_str())?;
@@ -116,21 +90,11 @@ impl<T: Tlb, D: Console> Session<T, D> {
     }
 
     // Deletes a breakpoint; the text first.
-    fn unset(
-        &mut self,
-        p: u32,
-        address: u32,
-        _rest: &[Event],
-        text: &mut String,
-    ) -> Result<usize, CommandError>
-        ensures { Obeys (Ok (commands.Breakpoint changes.Delete p address)) self.old _rest.now
+    fn unset(&mut self, p: u32, address: u32, text: &mut String) -> Result<usize, CommandError>
+        ensures { (rest : List Event) → Obeys (Ok (commands.Breakpoint changes.Delete p address)) self.old rest
             result self.new (string_bytes text.old) (string_bytes text.new) }
     {
-        let place = Breakpoint {
-            processor: p,
-            address,
-        };
-        if self.breakpoints.has(place) {
+        if self.breakpoints.has(Breakpoint::new(p, address)) {
             text.push_str("deleted\n")?;
         } else {
             text.push_str("none\n")?;
@@ -140,13 +104,8 @@ impl<T: Tlb, D: Console> Session<T, D> {
     }
 
     // Makes an event; room for the text first, since the event can't be undone.
-    fn make(
-        &mut self,
-        event: Event,
-        _rest: &[Event],
-        text: &mut String,
-    ) -> Result<usize, CommandError>
-        ensures { Obeys (Ok (commands.Make event)) self.old _rest.now result self.new
+    fn make(&mut self, event: Event, text: &mut String) -> Result<usize, CommandError>
+        ensures { (rest : List Event) → Obeys (Ok (commands.Make event)) self.old rest result self.new
             (string_bytes text.old) (string_bytes text.new) }
     {
         text.reserve(LONGEST)?;
@@ -203,14 +162,8 @@ impl<T: Tlb, D: Console> Session<T, D> {
     }
 
     // Appends a display of a processor.
-    fn show(
-        &mut self,
-        display: Display,
-        p: u32,
-        _rest: &[Event],
-        text: &mut String,
-    ) -> Result<usize, CommandError>
-        ensures { Obeys (Ok (commands.Show display p)) self.old _rest.now result self.new
+    fn show(&mut self, display: Display, p: u32, text: &mut String) -> Result<usize, CommandError>
+        ensures { (rest : List Event) → Obeys (Ok (commands.Show display p)) self.old rest result self.new
             (string_bytes text.old) (string_bytes text.new) }
     {
         if p >= self.machine.processors() {
@@ -259,10 +212,9 @@ impl<T: Tlb, D: Console> Session<T, D> {
         area: Area,
         address: u32,
         n: u32,
-        _rest: &[Event],
         text: &mut String,
     ) -> Result<usize, CommandError>
-        ensures { Obeys (Ok (commands.Words area address n)) self.old _rest.now result self.new
+        ensures { (rest : List Event) → Obeys (Ok (commands.Words area address n)) self.old rest result self.new
             (string_bytes text.old) (string_bytes text.new) }
     {
         if !self.are_shown(area, address, n) {
