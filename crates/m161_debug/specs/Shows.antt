@@ -34,7 +34,7 @@ abbrev pub word_text : ℕ → List ℕ
 word_text word = hex_text 8 word
 
 -- a name and a word
-abbrev pub named : List ℕ → ℕ → List ℕ
+unfoldable pub named : List ℕ → ℕ → List ℕ
 named name word = name ␣ word_text word
 
 -- The registers of a processor.
@@ -57,7 +57,7 @@ place_text p state pc slot =
 abbrev pub place_line : ℕ → Processor → List ℕ
 place_line p c = place_text p c.state c.pc c.slot
 
-abbrev pub register_text : Processor → ℕ → List ℕ
+unfoldable pub register_text : Processor → ℕ → List ℕ
 register_text c r = named (codes "r" ++ decimal r) (slice_index c.registers r)
 
 -- four registers

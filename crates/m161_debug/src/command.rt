@@ -200,7 +200,6 @@ fn show_of(display: Display, arguments: &str) -> Result<Command, CommandError>
     }
 }
 
-#[tactic(auto, using(crate::proofs::Asked::no_span))]
 fn words_of(area: Area, arguments: &str) -> Result<Command, CommandError>
     ensures { IsAsked (area_word area ␣ arguments.now) result }
 {

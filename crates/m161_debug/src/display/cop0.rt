@@ -53,6 +53,7 @@ fn write_register<T: Tlb, D: Console>(
 }
 
 // A line of a name and a word.
+#[tactic(auto, unfolding(crate::specs::Shows::named))]
 fn write_named(text: &mut String, name: &str, word: u32) -> Result<(), AllocError>
     ensures { OnOk result (string_bytes text.new ≡ string_bytes text.old
         ++ ended (named name.now word)) }

@@ -1,8 +1,8 @@
 //! The registers of a processor.
 
-ghost use Rattle.std.specs.Prelude.{◌≡◌, ◌++◌, ◌<◌, length, slice_index, string_bytes, IfOk, OnOk, Some};
+ghost use Rattle.std.specs.Prelude.{◌≡◌, ◌++◌, ◌<◌, length, codes, decimal, string_bytes, IfOk, OnOk, Some};
 ghost use Rattle.m161_machine.specs.State.{processor_at};
-ghost use Rattle.m161_debug.specs.Shows.{ended, hi_lo_line, named, place_line, place_text, registers_line, show_regs_text, state_text};
+ghost use Rattle.m161_debug.specs.Shows.{ended, hi_lo_line, named, place_line, place_text, register_text, registers_line, show_regs_text, state_text};
 
 use crate::digits::Word;
 use m161_bus::Console;
@@ -63,6 +63,7 @@ impl fmt::Display for ShownRegister {
 
     ghost output = { λ r. Some (named (codes "r" ++ decimal r.number) r.word) };
 
+    #[tactic(auto, unfolding(crate::specs::Shows::named))]
     fn fmt<W: fmt::Write>(&self, f: &mut fmt::Formatter<W>) -> fmt::Result {
         let number = self.number;
         write!(f, "r{number} {}", Word(self.word))
@@ -127,12 +128,12 @@ fn write_registers<T: Tlb, D: Console>(
     writeln!(text, "{a} {b} {c} {d}")
 }
 
+#[tactic(auto, unfolding(crate::specs::Shows::register_text))]
 fn shown<T: Tlb, D: Console>(machine: &Machine<T, D>, p: u32, number: u8) -> ShownRegister
     requires processor { p < length machine.now.state.processors }
     requires register { number < 32 }
-    ensures number { result.number ≡ number }
-    ensures word { result.word
-        ≡ slice_index (processor_at p machine.now.state.processors).registers number }
+    ensures { named (codes "r" ++ decimal result.number) result.word
+        ≡ register_text (processor_at p machine.now.state.processors) number }
 {
     ShownRegister {
         number,
@@ -140,6 +141,7 @@ fn shown<T: Tlb, D: Console>(machine: &Machine<T, D>, p: u32, number: u8) -> Sho
     }
 }
 
+#[tactic(auto, unfolding(crate::specs::Shows::named))]
 fn write_hi_lo<T: Tlb, D: Console>(
     text: &mut String,
     machine: &Machine<T, D>,
