@@ -38,18 +38,44 @@ fn session(alloc: Global, processors: u32, words: &[u32]) -> Result<Session, Fai
     Ok(Session::new(alloc, Machine::boot(alloc, &file, conf)?))
 }
 
-fn register_8(session: &Session) -> u32 {
+fn register_8(rt: &impl Abort, session: &Session) -> u32 {
+    assert!(rt; session.machine().processors() > 0);
     session.machine().reg(0, Reg::new(8))
+}
+
+fn registers(rt: &impl Abort, session: &Session) -> Result<String, Fail> {
+    assert!(rt; session.machine().processors() > 0);
+    Ok(session.show_regs(0)?)
+}
+
+fn coprocessor(rt: &impl Abort, session: &Session) -> Result<String, Fail> {
+    assert!(rt; session.machine().processors() > 0);
+    Ok(session.show_cop0(0)?)
+}
+
+fn rows(rt: &impl Abort, session: &Session) -> Result<String, Fail> {
+    assert!(rt; session.machine().processors() > 0);
+    Ok(session.show_tlb(0)?)
+}
+
+fn first_word(rt: &impl Abort, session: &Session) -> Result<String, Fail> {
+    assert!(rt; session.machine().memory().len() >= 0x204);
+    Ok(session.show_mem(0x200, 1)?)
+}
+
+fn branch(rt: &impl Abort, session: &Session) -> Result<String, Fail> {
+    assert!(rt; session.machine().memory().len() >= 0x24c);
+    Ok(session.show_code(0x8000_0248, 1)?)
 }
 
 #[test]
 fn breakpoints(rt: HostRuntime) -> Result<(), Fail> {
     let mut one = session(rt.alloc(), 2, &LOOP)?;
     same(&rt, one.breakpoint(0, ENTRY), Ok(()));
-    same(&rt, (one.go(&STEPS), register_8(&one)), (Stop::Break(3), 1));
+    same(&rt, (one.go(&STEPS), register_8(&rt, &one)), (Stop::Break(3), 1));
     same(
         &rt,
-        (one.go(&STEPS[3..]), register_8(&one)),
+        (one.go(&STEPS[3..]), register_8(&rt, &one)),
         (Stop::Break(3), 2),
     );
     same(&rt, one.go(&STEPS[6..]), Stop::End(1));
@@ -61,7 +87,7 @@ fn breakpoints(rt: HostRuntime) -> Result<(), Fail> {
     let mut slot = session(rt.alloc(), 2, &LOOP)?;
     same(&rt, slot.breakpoint(0, 0x8000_0208), Ok(()));
     same(&rt, slot.go(&STEPS), Stop::Break(2));
-    let text = slot.show_regs(0)?;
+    let text = registers(&rt, &slot)?;
     let first = "cpu 0 running pc 80000208 slot\nr0 00000000 r1 00000000 r2 ";
     same(&rt, text.starts_with(first), true);
     Ok(())
@@ -135,16 +161,16 @@ fn prints(
 #[test]
 fn displays(rt: HostRuntime) -> Result<(), Fail> {
     let mut session = session(rt.alloc(), 1, &POWER_OFF)?;
-    let memory = session.show_mem(0x200, 1)?;
+    let memory = first_word(&rt, &session)?;
     same(&rt, memory.as_str() == "00000200 3c08bfff\n", true);
-    let tlb = session.show_tlb(0)?;
+    let tlb = rows(&rt, &session)?;
     same(
         &rt,
         tlb.starts_with("00 80000000 00000000\n01 80001000 00000000\n"),
         true,
     );
     same(&rt, tlb.ends_with("\n63 8003f000 00000000\n"), true);
-    let cop0 = session.show_cop0(0)?;
+    let cop0 = coprocessor(&rt, &session)?;
     same(
         &rt,
         cop0.starts_with("index 00000000\nrandom 00003f00\nentrylo 00000000\n"),
@@ -162,8 +188,8 @@ fn displays(rt: HostRuntime) -> Result<(), Fail> {
     prints(&rt, &mut session, "q", &[], Err(CommandError::Unknown), "")?;
     prints(&rt, &mut session, "c 0", &[], Ok(0), cop0.as_str())?;
     prints(&rt, &mut session, "t 0", &[], Ok(0), tlb.as_str())?;
-    let registers = session.show_regs(0)?;
-    prints(&rt, &mut session, "r 0", &[], Ok(0), registers.as_str())?;
+    let shown = registers(&rt, &session)?;
+    prints(&rt, &mut session, "r 0", &[], Ok(0), shown.as_str())?;
     Ok(())
 }
 
@@ -181,7 +207,7 @@ fn code_of_the_sample(rt: HostRuntime) -> Result<(), Fail> {
         log: 100,
     };
     let mut session = Session::new(rt.alloc(), Machine::boot(rt.alloc(), &file, conf)?);
-    let code = session.show_code(0x8000_0248, 1)?;
+    let code = branch(&rt, &session)?;
     same(
         &rt,
         code.as_str() == "80000248 11e0fffe beq $15, $0, 0x80000244\n",
