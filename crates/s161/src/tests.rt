@@ -8,6 +8,7 @@ mod alu;
 mod bus;
 mod cop0;
 mod cpu;
+mod debug;
 mod decode;
 mod elf;
 mod fetches;

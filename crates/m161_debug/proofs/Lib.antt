@@ -1,0 +1,12 @@
+mod Sets
+mod Going
+mod Readers
+mod Parts
+mod Decimal
+mod Hex
+mod Shown
+mod Places
+mod Asked
+mod Numerals
+mod Obeying
+mod Decimals

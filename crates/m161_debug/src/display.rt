@@ -1,0 +1,13 @@
+//! Texts of a machine's state.
+
+mod code;
+mod cop0;
+mod memory;
+mod regs;
+mod tlb;
+
+pub(crate) use code::{is_code_there, show_code};
+pub(crate) use cop0::show_cop0;
+pub(crate) use memory::show_mem;
+pub(crate) use regs::show_regs;
+pub(crate) use tlb::show_tlb;

@@ -1,0 +1,84 @@
+//! Instructions in memory.
+
+ghost use Rattle.std.specs.Prelude.{◌≡◌, ◌+◌, ◌*◌, ◌%◌, ◌++◌, true, length, string_bytes, IfOk, OnOk};
+ghost use Rattle.m161_elf.specs.Image.{is_in_ram};
+ghost use Rattle.m161_debug.specs.Shows.{code_text, code_word, ended, code_line, show_code_text};
+
+use crate::digits::Word;
+use crate::display::memory::word;
+use m161_bus::Console;
+use m161_dis::line;
+use m161_isa::unmapped;
+use m161_machine::Machine;
+use m161_tlb::Tlb;
+use std::alloc::{AllocError, Global};
+use std::fmt::Write;
+
+/// So many instructions from an address in kseg0 or kseg1 on, a line each.
+#[tactic(auto, unfolding(crate::specs::Shows::show_code_text))]
+pub(crate) fn show_code<T: Tlb, D: Console>(
+    alloc: Global,
+    machine: &Machine<T, D>,
+    address: u32,
+    n: u32,
+) -> Result<String, AllocError>
+    requires aligned { address % 4 ≡ 0 }
+    requires inside { is_in_ram (length machine.now.state.memory) address (4 * n) ≡ true }
+    ensures { IfOk result (λ text. string_bytes text
+        ≡ show_code_text address n machine.now.state) }
+{
+    let mut text = String::new(alloc);
+    for i in 0..n {
+        write_code_at(alloc, &mut text, machine, address + 4 * i)?;
+    }
+    Ok(text)
+}
+
+/// Whether so many bytes from an address on are in RAM, by kseg0 or kseg1.
+pub(crate) fn is_code_there(memory: &[u8], address: u32, size: u32) -> bool
+    ensures { result ≡ is_in_ram (length memory.now) address size }
+{
+    match unmapped(address) {
+        Some(at) => {
+            let end = u64::from(at) + u64::from(size);
+            end <= memory.len() as u64 && end <= 0x2000_0000
+        }
+        None => false,
+    }
+}
+
+// The line of an address.
+fn write_code_at<T: Tlb, D: Console>(
+    alloc: Global,
+    text: &mut String,
+    machine: &Machine<T, D>,
+    at: u32,
+) -> Result<(), AllocError>
+    requires aligned { at % 4 ≡ 0 }
+    requires inside { is_in_ram (length machine.now.state.memory) at 4 ≡ true }
+    ensures { OnOk result (string_bytes text.new ≡ string_bytes text.old
+        ++ ended (code_line machine.now.state.memory at)) }
+{
+    write_code(alloc, text, code_at(machine, at), at)
+}
+
+// The word that an address in kseg0 or kseg1 names.
+fn code_at<T: Tlb, D: Console>(machine: &Machine<T, D>, at: u32) -> u32
+    requires aligned { at % 4 ≡ 0 }
+    requires inside { is_in_ram (length machine.now.state.memory) at 4 ≡ true }
+    ensures { result ≡ code_word machine.now.state.memory at }
+{
+    match unmapped(at) {
+        Some(physical) => word(machine, physical),
+        None => 0,
+    }
+}
+
+// The line of a word at an address.
+fn write_code(alloc: Global, text: &mut String, word: u32, at: u32) -> Result<(), AllocError>
+    ensures { OnOk result (string_bytes text.new ≡ string_bytes text.old
+        ++ ended (code_text at word)) }
+{
+    let instruction = line(alloc, word, at)?;
+    writeln!(text, "{} {} {instruction}", Word(at), Word(word))
+}

@@ -1,0 +1,174 @@
+//! Text appended in room that was made before, so that it can't fail.
+
+ghost use Rattle.std.specs.Prelude.{◌≡◌, ◌+◌, ◌<◌, ◌≤◌, ◌++◌, ◌∷◌, [], length, decimal, string_bytes, string_capacity, string_len};
+ghost use Rattle.m161_machine.specs.Refusal.{name_of_refusal};
+ghost use Rattle.m161_steplog.specs.Parts.{hex_digit, hex_text};
+ghost use Rattle.m161_steplog.specs.Text.{event_text, outcome_text};
+ghost use Rattle.m161_debug.specs.Obeys.{refused_text, stop_text};
+
+use crate::stop::Stop;
+use m161_machine::{Event, Outcome, Refusal};
+
+/// Appends a part.
+pub(crate) fn put(text: &mut String, part: &str)
+    requires { string_len text.old + length part.now ≤ string_capacity text.old }
+    ensures bytes { string_bytes text.new ≡ string_bytes text.old ++ part.now }
+    ensures len { string_len text.new ≡ string_len text.old + length part.now }
+    ensures capacity { string_capacity text.old ≤ string_capacity text.new }
+{
+    let _done = text.push_str(part);
+}
+
+// Appends an ASCII character.
+fn put_glyph(text: &mut String, glyph: u8)
+    requires room { string_len text.old < string_capacity text.old }
+    requires ascii { glyph < 128 }
+    ensures bytes { string_bytes text.new ≡ string_bytes text.old ++ glyph ∷ [] }
+    ensures len { string_len text.new ≡ string_len text.old + 1 }
+    ensures capacity { string_capacity text.old ≤ string_capacity text.new }
+{
+    let _done = text.push(glyph as char);
+}
+
+// Appends a decimal number, digit by digit.
+#[tactic(auto, using(crate::proofs::Decimals::one_long, crate::proofs::Decimals::more_long, crate::proofs::Decimals::only_digit, crate::proofs::Decimals::last_digit))]
+fn put_digits(text: &mut String, number: u64)
+    requires { string_len text.old + length (decimal number) ≤ string_capacity text.old }
+    ensures bytes { string_bytes text.new ≡ string_bytes text.old ++ decimal number }
+    ensures len { string_len text.new ≡ string_len text.old + length (decimal number) }
+    ensures capacity { string_capacity text.old ≤ string_capacity text.new }
+{
+    if number < 10 {
+        put_glyph(text, b'0' + number as u8);
+    } else {
+        put_digits(text, number / 10);
+        put_glyph(text, b'0' + (number % 10) as u8);
+    }
+}
+
+// Appends a decimal number: 20 digits at most.
+#[tactic(auto, using(crate::proofs::Decimals::long_at_most))]
+fn put_decimal(text: &mut String, number: u64)
+    requires { string_len text.old + 20 ≤ string_capacity text.old }
+    ensures bytes { string_bytes text.new ≡ string_bytes text.old ++ decimal number }
+    ensures len { string_len text.new ≤ string_len text.old + 20 }
+    ensures capacity { string_capacity text.old ≤ string_capacity text.new }
+{
+    put_digits(text, number);
+}
+
+// The glyph of a hexadecimal digit.
+fn glyph(digit: u32) -> u8
+    requires { digit < 16 }
+    ensures value { result ≡ hex_digit digit }
+    ensures ascii { result < 128 }
+{
+    if digit < 10 {
+        b'0' + digit as u8
+    } else {
+        b'a' + (digit as u8 - 10)
+    }
+}
+
+// Appends so many hexadecimal digits of a number.
+fn put_hex(text: &mut String, digits: u32, number: u32)
+    requires { string_len text.old + digits ≤ string_capacity text.old }
+    ensures bytes { string_bytes text.new ≡ string_bytes text.old ++ hex_text digits number }
+    ensures len { string_len text.new ≡ string_len text.old + digits }
+    ensures capacity { string_capacity text.old ≤ string_capacity text.new }
+{
+    if digits > 0 {
+        put_hex(text, digits - 1, number / 16);
+        put_glyph(text, glyph(number % 16));
+    }
+}
+
+/// Appends an event, as a log shows it: 22 bytes at most.
+pub(crate) fn put_event(text: &mut String, event: Event)
+    requires { string_len text.old + 22 ≤ string_capacity text.old }
+    ensures bytes { string_bytes text.new ≡ string_bytes text.old ++ event_text event }
+    ensures len { string_len text.new ≤ string_len text.old + 22 }
+    ensures capacity { string_capacity text.old ≤ string_capacity text.new }
+{
+    match event {
+        Event::Step(p) => {
+            put(text, "s ");
+            put_decimal(text, u64::from(p));
+        }
+        Event::Key(byte) => {
+            put(text, "k ");
+            put_hex(text, 2, u32::from(byte));
+        }
+        Event::Done => put(text, "o"),
+    }
+}
+
+/// Appends an outcome, as a log shows it: 34 bytes at most.
+pub(crate) fn put_outcome(text: &mut String, outcome: Outcome)
+    requires { string_len text.old + 34 ≤ string_capacity text.old }
+    ensures bytes { string_bytes text.new ≡ string_bytes text.old ++ outcome_text outcome }
+    ensures len { string_len text.new ≤ string_len text.old + 34 }
+    ensures capacity { string_capacity text.old ≤ string_capacity text.new }
+{
+    match outcome {
+        Outcome::Ran => put(text, "ran"),
+        Outcome::Trapped { code, vector } => {
+            put(text, "trap ");
+            put_decimal(text, u64::from(code.number()));
+            put(text, " ");
+            put_hex(text, 8, vector);
+        }
+        Outcome::Idle => put(text, "idle"),
+        Outcome::PoweredOff => put(text, "off"),
+        Outcome::Taken => put(text, "taken"),
+    }
+}
+
+/// Appends a refusal's number and name: 33 bytes at most.
+pub(crate) fn put_refusal(text: &mut String, refusal: Refusal)
+    requires { string_len text.old + 33 ≤ string_capacity text.old }
+    ensures bytes { string_bytes text.new ≡ string_bytes text.old ++ refused_text refusal }
+    ensures len { string_len text.new ≤ string_len text.old + 33 }
+    ensures capacity { string_capacity text.old ≤ string_capacity text.new }
+{
+    put_decimal(text, u64::from(refusal.number()));
+    put(text, " ");
+    put(text, name(refusal));
+}
+
+// A refusal's name: 12 bytes at most.
+fn name(refusal: Refusal) -> &'static str
+    ensures value { result.now ≡ name_of_refusal refusal }
+    ensures short { length result.now ≤ 12 }
+{
+    refusal.name()
+}
+
+/// Appends a stop: 62 bytes at most.
+pub(crate) fn put_stop(text: &mut String, stop: Stop)
+    requires { string_len text.old + 62 ≤ string_capacity text.old }
+    ensures bytes { string_bytes text.new ≡ string_bytes text.old ++ stop_text stop }
+    ensures len { string_len text.new ≤ string_len text.old + 62 }
+    ensures capacity { string_capacity text.old ≤ string_capacity text.new }
+{
+    match stop {
+        Stop::Break(k) => {
+            put(text, "break ");
+            put_decimal(text, k as u64);
+        }
+        Stop::Refused(k, refusal) => {
+            put(text, "refused ");
+            put_decimal(text, k as u64);
+            put(text, " ");
+            put_refusal(text, refusal);
+        }
+        Stop::Off(k) => {
+            put(text, "off ");
+            put_decimal(text, k as u64);
+        }
+        Stop::End(n) => {
+            put(text, "end ");
+            put_decimal(text, n as u64);
+        }
+    }
+}

@@ -1,0 +1,227 @@
+//! What commands do to a session.
+
+ghost use Rattle.std.specs.Prelude.{◌≡◌, ◌<◌, ◌≤◌, ◌++◌, ◌+◌, Bool, true, None, Some, Ok, List, length, nat_le, codes, decimal, string_bytes, string_capacity, string_len, IfOk, IsErr, OnErr, OnOk};
+ghost use Rattle.m161_machine.specs.declared.event.Event.{Event};
+ghost use Rattle.m161_debug.specs.declared.command.Change.TheVariants as changes;
+ghost use Rattle.m161_debug.specs.declared.command.Command.TheVariants as commands;
+ghost use Rattle.m161_steplog.specs.Parts.{◌␣◌};
+ghost use Rattle.m161_debug.specs.Shows.{ended, word_text};
+ghost use Rattle.m161_debug.specs.Obeys.{area_text, display_text, is_shown, is_there, Commands, Obeys};
+
+use crate::breakpoints::Breakpoint;
+use crate::command::{Area, Change, Command, CommandError, Display, command_of};
+use crate::digits::Word;
+use crate::display::is_code_there;
+use crate::room::{put, put_event, put_outcome, put_refusal, put_stop};
+use crate::session::Session;
+use m161_bus::Console;
+use m161_machine::Event;
+use m161_tlb::Tlb;
+use std::alloc::AllocError;
+use std::fmt::Write;
+
+/// The longest line that a run or an event prints, with its end.
+const LONGEST: usize = 64;
+
+impl<T: Tlb, D: Console> Session<T, D> {
+    /// Does a command and appends what it prints; `rest` are the events that are left of a
+    /// schedule. How many of them are used up.
+    ///
+    /// # Errors
+    /// The first that holds: the line's word is no command's; its arguments aren't the command's,
+    /// or are outside its limits; there is no such processor; there are 64 other breakpoints;
+    /// memory was refused. Machine, breakpoints and text are unchanged then.
+    pub fn command(
+        &mut self,
+        line: &str,
+        rest: &[Event],
+        text: &mut String,
+    ) -> Result<usize, CommandError>
+        ensures { Commands line.now self.old rest.now result self.new
+            (string_bytes text.old) (string_bytes text.new) }
+    {
+        let command = command_of(line)?;
+        self.obey(command, rest, text)
+    }
+
+    // Does a command.
+    fn obey(
+        &mut self,
+        command: Command,
+        rest: &[Event],
+        text: &mut String,
+    ) -> Result<usize, CommandError>
+        ensures { Obeys (Ok command) self.old rest.now result self.new
+            (string_bytes text.old) (string_bytes text.new) }
+    {
+        match command {
+            Command::Breakpoint(Change::Set, p, address) => self.set(p, address, text),
+            Command::Breakpoint(Change::Delete, p, address) => self.unset(p, address, text),
+            Command::Make(event) => self.make(event, text),
+            Command::Go => self.go_all(rest, text),
+            Command::GoFirst(n) => self.go_first(n, rest, text),
+            Command::Show(display, p) => self.show(display, p, text),
+            Command::Words(area, address, n) => self.show_words(area, address, n, text),
+        }
+    }
+
+    // What setting a breakpoint prints.
+    fn break_line(&self, p: u32, address: u32) -> Result<String, AllocError>
+        ensures { IfOk result (λ line. string_bytes line
+            ≡ ended (codes "break" ␣ decimal p ␣ word_text address)) }
+    {
+        let mut line = String::new(self.alloc);
+        writeln!(line, "break {p} {}", Word(address))?;
+        Ok(line)
+    }
+
+    // Sets a breakpoint; the text first, since that alone may fail.
+    fn set(&mut self, p: u32, address: u32, text: &mut String) -> Result<usize, CommandError>
+        ensures { (rest : List Event) → Obeys (Ok (commands.Breakpoint changes.Set p address)) self.old rest result
+            self.new (string_bytes text.old) (string_bytes text.new) }
+    {
+        if let Some(error) = self.break_fault(Breakpoint::new(p, address)) {
+            return Err(CommandError::from(error));
+        }
+        let line = self.break_line(p, address)?;
+        text.push_str(line.as_str())?;
+        let _set = self.breakpoint(p, address);
+        Ok(0)
+    }
+
+    // Deletes a breakpoint; the text first.
+    fn unset(&mut self, p: u32, address: u32, text: &mut String) -> Result<usize, CommandError>
+        ensures { (rest : List Event) → Obeys (Ok (commands.Breakpoint changes.Delete p address)) self.old rest
+            result self.new (string_bytes text.old) (string_bytes text.new) }
+    {
+        if self.breakpoints.has(Breakpoint::new(p, address)) {
+            text.push_str("deleted\n")?;
+        } else {
+            text.push_str("none\n")?;
+        }
+        self.delete(p, address);
+        Ok(0)
+    }
+
+    // Makes an event; room for the text first, since the event can't be undone.
+    fn make(&mut self, event: Event, text: &mut String) -> Result<usize, CommandError>
+        ensures { (rest : List Event) → Obeys (Ok (commands.Make event)) self.old rest result self.new
+            (string_bytes text.old) (string_bytes text.new) }
+    {
+        text.reserve(LONGEST)?;
+        match self.step(event) {
+            Ok(outcome) => {
+                put_event(text, event);
+                put(text, " ");
+                put_outcome(text, outcome);
+            }
+            Err(refusal) => {
+                put(text, "refused ");
+                put_refusal(text, refusal);
+            }
+        }
+        put(text, "\n");
+        Ok(0)
+    }
+
+    // Makes all events that are left; room for the text first.
+    fn go_all(&mut self, rest: &[Event], text: &mut String) -> Result<usize, CommandError>
+        ensures { Obeys (Ok commands.Go) self.old rest.now result self.new
+            (string_bytes text.old) (string_bytes text.new) }
+    {
+        text.reserve(LONGEST)?;
+        let stop = self.go(rest);
+        put_stop(text, stop);
+        put(text, "\n");
+        Ok(stop.used())
+    }
+
+    // Makes the first of the events that are left.
+    fn go_first(&mut self, n: u64, rest: &[Event], text: &mut String) -> Result<usize, CommandError>
+        ensures { Obeys (Ok (commands.GoFirst n)) self.old rest.now result self.new
+            (string_bytes text.old) (string_bytes text.new) }
+    {
+        if n < rest.len() as u64 {
+            self.go_all(&rest[..n as usize], text)
+        } else {
+            self.go_all(rest, text)
+        }
+    }
+
+    // A display of a processor.
+    fn display(&self, display: Display, p: u32) -> Result<String, AllocError>
+        requires { p < length self.now.machine.state.processors }
+        ensures { IfOk result (λ text. string_bytes text
+            ≡ display_text display p self.now.machine.state) }
+    {
+        match display {
+            Display::Regs => self.show_regs(p),
+            Display::Cop0 => self.show_cop0(p),
+            Display::Tlb => self.show_tlb(p),
+        }
+    }
+
+    // Appends a display of a processor.
+    fn show(&mut self, display: Display, p: u32, text: &mut String) -> Result<usize, CommandError>
+        ensures { (rest : List Event) → Obeys (Ok (commands.Show display p)) self.old rest result self.new
+            (string_bytes text.old) (string_bytes text.new) }
+    {
+        if p >= self.machine.processors() {
+            return Err(CommandError::BadProcessor);
+        }
+        let shown = self.display(display, p)?;
+        text.push_str(shown.as_str())?;
+        Ok(0)
+    }
+
+    // Whether words are in RAM.
+    fn are_there(&self, area: Area, address: u32, n: u32) -> bool
+        requires { n ≤ 1024 }
+        ensures { result ≡ is_there area self.now.machine.state address n }
+    {
+        match area {
+            Area::Memory => {
+                u64::from(address) + 4 * u64::from(n) <= self.machine.memory().len() as u64
+            }
+            Area::Code => is_code_there(self.machine.memory(), address, 4 * n),
+        }
+    }
+
+    // Whether words can be shown.
+    fn are_shown(&self, area: Area, address: u32, n: u32) -> bool
+        ensures { result ≡ is_shown area self.now.machine.state address n }
+    {
+        1 <= n && n <= 1024 && address % 4 == 0 && self.are_there(area, address, n)
+    }
+
+    // Words of RAM that can be shown.
+    fn words(&self, area: Area, address: u32, n: u32) -> Result<String, AllocError>
+        requires { is_shown area self.now.machine.state address n ≡ true }
+        ensures { IfOk result (λ text. string_bytes text
+            ≡ area_text area address n self.now.machine.state) }
+    {
+        match area {
+            Area::Memory => self.show_mem(address, n),
+            Area::Code => self.show_code(address, n),
+        }
+    }
+
+    // Appends words of RAM.
+    fn show_words(
+        &mut self,
+        area: Area,
+        address: u32,
+        n: u32,
+        text: &mut String,
+    ) -> Result<usize, CommandError>
+        ensures { (rest : List Event) → Obeys (Ok (commands.Words area address n)) self.old rest result self.new
+            (string_bytes text.old) (string_bytes text.new) }
+    {
+        if !self.are_shown(area, address, n) {
+            return Err(CommandError::BadArgument);
+        }
+        let shown = self.words(area, address, n)?;
+        text.push_str(shown.as_str())?;
+        Ok(0)
+    }
+}
