@@ -1,5 +1,6 @@
 pub mod Accepting
 pub mod Asked
+pub mod Failing
 pub mod Hex
 pub mod Making
 pub mod Shown

@@ -5,19 +5,23 @@ use Rattle.clap.specs.Words.{Text, subcommand_of}
 use Rattle.m161_cpu.specs.declared.processor.ProcessorState.{ProcessorState}
 use Rattle.m161_cpu.specs.declared.processor.ProcessorState.TheVariants.{Stopped, Running, Waiting}
 use Rattle.m161_cpu.specs.Processor.{Processor}
+use Rattle.m161_machine.specs.declared.conf.BootError.TheVariants.{Load}
 use Rattle.m161_machine.specs.declared.event.Event.{Event}
 use Rattle.m161_machine.specs.declared.event.Refusal.{Refusal}
+use Rattle.m161_machine.specs.Conf.{is_within_limits}
 use Rattle.m161_machine.specs.Refusal.{name_of_refusal, number_of_refusal}
 use Rattle.m161_machine.specs.State.{State, next, processor_at}
-use Rattle.m161_machine.specs.History.{History, Continues, IsBooted, Refuses}
-use Rattle.m161_steplog.specs.Lines.{lines_of}
+use Rattle.m161_machine.specs.History.{History, Continues, IsBooted, Refuses, boot_fault}
+use Rattle.m161_steplog.specs.Lines.{FirstBad, lines_of}
 use Rattle.m161_steplog.specs.Log.{log_text}
-use Rattle.m161_steplog.specs.Schedule.{IsSchedule}
+use Rattle.m161_steplog.specs.Schedule.{AreScheduleLines, IsSchedule}
 use Rattle.s161.specs.declared.command.RunTask.{RunTask}
 use Rattle.s161.specs.declared.command.Task.{Task}
 use Rattle.s161.specs.declared.command.Task.TheVariants.{Demo, Run}
 use Rattle.s161.specs.declared.events.Stop.{Stop}
 use Rattle.s161.specs.declared.events.Stop.TheVariants.{Off, End, Refused}
+use Rattle.s161.specs.declared.fault.Fault.{Fault}
+use Rattle.s161.specs.declared.fault.Fault.TheVariants.{Conf, File, Image, Input, Memory, Output, Schedule}
 use Rattle.s161.specs.Commands.{IsTask, command_line}
 use Rattle.s161.specs.Texts.{◌␣◌, ended, show_regs_text}
 
@@ -101,6 +105,22 @@ pub record IsRun (task : RunTask) (known : Option (List ℕ)) (input : Option (L
   pub makes : Makes booted events stop machine
   pub text_is : text ≡ summary_text machine stop task.show_log
   pub status_is : status ≡ status_of stop
+
+-- standard input has a schedule
+abbrev pub HasSchedule : Option (List ℕ) → Type 0
+HasSchedule input = (text : List ℕ) × IfSome input (λ bytes. text ≡ bytes) × AreScheduleLines (lines_of text)
+
+-- a run is ended by this fault, and by none before it: of the image's file, standard input, the schedule, the configuration, the image; or memory was refused
+abbrev pub IsFaultOf : RunTask → Option (List ℕ) → Option (List ℕ) → Fault → Type 0
+IsFaultOf task known input (File name) = name.now ≡ task.image.now
+IsFaultOf task known input Input = Unit {0}
+IsFaultOf task known input (Schedule n) =
+    (text : List ℕ) × IfSome input (λ bytes. text ≡ bytes) × FirstBad AreScheduleLines text n
+IsFaultOf task known input Conf = HasSchedule input × (is_within_limits task.conf ≡ false)
+IsFaultOf task known input (Image e) =
+    HasSchedule input × ((file : List ℕ) × IfSome known (λ bytes. file ≡ bytes) × (boot_fault file task.conf ≡ Some (Load e)))
+IsFaultOf task known input Memory = Unit {0}
+IsFaultOf task known input Output = ⊥
 
 -- a finished run printed its text
 abbrev pub Printed : RunTask → Option (List ℕ) → Option (List ℕ) → Option (List ℕ) → Option (List ℕ) → ℕ → Type 0

@@ -1,7 +1,7 @@
 //! An image, run under a schedule.
 
-ghost use Rattle.std.specs.Prelude.{◌≡◌, IfOk};
-ghost use Rattle.s161.specs.Runs.{IsRun, status_of};
+ghost use Rattle.std.specs.Prelude.{◌≡◌, IfErr, IfOk};
+ghost use Rattle.s161.specs.Runs.{IsFaultOf, IsRun, status_of};
 
 use crate::Machine;
 use crate::command::RunTask;
@@ -32,8 +32,10 @@ pub fn run<'a, F: FileSource, I: Read>(
     input: &mut I,
     task: RunTask<'a>,
 ) -> Result<Finished, Fault<'a>>
-    ensures { IfOk result (λ done. IsRun task.entry (F.known files.old task.entry.image.now)
+    ensures ok { IfOk result (λ done. IsRun task.entry (F.known files.old task.entry.image.now)
         (I.remaining input.old) done.text.items done.status) }
+    ensures fault { IfErr result (IsFaultOf task.entry (F.known files.old task.entry.image.now)
+        (I.remaining input.old)) }
 {
     let file = read_file(alloc, files, task.image)?;
     let schedule = read_input(alloc, input)?;

@@ -6,8 +6,8 @@ use Rattle.m161_steplog.specs.Schedule.{IsSchedule}
 use Rattle.s161.proofs.Making.{booted_ok}
 use Rattle.s161.proofs.run.run.Goals as goal
 
-pub returns : goal.returns
-returns g c =
+pub returns-clause-ok : goal.returns-clause-ok
+returns-clause-ok g c =
     let known = g.I.Read.remaining c.args.input.now in
     let P : List ℕ → Type 0 = λ schedule. IfSome known (λ bytes. schedule ≡ bytes) in
     let Q : List Event → Type 0 = λ events. IsSchedule (lines_of c.as_str.result.now) events in
