@@ -1,4 +1,4 @@
-use Rattle.std.specs.Prelude.{ℕ, ◌+◌, ◌-◌, ◌%◌, ◌^◌, ◌<◌, ◌≤◌, Bool, true, false, ◌==◌, ◌&&◌, cond, nat_lt, nat_le, List, [], ◌∷◌, ◌++◌, None, Some, Ok, Err, codes, decimal}
+use Rattle.std.specs.Prelude.{ℕ, ◌+◌, ◌-◌, ◌%◌, ◌^◌, ◌<◌, ◌≤◌, Bool, true, false, ◌==◌, ◌&&◌, cond, nat_lt, nat_le, List, [], ◌∷◌, ◌++◌, length, None, Some, Ok, Err, codes, decimal}
 use Rattle.std.proofs.Common.{◌≡◌, refl, ap, arith}
 use Rattle.std.proofs.lemmas.Bool.Decides.{nat_tests}
 use Rattle.m161_isa.specs.declared.operand.Operand.{Operand}
@@ -79,14 +79,17 @@ signed_read false at n past column more t k =
     let large : 0x8000 ≤ n = grind (arith, nat_tests) in
     record { part = Field n; column = _; reads = within 32768 32767 16 n n (0, 0x10000 - n) _ _ (grind (arith, nat_tests)) (omega arith); field = known at n }
 
+below : (n : ℕ) → n < 32 → nat_lt n 32 ≡ true
+below n k = grind (arith, nat_tests)
+
 -- one lemma for each kind
 pub part_read : (o : Operand) (at n past column : ℕ) (more : List Piece) → at < 2 ^ 32 → at % 4 ≡ 0 → n < 2 ^ width_of o → IsRead at n (part o past (laid column (operand_pieces at o n ++ more))) more
 unfolding part
-part_read operand.Rd at n past column more h w k = record { part = Field n; column = _; reads = refl; field = known at n }
-part_read operand.Rs at n past column more h w k = record { part = Field n; column = _; reads = refl; field = known at n }
-part_read operand.Rt at n past column more h w k = record { part = Field n; column = _; reads = refl; field = known at n }
-part_read operand.Cop0 at n past column more h w k = record { part = Field n; column = _; reads = refl; field = known at n }
-part_read operand.Base at n past column more h w k = record { part = Field n; column = _; reads = refl; field = known at n }
+part_read operand.Rd at n past column more h w k = record { part = Field n; column = column + length (register_text n); reads = rw (below n k) refl; field = known at n }
+part_read operand.Rs at n past column more h w k = record { part = Field n; column = column + length (register_text n); reads = rw (below n k) refl; field = known at n }
+part_read operand.Rt at n past column more h w k = record { part = Field n; column = column + length (register_text n); reads = rw (below n k) refl; field = known at n }
+part_read operand.Cop0 at n past column more h w k = record { part = Field n; column = column + length (register_text n); reads = rw (below n k) refl; field = known at n }
+part_read operand.Base at n past column more h w k = record { part = Field n; column = column + 1 + length (register_text n) + 1; reads = rw (below n k) refl; field = known at n }
 part_read operand.Amount at n past column more h w k = record { part = Field n; column = _; reads = within 0 31 5 n n (n, 0) _ _ (grind (arith, nat_tests)) (omega arith); field = known at n }
 part_read operand.Unsigned at n past column more h w k = record { part = Field n; column = _; reads = within 0 65535 16 n n (n, 0) _ _ (grind (arith, nat_tests)) (omega arith); field = known at n }
 part_read operand.Signed at n past column more h w k = signed_read (nat_lt n 0x8000) at n past column more refl k

@@ -1,4 +1,4 @@
-use Rattle.std.specs.Prelude.{ℕ, zero, suc, ◌+◌, ◌-◌, ◌%◌, ◌/◌, ◌^◌, Bool, true, false, ◌==◌, nat_le, ◌&&◌, if◌then◌else◌, List, [], ◌∷◌, length, Option, None, Some, Result, Ok, Err, codes, bytes_eq, find}
+use Rattle.std.specs.Prelude.{ℕ, zero, suc, ◌+◌, ◌-◌, ◌%◌, ◌/◌, ◌^◌, Bool, true, false, ◌==◌, nat_le, nat_lt, ◌&&◌, if◌then◌else◌, List, [], ◌∷◌, length, Option, None, Some, Result, Ok, Err, codes, bytes_eq, find, slice_get}
 use Rattle.m161_isa.specs.declared.table.Row.{Row}
 use Rattle.m161_isa.specs.declared.operand.Operand.{Operand}
 use Rattle.m161_isa.specs.declared.operand.Operand.TheVariants as operand
@@ -68,7 +68,7 @@ mark byte past ((Mark b, c, e) ∷ ts) = if b == byte then Ok ts else wrong past
 mark byte past ts = wrong past ts
 
 abbrev pub register : ℕ → List Placed → Reads ℕ
-register past ((Register n, c, e) ∷ ts) = Ok (n, ts)
+register past ((Register n, c, e) ∷ ts) = if nat_lt n 32 then Ok (n, ts) else wrong past ((Register n, c, e) ∷ ts)
 register past ts = wrong past ts
 
 abbrev pub plain_number : ℕ → List Placed → Reads ℕ
@@ -178,11 +178,21 @@ values (suc spare) past ts = do
   vs ← further (λ us. values spare past us) past v.1
   Ok (v.0 ∷ vs)
 
--- the number of `.org` and `.space`
-abbrev pub multiple : (ℕ → Statement) → ℕ → List Placed → Result Statement Fault
-multiple statement past ts = do
+-- the number of `.org` and `.space`: a multiple of 4
+abbrev pub multiple : ℕ → List Placed → Reads ℕ
+multiple past ts = do
   n ← plain_number past ts
-  if n.0 % 4 == 0 then ended (statement n.0) past n.1 else Err (faults.OutOfRange, here past ts)
+  if n.0 % 4 == 0 then Ok n else Err (faults.OutOfRange, here past ts)
+
+abbrev pub origin : ℕ → List Placed → Result Statement Fault
+origin past ts = do
+  n ← multiple past ts
+  ended (Origin n.0) past n.1
+
+abbrev pub space : ℕ → List Placed → Result Statement Fault
+space past ts = do
+  n ← multiple past ts
+  ended (Space (n.0 / 4)) past n.1
 
 abbrev pub entry : ℕ → List Placed → Result Statement Fault
 entry past ts = do
@@ -199,8 +209,8 @@ unknown column = Err (faults.UnknownWord, column)
 
 unfoldable pub directive_statement : List ℕ → ℕ → ℕ → List Placed → Result Statement Fault
 directive_statement d column past ts =
-    if bytes_eq d (codes "org") then multiple Origin past ts
-    else if bytes_eq d (codes "space") then multiple (λ n. Space (n / 4)) past ts
+    if bytes_eq d (codes "org") then origin past ts
+    else if bytes_eq d (codes "space") then space past ts
     else if bytes_eq d (codes "entry") then entry past ts
     else if bytes_eq d (codes "word") then words past ts
     else unknown column
@@ -215,12 +225,9 @@ instruction (Some r) column past ts = do
   xs ← parts true (table r).operands past ts
   Ok (Code r xs)
 
--- `nop` is the word 0
-abbrev pub zero_word : Statement
-zero_word = Words (record { label = None; number = (0, 0); column = 1 } ∷ [])
-
+-- `nop` is a word of zeros
 abbrev pub name_statement : Bool → List ℕ → ℕ → ℕ → List Placed → Result Statement Fault
-name_statement true x column past ts = ended zero_word past ts
+name_statement true x column past ts = ended (Space 1) past ts
 name_statement false x column past ts = instruction (row_named x) column past ts
 
 unfoldable pub statement : ℕ → List Placed → Result Statement Fault
@@ -248,10 +255,12 @@ sound ((Bad, c, e) ∷ ts) = Err (faults.BadToken, c)
 sound (t ∷ ts) = sound ts
 
 -- the column past a line's last token
+abbrev pub past_by : Option Placed → ℕ
+past_by None = 1
+past_by (Some t) = t.2
+
 abbrev pub past_of : List Placed → ℕ
-past_of [] = 1
-past_of (t ∷ []) = t.2
-past_of (t ∷ u ∷ ts) = past_of (u ∷ ts)
+past_of ts = past_by (slice_get ts (length ts - 1))
 
 -- a line: its label, its statement, and the column of the statement's word, or of the label where there is no statement
 pub record Line : Type 0 where

@@ -1,6 +1,6 @@
 //! Tokens to statements.
 
-ghost use Rattle.std.specs.Prelude.{◌≡◌, ◌≤◌, ◌<◌, ◌+◌, ◌^◌, ℕ, List, [], ◌∷◌, length, Result, MatchOption, find, bytes_eq, drop};
+ghost use Rattle.std.specs.Prelude.{◌≡◌, ◌≤◌, ◌<◌, ◌+◌, ◌^◌, ℕ, List, [], ◌∷◌, length, Result, IfSome, MatchOption, find, bytes_eq, drop};
 ghost use Rattle.m161_asm.specs.declared.error.ErrorKind.TheVariants as faults;
 ghost use Rattle.m161_asm.specs.Lines.{here, mark, register, plain_number, less, more, whole, addend, value, immediate, register_part, base, target, part, is_within, bits_of_whole, Field, BranchTo, JumpTo, comma, parts, separated};
 ghost use Rattle.m161_isa.specs.Table.{table};
@@ -13,8 +13,9 @@ use crate::token::{Placed, Token};
 use m161_isa::{Operand, ROWS, Row, rows_in_order};
 
 // The next token, and those behind it.
-fn next<'a, 'b>(ts: &'b [Placed<'a>]) -> Option<(Placed<'a>, &'b [Placed<'a>])>
-    ensures { MatchOption result (all_seen ts.now ≡ []) (λ x. all_seen ts.now ≡ seen x.0 ∷ all_seen x.1.now) }
+pub(crate) fn next<'a, 'b>(ts: &'b [Placed<'a>]) -> Option<(Placed<'a>, &'b [Placed<'a>])>
+    ensures within { IfSome result (λ x. length x.1.now < length ts.now) }
+    ensures parts { MatchOption result (all_seen ts.now ≡ []) (λ x. all_seen ts.now ≡ seen x.0 ∷ all_seen x.1.now) }
 {
     if ts.len() == 0 {
         return None;
@@ -24,7 +25,7 @@ fn next<'a, 'b>(ts: &'b [Placed<'a>]) -> Option<(Placed<'a>, &'b [Placed<'a>])>
 }
 
 // The column of the next token, or the one past the last.
-fn here(past: usize, ts: &[Placed<'_>]) -> usize
+pub(crate) fn here(past: usize, ts: &[Placed<'_>]) -> usize
     ensures { result ≡ here past (all_seen ts.now) }
 {
     match next(ts) {
@@ -34,7 +35,7 @@ fn here(past: usize, ts: &[Placed<'_>]) -> usize
 }
 
 // What is wanted isn't there.
-fn wrong(past: usize, ts: &[Placed<'_>]) -> Fault
+pub(crate) fn wrong(past: usize, ts: &[Placed<'_>]) -> Fault
     ensures kind { result.kind ≡ faults.BadOperand }
     ensures column { result.column ≡ here past (all_seen ts.now) }
 {
@@ -44,7 +45,7 @@ fn wrong(past: usize, ts: &[Placed<'_>]) -> Fault
     }
 }
 
-fn mark<'a, 'b>(byte: u8, past: usize, ts: &'b [Placed<'a>]) -> Result<&'b [Placed<'a>], Fault>
+pub(crate) fn mark<'a, 'b>(byte: u8, past: usize, ts: &'b [Placed<'a>]) -> Result<&'b [Placed<'a>], Fault>
     ensures { Gives rest_seen result (mark byte past (all_seen ts.now)) }
 {
     match next(ts) {
@@ -73,12 +74,12 @@ fn register<'a, 'b>(past: usize, ts: &'b [Placed<'a>]) -> Result<(u32, &'b [Plac
                 },
                 rest,
             ),
-        ) => Ok((n, rest)),
+        ) if n < 32 => Ok((n, rest)),
         _ => Err(wrong(past, ts)),
     }
 }
 
-fn plain_number<'a, 'b>(past: usize, ts: &'b [Placed<'a>]) -> Result<(u32, &'b [Placed<'a>]), Fault>
+pub(crate) fn plain_number<'a, 'b>(past: usize, ts: &'b [Placed<'a>]) -> Result<(u32, &'b [Placed<'a>]), Fault>
     ensures { Gives number_seen result (plain_number past (all_seen ts.now)) }
 {
     match next(ts) {
@@ -160,7 +161,7 @@ fn addend<'a, 'b>(past: usize, ts: &'b [Placed<'a>]) -> Result<(Whole, &'b [Plac
 }
 
 /// A V: perhaps a label, and a whole number.
-pub fn value<'a, 'b>(
+pub(crate) fn value<'a, 'b>(
     past: usize,
     ts: &'b [Placed<'a>],
 ) -> Result<(Value<'a>, &'b [Placed<'a>]), Fault>
@@ -320,7 +321,7 @@ fn comma<'a, 'b>(
 
 // The operands of a row from some place on.
 #[tactic(auto, unfolding(crate::specs::Lines::parts), using(crate::proofs::Fronts::fronted))]
-pub fn parts<'a>(
+pub(crate) fn parts<'a>(
     out: &mut Vec<Part<'a>>,
     first: bool,
     operands: &[Operand],
@@ -391,7 +392,7 @@ fn row_among(name: &[u8], rows: &[Row]) -> Option<Row>
 
 /// The row of a name.
 #[tactic(auto, unfolding(crate::specs::Lines::row_named))]
-pub fn named_row(name: &[u8]) -> Option<Row>
+pub(crate) fn named_row(name: &[u8]) -> Option<Row>
     ensures { result ≡ row_named name.now }
 {
     rows_in_order();
