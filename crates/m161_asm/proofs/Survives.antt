@@ -11,7 +11,7 @@ use Rattle.m161_asm.specs.Tokens.{Name, Directive, Number, Placed, tokens, token
 use Rattle.std.specs.Char.{is_ascii_digit}
 use Rattle.std.specs.List.{prefix_len}
 use Rattle.m161_asm.specs.Lines.{◌>>=◌, Fault, is_within, bits_of_whole, Part, Statement, Words, Code, label_of, sound, past_of, Line, line_column, size_of, statement, directive_statement, values, parts, row_named}
-use Rattle.m161_asm.specs.Text.{line_of, with_place, is_filled, address_below, address_by, symbols_in, words_of, word_of, number_by, field_of, each}
+use Rattle.m161_asm.specs.Text.{line_of, with_place, is_filled, address_below, symbols_in, words_of, word_of, number_by, field_of, each}
 use Rattle.m161_asm.specs.Law.{origin, stands_for, SurvivesDisassembling}
 use Rattle.m161_asm.proofs.Pieces.{Piece, IsPiece, Sound, starts_apart, laid, text_of, tokens-pieces, sound-laid, blank}
 use Rattle.m161_asm.proofs.Numerals.{hex8_piece}
@@ -23,7 +23,7 @@ use Rattle.m161_asm.proofs.Spelled.{pieces_sound, apart, name_piece}
 
 -- a line of one word has its place behind the `.org`
 placed_alone : (at : ℕ) (l : Line) → size_of l.statement ≡ 1 → l.label ≡ None → at < 2 ^ 32 → at % 4 ≡ 0 → with_place (origin at) l ≡ Ok l
-unfolding with_place is_filled address_below address_by
+unfolding with_place is_filled address_below 
 placed_alone at l e n h w =
     let t : nat_lt (2 ^ 32) (at + 4 * 1) ≡ false = grind (arith, nat_tests) in
     rw (e, n, t) refl

@@ -1,6 +1,6 @@
 //! Which addresses are filled.
 
-ghost use Rattle.std.specs.Prelude.{◌≡◌, ◌≤◌, ◌<◌, ◌+◌, ◌*◌, ◌^◌, ℕ, Bool, OnOk, length, drop, false, List, ◌||◌};
+ghost use Rattle.std.specs.Prelude.{◌≡◌, ◌≤◌, ◌<◌, ◌+◌, ◌*◌, ◌^◌, ℕ, Bool, OnOk, length, drop, false, List, ◌||◌, ◌⊎◌};
 ghost use Rattle.m161_asm.specs.Ground.{InOrder, Splits, IsOrdered, Fills, limit_of, meet, meets};
 
 use crate::statement::ReadError;
@@ -73,7 +73,8 @@ impl Ground {
     pub(crate) fn is_filled(&self, address: u64, size: u64) -> bool
         requires ordered { IsOrdered self.now address }
         requires within { address + 4 * size ≤ 2 ^ 32 }
-        ensures { (filled : ℕ → ℕ → Bool) → Fills self.now address filled → result ≡ filled address size }
+        ensures value { (filled : ℕ → ℕ → Bool) → Fills self.now address filled → result ≡ filled address size }
+        ensures free { result ≡ false → (size ≡ 0) ⊎ (address + 4 * size ≤ self.now.limit) }
     {
         size > 0 && self.limit < address + 4 * size
     }
