@@ -1,8 +1,8 @@
-use Rattle.std.specs.Prelude.{◌≡◌, ◌⊎◌, ℕ, ◌+◌, ◌*◌, ◌^◌, ◌≤◌, Bool, false, ◌||◌, nat_lt, List, Option}
+use Rattle.std.specs.Prelude.{◌≡◌, ◌⊎◌, ℕ, ◌+◌, ◌*◌, ◌^◌, ◌≤◌, Bool, false, ◌||◌, nat_lt, List, Option, None, Some}
 use Rattle.m161_asm.specs.declared.place.Position.{Position}
 use Rattle.m161_asm.specs.Ground.{IsOrdered, Fills}
-use Rattle.m161_asm.specs.Lines.{Line}
-use Rattle.m161_asm.specs.Text.{address_below, address_from, words_in, has_words, has_words_from, segments_in, opened, is_filled, overlap}
+use Rattle.m161_asm.specs.Lines.{Label, Line}
+use Rattle.m161_asm.specs.Text.{address_below, address_from, words_in, has_words, has_words_from, segments_in, opened, is_filled, overlap, address_of}
 
 -- What the passes keep of the lines above.
 
@@ -46,3 +46,8 @@ pub record Moves (old new : Position) (n : ℕ) : Type 0 where
   pub segments : new.segments ≡ old.segments
   pub has_words : new.has_words ≡ false
   pub fills : (filled : ℕ → ℕ → Bool) → Fills old.ground old.address filled → Fills new.ground new.address filled
+
+-- the label is none of the symbols
+abbrev pub IsNew : List (List ℕ × ℕ) → Label → Type 0
+IsNew symbols None = Unit {0}
+IsNew symbols (Some x) = address_of symbols x.0 ≡ None
