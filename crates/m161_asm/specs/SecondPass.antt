@@ -1,4 +1,4 @@
-use Rattle.std.specs.Prelude.{◌≡◌, ◌⊎◌, ℕ, ◌+◌, List, ◌∷◌, ◌++◌, map, length, unwrap_or, Result, Ok, Err}
+use Rattle.std.specs.Prelude.{◌≡◌, ◌⊎◌, ℕ, ◌+◌, ◌*◌, Option, List, ◌∷◌, ◌++◌, map, length, unwrap_or, Result, Ok, Err}
 use Rattle.m161_asm.specs.declared.program.Segment.{Segment as CodeSegment}
 use Rattle.m161_asm.specs.declared.second.SecondPass.{SecondPass}
 use Rattle.m161_asm.specs.declared.statement.ReadError.{ReadError}
@@ -6,7 +6,7 @@ use Rattle.m161_asm.specs.declared.statement.ReadError.TheVariants as errors
 use Rattle.m161_asm.specs.declared.error.AsmError.{AsmError}
 use Rattle.m161_asm.specs.declared.error.ErrorKind.TheVariants as faults
 use Rattle.m161_asm.specs.Lines.{Line}
-use Rattle.m161_asm.specs.Text.{Segment, segments_of, full, address_below, entry_of}
+use Rattle.m161_asm.specs.Text.{Segment, segments_of, full, opened_at, address_below, address_from, entry_of}
 use Rattle.m161_asm.specs.Seen.{fault_seen}
 
 -- What the second pass keeps of the lines above.
@@ -24,6 +24,13 @@ pub record IsFilled (p : SecondPass) (symbols : List (List ℕ × ℕ)) (above :
   pub done : full older ≡ segments_seen p.done.items
   pub address : p.address ≡ address_below above
   pub entry : (first : ℕ) → entry_of symbols first above ≡ unwrap_or p.entry first
+
+-- the position behind so many words, and in a new segment if a statement says so
+pub record Leaves (old new : SecondPass) (origin : Option ℕ) (size : ℕ) : Type 0 where
+  pub segments : (older : List Segment) → full older ≡ segments_seen old.done.items
+      → (newer : List Segment) × (segment_seen new.current ∷ newer ≡ opened_at origin (segment_seen old.current ∷ older)) × (full newer ≡ segments_seen new.done.items)
+  pub address : new.address ≡ address_from origin (old.address + 4 * size)
+  pub entry : new.entry ≡ old.entry
 
 -- the pass goes one line further, unless memory runs out
 abbrev pub Fills : Result (Unit {0}) ReadError → SecondPass → List (List ℕ × ℕ) → List Line → Type 0
