@@ -75,7 +75,7 @@ fill_on symbols old mid new above l s origin size e f w ca d a en o z v =
     (λ first. en first ∙ ap (entry_by symbols (unwrap_or old.entry first)) (sym e)) v2
 
 -- a segment is closed, and another opened
-full_more : (s : Segment) (older : List Segment) → full (s ∷ older) ≡ full older ++ full (s ∷ [])
+pub full_more : (s : Segment) (older : List Segment) → full (s ∷ older) ≡ full older ++ full (s ∷ [])
 full_more s older =
     elim (nat_lt 0 (length s.1)) as (λ b. reverse (cond b (s ∷ filter (λ (t : Segment). nat_lt 0 (length t.1)) older) (filter (λ (t : Segment). nat_lt 0 (length t.1)) older)) ≡ full older ++ reverse (cond b (s ∷ []) []))
     [ true ↦ reverse-append (s ∷ []) (filter (λ (t : Segment). nat_lt 0 (length t.1)) older) | false ↦ sym (append-nil (full older)) ]

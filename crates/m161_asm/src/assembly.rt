@@ -17,7 +17,7 @@ use std::alloc::Global;
 
 // The segments with words.
 fn with_last(done: Vec<Segment>, current: Segment) -> Result<Vec<Segment>, ReadError>
-    ensures { IfOk result (λ segments. segments_seen segments.items ≡ segments_seen done.entry.items ++ full (segment_seen current.entry ∷ [])) }
+    ensures { IfOk result (λ segments. segments_seen segments.items ≡ segments_seen done.items ++ full (segment_seen current ∷ [])) }
 {
     let mut segments = done;
     if current.words.len() > 0 {
@@ -38,8 +38,8 @@ fn first_address(segments: &[Segment]) -> u32
 }
 
 // The program of all lines.
-fn program(second: SecondPass, symbols: IndexMap<String, u32>) -> Result<Program, ReadError>
-    ensures { (all : List lines.Line) → symbols_seen symbols.entry ≡ symbols_in all → IsFilled second.entry (symbols_in all) all → IfOk result (λ p. program_of all ≡ Ok (program_seen p)) }
+fn program_with(second: SecondPass, symbols: IndexMap<String, u32>) -> Result<Program, ReadError>
+    ensures { (all : List lines.Line) → symbols_seen symbols ≡ symbols_in all → IsFilled second (symbols_in all) all → IfOk result (λ p. program_of all ≡ Ok (program_seen p)) }
 {
     let SecondPass {
         done,
@@ -65,11 +65,17 @@ fn program(second: SecondPass, symbols: IndexMap<String, u32>) -> Result<Program
 pub fn assemble(alloc: Global, source: &str) -> Result<Program, AsmError>
     ensures { Tells program_seen result (text source.now) }
 {
-    let first = first_pass(alloc, source.as_bytes())?;
-    let second = second_pass(alloc, &first.symbols, &first.lines)?;
+    let first = match first_pass(alloc, source.as_bytes()) {
+        Ok(first) => first,
+        Err(error) => return Err(error),
+    };
+    let second = match second_pass(alloc, &first.symbols, &first.lines) {
+        Ok(second) => second,
+        Err(error) => return Err(error),
+    };
     let reached = first.lines.len();
     let FirstPass { symbols, .. } = first;
-    match program(second, symbols) {
+    match program_with(second, symbols) {
         Ok(program) => Ok(program),
         Err(_) => Err(at_line(reached, ReadError::Memory)),
     }
