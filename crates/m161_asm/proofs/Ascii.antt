@@ -1,12 +1,12 @@
 use Rattle.std.specs.Prelude.{ℕ, ◌+◌, ◌-◌, ◌<◌, Bool, cond, List, [], ◌∷◌, length, drop, take, slice_index, ◌==◌, ◌||◌}
-use Rattle.std.specs.Char.{is_ascii_uppercase, is_ascii_lowercase, is_ascii_digit}
+use Rattle.std.specs.Char.{is_ascii_digit}
 use Rattle.std.specs.List.{prefix_len}
 use Rattle.std.specs.Str.{IsAscii, IsUtf8}
 use Rattle.std.proofs.Common.{◌≡◌, true, false, suc, refl, ap, arith}
 use Rattle.std.proofs.lemmas.Bool.Decides.{nat_tests}
 use Rattle.std.proofs.lemmas.Str.{IsUtf8-from_ascii}
 use Rattle.std.proofs.lemmas.Str.Ascii.{IsAscii-nil, IsAscii-cons}
-use Rattle.m161_asm.specs.Tokens.{Beginning, Nothing, AName, ANumber, ARegister, ADirective, AMark, NoToken, beginning, begins_name, is_letter, is_word, run}
+use Rattle.m161_asm.specs.Tokens.{Nothing, AName, ANumber, ARegister, ADirective, AMark, NoToken, beginning, begins_name, is_word, run}
 
 -- A name is ASCII.
 

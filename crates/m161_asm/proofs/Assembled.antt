@@ -1,13 +1,12 @@
-use Rattle.std.specs.Prelude.{◌⊎◌, ℕ, List, [], ◌∷◌, ◌++◌, Result, Ok, Err, unwrap_or}
+use Rattle.std.specs.Prelude.{ℕ, List, [], ◌∷◌, ◌++◌, Ok, Err, unwrap_or}
 use Rattle.std.proofs.Common.{◌≡◌, inl, inr, refl, ap, sym, ◌∙◌}
 use Rattle.m161_asm.specs.declared.error.AsmError.{AsmError}
-use Rattle.m161_asm.specs.declared.error.ErrorKind.TheVariants as faults
 use Rattle.m161_asm.specs.declared.first.FirstPass.{FirstPass}
 use Rattle.m161_asm.specs.declared.second.SecondPass.{SecondPass}
 use Rattle.m161_asm.specs.declared.program.Program.{Program as CodeProgram}
 use Rattle.m161_asm.specs.Tokens.{lines}
-use Rattle.m161_asm.specs.Lines.{◌>>=◌, Fault, Line}
-use Rattle.m161_asm.specs.Text.{Program, text, read_lines, symbols_in, segments_of, program_of, full, first_address, entry_of}
+use Rattle.m161_asm.specs.Lines.{◌>>=◌, Line}
+use Rattle.m161_asm.specs.Text.{text, read_lines, symbols_in, segments_of, program_of, full, first_address, entry_of}
 use Rattle.m161_asm.specs.Seen.{symbols_seen, Tells}
 use Rattle.m161_asm.specs.SecondPass.{IsFilled, Passes, segment_seen, segments_seen, program_seen}
 use Rattle.m161_asm.proofs.Filled.{full_more}

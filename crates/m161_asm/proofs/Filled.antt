@@ -1,7 +1,7 @@
-use Rattle.std.specs.Prelude.{ℕ, zero, suc, ◌+◌, ◌-◌, List, [], ◌∷◌, ◌++◌, length, take, replicate, ◌*◌, Result, Ok, Err, unwrap_or, Option, Some, Bool, true, false, cond, nat_lt, reverse, filter}
+use Rattle.std.specs.Prelude.{ℕ, zero, suc, ◌+◌, ◌-◌, List, [], ◌∷◌, ◌++◌, length, take, replicate, ◌*◌, Result, Ok, Err, unwrap_or, Option, Some, true, false, cond, nat_lt, reverse, filter}
 use Rattle.m161_asm.specs.declared.second.SecondPass.{SecondPass}
 use Rattle.m161_asm.specs.Lines.{Fault, Line, Statement, size_of}
-use Rattle.m161_asm.specs.Text.{Segment, segments_of, opened_at, onto_last, words_of, address_below, address_from, entry_of, entry_by, origin_of, full}
+use Rattle.m161_asm.specs.Text.{Segment, segments_of, opened_at, words_of, address_below, address_from, entry_of, entry_by, origin_of, full}
 use Rattle.m161_asm.specs.Seen.{with_front, fault_seen, Appends}
 use Rattle.m161_asm.specs.declared.statement.ReadError.{ReadError}
 use Rattle.m161_asm.specs.declared.statement.ReadError.TheVariants as errors

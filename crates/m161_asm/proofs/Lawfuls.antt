@@ -1,13 +1,13 @@
-use Rattle.std.specs.Prelude.{ℕ, ◌+◌, ◌*◌, ◌^◌, ◌/◌, ◌%◌, ◌≤◌, ◌<◌, Bool, true, false, cond, ◌||◌, ◌==◌, is_some, nat_lt, nat_le, List, [], ◌∷◌, length, Option, None, Some, Result, Ok, Err, codes, bytes_eq}
-use Rattle.std.proofs.Common.{◌≡◌, refl, ap, sym, ◌∙◌, subst, arith}
+use Rattle.std.specs.Prelude.{ℕ, ◌+◌, ◌*◌, ◌^◌, ◌/◌, ◌%◌, ◌≤◌, ◌<◌, Bool, true, false, cond, ◌||◌, ◌==◌, nat_lt, nat_le, List, [], ◌∷◌, length, Option, None, Some, Result, Ok, Err, codes, bytes_eq}
+use Rattle.std.proofs.Common.{◌≡◌, refl, subst, arith}
 use Rattle.std.proofs.lemmas.Bool.Decides.{nat_tests}
 use Rattle.m161_isa.specs.declared.table.Row.{Row}
 use Rattle.m161_isa.specs.declared.operand.Operand.{Operand}
 use Rattle.m161_isa.specs.declared.operand.Operand.TheVariants as operand
 use Rattle.m161_isa.specs.Table.{table, width_of, AreOperands}
-use Rattle.m161_asm.specs.Tokens.{Placed, Name, Directive, Register, Number, Mark, Bad, tokens}
+use Rattle.m161_asm.specs.Tokens.{Placed, Name, Directive, Register, tokens}
 use Rattle.m161_asm.specs.Lines.{◌>>=◌, Fault, Whole, Value, Part, Field, BranchTo, JumpTo, Reads, Statement, Nothing, Origin, Space, Entry, Words, Code, Line, register, wrong, whole, is_within, bits_of_whole, part, immediate, register_part, base, target, mark, value, comma, separated, ended, parts, multiple, origin, space, entry, words, unknown, values, directive_statement, row_named, instruction, name_statement, statement, label_of, sound, past_of, line_column, size_of}
-use Rattle.m161_asm.specs.Text.{address_below, with_place, is_outside, is_filled, new_label, line_of, on_line, read_lines, target_of, branch_field, jump_field, distance, field_of, each}
+use Rattle.m161_asm.specs.Text.{address_below, with_place, is_outside, is_filled, new_label, line_of, on_line, read_lines, target_of, distance, field_of, each}
 use Rattle.m161_asm.specs.Lawful.{IsPart, AreParts, IsStatement, Lawful}
 
 -- Lines that were read are lawful.
@@ -31,9 +31,10 @@ same x y e = cc
 register_small : (past : ℕ) (ts : List Placed) (x : ℕ × List Placed) → register past ts ≡ Ok x → x.0 < 32
 register_small past [] x e = cc
 register_small past ((Register n, c, d) ∷ ts) x e =
-    elim (nat_lt n 32) as (λ b. nat_lt n 32 ≡ b → cond {A = Reads ℕ} b (Ok (n, ts)) (wrong past ((Register n, c, d) ∷ ts)) ≡ Ok x → x.0 < 32)
-    [ true ↦ λ t f. let small : n < 32 = grind (arith, nat_tests, t) in subst (λ (y : ℕ × List Placed). y.0 < 32) (same (n, ts) x f) small
-    | false ↦ λ t f. cc ] refl e
+    elim (nat_lt n 32) as (λ b. nat_lt n 32 ≡ b → cond {A = Reads ℕ} b (Ok (n, ts)) (wrong past ((Register n, c, d) ∷ ts)) ≡ Ok x → x.0 < 32) [
+      | true ↦ λ t f. let small : n < 32 = grind (arith, nat_tests, t) in subst (λ (y : ℕ × List Placed). y.0 < 32) (same (n, ts) x f) small
+      | false ↦ λ t f. cc
+    ] refl e
 register_small past ((t, c, d) ∷ ts) x e = cc
 
 register_is : (o : Operand) (past : ℕ) (ts : List Placed) (x : Part × List Placed) → 2 ^ width_of o ≡ 32 → register_part past ts ≡ Ok x → IsPart o x.0

@@ -1,9 +1,9 @@
-use Rattle.std.specs.Prelude.{◌⊎◌, ℕ, ◌+◌, ◌*◌, ◌^◌, ◌≤◌, ◌<◌, Bool, true, false, ◌||◌, nat_lt, List, [], ◌∷◌, Option, None, Some}
+use Rattle.std.specs.Prelude.{◌⊎◌, ℕ, ◌+◌, ◌*◌, ◌≤◌, Bool, true, false, ◌||◌, nat_lt, List, ◌∷◌, None, Some}
 use Rattle.std.proofs.Common.{◌≡◌, inl, inr, refl, ap, sym, ◌∙◌, arith}
 use Rattle.m161_asm.specs.declared.place.Position.{Position}
 use Rattle.m161_asm.specs.Lines.{Line, size_of}
-use Rattle.m161_asm.specs.Text.{address_below, address_from, words_in, has_words, has_words_from, segments_in, opened, is_filled, overlap, origin_of}
-use Rattle.m161_asm.specs.Ground.{IsOrdered, Fills, meet, meets}
+use Rattle.m161_asm.specs.Text.{address_below, address_from, has_words_from, opened, is_filled, overlap, origin_of}
+use Rattle.m161_asm.specs.Ground.{IsOrdered, meet, meets}
 use Rattle.m161_asm.specs.declared.ground.Ground.{Ground}
 use Rattle.m161_asm.proofs.Grounds.{grown}
 use Rattle.m161_asm.specs.Passes.{IsPosition, IsBehind, HasRoom, Advances, Moves}
@@ -62,7 +62,7 @@ grew old new size p r a w s h g =
       segments = s;
       has_words = h;
       fills = λ filled f x n. rw (g, a)
-        (ap (λ y. overlap old.address size x n || y) (f x n)
-        ∙ or_grouped (overlap old.address size x n) (meet old.ground.start old.address x n) (meets old.ground.runs.items x n)
-        ∙ ap (λ y. y || meets old.ground.runs.items x n) (grown old.ground.start old.address size x n p.ordered.begun));
+          (ap (λ y. overlap old.address size x n || y) (f x n)
+          ∙ or_grouped (overlap old.address size x n) (meet old.ground.start old.address x n) (meets old.ground.runs.items x n)
+          ∙ ap (λ y. y || meets old.ground.runs.items x n) (grown old.ground.start old.address size x n p.ordered.begun));
     }

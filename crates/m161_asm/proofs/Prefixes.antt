@@ -1,4 +1,4 @@
-use Rattle.std.specs.Prelude.{◌⊎◌, ℕ, zero, suc, ◌+◌, ◌*◌, ◌^◌, ◌<◌, ◌≤◌, List, [], ◌∷◌, ◌++◌, length, map, reverse, take, drop, Result, Ok, Err}
+use Rattle.std.specs.Prelude.{◌⊎◌, ℕ, zero, suc, ◌+◌, ◌<◌, ◌≤◌, List, [], ◌∷◌, ◌++◌, length, map, take, drop, Err}
 use Rattle.std.specs.List.{slice_index_or}
 use Rattle.std.proofs.Common.{◌≡◌, inl, inr, refl, ap, sym, ◌∙◌, subst, arith}
 use Rattle.std.proofs.lemmas.List.{map-append, reverse-append}
@@ -11,7 +11,7 @@ use Rattle.m161_asm.specs.declared.second.SecondPass.{SecondPass}
 use Rattle.m161_asm.specs.Lines.{Fault, Line}
 use Rattle.m161_asm.specs.Text.{segments_of}
 use Rattle.m161_asm.specs.Lawful.{Lawful}
-use Rattle.m161_asm.specs.Seen.{line_seen, above_of, fault_seen, IsTold}
+use Rattle.m161_asm.specs.Seen.{line_seen, above_of, IsTold}
 use Rattle.m161_asm.specs.SecondPass.{Fills}
 use Rattle.m161_asm.proofs.Above.{took, above_len}
 

@@ -23,7 +23,7 @@ use Rattle.m161_asm.proofs.Spelled.{pieces_sound, apart, name_piece}
 
 -- a line of one word has its place behind the `.org`
 placed_alone : (at : ℕ) (l : Line) → size_of l.statement ≡ 1 → l.label ≡ None → at < 2 ^ 32 → at % 4 ≡ 0 → with_place (origin at) l ≡ Ok l
-unfolding with_place is_filled address_below 
+unfolding with_place is_filled address_below
 placed_alone at l e n h w =
     let t : nat_lt (2 ^ 32) (at + 4 * 1) ≡ false = grind (arith, nat_tests) in
     rw (e, n, t) refl

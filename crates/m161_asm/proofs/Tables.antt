@@ -1,13 +1,12 @@
-use Rattle.std.specs.Prelude.{ℕ, Bool, true, false, cond, List, [], ◌∷◌, ◌++◌, map, Option, None, Some, String, string_bytes, bytes_eq}
+use Rattle.std.specs.Prelude.{ℕ, true, false, cond, List, [], ◌∷◌, ◌++◌, map, None, Some, String, string_bytes, bytes_eq}
 use Rattle.std.specs.Global.{Global}
-use Rattle.std.specs.HashMap.{HashMap}
 use Rattle.std.specs.Map.{lookup}
 use Rattle.std.specs.String.{string_eq}
-use Rattle.std.proofs.Common.{◌≡◌, refl, ap, sym, ◌∙◌}
+use Rattle.std.proofs.Common.{◌≡◌, refl, ap}
 use Rattle.std.proofs.lemmas.List.{map-append}
 use Rattle.indexmap.specs.IndexMap.{insert_entry}
 use Rattle.m161_asm.specs.Text.{address_of}
-use Rattle.m161_asm.specs.Seen.{symbol_seen, symbols_seen}
+use Rattle.m161_asm.specs.Seen.{symbol_seen}
 
 -- The table of symbols.
 

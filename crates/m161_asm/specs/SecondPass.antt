@@ -1,4 +1,4 @@
-use Rattle.std.specs.Prelude.{◌≡◌, ◌⊎◌, ℕ, ◌+◌, ◌*◌, Option, List, ◌∷◌, ◌++◌, map, length, unwrap_or, Result, Ok, Err}
+use Rattle.std.specs.Prelude.{◌≡◌, ◌⊎◌, ℕ, ◌+◌, ◌*◌, Option, List, ◌∷◌, map, length, unwrap_or, Result, Ok, Err}
 use Rattle.m161_asm.specs.declared.program.Segment.{Segment as CodeSegment}
 use Rattle.m161_asm.specs.declared.second.SecondPass.{SecondPass}
 use Rattle.m161_asm.specs.declared.statement.ReadError.{ReadError}

@@ -201,9 +201,7 @@ pub(crate) fn statement<'a>(
 }
 
 /// The label of a line, and the tokens behind it.
-pub(crate) fn label_of<'a, 'b>(
-    ts: &'b [Placed<'a>],
-) -> (Option<Label<'a>>, &'b [Placed<'a>])
+pub(crate) fn label_of<'a, 'b>(ts: &'b [Placed<'a>]) -> (Option<Label<'a>>, &'b [Placed<'a>])
     ensures { label_read result ≡ label_of (all_seen ts.now) }
 {
     let Some(
@@ -215,7 +213,8 @@ pub(crate) fn label_of<'a, 'b>(
             },
             behind,
         ),
-    ) = next(ts) else {
+    ) = next(ts)
+    else {
         return (None, ts);
     };
     match next(behind) {

@@ -45,7 +45,11 @@ pub(crate) fn wrong(past: usize, ts: &[Placed<'_>]) -> Fault
     }
 }
 
-pub(crate) fn mark<'a, 'b>(byte: u8, past: usize, ts: &'b [Placed<'a>]) -> Result<&'b [Placed<'a>], Fault>
+pub(crate) fn mark<'a, 'b>(
+    byte: u8,
+    past: usize,
+    ts: &'b [Placed<'a>],
+) -> Result<&'b [Placed<'a>], Fault>
     ensures { Gives rest_seen result (mark byte past (all_seen ts.now)) }
 {
     match next(ts) {
@@ -79,7 +83,10 @@ fn register<'a, 'b>(past: usize, ts: &'b [Placed<'a>]) -> Result<(u32, &'b [Plac
     }
 }
 
-pub(crate) fn plain_number<'a, 'b>(past: usize, ts: &'b [Placed<'a>]) -> Result<(u32, &'b [Placed<'a>]), Fault>
+pub(crate) fn plain_number<'a, 'b>(
+    past: usize,
+    ts: &'b [Placed<'a>],
+) -> Result<(u32, &'b [Placed<'a>]), Fault>
     ensures { Gives number_seen result (plain_number past (all_seen ts.now)) }
 {
     match next(ts) {

@@ -1,8 +1,7 @@
-use Rattle.std.specs.Prelude.{ℕ, Ok, [], List}
+use Rattle.std.specs.Prelude.{ℕ, [], List}
 use Rattle.std.proofs.Common.{ap, sym, ◌∙◌, subst}
 use Rattle.m161_asm.specs.declared.statement.Line.{Line as CodeLine}
 use Rattle.m161_asm.specs.Lawful.{Lawful}
-use Rattle.m161_asm.specs.Text.{symbols_in}
 use Rattle.m161_asm.specs.Seen.{above_of, symbols_seen}
 use Rattle.m161_asm.specs.SecondPass.{Passes, IsFilled}
 use Rattle.m161_asm.proofs.Assembled.{first_told, second_told, told_program}

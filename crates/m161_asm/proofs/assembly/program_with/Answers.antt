@@ -1,5 +1,5 @@
 use Rattle.std.specs.Prelude.{unwrap_or}
-use Rattle.std.proofs.Common.{ap, sym, ◌∙◌}
+use Rattle.std.proofs.Common.{ap, ◌∙◌}
 use Rattle.m161_asm.specs.Text.{first_address}
 use Rattle.m161_asm.specs.SecondPass.{segments_seen}
 use Rattle.m161_asm.proofs.Assembled.{finished}

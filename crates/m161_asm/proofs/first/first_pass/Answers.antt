@@ -1,4 +1,4 @@
-use Rattle.std.specs.Prelude.{Ok, [], drop, ◌+◌, List, ℕ}
+use Rattle.std.specs.Prelude.{Ok, [], drop, ◌+◌}
 use Rattle.std.proofs.Common.{arith}
 use Rattle.m161_asm.specs.Tokens.{lines}
 use Rattle.m161_asm.specs.Seen.{above_of}

@@ -1,7 +1,6 @@
-use Rattle.std.specs.Prelude.{List, [], ◌∷◌, ◌++◌, ◌≡◌, length, map, Ok}
-use Rattle.std.proofs.Common.{ap, sym, ◌∙◌, subst, refl, arith}
-use Rattle.m161_asm.specs.Lines.{Value, value, values}
-use Rattle.m161_asm.specs.Seen.{all_seen, value_seen, with_front}
+use Rattle.std.specs.Prelude.{Ok}
+use Rattle.std.proofs.Common.{ap, sym, ◌∙◌, refl, arith}
+use Rattle.m161_asm.specs.Seen.{value_seen}
 use Rattle.m161_asm.proofs.Listed.{one_more, last_one, bad_value, bad_comma, none_left, pushed, none_seen, some_seen}
 use Rattle.m161_asm.proofs.line.values.Goals as goal
 

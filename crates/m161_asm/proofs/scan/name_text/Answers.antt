@@ -1,7 +1,5 @@
-use Rattle.std.specs.Prelude.{◌∷◌, drop, slice_index}
 use Rattle.std.specs.Str.{IsUtf8}
 use Rattle.std.proofs.Common.{sym, subst}
-use Rattle.m161_asm.specs.Tokens.{run}
 use Rattle.m161_asm.proofs.Ascii.{name_ascii, front}
 use Rattle.m161_asm.proofs.scan.name_text.Goals as goal
 

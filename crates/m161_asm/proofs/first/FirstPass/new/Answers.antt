@@ -1,5 +1,5 @@
 use Rattle.std.specs.Prelude.{map}
-use Rattle.std.proofs.Common.{refl, ap, sym, ◌∙◌}
+use Rattle.std.proofs.Common.{ap}
 use Rattle.m161_asm.specs.Text.{symbols_in}
 use Rattle.m161_asm.specs.Seen.{symbol_seen}
 use Rattle.m161_asm.proofs.first.FirstPass.new.Goals as goal

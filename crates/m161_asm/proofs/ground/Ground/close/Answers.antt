@@ -1,7 +1,5 @@
-use Rattle.std.specs.Prelude.{List, ◌≤◌, ◌≡◌, drop}
-use Rattle.std.proofs.Common.{ap, ◌∙◌, subst, sym, arith, inl, inr}
-use Rattle.m161_asm.specs.Ground.{InOrder, meets, limit_of}
-use Rattle.m161_asm.proofs.Grounds.{splits_within, ordered-insert, meets-insert, reach_end, no_run}
+use Rattle.std.proofs.Common.{arith}
+use Rattle.m161_asm.proofs.Grounds.{splits_within, ordered-insert, meets-insert, reach_end}
 use Rattle.m161_asm.proofs.ground.Ground.close.Goals as goal
 
 pub insert-requires : goal.insert-requires
@@ -13,7 +11,7 @@ pub returns-in_ok-insert-clause-order : goal.returns-in_ok-insert-clause-order
 returns-in_ok-insert-clause-order c =
     let g = c.args.self.now in
     rw c.in_ok-insert.ensures.items
-      (ordered-insert g.runs.items 0 g.next (record { start = g.start; end = c.args.end }) c.requires.order c.requires.split (omega arith) c.if-self-end.true (reach_end g c.args.end c.requires c.if-self-end.true))
+    (ordered-insert g.runs.items 0 g.next (record { start = g.start; end = c.args.end }) c.requires.order c.requires.split (omega arith) c.if-self-end.true (reach_end g c.args.end c.requires c.if-self-end.true))
 
 pub returns-in_ok-insert-clause-fills : goal.returns-in_ok-insert-clause-fills
 returns-in_ok-insert-clause-fills c = λ a n.

@@ -1,5 +1,5 @@
 use Rattle.std.specs.Prelude.{List, ◌≡◌, ◌≤◌, length}
-use Rattle.std.proofs.Common.{sym, ◌∙◌, subst}
+use Rattle.std.proofs.Common.{subst}
 use Rattle.m161_asm.specs.declared.ground.Run.{Run}
 use Rattle.m161_asm.proofs.Grounds.{splits_within}
 use Rattle.m161_asm.proofs.ground.Ground.reopen.Goals as goal
