@@ -1,14 +1,14 @@
 use Rattle.std.specs.Prelude.{ℕ, ◌+◌, ◌*◌, ◌^◌, ◌/◌, ◌%◌, ◌≤◌, ◌<◌, Bool, true, false, cond, ◌||◌, ◌==◌, nat_lt, nat_le, List, [], ◌∷◌, length, Option, None, Some, Result, Ok, Err, codes, bytes_eq}
 use Rattle.std.proofs.Common.{◌≡◌, refl, subst, arith}
-use Rattle.std.proofs.lemmas.Bool.Decides.{nat_tests}
+use Rattle.std.proofs.lemmas.Bool.Decides.{Decides-eqb, nat_tests}
 use Rattle.m161_isa.specs.declared.table.Row.{Row}
 use Rattle.m161_isa.specs.declared.operand.Operand.{Operand}
 use Rattle.m161_isa.specs.declared.operand.Operand.TheVariants as operand
 use Rattle.m161_isa.specs.Table.{table, width_of, AreOperands}
 use Rattle.m161_asm.specs.Tokens.{Placed, Name, Directive, Register, tokens}
-use Rattle.m161_asm.specs.Lines.{◌>>=◌, Fault, Whole, Value, Part, Field, BranchTo, JumpTo, Reads, Statement, Nothing, Origin, Space, Entry, Words, Code, Line, register, wrong, whole, is_within, bits_of_whole, part, immediate, register_part, base, target, mark, value, comma, separated, ended, parts, multiple, origin, space, entry, words, unknown, values, directive_statement, row_named, instruction, name_statement, statement, label_of, sound, past_of, line_column, size_of}
-use Rattle.m161_asm.specs.Text.{address_below, with_place, is_outside, is_filled, new_label, line_of, on_line, read_lines, target_of, distance, field_of, each}
-use Rattle.m161_asm.specs.Lawful.{IsPart, AreParts, IsStatement, Lawful}
+use Rattle.m161_asm.specs.Lines.{◌>>=◌, Fault, Whole, Value, Part, Field, BranchTo, JumpTo, Reads, Statement, Nothing, Origin, Space, Entry, Words, Code, Line, register, wrong, whole, is_within, bits_of_whole, part, immediate, register_part, base, target, mark, value, comma, separated, ended, parts, plain_number, multiple, origin, space, entry, words, unknown, values, directive_statement, row_named, instruction, name_statement, statement, label_of, sound, past_of, line_column, size_of}
+use Rattle.m161_asm.specs.Text.{words_in, segments_in, address_below, with_place, is_outside, is_filled, new_label, line_of, on_line, read_lines, target_of, distance, field_of, each}
+use Rattle.m161_asm.specs.Lawful.{IsPart, AreParts, IsStatement, IsLine, Lawful}
 
 -- Lines that were read are lawful.
 
@@ -95,8 +95,20 @@ parts_are first (o ∷ os) past ts xs e =
     subst (AreParts (o ∷ os)) (same (a.x.0 ∷ b.x) xs b.gives) (part_is o past p.x a.x p.gives, parts_are false os past a.x.1 b.x b.read)
 
 -- statements
+multiple_is : (past : ℕ) (ts : List Placed) (x : ℕ × List Placed) → multiple past ts ≡ Ok x → x.0 % 4 ≡ 0
+multiple_is past ts x e =
+    let a = bound (plain_number past ts) _ x e in
+    by a.x _ a.gives
+  where
+    by : (y : ℕ × List Placed) (f : Fault) → cond {A = Reads ℕ} (y.0 % 4 == 0) (Ok y) (Err f) ≡ Ok x → x.0 % 4 ≡ 0
+    by y f d =
+        elim (y.0 % 4 == 0) as (λ b. (y.0 % 4 == 0) ≡ b → cond {A = Reads ℕ} b (Ok y) (Err f) ≡ Ok x → x.0 % 4 ≡ 0)
+        [ true ↦ λ t g. subst (λ (z : ℕ × List Placed). z.0 % 4 ≡ 0) (same y x g) ((Decides-eqb (y.0 % 4) 0).0 t) | false ↦ λ t g. cc ] refl d
+
 origin_is : (past : ℕ) (ts : List Placed) (s : Statement) → origin past ts ≡ Ok s → IsStatement s
-origin_is past ts s e = let a = bound (multiple past ts) _ s e in subst IsStatement (ended_is (Origin a.x.0) s past a.x.1 a.gives) tt
+origin_is past ts s e =
+    let a = bound (multiple past ts) _ s e in
+    subst IsStatement (ended_is (Origin a.x.0) s past a.x.1 a.gives) (multiple_is past ts a.x a.read)
 
 space_is : (past : ℕ) (ts : List Placed) (s : Statement) → space past ts ≡ Ok s → IsStatement s
 space_is past ts s e = let a = bound (multiple past ts) _ s e in subst IsStatement (ended_is (Space (a.x.0 / 4)) s past a.x.1 a.gives) tt
@@ -140,22 +152,40 @@ statement_is past ((t, c, x) ∷ ts) s e = cc
 -- lines
 record Placement (above : List Line) (l m : Line) : Type 0 where
   pub same : l ≡ m
-  pub within : address_below above + 4 * size_of l.statement ≤ 2 ^ 32
+  pub outside : is_outside above l ≡ false
+  pub free : is_filled above (address_below above) (size_of l.statement) ≡ false
 
-placed_by : (above : List Line) (l m : Line) (t u : Bool) (e f : Fault) → (t ≡ false → address_below above + 4 * size_of l.statement ≤ 2 ^ 32) → cond {A = Result Line Fault} t (Err e) (cond u (Err f) (Ok l)) ≡ Ok m → Placement above l m
-placed_by above l m true u e f g d = cc
-placed_by above l m false true e f g d = cc
-placed_by above l m false false e f g d = record { same = same l m d; within = g refl }
+placed_by : (above : List Line) (l m : Line) (t u : Bool) (e f : Fault) → is_outside above l ≡ t → is_filled above (address_below above) (size_of l.statement) ≡ u → cond {A = Result Line Fault} t (Err e) (cond u (Err f) (Ok l)) ≡ Ok m → Placement above l m
+placed_by above l m true u e f g h d = cc
+placed_by above l m false true e f g h d = cc
+placed_by above l m false false e f g h d = record { same = same l m d; outside = g; free = h }
 
 first_of : (b c : Bool) → (b || c) ≡ false → b ≡ false
 first_of true c e = cc
 first_of false c e = refl
 
+second_of : (b c : Bool) → (b || c) ≡ false → c ≡ false
+second_of true c e = cc
+second_of false c e = e
+
 placed_is : (above : List Line) (l m : Line) → with_place above l ≡ Ok m → Placement above l m
 unfolding with_place
 placed_is above l m e =
-    placed_by above l m (is_outside above l) (is_filled above (address_below above) (size_of l.statement)) _ _
-    (λ t. let b : nat_lt (2 ^ 32) (address_below above + 4 * size_of l.statement) ≡ false = first_of _ _ (first_of _ _ (first_of _ _ t)) in grind (arith, nat_tests, b)) e
+    placed_by above l m (is_outside above l) (is_filled above (address_below above) (size_of l.statement)) _ _ refl refl e
+
+at_most : (low high : ℕ) → nat_lt low high ≡ false → high ≤ low
+at_most low high e = grind (arith, nat_tests, e)
+
+lawful_line : (above : List Line) (l m : Line) → IsStatement l.statement → Placement above l m → IsLine above l
+lawful_line above l m s p =
+    let o = p.outside in
+    record {
+      statement = s;
+      within = at_most (2 ^ 32) (address_below above + 4 * size_of l.statement) (first_of _ _ (first_of _ _ (first_of _ _ o)));
+      words = at_most 4194304 (words_in (l ∷ above)) (second_of _ _ (first_of _ _ o));
+      segments = at_most 1024 (segments_in (l ∷ above)) (second_of _ _ o);
+      free = p.free;
+    }
 
 pub line_is : (above : List Line) (ts : List Placed) (l : Line) → line_of above ts ≡ Ok l → Lawful above → Lawful (l ∷ above)
 unfolding line_of
@@ -163,8 +193,9 @@ line_is above ts l e h =
     let a = bound (sound ts) _ l e in
     let b = bound (new_label above (label_of ts).0) _ l a.gives in
     let c = bound (statement (past_of ts) (label_of ts).1) _ l b.gives in
-    let p = placed_is above (record { label = (label_of ts).0; statement = c.x; column = line_column ts (label_of ts).1 }) l c.gives in
-    subst (λ (m : Line). Lawful (m ∷ above)) p.same (p.within, statement_is _ _ c.x c.read, h)
+    let r : Line = record { label = (label_of ts).0; statement = c.x; column = line_column ts (label_of ts).1 } in
+    let p = placed_is above r l c.gives in
+    subst (λ (m : Line). Lawful (m ∷ above)) p.same (lawful_line above r l (statement_is _ _ c.x c.read) p, h)
 
 pub read_is : (above : List Line) (texts : List (List ℕ)) (all : List Line) → read_lines above texts ≡ Ok all → Lawful above → Lawful all
 unfolding read_lines

@@ -46,7 +46,7 @@ next_above ls d i h = took (take i ls) (take (i + 1) ls) (slice_index_or ls i d)
 
 lawful_behind : (xs ys : List Line) → Lawful (xs ++ ys) → Lawful ys
 lawful_behind [] ys h = h
-lawful_behind (x ∷ xs) ys (a, b, h) = lawful_behind xs ys h
+lawful_behind (x ∷ xs) ys (a, h) = lawful_behind xs ys h
 
 pub lawful_at : (ls : List CodeLine) (d : CodeLine) (i : ℕ) → i < length ls → Lawful (above_of ls) → Lawful (line_seen (slice_index_or ls i d) ∷ above_of (take i ls))
 lawful_at ls d i h l =

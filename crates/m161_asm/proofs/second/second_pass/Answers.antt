@@ -6,10 +6,10 @@ use Rattle.m161_asm.proofs.second.second_pass.Goals as goal
 
 pub fill-requires-clause-room : goal.fill-requires-clause-room
 fill-requires-clause-room c =
-    rw c.loop-i.invariant.address (lawful_here c.args.lines.now c.index-lines-i.result c.loop-i.i c.index-lines-i.is c.loop-i-test.true c.requires).0
+    rw c.loop-i.invariant.address (lawful_here c.args.lines.now c.index-lines-i.result c.loop-i.i c.index-lines-i.is c.loop-i-test.true c.requires).0.within
 
 pub fill-requires-clause-lawful : goal.fill-requires-clause-lawful
-fill-requires-clause-lawful c = (lawful_here c.args.lines.now c.index-lines-i.result c.loop-i.i c.index-lines-i.is c.loop-i-test.true c.requires).1
+fill-requires-clause-lawful c = (lawful_here c.args.lines.now c.index-lines-i.result c.loop-i.i c.index-lines-i.is c.loop-i-test.true c.requires).0.statement
 
 pub returns-in-Err : goal.returns-in-Err
 returns-in-Err c =
