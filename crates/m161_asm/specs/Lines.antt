@@ -1,0 +1,280 @@
+use Rattle.std.specs.Prelude.{ℕ, zero, suc, ◌+◌, ◌-◌, ◌%◌, ◌/◌, ◌^◌, Bool, true, false, ◌==◌, nat_le, nat_lt, ◌&&◌, if◌then◌else◌, List, [], ◌∷◌, length, Option, None, Some, Result, Ok, Err, codes, bytes_eq, find, slice_get}
+use Rattle.m161_isa.specs.declared.table.Row.{Row}
+use Rattle.m161_isa.specs.declared.operand.Operand.{Operand}
+use Rattle.m161_isa.specs.declared.operand.Operand.TheVariants as operand
+use Rattle.m161_isa.specs.Table.{table, all_rows}
+use Rattle.m161_asm.specs.declared.error.ErrorKind.{ErrorKind}
+use Rattle.m161_asm.specs.declared.error.ErrorKind.TheVariants as faults
+use Rattle.m161_asm.specs.Tokens.{Name, Directive, Register, Number, Mark, Bad, Placed}
+
+-- A line's parse: a label and a statement, or the leftmost fault.
+
+-- a fault and its column
+abbrev pub Fault : Type 0
+Fault = ErrorKind × ℕ
+
+infixl 10 ◌>>=◌
+abbrev pub ◌>>=◌ : {A B F : Type 0} → Result A F → (A → Result B F) → Result B F
+(Ok x) >>= f = f x
+(Err e) >>= f = Err e
+
+-- what is read from the tokens from some place on, and the tokens behind it
+abbrev pub Reads : Type 0 → Type 0
+Reads A = Result (A × List Placed) Fault
+
+-- a whole number, as what is added less what is taken away
+abbrev pub Whole : Type 0
+Whole = ℕ × ℕ
+
+-- from so far below zero to so far above it
+abbrev pub is_within : ℕ → ℕ → Whole → Bool
+is_within low high n = nat_le n.1 (n.0 + low) && nat_le n.0 (n.1 + high)
+
+-- its last so many bits
+abbrev pub bits_of_whole : ℕ → Whole → ℕ
+bits_of_whole width n = (n.0 + 2 ^ width - n.1) % 2 ^ width
+
+-- a V of the text: perhaps a label, a whole number, and its column
+pub record Value : Type 0 where
+  pub label : Option (List ℕ)
+  pub number : Whole
+  pub column : ℕ
+
+-- an operand of an instruction: a field, or the address that a branch or a jump goes to
+pub data Part : Type 0 where
+  Field : (field : ℕ) → Part
+  BranchTo : (target : Value) → Part
+  JumpTo : (target : Value) → Part
+
+pub data Statement : Type 0 where
+  Nothing : Statement
+  Origin : (address : ℕ) → Statement
+  Space : (words : ℕ) → Statement
+  Entry : (value : Value) → Statement
+  Words : (values : List Value) → Statement
+  Code : (row : Row) → (parts : List Part) → Statement
+
+-- the column of the next token, or the one past the last
+abbrev pub here : ℕ → List Placed → ℕ
+here past [] = past
+here past (t ∷ ts) = t.1
+
+-- what is wanted isn't there
+abbrev pub wrong : {A : Type 0} → ℕ → List Placed → Result A Fault
+wrong past ts = Err (faults.BadOperand, here past ts)
+
+abbrev pub mark : ℕ → ℕ → List Placed → Result (List Placed) Fault
+mark byte past ((Mark b, c, e) ∷ ts) = if b == byte then Ok ts else wrong past ((Mark b, c, e) ∷ ts)
+mark byte past ts = wrong past ts
+
+abbrev pub register : ℕ → List Placed → Reads ℕ
+register past ((Register n, c, e) ∷ ts) = if nat_lt n 32 then Ok (n, ts) else wrong past ((Register n, c, e) ∷ ts)
+register past ts = wrong past ts
+
+abbrev pub plain_number : ℕ → List Placed → Reads ℕ
+plain_number past ((Number n, c, e) ∷ ts) = Ok (n, ts)
+plain_number past ts = wrong past ts
+
+-- `[-] number`; 45 is `-`, 43 is `+`
+abbrev pub less : ℕ → List Placed → Reads Whole
+less past ts = do
+  n ← plain_number past ts
+  Ok ((0, n.0), n.1)
+
+abbrev pub more : ℕ → List Placed → Reads Whole
+more past ts = do
+  n ← plain_number past ts
+  Ok ((n.0, 0), n.1)
+
+abbrev pub whole : ℕ → List Placed → Reads Whole
+whole past ((Mark b, c, e) ∷ ts) = if b == 45 then less past ts else wrong past ((Mark b, c, e) ∷ ts)
+whole past ts = more past ts
+
+-- `[+ number | - number]`
+abbrev pub addend : ℕ → List Placed → Reads Whole
+addend past ((Mark b, c, e) ∷ ts) =
+    if b == 43 then more past ts else if b == 45 then less past ts else Ok ((0, 0), (Mark b, c, e) ∷ ts)
+addend past ts = Ok ((0, 0), ts)
+
+abbrev pub with_label : Option (List ℕ) → ℕ → Reads Whole → Reads Value
+with_label label column read = do
+  n ← read
+  Ok (record { label = label; number = n.0; column = column }, n.1)
+
+abbrev pub value : ℕ → List Placed → Reads Value
+value past ((Name x, c, e) ∷ ts) = with_label (Some x) c (addend past ts)
+value past ts = with_label None (here past ts) (whole past ts)
+
+-- a number from -low to high, as a field of so many bits
+abbrev pub immediate : ℕ → ℕ → ℕ → ℕ → List Placed → Reads Part
+immediate low high width past ts = do
+  n ← whole past ts
+  if is_within low high n.0 then Ok (Field (bits_of_whole width n.0), n.1) else Err (faults.OutOfRange, here past ts)
+
+abbrev pub register_part : ℕ → List Placed → Reads Part
+register_part past ts = do
+  n ← register past ts
+  Ok (Field n.0, n.1)
+
+abbrev pub base : ℕ → List Placed → Reads Part
+base past ts = do
+  inner ← mark 40 past ts
+  n ← register past inner
+  outer ← mark 41 past n.1
+  Ok (Field n.0, outer)
+
+abbrev pub target : (Value → Part) → ℕ → List Placed → Reads Part
+target part past ts = do
+  v ← value past ts
+  Ok (part v.0, v.1)
+
+-- an operand, by its kind in the table
+unfoldable pub part : Operand → ℕ → List Placed → Reads Part
+part operand.Rd past ts = register_part past ts
+part operand.Rs past ts = register_part past ts
+part operand.Rt past ts = register_part past ts
+part operand.Cop0 past ts = register_part past ts
+part operand.Amount past ts = immediate 0 31 5 past ts
+part operand.Signed past ts = immediate 32768 32767 16 past ts
+part operand.Offset past ts = immediate 32768 32767 16 past ts
+part operand.Unsigned past ts = immediate 0 65535 16 past ts
+part operand.Base past ts = base past ts
+part operand.Branch past ts = target BranchTo past ts
+part operand.Jump past ts = target JumpTo past ts
+
+-- a comma (44) before each operand but the first, and but a base
+abbrev pub comma : Bool → Operand → ℕ → List Placed → Result (List Placed) Fault
+comma true o past ts = Ok ts
+comma false operand.Base past ts = Ok ts
+comma false _ past ts = mark 44 past ts
+
+abbrev pub separated : Bool → Operand → ℕ → List Placed → Reads Part
+separated first o past ts = do
+  inner ← comma first o past ts
+  part o past inner
+
+-- nothing more stands on the line
+abbrev pub ended : {A : Type 0} → A → ℕ → List Placed → Result A Fault
+ended x past [] = Ok x
+ended x past (t ∷ ts) = wrong past (t ∷ ts)
+
+-- the operands of a row
+unfoldable pub parts : Bool → List Operand → ℕ → List Placed → Result (List Part) Fault
+parts first [] past ts = ended [] past ts
+parts first (o ∷ os) past ts = do
+  x ← separated first o past ts
+  xs ← parts false os past x.1
+  Ok (x.0 ∷ xs)
+
+-- the values of `.word`, with commas between; there are no more of them than `spare`
+abbrev pub further : (List Placed → Result (List Value) Fault) → ℕ → List Placed → Result (List Value) Fault
+further others past [] = Ok []
+further others past (t ∷ ts) = mark 44 past (t ∷ ts) >>= others
+
+unfoldable pub values : ℕ → ℕ → List Placed → Result (List Value) Fault
+values zero past ts = wrong past ts
+values (suc spare) past ts = do
+  v ← value past ts
+  vs ← further (λ us. values spare past us) past v.1
+  Ok (v.0 ∷ vs)
+
+-- the number of `.org` and `.space`: a multiple of 4
+abbrev pub multiple : ℕ → List Placed → Reads ℕ
+multiple past ts = do
+  n ← plain_number past ts
+  if n.0 % 4 == 0 then Ok n else Err (faults.OutOfRange, here past ts)
+
+abbrev pub origin : ℕ → List Placed → Result Statement Fault
+origin past ts = do
+  n ← multiple past ts
+  ended (Origin n.0) past n.1
+
+abbrev pub space : ℕ → List Placed → Result Statement Fault
+space past ts = do
+  n ← multiple past ts
+  ended (Space (n.0 / 4)) past n.1
+
+abbrev pub entry : ℕ → List Placed → Result Statement Fault
+entry past ts = do
+  v ← value past ts
+  ended (Entry v.0) past v.1
+
+abbrev pub words : ℕ → List Placed → Result Statement Fault
+words past ts = do
+  vs ← values (length ts) past ts
+  Ok (Words vs)
+
+abbrev pub unknown : ℕ → Result Statement Fault
+unknown column = Err (faults.UnknownWord, column)
+
+unfoldable pub directive_statement : List ℕ → ℕ → ℕ → List Placed → Result Statement Fault
+directive_statement d column past ts =
+    if bytes_eq d (codes "org") then origin past ts
+    else if bytes_eq d (codes "space") then space past ts
+    else if bytes_eq d (codes "entry") then entry past ts
+    else if bytes_eq d (codes "word") then words past ts
+    else unknown column
+
+-- the row of a name
+unfoldable pub row_named : List ℕ → Option Row
+row_named x = find (λ r. bytes_eq x (table r).name) all_rows
+
+abbrev pub instruction : Option Row → ℕ → ℕ → List Placed → Result Statement Fault
+instruction None column past ts = unknown column
+instruction (Some r) column past ts = do
+  xs ← parts true (table r).operands past ts
+  Ok (Code r xs)
+
+-- `nop` is a word of zeros
+abbrev pub name_statement : Bool → List ℕ → ℕ → ℕ → List Placed → Result Statement Fault
+name_statement true x column past ts = ended (Space 1) past ts
+name_statement false x column past ts = instruction (row_named x) column past ts
+
+unfoldable pub statement : ℕ → List Placed → Result Statement Fault
+statement past [] = Ok Nothing
+statement past ((Directive d, c, e) ∷ ts) = directive_statement d c past ts
+statement past ((Name x, c, e) ∷ ts) = name_statement (bytes_eq x (codes "nop")) x c past ts
+statement past ((t, c, e) ∷ ts) = unknown c
+
+-- a label of a line, its column, and the tokens behind it; 58 is `:`
+abbrev pub Label : Type 0
+Label = Option (List ℕ × ℕ)
+
+abbrev pub label_if : Bool → List ℕ → ℕ → List Placed → List Placed → Label × List Placed
+label_if true x column behind all = (Some (x, column), behind)
+label_if false x column behind all = (None, all)
+
+abbrev pub label_of : List Placed → Label × List Placed
+label_of ((Name x, c, e) ∷ (Mark b, d, f) ∷ ts) = label_if (b == 58) x c ts ((Name x, c, e) ∷ (Mark b, d, f) ∷ ts)
+label_of ts = (None, ts)
+
+-- the leftmost token that is none
+abbrev pub sound : List Placed → Result (Unit {0}) Fault
+sound [] = Ok tt
+sound ((Bad, c, e) ∷ ts) = Err (faults.BadToken, c)
+sound (t ∷ ts) = sound ts
+
+-- the column past a line's last token
+abbrev pub past_by : Option Placed → ℕ
+past_by None = 1
+past_by (Some t) = t.2
+
+abbrev pub past_of : List Placed → ℕ
+past_of ts = past_by (slice_get ts (length ts - 1))
+
+-- a line: its label, its statement, and the column of the statement's word, or of the label where there is no statement
+pub record Line : Type 0 where
+  pub label : Label
+  pub statement : Statement
+  pub column : ℕ
+
+abbrev pub line_column : List Placed → List Placed → ℕ
+line_column all [] = here 1 all
+line_column all (t ∷ ts) = t.1
+
+-- how many words a line takes: what its labels stand for plays no part
+abbrev pub size_of : Statement → ℕ
+size_of (Space n) = n
+size_of (Words vs) = length vs
+size_of (Code r parts) = 1
+size_of _ = 0

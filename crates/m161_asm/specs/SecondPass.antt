@@ -1,0 +1,49 @@
+use Rattle.std.specs.Prelude.{◌≡◌, ◌⊎◌, ℕ, ◌+◌, ◌*◌, Option, List, ◌∷◌, map, length, unwrap_or, Result, Ok, Err}
+use Rattle.m161_asm.specs.declared.program.Segment.{Segment as CodeSegment}
+use Rattle.m161_asm.specs.declared.second.SecondPass.{SecondPass}
+use Rattle.m161_asm.specs.declared.statement.ReadError.{ReadError}
+use Rattle.m161_asm.specs.declared.statement.ReadError.TheVariants as errors
+use Rattle.m161_asm.specs.declared.error.AsmError.{AsmError}
+use Rattle.m161_asm.specs.declared.error.ErrorKind.TheVariants as faults
+use Rattle.m161_asm.specs.Lines.{Line}
+use Rattle.m161_asm.specs.Text.{Program, Segment, segments_of, full, opened_at, address_below, address_from, entry_of}
+use Rattle.m161_asm.specs.declared.program.Program.{Program as CodeProgram}
+use Rattle.m161_asm.specs.Seen.{fault_seen, symbols_seen}
+
+-- What the second pass keeps of the lines above.
+
+abbrev pub segment_seen : CodeSegment → Segment
+segment_seen s = (s.address, s.words.items)
+
+abbrev pub segments_seen : List CodeSegment → List Segment
+segments_seen ss = map segment_seen ss
+
+-- the pass has the segments and the entry of these lines, and stands behind them
+pub record IsFilled (p : SecondPass) (symbols : List (List ℕ × ℕ)) (above : List Line) : Type 0 where
+  pub older : List Segment
+  pub segments : segments_of symbols above ≡ Ok (segment_seen p.current ∷ older)
+  pub done : full older ≡ segments_seen p.done.items
+  pub address : p.address ≡ address_below above
+  pub entry : (first : ℕ) → entry_of symbols first above ≡ unwrap_or p.entry first
+
+-- the position behind so many words, and in a new segment if a statement says so
+pub record Leaves (old new : SecondPass) (origin : Option ℕ) (size : ℕ) : Type 0 where
+  pub segments : (older : List Segment) → full older ≡ segments_seen old.done.items
+      → (newer : List Segment) × (segment_seen new.current ∷ newer ≡ opened_at origin (segment_seen old.current ∷ older)) × (full newer ≡ segments_seen new.done.items)
+  pub address : new.address ≡ address_from origin (old.address + 4 * size)
+  pub entry : new.entry ≡ old.entry
+
+-- the pass goes one line further, unless memory runs out
+abbrev pub Fills : Result (Unit {0}) ReadError → SecondPass → List (List ℕ × ℕ) → List Line → Type 0
+Fills (Ok u) new symbols all = IsFilled new symbols all
+Fills (Err errors.Memory) new symbols all = Unit {0}
+Fills (Err (errors.Fault f)) new symbols all = segments_of symbols all ≡ Err (length all, fault_seen f)
+
+-- the second pass over these lines
+abbrev pub Passes : Result SecondPass AsmError → List (List ℕ × ℕ) → List Line → Type 0
+Passes (Ok p) symbols all = IsFilled p symbols all
+Passes (Err e) symbols all = ((e.kind ≡ faults.NoMemory) × (e.column ≡ 1)) ⊎ (segments_of symbols all ≡ Err (e.line, (e.kind, e.column)))
+
+-- the code's program
+abbrev pub program_seen : CodeProgram → Program
+program_seen p = record { segments = segments_seen p.segments.items; symbols = symbols_seen p.symbols; entry = p.entry }

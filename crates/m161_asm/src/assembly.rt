@@ -1,0 +1,82 @@
+//! A text to a program.
+
+ghost use Rattle.std.specs.Prelude.{◌≡◌, ◌∷◌, [], ◌++◌, ℕ, List, IfOk, Ok};
+ghost use Rattle.m161_asm.specs.Lines as lines;
+ghost use Rattle.m161_asm.specs.Text.{text, first_address, full, symbols_in, program_of};
+ghost use Rattle.m161_asm.specs.Seen.{symbols_seen, Tells};
+ghost use Rattle.m161_asm.specs.SecondPass.{IsFilled, segment_seen, segments_seen, program_seen};
+
+use crate::error::AsmError;
+use crate::first::{FirstPass, at_line, first_pass};
+use crate::place::START;
+use crate::program::{Program, Segment};
+use crate::second::{SecondPass, second_pass};
+use crate::statement::ReadError;
+use indexmap::IndexMap;
+use std::alloc::Global;
+
+// The segments with words.
+fn with_last(done: Vec<Segment>, current: Segment) -> Result<Vec<Segment>, ReadError>
+    ensures { IfOk result (λ segments. segments_seen segments.items ≡ segments_seen done.items ++ full (segment_seen current ∷ [])) }
+{
+    let mut segments = done;
+    if current.words.len() > 0 {
+        segments.push(current)?;
+    }
+    Ok(segments)
+}
+
+// The address of the first segment.
+fn first_address(segments: &[Segment]) -> u32
+    ensures { result ≡ first_address (segments_seen segments.now) }
+{
+    if segments.len() == 0 {
+        return START;
+    }
+    let first = &segments[0];
+    first.address
+}
+
+// The program of all lines.
+fn program_with(second: SecondPass, symbols: IndexMap<String, u32>) -> Result<Program, ReadError>
+    ensures { (all : List lines.Line) → symbols_seen symbols ≡ symbols_in all → IsFilled second (symbols_in all) all → IfOk result (λ p. program_of all ≡ Ok (program_seen p)) }
+{
+    let SecondPass {
+        done,
+        current,
+        address: _,
+        entry,
+    } = second;
+    let segments = with_last(done, current)?;
+    let first = first_address(&segments);
+    let entry = entry.unwrap_or(first);
+    Ok(Program {
+        segments,
+        symbols,
+        entry,
+    })
+}
+
+/// The program that a text stands for.
+///
+/// # Errors
+/// The first fault of the first faulty line: of the first pass, else of the second. Or memory was
+/// refused.
+pub fn assemble(alloc: Global, source: &str) -> Result<Program, AsmError>
+    ensures { Tells program_seen result (text source.now) }
+{
+    let first = match first_pass(alloc, source.as_bytes()) {
+        Ok(first) => first,
+        Err(error) => return Err(error),
+    };
+    let second = match second_pass(alloc, &first.symbols, &first.lines) {
+        Ok(second) => second,
+        Err(error) => return Err(error),
+    };
+    let reached = first.lines.len();
+    let FirstPass { symbols, .. } = first;
+    match program_with(second, symbols) {
+        Ok(program) => Ok(program),
+        Err(_) => Err(at_line(reached, ReadError::Memory)),
+    }
+}

@@ -1,0 +1,160 @@
+//! The first pass: a text to its lines and symbols.
+
+ghost use Rattle.std.specs.Prelude.{◌≡◌, ◌≤◌, ◌<◌, ◌+◌, ◌^◌, ◌++◌, ◌∷◌, [], length, drop, take, OnOk, IfOk, is_some, true, List, ℕ};
+ghost use Rattle.std.specs.List.{position_or_len};
+ghost use Rattle.m161_asm.specs.Tokens.{tokens, lines};
+ghost use Rattle.m161_asm.specs.Lines.{size_of, line_column};
+ghost use Rattle.m161_asm.specs.Text.{line_of, read_lines};
+ghost use Rattle.m161_asm.specs.Seen.{Yields, Tells, IsTold, Goes, statement_seen, label_seen, line_seen, above_of, all_seen, symbols_seen};
+ghost use Rattle.m161_asm.specs.Passes.{HasRoom, IsNew};
+ghost use Rattle.m161_asm.specs.FirstPass.{IsPass};
+
+use crate::error::{AsmError, ErrorKind};
+use crate::line::{label_of, past_of, sound, statement};
+use crate::parse::here;
+use crate::place::{Position, origin_of, size_of};
+use crate::scan::{after, len_before, tokens};
+use crate::statement::{Line, ReadError};
+use crate::symbols::{define, new_label};
+use crate::token::Placed;
+use indexmap::IndexMap;
+use std::alloc::Global;
+
+/// The lines so far, their symbols, and where the next line stands.
+#[derive(Drop)]
+pub struct FirstPass<'a> {
+    pub lines: Vec<Line<'a>>,
+    pub symbols: IndexMap<String, u32>,
+    pub position: Position,
+}
+
+// The column of the statement's word, or of the label where there is no statement.
+fn line_column(all: &[Placed<'_>], rest: &[Placed<'_>]) -> usize
+    ensures { result ≡ line_column (all_seen all.now) (all_seen rest.now) }
+{
+    if rest.len() == 0 {
+        here(1, all)
+    } else {
+        here(1, rest)
+    }
+}
+
+/// What is wrong with a line of this number.
+pub(crate) fn at_line(line: usize, error: ReadError) -> AsmError
+    ensures { IsTold result line error }
+{
+    match error {
+        ReadError::Memory => AsmError {
+            line,
+            column: 1,
+            kind: ErrorKind::NoMemory,
+        },
+        ReadError::Fault(fault) => AsmError {
+            line,
+            column: fault.column,
+            kind: fault.kind,
+        },
+    }
+}
+
+impl<'a> FirstPass<'a> {
+    fn new(alloc: Global) -> FirstPass<'a>
+        ensures pass { IsPass result }
+        ensures lines { result.lines.items ≡ [] }
+    {
+        FirstPass {
+            lines: Vec::new(alloc),
+            symbols: IndexMap::new(alloc),
+            position: Position::new(alloc),
+        }
+    }
+
+    // The next line.
+    #[tactic(auto, unfolding(crate::specs::Text::line_of))]
+    fn read(&self, alloc: Global, line: &'a [u8]) -> Result<Line<'a>, ReadError>
+        requires pass { IsPass self.now }
+        requires small { length line.now < 2 ^ 63 }
+        ensures value { Yields line_seen result (line_of (above_of self.now.lines.items) (tokens line.now)) }
+        ensures new { IfOk result (λ l. IsNew (symbols_seen self.now.symbols) (label_seen l.label)) }
+        ensures room { IfOk result (λ l. HasRoom self.now.position (size_of (statement_seen l.statement))) }
+        ensures address { IfOk result (λ l. is_some l.label ≡ true → self.now.position.address < 2 ^ 32) }
+    {
+        let ts = tokens(alloc, line)?;
+        sound(&ts)?;
+        let (label, rest) = label_of(&ts);
+        new_label(&self.symbols, label)?;
+        let statement = statement(alloc, past_of(&ts), rest)?;
+        let line = Line {
+            label,
+            statement,
+            column: line_column(&ts, rest),
+        };
+        self.position.place(&line)?;
+        Ok(line)
+    }
+
+    // Takes a line that was read.
+    fn take(&mut self, alloc: Global, line: Line<'a>) -> Result<(), ReadError>
+        requires pass { IsPass self.old }
+        requires new { IsNew (symbols_seen self.old.symbols) (label_seen line.label) }
+        requires room { HasRoom self.old.position (size_of (statement_seen line.statement)) }
+        requires address { is_some line.label ≡ true → self.old.position.address < 2 ^ 32 }
+        ensures pass { OnOk result (IsPass self.new) }
+        ensures lines { OnOk result (self.new.lines.items ≡ self.old.lines.items ++ (line.entry ∷ [])) }
+    {
+        define(alloc, &mut self.symbols, line.label, self.position.address)?;
+        let origin = origin_of(&line.statement);
+        let size = size_of(&line.statement);
+        self.position.advance(origin, size)?;
+        self.lines.push(line)?;
+        Ok(())
+    }
+
+    // Reads and takes the next line.
+    fn next(&mut self, alloc: Global, line: &'a [u8]) -> Result<(), AsmError>
+        requires pass { IsPass self.old }
+        requires small { length line.now < 2 ^ 63 }
+        ensures pass { OnOk result (IsPass self.new) }
+        ensures value { (below : List (List ℕ)) → Goes result (read_lines (above_of self.old.lines.items) (line.now ∷ below)) (read_lines (above_of self.new.lines.items) below) }
+    {
+        let number = self.lines.len() + 1;
+        let line = match self.read(alloc, line) {
+            Ok(line) => line,
+            Err(error) => return Err(at_line(number, error)),
+        };
+        match self.take(alloc, line) {
+            Ok(()) => Ok(()),
+            Err(_) => Err(at_line(number, ReadError::Memory)),
+        }
+    }
+}
+
+// What stands behind a line of this length.
+fn behind_line(rest: &[u8], len: usize) -> &[u8]
+    requires { len ≤ length rest.now }
+    ensures { result.now ≡ drop (len + 1) rest.now }
+{
+    if len < rest.len() {
+        after(rest, len + 1)
+    } else {
+        after(rest, len)
+    }
+}
+
+/// The lines of a text and their symbols.
+pub(crate) fn first_pass<'a>(alloc: Global, text: &'a [u8]) -> Result<FirstPass<'a>, AsmError>
+    requires { length text.now < 2 ^ 63 }
+    ensures value { Tells (λ p. above_of p.lines.items) result (read_lines [] (lines text.now)) }
+    ensures pass { IfOk result IsPass }
+{
+    let mut pass = FirstPass::new(alloc);
+    let mut rest = &text[..];
+    while rest.len() > 0 {
+        let len = len_before(rest, b'\n');
+        if let Err(error) = pass.next(alloc, &rest[..len]) {
+            return Err(error);
+        }
+        rest = behind_line(rest, len);
+    }
+    Ok(pass)
+}
