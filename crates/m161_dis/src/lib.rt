@@ -19,6 +19,10 @@ ghost use Rattle.std.specs.Fmt.{digit_glyph};
 ghost use Rattle.m161_isa.specs.Table.{width_of};
 ghost use Rattle.m161_dis.specs.Canon.{canon, canon_by, canonical_row, operands_text, operand_text, lead_of, hex_number, signed_text, branch_target, jump_target};
 
+mod laws;
+
+pub use laws::survives_disassembling;
+
 use m161_decode::{is_canonical, row_that_fits};
 use m161_isa::{Operand, Row};
 use std::alloc::{AllocError, Global};

@@ -8,8 +8,8 @@ use Rattle.m161_dis.specs.Canon.{register_text, hex_number, branch_target, jump_
 use Rattle.m161_asm.specs.Tokens.{Register, Number, Mark, Placed}
 use Rattle.m161_asm.specs.Lines.{Fault, Whole, Part, Field, BranchTo, JumpTo, Reads, part, immediate, is_within, bits_of_whole}
 use Rattle.m161_asm.specs.Text.{field_of, target_of, number_by}
-use Rattle.m161_asm.proofs.Pieces.{Piece, laid}
-use Rattle.m161_asm.proofs.Fields.{branch_field-branch_target, jump_field-jump_target, branch_target-word, jump_target-word}
+use Rattle.m161_dis.proofs.Pieces.{Piece, laid}
+use Rattle.m161_dis.proofs.Fields.{branch_field-branch_target, jump_field-jump_target, branch_target-word, jump_target-word}
 
 -- An operand's pieces are read as its field, kind by kind.
 

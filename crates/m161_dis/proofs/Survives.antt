@@ -12,12 +12,12 @@ use Rattle.std.specs.Char.{is_ascii_digit}
 use Rattle.std.specs.List.{prefix_len}
 use Rattle.m161_asm.specs.Lines.{◌>>=◌, Fault, is_within, bits_of_whole, Part, Statement, Words, Code, label_of, sound, past_of, Line, line_column, size_of, statement, directive_statement, values, parts, row_named}
 use Rattle.m161_asm.specs.Text.{line_of, with_place, is_filled, address_below, symbols_in, words_of, word_of, number_by, field_of, each}
-use Rattle.m161_asm.specs.Law.{origin, stands_for, SurvivesDisassembling}
-use Rattle.m161_asm.proofs.Pieces.{Piece, IsPiece, Sound, starts_apart, laid, text_of, tokens-pieces, sound-laid, blank}
-use Rattle.m161_asm.proofs.Numerals.{hex8_piece}
-use Rattle.m161_asm.proofs.Operands.{signed_pieces}
-use Rattle.m161_asm.proofs.Reading.{pieces_of, parts_read, operands_spelled, row_named-name}
-use Rattle.m161_asm.proofs.Spelled.{pieces_sound, apart, name_piece}
+use Rattle.m161_dis.specs.Law.{origin, stands_for, SurvivesDisassembling}
+use Rattle.m161_dis.proofs.Pieces.{Piece, IsPiece, Sound, starts_apart, laid, text_of, tokens-pieces, sound-laid, blank}
+use Rattle.m161_dis.proofs.Numerals.{hex8_piece}
+use Rattle.m161_dis.proofs.Operands.{signed_pieces}
+use Rattle.m161_dis.proofs.Reading.{pieces_of, parts_read, operands_spelled, row_named-name}
+use Rattle.m161_dis.proofs.Spelled.{pieces_sound, apart, name_piece}
 
 -- A word's text stands for the word at its address.
 

@@ -10,8 +10,8 @@ use Rattle.m161_dis.specs.Canon.{lead_of, operand_text, operands_text}
 use Rattle.m161_asm.specs.Tokens.{Mark}
 use Rattle.m161_asm.specs.Lines.{◌>>=◌, Fault, Part, parts, separated, row_named}
 use Rattle.m161_asm.specs.Text.{field_of, each}
-use Rattle.m161_asm.proofs.Pieces.{Piece, laid, text_of}
-use Rattle.m161_asm.proofs.Operands.{IsRead, operand_pieces, signed_pieces, part_read}
+use Rattle.m161_dis.proofs.Pieces.{Piece, laid, text_of}
+use Rattle.m161_dis.proofs.Operands.{IsRead, operand_pieces, signed_pieces, part_read}
 
 -- The operands of a row, from text to fields.
 

@@ -10,10 +10,10 @@ use Rattle.m161_isa.specs.declared.operand.Operand.TheVariants as operand
 use Rattle.m161_isa.specs.Table.{table, width_of, number_of}
 use Rattle.m161_dis.specs.Canon.{branch_target, jump_target}
 use Rattle.m161_asm.specs.Tokens.{Name, Number, lexeme, beginning, begins_name, AName, ANumber, Beginning, is_word, reading, number_of as number_read, numeral}
-use Rattle.m161_asm.proofs.Pieces.{Piece, IsPiece, Sound, text_of, starts_apart, run-word, words_clean, blank, comma_piece, open_piece, close_piece, minus_piece}
-use Rattle.m161_asm.proofs.Numerals.{Decimal, decimal_is, decimal_len, below, both, register_piece, hex4_piece, hex8_piece}
-use Rattle.m161_asm.proofs.Operands.{operand_pieces, signed_pieces}
-use Rattle.m161_asm.proofs.Reading.{pieces_of, lead_pieces, number_small}
+use Rattle.m161_dis.proofs.Pieces.{Piece, IsPiece, Sound, text_of, starts_apart, run-word, words_clean, blank, comma_piece, open_piece, close_piece, minus_piece}
+use Rattle.m161_dis.proofs.Numerals.{Decimal, decimal_is, decimal_len, below, both, register_piece, hex4_piece, hex8_piece}
+use Rattle.m161_dis.proofs.Operands.{operand_pieces, signed_pieces}
+use Rattle.m161_dis.proofs.Reading.{pieces_of, lead_pieces, number_small}
 
 -- The pieces of an instruction are pieces.
 
