@@ -12,19 +12,19 @@ use Rattle.m161_asm.specs.Lawful.{IsPart, AreParts, IsStatement, IsLine, Lawful}
 
 -- Lines that were read are lawful.
 
-record Bound {A B F : Type 0} (r : Result A F) (f : A → Result B F) (y : B) : Type 0 where
+pub record Bound {A B F : Type 0} (r : Result A F) (f : A → Result B F) (y : B) : Type 0 where
   pub x : A
   pub read : r ≡ Ok x
   pub gives : f x ≡ Ok y
 
-bound : {A B F : Type 0} (r : Result A F) (f : A → Result B F) (y : B) → (r >>= f) ≡ Ok y → Bound r f y
+pub bound : {A B F : Type 0} (r : Result A F) (f : A → Result B F) (y : B) → (r >>= f) ≡ Ok y → Bound r f y
 bound (Ok x) f y e = record { x = x; read = refl; gives = e }
 bound (Err x) f y e = cc
 
-abbrev IsOk : {A F : Type 0} → A → Result A F → Type 0
+abbrev pub IsOk : {A F : Type 0} → A → Result A F → Type 0
 IsOk x r = r ≡ Ok x
 
-same : {A F : Type 0} (x y : A) → IsOk {F = F} y (Ok x) → x ≡ y
+pub same : {A F : Type 0} (x y : A) → IsOk {F = F} y (Ok x) → x ≡ y
 same x y e = cc
 
 -- parts

@@ -1,5 +1,5 @@
 use Rattle.std.specs.Prelude.{◌≡◌, ◌⊎◌, ℕ, ◌+◌, ◌*◌, Option, List, ◌∷◌, map, length, unwrap_or, Result, Ok, Err}
-use Rattle.m161_asm.specs.declared.program.Segment.{Segment as CodeSegment}
+pub use Rattle.m161_asm.specs.Segments.{segment_seen, segments_seen}
 use Rattle.m161_asm.specs.declared.second.SecondPass.{SecondPass}
 use Rattle.m161_asm.specs.declared.statement.ReadError.{ReadError}
 use Rattle.m161_asm.specs.declared.statement.ReadError.TheVariants as errors
@@ -11,12 +11,6 @@ use Rattle.m161_asm.specs.declared.program.Program.{Program as CodeProgram}
 use Rattle.m161_asm.specs.Seen.{fault_seen, symbols_seen}
 
 -- What the second pass keeps of the lines above.
-
-abbrev pub segment_seen : CodeSegment → Segment
-segment_seen s = (s.address, s.words.items)
-
-abbrev pub segments_seen : List CodeSegment → List Segment
-segments_seen ss = map segment_seen ss
 
 -- the pass has the segments and the entry of these lines, and stands behind them
 pub record IsFilled (p : SecondPass) (symbols : List (List ℕ × ℕ)) (above : List Line) : Type 0 where

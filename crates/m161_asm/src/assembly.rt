@@ -4,7 +4,8 @@ ghost use Rattle.std.specs.Prelude.{◌≡◌, ◌∷◌, [], ◌++◌, ℕ, Lis
 ghost use Rattle.m161_asm.specs.Lines as lines;
 ghost use Rattle.m161_asm.specs.Text.{text, first_address, full, symbols_in, program_of};
 ghost use Rattle.m161_asm.specs.Seen.{symbols_seen, Tells};
-ghost use Rattle.m161_asm.specs.SecondPass.{IsFilled, segment_seen, segments_seen, program_seen};
+ghost use Rattle.m161_asm.specs.SecondPass.{IsFilled, program_seen};
+ghost use Rattle.m161_asm.specs.Segments.{segment_seen, segments_seen, AreSegments};
 
 use crate::error::AsmError;
 use crate::first::{FirstPass, at_line, first_pass};
@@ -39,6 +40,7 @@ fn first_address(segments: &[Segment]) -> u32
 
 // The program of all lines.
 fn program_with(second: SecondPass, symbols: IndexMap<String, u32>) -> Result<Program, ReadError>
+    requires { AreSegments (segments_seen second.done.items ++ full (segment_seen second.current ∷ [])) }
     ensures { (all : List lines.Line) → symbols_seen symbols ≡ symbols_in all → IsFilled second (symbols_in all) all → IfOk result (λ p. program_of all ≡ Ok (program_seen p)) }
 {
     let SecondPass {

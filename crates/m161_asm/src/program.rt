@@ -1,5 +1,8 @@
 //! What a text is assembled to.
 
+ghost use Rattle.std.specs.Prelude.{◌≤◌, length};
+ghost use Rattle.m161_asm.specs.Segments.{segments_seen, words_of, ArePlaced, AreApart};
+
 use indexmap::IndexMap;
 
 /// Words that follow one another.
@@ -13,10 +16,15 @@ pub struct Segment {
 /// An assembled text.
 #[derive(Drop)]
 pub struct Program {
-    /// The segments, in the order of the text; each has a word or more.
+    /// The segments, in the order of the text: at most 1,024, with at most 4,194,304 words. Each has
+    /// a word or more, begins at a multiple of 4 and ends by 2^32, and no two overlap.
     pub segments: Vec<Segment>,
     /// Each label with its address, in the order of the text.
     pub symbols: IndexMap<String, u32>,
     /// Where the program begins.
     pub entry: u32,
+    pub ghost words: { words_of (segments_seen segments.items) ≤ 4194304 },
+    pub ghost count: { length segments.items ≤ 1024 },
+    pub ghost placed: { ∥ ArePlaced (segments_seen segments.items) ∥₁ },
+    pub ghost apart: { ∥ AreApart (segments_seen segments.items) ∥₁ },
 }

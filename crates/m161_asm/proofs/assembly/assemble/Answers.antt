@@ -4,7 +4,7 @@ use Rattle.m161_asm.specs.declared.statement.Line.{Line as CodeLine}
 use Rattle.m161_asm.specs.Lawful.{Lawful}
 use Rattle.m161_asm.specs.Seen.{above_of, symbols_seen}
 use Rattle.m161_asm.specs.SecondPass.{Passes, IsFilled}
-use Rattle.m161_asm.proofs.Assembled.{first_told, second_told, told_program}
+use Rattle.m161_asm.proofs.Assembled.{first_told, second_told, told_program, within_limits}
 use Rattle.m161_asm.proofs.Lawfuls.{read_is}
 use Rattle.m161_asm.proofs.assembly.assemble.Goals as goal
 
@@ -28,3 +28,10 @@ returns-in-Ok-program_with c =
     let g = subst (λ (ss : List (List ℕ × ℕ)). IsFilled second ss all) c.in-Ok.ensures.pass.symbols f in
     told_program c.in-Ok-program_with.program c.as_bytes.result.now c.args.source.now all c.as_bytes.ensures.value c.in-Ok.ensures.value
     (c.in-Ok-program_with.ensures all c.in-Ok.ensures.pass.symbols g)
+
+pub program_with-requires : goal.program_with-requires
+program_with-requires c =
+    let all = above_of c.in-Ok.first.lines.items in
+    let second = c.in-Ok-second_pass.second in
+    let f = subst (λ (ls : List CodeLine). IsFilled second (symbols_seen c.in-Ok.first.symbols) (above_of ls)) c.deref.ensures.value c.in-Ok-second_pass.ensures in
+    within_limits second (symbols_seen c.in-Ok.first.symbols) all f (read_is [] _ all c.in-Ok.ensures.value tt)
