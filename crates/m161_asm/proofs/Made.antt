@@ -120,7 +120,7 @@ joined above l s older ws k n i =
       some = rw len (longer (length s.1) m ∙ ap (λ b. nat_lt 0 m || b) k.some);
       count = full_len (s.0, s.1 ++ ws) older ∙ rw len (counted (length s.1) m (length (full older))) ∙ ap (λ x. x + opened m (nat_lt 0 (length s.1))) (sym (full_len s older) ∙ k.count) ∙ ap (λ b. segments_in above + opened m b) k.some;
       covers = λ a x. ap (λ b. overlap (address_below above) m a x || b) (k.covers a x) ∙ or_grouped (overlap (address_below above) m a x) (overlap s.0 (length s.1) a x) (any older a x)
-        ∙ ap (λ b. b || any older a x) (rw (← k.end, len) (grows s.0 (length s.1) m a x));
+          ∙ ap (λ b. b || any older a x) (rw (← k.end, len) (grows s.0 (length s.1) m a x));
       apart = (subst (λ (x : ℕ). AllByRecursion (λ (t : Segment). overlap s.0 x t.0 (length t.1) ≡ false) older) (sym len) (widened s.0 (length s.1) m older k.apart.0 here), k.apart.1);
     }
 

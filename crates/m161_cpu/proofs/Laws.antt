@@ -4,9 +4,9 @@ use Rattle.m161_cop0.specs.Control.{is_pending}
 use Rattle.m161_cpu.specs.declared.processor.ProcessorState.{ProcessorState}
 use Rattle.m161_cpu.specs.declared.processor.ProcessorState.TheVariants.{Stopped, Running, Waiting}
 use Rattle.m161_cpu.specs.declared.processor.Outcome.TheVariants.{Ran, PoweredOff}
-use Rattle.m161_cpu.specs.Processor.{Processor, with_state}
+use Rattle.m161_cpu.specs.Processor.{with_state}
 use Rattle.m161_cpu.specs.Links.{links_after}
-use Rattle.m161_cpu.specs.Scene.{Around, Scene, Change, changed, scene}
+use Rattle.m161_cpu.specs.Scene.{Around, Scene, Change, changed}
 use Rattle.m161_cpu.specs.Fault.{Fault}
 use Rattle.m161_cpu.specs.Step.{Stepped, ended, executed, idle, lines_in, running, step_in, step_of, tick, with_processor}
 

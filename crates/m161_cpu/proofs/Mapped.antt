@@ -1,11 +1,11 @@
-use Rattle.std.proofs.Common.{◌≡◌, refl, ℕ, Bool, true, false, List, Option, None, Some, Result, Ok, Err}
+use Rattle.std.proofs.Common.{◌≡◌, refl, ℕ, true, false, List, Some, Err}
 use Rattle.std.specs.Prelude.{slice_get}
 use Rattle.m161_tlb.specs.declared.row.Row.{Row}
 use Rattle.m161_tlb.specs.Rows.{find_row}
 use Rattle.m161_cpu.specs.declared.fault.Access.{Access}
 use Rattle.m161_cpu.specs.declared.fault.FaultKind.TheVariants as kind
 use Rattle.m161_cpu.specs.Processor.{Processor}
-use Rattle.m161_cpu.specs.Fault.{Fault, fault_at}
+use Rattle.m161_cpu.specs.Fault.{fault_at}
 use Rattle.m161_cpu.specs.Scene.{result_map}
 use Rattle.m161_cpu.specs.Translation.{Physical, address_error, by_row, invalid, is_misaddressed, is_store, physical_at}
 

@@ -1,12 +1,10 @@
-use Rattle.std.specs.Prelude.{ℕ, ◌+◌, ◌-◌, ◌*◌, ◌/◌, ◌%◌, ◌^◌, ◌+ℤ◌, ◌-ℤ◌, Bool, true, false, not, nat_le, ◌==◌, bit_and, bit_or, bit_xor, if◌then◌else◌, List, [], ◌∷◌, length, slice_get, slice_index, slice_index_or, Option, None, Some, Result, Ok, Err}
-use Rattle.m161_isa.specs.declared.table.Row.{Row}
+use Rattle.std.specs.Prelude.{ℕ, ◌+◌, ◌-◌, ◌*◌, ◌/◌, ◌%◌, ◌^◌, ◌+ℤ◌, ◌-ℤ◌, Bool, true, not, nat_le, ◌==◌, bit_and, bit_or, bit_xor, if◌then◌else◌, List, [], ◌∷◌, length, slice_get, slice_index, slice_index_or, Option, None, Some, Result, Ok, Err}
 use Rattle.m161_isa.specs.declared.operand.Operand.{Operand}
 use Rattle.m161_isa.specs.declared.operand.Operand.TheVariants as operand
 use Rattle.m161_isa.specs.declared.effect.Effect.{Effect}
 use Rattle.m161_isa.specs.declared.effect.Effect.TheVariants as effect
 use Rattle.m161_isa.specs.declared.instr.ShiftOp.TheVariants as shift
 use Rattle.m161_isa.specs.declared.instr.ZeroTest.TheVariants as zero
-use Rattle.m161_isa.specs.Table.{table}
 use Rattle.m161_alu.specs.declared.arithmetic.Signedness.TheVariants.{Signed, Unsigned}
 use Rattle.m161_alu.specs.declared.arithmetic.HiLoPair.{HiLoPair}
 use Rattle.m161_alu.specs.Word.{signed, word_of_signed, sign_extended_byte, sign_extended_half}
@@ -22,7 +20,7 @@ use Rattle.m161_bus.specs.Board.{BoardState, board_written, lines_of}
 use Rattle.m161_cpu.specs.declared.fault.Access.TheVariants.{Load, Store}
 use Rattle.m161_cpu.specs.declared.fault.FaultKind.TheVariants as kind
 use Rattle.m161_cpu.specs.declared.processor.Flow.{Flow}
-use Rattle.m161_cpu.specs.declared.processor.Flow.TheVariants.{Next, NotTaken, Taken}
+use Rattle.m161_cpu.specs.declared.processor.Flow.TheVariants.{NotTaken, Taken}
 use Rattle.m161_cpu.specs.declared.processor.ProcessorState.TheVariants.{Waiting}
 use Rattle.m161_cpu.specs.Processor.{Processor}
 use Rattle.m161_cpu.specs.Links.{LinkTo, End, is_to}

@@ -1,13 +1,11 @@
-use Rattle.std.specs.Prelude.{◌≡◌, ℕ, ◌+◌, ◌%◌, ◌^◌, Bool, if◌then◌else◌, List, slice_index, Option, None, Some, Result, Ok, Err}
+use Rattle.std.specs.Prelude.{◌≡◌, ℕ, Bool, if◌then◌else◌, slice_index, Option, None, Some, Result, Ok, Err}
 use Rattle.m161_isa.specs.declared.instr.Instr.{Instr}
 use Rattle.m161_isa.specs.declared.instr.Coprocessor.{Coprocessor}
 use Rattle.m161_isa.specs.declared.table.Row.{Row}
-use Rattle.m161_isa.specs.Table.{absent_in}
 use Rattle.m161_isa.specs.Instr.{row_of_instr, numbers_of_instr}
 use Rattle.m161_isa.specs.declared.instr.Instr.TheVariants.{Absent}
 use Rattle.m161_bus.specs.Board.{BoardState}
 use Rattle.m161_cpu.specs.declared.fault.FaultKind.{FaultKind}
-use Rattle.m161_cpu.specs.declared.fault.FaultKind.TheVariants as kind
 use Rattle.m161_cpu.specs.declared.processor.Outcome.TheVariants.{Idle}
 use Rattle.m161_cpu.specs.Processor.{Processor}
 use Rattle.m161_cpu.specs.Links.{Keep}

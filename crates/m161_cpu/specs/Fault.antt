@@ -2,7 +2,6 @@ use Rattle.std.specs.Prelude.{ℕ, ◌+◌, Bool, true, false, Option, None, Som
 use Rattle.m161_cop0.specs.declared.exception.Exception.{Exception}
 use Rattle.m161_cop0.specs.declared.exception.Exception.TheVariants as exception
 use Rattle.m161_cop0.specs.declared.trap.Trap.{Trap}
-use Rattle.m161_cop0.specs.Control.{Control}
 use Rattle.m161_cop0.specs.Trap.{entered, vector_of, with_bad_address}
 use Rattle.m161_cpu.specs.declared.fault.FaultKind.{FaultKind}
 use Rattle.m161_cpu.specs.declared.fault.FaultKind.TheVariants as kind

@@ -1,4 +1,4 @@
-use Rattle.std.specs.Prelude.{◌≡◌, ℕ, ◌+◌, Bool, not, ◌==◌, ◌&&◌, if◌then◌else◌, List, length, ◌⊎◌, Option, None, Some, Result, Ok, Err}
+use Rattle.std.specs.Prelude.{◌≡◌, ℕ, ◌+◌, Bool, not, ◌==◌, ◌&&◌, if◌then◌else◌, List, length, Option, None, Some, Result, Ok, Err}
 use Rattle.m161_isa.specs.declared.table.Row.{Row}
 use Rattle.m161_isa.specs.declared.instr.Coprocessor.{Coprocessor}
 use Rattle.m161_isa.specs.declared.instr.Coprocessor.TheVariants as coprocessor
@@ -7,7 +7,7 @@ use Rattle.m161_ram.specs.Word.{word_at}
 use Rattle.m161_cop0.specs.Control.{Control, is_pending, is_interrupted, may_use_cop0}
 use Rattle.m161_cop0.specs.Clock.{ticked}
 use Rattle.m161_cop0.specs.Trap.{IsVector}
-use Rattle.m161_bus.specs.Board.{BoardState, lines_of}
+use Rattle.m161_bus.specs.Board.{lines_of}
 use Rattle.m161_cpu.specs.declared.fault.Access.TheVariants.{Fetch}
 use Rattle.m161_cpu.specs.declared.fault.FaultKind.{FaultKind}
 use Rattle.m161_cpu.specs.declared.fault.FaultKind.TheVariants as kind
@@ -76,7 +76,6 @@ ended s (Err f) = trapped s f
 -- the word at pc, in this memory
 abbrev pub word_at_pc : List ℕ → Processor → Result ℕ Fault
 word_at_pc memory p = result_map (word_at memory) (reach Fetch 4 p.pc (length memory) p)
-
 
 -- what a row does with the numbers of its operands
 abbrev pub change_of_row : Scene → Row → List ℕ → Result Change Fault

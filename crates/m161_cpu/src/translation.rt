@@ -37,8 +37,7 @@ impl<T: Tlb> Cpu<T> {
         ensures kernel { IfSome result (λ _. is_user self.now.control ≡ false) }
     {
         let at = address.wrapping_sub(0x8000_0000);
-        if address % width == 0 && at < size / width * width && !self.control.is_user()
-        {
+        if address % width == 0 && at < size / width * width && !self.control.is_user() {
             Some(at)
         } else {
             None

@@ -2,7 +2,7 @@ use Rattle.std.specs.Prelude.{cond, ◌==◌, Option, None, Some}
 use Rattle.std.proofs.Common.{◌≡◌, ℕ, Bool, true, false, refl, sym, ap, ◌∙◌}
 use Rattle.std.proofs.lemmas.Bool.Decides.{Decides-eqb}
 use Rattle.m161_isa.specs.declared.table.Row.{Row}
-use Rattle.m161_isa.specs.Table.{row_that_fits, numbers_of, word_with, IsCanonical}
+use Rattle.m161_isa.specs.Table.{row_that_fits, IsCanonical}
 use Rattle.m161_isa.proofs.OneRow.{row_that_fits-is, row_that_fits-fits}
 use Rattle.m161_dis.specs.Canon.{canonical_by, canonical_row}
 

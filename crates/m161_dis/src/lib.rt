@@ -22,7 +22,6 @@ ghost use Rattle.m161_dis.specs.Canon.{canon, canon_by, canonical_row, operands_
 mod laws;
 
 pub use laws::survives_disassembling;
-
 use m161_decode::{is_canonical, row_that_fits};
 use m161_isa::{Operand, Row};
 use std::alloc::{AllocError, Global};

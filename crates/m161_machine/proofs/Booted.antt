@@ -1,5 +1,4 @@
-use Rattle.std.proofs.Common.{◌≡◌, ◌∙◌, refl, sym, ap, ℕ, ◌-◌, ◌^◌, ◌≤◌, true, List, [], ◌∷◌, length, replicate, Option, None, Some, Ok, arith, rules}
-use Rattle.std.specs.Prelude.{All}
+use Rattle.std.proofs.Common.{◌≡◌, refl, ℕ, ◌-◌, ◌^◌, ◌≤◌, true, List, [], ◌∷◌, replicate, Option, None, Some, Ok, arith, rules}
 use Rattle.std.proofs.lemmas.List.{length-replicate}
 use Rattle.std.proofs.lemmas.List.Elements.{All-cons, All-replicate}
 use Rattle.m161_elf.specs.declared.image.Image.{Image}
@@ -12,7 +11,6 @@ use Rattle.m161_cpu.specs.Links.{no_links}
 use Rattle.m161_machine.specs.declared.conf.Conf.{Conf}
 use Rattle.m161_machine.specs.declared.event.Entry.{Entry}
 use Rattle.m161_machine.specs.Conf.{is_within_limits}
-use Rattle.m161_machine.specs.Parts.{Parts}
 use Rattle.m161_machine.specs.History.{Start, history, IsLoaded, Agrees, IsMade}
 
 -- what a load answers with an image says of the file

@@ -1,6 +1,5 @@
 use Rattle.std.proofs.Common.{◌≡◌, ◌∙◌, refl, ap, sym, subst, ℕ, Result, Ok, Err}
 use Rattle.m161_bus.specs.declared.console.DoneError.{DoneError}
-use Rattle.m161_bus.specs.declared.console.DoneError.TheVariants as done
 use Rattle.m161_bus.specs.declared.console.KeyFull.{KeyFull}
 use Rattle.m161_bus.specs.Board.{BoardState, board_key, board_done}
 use Rattle.m161_bus.specs.Outcome.{Leaves, LeavesUnlessNoMemory}

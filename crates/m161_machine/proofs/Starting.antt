@@ -1,6 +1,5 @@
 use Rattle.std.proofs.Common.{◌≡◌, ◌∙◌, refl, ap, sym, subst, ℕ, zero, suc, ◌+◌, ◌<◌, ◌≤◌, Bool, true, false, List, [], ◌∷◌, ◌++◌, length, take, drop, set, get_or, arith}
 use Rattle.std.specs.Prelude.{not, ◌&&◌, if◌then◌else◌, All}
-use Rattle.std.proofs.lemmas.List.{set-get_or}
 use Rattle.std.proofs.lemmas.List.Elements.{All-nil, All-cons, All-head, All-set, All-tail, All-weaker}
 use Rattle.m161_bus.specs.Board.{BoardState, start_words}
 use Rattle.m161_cpu.specs.Processor.{Processor, started}

@@ -1,4 +1,4 @@
-use Rattle.std.specs.Prelude.{ℕ, ◌+◌, ◌≤◌, List, Option, slice_set, All}
+use Rattle.std.specs.Prelude.{ℕ, ◌≤◌, List, Option, slice_set, All}
 use Rattle.m161_bus.specs.Board.{BoardState}
 use Rattle.m161_cpu.specs.Processor.{Processor}
 use Rattle.m161_cpu.specs.Scene.{around, scene}

@@ -1,4 +1,4 @@
-use Rattle.std.specs.Prelude.{◌≡◌, ℕ, ◌+◌, ◌/◌, ◌%◌, ◌^◌, ◌≤◌, Bool, true, false, not, nat_le, ◌==◌, ◌&&◌, ◌||◌, if◌then◌else◌, List, [], ◌∷◌, ◌++◌, drop, length, map, slice_index_or, slice_set, Option, None, Some, Result, Ok, Err}
+use Rattle.std.specs.Prelude.{ℕ, ◌+◌, ◌/◌, ◌%◌, ◌^◌, Bool, false, not, nat_le, ◌==◌, ◌&&◌, ◌||◌, if◌then◌else◌, List, [], ◌∷◌, ◌++◌, drop, length, map, slice_index_or, slice_set, Option, None, Some, Result, Ok, Err}
 use Rattle.m161_ram.specs.Word.{word_at}
 use Rattle.m161_bus.specs.declared.console.DoneError.{DoneError}
 use Rattle.m161_bus.specs.declared.console.DoneError.TheVariants as done
@@ -8,7 +8,7 @@ use Rattle.m161_cpu.specs.declared.processor.Outcome.{Outcome}
 use Rattle.m161_cpu.specs.declared.processor.Outcome.TheVariants.{Taken}
 use Rattle.m161_cpu.specs.Processor.{Processor, stopped, started}
 use Rattle.m161_cpu.specs.Links.{LinkAct, Keep, LinkTo, End}
-use Rattle.m161_cpu.specs.Scene.{Scene, around, scene}
+use Rattle.m161_cpu.specs.Scene.{around, scene}
 use Rattle.m161_cpu.specs.Step.{Stepped, step_of}
 use Rattle.m161_machine.specs.declared.conf.Conf.{Conf}
 use Rattle.m161_machine.specs.declared.event.Event.{Event}

@@ -48,10 +48,14 @@ impl<T: Tlb, D: Console> Model for Machine<T, D> {
 
     ghost invariant = { λ m.
         Agrees (history
-            (record { bytes = m.image.bytes.items; entry = m.image.entry; conf = m.conf })
-            m.log.items)
+        (record { bytes = m.image.bytes.items; entry = m.image.entry; conf = m.conf })
+        m.log.items)
         (record {
-            processors = m.processors.items; memory = m.ram; board = m.board; links = m.links })
+          processors = m.processors.items;
+          memory = m.ram;
+          board = m.board;
+          links = m.links;
+        })
         × (m.conf.log ≤ vec_capacity m.log) };
 }
 

@@ -1,4 +1,4 @@
-use Rattle.std.proofs.Common.{◌≡◌, ◌∙◌, ap, rules}
+use Rattle.std.proofs.Common.{◌∙◌, ap}
 use Rattle.m161_cpu.specs.declared.processor.Outcome.TheVariants.{Trapped}
 use Rattle.m161_machine.specs.Kept.{or_interrupt, vector_with}
 use Rattle.m161_machine.proofs.Places.{trap_place}

@@ -1,4 +1,4 @@
-use Rattle.std.proofs.Common.{◌≡◌, ◌∙◌, ap, sym, subst, ◌+◌, ◌-◌, [], ◌∷◌, ◌++◌, replicate, arith, rules}
+use Rattle.std.proofs.Common.{◌≡◌, ◌∙◌, ap, ◌+◌, ◌-◌, [], ◌∷◌, ◌++◌, replicate, arith}
 use Rattle.std.proofs.lemmas.List.{replicate-append-replicate}
 use Rattle.m161_cpu.specs.Processor.{started, stopped}
 use Rattle.m161_machine.proofs.machine.first_processors.Goals as goal

@@ -1,4 +1,4 @@
-use Rattle.std.proofs.Common.{◌≡◌, ◌∙◌, sym, rules}
+use Rattle.std.proofs.Common.{sym, rules}
 use Rattle.m161_machine.proofs.Starting.{no_starts}
 use Rattle.m161_machine.proofs.step.start_new.Goals as goal
 

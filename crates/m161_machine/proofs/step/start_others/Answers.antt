@@ -1,4 +1,4 @@
-use Rattle.std.proofs.Common.{◌≡◌, ◌∙◌, ◌<◌, length, rules}
+use Rattle.std.proofs.Common.{◌∙◌, rules}
 use Rattle.std.proofs.lemmas.List.{length-set}
 use Rattle.m161_machine.proofs.Starting.{started_more}
 use Rattle.m161_machine.proofs.step.start_others.Goals as goal

@@ -1,4 +1,4 @@
-use Rattle.std.proofs.Common.{◌≡◌, ◌∙◌, ap, length, rules}
+use Rattle.std.proofs.Common.{◌∙◌, ap, length}
 use Rattle.std.proofs.lemmas.List.{length-set}
 use Rattle.m161_machine.proofs.Starting.{counts_started, same_length}
 use Rattle.m161_machine.proofs.step.step_parts.Goals as goal

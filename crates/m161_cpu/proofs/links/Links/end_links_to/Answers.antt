@@ -1,4 +1,4 @@
-use Rattle.std.proofs.Common.{◌≡◌, ◌∙◌, ap, ◌<◌, None, get_or, length, set, rules, arith}
+use Rattle.std.proofs.Common.{◌∙◌, ap, ◌<◌, None, get_or, length, set, rules}
 use Rattle.std.proofs.lemmas.List.{get_or_default, length-set}
 use Rattle.std.proofs.lemmas.List.Edits.{map_over_more}
 use Rattle.m161_cpu.specs.Links.{unless_to}

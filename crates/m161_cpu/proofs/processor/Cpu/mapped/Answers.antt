@@ -1,4 +1,4 @@
-use Rattle.std.proofs.Common.{◌≡◌, ◌∙◌, sym, rules}
+use Rattle.std.proofs.Common.{◌∙◌, sym, rules}
 use Rattle.m161_cpu.specs.declared.fault.FaultKind.TheVariants as kind
 use Rattle.m161_cpu.specs.Fault.{fault_at}
 use Rattle.m161_cpu.specs.Translation.{invalid}

@@ -1,4 +1,4 @@
-use Rattle.std.proofs.Common.{◌≡◌, ◌∙◌, sym}
+use Rattle.std.proofs.Common.{◌∙◌, sym}
 use Rattle.m161_cpu.specs.Translation.{address_error}
 use Rattle.m161_cpu.proofs.Mapped.{misaddressed}
 use Rattle.m161_cpu.proofs.processor.Cpu.translate.Goals as goal

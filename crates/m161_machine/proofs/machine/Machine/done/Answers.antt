@@ -1,12 +1,10 @@
-use Rattle.std.proofs.Common.{◌≡◌, ◌∙◌, refl, sym, subst, Err, arith}
+use Rattle.std.proofs.Common.{◌∙◌, refl, sym, subst, Err, arith}
 use Rattle.m161_bus.specs.declared.console.DoneError.TheVariants as done
 use Rattle.m161_bus.specs.Board.{board_done}
 use Rattle.m161_bus.specs.Outcome.{LeavesUnlessNoMemory}
-use Rattle.m161_machine.specs.declared.event.Event.TheVariants.{Key, Done}
+use Rattle.m161_machine.specs.declared.event.Event.TheVariants.{Done}
 use Rattle.m161_cpu.specs.declared.processor.Outcome.TheVariants.{Taken}
-use Rattle.m161_machine.specs.Parts.{Parts}
-use Rattle.m161_machine.specs.History.{Start}
-use Rattle.m161_machine.proofs.Inputs.{key_accepted, key_refused, done_accepted, done_refused}
+use Rattle.m161_machine.proofs.Inputs.{done_accepted, done_refused}
 use Rattle.m161_machine.proofs.Made.{refused, input_made, input_refused, Made}
 use Rattle.m161_machine.proofs.machine.Machine.done.Given.{Over}
 use Rattle.m161_machine.proofs.machine.Machine.done.Goals as goal

@@ -1,9 +1,7 @@
-use Rattle.std.proofs.Common.{◌≡◌, ◌∙◌, refl, sym, arith}
-use Rattle.m161_machine.specs.declared.event.Event.TheVariants.{Key, Done}
+use Rattle.std.proofs.Common.{◌∙◌, refl, sym, arith}
+use Rattle.m161_machine.specs.declared.event.Event.TheVariants.{Key}
 use Rattle.m161_cpu.specs.declared.processor.Outcome.TheVariants.{Taken}
-use Rattle.m161_machine.specs.Parts.{Parts}
-use Rattle.m161_machine.specs.History.{Start}
-use Rattle.m161_machine.proofs.Inputs.{key_accepted, key_refused, done_accepted, done_refused}
+use Rattle.m161_machine.proofs.Inputs.{key_accepted, key_refused}
 use Rattle.m161_machine.proofs.Made.{refused, input_made, input_refused, Made}
 use Rattle.m161_machine.proofs.machine.Machine.key.Given.{Over}
 use Rattle.m161_machine.proofs.machine.Machine.key.Goals as goal

@@ -1,6 +1,5 @@
-use Rattle.std.proofs.Common.{◌≡◌, ◌∙◌, refl, sym, length, arith}
+use Rattle.std.proofs.Common.{length, arith}
 use Rattle.m161_machine.specs.declared.event.Event.TheVariants.{Step}
-use Rattle.m161_machine.specs.Parts.{Parts}
 use Rattle.m161_machine.proofs.Made.{counts_of, not_refused, ran_is_on, step_made, Made}
 use Rattle.m161_machine.proofs.Booted.{log_is_short}
 use Rattle.m161_machine.specs.History.{history}

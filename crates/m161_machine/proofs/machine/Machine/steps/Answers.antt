@@ -1,4 +1,4 @@
-use Rattle.std.proofs.Common.{◌≡◌, ◌∙◌, sym, arith, rules}
+use Rattle.std.proofs.Common.{◌∙◌, sym, rules}
 use Rattle.m161_machine.specs.declared.event.Event.TheVariants.{Step}
 use Rattle.m161_machine.proofs.Made.{refused_by, refused_off, refused_full}
 use Rattle.m161_machine.proofs.machine.Machine.steps.Goals as goal

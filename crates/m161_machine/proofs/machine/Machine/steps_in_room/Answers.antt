@@ -1,4 +1,4 @@
-use Rattle.std.proofs.Common.{◌≡◌, ◌∙◌, ◌∷◌, [], sym, ap, length, arith, rules}
+use Rattle.std.proofs.Common.{◌∙◌, ◌∷◌, [], sym, ap, length, arith, rules}
 use Rattle.std.proofs.lemmas.List.{length-append}
 use Rattle.m161_machine.specs.declared.event.Event.TheVariants.{Step}
 use Rattle.m161_machine.specs.History.{entry}
