@@ -1,4 +1,4 @@
-use Rattle.std.proofs.Common.{◌≡◌, ◌⊎◌, ℕ, List, Bool, true, false, Option, None, Some, IfSome, IsErrOf, Result, Ok, Err, Vec, ap, inl, inr, refl, sym}
+use Rattle.std.proofs.Common.{◌≡◌, ◌⊎◌, ℕ, List, Bool, true, false, Option, None, Some, IfSome, IsErrOf, Result, Err, Vec, ap, inl, inr, refl, sym}
 use Rattle.std.specs.Global.{Global}
 use Rattle.m161_elf.specs.declared.image.LoadError.{LoadError}
 use Rattle.m161_elf.specs.Image.{first_fault}

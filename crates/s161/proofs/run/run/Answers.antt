@@ -1,8 +1,11 @@
 use Rattle.std.proofs.Common.{◌≡◌, List, ℕ, IfSome, subst, sym}
+use Rattle.std.proofs.lemmas.Result.{err_from_is_err_and}
 use Rattle.m161_machine.specs.declared.event.Event.{Event}
 use Rattle.m161_machine.specs.History.{boot_fault}
 use Rattle.m161_steplog.specs.Lines.{lines_of}
 use Rattle.m161_steplog.specs.Schedule.{IsSchedule}
+use Rattle.s161.specs.Runs.{HasSchedule}
+use Rattle.s161.proofs.Failing.{boot_failed}
 use Rattle.s161.proofs.Making.{booted_ok}
 use Rattle.s161.proofs.run.run.Goals as goal
 
@@ -28,3 +31,16 @@ returns-clause-ok g c =
       text_is = c.in_ok-summary.ensures;
       status_is = c.status.ensures;
     }
+
+-- standard input has a schedule, and the boot's answer says the rest
+pub returns-in_err-machine-clause-fault : goal.returns-in_err-machine-clause-fault
+returns-in_err-machine-clause-fault g c =
+    let known = g.F.FileSource.known c.args.files.now c.args.task.image.now in
+    let input = g.I.Read.remaining c.args.input.now in
+    let P : List ℕ → Type 0 = λ schedule. IfSome input (λ bytes. schedule ≡ bytes) in
+    let R : List ℕ → Type 0 = λ file. IfSome known (λ bytes. file ≡ bytes) in
+    let made = err_from_is_err_and c.from_residual-in_err-machine.result c.from_residual-in_err-machine.ensures.1 in
+    let schedule : HasSchedule input = (c.as_str.result.now, subst P (sym c.as_str.ensures.value) c.in_ok-schedule.ensures.whole, (c.in_ok-events.events.items, c.in_ok-events.ensures.found)) in
+    let failed = boot_failed c.args.task known input c.deref.result.now c.in_err-machine.field-0.0 schedule
+    (subst R (sym c.deref.ensures.value) c.in_ok-file.ensures.whole) c.in_err-machine.ensures.answer in
+    rw (made.1, made.2) failed
