@@ -7,8 +7,8 @@ use Rattle.m161_asm.specs.declared.program.Program.{Program as CodeProgram}
 use Rattle.m161_asm.specs.Tokens.{lines}
 use Rattle.m161_asm.specs.Lines.{◌>>=◌, Line}
 use Rattle.m161_asm.specs.Text.{Segment, text, read_lines, symbols_in, segments_of, program_of, full, first_address, entry_of}
-use Rattle.m161_asm.specs.Seen.{symbols_seen, Tells}
-use Rattle.m161_asm.specs.SecondPass.{IsFilled, Passes, segment_seen, segments_seen, program_seen}
+use Rattle.m161_asm.specs.Answer.{program_seen, Tells}
+use Rattle.m161_asm.specs.SecondPass.{IsFilled, Passes, segment_seen, segments_seen}
 use Rattle.m161_asm.specs.Lawful.{Lawful}
 use Rattle.m161_asm.specs.Segments.{AreSegments}
 use Rattle.m161_asm.proofs.Filled.{full_more}

@@ -1,15 +1,15 @@
-use Rattle.std.specs.Prelude.{ℕ, ◌+◌, ◌*◌, ◌%◌, ◌^◌, ◌≤◌, ◌<◌, Bool, true, false, not, cond, ◌&&◌, ◌||◌, nat_lt, List, [], ◌∷◌, ◌++◌, length, map, reverse, filter, replicate, Option, None, Some, Result, Ok, Err}
+use Rattle.std.specs.Prelude.{ℕ, ◌+◌, ◌*◌, ◌%◌, ◌^◌, ◌≤◌, ◌<◌, Bool, true, false, cond, ◌||◌, nat_lt, List, [], ◌∷◌, ◌++◌, length, reverse, replicate, Option, None, Some, Result, Ok, Err}
 use Rattle.std.specs.List.{AllByRecursion}
 use Rattle.std.proofs.Common.{◌≡◌, zero, suc, refl, ap, sym, ◌∙◌, subst, arith}
 use Rattle.std.proofs.lemmas.Bool.Decides.{nat_tests}
 use Rattle.std.proofs.lemmas.List.{length-append}
-use Rattle.m161_asm.specs.Lines.{◌>>=◌, Fault, Value, Part, Statement, Nothing, Origin, Space, Entry, Words, Code, Line, size_of}
-use Rattle.m161_asm.specs.Text.{Segment, overlap, address_below, address_from, words_in, has_words, has_words_from, segments_in, opened, is_filled, origin_of, opened_at, onto_last, on_line, each, word_of, field_of, target_of, words_of, segments_of, full}
+use Rattle.m161_asm.specs.Lines.{Fault, Statement, Nothing, Origin, Space, Entry, Words, Code, Line, size_of}
+use Rattle.m161_asm.specs.Text.{Segment, overlap, address_below, words_in, has_words, segments_in, opened, is_filled, origin_of, opened_at, onto_last, on_line, each, word_of, field_of, target_of, words_of, segments_of, full}
 use Rattle.m161_asm.specs.Lawful.{IsStatement, IsLine, Lawful}
 use Rattle.m161_asm.specs.Segments as segments
 use Rattle.m161_asm.specs.Segments.{IsPlaced, ArePlaced, IsApart, AreApart, AreSegments}
 use Rattle.m161_asm.proofs.Filled.{full_more}
-use Rattle.m161_asm.proofs.Lawfuls.{Bound, bound, same}
+use Rattle.m161_asm.proofs.Lawfuls.{bound, same}
 
 -- The segments of lawful lines keep the limits.
 

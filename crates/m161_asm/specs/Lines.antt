@@ -67,6 +67,7 @@ abbrev pub mark : ℕ → ℕ → List Placed → Result (List Placed) Fault
 mark byte past ((Mark b, c, e) ∷ ts) = if b == byte then Ok ts else wrong past ((Mark b, c, e) ∷ ts)
 mark byte past ts = wrong past ts
 
+-- each register token is below 32; the test makes that plain here
 abbrev pub register : ℕ → List Placed → Reads ℕ
 register past ((Register n, c, e) ∷ ts) = if nat_lt n 32 then Ok (n, ts) else wrong past ((Register n, c, e) ∷ ts)
 register past ts = wrong past ts

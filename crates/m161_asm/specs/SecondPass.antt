@@ -1,4 +1,4 @@
-use Rattle.std.specs.Prelude.{◌≡◌, ◌⊎◌, ℕ, ◌+◌, ◌*◌, Option, List, ◌∷◌, map, length, unwrap_or, Result, Ok, Err}
+use Rattle.std.specs.Prelude.{◌≡◌, ◌⊎◌, ℕ, ◌+◌, ◌*◌, Option, List, ◌∷◌, length, unwrap_or, Result, Ok, Err}
 pub use Rattle.m161_asm.specs.Segments.{segment_seen, segments_seen}
 use Rattle.m161_asm.specs.declared.second.SecondPass.{SecondPass}
 use Rattle.m161_asm.specs.declared.statement.ReadError.{ReadError}
@@ -6,9 +6,8 @@ use Rattle.m161_asm.specs.declared.statement.ReadError.TheVariants as errors
 use Rattle.m161_asm.specs.declared.error.AsmError.{AsmError}
 use Rattle.m161_asm.specs.declared.error.ErrorKind.TheVariants as faults
 use Rattle.m161_asm.specs.Lines.{Line}
-use Rattle.m161_asm.specs.Text.{Program, Segment, segments_of, full, opened_at, address_below, address_from, entry_of}
-use Rattle.m161_asm.specs.declared.program.Program.{Program as CodeProgram}
-use Rattle.m161_asm.specs.Seen.{fault_seen, symbols_seen}
+use Rattle.m161_asm.specs.Text.{Segment, segments_of, full, opened_at, address_below, address_from, entry_of}
+use Rattle.m161_asm.specs.Seen.{fault_seen}
 
 -- What the second pass keeps of the lines above.
 
@@ -37,7 +36,3 @@ Fills (Err (errors.Fault f)) new symbols all = segments_of symbols all ≡ Err (
 abbrev pub Passes : Result SecondPass AsmError → List (List ℕ × ℕ) → List Line → Type 0
 Passes (Ok p) symbols all = IsFilled p symbols all
 Passes (Err e) symbols all = ((e.kind ≡ faults.NoMemory) × (e.column ≡ 1)) ⊎ (segments_of symbols all ≡ Err (e.line, (e.kind, e.column)))
-
--- the code's program
-abbrev pub program_seen : CodeProgram → Program
-program_seen p = record { segments = segments_seen p.segments.items; symbols = symbols_seen p.symbols; entry = p.entry }

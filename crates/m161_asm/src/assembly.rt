@@ -3,8 +3,9 @@
 ghost use Rattle.std.specs.Prelude.{◌≡◌, ◌∷◌, [], ◌++◌, ℕ, List, IfOk, Ok};
 ghost use Rattle.m161_asm.specs.Lines as lines;
 ghost use Rattle.m161_asm.specs.Text.{text, first_address, full, symbols_in, program_of};
-ghost use Rattle.m161_asm.specs.Seen.{symbols_seen, Tells};
-ghost use Rattle.m161_asm.specs.SecondPass.{IsFilled, program_seen};
+ghost use Rattle.m161_asm.specs.Seen.{symbols_seen};
+ghost use Rattle.m161_asm.specs.Answer.{program_seen, Tells};
+ghost use Rattle.m161_asm.specs.SecondPass.{IsFilled};
 ghost use Rattle.m161_asm.specs.Segments.{segment_seen, segments_seen, AreSegments};
 
 use crate::error::AsmError;
@@ -18,7 +19,8 @@ use std::alloc::Global;
 
 // The segments with words.
 fn with_last(done: Vec<Segment>, current: Segment) -> Result<Vec<Segment>, ReadError>
-    ensures { IfOk result (λ segments. segments_seen segments.items ≡ segments_seen done.items ++ full (segment_seen current ∷ [])) }
+    ensures { IfOk result (λ segments. segments_seen segments.items ≡ segments_seen done.items
+        ++ full (segment_seen current ∷ [])) }
 {
     let mut segments = done;
     if current.words.len() > 0 {
@@ -40,8 +42,11 @@ fn first_address(segments: &[Segment]) -> u32
 
 // The program of all lines.
 fn program_with(second: SecondPass, symbols: IndexMap<String, u32>) -> Result<Program, ReadError>
-    requires { AreSegments (segments_seen second.done.items ++ full (segment_seen second.current ∷ [])) }
-    ensures { (all : List lines.Line) → symbols_seen symbols ≡ symbols_in all → IsFilled second (symbols_in all) all → IfOk result (λ p. program_of all ≡ Ok (program_seen p)) }
+    requires { AreSegments (segments_seen second.done.items ++ full
+        (segment_seen second.current ∷ [])) }
+    ensures { (all : List lines.Line) → symbols_seen symbols ≡ symbols_in all →
+        IsFilled second (symbols_in all) all →
+        IfOk result (λ p. program_of all ≡ Ok (program_seen p)) }
 {
     let SecondPass {
         done,

@@ -5,7 +5,8 @@ ghost use Rattle.std.specs.List.{position_or_len};
 ghost use Rattle.m161_asm.specs.Tokens.{tokens, lines};
 ghost use Rattle.m161_asm.specs.Lines.{size_of, line_column};
 ghost use Rattle.m161_asm.specs.Text.{line_of, read_lines};
-ghost use Rattle.m161_asm.specs.Seen.{Yields, Tells, IsTold, Goes, statement_seen, label_seen, line_seen, above_of, all_seen, symbols_seen};
+ghost use Rattle.m161_asm.specs.Seen.{Yields, IsTold, Goes, statement_seen, label_seen, line_seen, above_of, all_seen, symbols_seen};
+ghost use Rattle.m161_asm.specs.Answer.{Tells};
 ghost use Rattle.m161_asm.specs.Passes.{HasRoom, IsNew};
 ghost use Rattle.m161_asm.specs.FirstPass.{IsPass};
 
@@ -74,10 +75,14 @@ impl<'a> FirstPass<'a> {
     fn read(&self, alloc: Global, line: &'a [u8]) -> Result<Line<'a>, ReadError>
         requires pass { IsPass self.now }
         requires small { length line.now < 2 ^ 63 }
-        ensures value { Yields line_seen result (line_of (above_of self.now.lines.items) (tokens line.now)) }
-        ensures new { IfOk result (λ l. IsNew (symbols_seen self.now.symbols) (label_seen l.label)) }
-        ensures room { IfOk result (λ l. HasRoom self.now.position (size_of (statement_seen l.statement))) }
-        ensures address { IfOk result (λ l. is_some l.label ≡ true → self.now.position.address < 2 ^ 32) }
+        ensures value { Yields line_seen result (line_of (above_of self.now.lines.items)
+            (tokens line.now)) }
+        ensures new { IfOk result (λ l. IsNew (symbols_seen self.now.symbols)
+            (label_seen l.label)) }
+        ensures room { IfOk result (λ l. HasRoom self.now.position (size_of
+            (statement_seen l.statement))) }
+        ensures address { IfOk result (λ l. is_some l.label ≡ true →
+            self.now.position.address < 2 ^ 32) }
     {
         let ts = tokens(alloc, line)?;
         sound(&ts)?;
@@ -100,7 +105,8 @@ impl<'a> FirstPass<'a> {
         requires room { HasRoom self.old.position (size_of (statement_seen line.statement)) }
         requires address { is_some line.label ≡ true → self.old.position.address < 2 ^ 32 }
         ensures pass { OnOk result (IsPass self.new) }
-        ensures lines { OnOk result (self.new.lines.items ≡ self.old.lines.items ++ (line.entry ∷ [])) }
+        ensures lines { OnOk result (self.new.lines.items ≡ self.old.lines.items ++
+            (line.entry ∷ [])) }
     {
         define(alloc, &mut self.symbols, line.label, self.position.address)?;
         let origin = origin_of(&line.statement);
@@ -115,7 +121,9 @@ impl<'a> FirstPass<'a> {
         requires pass { IsPass self.old }
         requires small { length line.now < 2 ^ 63 }
         ensures pass { OnOk result (IsPass self.new) }
-        ensures value { (below : List (List ℕ)) → Goes result (read_lines (above_of self.old.lines.items) (line.now ∷ below)) (read_lines (above_of self.new.lines.items) below) }
+        ensures value { (below : List (List ℕ)) →
+            Goes result (read_lines (above_of self.old.lines.items) (line.now ∷ below))
+            (read_lines (above_of self.new.lines.items) below) }
     {
         let number = self.lines.len() + 1;
         let line = match self.read(alloc, line) {

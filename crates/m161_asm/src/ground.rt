@@ -73,7 +73,8 @@ impl Ground {
     pub(crate) fn is_filled(&self, address: u64, size: u64) -> bool
         requires ordered { IsOrdered self.now address }
         requires within { address + 4 * size ≤ 2 ^ 32 }
-        ensures value { (filled : ℕ → ℕ → Bool) → Fills self.now address filled → result ≡ filled address size }
+        ensures value { (filled : ℕ → ℕ → Bool) → Fills self.now address filled →
+            result ≡ filled address size }
         ensures free { result ≡ false → (size ≡ 0) ⊎ (address + 4 * size ≤ self.now.limit) }
     {
         size > 0 && self.limit < address + 4 * size
@@ -83,7 +84,9 @@ impl Ground {
     fn close(&mut self, end: u64) -> Result<(), ReadError>
         requires { IsOrdered self.old end }
         ensures order { OnOk result (InOrder 0 self.new.runs.items) }
-        ensures fills { OnOk result ((a n : ℕ) → meets self.new.runs.items a n ≡ (meet self.old.start end a n || meets self.old.runs.items a n)) }
+        ensures fills { OnOk result ((a n : ℕ) →
+            meets self.new.runs.items a n ≡
+            (meet self.old.start end a n || meets self.old.runs.items a n)) }
     {
         if self.start < end {
             let run = Run {
@@ -99,7 +102,8 @@ impl Ground {
     pub(crate) fn reopen(&mut self, end: u64, start: u64) -> Result<(), ReadError>
         requires { IsOrdered self.old end }
         ensures ordered { OnOk result (IsOrdered self.new start) }
-        ensures fills { OnOk result ((filled : ℕ → ℕ → Bool) → Fills self.old end filled → Fills self.new start filled) }
+        ensures fills { OnOk result ((filled : ℕ → ℕ → Bool) → Fills self.old end filled →
+            Fills self.new start filled) }
     {
         self.close(end)?;
         self.next = place_of(&self.runs, start);

@@ -19,7 +19,8 @@ fn ended<'a>(
     past: usize,
     ts: &[Placed<'a>],
 ) -> Result<Statement<'a>, Fault>
-    ensures { Gives statement_seen result (ended (statement_seen statement.entry) past (all_seen ts.now)) }
+    ensures { Gives statement_seen result (ended (statement_seen statement.entry) past
+        (all_seen ts.now)) }
 {
     match next(ts) {
         None => Ok(statement),
@@ -63,6 +64,7 @@ fn entry<'a>(past: usize, ts: &[Placed<'a>]) -> Result<Statement<'a>, Fault>
     ended(Statement::Entry(v), past, rest)
 }
 
+// The same tokens: the borrow checker takes what a call gives for the loop's variable.
 fn same<'a, 'b>(ts: &'b [Placed<'a>]) -> &'b [Placed<'a>]
     ensures { result.now ≡ ts.now }
 {
@@ -75,7 +77,8 @@ fn values<'a, 'b>(
     past: usize,
     ts: &'b [Placed<'a>],
 ) -> Result<Vec<Value<'a>>, ReadError>
-    ensures { Yields (λ vs. map value_seen vs.items) result (values (length ts.now) past (all_seen ts.now)) }
+    ensures { Yields (λ vs. map value_seen vs.items) result (values (length ts.now) past
+        (all_seen ts.now)) }
 {
     let mut found = Vec::new(alloc);
     let mut rest = same(ts);
@@ -133,7 +136,8 @@ fn directive_statement<'a>(
     past: usize,
     ts: &[Placed<'a>],
 ) -> Result<Statement<'a>, ReadError>
-    ensures { Yields statement_seen result (directive_statement directive.now column past (all_seen ts.now)) }
+    ensures { Yields statement_seen result (directive_statement directive.now column past
+        (all_seen ts.now)) }
 {
     if directive == "org".as_bytes() {
         Ok(origin(past, ts)?)
@@ -156,7 +160,8 @@ fn name_statement<'a>(
     past: usize,
     ts: &[Placed<'a>],
 ) -> Result<Statement<'a>, ReadError>
-    ensures { Yields statement_seen result (name_statement (bytes_eq name.now (codes "nop")) name.now column past (all_seen ts.now)) }
+    ensures { Yields statement_seen result (name_statement (bytes_eq name.now
+        (codes "nop")) name.now column past (all_seen ts.now)) }
 {
     if name == "nop" {
         Ok(ended(Statement::Space(1), past, ts)?)

@@ -15,7 +15,8 @@ use m161_isa::{Operand, ROWS, Row, rows_in_order};
 // The next token, and those behind it.
 pub(crate) fn next<'a, 'b>(ts: &'b [Placed<'a>]) -> Option<(Placed<'a>, &'b [Placed<'a>])>
     ensures within { IfSome result (λ x. length x.1.now < length ts.now) }
-    ensures parts { MatchOption result (all_seen ts.now ≡ []) (λ x. all_seen ts.now ≡ seen x.0 ∷ all_seen x.1.now) }
+    ensures parts { MatchOption result (all_seen ts.now ≡ []) (λ x. all_seen ts.now
+        ≡ seen x.0 ∷ all_seen x.1.now) }
 {
     if ts.len() == 0 {
         return None;
@@ -335,7 +336,8 @@ pub(crate) fn parts<'a>(
     past: usize,
     ts: &[Placed<'a>],
 ) -> Result<(), ReadError>
-    ensures { Adds part_seen result out.old.items out.new.items (parts first operands.now past (all_seen ts.now)) }
+    ensures { Adds part_seen result out.old.items out.new.items (parts first operands.now past
+        (all_seen ts.now)) }
 {
     match operands {
         [] => {

@@ -71,7 +71,8 @@ impl Position {
     // Whether so many words exceed a limit.
     fn exceeds(&self, has_label: bool, size: u64) -> bool
         requires { IsPosition self.now }
-        ensures { result ≡ exceeds self.now.address has_label size (size + self.now.words) (self.now.segments + opened size self.now.has_words) }
+        ensures { result ≡ exceeds self.now.address has_label size (size + self.now.words)
+            (self.now.segments + opened size self.now.has_words) }
     {
         if size > MAX_WORDS {
             return true;
@@ -102,8 +103,10 @@ impl Position {
     #[tactic(auto, unfolding(crate::specs::Text::with_place))]
     pub(crate) fn place(&self, line: &Line<'_>) -> Result<(), Fault>
         requires { IsPosition self.now }
-        ensures value { (above : List lines.Line) → IsBehind self.now above → Gives (λ _. line_seen line.now) result (with_place above (line_seen line.now)) }
-        ensures room { OnOk result (HasRoom self.now (size_of (statement_seen line.now.statement))) }
+        ensures value { (above : List lines.Line) → IsBehind self.now above →
+            Gives (λ _. line_seen line.now) result (with_place above (line_seen line.now)) }
+        ensures room { OnOk result (HasRoom self.now (size_of
+            (statement_seen line.now.statement))) }
         ensures label { OnOk result (is_some line.now.label ≡ true → self.now.address < 2 ^ 32) }
     {
         let size = size_of(&line.statement);

@@ -45,7 +45,8 @@ fn push_values(
     symbols: &IndexMap<String, u32>,
     values: &[Value<'_>],
 ) -> Result<(), ReadError>
-    ensures { Appends result words.old.items words.new.items (each (word_of (symbols_seen symbols.now)) (map value_seen values.now)) }
+    ensures { Appends result words.old.items words.new.items (each (word_of
+        (symbols_seen symbols.now)) (map value_seen values.now)) }
 {
     for v in values {
         match word_of(symbols, *v) {
@@ -68,7 +69,8 @@ fn push_code(
 ) -> Result<(), ReadError>
     requires at { at ≤ 2 ^ 32 }
     requires fit { AreParts (table row).operands (map part_seen parts.now) }
-    ensures { Appends result words.old.items words.new.items (words_of (symbols_seen symbols.now) at (lines.Code row (map part_seen parts.now))) }
+    ensures { Appends result words.old.items words.new.items (words_of
+        (symbols_seen symbols.now) at (lines.Code row (map part_seen parts.now))) }
 {
     let numbers = fields_of(alloc, symbols, at, parts)?;
     words.push(row.word(&numbers))?;
@@ -82,7 +84,8 @@ fn push_entry(
     symbols: &IndexMap<String, u32>,
     v: Value<'_>,
 ) -> Result<(), ReadError>
-    ensures { (at : ℕ) → Appends result words.old.items words.new.items (words_of (symbols_seen symbols.now) at (lines.Entry (value_seen v.entry))) }
+    ensures { (at : ℕ) → Appends result words.old.items words.new.items (words_of
+        (symbols_seen symbols.now) at (lines.Entry (value_seen v.entry))) }
 {
     target_of(symbols, v)?;
     Ok(())
@@ -99,7 +102,8 @@ fn push_words(
 ) -> Result<(), ReadError>
     requires at { at ≤ 2 ^ 32 }
     requires lawful { IsStatement (statement_seen statement.now) }
-    ensures { Appends result words.old.items words.new.items (words_of (symbols_seen symbols.now) at (statement_seen statement.now)) }
+    ensures { Appends result words.old.items words.new.items (words_of
+        (symbols_seen symbols.now) at (statement_seen statement.now)) }
 {
     match statement {
         Statement::Space(count) => push_zeros(words, *count),
@@ -128,7 +132,8 @@ impl SecondPass {
 
     // Closes the last segment, and opens one.
     fn open(&mut self, alloc: Global, address: u32) -> Result<(), ReadError>
-        ensures done { OnOk result (segments_seen self.new.done.items ≡ segments_seen self.old.done.items ++ full (segment_seen self.old.current ∷ [])) }
+        ensures done { OnOk result (segments_seen self.new.done.items
+            ≡ segments_seen self.old.done.items ++ full (segment_seen self.old.current ∷ [])) }
         ensures current { OnOk result (segment_seen self.new.current ≡ (address, [])) }
         ensures address { OnOk result (self.new.address ≡ address) }
         ensures entry { OnOk result (self.new.entry ≡ self.old.entry) }
@@ -171,7 +176,10 @@ impl SecondPass {
     ) -> Result<(), ReadError>
         requires room { self.old.address + 4 * size_of (statement_seen statement.now) ≤ 2 ^ 32 }
         requires lawful { IsStatement (statement_seen statement.now) }
-        ensures { (above : List lines.Line) (l : lines.Line) → l.statement ≡ statement_seen statement.now → IsFilled self.old (symbols_seen symbols.now) above → Fills result self.new (symbols_seen symbols.now) (l ∷ above) }
+        ensures { (above : List lines.Line) (l : lines.Line) →
+            l.statement ≡ statement_seen statement.now →
+            IsFilled self.old (symbols_seen symbols.now) above →
+            Fills result self.new (symbols_seen symbols.now) (l ∷ above) }
     {
         let words = &mut self.current.words;
         if let Err(error) = push_words(alloc, words, symbols, self.address, statement) {

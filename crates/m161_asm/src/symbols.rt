@@ -27,7 +27,8 @@ pub(crate) fn new_label(
     symbols: &IndexMap<String, u32>,
     label: Option<Label<'_>>,
 ) -> Result<(), Fault>
-    ensures value { (above : List lines.Line) → symbols_seen symbols.now ≡ symbols_in above → Gives (λ _. tt) result (new_label above (label_seen label.entry)) }
+    ensures value { (above : List lines.Line) → symbols_seen symbols.now ≡ symbols_in above →
+        Gives (λ _. tt) result (new_label above (label_seen label.entry)) }
     ensures new { OnOk result (IsNew (symbols_seen symbols.now) (label_seen label.entry)) }
 {
     let Some(label) = label else {
@@ -50,7 +51,8 @@ fn add(
     address: u32,
 ) -> Result<(), ReadError>
     requires { address_of (symbols_seen symbols.old) name.now ≡ None }
-    ensures { OnOk result (symbols_seen symbols.new ≡ symbols_seen symbols.old ++ ((name.now, address) ∷ [])) }
+    ensures { OnOk result (symbols_seen symbols.new ≡ symbols_seen symbols.old ++
+        ((name.now, address) ∷ [])) }
 {
     let key = String::from_str(alloc, name)?;
     symbols.insert(key, address)?;
@@ -66,7 +68,8 @@ pub(crate) fn define(
 ) -> Result<(), ReadError>
     requires new { IsNew (symbols_seen symbols.old) (label_seen label) }
     requires small { is_some label ≡ true → address < 2 ^ 32 }
-    ensures { OnOk result (symbols_seen symbols.new ≡ symbols_seen symbols.old ++ symbol (label_seen label.entry) address) }
+    ensures { OnOk result (symbols_seen symbols.new ≡ symbols_seen symbols.old ++ symbol
+        (label_seen label.entry) address) }
 {
     match label {
         Some(label) => add(alloc, symbols, label.name, address as u32),

@@ -14,7 +14,8 @@ use std::alloc::Global;
 // A value's whole number: what is added, and what is taken away.
 #[tactic(auto, unfolding(crate::specs::Text::number_by))]
 fn number_of(symbols: &IndexMap<String, u32>, v: Value<'_>) -> Result<(u64, u64), Fault>
-    ensures value { Gives (λ n. n) result (number_of (symbols_seen symbols.now) (value_seen v.entry)) }
+    ensures value { Gives (λ n. n) result (number_of (symbols_seen symbols.now)
+        (value_seen v.entry)) }
     ensures small { IfOk result (λ n. (n.0 < 2 ^ 33) × (n.1 < 2 ^ 32)) }
 {
     let up = u64::from(v.number.up);
@@ -106,7 +107,8 @@ fn jump_field(at: u64, column: usize, target: u32) -> Result<u32, Fault>
 #[tactic(auto, unfolding(crate::specs::Text::field_of))]
 fn field_of(symbols: &IndexMap<String, u32>, at: u64, part: Part<'_>) -> Result<u32, Fault>
     requires { at ≤ 2 ^ 32 }
-    ensures { Gives (λ n. n) result (field_of (symbols_seen symbols.now) at (part_seen part.entry)) }
+    ensures { Gives (λ n. n) result (field_of (symbols_seen symbols.now) at
+        (part_seen part.entry)) }
 {
     match part {
         Part::Field(n) => Ok(n),
@@ -123,7 +125,8 @@ pub(crate) fn fields_of(
     parts: &[Part<'_>],
 ) -> Result<Vec<u32>, ReadError>
     requires { at ≤ 2 ^ 32 }
-    ensures { Yields (λ v. v.items) result (each (field_of (symbols_seen symbols.now) at) (map part_seen parts.now)) }
+    ensures { Yields (λ v. v.items) result (each (field_of (symbols_seen symbols.now) at)
+        (map part_seen parts.now)) }
 {
     let mut fields = Vec::new(alloc);
     for part in parts {
@@ -141,7 +144,8 @@ pub(crate) fn entry_by(
     entry: Option<u32>,
     statement: &Statement<'_>,
 ) -> Option<u32>
-    ensures { (first : ℕ) → unwrap_or result first ≡ entry_by (symbols_seen symbols.now) (unwrap_or entry first) (statement_seen statement.now) }
+    ensures { (first : ℕ) → unwrap_or result first ≡ entry_by (symbols_seen symbols.now)
+        (unwrap_or entry first) (statement_seen statement.now) }
 {
     match statement {
         Statement::Entry(v) => match target_of(symbols, *v) {
