@@ -1,3 +1,4 @@
 pub mod Copied
 pub mod OneMore
+mod Rows
 pub mod Sound

@@ -23,8 +23,10 @@ mod image;
 mod loader;
 mod segments;
 mod span;
+mod writer;
 
 pub use header::ProgramHeader;
 pub use image::{Image, LoadError};
 pub use loader::{load, loads};
 pub use span::Span;
+pub use writer::write;
