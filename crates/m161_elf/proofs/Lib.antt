@@ -1,4 +1,5 @@
 pub mod Copied
+mod ReadBack
 pub mod OneMore
 mod Rows
 pub mod Sound

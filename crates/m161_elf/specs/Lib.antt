@@ -5,3 +5,4 @@ pub mod LoadError
 pub mod Sound
 pub mod Span
 pub mod Written
+pub mod WrittenLaw
