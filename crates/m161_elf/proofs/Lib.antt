@@ -1,5 +1,7 @@
 pub mod Copied
-mod ReadBack
+pub mod ReadBack
 pub mod OneMore
 mod Rows
 pub mod Sound
+pub mod Views
+mod WrittenLaw

@@ -8,7 +8,7 @@ use Rattle.std.specs.Int.{w16, w32, to_be_bytes}
 use Rattle.m161_asm.specs.Segments.{words_of}
 use Rattle.m161_asm.specs.Text.{Segment}
 use Rattle.m161_elf.specs.declared.header.ProgramHeader.{ProgramHeader}
-use Rattle.m161_elf.specs.Header.{e_entry, e_phnum, e_phoff, file_half, file_word, header_at, is_load, segments}
+use Rattle.m161_elf.specs.Header.{e_entry, e_phnum, file_half, file_word, header_at, is_load, segments}
 use Rattle.m161_elf.specs.Image.{byte_left, covers, place_in_ram, segment_byte}
 use Rattle.m161_elf.specs.Written.{elf_bytes, file_header, segment_bytes, segment_header, segment_headers, size, words}
 use Rattle.m161_elf.specs.WrittenLaw.{byte_left_by, byte_of, has_byte}
@@ -68,7 +68,7 @@ headers_from file before rest k offset (s ∷ ss) e long fit room =
     let left = segment_headers (offset + size s) ss in
     let split : file ≡ before ++ (mine ++ (left ++ rest)) = e ∙ ap (λ xs. before ++ xs) (append_assoc mine left rest) in
     let here : header_at file (52 + 32 * k) ≡ load_header offset s =
-        rw split (header_read before (left ++ rest) (52 + 32 * k) offset s (sym long) (omega (arith, room)) fit.0 (omega (arith, room))) in
+    rw split (header_read before (left ++ rest) (52 + 32 * k) offset s (sym long) (omega (arith, room)) fit.0 (omega (arith, room))) in
     let next : length (before ++ mine) ≡ 52 + 32 * (k + 1) = omega (arith, length-append before mine, long) in
     let behind = headers_from file (before ++ mine) rest (k + 1) (offset + size s) ss (split ∙ sym (append_assoc before mine (left ++ rest))) next fit.1 (omega (arith, room)) in
     ap (λ h. cond (is_load h) (h ∷ more) more) here ∙ ap (λ hs. load_header offset s ∷ hs) behind
@@ -108,7 +108,7 @@ first_or f test [] x other = value_of_one f (test x) x other
 first_or f test (y ∷ ys) x other =
     value_of_two f (test y) y (find test (ys ++ x ∷ [])) (find test ys) other (if test x then f x else other) (first_or f test ys x other)
 
-last_value-cons : {X : Type 0} (f : X → ℕ) (test : X → Bool) (x : X) (xs : List X) (other : ℕ) →
+pub last_value-cons : {X : Type 0} (f : X → ℕ) (test : X → Bool) (x : X) (xs : List X) (other : ℕ) →
     last_value f test (x ∷ xs) other ≡ last_value f test xs (if test x then f x else other)
 last_value-cons f test x xs other = rw (reverse-append (x ∷ []) xs) (first_or f test (reverse xs) x other)
 
@@ -156,6 +156,6 @@ memory_read entry ss at few fit room =
     let first = 52 + 32 * length ss in
     let before = file_header entry (length ss) ++ segment_headers first ss in
     let long : length before ≡ first =
-        omega (arith, length-append (file_header entry (length ss)) (segment_headers first ss), length-segment_headers first ss) in
+    omega (arith, length-append (file_header entry (length ss)) (segment_headers first ss), length-segment_headers first ss) in
     ap (λ loaded. byte_left file loaded at) (segments_read entry ss few fit room)
     ∙ bytes_read file before first ss at 0 (sym (append_assoc (file_header entry (length ss)) (segment_headers first ss) (segment_bytes ss))) long
