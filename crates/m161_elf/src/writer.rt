@@ -4,29 +4,13 @@ ghost use Rattle.std.specs.Prelude.{◌≡◌, ◌+◌, ◌*◌, ◌<◌, ◌≤
 ghost use Rattle.m161_asm.specs.Segments.{segment_seen, segments_seen, words_of};
 ghost use Rattle.m161_elf.specs.Written.{elf_bytes, file_header, halves as halves_bytes, segment_bytes, segment_header, segment_headers, size, words as words_bytes};
 
+use crate::fault::{EXECUTABLE, IDENTIFICATION, MIPS};
+use crate::header::{HEADER_SIZE, PROGRAM_HEADER_SIZE, PT_LOAD};
 use m161_asm::{Program, Segment};
 use std::alloc::{AllocError, Global};
 
-/// How a big-endian ELF32 file of version 1 begins, up to e_type.
-const IDENTIFICATION: [u8; 16] = [0x7f, b'E', b'L', b'F', 1, 2, 1, 0, 0, 0, 0, 0, 0, 0, 0, 0];
-
-/// e_type of an executable.
-const EXECUTABLE: u16 = 2;
-
-/// e_machine of MIPS.
-const MIPS: u16 = 8;
-
-/// The version of ELF.
+/// e_version.
 const VERSION: u32 = 1;
-
-/// The size of the ELF header, behind which the program headers stand.
-const HEADER_SIZE: u32 = 52;
-
-/// The size of a program header.
-const PROGRAM_HEADER_SIZE: u32 = 32;
-
-/// p_type of a segment to load.
-const PT_LOAD: u32 = 1;
 
 /// p_flags of a segment to read, write and execute.
 const READ_WRITE_EXECUTE: u32 = 7;
@@ -55,19 +39,12 @@ fn push_file_header(file: &mut Vec<u8>, entry: u32, count: u16) -> Result<(), Al
     ensures { OnOk result (file.new.items ≡ file.old.items ++ file_header entry count) }
 {
     file.extend_from_slice(&IDENTIFICATION)?;
+    file.extend_from_slice(&[0; 9])?;
     push_halves(file, &[EXECUTABLE, MIPS])?;
-    push_words(file, &[VERSION, entry, HEADER_SIZE, 0, 0])?;
-    push_halves(
-        file,
-        &[
-            HEADER_SIZE as u16,
-            PROGRAM_HEADER_SIZE as u16,
-            count,
-            0,
-            0,
-            0,
-        ],
-    )
+    push_words(file, &[VERSION, entry, HEADER_SIZE as u32, 0, 0])?;
+    let sizes = [HEADER_SIZE as u16, PROGRAM_HEADER_SIZE, count];
+    push_halves(file, &sizes)?;
+    push_halves(file, &[0, 0, 0])
 }
 
 // The program headers of all segments, whose bytes stand behind the last of them.
@@ -77,7 +54,8 @@ fn push_segment_headers(file: &mut Vec<u8>, segments: &[Segment]) -> Result<(), 
     ensures { OnOk result (file.new.items ≡ file.old.items
         ++ segment_headers (52 + 32 * length segments.now) (segments_seen segments.now)) }
 {
-    let mut offset = HEADER_SIZE + PROGRAM_HEADER_SIZE * segments.len() as u32;
+    let table = u32::from(PROGRAM_HEADER_SIZE) * segments.len() as u32;
+    let mut offset = HEADER_SIZE as u32 + table;
     for segment in segments {
         offset = push_segment_header(file, segment, offset)?;
     }
@@ -91,7 +69,8 @@ fn push_segment_header(
     offset: u32,
 ) -> Result<u32, AllocError>
     requires { offset + 4 * length segment.now.words.items < 2 ^ 32 }
-    ensures header { OnOk result (file.new.items ≡ file.old.items ++ segment_header offset (segment_seen segment.now)) }
+    ensures header { OnOk result (file.new.items
+        ≡ file.old.items ++ segment_header offset (segment_seen segment.now)) }
     ensures next { IfOk result (λ next. next ≡ offset + size (segment_seen segment.now)) }
 {
     let size = 4 * segment.words.len() as u32;
