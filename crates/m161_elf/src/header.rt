@@ -29,7 +29,7 @@ pub(crate) const E_PHNUM: usize = 44;
 pub(crate) const PROGRAM_HEADER_SIZE: u16 = 32;
 
 /// p_type of a segment to load.
-const PT_LOAD: u32 = 1;
+pub(crate) const PT_LOAD: u32 = 1;
 
 /// The fields of a program header that are used.
 #[derive(Clone, Copy)]
