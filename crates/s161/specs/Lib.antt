@@ -1,4 +1,3 @@
 pub mod Commands
 pub mod Faults
 pub mod Runs
-pub mod Texts

@@ -4,14 +4,15 @@ use Rattle.std.specs.List.{range_with_len}
 use Rattle.clap.specs.Words.{Text, subcommand_of}
 use Rattle.m161_cpu.specs.declared.processor.ProcessorState.{ProcessorState}
 use Rattle.m161_cpu.specs.declared.processor.ProcessorState.TheVariants.{Stopped, Running, Waiting}
-use Rattle.m161_cpu.specs.Processor.{Processor}
 use Rattle.m161_machine.specs.declared.event.Event.{Event}
 use Rattle.m161_machine.specs.declared.event.Refusal.{Refusal}
 use Rattle.m161_machine.specs.Refusal.{name_of_refusal, number_of_refusal}
 use Rattle.m161_machine.specs.State.{State, next, processor_at}
 use Rattle.m161_machine.specs.History.{History, Continues, IsBooted, Refuses}
+use Rattle.m161_debug.specs.Shows.{ended, show_regs_text}
 use Rattle.m161_steplog.specs.Lines.{lines_of}
 use Rattle.m161_steplog.specs.Log.{log_text}
+use Rattle.m161_steplog.specs.Parts.{◌␣◌}
 use Rattle.m161_steplog.specs.Schedule.{IsSchedule}
 use Rattle.s161.specs.declared.command.RunTask.{RunTask}
 use Rattle.s161.specs.declared.command.Task.{Task}
@@ -19,7 +20,6 @@ use Rattle.s161.specs.declared.command.Task.TheVariants.{Demo, Run}
 use Rattle.s161.specs.declared.events.Stop.{Stop}
 use Rattle.s161.specs.declared.events.Stop.TheVariants.{Off, End, Refused}
 use Rattle.s161.specs.Commands.{IsTask, command_line}
-use Rattle.s161.specs.Texts.{◌␣◌, ended, show_regs_text}
 
 -- What `run` makes, prints and answers.
 
@@ -59,13 +59,12 @@ if_started Stopped text = []
 if_started Running text = text
 if_started Waiting text = text
 
-abbrev pub started_text : List Processor → ℕ → List ℕ
-started_text processors p =
-    if_started (processor_at p processors).state (show_regs_text p (processor_at p processors))
+abbrev pub started_text : State → ℕ → List ℕ
+started_text s p = if_started (processor_at p s.processors).state (show_regs_text p s)
 
 -- the started processors among the first n
-abbrev pub started_texts : List Processor → ℕ → List ℕ
-started_texts processors n = flat_map (started_text processors) (range_with_len 0 n)
+abbrev pub started_texts : State → ℕ → List ℕ
+started_texts s n = flat_map (started_text s) (range_with_len 0 n)
 
 abbrev pub stop_text : Stop → List ℕ
 stop_text Off = codes "stop: off"
@@ -77,7 +76,7 @@ stop_text (Refused k refusal) =
 abbrev pub summary_text : History → Stop → Bool → List ℕ
 summary_text m stop show_log =
     output_text m.state.board.console.output
-    ++ started_texts m.state.processors (length m.state.processors)
+    ++ started_texts m.state (length m.state.processors)
     ++ (if show_log then log_text m.log else [])
     ++ ended (stop_text stop)
 

@@ -19,8 +19,6 @@ ghost use Rattle.std.specs.IoError.{error_kind};
 
 mod command;
 mod demo;
-mod digits;
-mod display;
 mod events;
 mod fault;
 mod files;
@@ -42,6 +40,9 @@ use std::{env, io};
 
 /// The machine that the program runs.
 pub(crate) type Machine = m161_machine::Machine<Scan, PlainConsole>;
+
+/// The session that shows it.
+pub(crate) type Session = m161_debug::Session<Scan, PlainConsole>;
 
 fn main(rt: HostRuntime) -> ExitCode {
     ExitCode::from(start(

@@ -3,13 +3,13 @@
 ghost use Rattle.std.specs.Prelude.{◌≡◌, IfOk};
 ghost use Rattle.s161.specs.Runs.{IsRun, status_of};
 
-use crate::Machine;
 use crate::command::RunTask;
 use crate::events::{Stop, make_events};
 use crate::fault::Fault;
 use crate::files::FileSource;
 use crate::input::{read_file, read_input};
 use crate::summary::summary;
+use crate::{Machine, Session};
 use m161_steplog::read_schedule;
 use std::alloc::Global;
 use std::io::Read;
@@ -40,8 +40,9 @@ pub fn run<'a, F: FileSource, I: Read>(
     let events = read_schedule(alloc, schedule.as_str())?;
     let mut machine = Machine::boot(alloc, &file, task.conf)?;
     let stop = make_events(&mut machine, &events);
+    let session = Session::new(alloc, machine);
     Ok(Finished {
-        text: summary(alloc, &machine, stop, task.show_log)?,
+        text: summary(alloc, &session, stop, task.show_log)?,
         status: status(stop),
     })
 }

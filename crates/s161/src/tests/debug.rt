@@ -72,7 +72,11 @@ fn branch(rt: &impl Abort, session: &Session) -> Result<String, Fail> {
 fn breakpoints(rt: HostRuntime) -> Result<(), Fail> {
     let mut one = session(rt.alloc(), 2, &LOOP)?;
     same(&rt, one.breakpoint(0, ENTRY), Ok(()));
-    same(&rt, (one.go(&STEPS), register_8(&rt, &one)), (Stop::Break(3), 1));
+    same(
+        &rt,
+        (one.go(&STEPS), register_8(&rt, &one)),
+        (Stop::Break(3), 1),
+    );
     same(
         &rt,
         (one.go(&STEPS[3..]), register_8(&rt, &one)),

@@ -1,8 +1,10 @@
-use Rattle.std.proofs.Common.{◌≡◌, List, ℕ, IfSome, subst, sym}
+use Rattle.std.proofs.Common.{◌≡◌, ◌∙◌, List, ℕ, IfSome, ap, subst, sym}
 use Rattle.m161_machine.specs.declared.event.Event.{Event}
 use Rattle.m161_machine.specs.History.{boot_fault}
 use Rattle.m161_steplog.specs.Lines.{lines_of}
 use Rattle.m161_steplog.specs.Schedule.{IsSchedule}
+use Rattle.m161_debug.specs.Breakpoints.{Debugged}
+use Rattle.s161.specs.Runs.{summary_text}
 use Rattle.s161.proofs.Making.{booted_ok}
 use Rattle.s161.proofs.run.run.Goals as goal
 
@@ -25,6 +27,6 @@ returns g c =
       machine = c.make_events-stop.new.machine;
       stop = c.make_events-stop.result;
       makes = c.make_events-stop.ensures;
-      text_is = c.in_ok-summary.ensures;
+      text_is = c.in_ok-summary.ensures ∙ ap (λ (s : Debugged). summary_text s.machine c.make_events-stop.result c.args.task.show_log) c.new-session.ensures;
       status_is = c.status.ensures;
     }
