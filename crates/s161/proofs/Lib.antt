@@ -1,4 +1,5 @@
 pub mod Accepting
 pub mod Asked
+pub mod Defining
 pub mod Making
 pub mod Shown

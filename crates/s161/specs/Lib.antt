@@ -1,3 +1,5 @@
 pub mod Commands
 pub mod Faults
+pub mod Replays
 pub mod Runs
+pub mod Works

@@ -1,7 +1,5 @@
-use Rattle.std.specs.Prelude.{◌≡◌, ◌⊎◌, ℕ, ◌-◌, ◌==◌, Bool, true, false, if◌then◌else◌, List, [], ◌∷◌, ◌++◌, Option, None, Some, IsSomeAnd, IfSome, codes, decimal, flat_map, length, slice_get, take}
-use Rattle.std.specs.Io.KnownBytes.{Appends}
+use Rattle.std.specs.Prelude.{◌≡◌, ℕ, ◌-◌, ◌==◌, Bool, true, false, if◌then◌else◌, List, [], ◌∷◌, ◌++◌, Option, None, Some, IsSomeAnd, IfSome, codes, decimal, flat_map, length, slice_get, take}
 use Rattle.std.specs.List.{range_with_len}
-use Rattle.clap.specs.Words.{Text, subcommand_of}
 use Rattle.m161_cpu.specs.declared.processor.ProcessorState.{ProcessorState}
 use Rattle.m161_cpu.specs.declared.processor.ProcessorState.TheVariants.{Stopped, Running, Waiting}
 use Rattle.m161_machine.specs.declared.event.Event.{Event}
@@ -15,11 +13,8 @@ use Rattle.m161_steplog.specs.Log.{log_text}
 use Rattle.m161_steplog.specs.Parts.{◌␣◌}
 use Rattle.m161_steplog.specs.Schedule.{IsSchedule}
 use Rattle.s161.specs.declared.command.RunTask.{RunTask}
-use Rattle.s161.specs.declared.command.Task.{Task}
-use Rattle.s161.specs.declared.command.Task.TheVariants.{Demo, Run}
 use Rattle.s161.specs.declared.events.Stop.{Stop}
 use Rattle.s161.specs.declared.events.Stop.TheVariants.{Off, End, Refused}
-use Rattle.s161.specs.Commands.{IsTask, command_line}
 
 -- What `run` makes, prints and answers.
 
@@ -100,23 +95,3 @@ pub record IsRun (task : RunTask) (known : Option (List ℕ)) (input : Option (L
   pub makes : Makes booted events stop machine
   pub text_is : text ≡ summary_text machine stop task.show_log
   pub status_is : status ≡ status_of stop
-
--- a finished run printed its text
-abbrev pub Printed : RunTask → Option (List ℕ) → Option (List ℕ) → Option (List ℕ) → Option (List ℕ) → ℕ → Type 0
-Printed task known input before after status =
-    (text : List ℕ) × IsRun task known input text status × Appends before after text
-
--- a task was finished with this exit status, and printed what belongs to it
-abbrev pub Finishes : Task → (Text → Option (List ℕ)) → Option (List ℕ) → Option (List ℕ) → Option (List ℕ) → ℕ → Type 0
-Finishes Demo files input before after status = status ≡ 0
-Finishes (Run task) files input before after status =
-    Printed task (files task.image.now) input before after status
-
--- a command line's task was finished, over files and a standard input with these bytes, and a standard output that had and has these
-abbrev pub Does : List Text → (Text → Option (List ℕ)) → Option (List ℕ) → Option (List ℕ) → Option (List ℕ) → ℕ → Type 0
-Does words files input before after status =
-    (task : Task) × IsTask (subcommand_of command_line words) task × Finishes task files input before after status
-
--- the exit status of a finished demo or of a run with no fault and no refused event
-abbrev pub IsDone : ℕ → Type 0
-IsDone status = (status ≡ 0) ⊎ (status ≡ 3)

@@ -9,8 +9,8 @@ use crate::fault::Fault;
 use crate::files::FileSource;
 use crate::input::{read_file, read_input};
 use crate::summary::summary;
+use crate::texts::events_of;
 use crate::{Machine, Session};
-use m161_steplog::read_schedule;
 use std::alloc::Global;
 use std::io::Read;
 
@@ -37,7 +37,7 @@ pub fn run<'a, F: FileSource, I: Read>(
 {
     let file = read_file(alloc, files, task.image)?;
     let schedule = read_input(alloc, input)?;
-    let events = read_schedule(alloc, schedule.as_str())?;
+    let events = events_of(alloc, schedule.as_str())?;
     let mut machine = Machine::boot(alloc, &file, task.conf)?;
     let stop = make_events(&mut machine, &events);
     let session = Session::new(alloc, machine);

@@ -1,0 +1,41 @@
+//! Texts, read as what they say.
+
+ghost use Rattle.std.specs.Prelude.{ℕ, IfOk, IsErrOf};
+ghost use Rattle.m161_steplog.specs.Lines.{FirstBad, lines_of};
+ghost use Rattle.m161_steplog.specs.Log.{AreLogLines, IsLog};
+ghost use Rattle.m161_steplog.specs.Schedule.{AreScheduleLines, IsSchedule};
+ghost use Rattle.s161.specs.declared.fault.Fault.TheVariants as faults;
+
+use crate::fault::{Fault, fault_of_log, fault_of_schedule};
+use m161_machine::{Entry, Event};
+use m161_steplog::{read_log, read_schedule};
+use std::alloc::Global;
+
+/// The events of a schedule's text.
+///
+/// # Errors
+/// Its first bad line; or memory was refused.
+pub fn events_of<'a>(alloc: Global, text: &str) -> Result<Vec<Event>, Fault<'a>>
+    ensures found { IfOk result (λ events. IsSchedule (lines_of text.now) events.items) }
+    ensures line { (n : ℕ) → IsErrOf result (faults.Schedule n)
+        → FirstBad AreScheduleLines text.now n }
+{
+    match read_schedule(alloc, text) {
+        Ok(events) => Ok(events),
+        Err(error) => Err(fault_of_schedule(error)),
+    }
+}
+
+/// The entries of a log's text.
+///
+/// # Errors
+/// Its first bad line; or memory was refused.
+pub fn entries_of<'a>(alloc: Global, text: &str) -> Result<Vec<Entry>, Fault<'a>>
+    ensures found { IfOk result (λ entries. IsLog text.now entries.items) }
+    ensures line { (n : ℕ) → IsErrOf result (faults.Log n) → FirstBad AreLogLines text.now n }
+{
+    match read_log(alloc, text) {
+        Ok(entries) => Ok(entries),
+        Err(error) => Err(fault_of_log(error)),
+    }
+}
