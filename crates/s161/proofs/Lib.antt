@@ -1,5 +1,6 @@
 pub mod Accepting
 pub mod Asked
 pub mod Defining
+pub mod Lines
 pub mod Making
 pub mod Shown

@@ -10,7 +10,7 @@ use Rattle.m161_machine.specs.declared.conf.Conf.{Conf}
 use Rattle.s161.specs.declared.command.FilesTask.{FilesTask}
 use Rattle.s161.specs.declared.command.RunTask.{RunTask}
 use Rattle.s161.specs.declared.command.Task.{Task}
-use Rattle.s161.specs.declared.command.Task.TheVariants.{Demo, Replay, Run}
+use Rattle.s161.specs.declared.command.Task.TheVariants.{Debug, Demo, Replay, Run}
 
 -- The command line, in clap's own words.
 
@@ -48,14 +48,20 @@ abbrev pub replay_line : App
 replay_line =
     sized (with_rule (with_rule (new_app (codes "replay")) (file_rule (codes "image"))) (file_rule (codes "entries")))
 
+-- `debug` takes an image, a schedule and options
+abbrev pub debug_line : App
+debug_line =
+    sized (with_rule (with_rule (new_app (codes "debug")) (file_rule (codes "image"))) (file_rule (codes "schedule")))
+
 -- the program needs a command
 abbrev pub command_line : App
 command_line =
-    with_subcommand (with_subcommand (with_subcommand
+    with_subcommand (with_subcommand (with_subcommand (with_subcommand
     (on_top (λ s. record s { subcommand_required = true }) (new_app (codes "s161")))
     (new_shape (codes "demo")))
     run_line.top)
-    replay_line.top
+    replay_line.top)
+    debug_line.top
 
 -- clap finds no fault in these words of a command line; the first is the program's name
 unfoldable pub IsAccepted : List Text → Type 0
@@ -102,7 +108,7 @@ pub record AsksFiles (name : Text) (rows : List Row) (task : FilesTask) : Type 0
 
 -- the words that ask for another task than the demo
 abbrev pub IsOther : Text → Type 0
-IsOther word = (word ≡ codes "run") ⊎ (word ≡ codes "replay")
+IsOther word = (word ≡ codes "run") ⊎ (word ≡ codes "replay") ⊎ (word ≡ codes "debug")
 
 -- a command, with its arguments, asks for this
 abbrev pub IsTask : Option (Text × List Row) → Task → Type 0
@@ -110,6 +116,8 @@ IsTask command Demo = IfSome command (λ given. ¬ IsOther given.0)
 IsTask command (Run task) = IsSomeAnd command (λ given. (given.0 ≡ codes "run") × AsksRun given.1 task)
 IsTask command (Replay task) =
     IsSomeAnd command (λ given. (given.0 ≡ codes "replay") × AsksFiles (codes "entries") given.1 task)
+IsTask command (Debug task) =
+    IsSomeAnd command (λ given. (given.0 ≡ codes "debug") × AsksFiles (codes "schedule") given.1 task)
 
 -- no argument of the command is one of its subcommands' too
 abbrev pub IsLocal : Command → Type 0

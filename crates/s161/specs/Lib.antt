@@ -1,4 +1,5 @@
 pub mod Commands
+pub mod Debugs
 pub mod Faults
 pub mod Replays
 pub mod Runs

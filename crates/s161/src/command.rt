@@ -3,7 +3,7 @@
 ghost use Rattle.std.specs.Prelude.{◌≡◌, ◌≢◌, [], IfErr, IfOk, codes, false, map, unwrap_or};
 ghost use Rattle.clap.specs.Words.{app_of, first_of, found_of, kind_of, one_of, rows_of, rule_of, subcommand_of, subcommand_rows_of};
 ghost use Rattle.clap.specs.declared.error.kind.ErrorKind.TheVariants.{OutOfMemory};
-ghost use Rattle.s161.specs.Commands.{AsksFiles, AsksRun, IsAccepted, IsFlag, IsLocal, IsNumberOf, IsSize, IsTask, command_line, file_rule, number_rule, replay_line, run_line, show_log_rule, sized};
+ghost use Rattle.s161.specs.Commands.{AsksFiles, AsksRun, IsAccepted, IsFlag, IsLocal, IsNumberOf, IsSize, IsTask, command_line, debug_line, file_rule, number_rule, replay_line, run_line, show_log_rule, sized};
 
 use clap::{Arg, ArgAction, ArgMatches, Command, Error, value_parser};
 use m161_machine::Conf;
@@ -19,6 +19,8 @@ pub enum Task<'a> {
     Run(RunTask<'a>),
     /// An image, against a log.
     Replay(FilesTask<'a>),
+    /// An image, under a schedule and a debugger's commands.
+    Debug(FilesTask<'a>),
 }
 
 /// What `run` is asked for.
@@ -46,8 +48,9 @@ pub struct FilesTask<'a> {
 /// What the help of the program ends with.
 const AFTER_HELP: &str = "\
 Exit status:
-  0  a finished demo, a machine that switched itself off, or a log that agrees
-  1  a fault, named on standard error, or a refused event
+  0  a finished demo or debug, a machine that switched itself off, or a log
+     that agrees
+  1  a fault, named on standard error, or a refused event of run
   2  a rejected command line, or a call for help
   3  the schedule ended
   4  a log that differs";
@@ -78,6 +81,23 @@ Exit status:
   0  the log agrees
   1  a fault, named on standard error
   4  the log differs";
+
+/// What the help of `debug` ends with.
+const AFTER_DEBUG_HELP: &str = "\
+The schedule is that of run, in a file. The commands are read from standard input, one a line:
+  b P ADDR  d P ADDR   sets or deletes a breakpoint of processor P
+  g  g N               makes the schedule's other events, or N of them, up to a breakpoint
+  s P  k HH  o         makes an event that isn't the schedule's
+  r P  c P  t P        shows registers, coprocessor 0, the TLB
+  m ADDR N  x ADDR N   shows N words of memory or of code, 1 to 1024
+An error of a command is printed as `? Name`, and the next one is done.
+
+Exit status:
+  0  the commands ended
+  1  a fault, named on standard error
+
+Example:
+  printf 'b 0 80000208\\ng\\nr 0\\n' | s161 debug kernel.elf schedule";
 
 // An option with a number of 32 bits.
 fn number_option<'a>(alloc: Global, name: &'a str, help: &'a str, default: &'a str) -> Arg<'a>
@@ -153,6 +173,19 @@ fn replay_definition<'a>(alloc: Global) -> Result<Command<'a>, AllocError>
     with_size(alloc, replay)
 }
 
+// The definition of `debug`.
+fn debug_definition<'a>(alloc: Global) -> Result<Command<'a>, AllocError>
+    ensures shape { IfOk result (λ command. app_of command ≡ debug_line) }
+    ensures local { IfOk result IsLocal }
+{
+    let debug = Command::new(alloc, "debug")
+        .about("Does a debugger's commands on an image under a schedule")
+        .after_help(AFTER_DEBUG_HELP)
+        .arg(file_argument(alloc, "image", "IMAGE", "An ELF file"))?
+        .arg(file_argument(alloc, "schedule", "SCHEDULE", "A schedule's file"))?;
+    with_size(alloc, debug)
+}
+
 // The program's definition of its command line.
 fn definition<'a>(alloc: Global) -> Result<Command<'a>, AllocError>
     ensures { IfOk result (λ command. app_of command ≡ command_line) }
@@ -160,13 +193,15 @@ fn definition<'a>(alloc: Global) -> Result<Command<'a>, AllocError>
     let demo = Command::new(alloc, "demo").about("Makes seven Steps of the built-in image");
     let run = run_definition(alloc)?;
     let replay = replay_definition(alloc)?;
+    let debug = debug_definition(alloc)?;
     Command::new(alloc, "s161")
         .about("A proved emulator of System/161")
         .after_help(AFTER_HELP)
         .subcommand_required(true)
         .subcommand(demo)?
         .subcommand(run)?
-        .subcommand(replay)
+        .subcommand(replay)?
+        .subcommand(debug)
 }
 
 // The number of an option.
@@ -233,6 +268,7 @@ fn task_of<'a>(matches: &ArgMatches<'a>) -> Task<'a>
     match matches.subcommand() {
         Some(("run", given)) => Task::Run(run_task_of(given)),
         Some(("replay", given)) => Task::Replay(files_task_of(given, "entries")),
+        Some(("debug", given)) => Task::Debug(files_task_of(given, "schedule")),
         _ => Task::Demo,
     }
 }

@@ -8,11 +8,14 @@
 //!                         stopped
 //! s161 replay IMAGE LOG   boots an ELF file, makes the events of a log, and prints whether their
 //!                         outcomes are the log's
+//! s161 debug IMAGE SCHEDULE
+//!                         boots an ELF file, and does a debugger's commands on standard input over
+//!                         the schedule's events
 //!
-//! exit                    0 a finished demo, a machine that switched itself off, or a log that
-//!                         agrees; 1 a fault, named in one line on standard error, or a refused
-//!                         event; 2 a rejected command line, and a call for help; 3 the schedule
-//!                         ended; 4 a log that differs
+//! exit                    0 a finished demo or debug, a machine that switched itself off, or a log
+//!                         that agrees; 1 a fault, named in one line on standard error, or a
+//!                         refused event of run; 2 a rejected command line, and a call for help;
+//!                         3 the schedule ended; 4 a log that differs
 //! ```
 //!
 //! `main` only collects the arguments and names the streams; the work is in `work`, over any
@@ -23,6 +26,7 @@ ghost use Rattle.std.specs.Prelude.{◌≡◌, ◌≢◌, ◌⊎◌, IfErr};
 ghost use Rattle.std.specs.IoError.{error_kind};
 
 mod command;
+mod debug;
 mod demo;
 mod events;
 mod fault;

@@ -4,16 +4,18 @@ ghost use Rattle.std.specs.Prelude.{◌≡◌, ◌≢◌, ◌⊎◌, ◌≤◌, 
 ghost use Rattle.std.specs.Io.KnownBytes.{Appends};
 ghost use Rattle.clap.specs.Words.{kind_of};
 ghost use Rattle.s161.specs.Commands.{IsAccepted};
+ghost use Rattle.s161.specs.Debugs.{IsDebug};
 ghost use Rattle.s161.specs.Replays.{IsReplay};
 ghost use Rattle.s161.specs.Runs.{IsRun};
 ghost use Rattle.s161.specs.Works.{Does, IsDone, Prints};
 
 use crate::command::{FilesTask, RunTask, Task, parse};
+use crate::debug::debug;
 use crate::demo::demo;
 use crate::fault::Fault;
 use crate::files::FileSource;
 use crate::replay::replay;
-use crate::run::run;
+use crate::run::{Finished, run};
 use clap::Error;
 use clap::error::ErrorKind;
 use std::alloc::Global;
@@ -52,10 +54,10 @@ where
     }
 }
 
-/// Does what a command line says. The result is the exit status: 0 a finished demo, a machine that
-/// switched itself off, or a log that agrees; 1 a fault, or a refused event; 2 a rejected command
-/// line; 3 a schedule that ended; 4 a log that differs. An output is made whole before it is
-/// written.
+/// Does what a command line says. The result is the exit status: 0 a finished demo or debug, a
+/// machine that switched itself off, or a log that agrees; 1 a fault, or a refused event of a run;
+/// 2 a rejected command line; 3 a schedule that ended; 4 a log that differs. An output is made
+/// whole before it is written.
 pub fn work<A, S, F, I, O, E>(
     rt: &A,
     words: &[S],
@@ -82,6 +84,7 @@ where
         Ok(Task::Demo) => do_demo(alloc, output),
         Ok(Task::Run(task)) => do_run(alloc, task, files, input, output),
         Ok(Task::Replay(task)) => do_replay(alloc, task, files, output),
+        Ok(Task::Debug(task)) => do_debug(alloc, task, files, input, output),
         Err(error) => return reject(alloc, &error, output, errors),
     };
     match done {
@@ -112,9 +115,7 @@ fn do_run<'a, F: FileSource, I: Read, O: Write>(
         (O.contents output.old) (O.contents output.new)) }
     ensures within { IfOk result (λ status. (status ≤ 3) × (status ≢ 2)) }
 {
-    let finished = run(alloc, files, input, task)?;
-    put(output, finished.text.as_slice())?;
-    Ok(finished.status)
+    print(output, run(alloc, files, input, task)?)
 }
 
 // Replays a log, and prints the verdict. The result is the exit status.
@@ -129,7 +130,31 @@ fn do_replay<'a, F: FileSource, O: Write>(
         status) (O.contents output.old) (O.contents output.new)) }
     ensures within { IfOk result (λ status. (status ≡ 0) ⊎ (status ≡ 4)) }
 {
-    let finished = replay(alloc, files, task)?;
+    print(output, replay(alloc, files, task)?)
+}
+
+// Does a debugger's commands, and prints what they show. The result is the exit status.
+fn do_debug<'a, F: FileSource, I: Read, O: Write>(
+    alloc: Global,
+    task: FilesTask<'a>,
+    files: &mut F,
+    input: &mut I,
+    output: &mut O,
+) -> Result<u8, Fault<'a>>
+    ensures printed { IfOk result (λ _. Prints (λ text. IsDebug task.entry
+        (F.known files.old task.entry.image.now) (F.known files.old task.entry.text.now)
+        (I.remaining input.old) text) (O.contents output.old) (O.contents output.new)) }
+    ensures status { IfOk result (λ status. status ≡ 0) }
+{
+    print(output, debug(alloc, files, input, task)?)
+}
+
+// Prints what a finished command prints. The result is its exit status.
+fn print<'a, O: Write>(output: &mut O, finished: Finished) -> Result<u8, Fault<'a>>
+    ensures status { IfOk result (λ status. status ≡ finished.status) }
+    ensures printed { OnOk result (Appends (O.contents output.old) (O.contents output.new)
+        finished.text.items) }
+{
     put(output, finished.text.as_slice())?;
     Ok(finished.status)
 }

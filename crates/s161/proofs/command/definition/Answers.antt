@@ -14,4 +14,5 @@ returns c =
     let demo_local : (out-Command c.about-demo.result).has_globals ≡ false = ap (λ f. f.has_globals) c.about-demo.ensures ∙ c.new.ensures.local in
     let one = c.in_ok-subcommand.ensures.shape demo_local ∙ ap₂ with_subcommand required demo in
     let two = c.in_ok-subcommand-2.ensures.shape c.in_ok-run.ensures.local ∙ ap₂ with_subcommand one (ap (λ (a : App). a.top) c.in_ok-run.ensures.shape) in
-    IfOk-weaker c.subcommand-3.result _ _ (λ command h. h.shape c.in_ok-replay.ensures.local ∙ ap₂ with_subcommand two (ap (λ (a : App). a.top) c.in_ok-replay.ensures.shape)) c.subcommand-3.ensures
+    let three = c.in_ok-subcommand-3.ensures.shape c.in_ok-replay.ensures.local ∙ ap₂ with_subcommand two (ap (λ (a : App). a.top) c.in_ok-replay.ensures.shape) in
+    IfOk-weaker c.subcommand-4.result _ _ (λ command h. h.shape c.in_ok-debug.ensures.local ∙ ap₂ with_subcommand three (ap (λ (a : App). a.top) c.in_ok-debug.ensures.shape)) c.subcommand-4.ensures
