@@ -1,6 +1,7 @@
 pub mod Accepting
 pub mod Asked
+pub mod Defining
 pub mod Failing
-pub mod Hex
+pub mod Lines
 pub mod Making
 pub mod Shown

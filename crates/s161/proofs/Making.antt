@@ -10,6 +10,8 @@ use Rattle.m161_machine.specs.declared.event.Refusal.{Refusal}
 use Rattle.m161_machine.specs.State.{State, first_of, is_full, next, unless, answer}
 use Rattle.m161_machine.specs.History.{History, run, going_on, after_outcome, events_of, outcomes_of, Boots, Continues, Ends, IsBooted, Refuses}
 use Rattle.m161_machine.proofs.Continuing.{refused_as}
+use Rattle.m161_steplog.specs.declared.verdict.Verdict.{Verdict}
+use Rattle.m161_steplog.specs.Verdict.{IsVerdict, Verifies}
 use Rattle.s161.specs.Runs.{IsRefusedAt}
 
 -- Runs of events, one after the other.
@@ -156,3 +158,9 @@ switched b0 m n (e ∷ es) is other c =
 pub booted_ok : (file : List ℕ) (conf : Conf) (fault : Option BootError) (m : History) → Boots file conf fault (Ok m) → IsBooted file conf m
 booted_ok file conf (Some first) m h = absurd h
 booted_ok file conf None m h = h
+
+-- a log that was verified
+pub verified_ok : (file : List ℕ) (conf : Conf) (fault : Option BootError) (log : List Entry) (verdict : Verdict) →
+    Verifies file conf fault log (Ok verdict) → (m : History) × IsBooted file conf m × IsVerdict m.state log verdict
+verified_ok file conf (Some first) log verdict h = absurd h
+verified_ok file conf None log verdict h = h

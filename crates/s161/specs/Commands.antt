@@ -1,4 +1,4 @@
-use Rattle.std.specs.Prelude.{◌≡◌, ◌≢◌, ℕ, ◌<◌, ◌^◌, Bool, true, false, List, [], ◌∷◌, Option, None, Some, IfSome, IsSomeAnd, codes, pos, unwrap_or}
+use Rattle.std.specs.Prelude.{◌≡◌, ◌⊎◌, ℕ, ◌<◌, ◌^◌, Bool, true, false, List, [], ◌∷◌, Option, None, Some, IfSome, IsSomeAnd, codes, pos, unwrap_or}
 use Rattle.std.specs.Str.Parse.{IsNumeral, digits_value, without_leading_plus}
 use Rattle.clap.specs.Words.{App, Row, Rule, Text, fault_of, first_of, new_app, new_rule, one_of, with_rule, with_subcommand}
 use Rattle.clap.specs.Simple.{new_shape, on_top}
@@ -6,9 +6,11 @@ use Rattle.clap.specs.declared.builder.command.Command.{Command}
 use Rattle.clap.specs.declared.builder.command.Command.TheViews.{out-Command}
 use Rattle.clap.specs.declared.builder.action.ArgAction.TheVariants.{SetTrue}
 use Rattle.clap.specs.declared.builder.value_parser.ValueParser.TheVariants.{Signed}
+use Rattle.m161_machine.specs.declared.conf.Conf.{Conf}
+use Rattle.s161.specs.declared.command.FilesTask.{FilesTask}
 use Rattle.s161.specs.declared.command.RunTask.{RunTask}
 use Rattle.s161.specs.declared.command.Task.{Task}
-use Rattle.s161.specs.declared.command.Task.TheVariants.{Demo, Run}
+use Rattle.s161.specs.declared.command.Task.TheVariants.{Debug, Demo, Replay, Run}
 
 -- The command line, in clap's own words.
 
@@ -21,27 +23,45 @@ number_rule name default = record (new_rule name) {
   defaults = default ∷ [];
 }
 
-abbrev pub image_rule : Rule
-image_rule = record (new_rule (codes "image")) { value_names = 1; required = true }
+-- the name of a file, which is required
+abbrev pub file_rule : Text → Rule
+file_rule name = record (new_rule name) { value_names = 1; required = true }
 
 abbrev pub show_log_rule : Rule
 show_log_rule =
     record (new_rule (codes "show-log")) { long = Some (codes "show-log"); action = Some SetTrue }
 
--- `run` takes an image and options
-abbrev pub run_line : App
-run_line =
-    with_rule (with_rule (with_rule (with_rule (with_rule (new_app (codes "run")) image_rule)
+-- a command with the options of a machine's size too
+abbrev pub sized : App → App
+sized command =
+    with_rule (with_rule (with_rule command
     (number_rule (codes "ram") (codes "1048576")))
     (number_rule (codes "cpus") (codes "1")))
-    (number_rule (codes "log") (codes "65536")))
-    show_log_rule
+    (number_rule (codes "log") (codes "65536"))
 
--- the program needs a command, `demo` or `run`
+-- `run` takes an image and options
+abbrev pub run_line : App
+run_line = with_rule (sized (with_rule (new_app (codes "run")) (file_rule (codes "image")))) show_log_rule
+
+-- `replay` takes an image, a log and options
+abbrev pub replay_line : App
+replay_line =
+    sized (with_rule (with_rule (new_app (codes "replay")) (file_rule (codes "image"))) (file_rule (codes "entries")))
+
+-- `debug` takes an image, a schedule and options
+abbrev pub debug_line : App
+debug_line =
+    sized (with_rule (with_rule (new_app (codes "debug")) (file_rule (codes "image"))) (file_rule (codes "schedule")))
+
+-- the program needs a command
 abbrev pub command_line : App
 command_line =
-    with_subcommand (with_subcommand (on_top (λ s. record s { subcommand_required = true }) (new_app (codes "s161")))
-    (new_shape (codes "demo"))) run_line.top
+    with_subcommand (with_subcommand (with_subcommand (with_subcommand
+    (on_top (λ s. record s { subcommand_required = true }) (new_app (codes "s161")))
+    (new_shape (codes "demo")))
+    run_line.top)
+    replay_line.top)
+    debug_line.top
 
 -- clap finds no fault in these words of a command line; the first is the program's name
 unfoldable pub IsAccepted : List Text → Type 0
@@ -64,18 +84,40 @@ abbrev pub IsFlag : Option Text → Bool → Type 0
 IsFlag None flag = flag ≡ false
 IsFlag (Some text) flag = (text ≡ codes "true" → flag ≡ true) × (text ≡ codes "false" → flag ≡ false)
 
--- `run` asks for this, by what clap gives for each of its arguments
-pub record IsAsked (rows : List Row) (task : RunTask) : Type 0 where
-  pub image : task.image.now ≡ unwrap_or (first_of (codes "image") rows) []
-  pub ram : IsNumberOf 1_048_576 (one_of (codes "ram") rows) task.conf.ram
-  pub cpus : IsNumberOf 1 (one_of (codes "cpus") rows) task.conf.processors
-  pub log : IsNumberOf 65_536 (one_of (codes "log") rows) task.conf.log
+-- the first text that is given for an argument
+abbrev pub given_of : Text → List Row → Text
+given_of name rows = unwrap_or (first_of name rows) []
+
+-- a machine of this size is asked for, by what clap gives for each argument
+pub record IsSize (rows : List Row) (conf : Conf) : Type 0 where
+  pub ram : IsNumberOf 1_048_576 (one_of (codes "ram") rows) conf.ram
+  pub cpus : IsNumberOf 1 (one_of (codes "cpus") rows) conf.processors
+  pub log : IsNumberOf 65_536 (one_of (codes "log") rows) conf.log
+
+-- `run` asks for this
+pub record AsksRun (rows : List Row) (task : RunTask) : Type 0 where
+  pub image : task.image.now ≡ given_of (codes "image") rows
+  pub size : IsSize rows task.conf
   pub show_log : IsFlag (one_of (codes "show-log") rows) task.show_log
+
+-- a command over an image and a text of this name asks for this
+pub record AsksFiles (name : Text) (rows : List Row) (task : FilesTask) : Type 0 where
+  pub image : task.image.now ≡ given_of (codes "image") rows
+  pub text : task.text.now ≡ given_of name rows
+  pub size : IsSize rows task.conf
+
+-- the words that ask for another task than the demo
+abbrev pub IsOther : Text → Type 0
+IsOther word = (word ≡ codes "run") ⊎ (word ≡ codes "replay") ⊎ (word ≡ codes "debug")
 
 -- a command, with its arguments, asks for this
 abbrev pub IsTask : Option (Text × List Row) → Task → Type 0
-IsTask command Demo = IfSome command (λ given. given.0 ≢ codes "run")
-IsTask command (Run task) = IsSomeAnd command (λ given. (given.0 ≡ codes "run") × IsAsked given.1 task)
+IsTask command Demo = IfSome command (λ given. ¬ IsOther given.0)
+IsTask command (Run task) = IsSomeAnd command (λ given. (given.0 ≡ codes "run") × AsksRun given.1 task)
+IsTask command (Replay task) =
+    IsSomeAnd command (λ given. (given.0 ≡ codes "replay") × AsksFiles (codes "entries") given.1 task)
+IsTask command (Debug task) =
+    IsSomeAnd command (λ given. (given.0 ≡ codes "debug") × AsksFiles (codes "schedule") given.1 task)
 
 -- no argument of the command is one of its subcommands' too
 abbrev pub IsLocal : Command → Type 0

@@ -3,7 +3,7 @@ use Rattle.m161_machine.specs.declared.conf.BootError.TheVariants.{BadConf, Load
 use Rattle.m161_steplog.specs.declared.fault.Fault.{Fault as TextFault}
 use Rattle.m161_steplog.specs.declared.fault.Fault.TheVariants as text
 use Rattle.s161.specs.declared.fault.Fault.{Fault}
-use Rattle.s161.specs.declared.fault.Fault.TheVariants.{Conf, Image, Memory, Schedule}
+use Rattle.s161.specs.declared.fault.Fault.TheVariants.{Conf, Image, Log, Memory, Schedule}
 
 -- Why a command ends early.
 
@@ -17,3 +17,8 @@ fault_of_boot NoMemory = Memory
 abbrev pub fault_of_schedule : TextFault → Fault
 fault_of_schedule (text.Line n) = Schedule n
 fault_of_schedule text.NoMemory = Memory
+
+-- why a log isn't read
+abbrev pub fault_of_log : TextFault → Fault
+fault_of_log (text.Line n) = Log n
+fault_of_log text.NoMemory = Memory

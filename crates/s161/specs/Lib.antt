@@ -1,4 +1,6 @@
 pub mod Commands
+pub mod Debugs
 pub mod Faults
+pub mod Replays
 pub mod Runs
-pub mod Texts
+pub mod Works

@@ -1,10 +1,7 @@
-use Rattle.std.specs.Prelude.{◌≡◌, ◌⊎◌, ℕ, ◌-◌, ◌==◌, Bool, true, false, if◌then◌else◌, List, [], ◌∷◌, ◌++◌, Option, None, Some, IsSomeAnd, IfSome, codes, decimal, flat_map, length, slice_get, take}
-use Rattle.std.specs.Io.KnownBytes.{Appends}
+use Rattle.std.specs.Prelude.{◌≡◌, ℕ, ◌-◌, ◌==◌, Bool, true, false, if◌then◌else◌, List, [], ◌∷◌, ◌++◌, Option, None, Some, IsSomeAnd, IfSome, codes, decimal, flat_map, length, slice_get, take}
 use Rattle.std.specs.List.{range_with_len}
-use Rattle.clap.specs.Words.{Text, subcommand_of}
 use Rattle.m161_cpu.specs.declared.processor.ProcessorState.{ProcessorState}
 use Rattle.m161_cpu.specs.declared.processor.ProcessorState.TheVariants.{Stopped, Running, Waiting}
-use Rattle.m161_cpu.specs.Processor.{Processor}
 use Rattle.m161_machine.specs.declared.conf.BootError.TheVariants.{Load}
 use Rattle.m161_machine.specs.declared.event.Event.{Event}
 use Rattle.m161_machine.specs.declared.event.Refusal.{Refusal}
@@ -12,18 +9,16 @@ use Rattle.m161_machine.specs.Conf.{is_within_limits}
 use Rattle.m161_machine.specs.Refusal.{name_of_refusal, number_of_refusal}
 use Rattle.m161_machine.specs.State.{State, next, processor_at}
 use Rattle.m161_machine.specs.History.{History, Continues, IsBooted, Refuses, boot_fault}
+use Rattle.m161_debug.specs.Shows.{ended, show_regs_text}
 use Rattle.m161_steplog.specs.Lines.{FirstBad, lines_of}
 use Rattle.m161_steplog.specs.Log.{log_text}
+use Rattle.m161_steplog.specs.Parts.{◌␣◌}
 use Rattle.m161_steplog.specs.Schedule.{AreScheduleLines, IsSchedule}
 use Rattle.s161.specs.declared.command.RunTask.{RunTask}
-use Rattle.s161.specs.declared.command.Task.{Task}
-use Rattle.s161.specs.declared.command.Task.TheVariants.{Demo, Run}
 use Rattle.s161.specs.declared.events.Stop.{Stop}
 use Rattle.s161.specs.declared.events.Stop.TheVariants.{Off, End, Refused}
 use Rattle.s161.specs.declared.fault.Fault.{Fault}
-use Rattle.s161.specs.declared.fault.Fault.TheVariants.{Conf, File, Image, Input, Memory, Output, Schedule}
-use Rattle.s161.specs.Commands.{IsTask, command_line}
-use Rattle.s161.specs.Texts.{◌␣◌, ended, show_regs_text}
+use Rattle.s161.specs.declared.fault.Fault.TheVariants.{Conf, File, Image, Input, Log, Memory, Output, Schedule}
 
 -- What `run` makes, prints and answers.
 
@@ -63,13 +58,12 @@ if_started Stopped text = []
 if_started Running text = text
 if_started Waiting text = text
 
-abbrev pub started_text : List Processor → ℕ → List ℕ
-started_text processors p =
-    if_started (processor_at p processors).state (show_regs_text p (processor_at p processors))
+abbrev pub started_text : State → ℕ → List ℕ
+started_text s p = if_started (processor_at p s.processors).state (show_regs_text p s)
 
 -- the started processors among the first n
-abbrev pub started_texts : List Processor → ℕ → List ℕ
-started_texts processors n = flat_map (started_text processors) (range_with_len 0 n)
+abbrev pub started_texts : State → ℕ → List ℕ
+started_texts s n = flat_map (started_text s) (range_with_len 0 n)
 
 abbrev pub stop_text : Stop → List ℕ
 stop_text Off = codes "stop: off"
@@ -81,7 +75,7 @@ stop_text (Refused k refusal) =
 abbrev pub summary_text : History → Stop → Bool → List ℕ
 summary_text m stop show_log =
     output_text m.state.board.console.output
-    ++ started_texts m.state.processors (length m.state.processors)
+    ++ started_texts m.state (length m.state.processors)
     ++ (if show_log then log_text m.log else [])
     ++ ended (stop_text stop)
 
@@ -106,6 +100,12 @@ pub record IsRun (task : RunTask) (known : Option (List ℕ)) (input : Option (L
   pub text_is : text ≡ summary_text machine stop task.show_log
   pub status_is : status ≡ status_of stop
 
+-- a text is no schedule, by its first bad line; or memory was refused
+abbrev pub IsScheduleFault : List ℕ → Fault → Type 0
+IsScheduleFault text (Schedule n) = FirstBad AreScheduleLines text n
+IsScheduleFault text Memory = Unit {0}
+IsScheduleFault text _ = ⊥
+
 -- standard input has a schedule
 abbrev pub HasSchedule : Option (List ℕ) → Type 0
 HasSchedule input = (text : List ℕ) × IfSome input (λ bytes. text ≡ bytes) × AreScheduleLines (lines_of text)
@@ -116,28 +116,9 @@ IsFaultOf task known input (File name) = name.now ≡ task.image.now
 IsFaultOf task known input Input = Unit {0}
 IsFaultOf task known input (Schedule n) =
     (text : List ℕ) × IfSome input (λ bytes. text ≡ bytes) × FirstBad AreScheduleLines text n
+IsFaultOf task known input (Log n) = ⊥
 IsFaultOf task known input Conf = HasSchedule input × (is_within_limits task.conf ≡ false)
 IsFaultOf task known input (Image e) =
     HasSchedule input × ((file : List ℕ) × IfSome known (λ bytes. file ≡ bytes) × (boot_fault file task.conf ≡ Some (Load e)))
 IsFaultOf task known input Memory = Unit {0}
 IsFaultOf task known input Output = ⊥
-
--- a finished run printed its text
-abbrev pub Printed : RunTask → Option (List ℕ) → Option (List ℕ) → Option (List ℕ) → Option (List ℕ) → ℕ → Type 0
-Printed task known input before after status =
-    (text : List ℕ) × IsRun task known input text status × Appends before after text
-
--- a task was finished with this exit status, and printed what belongs to it
-abbrev pub Finishes : Task → (Text → Option (List ℕ)) → Option (List ℕ) → Option (List ℕ) → Option (List ℕ) → ℕ → Type 0
-Finishes Demo files input before after status = status ≡ 0
-Finishes (Run task) files input before after status =
-    Printed task (files task.image.now) input before after status
-
--- a command line's task was finished, over files and a standard input with these bytes, and a standard output that had and has these
-abbrev pub Does : List Text → (Text → Option (List ℕ)) → Option (List ℕ) → Option (List ℕ) → Option (List ℕ) → ℕ → Type 0
-Does words files input before after status =
-    (task : Task) × IsTask (subcommand_of command_line words) task × Finishes task files input before after status
-
--- the exit status of a finished demo or of a run with no fault and no refused event
-abbrev pub IsDone : ℕ → Type 0
-IsDone status = (status ≡ 0) ⊎ (status ≡ 3)

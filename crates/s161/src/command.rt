@@ -3,7 +3,7 @@
 ghost use Rattle.std.specs.Prelude.{◌≡◌, ◌≢◌, [], IfErr, IfOk, codes, false, map, unwrap_or};
 ghost use Rattle.clap.specs.Words.{app_of, first_of, found_of, kind_of, one_of, rows_of, rule_of, subcommand_of, subcommand_rows_of};
 ghost use Rattle.clap.specs.declared.error.kind.ErrorKind.TheVariants.{OutOfMemory};
-ghost use Rattle.s161.specs.Commands.{IsAccepted, IsAsked, IsFlag, IsLocal, IsNumberOf, IsTask, command_line, image_rule, number_rule, run_line, show_log_rule};
+ghost use Rattle.s161.specs.Commands.{AsksFiles, AsksRun, IsAccepted, IsFlag, IsLocal, IsNumberOf, IsSize, IsTask, command_line, debug_line, file_rule, number_rule, replay_line, run_line, show_log_rule, sized};
 
 use clap::{Arg, ArgAction, ArgMatches, Command, Error, value_parser};
 use m161_machine::Conf;
@@ -17,6 +17,10 @@ pub enum Task<'a> {
     Demo,
     /// An image, under a schedule.
     Run(RunTask<'a>),
+    /// An image, against a log.
+    Replay(FilesTask<'a>),
+    /// An image, under a schedule and a debugger's commands.
+    Debug(FilesTask<'a>),
 }
 
 /// What `run` is asked for.
@@ -30,24 +34,72 @@ pub struct RunTask<'a> {
     pub show_log: bool,
 }
 
-/// What the help of the program and of `run` ends with.
+/// What a command over an image and a text is asked for.
+#[derive(Clone, Copy)]
+pub struct FilesTask<'a> {
+    /// The image's name.
+    pub image: &'a str,
+    /// The name of the text's file.
+    pub text: &'a str,
+    /// The machine's size.
+    pub conf: Conf,
+}
+
+/// What the help of the program ends with.
 const AFTER_HELP: &str = "\
-The schedule of run is read from standard input, an event a line:
+Exit status:
+  0  a finished demo or debug, a machine that switched itself off, or a log
+     that agrees
+  1  a fault, named on standard error, or a refused event of run
+  2  a rejected command line, or a call for help
+  3  the schedule ended
+  4  a log that differs";
+
+/// What the help of `run` ends with.
+const AFTER_RUN_HELP: &str = "\
+The schedule is read from standard input, an event a line:
   s P [N]  N Steps of processor P, 1 to 1000000; one where N is left out
   k HH     a byte is typed at the console, two hexadecimal digits
   o        the console has sent its byte
   # ...    a comment; an empty line is ignored too
 
 Exit status:
-  0  a finished demo, or a machine that switched itself off
+  0  the machine switched itself off
   1  a fault, named on standard error, or a refused event
-  2  a rejected command line, or a call for help
   3  the schedule ended
 
 Example:
   printf 's 0 1000\\nk 41\\ns 0 1000\\n' | s161 run kernel.elf --show-log";
 
-// An option of `run` with a number of 32 bits.
+/// What the help of `replay` ends with.
+const AFTER_REPLAY_HELP: &str = "\
+The log is what run --show-log prints from its line `m161 log 1` on, without the last line. The
+answer is `agrees`, or `differs K` where entry K, from 0, is the first that another run makes
+otherwise.
+
+Exit status:
+  0  the log agrees
+  1  a fault, named on standard error
+  4  the log differs";
+
+/// What the help of `debug` ends with.
+const AFTER_DEBUG_HELP: &str = "\
+The schedule is that of run, in a file. The commands are read from standard input, one a line:
+  b P ADDR  d P ADDR   sets or deletes a breakpoint of processor P
+  g  g N               makes the schedule's other events, or N of them, up to a breakpoint
+  s P  k HH  o         makes an event that isn't the schedule's
+  r P  c P  t P        shows registers, coprocessor 0, the TLB
+  m ADDR N  x ADDR N   shows N words of memory or of code, 1 to 1024
+An error of a command is printed as `? Name`, and the next one is done.
+
+Exit status:
+  0  the commands ended
+  1  a fault, named on standard error
+
+Example:
+  printf 'b 0 80000208\\ng\\nr 0\\n' | s161 debug kernel.elf schedule";
+
+// An option with a number of 32 bits.
 fn number_option<'a>(alloc: Global, name: &'a str, help: &'a str, default: &'a str) -> Arg<'a>
     ensures rule { rule_of result ≡ number_rule name.entry.now default.entry.now }
     ensures local { result.global ≡ false }
@@ -60,14 +112,14 @@ fn number_option<'a>(alloc: Global, name: &'a str, help: &'a str, default: &'a s
         .default_value(default)
 }
 
-// The image of `run`.
-fn image_argument<'a>(alloc: Global) -> Arg<'a>
-    ensures rule { rule_of result ≡ image_rule }
+// The name of a file.
+fn file_argument<'a>(alloc: Global, name: &'a str, shown: &'a str, help: &'a str) -> Arg<'a>
+    ensures rule { rule_of result ≡ file_rule name.entry.now }
     ensures local { result.global ≡ false }
 {
-    Arg::new(alloc, "image")
-        .value_name("IMAGE")
-        .help("An ELF file")
+    Arg::new(alloc, name)
+        .value_name(shown)
+        .help(help)
         .required(true)
 }
 
@@ -82,21 +134,56 @@ fn show_log_option<'a>(alloc: Global) -> Arg<'a>
         .action(ArgAction::SetTrue)
 }
 
+// A command with the options of a machine's size too.
+fn with_size<'a>(alloc: Global, command: Command<'a>) -> Result<Command<'a>, AllocError>
+    ensures shape { IsLocal command.entry
+        → IfOk result (λ more. app_of more ≡ sized (app_of command.entry)) }
+    ensures local { IsLocal command.entry → IfOk result IsLocal }
+{
+    let ram_help = "Bytes of RAM, 4096 to 16777216 in pages of 4096";
+    let log_help = "Room of the log, 1 to 16777216 events";
+    command
+        .arg(number_option(alloc, "ram", ram_help, "1048576"))?
+        .arg(number_option(alloc, "cpus", "Processors, 1 to 32", "1"))?
+        .arg(number_option(alloc, "log", log_help, "65536"))
+}
+
 // The definition of `run`.
 fn run_definition<'a>(alloc: Global) -> Result<Command<'a>, AllocError>
     ensures shape { IfOk result (λ command. app_of command ≡ run_line) }
     ensures local { IfOk result IsLocal }
 {
-    let ram_help = "Bytes of RAM, 4096 to 16777216 in pages of 4096";
-    let log_help = "Room of the log, 1 to 16777216 events";
-    Command::new(alloc, "run")
+    let run = Command::new(alloc, "run")
         .about("Runs an image under a schedule of events")
-        .after_help(AFTER_HELP)
-        .arg(image_argument(alloc))?
-        .arg(number_option(alloc, "ram", ram_help, "1048576"))?
-        .arg(number_option(alloc, "cpus", "Processors, 1 to 32", "1"))?
-        .arg(number_option(alloc, "log", log_help, "65536"))?
-        .arg(show_log_option(alloc))
+        .after_help(AFTER_RUN_HELP)
+        .arg(file_argument(alloc, "image", "IMAGE", "An ELF file"))?;
+    with_size(alloc, run)?.arg(show_log_option(alloc))
+}
+
+// The definition of `replay`.
+fn replay_definition<'a>(alloc: Global) -> Result<Command<'a>, AllocError>
+    ensures shape { IfOk result (λ command. app_of command ≡ replay_line) }
+    ensures local { IfOk result IsLocal }
+{
+    let replay = Command::new(alloc, "replay")
+        .about("Makes a log's events once more, and compares their outcomes")
+        .after_help(AFTER_REPLAY_HELP)
+        .arg(file_argument(alloc, "image", "IMAGE", "An ELF file"))?
+        .arg(file_argument(alloc, "entries", "LOG", "A log's file"))?;
+    with_size(alloc, replay)
+}
+
+// The definition of `debug`.
+fn debug_definition<'a>(alloc: Global) -> Result<Command<'a>, AllocError>
+    ensures shape { IfOk result (λ command. app_of command ≡ debug_line) }
+    ensures local { IfOk result IsLocal }
+{
+    let debug = Command::new(alloc, "debug")
+        .about("Does a debugger's commands on an image under a schedule")
+        .after_help(AFTER_DEBUG_HELP)
+        .arg(file_argument(alloc, "image", "IMAGE", "An ELF file"))?
+        .arg(file_argument(alloc, "schedule", "SCHEDULE", "A schedule's file"))?;
+    with_size(alloc, debug)
 }
 
 // The program's definition of its command line.
@@ -105,26 +192,30 @@ fn definition<'a>(alloc: Global) -> Result<Command<'a>, AllocError>
 {
     let demo = Command::new(alloc, "demo").about("Makes seven Steps of the built-in image");
     let run = run_definition(alloc)?;
+    let replay = replay_definition(alloc)?;
+    let debug = debug_definition(alloc)?;
     Command::new(alloc, "s161")
         .about("A proved emulator of System/161")
         .after_help(AFTER_HELP)
         .subcommand_required(true)
         .subcommand(demo)?
-        .subcommand(run)
+        .subcommand(run)?
+        .subcommand(replay)?
+        .subcommand(debug)
 }
 
-// The number of an option of `run`.
+// The number of an option.
 fn number_given<'a>(given: &ArgMatches<'a>, name: &str, default: u32) -> u32
     ensures { IsNumberOf default (one_of name.now (rows_of (found_of given.now))) result }
 {
     given.get_one::<u32>(name).unwrap_or(default)
 }
 
-// The image of `run`.
-fn image_given<'a>(given: &ArgMatches<'a>) -> &'a str
-    ensures { result.now ≡ unwrap_or (first_of (codes "image") (rows_of (found_of given.now))) [] }
+// A file's name.
+fn file_given<'a>(given: &ArgMatches<'a>, name: &str) -> &'a str
+    ensures { result.now ≡ unwrap_or (first_of name.now (rows_of (found_of given.now))) [] }
 {
-    match given.get_str("image") {
+    match given.get_str(name) {
         Some(name) => name,
         None => "",
     }
@@ -137,18 +228,36 @@ fn show_log_given<'a>(given: &ArgMatches<'a>) -> bool
     given.get_flag("show-log")
 }
 
+// The size of a machine.
+fn size_given<'a>(given: &ArgMatches<'a>) -> Conf
+    ensures { IsSize (rows_of (found_of given.now)) result }
+{
+    Conf {
+        ram: number_given(given, "ram", 1_048_576),
+        processors: number_given(given, "cpus", 1),
+        log: number_given(given, "log", 65_536),
+    }
+}
+
 // What the words of `run` ask for.
 fn run_task_of<'a>(given: &ArgMatches<'a>) -> RunTask<'a>
-    ensures { IsAsked (rows_of (found_of given.now)) result }
+    ensures { AsksRun (rows_of (found_of given.now)) result }
 {
     RunTask {
-        image: image_given(given),
-        conf: Conf {
-            ram: number_given(given, "ram", 1_048_576),
-            processors: number_given(given, "cpus", 1),
-            log: number_given(given, "log", 65_536),
-        },
+        image: file_given(given, "image"),
+        conf: size_given(given),
         show_log: show_log_given(given),
+    }
+}
+
+// What the words of a command over an image and a text ask for; `text` is the argument's name.
+fn files_task_of<'a>(given: &ArgMatches<'a>, text: &str) -> FilesTask<'a>
+    ensures { AsksFiles text.now (rows_of (found_of given.now)) result }
+{
+    FilesTask {
+        image: file_given(given, "image"),
+        text: file_given(given, text),
+        conf: size_given(given),
     }
 }
 
@@ -158,6 +267,8 @@ fn task_of<'a>(matches: &ArgMatches<'a>) -> Task<'a>
 {
     match matches.subcommand() {
         Some(("run", given)) => Task::Run(run_task_of(given)),
+        Some(("replay", given)) => Task::Replay(files_task_of(given, "entries")),
+        Some(("debug", given)) => Task::Debug(files_task_of(given, "schedule")),
         _ => Task::Demo,
     }
 }

@@ -2,9 +2,8 @@
 
 ghost use Rattle.std.specs.Prelude.{◌≡◌, IfErr};
 
-use crate::Machine;
-use crate::display::show_regs;
 use crate::fault::Fault;
+use crate::{Machine, Session};
 use m161_machine::Conf;
 use std::alloc::Global;
 
@@ -45,5 +44,6 @@ pub fn demo<'a>(alloc: Global) -> Result<String, Fault<'a>>
 {
     let mut machine = Machine::boot(alloc, &IMAGE, CONF)?;
     machine.steps(0, STEPS);
-    Ok(show_regs(alloc, &machine, 0)?)
+    let session = Session::new(alloc, machine);
+    Ok(session.show_regs(0)?)
 }

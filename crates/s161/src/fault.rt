@@ -1,7 +1,7 @@
 //! Why a command ends early.
 
 ghost use Rattle.std.specs.Prelude.{◌≡◌};
-ghost use Rattle.s161.specs.Faults.{fault_of_boot, fault_of_schedule};
+ghost use Rattle.s161.specs.Faults.{fault_of_boot, fault_of_log, fault_of_schedule};
 ghost use Rattle.s161.specs.declared.fault.Fault.TheVariants.{Memory};
 
 use m161_elf::LoadError;
@@ -16,6 +16,8 @@ pub enum Fault<'a> {
     File(&'a str),
     #[error("s161: schedule line {0}")]
     Schedule(u64),
+    #[error("s161: log line {0}")]
+    Log(u64),
     #[error("s161: conf")]
     Conf,
     #[error("s161: image {} {}", .0.number(), .0.name())]
@@ -48,13 +50,22 @@ impl<'a> From<BootError> for Fault<'a> {
     }
 }
 
-impl<'a> From<m161_steplog::Fault> for Fault<'a> {
-    ghost from_gives = { λ error fault. fault ≡ fault_of_schedule error };
+/// Why a schedule isn't read.
+pub fn fault_of_schedule<'a>(error: m161_steplog::Fault) -> Fault<'a>
+    ensures { result ≡ fault_of_schedule error }
+{
+    match error {
+        m161_steplog::Fault::Line(line) => Fault::Schedule(line),
+        m161_steplog::Fault::NoMemory => Fault::Memory,
+    }
+}
 
-    fn from(error: m161_steplog::Fault) -> Fault<'a> {
-        match error {
-            m161_steplog::Fault::Line(line) => Fault::Schedule(line),
-            m161_steplog::Fault::NoMemory => Fault::Memory,
-        }
+/// Why a log isn't read.
+pub fn fault_of_log<'a>(error: m161_steplog::Fault) -> Fault<'a>
+    ensures { result ≡ fault_of_log error }
+{
+    match error {
+        m161_steplog::Fault::Line(line) => Fault::Log(line),
+        m161_steplog::Fault::NoMemory => Fault::Memory,
     }
 }

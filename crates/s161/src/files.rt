@@ -15,8 +15,9 @@ pub trait FileSource {
 
     /// The bytes of the file of this name.
     fn read(&mut self, alloc: Global, name: &str) -> io::Result<Vec<u8>>
-        ensures { IfOk result (λ bytes. IfSome (known self.old name.now) (λ file.
-            bytes.items ≡ file)) };
+        ensures whole { IfOk result (λ bytes. IfSome (known self.old name.now) (λ file.
+            bytes.items ≡ file)) }
+        ensures still { (other : List ℕ) → known self.new other ≡ known self.old other };
 }
 
 /// The files of the host.

@@ -1,6 +1,6 @@
 //! Files and standard input, read whole.
 
-ghost use Rattle.std.specs.Prelude.{◌≡◌, ◌≢◌, ◌⊎◌, ◌≤◌, IfErr, IfOk, IfSome, length, string_bytes};
+ghost use Rattle.std.specs.Prelude.{◌≡◌, ◌≢◌, ◌⊎◌, ◌≤◌, ℕ, List, IfErr, IfOk, IfSome, length, string_bytes};
 ghost use Rattle.std.specs.IoError.{error_kind};
 
 use crate::fault::Fault;
@@ -52,12 +52,30 @@ pub fn read_file<'a, F: FileSource>(
 ) -> Result<Vec<u8>, Fault<'a>>
     ensures whole { IfOk result (λ bytes. IfSome (F.known files.old name.entry.now) (λ known.
         bytes.items ≡ known)) }
+    ensures still { (other : List ℕ) → F.known files.new other ≡ F.known files.old other }
     ensures err { IfErr result (λ fault. (fault ≡ Fault.File name.entry) ⊎ (fault ≡ Fault.Memory)) }
 {
     match files.read(alloc, name) {
         Ok(bytes) => Ok(bytes),
         Err(error) => Err(fault_of_reading(&error, Fault::File(name))),
     }
+}
+
+/// The text of a file.
+///
+/// # Errors
+/// The file isn't read, or isn't UTF-8; memory was refused.
+pub fn read_text<'a, F: FileSource>(
+    alloc: Global,
+    files: &mut F,
+    name: &'a str,
+) -> Result<String, Fault<'a>>
+    ensures whole { IfOk result (λ text. IfSome (F.known files.old name.entry.now) (λ known.
+        string_bytes text ≡ known)) }
+    ensures err { IfErr result (λ fault. (fault ≡ Fault.File name.entry) ⊎ (fault ≡ Fault.Memory)) }
+{
+    let bytes = read_file(alloc, files, name)?;
+    String::from_utf8(bytes).map_err(|_| Fault::File(name))
 }
 
 /// The text of standard input.

@@ -1,13 +1,21 @@
 //! The program: a machine from the command line.
 //!
 //! ```text
-//! s161 demo        boots the built-in image, makes seven Steps and prints processor 0's registers
-//! s161 run IMAGE   boots an ELF file, makes the events of the schedule on standard input, and
-//!                  prints the console's output, the started processors and why it stopped
+//! s161 demo               boots the built-in image, makes seven Steps and prints processor 0's
+//!                         registers
+//! s161 run IMAGE          boots an ELF file, makes the events of the schedule on standard input,
+//!                         and prints the console's output, the started processors and why it
+//!                         stopped
+//! s161 replay IMAGE LOG   boots an ELF file, makes the events of a log, and prints whether their
+//!                         outcomes are the log's
+//! s161 debug IMAGE SCHEDULE
+//!                         boots an ELF file, and does a debugger's commands on standard input over
+//!                         the schedule's events
 //!
-//! exit             0 a finished demo, or a machine that switched itself off; 1 a fault, named in
-//!                  one line on standard error, or a refused event; 2 a rejected command line,
-//!                  and a call for help; 3 the schedule ended
+//! exit                    0 a finished demo or debug, a machine that switched itself off, or a log
+//!                         that agrees; 1 a fault, named in one line on standard error, or a
+//!                         refused event of run; 2 a rejected command line, and a call for help;
+//!                         3 the schedule ended; 4 a log that differs
 //! ```
 //!
 //! `main` only collects the arguments and names the streams; the work is in `work`, over any
@@ -18,17 +26,18 @@ ghost use Rattle.std.specs.Prelude.{◌≡◌, ◌≢◌, ◌⊎◌, IfErr};
 ghost use Rattle.std.specs.IoError.{error_kind};
 
 mod command;
+mod debug;
 mod demo;
-mod digits;
-mod display;
 mod events;
 mod fault;
 mod files;
 mod input;
+mod replay;
 mod run;
 mod summary;
 #[cfg(test)]
 mod tests;
+mod texts;
 mod work;
 
 use crate::fault::Fault;
@@ -42,6 +51,9 @@ use std::{env, io};
 
 /// The machine that the program runs.
 pub(crate) type Machine = m161_machine::Machine<Scan, PlainConsole>;
+
+/// The session that shows it.
+pub(crate) type Session = m161_debug::Session<Scan, PlainConsole>;
 
 fn main(rt: HostRuntime) -> ExitCode {
     ExitCode::from(start(

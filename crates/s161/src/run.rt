@@ -3,14 +3,14 @@
 ghost use Rattle.std.specs.Prelude.{◌≡◌, IfErr, IfOk};
 ghost use Rattle.s161.specs.Runs.{IsFaultOf, IsRun, status_of};
 
-use crate::Machine;
 use crate::command::RunTask;
 use crate::events::{Stop, make_events};
 use crate::fault::Fault;
 use crate::files::FileSource;
 use crate::input::{read_file, read_input};
 use crate::summary::summary;
-use m161_steplog::read_schedule;
+use crate::texts::events_of;
+use crate::{Machine, Session};
 use std::alloc::Global;
 use std::io::Read;
 
@@ -39,11 +39,12 @@ pub fn run<'a, F: FileSource, I: Read>(
 {
     let file = read_file(alloc, files, task.image)?;
     let schedule = read_input(alloc, input)?;
-    let events = read_schedule(alloc, schedule.as_str())?;
+    let events = events_of(alloc, schedule.as_str())?;
     let mut machine = Machine::boot(alloc, &file, task.conf)?;
     let stop = make_events(&mut machine, &events);
+    let session = Session::new(alloc, machine);
     Ok(Finished {
-        text: summary(alloc, &machine, stop, task.show_log)?,
+        text: summary(alloc, &session, stop, task.show_log)?,
         status: status(stop),
     })
 }

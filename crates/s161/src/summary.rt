@@ -4,9 +4,8 @@ ghost use Rattle.std.specs.Prelude.{◌≡◌, ◌++◌, ◌<◌, length, IfOk, 
 ghost use Rattle.m161_steplog.specs.Log.{log_text};
 ghost use Rattle.s161.specs.Runs.{output_text, started_text, summary_text};
 
-use crate::Machine;
-use crate::display::show_regs;
 use crate::events::Stop;
+use crate::{Machine, Session};
 use m161_machine::ProcessorState;
 use m161_steplog::write_log;
 use std::alloc::{AllocError, Global};
@@ -15,16 +14,17 @@ use std::alloc::{AllocError, Global};
 /// ended.
 pub fn summary(
     alloc: Global,
-    machine: &Machine,
+    session: &Session,
     stop: Stop,
     show_log: bool,
 ) -> Result<Vec<u8>, AllocError>
-    ensures { IfOk result (λ text. text.items ≡ summary_text machine.now stop show_log) }
+    ensures { IfOk result (λ text. text.items ≡ summary_text session.now.machine stop show_log) }
 {
+    let machine = session.machine();
     let mut text = Vec::new(alloc);
     push_output(&mut text, machine.output())?;
     for p in 0..machine.processors() {
-        push_processor(alloc, &mut text, machine, p)?;
+        push_processor(&mut text, session, p)?;
     }
     if show_log {
         push_log(alloc, &mut text, machine)?;
@@ -48,20 +48,15 @@ fn push_output(text: &mut Vec<u8>, output: &[u8]) -> Result<(), AllocError>
 }
 
 // A processor, if it was started.
-fn push_processor(
-    alloc: Global,
-    text: &mut Vec<u8>,
-    machine: &Machine,
-    p: u32,
-) -> Result<(), AllocError>
-    requires { p < length machine.now.state.processors }
+fn push_processor(text: &mut Vec<u8>, session: &Session, p: u32) -> Result<(), AllocError>
+    requires { p < length session.now.machine.state.processors }
     ensures { OnOk result (text.new.items
-        ≡ text.old.items ++ started_text machine.now.state.processors p) }
+        ≡ text.old.items ++ started_text session.now.machine.state p) }
 {
-    match machine.state(p) {
+    match session.machine().state(p) {
         ProcessorState::Stopped => Ok(()),
         ProcessorState::Running | ProcessorState::Waiting => {
-            let shown = show_regs(alloc, machine, p)?;
+            let shown = session.show_regs(p)?;
             text.extend_from_slice(shown.as_bytes())
         }
     }

@@ -2,7 +2,8 @@
 //! for the crate that it tests; `instructions` and `programs` run words on a machine. A worked row
 //! goes into `programs`, or with other events into `traps`, `cop0`, `tlb`, `fetches`, `bus` or
 //! `processors`, in the form that `listing` says. `sample` runs a whole small kernel of two
-//! processors. `program` and `run` try the program's commands over the streams of `streams`.
+//! processors. `program`, `run` and `over_files` try the program's commands over the streams of
+//! `streams`.
 
 mod alu;
 mod bus;
@@ -16,6 +17,7 @@ mod instructions;
 mod isa;
 mod listing;
 mod machine;
+mod over_files;
 mod processors;
 mod program;
 mod programs;

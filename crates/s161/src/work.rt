@@ -1,16 +1,21 @@
 //! The work of a command line.
 
-ghost use Rattle.std.specs.Prelude.{◌≡◌, ◌≢◌, ◌≤◌, true, false, IfErr, IfOk, OnOk, map, string_bytes};
+ghost use Rattle.std.specs.Prelude.{◌≡◌, ◌≢◌, ◌⊎◌, ◌≤◌, true, false, IfErr, IfOk, OnOk, map, string_bytes};
 ghost use Rattle.std.specs.Io.KnownBytes.{Appends};
 ghost use Rattle.clap.specs.Words.{kind_of};
 ghost use Rattle.s161.specs.Commands.{IsAccepted};
-ghost use Rattle.s161.specs.Runs.{Does, IsDone, Printed};
+ghost use Rattle.s161.specs.Debugs.{IsDebug};
+ghost use Rattle.s161.specs.Replays.{IsReplay};
+ghost use Rattle.s161.specs.Runs.{IsRun};
+ghost use Rattle.s161.specs.Works.{Does, IsDone, Prints};
 
-use crate::command::{RunTask, Task, parse};
+use crate::command::{FilesTask, RunTask, Task, parse};
+use crate::debug::debug;
 use crate::demo::demo;
 use crate::fault::Fault;
 use crate::files::FileSource;
-use crate::run::run;
+use crate::replay::replay;
+use crate::run::{Finished, run};
 use clap::Error;
 use clap::error::ErrorKind;
 use std::alloc::Global;
@@ -41,7 +46,7 @@ where
         (F.known files.old) (I.remaining input.old) (O.contents output.old)
         (O.contents output.new) result) }
     ensures unread { IfErr words.entry (λ _. result ≡ 1) }
-    ensures within { result ≤ 3 }
+    ensures within { result ≤ 4 }
 {
     match words {
         Ok(words) => work(rt, words.as_slice(), files, input, output, errors),
@@ -49,9 +54,10 @@ where
     }
 }
 
-/// Does what a command line says. The result is the exit status: 0 a finished demo, or a machine
-/// that switched itself off; 1 a fault, or a refused event; 2 a rejected command line; 3 a schedule
-/// that ended. An output is made whole before it is written.
+/// Does what a command line says. The result is the exit status: 0 a finished demo or debug, a
+/// machine that switched itself off, or a log that agrees; 1 a fault, or a refused event of a run;
+/// 2 a rejected command line; 3 a schedule that ended; 4 a log that differs. An output is made
+/// whole before it is written.
 pub fn work<A, S, F, I, O, E>(
     rt: &A,
     words: &[S],
@@ -71,12 +77,14 @@ where
     ensures rejected { result ≡ 2 → ¬ IsAccepted (map S.text words.now) }
     ensures finished { IsDone result → Does (map S.text words.now) (F.known files.old)
         (I.remaining input.old) (O.contents output.old) (O.contents output.new) result }
-    ensures within { result ≤ 3 }
+    ensures within { result ≤ 4 }
 {
     let alloc = rt.alloc();
     let done = match parse(alloc, words) {
         Ok(Task::Demo) => do_demo(alloc, output),
         Ok(Task::Run(task)) => do_run(alloc, task, files, input, output),
+        Ok(Task::Replay(task)) => do_replay(alloc, task, files, output),
+        Ok(Task::Debug(task)) => do_debug(alloc, task, files, input, output),
         Err(error) => return reject(alloc, &error, output, errors),
     };
     match done {
@@ -102,11 +110,51 @@ fn do_run<'a, F: FileSource, I: Read, O: Write>(
     input: &mut I,
     output: &mut O,
 ) -> Result<u8, Fault<'a>>
-    ensures printed { IfOk result (Printed task.entry (F.known files.old task.entry.image.now)
-        (I.remaining input.old) (O.contents output.old) (O.contents output.new)) }
+    ensures printed { IfOk result (λ status. Prints (λ text. IsRun task.entry
+        (F.known files.old task.entry.image.now) (I.remaining input.old) text status)
+        (O.contents output.old) (O.contents output.new)) }
     ensures within { IfOk result (λ status. (status ≤ 3) × (status ≢ 2)) }
 {
-    let finished = run(alloc, files, input, task)?;
+    print(output, run(alloc, files, input, task)?)
+}
+
+// Replays a log, and prints the verdict. The result is the exit status.
+fn do_replay<'a, F: FileSource, O: Write>(
+    alloc: Global,
+    task: FilesTask<'a>,
+    files: &mut F,
+    output: &mut O,
+) -> Result<u8, Fault<'a>>
+    ensures printed { IfOk result (λ status. Prints (λ text. IsReplay task.entry
+        (F.known files.old task.entry.image.now) (F.known files.old task.entry.text.now) text
+        status) (O.contents output.old) (O.contents output.new)) }
+    ensures within { IfOk result (λ status. (status ≡ 0) ⊎ (status ≡ 4)) }
+{
+    print(output, replay(alloc, files, task)?)
+}
+
+// Does a debugger's commands, and prints what they show. The result is the exit status.
+fn do_debug<'a, F: FileSource, I: Read, O: Write>(
+    alloc: Global,
+    task: FilesTask<'a>,
+    files: &mut F,
+    input: &mut I,
+    output: &mut O,
+) -> Result<u8, Fault<'a>>
+    ensures printed { IfOk result (λ _. Prints (λ text. IsDebug task.entry
+        (F.known files.old task.entry.image.now) (F.known files.old task.entry.text.now)
+        (I.remaining input.old) text) (O.contents output.old) (O.contents output.new)) }
+    ensures status { IfOk result (λ status. status ≡ 0) }
+{
+    print(output, debug(alloc, files, input, task)?)
+}
+
+// Prints what a finished command prints. The result is its exit status.
+fn print<'a, O: Write>(output: &mut O, finished: Finished) -> Result<u8, Fault<'a>>
+    ensures status { IfOk result (λ status. status ≡ finished.status) }
+    ensures printed { OnOk result (Appends (O.contents output.old) (O.contents output.new)
+        finished.text.items) }
+{
     put(output, finished.text.as_slice())?;
     Ok(finished.status)
 }

@@ -27,27 +27,22 @@ const HELP: &str = "A proved emulator of System/161
 Usage: s161 <COMMAND>
 
 Commands:
-  demo  Makes seven Steps of the built-in image
-  run   Runs an image under a schedule of events
-  help  Print this message or the help of the given subcommand(s)
+  demo    Makes seven Steps of the built-in image
+  run     Runs an image under a schedule of events
+  replay  Makes a log's events once more, and compares their outcomes
+  debug   Does a debugger's commands on an image under a schedule
+  help    Print this message or the help of the given subcommand(s)
 
 Options:
   -h, --help  Print help
 
-The schedule of run is read from standard input, an event a line:
-  s P [N]  N Steps of processor P, 1 to 1000000; one where N is left out
-  k HH     a byte is typed at the console, two hexadecimal digits
-  o        the console has sent its byte
-  # ...    a comment; an empty line is ignored too
-
 Exit status:
-  0  a finished demo, or a machine that switched itself off
-  1  a fault, named on standard error, or a refused event
+  0  a finished demo or debug, a machine that switched itself off, or a log
+     that agrees
+  1  a fault, named on standard error, or a refused event of run
   2  a rejected command line, or a call for help
   3  the schedule ended
-
-Example:
-  printf 's 0 1000\\nk 41\\ns 0 1000\\n' | s161 run kernel.elf --show-log
+  4  a log that differs
 ";
 
 /// What clap writes on standard error for the word `foo`.
@@ -171,6 +166,7 @@ fn fault_texts(rt: HostRuntime) -> Result<(), Fail> {
     for (fault, text) in [
         (Fault::File("a.elf"), "s161: file a.elf"),
         (Fault::Schedule(12), "s161: schedule line 12"),
+        (Fault::Log(3), "s161: log line 3"),
         (Fault::Conf, "s161: conf"),
         (
             Fault::Image(LoadError::Truncated),

@@ -25,7 +25,7 @@ hi 00000000 lo 00000000
 ";
 
 /// Its registers from 12 on, where all are zero.
-const REST: &str = "r12 00000000 r13 00000000 r14 00000000 r15 00000000
+pub(crate) const REST: &str = "r12 00000000 r13 00000000 r14 00000000 r15 00000000
 r16 00000000 r17 00000000 r18 00000000 r19 00000000
 r20 00000000 r21 00000000 r22 00000000 r23 00000000
 r24 00000000 r25 00000000 r26 00000000 r27 00000000
@@ -33,12 +33,12 @@ r28 00000000 r29 00000000 r30 00000000 r31 00000000
 hi 00000000 lo 00000000
 ";
 
-const ZEROS: &str = "r0 00000000 r1 00000000 r2 00000000 r3 00000000
+pub(crate) const ZEROS: &str = "r0 00000000 r1 00000000 r2 00000000 r3 00000000
 r4 00000000 r5 00000000 r6 00000000 r7 00000000
 ";
 
 /// `lui $8, 0xbfff`, and a store that switches the machine off.
-const POWER_OFF: [u32; 2] = [0x3c08_bfff, 0xad00_7e08];
+pub(crate) const POWER_OFF: [u32; 2] = [0x3c08_bfff, 0xad00_7e08];
 
 /// After it.
 const POWERED_OFF: [&str; 4] = [
@@ -62,7 +62,7 @@ const SEND_H: [u32; 3] = [0x3c08_bfe0, 0x3409_0048, 0xad09_0000];
 const SEND_LINE_END: [u32; 3] = [0x3c08_bfe0, 0x3409_000a, 0xad09_0000];
 
 /// Processor 1 is started at 80000220, where `ori $12, $0, 7` stands.
-const START_OTHER: [u32; 9] = [
+pub(crate) const START_OTHER: [u32; 9] = [
     0x3c08_bfff,
     0x3c09_8000,
     0x3529_0220,
@@ -111,7 +111,7 @@ struct Case {
 }
 
 /// One text of several.
-fn joined(rt: &impl AllocGlobal, parts: &[&[&str]]) -> Result<String, Fail> {
+pub(crate) fn joined(rt: &impl AllocGlobal, parts: &[&[&str]]) -> Result<String, Fail> {
     let mut text = String::new(rt.alloc());
     for part in parts {
         for piece in *part {
@@ -122,7 +122,7 @@ fn joined(rt: &impl AllocGlobal, parts: &[&[&str]]) -> Result<String, Fail> {
 }
 
 /// Runs a program over these streams, against the texts that it should write.
-fn left<F: FileSource, I: Read>(
+pub(crate) fn left<F: FileSource, I: Read>(
     rt: &impl AllocGlobal,
     words: &[&str],
     files: &mut F,

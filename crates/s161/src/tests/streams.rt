@@ -81,6 +81,24 @@ impl FileSource for OneFile<'_> {
     }
 }
 
+/// A source with the files `image` and `text`.
+#[derive(Drop)]
+pub(crate) struct TwoFiles<'a> {
+    pub(crate) image: &'a [u8],
+    pub(crate) text: &'a [u8],
+}
+
+impl FileSource for TwoFiles<'_> {
+    fn read(&mut self, alloc: Global, name: &str) -> io::Result<Vec<u8>> {
+        let bytes = match name {
+            "image" => self.image,
+            "text" => self.text,
+            _ => return Err(io::Error::from(ErrorKind::NotFound)),
+        };
+        Ok(Vec::from_slice(alloc, bytes)?)
+    }
+}
+
 /// A source of files, and a reader, that fails at each call.
 #[derive(Drop)]
 pub(crate) struct Failing(pub(crate) ErrorKind);

@@ -1,5 +1,5 @@
 use Rattle.std.proofs.Common.{rules}
-use Rattle.s161.proofs.Accepting.{accepted, rejected}
+use Rattle.s161.proofs.Accepting.{accepted, rejected, tasked}
 use Rattle.s161.proofs.command.parse.Goals as goal
 
 pub returns-in_err-matches-clause-rejected : goal.returns-in_err-matches-clause-rejected
@@ -9,3 +9,6 @@ returns-in_err-matches-clause-rejected g c =
 
 pub returns-clause-accepted : goal.returns-clause-accepted
 returns-clause-accepted g c = accepted _ _ c.in_ok-command.ensures c.in_ok-matches.ensures.kinds
+
+pub returns-clause-task : goal.returns-clause-task
+returns-clause-task g c = tasked _ _ c.in_ok-matches.matches c.task_of.result c.in_ok-command.ensures c.in_ok-matches.ensures.matches c.task_of.ensures

@@ -1,11 +1,12 @@
-use Rattle.std.proofs.Common.{◌≡◌, List, ℕ, IfSome, subst, sym}
+use Rattle.std.proofs.Common.{◌≡◌, ◌∙◌, List, ℕ, IfSome, ap, rules, subst, sym}
 use Rattle.std.proofs.lemmas.Result.{err_from_is_err_and}
 use Rattle.m161_machine.specs.declared.event.Event.{Event}
 use Rattle.m161_machine.specs.History.{boot_fault}
 use Rattle.m161_steplog.specs.Lines.{lines_of}
 use Rattle.m161_steplog.specs.Schedule.{IsSchedule}
-use Rattle.s161.specs.Runs.{HasSchedule}
-use Rattle.s161.proofs.Failing.{boot_failed}
+use Rattle.m161_debug.specs.Breakpoints.{Debugged}
+use Rattle.s161.specs.Runs.{HasSchedule, summary_text}
+use Rattle.s161.proofs.Failing.{boot_failed, schedule_failed}
 use Rattle.s161.proofs.Making.{booted_ok}
 use Rattle.s161.proofs.run.run.Goals as goal
 
@@ -28,9 +29,18 @@ returns-clause-ok g c =
       machine = c.make_events-stop.new.machine;
       stop = c.make_events-stop.result;
       makes = c.make_events-stop.ensures;
-      text_is = c.in_ok-summary.ensures;
+      text_is = c.in_ok-summary.ensures ∙ ap (λ (s : Debugged). summary_text s.machine c.make_events-stop.result c.args.task.show_log) c.new-session.ensures;
       status_is = c.status.ensures;
     }
+
+pub returns-in_err-events-clause-fault : goal.returns-in_err-events-clause-fault
+returns-in_err-events-clause-fault g c =
+    let known = g.F.FileSource.known c.args.files.now c.args.task.image.now in
+    let input = g.I.Read.remaining c.args.input.now in
+    let P : List ℕ → Type 0 = λ schedule. IfSome input (λ bytes. schedule ≡ bytes) in
+    let failed = schedule_failed c.args.task known input c.as_str.result.now c.in_err-events.field-0.0
+    (subst P (sym c.as_str.ensures.value) c.in_ok-schedule.ensures.whole) c.in_err-events.ensures.fault in
+    search (rules, failed)
 
 -- standard input has a schedule, and the boot's answer says the rest
 pub returns-in_err-machine-clause-fault : goal.returns-in_err-machine-clause-fault

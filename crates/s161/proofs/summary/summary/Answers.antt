@@ -5,8 +5,8 @@ use Rattle.s161.proofs.summary.summary.Goals as goal
 
 pub loop-p-preserved : goal.loop-p-preserved
 loop-p-preserved c =
-    let processors = c.args.machine.now.state.processors in
-    let output = output_text c.args.machine.now.state.board.console.output in
-    c.in_ok-push_processor.ensures ∙ ap (λ text. text ++ started_text processors c.loop-p.p) c.loop-p.invariant
-    ∙ append_assoc output (started_texts processors c.loop-p.p) (started_text processors c.loop-p.p)
-    ∙ ap (λ text. output ++ text) (sym (started_more processors c.loop-p.p))
+    let s = c.args.session.now.machine.state in
+    let output = output_text s.board.console.output in
+    c.in_ok-push_processor.ensures ∙ ap (λ text. text ++ started_text s c.loop-p.p) c.loop-p.invariant
+    ∙ append_assoc output (started_texts s c.loop-p.p) (started_text s c.loop-p.p)
+    ∙ ap (λ text. output ++ text) (sym (started_more s c.loop-p.p))

@@ -4,4 +4,4 @@ use Rattle.s161.proofs.summary.summary.Given as goal
 
 abbrev pub invariant-loop-p : goal.invariant-loop-p
 invariant-loop-p l =
-    l.text.items ≡ output_text l.machine.state.board.console.output ++ started_texts l.machine.state.processors l.p
+    l.text.items ≡ output_text l.session.machine.state.board.console.output ++ started_texts l.session.machine.state l.p

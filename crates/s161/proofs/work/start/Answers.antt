@@ -2,7 +2,7 @@ use Rattle.std.proofs.Common.{List, map, string_bytes, subst}
 use Rattle.std.specs.Prelude.{String}
 use Rattle.std.specs.Global.{Global}
 use Rattle.s161.specs.Commands.{IsAccepted}
-use Rattle.s161.specs.Runs.{Does}
+use Rattle.s161.specs.Works.{Does}
 use Rattle.s161.proofs.work.start.Goals as goal
 
 pub returns-in-Ok-clause-accepted : goal.returns-in-Ok-clause-accepted

@@ -1,0 +1,37 @@
+use Rattle.std.proofs.Common.{◌≡◌, List, ℕ, [], Option, IfSome, rules, subst, sym}
+use Rattle.m161_machine.specs.declared.event.Event.{Event}
+use Rattle.m161_machine.specs.History.{boot_fault}
+use Rattle.m161_steplog.specs.Lines.{lines_of}
+use Rattle.m161_steplog.specs.Schedule.{IsSchedule}
+use Rattle.m161_debug.specs.Breakpoints.{Debugged}
+use Rattle.s161.specs.Debugs.{DoesLines}
+use Rattle.s161.proofs.Making.{booted_ok}
+use Rattle.s161.proofs.debug.debug.Goals as goal
+
+pub returns-clause-printed : goal.returns-clause-printed
+returns-clause-printed g c =
+    let known = g.F.FileSource.known c.args.files.now in
+    let image = known c.args.task.image.now in
+    let text = known c.args.task.text.now in
+    let input = g.I.Read.remaining c.args.input.now in
+    let P : List ℕ → Type 0 = λ file. IfSome image (λ bytes. file ≡ bytes) in
+    let Q : Option (List ℕ) → Type 0 = λ schedule. IfSome schedule (λ bytes. c.as_str.result.now ≡ bytes) in
+    let R : List ℕ → Type 0 = λ schedule. IfSome (g.F.FileSource.known c.read_file.new.files c.args.task.text.now) (λ bytes. schedule ≡ bytes) in
+    let S : List Event → Type 0 = λ events. IsSchedule (lines_of c.as_str.result.now) events in
+    let T : List ℕ → Type 0 = λ commands. IfSome input (λ bytes. commands ≡ bytes) in
+    let printed = c.in_ok-from_slice.field-0.items in
+    let U : List ℕ → Type 0 = λ text. DoesLines (lines_of c.as_str-2.result.now) c.new-session.result c.deref-2.result.now [] text in
+    let V : Debugged → Type 0 = λ s. DoesLines (lines_of c.as_str-2.result.now) s c.deref-2.result.now [] printed in
+    record {
+      file = c.deref.result.now;
+      is_file = subst P (sym c.deref.ensures.value) c.in_ok-file.ensures.whole;
+      booted = c.in_ok-machine.machine;
+      is_booted = booted_ok c.deref.result.now c.args.task.conf (boot_fault c.deref.result.now c.args.task.conf) c.in_ok-machine.machine c.in_ok-machine.ensures.answer;
+      events_text = c.as_str.result.now;
+      is_text = subst Q (c.in_ok-file.ensures.still c.args.task.text.now) (subst R (sym c.as_str.ensures.value) c.in_ok-schedule.ensures.whole);
+      events = c.deref-2.result.now;
+      is_schedule = subst S (sym c.deref-2.ensures.value) c.in_ok-events.ensures.found;
+      commands = c.as_str-2.result.now;
+      is_input = subst T (sym c.as_str-2.ensures.value) c.in_ok-commands.ensures.whole;
+      does = subst V c.new-session.ensures (subst U (search rules) c.in_ok-text.ensures);
+    }

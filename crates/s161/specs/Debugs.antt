@@ -1,0 +1,57 @@
+use Rattle.std.specs.Prelude.{◌≡◌, ℕ, List, [], ◌∷◌, ◌++◌, Option, Result, Ok, Err, IfSome, codes, drop}
+use Rattle.m161_machine.specs.declared.event.Event.{Event}
+use Rattle.m161_machine.specs.History.{History, IsBooted}
+use Rattle.m161_steplog.specs.Lines.{lines_of}
+use Rattle.m161_steplog.specs.Parts.{◌␣◌}
+use Rattle.m161_steplog.specs.Schedule.{IsSchedule}
+use Rattle.m161_debug.specs.declared.command.CommandError.{CommandError}
+use Rattle.m161_debug.specs.Breakpoints.{Debugged}
+use Rattle.m161_debug.specs.Commands.{name_of_error}
+use Rattle.m161_debug.specs.Obeys.{Commands}
+use Rattle.m161_debug.specs.Shows.{ended}
+use Rattle.s161.specs.declared.command.FilesTask.{FilesTask}
+
+-- What `debug` prints.
+
+-- what is printed after a command's own text: the line of its error
+abbrev pub error_text : Result ℕ CommandError → List ℕ
+error_text (Ok used) = []
+error_text (Err e) = ended (codes "?" ␣ name_of_error e)
+
+-- the events that a command leaves
+abbrev pub left_by : Result ℕ CommandError → List Event → List Event
+left_by (Ok used) events = drop used events
+left_by (Err e) events = events
+
+-- the command of a line is done, over the events that are left; this is left then, and the text before grows to this one
+pub record DoesLine (line : List ℕ) (s : Debugged) (events : List Event) (t : Debugged) (left : List Event) (before : List ℕ) (after : List ℕ) : Type 0 where
+  pub answer : Result ℕ CommandError
+  pub shown : List ℕ
+  pub commands : Commands line s events answer t before shown
+  pub left_is : left ≡ left_by answer events
+  pub after_is : after ≡ shown ++ error_text answer
+
+-- the commands of these lines are done, one after the other, and the text before grows to this one
+abbrev pub DoesLines : List (List ℕ) → Debugged → List Event → List ℕ → List ℕ → Type 0
+DoesLines [] s events before after = after ≡ before
+DoesLines (line ∷ lines) s events before after =
+    (t : Debugged) × (left : List Event) × (text : List ℕ)
+    × DoesLine line s events t left before text × DoesLines lines t left text after
+
+-- a session of a machine, without breakpoints
+abbrev pub session_of : History → Debugged
+session_of m = record { machine = m; breakpoints = [] }
+
+-- a debugged run that was finished: what it prints, where the files of the image and the schedule and standard input have these bytes, as far as they are known
+pub record IsDebug (task : FilesTask) (image : Option (List ℕ)) (schedule : Option (List ℕ)) (input : Option (List ℕ)) (text : List ℕ) : Type 0 where
+  pub file : List ℕ
+  pub is_file : IfSome image (λ bytes. file ≡ bytes)
+  pub booted : History
+  pub is_booted : IsBooted file task.conf booted
+  pub events_text : List ℕ
+  pub is_text : IfSome schedule (λ bytes. events_text ≡ bytes)
+  pub events : List Event
+  pub is_schedule : IsSchedule (lines_of events_text) events
+  pub commands : List ℕ
+  pub is_input : IfSome input (λ bytes. commands ≡ bytes)
+  pub does : DoesLines (lines_of commands) (session_of booted) events [] text

@@ -1,0 +1,60 @@
+//! A log, made once more.
+
+ghost use Rattle.std.specs.Prelude.{◌≡◌, IfOk, string_bytes};
+ghost use Rattle.m161_debug.specs.Shows.{ended};
+ghost use Rattle.s161.specs.Replays.{IsReplay, status_of_verdict, verdict_text};
+
+use crate::command::FilesTask;
+use crate::fault::Fault;
+use crate::files::FileSource;
+use crate::input::{read_file, read_text};
+use crate::run::Finished;
+use crate::texts::entries_of;
+use m161_console::PlainConsole;
+use m161_steplog::{Verdict, verify};
+use m161_tlb_scan::Scan;
+use std::alloc::{AllocError, Global};
+
+/// Reads the image and then the log, boots the image, and makes the log's events until one is
+/// refused or has another outcome than its entry.
+///
+/// # Errors
+/// The first fault.
+pub fn replay<'a, F: FileSource>(
+    alloc: Global,
+    files: &mut F,
+    task: FilesTask<'a>,
+) -> Result<Finished, Fault<'a>>
+    ensures { IfOk result (λ done. IsReplay task.entry (F.known files.old task.entry.image.now)
+        (F.known files.old task.entry.text.now) done.text.items done.status) }
+{
+    let file = read_file(alloc, files, task.image)?;
+    let log = read_text(alloc, files, task.text)?;
+    let entries = entries_of(alloc, log.as_str())?;
+    let verdict = verify::<Scan, PlainConsole>(alloc, &file, task.conf, &entries)?;
+    let line = verdict_line(alloc, verdict)?;
+    Ok(Finished {
+        text: Vec::from_slice(alloc, line.as_bytes())?,
+        status: status(verdict),
+    })
+}
+
+// What a verdict prints.
+fn verdict_line(alloc: Global, verdict: Verdict) -> Result<String, AllocError>
+    ensures { IfOk result (λ line. string_bytes line ≡ ended (verdict_text verdict)) }
+{
+    match verdict {
+        Verdict::Agrees => String::from_str(alloc, "agrees\n"),
+        Verdict::Differs(k) => format!(in alloc; "differs {k}\n"),
+    }
+}
+
+// The exit status of a verdict.
+fn status(verdict: Verdict) -> u8
+    ensures { result ≡ status_of_verdict verdict }
+{
+    match verdict {
+        Verdict::Agrees => 0,
+        Verdict::Differs(_) => 4,
+    }
+}
