@@ -19,7 +19,7 @@ AreLoaded-prop : (memory : List ℕ) (ss : List Segment) → IsProp (AreLoaded m
 AreLoaded-prop memory [] = hlevel
 AreLoaded-prop memory (s ∷ later) = hlevel (ℕ_set, AreLoaded-prop memory later)
 
-all_low : (ss : List Segment) → ∥ ArePlaced ss ∥₁ → AllByRecursion (λ s. s.0 < 2 ^ 32) ss
+pub all_low : (ss : List Segment) → ∥ ArePlaced ss ∥₁ → AllByRecursion (λ s. s.0 < 2 ^ 32) ss
 all_low ss placed = ∥∥₁_elim placed (AllByRecursion-prop (λ s. s.0 < 2 ^ 32) (λ s. le_prop) ss) (low_from ss)
 
 all_in_ram : (ram offset : ℕ) (ss : List Segment) → ∥ ArePlaced ss ∥₁ → list_any (is_outside_ram ram) (load_headers offset ss) ≡ false → ∥ AllByRecursion (IsInRam ram) ss ∥₁

@@ -1,10 +1,11 @@
-use Rattle.std.specs.Prelude.{◌≡◌, ℕ, ◌+◌, ◌-◌, ◌^◌, ◌<◌, Bool, true, false, nat_lt, nat_le, ◌&&◌, if◌then◌else◌, List, [], ◌∷◌, find, reverse, slice_index, None}
+use Rattle.std.specs.Prelude.{◌≡◌, ℕ, ◌+◌, ◌-◌, ◌%◌, ◌^◌, ◌<◌, Bool, true, false, not, ◌==◌, nat_lt, nat_le, ◌&&◌, ◌||◌, if◌then◌else◌, List, [], ◌∷◌, find, reverse, slice_index, None}
 use Rattle.std.specs.List.{list_any}
 use Rattle.std.specs.Option.{option_map_or}
 use Rattle.m161_asm.specs.declared.program.Program.{Program}
 use Rattle.m161_asm.specs.Segments.{segments_seen}
 use Rattle.m161_asm.specs.Text.{Segment}
-use Rattle.m161_elf.specs.Image.{first_fault, place_in_ram, IsImage}
+use Rattle.m161_elf.specs.Image.{first_fault, first_of, is_in_ram, place_in_ram, IsImage}
+use Rattle.m161_elf.specs.declared.image.LoadError.TheVariants as fault
 use Rattle.m161_elf.specs.Written.{elf_bytes, size, words}
 
 -- A program's file, loaded.
@@ -45,3 +46,22 @@ WrittenIsLoaded =
     → (entry ≡ p.entry)
     × ((at : ℕ) → at < ram → slice_index memory at ≡ byte_left_by (segments_seen p.segments.items) at)
     × AreLoaded memory (segments_seen p.segments.items)
+
+-- a segment isn't all in RAM by kseg0, or all in RAM by kseg1
+abbrev pub lies_outside : ℕ → Segment → Bool
+lies_outside ram s = not (is_in_ram ram s.0 (size s))
+
+-- an entry is misaligned, or not in RAM by kseg0 or kseg1
+abbrev pub is_bad_entry : ℕ → ℕ → Bool
+is_bad_entry ram entry = not (entry % 4 == 0) || not (is_in_ram ram entry 1)
+
+-- the file of a program has no other faults than these, in this order
+abbrev pub WrittenHasFewFaults : Type 0
+WrittenHasFewFaults =
+    (p : Program) (ram : ℕ) → p.entry < 2 ^ 32
+    → first_fault (elf_bytes p.entry (segments_seen p.segments.items)) ram
+    ≡ first_of (
+    (list_any (lies_outside ram) (segments_seen p.segments.items), fault.SegmentOutsideRam)
+    ∷ (is_bad_entry ram p.entry, fault.BadEntry)
+    ∷ []
+    )
