@@ -1,4 +1,4 @@
-use Rattle.std.specs.Prelude.{◌≡◌, ℕ, ◌+◌, ◌-◌, ◌%◌, ◌^◌, ◌<◌, Bool, true, false, not, ◌==◌, nat_lt, nat_le, ◌&&◌, ◌||◌, if◌then◌else◌, List, [], ◌∷◌, find, reverse, slice_index, None}
+use Rattle.std.specs.Prelude.{◌≡◌, ℕ, ◌+◌, ◌-◌, ◌%◌, ◌^◌, ◌<◌, Bool, true, false, not, ◌==◌, nat_lt, nat_le, ◌&&◌, ◌||◌, if◌then◌else◌, List, [], ◌∷◌, length, find, reverse, slice_index, None}
 use Rattle.std.specs.List.{list_any}
 use Rattle.std.specs.Option.{option_map_or}
 use Rattle.m161_asm.specs.declared.program.Program.{Program}
@@ -26,15 +26,16 @@ byte_left_by ss at = option_map_or (byte_of at) (find (has_byte at) (reverse ss)
 abbrev pub are_in_both : Segment → Segment → Bool
 are_in_both s t = if nat_le 0xa0000000 s.0 then nat_lt t.0 0xa0000000 else nat_le 0xa0000000 t.0
 
--- a segment has a byte at this physical address, through the other of kseg0 and kseg1
+-- a segment t has a byte at this physical address too, through the other of kseg0 and kseg1 than s
 abbrev pub hides : ℕ → Segment → Segment → Bool
 hides at s t = has_byte at t && are_in_both s t
 
--- each byte of each segment stands in memory, unless a later segment hides it
+-- each byte of each segment is within memory and stands there, unless a later segment hides it
 abbrev pub AreLoaded : List ℕ → List Segment → Type 0
 AreLoaded memory [] = Unit {0}
 AreLoaded memory (s ∷ later) =
-    ((at : ℕ) → has_byte at s ≡ true → list_any (hides at s) later ≡ false → slice_index memory at ≡ byte_of at s)
+    ((at : ℕ) → has_byte at s ≡ true
+    → (at < length memory) × (list_any (hides at s) later ≡ false → slice_index memory at ≡ byte_of at s))
     × AreLoaded memory later
 
 -- the file of a program, where it has no fault, leaves the program's entry and its words
