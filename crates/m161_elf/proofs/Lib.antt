@@ -4,4 +4,5 @@ pub mod OneMore
 mod Rows
 pub mod Sound
 pub mod Views
-mod WrittenLaw
+mod WrittenFaults
+pub mod WrittenLaw

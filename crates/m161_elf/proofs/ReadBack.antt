@@ -81,11 +81,11 @@ segments_read entry ss few fit room =
     ∙ headers_from file (file_header entry (length ss)) (segment_bytes ss) 0 (52 + 32 * length ss) ss refl refl fit (omega (arith, few, room))
 
 -- the segments' bytes
-length-words : (ws : List ℕ) → length (words ws) ≡ 4 * length ws
+pub length-words : (ws : List ℕ) → length (words ws) ≡ 4 * length ws
 length-words [] = refl
 length-words (w ∷ ws) = omega (arith, length-words ws)
 
-length-segment_headers : (offset : ℕ) (ss : List Segment) → length (segment_headers offset ss) ≡ 32 * length ss
+pub length-segment_headers : (offset : ℕ) (ss : List Segment) → length (segment_headers offset ss) ≡ 32 * length ss
 length-segment_headers offset [] = refl
 length-segment_headers offset (s ∷ ss) = omega (arith, length-segment_headers (offset + size s) ss)
 

@@ -65,20 +65,21 @@ none_has at other (s ∷ ss) none =
     ∙ ap (λ test. last_value (byte_of at) (has_byte at) ss (if test then byte_of at s else other)) tests.0
     ∙ none_has at other ss tests.1
 
-pub loaded_from : (memory : List ℕ) (ram : ℕ) (other : ℕ → ℕ) (ss : List Segment) → ((at : ℕ) → at < ram → slice_index memory at ≡ last_value (byte_of at) (has_byte at) ss (other at))
+pub loaded_from : (memory : List ℕ) (ram : ℕ) (other : ℕ → ℕ) (ss : List Segment) → length memory ≡ ram
+    → ((at : ℕ) → at < ram → slice_index memory at ≡ last_value (byte_of at) (has_byte at) ss (other at))
     → AllByRecursion (IsInRam ram) ss → AreApart ss → AreLoaded memory ss
-loaded_from memory ram other [] e in_all apart = tt
-loaded_from memory ram other (s ∷ later) e in_all apart =
+loaded_from memory ram other [] long e in_all apart = tt
+loaded_from memory ram other (s ∷ later) long e in_all apart =
     let next : ℕ → ℕ = λ at. if has_byte at s then byte_of at s else other at in
     let rest : (at : ℕ) → at < ram → slice_index memory at ≡ last_value (byte_of at) (has_byte at) later (next at) =
     λ at within. e at within ∙ last_value-cons (byte_of at) (has_byte at) s later (other at) in
+    let within : (at : ℕ) → has_byte at s ≡ true → at < ram =
+    λ at has. omega (arith, (bounds at (place_in_ram s.0) (size s) has).1, (in_view ram s.0 (size s) in_all.0).0) in
     let here : (at : ℕ) → has_byte at s ≡ true → list_any (hides at s) later ≡ false → slice_index memory at ≡ byte_of at s =
-    λ at has not_hidden.
-    let within : at < ram = omega (arith, (bounds at (place_in_ram s.0) (size s) has).1, (in_view ram s.0 (size s) in_all.0).0) in
-    rest at within
+    λ at has not_hidden. rest at (within at has)
     ∙ none_has at (next at) later (all_absent at ram s later in_all.0 in_all.1 apart.0 has not_hidden)
     ∙ ap (λ test. if test then byte_of at s else other at) has in
-    (here, loaded_from memory ram next later rest in_all.1 apart.1)
+    (λ at has. (omega (arith, within at has, long), here at has), loaded_from memory ram next later long rest in_all.1 apart.1)
 
 not_outside : (n : ℕ) (test : Bool) → 0 < n → (not (4 * n == 0) && not test) ≡ false → test ≡ true
 not_outside n true some e = refl

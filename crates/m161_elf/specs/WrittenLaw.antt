@@ -1,10 +1,11 @@
-use Rattle.std.specs.Prelude.{◌≡◌, ℕ, ◌+◌, ◌-◌, ◌^◌, ◌<◌, Bool, true, false, nat_lt, nat_le, ◌&&◌, if◌then◌else◌, List, [], ◌∷◌, find, reverse, slice_index, None}
+use Rattle.std.specs.Prelude.{◌≡◌, ℕ, ◌+◌, ◌-◌, ◌%◌, ◌^◌, ◌<◌, Bool, true, false, not, ◌==◌, nat_lt, nat_le, ◌&&◌, ◌||◌, if◌then◌else◌, List, [], ◌∷◌, length, find, reverse, slice_index, None}
 use Rattle.std.specs.List.{list_any}
 use Rattle.std.specs.Option.{option_map_or}
 use Rattle.m161_asm.specs.declared.program.Program.{Program}
 use Rattle.m161_asm.specs.Segments.{segments_seen}
 use Rattle.m161_asm.specs.Text.{Segment}
-use Rattle.m161_elf.specs.Image.{first_fault, place_in_ram, IsImage}
+use Rattle.m161_elf.specs.Image.{first_fault, first_of, is_in_ram, place_in_ram, IsImage}
+use Rattle.m161_elf.specs.declared.image.LoadError.TheVariants as fault
 use Rattle.m161_elf.specs.Written.{elf_bytes, size, words}
 
 -- A program's file, loaded.
@@ -25,15 +26,16 @@ byte_left_by ss at = option_map_or (byte_of at) (find (has_byte at) (reverse ss)
 abbrev pub are_in_both : Segment → Segment → Bool
 are_in_both s t = if nat_le 0xa0000000 s.0 then nat_lt t.0 0xa0000000 else nat_le 0xa0000000 t.0
 
--- a segment has a byte at this physical address, through the other of kseg0 and kseg1
+-- a segment t has a byte at this physical address too, through the other of kseg0 and kseg1 than s
 abbrev pub hides : ℕ → Segment → Segment → Bool
 hides at s t = has_byte at t && are_in_both s t
 
--- each byte of each segment stands in memory, unless a later segment hides it
+-- each byte of each segment is within memory and stands there, unless a later segment hides it
 abbrev pub AreLoaded : List ℕ → List Segment → Type 0
 AreLoaded memory [] = Unit {0}
 AreLoaded memory (s ∷ later) =
-    ((at : ℕ) → has_byte at s ≡ true → list_any (hides at s) later ≡ false → slice_index memory at ≡ byte_of at s)
+    ((at : ℕ) → has_byte at s ≡ true
+    → (at < length memory) × (list_any (hides at s) later ≡ false → slice_index memory at ≡ byte_of at s))
     × AreLoaded memory later
 
 -- the file of a program, where it has no fault, leaves the program's entry and its words
@@ -45,3 +47,22 @@ WrittenIsLoaded =
     → (entry ≡ p.entry)
     × ((at : ℕ) → at < ram → slice_index memory at ≡ byte_left_by (segments_seen p.segments.items) at)
     × AreLoaded memory (segments_seen p.segments.items)
+
+-- a segment isn't all in RAM by kseg0, or all in RAM by kseg1
+abbrev pub lies_outside : ℕ → Segment → Bool
+lies_outside ram s = not (is_in_ram ram s.0 (size s))
+
+-- an entry is misaligned, or not in RAM by kseg0 or kseg1
+abbrev pub is_bad_entry : ℕ → ℕ → Bool
+is_bad_entry ram entry = not (entry % 4 == 0) || not (is_in_ram ram entry 1)
+
+-- the file of a program has no other faults than these, in this order
+abbrev pub WrittenHasFewFaults : Type 0
+WrittenHasFewFaults =
+    (p : Program) (ram : ℕ) → p.entry < 2 ^ 32
+    → first_fault (elf_bytes p.entry (segments_seen p.segments.items)) ram
+    ≡ first_of (
+    (list_any (lies_outside ram) (segments_seen p.segments.items), fault.SegmentOutsideRam)
+    ∷ (is_bad_entry ram p.entry, fault.BadEntry)
+    ∷ []
+    )
