@@ -2,5 +2,6 @@ pub mod Accepting
 pub mod Asked
 pub mod Failing
 pub mod Hex
+pub mod Listed
 pub mod Making
 pub mod Shown

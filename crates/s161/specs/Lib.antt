@@ -1,4 +1,5 @@
 pub mod Commands
 pub mod Faults
+pub mod Listings
 pub mod Runs
 pub mod Texts

@@ -2,6 +2,7 @@
 
 ghost use Rattle.std.specs.Prelude.{◌≡◌};
 ghost use Rattle.s161.specs.Faults.{fault_of_boot, fault_of_schedule};
+ghost use Rattle.s161.specs.Listings.{fault_of_load};
 ghost use Rattle.s161.specs.declared.fault.Fault.TheVariants.{Memory};
 
 use m161_elf::LoadError;
@@ -33,6 +34,17 @@ impl<'a> From<AllocError> for Fault<'a> {
 
     fn from(_error: AllocError) -> Fault<'a> {
         Fault::Memory
+    }
+}
+
+impl<'a> From<LoadError> for Fault<'a> {
+    ghost from_gives = { λ error fault. fault ≡ fault_of_load error };
+
+    fn from(error: LoadError) -> Fault<'a> {
+        match error {
+            LoadError::NoMemory => Fault::Memory,
+            other => Fault::Image(other),
+        }
     }
 }
 

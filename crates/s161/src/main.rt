@@ -20,6 +20,7 @@ ghost use Rattle.std.specs.IoError.{error_kind};
 mod command;
 mod demo;
 mod digits;
+mod disassembly;
 mod display;
 mod events;
 mod fault;
