@@ -15,7 +15,7 @@ later : {E : Type 0} (test : Bool) (e : E) (rest : Option E) → (if test then S
 later true e rest none = absurd (cc)
 later false e rest none = (refl, none)
 
-neither : (a b : Bool) → (a || b) ≡ false → (a ≡ false) × (b ≡ false)
+pub neither : (a b : Bool) → (a || b) ≡ false → (a ≡ false) × (b ≡ false)
 neither true b none = absurd (cc)
 neither false b none = (refl, none)
 
@@ -65,6 +65,17 @@ is_sound file ram none =
         in_memory = none_among is_larger_in_file is_load (header file) 0 (e_phnum file) i eighth.0 (omega arith) (omega arith) load;
       };
     }
+
+pub in_ram : (file : List ℕ) (ram : ℕ) → first_fault file ram ≡ None → list_any (is_outside_ram ram) (segments file) ≡ false
+unfolding first_fault
+in_ram file ram none =
+    let first = later (is_truncated file) _ _ none in
+    let second = (later (is_not_elf32_big file) _ _ first.1).1 in
+    let third = (later (is_not_executable file) _ _ second).1 in
+    let fourth = (later (is_not_mips file) _ _ third).1 in
+    let fifth = later (has_bad_header_table file) _ _ fourth in
+    let sixth = later (list_any (is_outside_file file) (segments file)) _ _ fifth.1 in
+    (later (list_any (is_outside_ram ram) (segments file)) _ _ sixth.1).0
 
 found_where : {X : Type 0} (test : Bool) (x y : X) → Some y ≡ (if test then Some x else None) → (test ≡ true) × (x ≡ y)
 found_where true x y found = (refl, cc)

@@ -20,11 +20,15 @@ mod address;
 mod fault;
 mod header;
 mod image;
+mod laws;
 mod loader;
 mod segments;
 mod span;
+mod writer;
 
 pub use header::ProgramHeader;
 pub use image::{Image, LoadError};
+pub use laws::written_is_loaded;
 pub use loader::{load, loads};
 pub use span::Span;
+pub use writer::write;
