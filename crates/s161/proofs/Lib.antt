@@ -4,4 +4,5 @@ pub mod Failing
 pub mod Hex
 pub mod Listed
 pub mod Making
+pub mod Sampled
 pub mod Shown

@@ -74,15 +74,18 @@ pub listed : (file : List ℕ) (first : Option LoadError) (found : Vec Span Glob
 listed file (Some e) found h = absurd h
 listed file None found h = h
 
-pub is_listing : (file text : List ℕ) (image : Image) (found : Vec Span Global) → Loads file dis_ram (first_fault file dis_ram) (Ok image)
-    → Lists file (first_fault file dis_ram) (Ok found) → text ≡ dis_text image.bytes.items found.items → IsListing file text
-is_listing file text image found loads lists is =
+pub is_listing : (file text : List ℕ) (image : Image) (found : Vec Span Global) (memory : List ℕ) (spans : List Span)
+    → Loads file dis_ram (first_fault file dis_ram) (Ok image) → Lists file (first_fault file dis_ram) (Ok found)
+    → memory ≡ image.bytes.items → spans ≡ found.items → text ≡ dis_text memory spans → IsListing file text
+is_listing file text image found memory spans loads lists same_memory same_spans is =
     let good = loaded file dis_ram (first_fault file dis_ram) image loads in
     record {
       loads = good.0;
       memory = image.bytes.items;
       is_image = record { entry_is = refl; size_is = good.1.size_is; bytes_are = good.1.bytes_are };
-      text_is = is ∙ ap (dis_text image.bytes.items) (listed file (first_fault file dis_ram) found lists);
+      text_is =
+        is ∙ ap (λ bytes. dis_text bytes spans) same_memory
+        ∙ ap (dis_text image.bytes.items) (same_spans ∙ listed file (first_fault file dis_ram) found lists);
     }
 
 pub found_in_ram : (file : List ℕ) (image : Image) (found : Vec Span Global) → Loads file dis_ram (first_fault file dis_ram) (Ok image)
@@ -90,6 +93,10 @@ pub found_in_ram : (file : List ℕ) (image : Image) (found : Vec Span Global) �
 found_in_ram file image found loads lists =
     let good = loaded file dis_ram (first_fault file dis_ram) image loads in
     rw (good.1.size_is, listed file (first_fault file dis_ram) found lists) (spans_in_ram file dis_ram good.0)
+
+-- a file that was loaded has no fault
+pub no_fault : (file : List ℕ) (image : Image) → Loads file dis_ram (first_fault file dis_ram) (Ok image) → first_fault file dis_ram ≡ None
+no_fault file image loads = (loaded file dis_ram (first_fault file dis_ram) image loads).0
 
 -- a fault other than a want of memory is the first
 first_is : (file : List ℕ) (first : Option LoadError) (e : LoadError) → first_fault file dis_ram ≡ first → Loads file dis_ram first (Err e)

@@ -17,6 +17,7 @@
 ghost use Rattle.std.specs.Prelude.{◌≡◌, ◌≢◌, ◌⊎◌, IfErr};
 ghost use Rattle.std.specs.IoError.{error_kind};
 
+mod assembly;
 mod command;
 mod demo;
 mod digits;
@@ -27,6 +28,7 @@ mod fault;
 mod files;
 mod input;
 mod run;
+mod sample;
 mod summary;
 #[cfg(test)]
 mod tests;

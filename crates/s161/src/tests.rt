@@ -24,6 +24,7 @@ mod run;
 mod sample;
 mod steplog;
 mod streams;
+mod texts;
 mod tlb;
 mod traps;
 
