@@ -1,4 +1,4 @@
-use Rattle.std.proofs.Common.{◌≡◌, ◌≢◌, ◌∙◌, ℕ, zero, suc, ◌+◌, ◌*◌, ◌<◌, ◌≤◌, Bool, true, false, cond, List, [], ◌∷◌, ◌++◌, length, get_or, map, Option, None, Some, Result, Ok, Err, Vec, ap, refl, sym, arith}
+use Rattle.std.proofs.Common.{◌≡◌, ◌≢◌, ◌∙◌, ℕ, zero, suc, ◌+◌, ◌<◌, ◌≤◌, Bool, true, false, cond, List, [], ◌∷◌, ◌++◌, length, get_or, map, Option, None, Some, Ok, Err, Vec, ap, refl, sym, arith}
 use Rattle.std.specs.Prelude.{filter}
 use Rattle.std.specs.Global.{Global}
 use Rattle.std.specs.List.{range_with_len}
@@ -16,7 +16,7 @@ use Rattle.m161_elf.specs.Image.{IsImage, Loads, first_fault, is_in_ram}
 use Rattle.m161_elf.specs.Sound.{IsSoundSegment}
 use Rattle.m161_elf.specs.Span.{Lists, has_bytes, span_of, spans}
 use Rattle.m161_elf.proofs.Sound.{is_sound}
-use Rattle.s161.specs.Listings.{AreInRam, IsListing, IsUnlisted, dis_ram, dis_text, fault_of_load, span_text}
+use Rattle.s161.specs.Listings.{AreInRam, IsListing, IsUnlisted, dis_ram, dis_text, fault_of_load}
 
 -- The listing of a file.
 
@@ -84,8 +84,8 @@ is_listing file text image found memory spans loads lists same_memory same_spans
       memory = image.bytes.items;
       is_image = record { entry_is = refl; size_is = good.1.size_is; bytes_are = good.1.bytes_are };
       text_is =
-        is ∙ ap (λ bytes. dis_text bytes spans) same_memory
-        ∙ ap (dis_text image.bytes.items) (same_spans ∙ listed file (first_fault file dis_ram) found lists);
+          is ∙ ap (λ bytes. dis_text bytes spans) same_memory
+          ∙ ap (dis_text image.bytes.items) (same_spans ∙ listed file (first_fault file dis_ram) found lists);
     }
 
 pub found_in_ram : (file : List ℕ) (image : Image) (found : Vec Span Global) → Loads file dis_ram (first_fault file dis_ram) (Ok image)

@@ -1,4 +1,4 @@
-use Rattle.std.specs.Prelude.{◌≡◌, ℕ, ◌+◌, ◌-◌, ◌*◌, ◌/◌, true, List, flat_map, Option, None, Some}
+use Rattle.std.specs.Prelude.{◌≡◌, ℕ, ◌+◌, ◌-◌, ◌*◌, ◌/◌, true, List, flat_map, None, Some}
 use Rattle.std.specs.List.{AllByRecursion}
 use Rattle.m161_elf.specs.declared.span.Span.{Span}
 use Rattle.m161_elf.specs.declared.image.LoadError.{LoadError}

@@ -1,10 +1,10 @@
 //! The instructions of a file, a line each.
 
-ghost use Rattle.std.specs.Prelude.{◌≡◌, ◌+◌, ◌*◌, ◌<◌, ◌≤◌, ◌^◌, ◌++◌, true, length, string_bytes, IfErr, IfOk, OnOk};
+ghost use Rattle.std.specs.Prelude.{◌≡◌, ◌+◌, ◌<◌, ◌≤◌, ◌^◌, ◌++◌, true, length, string_bytes, IfErr, IfOk, OnOk};
 ghost use Rattle.m161_elf.specs.Image.{is_in_ram};
 ghost use Rattle.m161_ram.specs.Word.{word_at};
 ghost use Rattle.m161_debug.specs.Shows.{code_line, code_text, code_word, ended};
-ghost use Rattle.s161.specs.Listings.{aligned_up, dis_text, span_text, words_in, AreInRam, IsListing, IsUnlisted};
+ghost use Rattle.s161.specs.Listings.{aligned_up, dis_text, span_text, AreInRam, IsListing, IsUnlisted};
 
 use crate::digits::WordDigits;
 use crate::fault::Fault;
@@ -45,12 +45,7 @@ fn listing(alloc: Global, memory: &[u8], spans: &[Span]) -> Result<String, Alloc
 }
 
 // The lines of a span.
-fn write_span(
-    alloc: Global,
-    text: &mut String,
-    memory: &[u8],
-    span: Span,
-) -> Result<(), AllocError>
+fn write_span(alloc: Global, text: &mut String, memory: &[u8], span: Span) -> Result<(), AllocError>
     requires { is_in_ram (length memory.now) span.address span.size ≡ true }
     ensures { OnOk result (string_bytes text.new
         ≡ string_bytes text.old ++ span_text memory.now span) }
@@ -105,5 +100,6 @@ fn write_code(alloc: Global, text: &mut String, word: u32, at: u32) -> Result<()
         ≡ string_bytes text.old ++ ended (code_text at word)) }
 {
     let instruction = line(alloc, word, at)?;
-    writeln!(text, "{} {} {instruction}", WordDigits(at), WordDigits(word))
+    let (at, word) = (WordDigits(at), WordDigits(word));
+    writeln!(text, "{at} {word} {instruction}")
 }

@@ -74,7 +74,11 @@ fn misaligned_span(rt: HostRuntime) -> Result<(), Fail> {
     let words = [0x1122_3344, 0x5566_7788];
     let file = file_from(rt.alloc(), ENTRY, 0x8000_0202, &words)?;
     let text = listed(rt.alloc(), &file)?;
-    same(&rt, text.as_str(), "80000204 33445566 andi $4, $26, 0x5566\n");
+    same(
+        &rt,
+        text.as_str(),
+        "80000204 33445566 andi $4, $26, 0x5566\n",
+    );
     Ok(())
 }
 
@@ -122,7 +126,10 @@ static FAULTS: [(&str, &str); 8] = [
     ("addi $1, $2, 40000", "s161: source 1:14 4 OutOfRange"),
     ("beq $0, $0, nowhere", "s161: source 1:13 5 UnknownLabel"),
     ("a:\na:", "s161: source 2:1 6 DoubleLabel"),
-    (".org 0x80000200\nj 0x90000000", "s161: source 2:3 7 BranchTooFar"),
+    (
+        ".org 0x80000200\nj 0x90000000",
+        "s161: source 2:3 7 BranchTooFar",
+    ),
     (
         ".org 0x80000200\nnop\n.org 0x80000200\nnop\n",
         "s161: source 4:1 8 Overlap",

@@ -1,4 +1,4 @@
-use Rattle.std.proofs.Common.{◌≡◌, List, ℕ, Err, ap, length, refl, subst, sym}
+use Rattle.std.proofs.Common.{List, ℕ, Err, ap, length, refl, subst, sym}
 use Rattle.std.proofs.lemmas.Result.{err_from_is_err_and}
 use Rattle.m161_elf.specs.Image.{first_fault}
 use Rattle.m161_elf.specs.declared.span.Span.{Span}

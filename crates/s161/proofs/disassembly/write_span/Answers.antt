@@ -1,6 +1,6 @@
 use Rattle.std.proofs.Common.{◌≡◌, ◌∙◌, ◌+◌, ◌*◌, ◌++◌, ℕ, List, length, string_bytes, ap, sym, append_assoc, arith}
 use Rattle.m161_debug.specs.Shows.{code_line, counted, ended, text_of}
-use Rattle.s161.specs.Listings.{aligned_up, words_in}
+use Rattle.s161.specs.Listings.{words_in}
 use Rattle.s161.proofs.Listed.{counted_more, in_ram_within}
 use Rattle.s161.proofs.disassembly.write_span.Goals as goal
 
