@@ -34,6 +34,7 @@ mod stop;
 
 pub use breakpoints::BreakError;
 pub use command::CommandError;
+pub use digits::Word;
 pub use m161_machine::{Event, Machine, Outcome, Refusal};
 pub use session::Session;
 pub use stop::Stop;

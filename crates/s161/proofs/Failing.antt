@@ -13,7 +13,7 @@ use Rattle.m161_steplog.specs.Schedule.{AreScheduleLines}
 use Rattle.s161.specs.declared.command.RunTask.{RunTask}
 use Rattle.s161.specs.Faults.{fault_of_boot, fault_of_schedule}
 use Rattle.s161.specs.declared.fault.Fault.{Fault}
-use Rattle.s161.specs.declared.fault.Fault.TheVariants.{Conf, File, Image, Input, Log, Memory, Output, Schedule}
+use Rattle.s161.specs.declared.fault.Fault.TheVariants.{Conf, File, Image, Input, Log, Memory, Output, Schedule, Source}
 use Rattle.s161.specs.Runs.{HasSchedule, IsFaultOf, IsScheduleFault}
 
 -- Why a run ends early.
@@ -35,6 +35,7 @@ schedule_failed task known input text Conf is h = absurd h
 schedule_failed task known input text (Image e) is h = absurd h
 schedule_failed task known input text Input is h = absurd h
 schedule_failed task known input text Output is h = absurd h
+schedule_failed task known input text (Source e) is h = absurd h
 
 -- a file's fault is none of the configuration
 not_conf : (fault : Option LoadError) → load_fault fault ≡ Some BootError.BadConf → ⊥

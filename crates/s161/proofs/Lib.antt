@@ -3,5 +3,7 @@ pub mod Asked
 pub mod Defining
 pub mod Failing
 pub mod Lines
+pub mod Listed
 pub mod Making
+pub mod Sampled
 pub mod Shown

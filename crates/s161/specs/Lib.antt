@@ -1,6 +1,9 @@
+pub mod Assemblies
 pub mod Commands
 pub mod Debugs
 pub mod Faults
+pub mod Listings
 pub mod Replays
 pub mod Runs
+pub mod Samples
 pub mod Works

@@ -1,9 +1,12 @@
 //! Why a command ends early.
 
 ghost use Rattle.std.specs.Prelude.{◌≡◌};
+ghost use Rattle.s161.specs.Assemblies.{fault_of_source};
 ghost use Rattle.s161.specs.Faults.{fault_of_boot, fault_of_log, fault_of_schedule};
+ghost use Rattle.s161.specs.Listings.{fault_of_load};
 ghost use Rattle.s161.specs.declared.fault.Fault.TheVariants.{Memory};
 
+use m161_asm::{AsmError, ErrorKind};
 use m161_elf::LoadError;
 use m161_machine::BootError;
 use std::alloc::AllocError;
@@ -22,6 +25,8 @@ pub enum Fault<'a> {
     Conf,
     #[error("s161: image {} {}", .0.number(), .0.name())]
     Image(LoadError),
+    #[error("s161: source {}:{} {} {}", .0.line, .0.column, .0.kind.number(), .0.kind.name())]
+    Source(AsmError),
     #[error("s161: memory")]
     Memory,
     #[error("s161: input")]
@@ -35,6 +40,28 @@ impl<'a> From<AllocError> for Fault<'a> {
 
     fn from(_error: AllocError) -> Fault<'a> {
         Fault::Memory
+    }
+}
+
+impl<'a> From<AsmError> for Fault<'a> {
+    ghost from_gives = { λ error fault. fault ≡ fault_of_source error };
+
+    fn from(error: AsmError) -> Fault<'a> {
+        match error.kind {
+            ErrorKind::NoMemory => Fault::Memory,
+            _ => Fault::Source(error),
+        }
+    }
+}
+
+impl<'a> From<LoadError> for Fault<'a> {
+    ghost from_gives = { λ error fault. fault ≡ fault_of_load error };
+
+    fn from(error: LoadError) -> Fault<'a> {
+        match error {
+            LoadError::NoMemory => Fault::Memory,
+            other => Fault::Image(other),
+        }
     }
 }
 

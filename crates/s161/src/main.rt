@@ -25,15 +25,18 @@
 ghost use Rattle.std.specs.Prelude.{◌≡◌, ◌≢◌, ◌⊎◌, IfErr};
 ghost use Rattle.std.specs.IoError.{error_kind};
 
+mod assembly;
 mod command;
 mod debug;
 mod demo;
+mod disassembly;
 mod events;
 mod fault;
 mod files;
 mod input;
 mod replay;
 mod run;
+mod sample;
 mod summary;
 #[cfg(test)]
 mod tests;

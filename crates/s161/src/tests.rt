@@ -26,6 +26,7 @@ mod run;
 mod sample;
 mod steplog;
 mod streams;
+mod texts;
 mod tlb;
 mod traps;
 

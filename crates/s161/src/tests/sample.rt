@@ -11,7 +11,7 @@ use std::test::Fail;
 /// The kernel: the physical address of each word, the word and its text. Processor 0 moves a page
 /// that processor 1 reads, makes it drop the stale row by an interrupt, and switches off once it
 /// has read the new frame.
-static KERNEL: [(u32, u32, &str); 70] = [
+pub(crate) static KERNEL: [(u32, u32, &str); 70] = [
     (0, 0x3c1a_8000, "lui $26, 0x8000"),
     (4, 0x8f5a_3000, "lw $26, 12288($26)"),
     (8, 0x409a_1000, "mtc0 $26, $2"),

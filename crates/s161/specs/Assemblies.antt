@@ -1,0 +1,30 @@
+use Rattle.std.specs.Prelude.{◌≡◌, ℕ, List, Ok, Err}
+use Rattle.m161_asm.specs.declared.error.AsmError.{AsmError}
+use Rattle.m161_asm.specs.declared.error.ErrorKind.{ErrorKind}
+use Rattle.m161_asm.specs.declared.error.ErrorKind.TheVariants.{NoMemory}
+use Rattle.m161_asm.specs.Text.{Program, text}
+use Rattle.m161_elf.specs.Written.{elf_bytes}
+use Rattle.s161.specs.declared.fault.Fault.{Fault}
+use Rattle.s161.specs.declared.fault.Fault.TheVariants.{Memory, Source}
+
+-- The file of an assembly text.
+
+-- the text has a program, of which this is the file
+pub record IsAssembly (source file : List ℕ) : Type 0 where
+  pub program : Program
+  pub is_program : text source ≡ Ok program
+  pub file_is : file ≡ elf_bytes program.entry program.segments
+
+-- why a text isn't assembled, as a fault of the command
+abbrev pub fault_of_kind : ErrorKind → AsmError → Fault
+fault_of_kind NoMemory e = Memory
+fault_of_kind _ e = Source e
+
+abbrev pub fault_of_source : AsmError → Fault
+fault_of_source e = fault_of_kind e.kind e
+
+-- a text has no file: by its first fault, at this line and column; or memory was refused
+abbrev pub IsUnassembled : List ℕ → Fault → Type 0
+IsUnassembled source (Source e) = text source ≡ Err (e.line, (e.kind, e.column))
+IsUnassembled source Memory = Unit {0}
+IsUnassembled source _ = ⊥
