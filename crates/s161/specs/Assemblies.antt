@@ -1,4 +1,4 @@
-use Rattle.std.specs.Prelude.{◌≡◌, ℕ, List, Ok, Err}
+use Rattle.std.specs.Prelude.{◌≡◌, ℕ, List, Option, IfSome, Ok, Err}
 use Rattle.m161_asm.specs.declared.error.AsmError.{AsmError}
 use Rattle.m161_asm.specs.declared.error.ErrorKind.{ErrorKind}
 use Rattle.m161_asm.specs.declared.error.ErrorKind.TheVariants.{NoMemory}
@@ -14,6 +14,12 @@ pub record IsAssembly (source file : List ℕ) : Type 0 where
   pub program : Program
   pub is_program : text source ≡ Ok program
   pub file_is : file ≡ elf_bytes program.entry program.segments
+
+-- standard input, which has these bytes, as far as they are known, is a text whose file this is
+pub record IsAssembled (input : Option (List ℕ)) (file : List ℕ) : Type 0 where
+  pub source : List ℕ
+  pub is_input : IfSome input (λ bytes. source ≡ bytes)
+  pub is_assembly : IsAssembly source file
 
 -- why a text isn't assembled, as a fault of the command
 abbrev pub fault_of_kind : ErrorKind → AsmError → Fault

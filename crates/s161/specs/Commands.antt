@@ -10,7 +10,7 @@ use Rattle.m161_machine.specs.declared.conf.Conf.{Conf}
 use Rattle.s161.specs.declared.command.FilesTask.{FilesTask}
 use Rattle.s161.specs.declared.command.RunTask.{RunTask}
 use Rattle.s161.specs.declared.command.Task.{Task}
-use Rattle.s161.specs.declared.command.Task.TheVariants.{Debug, Demo, Replay, Run}
+use Rattle.s161.specs.declared.command.Task.TheVariants.{Assemble, Debug, Demo, Disassemble, Replay, Run}
 
 -- The command line, in clap's own words.
 
@@ -53,15 +53,25 @@ abbrev pub debug_line : App
 debug_line =
     sized (with_rule (with_rule (new_app (codes "debug")) (file_rule (codes "image"))) (file_rule (codes "schedule")))
 
+-- `as` takes nothing
+abbrev pub as_line : App
+as_line = new_app (codes "as")
+
+-- `dis` takes an image
+abbrev pub dis_line : App
+dis_line = with_rule (new_app (codes "dis")) (file_rule (codes "image"))
+
 -- the program needs a command
 abbrev pub command_line : App
 command_line =
-    with_subcommand (with_subcommand (with_subcommand (with_subcommand
+    with_subcommand (with_subcommand (with_subcommand (with_subcommand (with_subcommand (with_subcommand
     (on_top (λ s. record s { subcommand_required = true }) (new_app (codes "s161")))
     (new_shape (codes "demo")))
     run_line.top)
     replay_line.top)
-    debug_line.top
+    debug_line.top)
+    as_line.top)
+    dis_line.top
 
 -- clap finds no fault in these words of a command line; the first is the program's name
 unfoldable pub IsAccepted : List Text → Type 0
@@ -108,7 +118,8 @@ pub record AsksFiles (name : Text) (rows : List Row) (task : FilesTask) : Type 0
 
 -- the words that ask for another task than the demo
 abbrev pub IsOther : Text → Type 0
-IsOther word = (word ≡ codes "run") ⊎ (word ≡ codes "replay") ⊎ (word ≡ codes "debug")
+IsOther word =
+    (word ≡ codes "run") ⊎ (word ≡ codes "replay") ⊎ (word ≡ codes "debug") ⊎ (word ≡ codes "as") ⊎ (word ≡ codes "dis")
 
 -- a command, with its arguments, asks for this
 abbrev pub IsTask : Option (Text × List Row) → Task → Type 0
@@ -118,6 +129,9 @@ IsTask command (Replay task) =
     IsSomeAnd command (λ given. (given.0 ≡ codes "replay") × AsksFiles (codes "entries") given.1 task)
 IsTask command (Debug task) =
     IsSomeAnd command (λ given. (given.0 ≡ codes "debug") × AsksFiles (codes "schedule") given.1 task)
+IsTask command Assemble = IsSomeAnd command (λ given. given.0 ≡ codes "as")
+IsTask command (Disassemble image) =
+    IsSomeAnd command (λ given. (given.0 ≡ codes "dis") × (image.now ≡ given_of (codes "image") given.1))
 
 -- no argument of the command is one of its subcommands' too
 abbrev pub IsLocal : Command → Type 0

@@ -1,4 +1,4 @@
-use Rattle.std.specs.Prelude.{◌≡◌, ℕ, ◌+◌, ◌-◌, ◌*◌, ◌/◌, true, List, flat_map, None, Some}
+use Rattle.std.specs.Prelude.{◌≡◌, ℕ, ◌+◌, ◌-◌, ◌*◌, ◌/◌, true, List, flat_map, Option, None, Some, IfSome}
 use Rattle.std.specs.List.{AllByRecursion}
 use Rattle.m161_elf.specs.declared.span.Span.{Span}
 use Rattle.m161_elf.specs.declared.image.LoadError.{LoadError}
@@ -42,6 +42,12 @@ pub record IsListing (file text : List ℕ) : Type 0 where
   pub memory : List ℕ
   pub is_image : IsImage file dis_ram (e_entry file) memory
   pub text_is : text ≡ dis_text memory (spans file)
+
+-- an image, which has these bytes, as far as they are known, has this listing
+pub record IsDisassembled (image : Option (List ℕ)) (text : List ℕ) : Type 0 where
+  pub file : List ℕ
+  pub is_file : IfSome image (λ bytes. file ≡ bytes)
+  pub is_listing : IsListing file text
 
 -- why a file isn't loaded, as a fault of the command
 abbrev pub fault_of_load : LoadError → Fault

@@ -2,11 +2,14 @@ use Rattle.std.specs.Prelude.{◌≡◌, ◌⊎◌, ℕ, List, Option}
 use Rattle.std.specs.Io.KnownBytes.{Appends}
 use Rattle.clap.specs.Words.{Text, subcommand_of}
 use Rattle.s161.specs.declared.command.Task.{Task}
-use Rattle.s161.specs.declared.command.Task.TheVariants.{Debug, Demo, Replay, Run}
+use Rattle.s161.specs.declared.command.Task.TheVariants.{Assemble, Debug, Demo, Disassemble, Replay, Run}
+use Rattle.s161.specs.Assemblies.{IsAssembled}
 use Rattle.s161.specs.Commands.{IsTask, command_line}
 use Rattle.s161.specs.Debugs.{IsDebug}
+use Rattle.s161.specs.Listings.{IsDisassembled}
 use Rattle.s161.specs.Replays.{IsReplay}
 use Rattle.s161.specs.Runs.{IsRun}
+use Rattle.s161.specs.Samples.{image_file}
 
 -- What the work of a command line comes to.
 
@@ -23,6 +26,9 @@ Finishes (Replay task) files input before after status =
     Prints (λ text. IsReplay task (files task.image.now) (files task.text.now) text status) before after
 Finishes (Debug task) files input before after status =
     (status ≡ 0) × Prints (λ text. IsDebug task (files task.image.now) (files task.text.now) input text) before after
+Finishes Assemble files input before after status = (status ≡ 0) × Prints (IsAssembled input) before after
+Finishes (Disassemble image) files input before after status =
+    (status ≡ 0) × Prints (IsDisassembled (image_file files image.now)) before after
 
 -- a command line's task was finished, over files and a standard input with these bytes, and a standard output that had and has these
 abbrev pub Does : List Text → (Text → Option (List ℕ)) → Option (List ℕ) → Option (List ℕ) → Option (List ℕ) → ℕ → Type 0

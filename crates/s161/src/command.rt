@@ -3,7 +3,7 @@
 ghost use Rattle.std.specs.Prelude.{◌≡◌, ◌≢◌, [], IfErr, IfOk, codes, false, map, unwrap_or};
 ghost use Rattle.clap.specs.Words.{app_of, first_of, found_of, kind_of, one_of, rows_of, rule_of, subcommand_of, subcommand_rows_of};
 ghost use Rattle.clap.specs.declared.error.kind.ErrorKind.TheVariants.{OutOfMemory};
-ghost use Rattle.s161.specs.Commands.{AsksFiles, AsksRun, IsAccepted, IsFlag, IsLocal, IsNumberOf, IsSize, IsTask, command_line, debug_line, file_rule, number_rule, replay_line, run_line, show_log_rule, sized};
+ghost use Rattle.s161.specs.Commands.{AsksFiles, AsksRun, IsAccepted, IsFlag, IsLocal, IsNumberOf, IsSize, IsTask, as_line, command_line, debug_line, dis_line, file_rule, number_rule, replay_line, run_line, show_log_rule, sized};
 
 use clap::{Arg, ArgAction, ArgMatches, Command, Error, value_parser};
 use m161_machine::Conf;
@@ -21,6 +21,10 @@ pub enum Task<'a> {
     Replay(FilesTask<'a>),
     /// An image, under a schedule and a debugger's commands.
     Debug(FilesTask<'a>),
+    /// An assembly text, to its file.
+    Assemble,
+    /// The listing of the image of this name.
+    Disassemble(&'a str),
 }
 
 /// What `run` is asked for.
@@ -45,11 +49,14 @@ pub struct FilesTask<'a> {
     pub conf: Conf,
 }
 
+/// What an image is.
+const IMAGE_HELP: &str = "An ELF file, or @sample, the built-in kernel of two processors";
+
 /// What the help of the program ends with.
 const AFTER_HELP: &str = "\
 Exit status:
-  0  a finished demo or debug, a machine that switched itself off, or a log
-     that agrees
+  0  a finished demo, debug, as or dis, a machine that switched itself off, or
+     a log that agrees
   1  a fault, named on standard error, or a refused event of run
   2  a rejected command line, or a call for help
   3  the schedule ended
@@ -98,6 +105,19 @@ Exit status:
 
 Example:
   printf 'b 0 80000208\\ng\\nr 0\\n' | s161 debug kernel.elf schedule";
+
+/// What the help of `as` ends with.
+const AFTER_AS_HELP: &str = "\
+The text is read from standard input, and its ELF file is written to standard output. A fault is
+`s161: source LINE:COLUMN N Name`.
+
+Example:
+  s161 as < kernel.s > kernel.elf";
+
+/// What the help of `dis` ends with.
+const AFTER_DIS_HELP: &str = "\
+For each segment that is loaded, a line a word: its address, the word, and its assembly text. The
+image is loaded into 16777216 bytes of RAM.";
 
 // An option with a number of 32 bits.
 fn number_option<'a>(alloc: Global, name: &'a str, help: &'a str, default: &'a str) -> Arg<'a>
@@ -156,7 +176,7 @@ fn run_definition<'a>(alloc: Global) -> Result<Command<'a>, AllocError>
     let run = Command::new(alloc, "run")
         .about("Runs an image under a schedule of events")
         .after_help(AFTER_RUN_HELP)
-        .arg(file_argument(alloc, "image", "IMAGE", "An ELF file"))?;
+        .arg(file_argument(alloc, "image", "IMAGE", IMAGE_HELP))?;
     with_size(alloc, run)?.arg(show_log_option(alloc))
 }
 
@@ -168,7 +188,7 @@ fn replay_definition<'a>(alloc: Global) -> Result<Command<'a>, AllocError>
     let replay = Command::new(alloc, "replay")
         .about("Makes a log's events once more, and compares their outcomes")
         .after_help(AFTER_REPLAY_HELP)
-        .arg(file_argument(alloc, "image", "IMAGE", "An ELF file"))?
+        .arg(file_argument(alloc, "image", "IMAGE", IMAGE_HELP))?
         .arg(file_argument(alloc, "entries", "LOG", "A log's file"))?;
     with_size(alloc, replay)
 }
@@ -181,9 +201,30 @@ fn debug_definition<'a>(alloc: Global) -> Result<Command<'a>, AllocError>
     let debug = Command::new(alloc, "debug")
         .about("Does a debugger's commands on an image under a schedule")
         .after_help(AFTER_DEBUG_HELP)
-        .arg(file_argument(alloc, "image", "IMAGE", "An ELF file"))?
+        .arg(file_argument(alloc, "image", "IMAGE", IMAGE_HELP))?
         .arg(file_argument(alloc, "schedule", "SCHEDULE", "A schedule's file"))?;
     with_size(alloc, debug)
+}
+
+// The definition of `as`.
+fn as_definition<'a>(alloc: Global) -> Command<'a>
+    ensures shape { app_of result ≡ as_line }
+    ensures local { IsLocal result }
+{
+    Command::new(alloc, "as")
+        .about("Assembles a text to an ELF file")
+        .after_help(AFTER_AS_HELP)
+}
+
+// The definition of `dis`.
+fn dis_definition<'a>(alloc: Global) -> Result<Command<'a>, AllocError>
+    ensures shape { IfOk result (λ command. app_of command ≡ dis_line) }
+    ensures local { IfOk result IsLocal }
+{
+    Command::new(alloc, "dis")
+        .about("Prints the instructions of an image")
+        .after_help(AFTER_DIS_HELP)
+        .arg(file_argument(alloc, "image", "IMAGE", IMAGE_HELP))
 }
 
 // The program's definition of its command line.
@@ -194,6 +235,7 @@ fn definition<'a>(alloc: Global) -> Result<Command<'a>, AllocError>
     let run = run_definition(alloc)?;
     let replay = replay_definition(alloc)?;
     let debug = debug_definition(alloc)?;
+    let dis = dis_definition(alloc)?;
     Command::new(alloc, "s161")
         .about("A proved emulator of System/161")
         .after_help(AFTER_HELP)
@@ -201,7 +243,9 @@ fn definition<'a>(alloc: Global) -> Result<Command<'a>, AllocError>
         .subcommand(demo)?
         .subcommand(run)?
         .subcommand(replay)?
-        .subcommand(debug)
+        .subcommand(debug)?
+        .subcommand(as_definition(alloc))?
+        .subcommand(dis)
 }
 
 // The number of an option.
@@ -269,6 +313,8 @@ fn task_of<'a>(matches: &ArgMatches<'a>) -> Task<'a>
         Some(("run", given)) => Task::Run(run_task_of(given)),
         Some(("replay", given)) => Task::Replay(files_task_of(given, "entries")),
         Some(("debug", given)) => Task::Debug(files_task_of(given, "schedule")),
+        Some(("as", _)) => Task::Assemble,
+        Some(("dis", given)) => Task::Disassemble(file_given(given, "image")),
         _ => Task::Demo,
     }
 }

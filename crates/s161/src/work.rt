@@ -3,19 +3,26 @@
 ghost use Rattle.std.specs.Prelude.{◌≡◌, ◌≢◌, ◌⊎◌, ◌≤◌, true, false, IfErr, IfOk, OnOk, map, string_bytes};
 ghost use Rattle.std.specs.Io.KnownBytes.{Appends};
 ghost use Rattle.clap.specs.Words.{kind_of};
+ghost use Rattle.s161.specs.Assemblies.{IsAssembled};
 ghost use Rattle.s161.specs.Commands.{IsAccepted};
 ghost use Rattle.s161.specs.Debugs.{IsDebug};
+ghost use Rattle.s161.specs.Listings.{IsDisassembled};
 ghost use Rattle.s161.specs.Replays.{IsReplay};
 ghost use Rattle.s161.specs.Runs.{IsRun};
-ghost use Rattle.s161.specs.Works.{Does, IsDone, Prints};
+ghost use Rattle.s161.specs.Samples.{image_file};
+ghost use Rattle.s161.specs.Works.{Does, Finishes, IsDone, Prints};
 
+use crate::assembly::assembly;
 use crate::command::{FilesTask, RunTask, Task, parse};
 use crate::debug::debug;
 use crate::demo::demo;
+use crate::disassembly::disassembly;
 use crate::fault::Fault;
 use crate::files::FileSource;
+use crate::input::read_input;
 use crate::replay::replay;
 use crate::run::{Finished, run};
+use crate::sample::read_image;
 use clap::Error;
 use clap::error::ErrorKind;
 use std::alloc::Global;
@@ -54,10 +61,10 @@ where
     }
 }
 
-/// Does what a command line says. The result is the exit status: 0 a finished demo or debug, a
-/// machine that switched itself off, or a log that agrees; 1 a fault, or a refused event of a run;
-/// 2 a rejected command line; 3 a schedule that ended; 4 a log that differs. An output is made
-/// whole before it is written.
+/// Does what a command line says. The result is the exit status: 0 a finished demo, debug, as or
+/// dis, a machine that switched itself off, or a log that agrees; 1 a fault, or a refused event of
+/// a run; 2 a rejected command line; 3 a schedule that ended; 4 a log that differs. An output is
+/// made whole before it is written.
 pub fn work<A, S, F, I, O, E>(
     rt: &A,
     words: &[S],
@@ -80,16 +87,35 @@ where
     ensures within { result ≤ 4 }
 {
     let alloc = rt.alloc();
-    let done = match parse(alloc, words) {
-        Ok(Task::Demo) => do_demo(alloc, output),
-        Ok(Task::Run(task)) => do_run(alloc, task, files, input, output),
-        Ok(Task::Replay(task)) => do_replay(alloc, task, files, output),
-        Ok(Task::Debug(task)) => do_debug(alloc, task, files, input, output),
+    let task = match parse(alloc, words) {
+        Ok(task) => task,
         Err(error) => return reject(alloc, &error, output, errors),
     };
-    match done {
+    match do_task(alloc, task, files, input, output) {
         Ok(status) => status,
         Err(fault) => report(fault, errors),
+    }
+}
+
+// Does a task. The result is the exit status.
+fn do_task<'a, F: FileSource, I: Read, O: Write>(
+    alloc: Global,
+    task: Task<'a>,
+    files: &mut F,
+    input: &mut I,
+    output: &mut O,
+) -> Result<u8, Fault<'a>>
+    ensures finished { IfOk result (Finishes task.entry (F.known files.old)
+        (I.remaining input.old) (O.contents output.old) (O.contents output.new)) }
+    ensures within { IfOk result (λ status. (status ≤ 4) × (status ≢ 2)) }
+{
+    match task {
+        Task::Demo => do_demo(alloc, output),
+        Task::Run(task) => do_run(alloc, task, files, input, output),
+        Task::Replay(task) => do_replay(alloc, task, files, output),
+        Task::Debug(task) => do_debug(alloc, task, files, input, output),
+        Task::Assemble => do_as(alloc, input, output),
+        Task::Disassemble(image) => do_dis(alloc, image, files, output),
     }
 }
 
@@ -147,6 +173,40 @@ fn do_debug<'a, F: FileSource, I: Read, O: Write>(
     ensures status { IfOk result (λ status. status ≡ 0) }
 {
     print(output, debug(alloc, files, input, task)?)
+}
+
+// Assembles the text of standard input, and writes its file. The result is the exit status.
+fn do_as<'a, I: Read, O: Write>(
+    alloc: Global,
+    input: &mut I,
+    output: &mut O,
+) -> Result<u8, Fault<'a>>
+    ensures printed { IfOk result (λ _. Prints (IsAssembled (I.remaining input.old))
+        (O.contents output.old) (O.contents output.new)) }
+    ensures status { IfOk result (λ status. status ≡ 0) }
+{
+    let source = read_input(alloc, input)?;
+    let file = assembly(alloc, source.as_str())?;
+    put(output, &file)?;
+    Ok(0)
+}
+
+// Prints the listing of an image. The result is the exit status.
+fn do_dis<'a, F: FileSource, O: Write>(
+    alloc: Global,
+    image: &'a str,
+    files: &mut F,
+    output: &mut O,
+) -> Result<u8, Fault<'a>>
+    ensures printed { IfOk result (λ _. Prints
+        (IsDisassembled (image_file (F.known files.old) image.entry.now))
+        (O.contents output.old) (O.contents output.new)) }
+    ensures status { IfOk result (λ status. status ≡ 0) }
+{
+    let file = read_image(alloc, files, image)?;
+    let text = disassembly(alloc, &file)?;
+    put(output, text.as_bytes())?;
+    Ok(0)
 }
 
 // Prints what a finished command prints. The result is its exit status.

@@ -15,4 +15,6 @@ returns c =
     let one = c.in_ok-subcommand.ensures.shape demo_local ∙ ap₂ with_subcommand required demo in
     let two = c.in_ok-subcommand-2.ensures.shape c.in_ok-run.ensures.local ∙ ap₂ with_subcommand one (ap (λ (a : App). a.top) c.in_ok-run.ensures.shape) in
     let three = c.in_ok-subcommand-3.ensures.shape c.in_ok-replay.ensures.local ∙ ap₂ with_subcommand two (ap (λ (a : App). a.top) c.in_ok-replay.ensures.shape) in
-    IfOk-weaker c.subcommand-4.result _ _ (λ command h. h.shape c.in_ok-debug.ensures.local ∙ ap₂ with_subcommand three (ap (λ (a : App). a.top) c.in_ok-debug.ensures.shape)) c.subcommand-4.ensures
+    let four = c.in_ok-subcommand-4.ensures.shape c.in_ok-debug.ensures.local ∙ ap₂ with_subcommand three (ap (λ (a : App). a.top) c.in_ok-debug.ensures.shape) in
+    let five = c.in_ok-subcommand-5.ensures.shape c.as_definition.ensures.local ∙ ap₂ with_subcommand four (ap (λ (a : App). a.top) c.as_definition.ensures.shape) in
+    IfOk-weaker c.subcommand-6.result _ _ (λ command h. h.shape c.in_ok-dis.ensures.local ∙ ap₂ with_subcommand five (ap (λ (a : App). a.top) c.in_ok-dis.ensures.shape)) c.subcommand-6.ensures
