@@ -57,5 +57,5 @@ unfoldable pub sample_file : List ℕ
 sample_file = elf_bytes sample_entry sample_segments
 
 -- the bytes of an image's file, where they are known: those of the sample by its name, else of the source of files
-abbrev pub image_file : (List ℕ → Option (List ℕ)) → List ℕ → Option (List ℕ)
+unfoldable pub image_file : (List ℕ → Option (List ℕ)) → List ℕ → Option (List ℕ)
 image_file known name = if bytes_eq name (codes "@sample") then Some sample_file else known name

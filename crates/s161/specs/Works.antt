@@ -21,11 +21,11 @@ Prints IsText before after = (text : List ℕ) × IsText text × Appends before 
 abbrev pub Finishes : Task → (Text → Option (List ℕ)) → Option (List ℕ) → Option (List ℕ) → Option (List ℕ) → ℕ → Type 0
 Finishes Demo files input before after status = status ≡ 0
 Finishes (Run task) files input before after status =
-    Prints (λ text. IsRun task (files task.image.now) input text status) before after
+    Prints (λ text. IsRun task (image_file files task.image.now) input text status) before after
 Finishes (Replay task) files input before after status =
-    Prints (λ text. IsReplay task (files task.image.now) (files task.text.now) text status) before after
+    Prints (λ text. IsReplay task (image_file files task.image.now) (files task.text.now) text status) before after
 Finishes (Debug task) files input before after status =
-    (status ≡ 0) × Prints (λ text. IsDebug task (files task.image.now) (files task.text.now) input text) before after
+    (status ≡ 0) × Prints (λ text. IsDebug task (image_file files task.image.now) (files task.text.now) input text) before after
 Finishes Assemble files input before after status = (status ≡ 0) × Prints (IsAssembled input) before after
 Finishes (Disassemble image) files input before after status =
     (status ≡ 0) × Prints (IsDisassembled (image_file files image.now)) before after

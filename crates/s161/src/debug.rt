@@ -3,12 +3,14 @@
 ghost use Rattle.std.specs.Prelude.{◌≡◌, [], IfOk, drop, string_bytes};
 ghost use Rattle.m161_steplog.specs.Lines.{lines_of};
 ghost use Rattle.s161.specs.Debugs.{DoesLine, DoesLines, IsDebug};
+ghost use Rattle.s161.specs.Samples.{image_file};
 
 use crate::command::FilesTask;
 use crate::fault::Fault;
 use crate::files::FileSource;
-use crate::input::{read_file, read_input, read_text};
+use crate::input::{read_input, read_text};
 use crate::run::Finished;
+use crate::sample::read_image;
 use crate::texts::{events_of, next_line};
 use crate::{Machine, Session};
 use m161_machine::Event;
@@ -28,11 +30,11 @@ pub fn debug<'a, F: FileSource, I: Read>(
     task: FilesTask<'a>,
 ) -> Result<Finished, Fault<'a>>
     ensures printed { IfOk result (λ done. IsDebug task.entry
-        (F.known files.old task.entry.image.now) (F.known files.old task.entry.text.now)
+        (image_file (F.known files.old) task.entry.image.now) (F.known files.old task.entry.text.now)
         (I.remaining input.old) done.text.items) }
     ensures status { IfOk result (λ done. done.status ≡ 0) }
 {
-    let file = read_file(alloc, files, task.image)?;
+    let file = read_image(alloc, files, task.image)?;
     let schedule = read_text(alloc, files, task.text)?;
     let commands = read_input(alloc, input)?;
     let events = events_of(alloc, schedule.as_str())?;

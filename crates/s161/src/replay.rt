@@ -3,12 +3,14 @@
 ghost use Rattle.std.specs.Prelude.{◌≡◌, IfOk, string_bytes};
 ghost use Rattle.m161_debug.specs.Shows.{ended};
 ghost use Rattle.s161.specs.Replays.{IsReplay, status_of_verdict, verdict_text};
+ghost use Rattle.s161.specs.Samples.{image_file};
 
 use crate::command::FilesTask;
 use crate::fault::Fault;
 use crate::files::FileSource;
-use crate::input::{read_file, read_text};
+use crate::input::read_text;
 use crate::run::Finished;
+use crate::sample::read_image;
 use crate::texts::entries_of;
 use m161_console::PlainConsole;
 use m161_steplog::{Verdict, verify};
@@ -25,10 +27,10 @@ pub fn replay<'a, F: FileSource>(
     files: &mut F,
     task: FilesTask<'a>,
 ) -> Result<Finished, Fault<'a>>
-    ensures { IfOk result (λ done. IsReplay task.entry (F.known files.old task.entry.image.now)
+    ensures { IfOk result (λ done. IsReplay task.entry (image_file (F.known files.old) task.entry.image.now)
         (F.known files.old task.entry.text.now) done.text.items done.status) }
 {
-    let file = read_file(alloc, files, task.image)?;
+    let file = read_image(alloc, files, task.image)?;
     let log = read_text(alloc, files, task.text)?;
     let entries = entries_of(alloc, log.as_str())?;
     let verdict = verify::<Scan, PlainConsole>(alloc, &file, task.conf, &entries)?;

@@ -2,12 +2,14 @@
 
 ghost use Rattle.std.specs.Prelude.{◌≡◌, IfErr, IfOk};
 ghost use Rattle.s161.specs.Runs.{IsFaultOf, IsRun, status_of};
+ghost use Rattle.s161.specs.Samples.{image_file};
 
 use crate::command::RunTask;
 use crate::events::{Stop, make_events};
 use crate::fault::Fault;
 use crate::files::FileSource;
-use crate::input::{read_file, read_input};
+use crate::input::read_input;
+use crate::sample::read_image;
 use crate::summary::summary;
 use crate::texts::events_of;
 use crate::{Machine, Session};
@@ -32,12 +34,12 @@ pub fn run<'a, F: FileSource, I: Read>(
     input: &mut I,
     task: RunTask<'a>,
 ) -> Result<Finished, Fault<'a>>
-    ensures ok { IfOk result (λ done. IsRun task.entry (F.known files.old task.entry.image.now)
+    ensures ok { IfOk result (λ done. IsRun task.entry (image_file (F.known files.old) task.entry.image.now)
         (I.remaining input.old) done.text.items done.status) }
-    ensures fault { IfErr result (IsFaultOf task.entry (F.known files.old task.entry.image.now)
+    ensures fault { IfErr result (IsFaultOf task.entry (image_file (F.known files.old) task.entry.image.now)
         (I.remaining input.old)) }
 {
-    let file = read_file(alloc, files, task.image)?;
+    let file = read_image(alloc, files, task.image)?;
     let schedule = read_input(alloc, input)?;
     let events = events_of(alloc, schedule.as_str())?;
     let mut machine = Machine::boot(alloc, &file, task.conf)?;

@@ -1,6 +1,6 @@
 //! The built-in sample kernel.
 
-ghost use Rattle.std.specs.Prelude.{◌≡◌, ◌⊎◌, IfErr, IfOk, IfSome};
+ghost use Rattle.std.specs.Prelude.{◌≡◌, ◌⊎◌, ℕ, List, IfErr, IfOk, IfSome};
 ghost use Rattle.s161.specs.Samples.{image_file, sample_file, IsSample};
 
 use crate::fault::Fault;
@@ -140,6 +140,7 @@ pub fn sample_image<'a>(alloc: Global) -> Result<Vec<u8>, Fault<'a>>
 ///
 /// # Errors
 /// The file isn't read; memory was refused.
+#[tactic(auto, unfolding(crate::specs::Samples::image_file))]
 pub fn read_image<'a, F: FileSource>(
     alloc: Global,
     files: &mut F,
@@ -147,6 +148,7 @@ pub fn read_image<'a, F: FileSource>(
 ) -> Result<Vec<u8>, Fault<'a>>
     ensures whole { IfOk result (λ file. IfSome (image_file (F.known files.old) name.entry.now)
         (λ known. file.items ≡ known)) }
+    ensures still { (other : List ℕ) → F.known files.new other ≡ F.known files.old other }
     ensures err { IfErr result (λ fault. (fault ≡ Fault.File name.entry) ⊎ (fault ≡ Fault.Memory)) }
 {
     if name == NAME {

@@ -137,7 +137,7 @@ fn do_run<'a, F: FileSource, I: Read, O: Write>(
     output: &mut O,
 ) -> Result<u8, Fault<'a>>
     ensures printed { IfOk result (λ status. Prints (λ text. IsRun task.entry
-        (F.known files.old task.entry.image.now) (I.remaining input.old) text status)
+        (image_file (F.known files.old) task.entry.image.now) (I.remaining input.old) text status)
         (O.contents output.old) (O.contents output.new)) }
     ensures within { IfOk result (λ status. (status ≤ 3) × (status ≢ 2)) }
 {
@@ -152,7 +152,7 @@ fn do_replay<'a, F: FileSource, O: Write>(
     output: &mut O,
 ) -> Result<u8, Fault<'a>>
     ensures printed { IfOk result (λ status. Prints (λ text. IsReplay task.entry
-        (F.known files.old task.entry.image.now) (F.known files.old task.entry.text.now) text
+        (image_file (F.known files.old) task.entry.image.now) (F.known files.old task.entry.text.now) text
         status) (O.contents output.old) (O.contents output.new)) }
     ensures within { IfOk result (λ status. (status ≡ 0) ⊎ (status ≡ 4)) }
 {
@@ -168,7 +168,7 @@ fn do_debug<'a, F: FileSource, I: Read, O: Write>(
     output: &mut O,
 ) -> Result<u8, Fault<'a>>
     ensures printed { IfOk result (λ _. Prints (λ text. IsDebug task.entry
-        (F.known files.old task.entry.image.now) (F.known files.old task.entry.text.now)
+        (image_file (F.known files.old) task.entry.image.now) (F.known files.old task.entry.text.now)
         (I.remaining input.old) text) (O.contents output.old) (O.contents output.new)) }
     ensures status { IfOk result (λ status. status ≡ 0) }
 {

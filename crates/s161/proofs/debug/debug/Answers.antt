@@ -6,17 +6,18 @@ use Rattle.m161_steplog.specs.Schedule.{IsSchedule}
 use Rattle.m161_debug.specs.Breakpoints.{Debugged}
 use Rattle.s161.specs.Debugs.{DoesLines}
 use Rattle.s161.proofs.Making.{booted_ok}
+use Rattle.s161.specs.Samples.{image_file}
 use Rattle.s161.proofs.debug.debug.Goals as goal
 
 pub returns-clause-printed : goal.returns-clause-printed
 returns-clause-printed g c =
     let known = g.F.FileSource.known c.args.files.now in
-    let image = known c.args.task.image.now in
+    let image = image_file known c.args.task.image.now in
     let text = known c.args.task.text.now in
     let input = g.I.Read.remaining c.args.input.now in
     let P : List ℕ → Type 0 = λ file. IfSome image (λ bytes. file ≡ bytes) in
     let Q : Option (List ℕ) → Type 0 = λ schedule. IfSome schedule (λ bytes. c.as_str.result.now ≡ bytes) in
-    let R : List ℕ → Type 0 = λ schedule. IfSome (g.F.FileSource.known c.read_file.new.files c.args.task.text.now) (λ bytes. schedule ≡ bytes) in
+    let R : List ℕ → Type 0 = λ schedule. IfSome (g.F.FileSource.known c.read_image.new.files c.args.task.text.now) (λ bytes. schedule ≡ bytes) in
     let S : List Event → Type 0 = λ events. IsSchedule (lines_of c.as_str.result.now) events in
     let T : List ℕ → Type 0 = λ commands. IfSome input (λ bytes. commands ≡ bytes) in
     let printed = c.in_ok-from_slice.field-0.items in

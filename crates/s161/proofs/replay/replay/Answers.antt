@@ -3,16 +3,17 @@ use Rattle.m161_machine.specs.declared.event.Entry.{Entry}
 use Rattle.m161_machine.specs.History.{boot_fault}
 use Rattle.m161_steplog.specs.Log.{IsLog}
 use Rattle.s161.proofs.Making.{verified_ok}
+use Rattle.s161.specs.Samples.{image_file}
 use Rattle.s161.proofs.replay.replay.Goals as goal
 
 pub returns : goal.returns
 returns g c =
     let known = g.F.FileSource.known c.args.files.now in
-    let image = known c.args.task.image.now in
+    let image = image_file known c.args.task.image.now in
     let text = known c.args.task.text.now in
     let P : List ℕ → Type 0 = λ file. IfSome image (λ bytes. file ≡ bytes) in
     let Q : Option (List ℕ) → Type 0 = λ log. IfSome log (λ bytes. c.as_str.result.now ≡ bytes) in
-    let R : List ℕ → Type 0 = λ log. IfSome (g.F.FileSource.known c.read_file.new.files c.args.task.text.now) (λ bytes. log ≡ bytes) in
+    let R : List ℕ → Type 0 = λ log. IfSome (g.F.FileSource.known c.read_image.new.files c.args.task.text.now) (λ bytes. log ≡ bytes) in
     let S : List Entry → Type 0 = λ entries. IsLog c.as_str.result.now entries in
     let verified = verified_ok c.deref.result.now c.args.task.conf (boot_fault c.deref.result.now c.args.task.conf) c.deref-2.result.now c.in_ok-verdict.verdict c.in_ok-verdict.ensures in
     record {

@@ -8,6 +8,7 @@ use Rattle.m161_debug.specs.Breakpoints.{Debugged}
 use Rattle.s161.specs.Runs.{HasSchedule, summary_text}
 use Rattle.s161.proofs.Failing.{boot_failed, schedule_failed}
 use Rattle.s161.proofs.Making.{booted_ok}
+use Rattle.s161.specs.Samples.{image_file}
 use Rattle.s161.proofs.run.run.Goals as goal
 
 pub returns-clause-ok : goal.returns-clause-ok
@@ -15,7 +16,7 @@ returns-clause-ok g c =
     let known = g.I.Read.remaining c.args.input.now in
     let P : List ℕ → Type 0 = λ schedule. IfSome known (λ bytes. schedule ≡ bytes) in
     let Q : List Event → Type 0 = λ events. IsSchedule (lines_of c.as_str.result.now) events in
-    let file_known = g.F.FileSource.known c.args.files.now c.args.task.image.now in
+    let file_known = image_file (g.F.FileSource.known c.args.files.now) c.args.task.image.now in
     let R : List ℕ → Type 0 = λ file. IfSome file_known (λ bytes. file ≡ bytes) in
     record {
       file = c.deref.result.now;
@@ -35,7 +36,7 @@ returns-clause-ok g c =
 
 pub returns-in_err-events-clause-fault : goal.returns-in_err-events-clause-fault
 returns-in_err-events-clause-fault g c =
-    let known = g.F.FileSource.known c.args.files.now c.args.task.image.now in
+    let known = image_file (g.F.FileSource.known c.args.files.now) c.args.task.image.now in
     let input = g.I.Read.remaining c.args.input.now in
     let P : List ℕ → Type 0 = λ schedule. IfSome input (λ bytes. schedule ≡ bytes) in
     let failed = schedule_failed c.args.task known input c.as_str.result.now c.in_err-events.field-0.0
@@ -45,7 +46,7 @@ returns-in_err-events-clause-fault g c =
 -- standard input has a schedule, and the boot's answer says the rest
 pub returns-in_err-machine-clause-fault : goal.returns-in_err-machine-clause-fault
 returns-in_err-machine-clause-fault g c =
-    let known = g.F.FileSource.known c.args.files.now c.args.task.image.now in
+    let known = image_file (g.F.FileSource.known c.args.files.now) c.args.task.image.now in
     let input = g.I.Read.remaining c.args.input.now in
     let P : List ℕ → Type 0 = λ schedule. IfSome input (λ bytes. schedule ≡ bytes) in
     let R : List ℕ → Type 0 = λ file. IfSome known (λ bytes. file ≡ bytes) in
