@@ -31,14 +31,16 @@ Commands:
   run     Runs an image under a schedule of events
   replay  Makes a log's events once more, and compares their outcomes
   debug   Does a debugger's commands on an image under a schedule
+  as      Assembles a text to an ELF file
+  dis     Prints the instructions of an image
   help    Print this message or the help of the given subcommand(s)
 
 Options:
   -h, --help  Print help
 
 Exit status:
-  0  a finished demo or debug, a machine that switched itself off, or a log
-     that agrees
+  0  a finished demo, debug, as or dis, a machine that switched itself off, or
+     a log that agrees
   1  a fault, named on standard error, or a refused event of run
   2  a rejected command line, or a call for help
   3  the schedule ended

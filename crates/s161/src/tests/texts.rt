@@ -166,13 +166,21 @@ fn sample_machine(alloc: Global, schedule: &str) -> Result<Option<(Machine, Stop
     Ok(Some((machine, stop)))
 }
 
+/// How many Steps the first two processors have made.
+fn counts(machine: &Machine) -> Option<(u64, u64)> {
+    if machine.processors() < 2 {
+        return None;
+    }
+    Some((machine.count(0), machine.count(1)))
+}
+
 #[test]
 fn run_sample(rt: HostRuntime) -> Result<(), Fail> {
     let schedule = "s 0 11\ns 1 16\ns 0 6\ns 1 23\ns 0 4\ns 1 17\ns 0 4\n";
     match sample_machine(rt.alloc(), schedule)? {
         Some((machine, stop)) => {
             same(&rt, stop, Stop::Off);
-            same(&rt, (machine.count(0), machine.count(1)), (25, 56));
+            same(&rt, counts(&machine), Some((25, 56)));
             same(&rt, machine.log_len(), 81);
         }
         None => same(&rt, "no sample", ""),
