@@ -1,5 +1,7 @@
 pub mod Replay
 pub mod Continuing
+pub mod Counting
+pub mod Resuming
 mod Linking
 mod Starting
 mod Places

@@ -34,7 +34,7 @@ kept_count : (start : Bool) (a p : Processor) → a.count ≡ p.count → (if st
 kept_count true a p same = same
 kept_count false a p same = refl
 
-count_kept : (before : ℕ) (board : BoardState) (c : ℕ) (p : Processor) → (started_by before board c p).count ≡ p.count
+pub count_kept : (before : ℕ) (board : BoardState) (c : ℕ) (p : Processor) → (started_by before board c p).count ≡ p.count
 count_kept before board c p =
     kept_count (has_bit board.started c && not (has_bit before c))
     (started (start_words c board).pc (start_words c board).r4 (start_words c board).r29 p.count) p refl

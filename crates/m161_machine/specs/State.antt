@@ -141,6 +141,16 @@ answer s event.Done = answered_done s (board_done s.board)
 unfoldable pub next : State → Event → Result (Outcome × State) Refusal
 next s e = unless (refusal s e) (answer s e)
 
+-- how many Steps each processor has made
+abbrev pub counts : State → List ℕ
+counts s = map (λ (p : Processor). p.count) s.processors
+
+-- the counts after an event: a Step counts once, of its processor
+abbrev pub counts_after : Event → List ℕ → List ℕ
+counts_after (event.Step p) counts = slice_set counts p (slice_index_or counts p 0 + 1)
+counts_after (event.Key byte) counts = counts
+counts_after event.Done counts = counts
+
 -- the word at a physical address, where it is aligned and within RAM
 abbrev pub word_in : List ℕ → ℕ → Option ℕ
 word_in memory at = if (at % 4 == 0) && nat_le (at + 4) (length memory) then Some (word_at memory at) else None

@@ -21,6 +21,7 @@ mod conf;
 mod event;
 mod kept;
 mod machine;
+mod start;
 mod step;
 
 pub use conf::{BootError, Conf};
@@ -31,3 +32,4 @@ pub use m161_elf::LoadError;
 pub use m161_isa::Reg;
 pub use m161_tlb::Row;
 pub use machine::Machine;
+pub use start::Start;

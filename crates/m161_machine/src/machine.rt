@@ -6,6 +6,7 @@ ghost use Rattle.m161_cpu.specs.Processor.{started, stopped};
 ghost use Rattle.m161_machine.specs.declared.event.Entry.{Entry};
 ghost use Rattle.m161_machine.specs.declared.event.Event.TheVariants as events;
 ghost use Rattle.m161_machine.specs.Conf.{is_within_limits};
+ghost use Rattle.m161_machine.specs.Parts.{CountUpTo};
 ghost use Rattle.m161_machine.specs.State.{refusal};
 ghost use Rattle.m161_machine.specs.History.{boot_fault, Boots, Answers, Continues, Ends, IsLoaded, IsReplay};
 
@@ -316,6 +317,7 @@ impl<T: Tlb, D: Console> Machine<T, D> {
         ensures processors { length self.now.state.processors ≡ self.now.start.conf.processors }
         ensures accepted { self.now.state.accepted ≡ length self.now.log }
         ensures room { length self.now.log ≤ self.now.start.conf.log }
+        ensures counts { CountUpTo (length self.now.log) self.now.state.processors }
     {
         let _log = &self.log;
     }

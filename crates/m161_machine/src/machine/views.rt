@@ -1,6 +1,6 @@
 //! What a machine shows. No view allocates but `copy_log`.
 
-ghost use Rattle.std.specs.Prelude.{◌≡◌, ◌<◌, Some, length, slice_get, slice_index, IfOk};
+ghost use Rattle.std.specs.Prelude.{◌≡◌, ◌≢◌, ◌<◌, true, false, Some, length, slice_get, slice_index, IfOk};
 ghost use Rattle.m161_bus.specs.Board.{lines_of};
 ghost use Rattle.m161_cop0.specs.Control.{read_of};
 ghost use Rattle.m161_cop0.specs.Registers.{number_of_register};
@@ -9,6 +9,7 @@ ghost use Rattle.m161_machine.specs.State.{processor_at, word_in};
 use crate::conf::Conf;
 use crate::event::Entry;
 use crate::machine::Machine;
+use crate::start::Start;
 use m161_bus::Console;
 use m161_cop0::Register;
 use m161_cpu::ProcessorState;
@@ -110,6 +111,28 @@ impl<T: Tlb, D: Console> Machine<T, D> {
             entries.push_reserved(kept.entry());
         }
         Ok(entries)
+    }
+
+    /// What it was booted from: the bytes of its whole RAM as they were loaded, the entry and the
+    /// configuration.
+    pub fn copy_start(&self, alloc: Global) -> Result<Start, AllocError>
+        ensures { IfOk result (λ start. start ≡ self.now.start) }
+    {
+        Ok(Start {
+            bytes: Vec::from_slice(alloc, self.image.bytes.as_slice())?,
+            entry: self.image.entry,
+            conf: self.conf,
+        })
+    }
+
+    /// Whether it was booted from the same as this; it does not allocate.
+    pub fn starts_as(&self, start: &Start) -> bool
+        ensures yes { result ≡ true → self.now.start ≡ start.now }
+        ensures no { result ≡ false → self.now.start ≢ start.now }
+    {
+        self.image.entry == start.entry
+            && self.conf == start.conf
+            && self.image.bytes.as_slice() == start.bytes.as_slice()
     }
 
     /// Its configuration.

@@ -1,0 +1,3 @@
+pub mod Shares
+pub mod Work
+pub mod Runs
