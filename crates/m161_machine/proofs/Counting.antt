@@ -76,7 +76,7 @@ starts_count before board c (p ∷ ps) =
     let rest = starts_count before board (c + 1) ps in
     λ i. first i ∷ rest i
 
-count_at : (ps : List Processor) (p : ℕ) →
+pub count_at : (ps : List Processor) (p : ℕ) →
     get_or (map (λ (q : Processor). q.count) ps) p 0 ≡ (get_or ps p stopped).count
 count_at [] p = refl
 count_at (q ∷ qs) zero = refl

@@ -1,4 +1,4 @@
-use Rattle.std.proofs.Common.{◌≡◌, ◌∙◌, refl, ap, sym, subst, List, [], ◌∷◌, ◌++◌, Option, None, Some, Result, Ok, Err}
+use Rattle.std.proofs.Common.{◌≡◌, ◌∙◌, refl, ap, sym, List, [], ◌∷◌, ◌++◌, Option, None, Some, Result, Ok, Err}
 use Rattle.std.proofs.lemmas.List.{map-append}
 use Rattle.m161_cpu.specs.declared.processor.Outcome.{Outcome}
 use Rattle.m161_machine.specs.declared.event.Event.{Event}
@@ -21,7 +21,7 @@ rest_after (Some r) (Some q) first os more u t rest goes h k =
     let os_are : first ∷ r.0 ≡ os = ap (λ x. x.0) begins in
     let u_is : r.1 ≡ u = ap (λ x. x.1) begins in
     let all_are : ◌≡◌ {A = List Outcome} (first ∷ q.0) (first ∷ (r.0 ++ more)) =
-      ap (λ x. x.0) whole ∙ ap (λ (os : List Outcome). os ++ more) (sym os_are) in
+    ap (λ x. x.0) whole ∙ ap (λ (os : List Outcome). os ++ more) (sym os_are) in
     let q_is : q.0 ≡ r.0 ++ more = cc in
     let t_is : q.1 ≡ t = ap (λ x. x.1) whole in
     goes r.0 (ap (λ v. Some (r.0, v)) u_is) (λ i. Some (q_is i, t_is i))
@@ -48,12 +48,12 @@ pub resumes : (m n : History) (entries : List Entry) → IsReplay m → IsReplay
     n.log ≡ m.log ++ entries → Continues m (events_of entries) n
 resumes m n entries m_replays n_replays start_is log_is =
     let whole : run (boot_state m.start) (events_of m.log ++ events_of entries) ≡ Some (outcomes_of m.log ++ outcomes_of entries, n.state) =
-      sym
-      ((λ i. run (boot_state (start_is i)) (events_of (log_is i)))
-      ∙ ap (run (boot_state m.start)) (map-append (λ (e : Entry). e.event) m.log entries))
-      ∙ n_replays
-      ∙ (λ i. Some (outcomes_of (log_is i), n.state))
-      ∙ ap (λ os. Some (os, n.state)) (map-append (λ (e : Entry). e.outcome) m.log entries) in
+    sym
+    ((λ i. run (boot_state (start_is i)) (events_of (log_is i)))
+    ∙ ap (run (boot_state m.start)) (map-append (λ (e : Entry). e.event) m.log entries))
+    ∙ n_replays
+    ∙ (λ i. Some (outcomes_of (log_is i), n.state))
+    ∙ ap (λ os. Some (os, n.state)) (map-append (λ (e : Entry). e.outcome) m.log entries) in
     record {
       entries = entries;
       events_are = refl;

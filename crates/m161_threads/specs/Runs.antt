@@ -1,7 +1,13 @@
-use Rattle.std.specs.Prelude.{◌≡◌, ℕ, ◌<◌, ◌≤◌, Bool, true, false, nat_lt, ◌==◌, List, length, slice_index_or, list_all, count_by}
+use Rattle.std.specs.Prelude.{◌≡◌, ◌≢◌, ℕ, ◌+◌, ◌<◌, ◌≤◌, Bool, true, false, nat_lt, ◌==◌, if◌then◌else◌, List, length, slice_index_or, sum, take, All, Option, None, Some}
+use Rattle.std.specs.List.{count_by, list_all}
+use Rattle.m161_machine.specs.declared.event.Entry.{Entry}
 use Rattle.m161_machine.specs.declared.event.Event.{Event}
 use Rattle.m161_machine.specs.declared.event.Event.TheVariants as event
-use Rattle.m161_machine.specs.History.{History, Continues}
+use Rattle.m161_machine.specs.State.{counts}
+use Rattle.m161_machine.specs.History.{History, Start, Continues, IsReplay}
+use Rattle.m161_threads.specs.declared.cause.Cause.{Cause}
+use Rattle.m161_threads.specs.declared.cause.Cause.TheVariants.{BadQuotas, NotYet}
+use Rattle.m161_threads.specs.Shares.{Matches, NotedOnlyOff, Place}
 
 -- What a run in threads comes to: one interleaving of Steps.
 
@@ -26,8 +32,8 @@ pub record IsInterleaving (made : List ℕ) (events : List Event) : Type 0 where
   pub steps : list_all (is_step_below (length made)) events ≡ true
   pub each : (p : ℕ) → p < length made → steps_of p events ≡ slice_index_or made p 0
 
--- a run from a machine, with a quota of Steps for each processor: some interleaving of so many Steps was made.
--- Each processor made its quota, or the machine is off and none made more
+-- a run from a machine, with a quota of Steps for each processor: some interleaving of so many Steps was made of
+-- it. Each processor made its quota, or the machine is off and none made more
 pub record Interleaves (before : History) (quotas made : List ℕ) (off : Bool) (after : History) : Type 0 where
   pub events : List Event
   pub interleaving : IsInterleaving made events
@@ -35,4 +41,31 @@ pub record Interleaves (before : History) (quotas made : List ℕ) (off : Bool) 
   pub number : length made ≡ length quotas
   pub within : (p : ℕ) → p < length quotas → slice_index_or made p 0 ≤ slice_index_or quotas p 0
   pub whole : off ≡ false → made ≡ quotas
+  pub off_is : off ≡ after.state.board.off
+  -- and so each Step counts once
+  pub counted : (p : ℕ) → p < length quotas →
+      slice_index_or (counts after.state) p 0 ≡ slice_index_or (counts before.state) p 0 + slice_index_or made p 0
+
+-- why a run isn't begun, for so many quotas and processors
+abbrev pub bad_call : ℕ → ℕ → Option Cause
+bad_call quotas processors =
+    if quotas == processors then (if processors == 2 then None else Some NotYet) else Some BadQuotas
+
+-- a cause that comes after a run was begun
+abbrev pub IsOfRun : Cause → Type 0
+IsOfRun cause = (cause ≢ BadQuotas) × (cause ≢ NotYet)
+
+-- how a run fails: where it isn't begun, with the machine as it was
+abbrev pub Fails : Option Cause → History → Cause → History → Type 0
+Fails (Some first) before cause after = (cause ≡ first) × (after ≡ before)
+Fails None before cause after = IsOfRun cause × IsReplay after
+
+-- what is compared after a run with what was copied before it; a word that private functions' contracts share
+pub record IsChecked (start : Start) (log : List Entry) (seats : List Place) (made : List ℕ) (off : Bool) (after : History) : Type 0 where
+  pub replay : IsReplay after
+  pub start_is : after.start ≡ start
+  pub number : length after.log ≡ length log + sum made
+  pub log_is : take (length log) after.log ≡ log
+  pub seats_are : All (Matches after.state) seats
+  pub noted : NotedOnlyOff after.state seats
   pub off_is : off ≡ after.state.board.off

@@ -1,4 +1,4 @@
-use Rattle.std.specs.Prelude.{◌≡◌, ℕ, ◌+◌, ◌<◌, Bool, true, false, List, [], ◌∷◌, length, slice_index_or, sum}
+use Rattle.std.specs.Prelude.{◌≡◌, ℕ, ◌+◌, ◌<◌, ◌≤◌, Bool, true, false, List, [], ◌∷◌, length, slice_get, slice_index_or, sum, All, Option, None, Some, nat_le, if◌then◌else◌}
 use Rattle.m161_machine.specs.State.{State, counts}
 use Rattle.m161_machine.specs.History.{History}
 
@@ -33,3 +33,26 @@ places_from p (count ∷ counts) = place p count ∷ places_from (p + 1) counts
 abbrev pub Matches : State → Place → Type 0
 Matches s seat =
     (seat.processor < length s.processors) × (slice_index_or (counts s) seat.processor 0 ≡ seat.count)
+
+-- no seat has noted that the machine is off unless it is
+abbrev pub NotedOnlyOff : State → List Place → Type 0
+NotedOnlyOff s seats = All (λ (seat : Place). seat.noted ≡ true → s.board.off ≡ true) seats
+
+-- a seat of this processor hasn't its count, and none of a lesser processor hasn't
+pub record IsLeastMiscount (s : State) (seats : List Place) (p : ℕ) : Type 0 where
+  pub seat : Place
+  pub at : ℕ
+  pub there : slice_get seats at ≡ Some seat
+  pub its : seat.processor ≡ p
+  pub wrong : Matches s seat → ⊥
+  pub least : All (λ (other : Place). (Matches s other → ⊥) → p ≤ other.processor) seats
+
+-- each seat has its processor's count, or the least of those that haven't
+abbrev pub Miscounts : State → List Place → Option ℕ → Type 0
+Miscounts s seats None = All (Matches s) seats
+Miscounts s seats (Some p) = IsLeastMiscount s seats p
+
+-- the lesser of two numbers, where there is a first
+abbrev pub least_of : Option ℕ → ℕ → ℕ
+least_of None number = number
+least_of (Some least) number = if nat_le least number then least else number

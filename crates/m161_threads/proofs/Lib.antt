@@ -1,0 +1,5 @@
+mod Events
+mod Seating
+mod Working
+mod Interleaving
+mod Outcomes

@@ -1,0 +1,111 @@
+use Rattle.std.proofs.Common.{◌≡◌, ◌∙◌, refl, ap, sym, ℕ, zero, suc, ◌+◌, ◌<◌, Bool, true, false, List, [], ◌∷◌, ◌++◌, length, get_or, drop, arith}
+use Rattle.std.specs.Prelude.{sum}
+use Rattle.std.proofs.lemmas.List.{length-append, length-map, take-append-drop}
+use Rattle.std.proofs.lemmas.List.Sums.{sum_by-cons}
+use Rattle.m161_cpu.specs.Processor.{Processor}
+use Rattle.m161_machine.specs.declared.event.Entry.{Entry}
+use Rattle.m161_machine.specs.State.{counts}
+use Rattle.m161_machine.specs.History.{History, Continues, IsReplay, events_of, outcomes_of}
+use Rattle.m161_machine.proofs.Resuming.{resumes}
+use Rattle.m161_threads.specs.Runs.{Interleaves, IsChecked, is_step_below, steps_of}
+use Rattle.m161_threads.specs.Shares.{Place, place, places_from}
+use Rattle.m161_threads.specs.Work.{HasWorked}
+use Rattle.m161_threads.proofs.Interleaving.{all_pass, count_through, counts_run, counts_through, length_through, sum_through}
+
+-- What the workers say and what was compared make one interleaving.
+
+pub length_places : (k : ℕ) (cs : List ℕ) → length (places_from k cs) ≡ length cs
+length_places k [] = refl
+length_places k (c ∷ cs) = ap (λ n. suc n) (length_places (k + 1) cs)
+
+place_at : (k : ℕ) (cs : List ℕ) (i at : ℕ) (d : Place) → i < length cs → at ≡ k + i →
+    get_or (places_from k cs) i d ≡ place at (get_or cs i 0)
+place_at k [] i at d inside at_is = absurd (let bad : ⊥ = omega (arith, inside) in bad)
+place_at k (c ∷ cs) zero at d inside at_is = let here : k ≡ at = omega (arith, at_is) in ap (λ n. place n c) here
+place_at k (c ∷ cs) (suc i) at d inside at_is = place_at (k + 1) cs i at d (omega (arith, inside)) (omega (arith, at_is))
+
+-- lists that add up, place by place
+sums_add : (xs ys zs : List ℕ) → length xs ≡ length zs → length ys ≡ length zs →
+    ((p : ℕ) → p < length zs → get_or xs p 0 ≡ get_or ys p 0 + get_or zs p 0) → sum xs ≡ sum ys + sum zs
+sums_add [] [] [] a b each = omega arith
+sums_add (x ∷ xs) ys [] a b each = absurd (let bad : ⊥ = omega (arith, a) in bad)
+sums_add [] (y ∷ ys) [] a b each = absurd (let bad : ⊥ = omega (arith, b) in bad)
+sums_add [] ys (z ∷ zs) a b each = absurd (let bad : ⊥ = omega (arith, a) in bad)
+sums_add (x ∷ xs) [] (z ∷ zs) a b each = absurd (let bad : ⊥ = omega (arith, b) in bad)
+sums_add (x ∷ xs) (y ∷ ys) (z ∷ zs) a b each =
+    let first : x ≡ y + z = each 0 (omega arith) in
+    let rest = sums_add xs ys zs (omega (arith, a)) (omega (arith, b)) (λ p inside. each (suc p) (omega (arith, inside))) in
+    let sum_x = sum_by-cons (λ n. n) x xs in
+    let sum_y = sum_by-cons (λ n. n) y ys in
+    let sum_z = sum_by-cons (λ n. n) z zs in
+    omega (arith, first, rest, sum_x, sum_y, sum_z)
+
+same_list : (xs ys : List ℕ) → length xs ≡ length ys →
+    ((p : ℕ) → p < length ys → get_or xs p 0 ≡ get_or ys p 0) → xs ≡ ys
+same_list [] [] a each = refl
+same_list (x ∷ xs) [] a each = absurd (let bad : ⊥ = omega (arith, a) in bad)
+same_list [] (y ∷ ys) a each = absurd (let bad : ⊥ = omega (arith, a) in bad)
+same_list (x ∷ xs) (y ∷ ys) a each =
+    let first : x ≡ y = each 0 (omega arith) in
+    let rest = same_list xs ys (omega (arith, a)) (λ p inside. each (suc p) (omega (arith, inside))) in
+    λ i. first i ∷ rest i
+
+not_noted : (noted off : Bool) → (noted ≡ true → off ≡ true) → off ≡ false → noted ≡ false
+not_noted true off h on = absurd (let bad : true ≡ false = sym (h refl) ∙ on in cc)
+not_noted false off h on = refl
+
+pub interleaves : (before after : History) (quotas : List ℕ) (seats : List Place) (made : List ℕ) (off : Bool) →
+    IsReplay before → length quotas ≡ length before.state.processors →
+    HasWorked (places_from 0 (counts before.state)) quotas seats made →
+    IsChecked before.start before.log seats made off after → Interleaves before quotas made off after
+interleaves before after quotas seats made off replays number worked checked =
+    let d = place 0 0 in
+    let cs = counts before.state in
+    let size : length cs ≡ length quotas = length-map before.state.processors (λ (p : Processor). p.count) ∙ sym number in
+    let entries = drop (length before.log) after.log in
+    let log_is : after.log ≡ before.log ++ entries =
+    sym (take-append-drop (length before.log) after.log) ∙ ap (λ (l : List Entry). l ++ entries) checked.log_is in
+    let goes_on : Continues before (events_of entries) after =
+    resumes before after entries replays checked.replay checked.start_is log_is in
+    let through : counts after.state ≡ counts_through (events_of entries) cs =
+    counts_run (events_of entries) before.state after.state (outcomes_of goes_on.entries) goes_on.run_is in
+    let counted : (p : ℕ) → p < length quotas → get_or (counts after.state) p 0 ≡ get_or cs p 0 + get_or made p 0 = λ p inside.
+    let works = worked.each p d d inside in
+    let there : p < length seats = omega (arith, inside, worked.seats_number) in
+    let here = place_at 0 cs p p d (omega (arith, inside, size)) (omega arith) in
+    let its : (get_or seats p d).processor ≡ p = works.processor_is ∙ ap (λ (s : Place). s.processor) here in
+    let fits = (checked.seats_are p d there).1 in
+    ap (λ n. get_or (counts after.state) n 0) (sym its) ∙ fits ∙ works.counted
+    ∙ ap (λ (s : Place). s.count + get_or made p 0) here in
+    let each : (p : ℕ) → p < length made → steps_of p (events_of entries) ≡ get_or made p 0 = λ p inside.
+    let there : p < length quotas = omega (arith, inside, worked.made_number) in
+    let steps = count_through (events_of entries) p cs (omega (arith, there, size)) in
+    let is = ap (λ c. get_or c p 0) through in
+    let sums = counted p there in
+    omega (arith, steps, is, sums) in
+    let same_size : length (counts after.state) ≡ length made =
+    ap length through ∙ length_through (events_of entries) cs ∙ size ∙ sym worked.made_number in
+    let added = sums_add (counts after.state) cs made same_size (size ∙ sym worked.made_number)
+    (λ p inside. counted p (omega (arith, inside, worked.made_number))) in
+    let all = sum_through (events_of entries) cs (length made) (size ∙ sym worked.made_number) in
+    let sum_is = ap sum through in
+    let events_number = length-map entries (λ (e : Entry). e.event) in
+    let log_number = ap length log_is ∙ length-append before.log entries in
+    let is = checked.number in
+    record {
+      events = events_of entries;
+      interleaving = record {
+        steps = all_pass (is_step_below (length made)) (events_of entries)
+            (omega (arith, added, all, sum_is, events_number, log_number, is));
+        each = each;
+      };
+      continues = goes_on;
+      number = worked.made_number;
+      within = λ p inside. (worked.each p d d inside).within;
+      whole = λ on. same_list made quotas worked.made_number (λ p inside.
+          (worked.each p d d inside).whole refl
+          (not_noted (get_or seats p d).noted after.state.board.off
+          (checked.noted p d (omega (arith, inside, worked.seats_number))) (sym checked.off_is ∙ on)));
+      off_is = checked.off_is;
+      counted = counted;
+    }

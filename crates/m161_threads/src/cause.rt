@@ -1,0 +1,58 @@
+//! Why a run in threads has no report.
+
+ghost use Rattle.std.specs.Prelude.{◌≡◌};
+ghost use Rattle.m161_threads.specs.Cause.{name_of_cause};
+
+use thiserror::Error;
+
+/// Why a run in threads has no report.
+#[derive(Clone, Copy, Debug, PartialEq, Eq, Error)]
+pub enum Cause {
+    /// There isn't one quota for each processor. Answered before any Step.
+    #[error("there isn't one quota for each processor")]
+    BadQuotas,
+    /// The machine hasn't two processors. Answered before any Step.
+    #[error("the machine hasn't two processors")]
+    NotYet,
+    /// Memory was refused.
+    #[error("out of memory")]
+    NoMemory,
+    /// The system refused a thread.
+    #[error("no thread")]
+    NoThread,
+    /// The gate answered `false`.
+    #[error("processor {p} was held at its Step {k}")]
+    Held {
+        /// The processor.
+        p: u32,
+        /// How many Steps of the run it had made.
+        k: u32,
+    },
+    /// The log is full.
+    #[error("the log is full")]
+    LogFull,
+    /// A processor's count isn't its seat's.
+    #[error("a processor's count isn't its seat's")]
+    Miscount,
+    /// The machine isn't the one that was handed in, or another event was made of it.
+    #[error("the machine isn't the one that was handed in")]
+    Swapped,
+}
+
+impl Cause {
+    /// The name of the variant.
+    pub fn name(self) -> &'static str
+        ensures { result.now ≡ name_of_cause self }
+    {
+        match self {
+            Cause::BadQuotas => "BadQuotas",
+            Cause::NotYet => "NotYet",
+            Cause::NoMemory => "NoMemory",
+            Cause::NoThread => "NoThread",
+            Cause::Held { p: _, k: _ } => "Held",
+            Cause::LogFull => "LogFull",
+            Cause::Miscount => "Miscount",
+            Cause::Swapped => "Swapped",
+        }
+    }
+}

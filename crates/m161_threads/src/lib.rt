@@ -1,0 +1,30 @@
+//! One machine behind one lock, and a thread for each processor.
+//!
+//! ```text
+//! book     what is under the lock: the machine, and two ledgers. A holding of the lock makes one
+//!          event: a Step of a seat's processor, a typed byte, or the end of a console transfer
+//! seat     a thread's right to the Steps of one processor; it counts them
+//! run      a thread for each processor makes its quota of Steps, each under a holding of its own
+//!
+//! promised      the Steps that were made are one interleaving, and the machine is what its log
+//!               replays; each processor has made its quota, or the machine is off
+//! not promised  the order between threads; that a thread gets on, or is ever served
+//! ```
+//!
+//! The ledgers count across threads that never see each other. One counts the Steps: the seats'
+//! counts add up to the machine's. The other counts the seats that found the machine off.
+#![tactic(auto)]
+
+mod before;
+mod book;
+mod cause;
+mod locked;
+mod tally;
+mod threaded;
+mod worker;
+
+pub use book::{Book, Seat};
+pub use cause::Cause;
+pub use locked::{Locked, Miscount};
+pub use m161_machine::{Machine, Outcome, Refusal};
+pub use threaded::{Gate, Report, RunFault, run};

@@ -1,0 +1,225 @@
+//! A run in threads.
+
+ghost use Rattle.std.specs.Prelude.{◌≡◌, ◌+◌, ◌<◌, ◌≤◌, ℕ, All, IfErr, IfOk, MatchResult, None, length, map, slice_index_or, sum, take, true, vec_len};
+ghost use Rattle.m161_machine.specs.History.{IsReplay};
+ghost use Rattle.m161_machine.specs.State.{counts};
+ghost use Rattle.m161_threads.specs.Runs.{Fails, Interleaves, IsChecked, IsOfRun, bad_call};
+ghost use Rattle.m161_threads.specs.Shares.{Place, places_from};
+ghost use Rattle.m161_threads.specs.Work.{HasWorked};
+
+use crate::before::Before;
+use crate::book::Seat;
+use crate::cause::Cause;
+use crate::locked::{Locked, Miscount};
+use crate::tally::{Tally, take_apart, total};
+use crate::worker::run_workers;
+use m161_bus::Console;
+use m161_machine::Machine;
+use m161_tlb::Tlb;
+use std::alloc::Global;
+use std::marker::Brand;
+use std::sync::Wait;
+use std::sync::ledger::{Blank, Ledger};
+use std::thread::Threads;
+
+/// What a worker asks before each of its Steps, without the lock: so it may wait, for another
+/// worker too.
+pub trait Gate {
+    /// Whether processor `p` may make its Step number `k` of the run, from 0 on. `false` ends its
+    /// part of the run.
+    fn pass(&self, p: u32, k: u32) -> bool;
+}
+
+/// What a run in threads comes to.
+#[derive(Drop)]
+pub struct Report<T: Tlb, D: Console> {
+    /// The machine after the run.
+    pub machine: Machine<T, D>,
+    /// How many Steps of the run each processor made.
+    pub counts: Vec<u32>,
+    /// Whether the machine is off.
+    pub off: bool,
+}
+
+/// A run in threads that has no report.
+#[derive(Drop)]
+pub struct RunFault<T: Tlb, D: Console> {
+    /// Why.
+    pub cause: Cause,
+    /// The machine, with the Steps that were made.
+    pub machine: Machine<T, D>,
+}
+
+/// Runs a machine in threads: each processor has a worker of its own, which makes as many Steps as
+/// its quota says, each under a holding of the lock of its own. A worker that finds the machine off
+/// stops, and so does one that the gate holds or that finds the log full, while the others go on.
+/// Which Step comes first is the host's choice, and no two runs need agree; the machine's log says
+/// which interleaving came out. It may wait, and nothing bounds for how long.
+///
+/// Errors: the quotas, then the number of processors; or the cause of the lowest processor that has
+/// one; or that what the workers say doesn't fit the machine. The machine is given back.
+pub fn run<T, D, R, G>(
+    rt: &R,
+    alloc: Global,
+    machine: Machine<T, D>,
+    quotas: &[u32],
+    gate: &G,
+) -> Result<Report<T, D>, RunFault<T, D>>
+where
+    T: Tlb + Send,
+    D: Console + Send,
+    R: Threads + Wait + Sync,
+    G: Gate + Sync,
+    ensures ok { IfOk result (λ r.
+        Interleaves machine quotas.now r.counts.items r.off r.machine) }
+    ensures begun { IfOk result (λ r.
+        bad_call (length quotas.now) (length machine.state.processors) ≡ None) }
+    ensures err { IfErr result (λ f. Fails
+        (bad_call (length quotas.now) (length machine.state.processors))
+        machine f.cause f.machine) }
+    ensures replay { MatchResult result (λ r. IsReplay r.machine) (λ f. IsReplay f.machine) }
+{
+    machine.replay();
+    let processors = machine.processors();
+    if quotas.len() != processors as usize {
+        return Err(RunFault {
+            cause: Cause::BadQuotas,
+            machine,
+        });
+    }
+    if processors != 2 {
+        return Err(RunFault {
+            cause: Cause::NotYet,
+            machine,
+        });
+    }
+    let steps = Blank::new(u64::from(processors));
+    let offs = Blank::new(u64::from(processors));
+    run_counted::<Brand, Brand, T, D, R, G>(rt, alloc, steps, offs, machine, quotas, gate)
+}
+
+// A run whose Steps these ledgers count.
+fn run_counted<L, M, T, D, R, G>(
+    rt: &R,
+    alloc: Global,
+    steps: Blank,
+    offs: Blank,
+    machine: Machine<T, D>,
+    quotas: &[u32],
+    gate: &G,
+) -> Result<Report<T, D>, RunFault<T, D>>
+where
+    L: Ledger + Send + Sync,
+    M: Ledger + Send + Sync,
+    T: Tlb + Send,
+    D: Console + Send,
+    R: Threads + Wait + Sync,
+    G: Gate + Sync,
+    requires steps { (steps.name ≡ L.name) × (steps.parts ≡ L.parts)
+        × (L.parts ≡ length machine.state.processors) }
+    requires offs { (offs.name ≡ M.name) × (offs.parts ≡ M.parts)
+        × (M.parts ≡ length machine.state.processors) }
+    requires quotas { length quotas.now ≡ length machine.state.processors }
+    requires few { length machine.state.processors ≤ 32 }
+    ensures ok { IfOk result (λ r.
+        Interleaves machine quotas.now r.counts.items r.off r.machine) }
+    ensures err { IfErr result (λ f. Fails None machine f.cause f.machine) }
+    ensures replay { IfOk result (λ r. IsReplay r.machine) }
+{
+    machine.replay();
+    let before = match Before::of(alloc, &machine) {
+        Ok(before) => before,
+        Err(_) => {
+            return Err(RunFault {
+                cause: Cause::NoMemory,
+                machine,
+            });
+        }
+    };
+    let (locked, seats) = match Locked::<L, M, T, D>::new(alloc, steps, offs, machine) {
+        Ok(parts) => parts,
+        Err((machine, _)) => {
+            return Err(RunFault {
+                cause: Cause::NoMemory,
+                machine,
+            });
+        }
+    };
+    match run_seats(rt, alloc, &locked, gate, seats, quotas) {
+        Ok(tally) => {
+            let report = checked_report(locked, &before, tally)?;
+            Ok(report)
+        }
+        Err(cause) => Err(RunFault {
+            cause,
+            machine: locked.into_machine(),
+        }),
+    }
+}
+
+// Runs a worker for each seat, and says what they have made.
+fn run_seats<L, M, T, D, R, G>(
+    rt: &R,
+    alloc: Global,
+    locked: &Locked<L, M, T, D>,
+    gate: &G,
+    seats: Vec<Seat<L, M>>,
+    quotas: &[u32],
+) -> Result<Tally<L, M>, Cause>
+where
+    L: Ledger + Send + Sync,
+    M: Ledger + Send + Sync,
+    T: Tlb + Send,
+    D: Console + Send,
+    R: Threads + Wait + Sync,
+    G: Gate + Sync,
+    requires seats { vec_len seats ≡ length quotas.now }
+    ensures worked { IfOk result (λ t.
+        HasWorked seats.items quotas.now t.seats.items t.counts.items) }
+    ensures cause { IfErr result (λ cause. IsOfRun cause) }
+{
+    let worked = run_workers(rt, alloc, locked.book(), gate, seats, quotas)?;
+    let tally = take_apart(alloc, worked)?;
+    Ok(tally)
+}
+
+// The report of a run, where what the workers have made fits the machine.
+fn checked_report<L: Ledger, M: Ledger, T: Tlb, D: Console>(
+    locked: Locked<L, M, T, D>,
+    before: &Before,
+    tally: Tally<L, M>,
+) -> Result<Report<T, D>, RunFault<T, D>>
+    requires { vec_len tally.counts ≤ 32 }
+    ensures ok { IfOk result (λ r. IsChecked before.now.start before.now.log.items
+        tally.seats.items tally.counts.items r.off r.machine) }
+    ensures counts { IfOk result (λ r. r.counts.items ≡ tally.counts.items) }
+    ensures err { IfErr result (λ f. IsOfRun f.cause × IsReplay f.machine) }
+{
+    let Tally { seats, counts } = tally;
+    let machine = match locked.finish(seats) {
+        Ok(machine) => machine,
+        Err(
+            Miscount {
+                processor: _,
+                machine,
+            },
+        ) => {
+            return Err(RunFault {
+                cause: Cause::Miscount,
+                machine,
+            });
+        }
+    };
+    if !before.leads_to(&machine, total(counts.as_slice())) {
+        return Err(RunFault {
+            cause: Cause::Swapped,
+            machine,
+        });
+    }
+    let off = machine.is_off();
+    Ok(Report {
+        machine,
+        counts,
+        off,
+    })
+}
