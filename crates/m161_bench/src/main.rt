@@ -2,8 +2,8 @@
 //! branch with its slot, the log's entry written each Step.
 //!
 //! ```text
-//! m161_bench RUNS [STEPS [ROW]]   RUNS runs, each of STEPS Steps, 1,000,000 where it isn't said; the
-//!                                 loop runs in kseg0, or mapped by ROW of the TLB
+//! m161_bench RUNS [STEPS [ROW]]   RUNS runs of STEPS Steps each, or of 1,000,000; the loop runs in
+//!                                 kseg0, or mapped by ROW of the TLB
 //! m161_bench log STEPS            the log of one run in kseg0 as text, written and read back
 //! ```
 //!
