@@ -7,19 +7,21 @@
 use std::hint::black_box;
 use std::time::Instant;
 
-const RAM: u32 = 65_536;
+pub const RAM: u32 = 65_536;
 
-const PROGRAM: [u32; 14] = [
+pub const PROGRAM: [u32; 14] = [
     0x3c108000, 0x36101000, 0x8e080000, 0x01114821, 0x000950c0, 0x00095942, 0x014b4826, 0xae090000,
     0x920c0002, 0x26520001, 0x0189682a, 0xa20d0004, 0x1640fff5, 0x02328821,
 ];
 
-struct Machine {
+/// A machine of one processor.
+#[derive(Default)]
+pub struct Machine {
     r: [u32; 32],
     hi: u32,
     lo: u32,
-    pc: u32,
-    next: u32,
+    pub pc: u32,
+    pub next: u32,
     slot: bool,
     waiting: bool,
     status: u32,
@@ -33,9 +35,9 @@ struct Machine {
     lines: u32,
     off: bool,
     linked: bool,
-    ram: Vec<u8>,
-    log: Vec<u32>,
-    room: usize,
+    pub ram: Vec<u8>,
+    pub log: Vec<u32>,
+    pub room: usize,
 }
 
 impl Machine {
@@ -62,7 +64,7 @@ impl Machine {
     }
 
     /// One step; `None` where it would trap.
-    fn step(&mut self) -> Option<()> {
+    pub fn step(&mut self) -> Option<()> {
         if self.off || self.log.len() >= self.room || self.waiting {
             return None;
         }

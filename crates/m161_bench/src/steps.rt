@@ -1,0 +1,41 @@
+//! Runs of the machine.
+
+use m161_console::PlainConsole;
+use m161_isa::Reg;
+use m161_machine::{Conf, Machine};
+use m161_tlb_scan::Scan;
+use std::alloc::Global;
+
+/// A machine that made `steps` Steps of a file, the first one by itself, with a log of that size.
+pub(crate) fn run(alloc: Global, image: &[u8], steps: u32) -> Option<Machine<Scan, PlainConsole>> {
+    let conf = Conf {
+        ram: 65_536,
+        processors: 1,
+        log: steps,
+    };
+    let mut machine: Machine<Scan, PlainConsole> = Machine::boot(alloc, image, conf).ok()?;
+    machine.step(0).ok()?;
+    let _ = machine.steps(0, steps);
+    Some(machine)
+}
+
+// The last word of a run, and how many Steps it made.
+fn last(machine: &Machine<Scan, PlainConsole>) -> Option<(u32, u64)> {
+    if machine.processors() == 0 {
+        return None;
+    }
+    Some((machine.reg(0, Reg::new(17)), machine.count(0)))
+}
+
+/// The sums of the last words and of the Steps of some runs.
+pub(crate) fn runs(alloc: Global, image: &[u8], times: u32, steps: u32) -> Option<(u32, u64)> {
+    let mut word = 0u32;
+    let mut count = 0u64;
+    for _ in 0..times {
+        let machine = run(alloc, image, steps)?;
+        let (last, made) = last(&machine)?;
+        word = word.wrapping_add(last);
+        count = count.saturating_add(made);
+    }
+    Some((word, count))
+}
