@@ -6,6 +6,7 @@ use Rattle.s161.specs.declared.command.Task.TheVariants.{Assemble, Debug, Demo, 
 use Rattle.s161.specs.Assemblies.{IsAssembled}
 use Rattle.s161.specs.Commands.{IsTask, command_line}
 use Rattle.s161.specs.Debugs.{IsDebug}
+use Rattle.s161.specs.Demos.{IsDemo}
 use Rattle.s161.specs.Listings.{IsDisassembled}
 use Rattle.s161.specs.Replays.{IsReplay}
 use Rattle.s161.specs.Runs.{IsRun}
@@ -19,7 +20,7 @@ Prints IsText before after = (text : List ℕ) × IsText text × Appends before 
 
 -- a task was finished with this exit status, and printed what belongs to it
 abbrev pub Finishes : Task → (Text → Option (List ℕ)) → Option (List ℕ) → Option (List ℕ) → Option (List ℕ) → ℕ → Type 0
-Finishes Demo files input before after status = status ≡ 0
+Finishes Demo files input before after status = (status ≡ 0) × Prints IsDemo before after
 Finishes (Run task) files input before after status =
     Prints (λ text. IsRun task (image_file files task.image.now) input text status) before after
 Finishes (Replay task) files input before after status =

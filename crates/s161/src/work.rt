@@ -6,6 +6,7 @@ ghost use Rattle.clap.specs.Words.{kind_of};
 ghost use Rattle.s161.specs.Assemblies.{IsAssembled};
 ghost use Rattle.s161.specs.Commands.{IsAccepted};
 ghost use Rattle.s161.specs.Debugs.{IsDebug};
+ghost use Rattle.s161.specs.Demos.{IsDemo};
 ghost use Rattle.s161.specs.Listings.{IsDisassembled};
 ghost use Rattle.s161.specs.Replays.{IsReplay};
 ghost use Rattle.s161.specs.Runs.{IsRun};
@@ -121,7 +122,9 @@ fn do_task<'a, F: FileSource, I: Read, O: Write>(
 
 // Prints the demo. The result is the exit status.
 fn do_demo<'a, O: Write>(alloc: Global, output: &mut O) -> Result<u8, Fault<'a>>
-    ensures { IfOk result (λ status. status ≡ 0) }
+    ensures printed { IfOk result (λ _. Prints IsDemo
+        (O.contents output.old) (O.contents output.new)) }
+    ensures status { IfOk result (λ status. status ≡ 0) }
 {
     let text = demo(alloc)?;
     put(output, text.as_bytes())?;
