@@ -1,9 +1,8 @@
 //! Texts, read as what they say.
 
-ghost use Rattle.std.specs.Prelude.{◌≡◌, ◌∷◌, ◌<◌, ℕ, [], IfErr, IfOk, IfSome, IsErrOf, MatchOption, length};
+ghost use Rattle.std.specs.Prelude.{ℕ, IfErr, IfOk, IsErrOf};
 ghost use Rattle.m161_steplog.specs.Lines.{FirstBad, lines_of};
 ghost use Rattle.m161_steplog.specs.Log.{AreLogLines, IsLog};
-ghost use Rattle.m161_steplog.specs.Parts.{Cuts};
 ghost use Rattle.m161_steplog.specs.Schedule.{IsSchedule};
 ghost use Rattle.s161.specs.Runs.{IsScheduleFault};
 ghost use Rattle.s161.specs.declared.fault.Fault.TheVariants as faults;
@@ -38,27 +37,5 @@ pub fn entries_of<'a>(alloc: Global, text: &str) -> Result<Vec<Entry>, Fault<'a>
     match read_log(alloc, text) {
         Ok(entries) => Ok(entries),
         Err(error) => Err(fault_of_log(error)),
-    }
-}
-
-// The text before the first line feed, and the text after it.
-fn cut_at_line_feed(text: &str) -> Option<(&str, &str)>
-    ensures { Cuts 10 text.now result }
-{
-    text.split_once('\n')
-}
-
-/// The first line, without its end, and the text after it; `None` of the empty text.
-pub fn next_line(text: &str) -> Option<(&str, &str)>
-    ensures lines { MatchOption result (text.now ≡ [])
-        (λ x. lines_of text.now ≡ x.0.now ∷ lines_of x.1.now) }
-    ensures shorter { IfSome result (λ x. length x.1.now < length text.now) }
-{
-    if text.is_empty() {
-        return None;
-    }
-    match cut_at_line_feed(text) {
-        Some((line, rest)) => Some((line, rest)),
-        None => Some((text, "")),
     }
 }
