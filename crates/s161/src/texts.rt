@@ -1,11 +1,11 @@
 //! Texts, read as what they say.
 
-ghost use Rattle.std.specs.Prelude.{ℕ, IfErr, IfOk, IsErrOf};
-ghost use Rattle.m161_steplog.specs.Lines.{FirstBad, lines_of};
-ghost use Rattle.m161_steplog.specs.Log.{AreLogLines, IsLog};
+ghost use Rattle.std.specs.Prelude.{IfErr, IfOk};
+ghost use Rattle.m161_steplog.specs.Lines.{lines_of};
+ghost use Rattle.m161_steplog.specs.Log.{IsLog};
 ghost use Rattle.m161_steplog.specs.Schedule.{IsSchedule};
+ghost use Rattle.s161.specs.Replays.{IsLogFault};
 ghost use Rattle.s161.specs.Runs.{IsScheduleFault};
-ghost use Rattle.s161.specs.declared.fault.Fault.TheVariants as faults;
 
 use crate::fault::{Fault, fault_of_log, fault_of_schedule};
 use m161_machine::{Entry, Event};
@@ -32,7 +32,7 @@ pub fn events_of<'a>(alloc: Global, text: &str) -> Result<Vec<Event>, Fault<'a>>
 /// Its first bad line; or memory was refused.
 pub fn entries_of<'a>(alloc: Global, text: &str) -> Result<Vec<Entry>, Fault<'a>>
     ensures found { IfOk result (λ entries. IsLog text.now entries.items) }
-    ensures line { (n : ℕ) → IsErrOf result (faults.Log n) → FirstBad AreLogLines text.now n }
+    ensures fault { IfErr result (IsLogFault text.now) }
 {
     match read_log(alloc, text) {
         Ok(entries) => Ok(entries),
