@@ -11,7 +11,7 @@ use Rattle.m161_debug.specs.declared.command.Command.{Command}
 use Rattle.m161_debug.specs.declared.command.Command.TheVariants as commands
 use Rattle.m161_debug.specs.declared.command.Display.TheVariants as displays
 use Rattle.m161_debug.specs.Commands.{area_word, first_word, IsLine, IsUnknown}
-use Rattle.m161_debug.proofs.Parts.{rest_lacks}
+use Rattle.m161_steplog.proofs.Parts.{rest_lacks}
 
 pub first_word_alone : (line : List ℕ) → Lacks 32 line → first_word line ≡ line
 first_word_alone [] lacks = refl

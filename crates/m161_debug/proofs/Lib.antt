@@ -1,9 +1,5 @@
 mod Sets
 mod Going
-mod Readers
-mod Parts
-mod Decimal
-mod Hex
 mod Shown
 mod Places
 mod Asked

@@ -5,8 +5,9 @@ ghost use Rattle.m161_steplog.specs.Parts.{◌␣◌, Lacks};
 ghost use Rattle.m161_debug.specs.Commands.{change_word, display_word, area_word, name_of_error, IsAsked};
 
 use crate::breakpoints::BreakError;
-use crate::reading::{byte_of, count_of, cut_at_space, decimal_of, place_of, span_of};
+use crate::reading::{count_of, place_of, span_of};
 use m161_machine::Event;
+use m161_steplog::{byte_of, cut_at_space, decimal_of};
 use std::alloc::AllocError;
 use thiserror::Error;
 

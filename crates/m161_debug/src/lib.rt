@@ -25,7 +25,6 @@
 
 mod breakpoints;
 mod command;
-mod digits;
 mod display;
 mod reading;
 mod room;
@@ -34,7 +33,6 @@ mod stop;
 
 pub use breakpoints::BreakError;
 pub use command::CommandError;
-pub use digits::Word;
 pub use m161_machine::{Event, Machine, Outcome, Refusal};
 pub use session::Session;
 pub use stop::Stop;

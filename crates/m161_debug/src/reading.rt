@@ -1,74 +1,12 @@
 //! Parts of a command, read.
 
-ghost use Rattle.std.specs.Prelude.{◌^◌, ◌<◌, ◌≤◌, ◌≡◌, length, decimal, true, false, get_or, IfSome, IfNone};
+ghost use Rattle.std.specs.Prelude.{◌<◌, ◌≤◌, ◌≡◌, length, decimal, true, false, get_or, IfSome, IfNone};
 ghost use Rattle.std.specs.Str.Parse.{AllDigits};
-ghost use Rattle.m161_steplog.specs.Parts.{Cuts, Reads, ReadsBoth, IsByte, IsWord, hex_digit, hex_text};
+ghost use Rattle.m161_steplog.specs.Parts.{ReadsBoth, IsWord};
 ghost use Rattle.m161_debug.specs.Shows.{word_text};
 ghost use Rattle.m161_debug.specs.Commands.{count_of, IsDecimal};
 
-/// The text before the first space, and the text after it.
-pub(crate) fn cut_at_space(text: &str) -> Option<(&str, &str)>
-    ensures { Cuts 32 text.now result }
-{
-    text.split_once(' ')
-}
-
-/// The number of a decimal text below 2^32 without leading zeros.
-pub(crate) fn decimal_of(text: &str) -> Option<u32>
-    ensures { Reads IsWord decimal text.now result }
-{
-    if text.starts_with('+') {
-        return None;
-    }
-    if text.len() > 1 && text.starts_with('0') {
-        return None;
-    }
-    text.parse::<u32>().ok()
-}
-
-// The value of a lower case hexadecimal digit.
-fn nibble_of(byte: u8) -> Option<u8>
-    ensures { Reads (λ n. n < 16) hex_digit byte result }
-{
-    match byte {
-        b'0'..=b'9' => Some(byte - b'0'),
-        b'a'..=b'f' => Some(byte - b'a' + 10),
-        _ => None,
-    }
-}
-
-// The number of up to eight lower case hexadecimal digits.
-fn hex_of(text: &[u8]) -> Option<u32>
-    requires { length text.now ≤ 8 }
-    ensures { Reads (λ n. n < 16 ^ length text.now) (hex_text (length text.now)) text.now result }
-{
-    let mut number = 0u32;
-    for byte in text {
-        let nibble = nibble_of(*byte)?;
-        number = number * 16 + u32::from(nibble);
-    }
-    Some(number)
-}
-
-/// The word of eight lower case hexadecimal digits.
-pub(crate) fn word_of(text: &str) -> Option<u32>
-    ensures { Reads IsWord (hex_text 8) text.now result }
-{
-    if text.len() != 8 {
-        return None;
-    }
-    hex_of(text.as_bytes())
-}
-
-/// The byte of two lower case hexadecimal digits.
-pub(crate) fn byte_of(text: &str) -> Option<u8>
-    ensures { Reads IsByte (hex_text 2) text.now result }
-{
-    if text.len() != 2 {
-        return None;
-    }
-    u8::try_from(hex_of(text.as_bytes())?).ok()
-}
+use m161_steplog::{cut_at_space, decimal_of, word_of};
 
 /// A processor and an address.
 pub(crate) fn place_of(text: &str) -> Option<(u32, u32)>

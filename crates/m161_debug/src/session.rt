@@ -204,7 +204,8 @@ impl<T: Tlb, D: Console> Session<T, D> {
     /// first event; at an event that is refused; after one that switches the machine off; or after
     /// the last. It allocates only for an event `Done`.
     pub fn go(&mut self, events: &[Event]) -> Stop
-        ensures stop { Stops self.old.breakpoints self.old.machine events.now result self.new.machine }
+        ensures stop { Stops self.old.breakpoints self.old.machine events.now result
+            self.new.machine }
         ensures breakpoints { self.new.breakpoints ≡ self.old.breakpoints }
         ensures within { used_by result ≤ length events.now }
     {

@@ -1,7 +1,7 @@
 mod Reading
-mod Parts
-mod Decimal
-mod Hex
+pub mod Parts
+pub mod Decimal
+pub mod Hex
 mod Feeds
 mod Codes
 mod LogLines

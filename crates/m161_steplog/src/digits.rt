@@ -35,7 +35,8 @@ impl fmt::Display for Word {
     }
 }
 
-/// The number of a decimal text below 2^32 without leading zeros.
+/// The number of a decimal text below 2^32 without leading zeros; `None` of any other text, also of
+/// one with a sign.
 pub fn decimal_of(text: &str) -> Option<u32>
     ensures { Reads IsWord decimal text.now result }
 {
@@ -72,7 +73,7 @@ fn hex_of(text: &[u8]) -> Option<u32>
     Some(number)
 }
 
-/// The word of eight lower case hexadecimal digits.
+/// The word of eight lower case hexadecimal digits; `None` of any other text.
 pub fn word_of(text: &str) -> Option<u32>
     ensures { Reads IsWord (hex_text 8) text.now result }
 {
@@ -82,7 +83,7 @@ pub fn word_of(text: &str) -> Option<u32>
     hex_of(text.as_bytes())
 }
 
-/// The byte of two lower case hexadecimal digits.
+/// The byte of two lower case hexadecimal digits; `None` of any other text.
 pub fn byte_of(text: &str) -> Option<u8>
     ensures { Reads IsByte (hex_text 2) text.now result }
 {

@@ -1,5 +1,6 @@
-//! The texts of a machine's log and of a schedule of events; and `verify`, which makes a log once
-//! more on a machine that it boots, and finds the first entry that differs.
+//! The texts of a machine's log and of a schedule of events; `verify`, which makes a log once more
+//! on a machine that it boots, and finds the first entry that differs; and the readers of lines and
+//! numbers that these texts are made of.
 //!
 //! ```text
 //! schedule  s P        a Step of processor P
@@ -32,6 +33,8 @@ mod schedule;
 mod shown;
 mod verdict;
 
+pub use cut::{cut_at_space, next_line};
+pub use digits::{Byte, Word, byte_of, decimal_of, word_of};
 pub use fault::Fault;
 pub use log::{entry_line, read_log, write_log};
 pub use m161_machine::{BootError, Conf, Entry, Event, Exception, Outcome};

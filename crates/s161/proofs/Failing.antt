@@ -1,41 +1,48 @@
-use Rattle.std.proofs.Common.{◌≡◌, ◌⊎◌, ℕ, List, Bool, true, false, Option, None, Some, IfSome, IsErrOf, Result, Err, Vec, ap, inl, inr, refl, sym}
-use Rattle.std.specs.Global.{Global}
+use Rattle.std.proofs.Common.{◌≡◌, ◌⊎◌, ℕ, List, Bool, true, false, Option, None, Some, IfSome, Err, ap, inl, inr, refl, sym}
 use Rattle.m161_elf.specs.declared.image.LoadError.{LoadError}
 use Rattle.m161_elf.specs.Image.{first_fault}
 use Rattle.m161_machine.specs.declared.conf.BootError.{BootError}
 use Rattle.m161_machine.specs.declared.conf.Conf.{Conf as MachineConf}
-use Rattle.m161_machine.specs.declared.event.Event.{Event}
+use Rattle.m161_machine.specs.declared.event.Entry.{Entry}
 use Rattle.m161_machine.specs.Conf.{is_within_limits}
 use Rattle.m161_machine.specs.History.{Boots, boot_fault, load_fault}
-use Rattle.m161_steplog.specs.declared.fault.Fault.{Fault as TextFault}
 use Rattle.m161_steplog.specs.Lines.{FirstBad}
+use Rattle.m161_steplog.specs.Log.{AreLogLines}
 use Rattle.m161_steplog.specs.Schedule.{AreScheduleLines}
-use Rattle.s161.specs.declared.command.RunTask.{RunTask}
-use Rattle.s161.specs.Faults.{fault_of_boot, fault_of_schedule}
+use Rattle.m161_steplog.specs.Verdict.{Verifies}
+use Rattle.s161.specs.Faults.{fault_of_boot}
 use Rattle.s161.specs.declared.fault.Fault.{Fault}
 use Rattle.s161.specs.declared.fault.Fault.TheVariants.{Conf, File, Image, Input, Log, Memory, Output, Schedule, Source}
-use Rattle.s161.specs.Runs.{HasSchedule, IsFaultOf, IsScheduleFault}
+use Rattle.s161.specs.Replays.{IsLogFault}
+use Rattle.s161.specs.Runs.{IsScheduleFault}
 
--- Why a run ends early.
+-- Why a command ends early: `P` is what is said of its fault.
 
 -- a schedule's fault
-pub read_failed : (text : List ℕ) (result : Result (Vec Event Global) TextFault) (e : TextFault) →
-    ((n : ℕ) → IsErrOf result (TextFault.Line n) → FirstBad AreScheduleLines text n) → result ≡ Err e →
-    IsScheduleFault text (fault_of_schedule e)
-read_failed text result (TextFault.Line n) line h = line n h
-read_failed text result TextFault.NoMemory line h = tt
+pub schedule_failed : (P : Fault → Type 0) (text : List ℕ) (fault : Fault) → ((n : ℕ) → FirstBad AreScheduleLines text n → P (Schedule n)) → P Memory →
+    IsScheduleFault text fault → P fault
+schedule_failed P text (Schedule n) line memory h = line n h
+schedule_failed P text Memory line memory h = memory
+schedule_failed P text (File name) line memory h = absurd h
+schedule_failed P text (Log n) line memory h = absurd h
+schedule_failed P text Conf line memory h = absurd h
+schedule_failed P text (Image e) line memory h = absurd h
+schedule_failed P text Input line memory h = absurd h
+schedule_failed P text Output line memory h = absurd h
+schedule_failed P text (Source e) line memory h = absurd h
 
-pub schedule_failed : (task : RunTask) (known input : Option (List ℕ)) (text : List ℕ) (fault : Fault) →
-    IfSome input (λ bytes. text ≡ bytes) → IsScheduleFault text fault → IsFaultOf task known input fault
-schedule_failed task known input text (Schedule n) is h = (text, is, h)
-schedule_failed task known input text Memory is h = tt
-schedule_failed task known input text (File name) is h = absurd h
-schedule_failed task known input text (Log n) is h = absurd h
-schedule_failed task known input text Conf is h = absurd h
-schedule_failed task known input text (Image e) is h = absurd h
-schedule_failed task known input text Input is h = absurd h
-schedule_failed task known input text Output is h = absurd h
-schedule_failed task known input text (Source e) is h = absurd h
+-- a log's fault
+pub log_failed : (P : Fault → Type 0) (text : List ℕ) (fault : Fault) → ((n : ℕ) → FirstBad AreLogLines text n → P (Log n)) → P Memory →
+    IsLogFault text fault → P fault
+log_failed P text (Log n) line memory h = line n h
+log_failed P text Memory line memory h = memory
+log_failed P text (File name) line memory h = absurd h
+log_failed P text (Schedule n) line memory h = absurd h
+log_failed P text Conf line memory h = absurd h
+log_failed P text (Image e) line memory h = absurd h
+log_failed P text Input line memory h = absurd h
+log_failed P text Output line memory h = absurd h
+log_failed P text (Source e) line memory h = absurd h
 
 -- a file's fault is none of the configuration
 not_conf : (fault : Option LoadError) → load_fault fault ≡ Some BootError.BadConf → ⊥
@@ -50,15 +57,34 @@ why_not : (file : List ℕ) (conf : MachineConf) (fault : Option BootError) (e :
 why_not file conf (Some first) e h = inl (ap (λ x. Some x) (sym h))
 why_not file conf None e h = inr h
 
-boot_fails : (task : RunTask) (known input : Option (List ℕ)) (file : List ℕ) (e : BootError) → HasSchedule input → IfSome known (λ bytes. file ≡ bytes) →
-    (boot_fault file task.conf ≡ Some e) ⊎ (e ≡ BootError.NoMemory) → IsFaultOf task known input (fault_of_boot e)
-boot_fails task known input file BootError.BadConf good is (inl h) = (good, outside (is_within_limits task.conf) file task.conf refl h)
-boot_fails task known input file BootError.BadConf good is (inr h) = absurd (cc)
-boot_fails task known input file (BootError.Load x) good is (inl h) = (good, (file, is, h))
-boot_fails task known input file (BootError.Load x) good is (inr h) = absurd (cc)
-boot_fails task known input file BootError.NoMemory good is h = tt
+why_unverified : (file : List ℕ) (conf : MachineConf) (fault : Option BootError) (log : List Entry) (e : BootError) → Verifies file conf fault log (Err e) →
+    (fault ≡ Some e) ⊎ (e ≡ BootError.NoMemory)
+why_unverified file conf (Some first) log e h = inl (ap (λ x. Some x) (sym h))
+why_unverified file conf None log e h = inr h
 
-pub boot_failed : (task : RunTask) (known input : Option (List ℕ)) (file : List ℕ) (e : BootError) → HasSchedule input → IfSome known (λ bytes. file ≡ bytes) →
-    Boots file task.conf (boot_fault file task.conf) (Err e) → IsFaultOf task known input (fault_of_boot e)
-boot_failed task known input file e good is h =
-    boot_fails task known input file e good is (why_not file task.conf (boot_fault file task.conf) e h)
+-- the image's bytes, as far as they are known, have this fault
+abbrev pub HasFault : Option (List ℕ) → MachineConf → LoadError → Type 0
+HasFault image conf e = (file : List ℕ) × IfSome image (λ bytes. file ≡ bytes) × (boot_fault file conf ≡ Some (BootError.Load e))
+
+boot_fails : (P : Fault → Type 0) (image : Option (List ℕ)) (conf : MachineConf) (file : List ℕ) (e : BootError) → IfSome image (λ bytes. file ≡ bytes) →
+    (is_within_limits conf ≡ false → P Conf) → ((x : LoadError) → HasFault image conf x → P (Image x)) → P Memory →
+    (boot_fault file conf ≡ Some e) ⊎ (e ≡ BootError.NoMemory) → P (fault_of_boot e)
+boot_fails P image conf file BootError.BadConf is limits load memory (inl h) = limits (outside (is_within_limits conf) file conf refl h)
+boot_fails P image conf file BootError.BadConf is limits load memory (inr h) = absurd (cc)
+boot_fails P image conf file (BootError.Load x) is limits load memory (inl h) = load x (file, is, h)
+boot_fails P image conf file (BootError.Load x) is limits load memory (inr h) = absurd (cc)
+boot_fails P image conf file BootError.NoMemory is limits load memory h = memory
+
+-- a boot's fault
+pub boot_failed : (P : Fault → Type 0) (image : Option (List ℕ)) (conf : MachineConf) (file : List ℕ) (e : BootError) → IfSome image (λ bytes. file ≡ bytes) →
+    (is_within_limits conf ≡ false → P Conf) → ((x : LoadError) → HasFault image conf x → P (Image x)) → P Memory →
+    Boots file conf (boot_fault file conf) (Err e) → P (fault_of_boot e)
+boot_failed P image conf file e is limits load memory h =
+    boot_fails P image conf file e is limits load memory (why_not file conf (boot_fault file conf) e h)
+
+-- a replay's, which boots first
+pub verify_failed : (P : Fault → Type 0) (image : Option (List ℕ)) (conf : MachineConf) (file : List ℕ) (log : List Entry) (e : BootError) → IfSome image (λ bytes. file ≡ bytes) →
+    (is_within_limits conf ≡ false → P Conf) → ((x : LoadError) → HasFault image conf x → P (Image x)) → P Memory →
+    Verifies file conf (boot_fault file conf) log (Err e) → P (fault_of_boot e)
+verify_failed P image conf file log e is limits load memory h =
+    boot_fails P image conf file e is limits load memory (why_unverified file conf (boot_fault file conf) log e h)

@@ -2,7 +2,6 @@ pub mod Accepting
 pub mod Asked
 pub mod Defining
 pub mod Failing
-pub mod Lines
 pub mod Listed
 pub mod Making
 pub mod Sampled

@@ -5,7 +5,7 @@ use Rattle.m161_asm.specs.declared.error.ErrorKind.TheVariants.{NoMemory}
 use Rattle.m161_asm.specs.Text.{Program, text}
 use Rattle.m161_elf.specs.Written.{elf_bytes}
 use Rattle.s161.specs.declared.fault.Fault.{Fault}
-use Rattle.s161.specs.declared.fault.Fault.TheVariants.{Memory, Source}
+use Rattle.s161.specs.declared.fault.Fault.TheVariants.{Input, Memory, Source}
 
 -- The file of an assembly text.
 
@@ -34,3 +34,11 @@ abbrev pub IsUnassembled : List ℕ → Fault → Type 0
 IsUnassembled source (Source e) = text source ≡ Err (e.line, (e.kind, e.column))
 IsUnassembled source Memory = Unit {0}
 IsUnassembled source _ = ⊥
+
+-- an assembly is ended by this fault: of standard input, or of its text; or memory was refused
+abbrev pub IsAssemblyFault : Option (List ℕ) → Fault → Type 0
+IsAssemblyFault input Input = Unit {0}
+IsAssemblyFault input (Source e) =
+    (source : List ℕ) × IfSome input (λ bytes. source ≡ bytes) × (text source ≡ Err (e.line, (e.kind, e.column)))
+IsAssemblyFault input Memory = Unit {0}
+IsAssemblyFault input _ = ⊥

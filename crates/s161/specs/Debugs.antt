@@ -1,15 +1,20 @@
-use Rattle.std.specs.Prelude.{◌≡◌, ℕ, List, [], ◌∷◌, ◌++◌, Option, Result, Ok, Err, IfSome, codes, drop}
+use Rattle.std.specs.Prelude.{◌≡◌, ◌⊎◌, ℕ, false, List, [], ◌∷◌, ◌++◌, Option, Some, Result, Ok, Err, IfSome, codes, drop}
+use Rattle.m161_machine.specs.declared.conf.BootError.TheVariants.{Load}
 use Rattle.m161_machine.specs.declared.event.Event.{Event}
-use Rattle.m161_machine.specs.History.{History, IsBooted}
-use Rattle.m161_steplog.specs.Lines.{lines_of}
+use Rattle.m161_machine.specs.Conf.{is_within_limits}
+use Rattle.m161_machine.specs.History.{History, IsBooted, boot_fault}
+use Rattle.m161_steplog.specs.Lines.{FirstBad, lines_of}
 use Rattle.m161_steplog.specs.Parts.{◌␣◌}
-use Rattle.m161_steplog.specs.Schedule.{IsSchedule}
+use Rattle.m161_steplog.specs.Schedule.{AreScheduleLines, IsSchedule}
 use Rattle.m161_debug.specs.declared.command.CommandError.{CommandError}
 use Rattle.m161_debug.specs.Breakpoints.{Debugged}
 use Rattle.m161_debug.specs.Commands.{name_of_error}
 use Rattle.m161_debug.specs.Obeys.{Commands}
 use Rattle.m161_debug.specs.Shows.{ended}
 use Rattle.s161.specs.declared.command.FilesTask.{FilesTask}
+use Rattle.s161.specs.declared.fault.Fault.{Fault}
+use Rattle.s161.specs.declared.fault.Fault.TheVariants.{Conf, File, Image, Input, Log, Memory, Output, Schedule, Source}
+use Rattle.s161.specs.Runs.{HasSchedule}
 
 -- What `debug` prints.
 
@@ -55,3 +60,18 @@ pub record IsDebug (task : FilesTask) (image : Option (List ℕ)) (schedule : Op
   pub commands : List ℕ
   pub is_input : IfSome input (λ bytes. commands ≡ bytes)
   pub does : DoesLines (lines_of commands) (session_of booted) events [] text
+
+-- a debugged run is ended by this fault, and by none before it: of the image's file, the schedule's file, standard input, the schedule, the configuration, the image; or memory was refused
+abbrev pub IsDebugFault : FilesTask → Option (List ℕ) → Option (List ℕ) → Fault → Type 0
+IsDebugFault task image schedule (File name) = (name.now ≡ task.image.now) ⊎ (name.now ≡ task.text.now)
+IsDebugFault task image schedule Input = Unit {0}
+IsDebugFault task image schedule (Schedule n) =
+    (text : List ℕ) × IfSome schedule (λ bytes. text ≡ bytes) × FirstBad AreScheduleLines text n
+IsDebugFault task image schedule Conf = HasSchedule schedule × (is_within_limits task.conf ≡ false)
+IsDebugFault task image schedule (Image e) =
+    HasSchedule schedule
+    × ((file : List ℕ) × IfSome image (λ bytes. file ≡ bytes) × (boot_fault file task.conf ≡ Some (Load e)))
+IsDebugFault task image schedule Memory = Unit {0}
+IsDebugFault task image schedule (Log n) = ⊥
+IsDebugFault task image schedule (Source e) = ⊥
+IsDebugFault task image schedule Output = ⊥

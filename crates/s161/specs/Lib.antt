@@ -1,6 +1,7 @@
 pub mod Assemblies
 pub mod Commands
 pub mod Debugs
+pub mod Demos
 pub mod Faults
 pub mod Listings
 pub mod Replays

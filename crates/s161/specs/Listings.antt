@@ -8,7 +8,7 @@ use Rattle.m161_elf.specs.Image.{IsImage, first_fault, is_in_ram}
 use Rattle.m161_elf.specs.Span.{spans}
 use Rattle.m161_debug.specs.Shows.{code_line, counted, text_of}
 use Rattle.s161.specs.declared.fault.Fault.{Fault}
-use Rattle.s161.specs.declared.fault.Fault.TheVariants.{Image, Memory}
+use Rattle.s161.specs.declared.fault.Fault.TheVariants.{File, Image, Memory}
 
 -- The listing of a file: the instructions that its segments leave in memory.
 
@@ -59,3 +59,11 @@ abbrev pub IsUnlisted : List ℕ → Fault → Type 0
 IsUnlisted file (Image e) = first_fault file dis_ram ≡ Some e
 IsUnlisted file Memory = first_fault file dis_ram ≡ None
 IsUnlisted file _ = ⊥
+
+-- a listing is ended by this fault: of the image's file, or of the image; or memory was refused
+abbrev pub IsListingFault : List ℕ → Option (List ℕ) → Fault → Type 0
+IsListingFault name image (File failed) = failed.now ≡ name
+IsListingFault name image (Image e) =
+    (file : List ℕ) × IfSome image (λ bytes. file ≡ bytes) × (first_fault file dis_ram ≡ Some e)
+IsListingFault name image Memory = Unit {0}
+IsListingFault name image _ = ⊥

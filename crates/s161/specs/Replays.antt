@@ -1,13 +1,18 @@
-use Rattle.std.specs.Prelude.{◌≡◌, ℕ, List, Option, IfSome, codes, decimal}
+use Rattle.std.specs.Prelude.{◌≡◌, ◌⊎◌, ℕ, false, List, Option, Some, IfSome, codes, decimal}
+use Rattle.m161_machine.specs.declared.conf.BootError.TheVariants.{Load}
 use Rattle.m161_machine.specs.declared.event.Entry.{Entry}
-use Rattle.m161_machine.specs.History.{History, IsBooted}
+use Rattle.m161_machine.specs.Conf.{is_within_limits}
+use Rattle.m161_machine.specs.History.{History, IsBooted, boot_fault}
 use Rattle.m161_steplog.specs.declared.verdict.Verdict.{Verdict}
 use Rattle.m161_steplog.specs.declared.verdict.Verdict.TheVariants.{Agrees, Differs}
-use Rattle.m161_steplog.specs.Log.{IsLog}
+use Rattle.m161_steplog.specs.Lines.{FirstBad}
+use Rattle.m161_steplog.specs.Log.{AreLogLines, IsLog}
 use Rattle.m161_steplog.specs.Parts.{◌␣◌}
 use Rattle.m161_steplog.specs.Verdict.{IsVerdict}
 use Rattle.m161_debug.specs.Shows.{ended}
 use Rattle.s161.specs.declared.command.FilesTask.{FilesTask}
+use Rattle.s161.specs.declared.fault.Fault.{Fault}
+use Rattle.s161.specs.declared.fault.Fault.TheVariants.{Conf, File, Image, Input, Log, Memory, Output, Schedule, Source}
 
 -- What `replay` prints and answers.
 
@@ -33,3 +38,27 @@ pub record IsReplay (task : FilesTask) (image : Option (List ℕ)) (log : Option
   pub is_verdict : IsVerdict booted.state entries verdict
   pub text_is : text ≡ ended (verdict_text verdict)
   pub status_is : status ≡ status_of_verdict verdict
+
+-- a text is no log, by its first bad line; or memory was refused
+abbrev pub IsLogFault : List ℕ → Fault → Type 0
+IsLogFault text (Log n) = FirstBad AreLogLines text n
+IsLogFault text Memory = Unit {0}
+IsLogFault text _ = ⊥
+
+-- a file has a log
+abbrev pub HasLog : Option (List ℕ) → Type 0
+HasLog log = (text : List ℕ) × IfSome log (λ bytes. text ≡ bytes) × ((entries : List Entry) × IsLog text entries)
+
+-- a replay is ended by this fault, and by none before it: of the image's file, the log's file, the log, the configuration, the image; or memory was refused
+abbrev pub IsReplayFault : FilesTask → Option (List ℕ) → Option (List ℕ) → Fault → Type 0
+IsReplayFault task image log (File name) = (name.now ≡ task.image.now) ⊎ (name.now ≡ task.text.now)
+IsReplayFault task image log (Log n) =
+    (text : List ℕ) × IfSome log (λ bytes. text ≡ bytes) × FirstBad AreLogLines text n
+IsReplayFault task image log Conf = HasLog log × (is_within_limits task.conf ≡ false)
+IsReplayFault task image log (Image e) =
+    HasLog log × ((file : List ℕ) × IfSome image (λ bytes. file ≡ bytes) × (boot_fault file task.conf ≡ Some (Load e)))
+IsReplayFault task image log Memory = Unit {0}
+IsReplayFault task image log (Schedule n) = ⊥
+IsReplayFault task image log Input = ⊥
+IsReplayFault task image log (Source e) = ⊥
+IsReplayFault task image log Output = ⊥

@@ -106,7 +106,7 @@ IsScheduleFault text (Schedule n) = FirstBad AreScheduleLines text n
 IsScheduleFault text Memory = Unit {0}
 IsScheduleFault text _ = ⊥
 
--- standard input has a schedule
+-- an input or a file has a schedule
 abbrev pub HasSchedule : Option (List ℕ) → Type 0
 HasSchedule input = (text : List ℕ) × IfSome input (λ bytes. text ≡ bytes) × AreScheduleLines (lines_of text)
 

@@ -3,12 +3,15 @@ use Rattle.std.specs.Io.KnownBytes.{Appends}
 use Rattle.clap.specs.Words.{Text, subcommand_of}
 use Rattle.s161.specs.declared.command.Task.{Task}
 use Rattle.s161.specs.declared.command.Task.TheVariants.{Assemble, Debug, Demo, Disassemble, Replay, Run}
-use Rattle.s161.specs.Assemblies.{IsAssembled}
+use Rattle.s161.specs.declared.fault.Fault.{Fault}
+use Rattle.s161.specs.declared.fault.Fault.TheVariants.{Memory, Output}
+use Rattle.s161.specs.Assemblies.{IsAssembled, IsAssemblyFault}
 use Rattle.s161.specs.Commands.{IsTask, command_line}
-use Rattle.s161.specs.Debugs.{IsDebug}
-use Rattle.s161.specs.Listings.{IsDisassembled}
-use Rattle.s161.specs.Replays.{IsReplay}
-use Rattle.s161.specs.Runs.{IsRun}
+use Rattle.s161.specs.Debugs.{IsDebug, IsDebugFault}
+use Rattle.s161.specs.Demos.{IsDemo}
+use Rattle.s161.specs.Listings.{IsDisassembled, IsListingFault}
+use Rattle.s161.specs.Replays.{IsReplay, IsReplayFault}
+use Rattle.s161.specs.Runs.{IsFaultOf, IsRun}
 use Rattle.s161.specs.Samples.{image_file}
 
 -- What the work of a command line comes to.
@@ -19,7 +22,7 @@ Prints IsText before after = (text : List ℕ) × IsText text × Appends before 
 
 -- a task was finished with this exit status, and printed what belongs to it
 abbrev pub Finishes : Task → (Text → Option (List ℕ)) → Option (List ℕ) → Option (List ℕ) → Option (List ℕ) → ℕ → Type 0
-Finishes Demo files input before after status = status ≡ 0
+Finishes Demo files input before after status = (status ≡ 0) × Prints IsDemo before after
 Finishes (Run task) files input before after status =
     Prints (λ text. IsRun task (image_file files task.image.now) input text status) before after
 Finishes (Replay task) files input before after status =
@@ -29,6 +32,21 @@ Finishes (Debug task) files input before after status =
 Finishes Assemble files input before after status = (status ≡ 0) × Prints (IsAssembled input) before after
 Finishes (Disassemble image) files input before after status =
     (status ≡ 0) × Prints (IsDisassembled (image_file files image.now)) before after
+
+-- a task's work is ended by this fault, before anything is printed
+abbrev pub IsTaskFault : Task → (Text → Option (List ℕ)) → Option (List ℕ) → Fault → Type 0
+IsTaskFault Demo files input fault = fault ≡ Memory
+IsTaskFault (Run task) files input fault = IsFaultOf task (image_file files task.image.now) input fault
+IsTaskFault (Replay task) files input fault =
+    IsReplayFault task (image_file files task.image.now) (files task.text.now) fault
+IsTaskFault (Debug task) files input fault =
+    IsDebugFault task (image_file files task.image.now) (files task.text.now) fault
+IsTaskFault Assemble files input fault = IsAssemblyFault input fault
+IsTaskFault (Disassemble image) files input fault = IsListingFault image.now (image_file files image.now) fault
+
+-- a fault before anything is printed, which is this one, leaves the output as it was; else the output failed
+abbrev pub Fails : (Fault → Type 0) → Option (List ℕ) → Option (List ℕ) → Fault → Type 0
+Fails IsFault before after fault = (fault ≡ Output) ⊎ (IsFault fault × (after ≡ before))
 
 -- a command line's task was finished, over files and a standard input with these bytes, and a standard output that had and has these
 abbrev pub Does : List Text → (Text → Option (List ℕ)) → Option (List ℕ) → Option (List ℕ) → Option (List ℕ) → ℕ → Type 0

@@ -1,8 +1,8 @@
 //! An image and a schedule, under a debugger's commands.
 
-ghost use Rattle.std.specs.Prelude.{◌≡◌, [], IfOk, drop, string_bytes};
+ghost use Rattle.std.specs.Prelude.{◌≡◌, [], IfErr, IfOk, drop, string_bytes};
 ghost use Rattle.m161_steplog.specs.Lines.{lines_of};
-ghost use Rattle.s161.specs.Debugs.{DoesLine, DoesLines, IsDebug};
+ghost use Rattle.s161.specs.Debugs.{DoesLine, DoesLines, IsDebug, IsDebugFault};
 ghost use Rattle.s161.specs.Samples.{image_file};
 
 use crate::command::FilesTask;
@@ -11,9 +11,10 @@ use crate::files::FileSource;
 use crate::input::{read_input, read_text};
 use crate::run::Finished;
 use crate::sample::read_image;
-use crate::texts::{events_of, next_line};
+use crate::texts::events_of;
 use crate::{Machine, Session};
 use m161_machine::Event;
+use m161_steplog::next_line;
 use std::alloc::{AllocError, Global};
 use std::fmt::Write;
 use std::io::Read;
@@ -30,9 +31,12 @@ pub fn debug<'a, F: FileSource, I: Read>(
     task: FilesTask<'a>,
 ) -> Result<Finished, Fault<'a>>
     ensures printed { IfOk result (λ done. IsDebug task.entry
-        (image_file (F.known files.old) task.entry.image.now) (F.known files.old task.entry.text.now)
-        (I.remaining input.old) done.text.items) }
+        (image_file (F.known files.old) task.entry.image.now)
+        (F.known files.old task.entry.text.now) (I.remaining input.old) done.text.items) }
     ensures status { IfOk result (λ done. done.status ≡ 0) }
+    ensures fault { IfErr result (IsDebugFault task.entry
+        (image_file (F.known files.old) task.entry.image.now)
+        (F.known files.old task.entry.text.now)) }
 {
     let file = read_image(alloc, files, task.image)?;
     let schedule = read_text(alloc, files, task.text)?;

@@ -1,6 +1,7 @@
 //! The built-in image, and its run.
 
-ghost use Rattle.std.specs.Prelude.{◌≡◌, IfErr};
+ghost use Rattle.std.specs.Prelude.{◌≡◌, IfErr, IfOk, string_bytes};
+ghost use Rattle.s161.specs.Demos.{IsDemo};
 
 use crate::fault::Fault;
 use crate::{Machine, Session};
@@ -40,10 +41,11 @@ const STEPS: u32 = 7;
 
 /// Boots the image, makes seven Steps and shows processor 0's registers.
 pub fn demo<'a>(alloc: Global) -> Result<String, Fault<'a>>
-    ensures { IfErr result (λ fault. fault ≡ Fault.Memory) }
+    ensures ok { IfOk result (λ text. IsDemo (string_bytes text)) }
+    ensures err { IfErr result (λ fault. fault ≡ Fault.Memory) }
 {
     let mut machine = Machine::boot(alloc, &IMAGE, CONF)?;
-    machine.steps(0, STEPS);
+    let _ = machine.steps(0, STEPS);
     let session = Session::new(alloc, machine);
     Ok(session.show_regs(0)?)
 }

@@ -7,10 +7,10 @@ ghost use Rattle.m161_debug.specs.Shows.{code_line, code_text, code_word, ended}
 ghost use Rattle.s161.specs.Listings.{aligned_up, dis_text, span_text, AreInRam, IsListing, IsUnlisted};
 
 use crate::fault::Fault;
-use m161_debug::Word;
 use m161_dis::line;
 use m161_elf::{Span, load, loads};
 use m161_isa::unmapped;
+use m161_steplog::Word;
 use std::alloc::{AllocError, Global};
 use std::fmt::Write;
 

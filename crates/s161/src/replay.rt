@@ -1,8 +1,8 @@
 //! A log, made once more.
 
-ghost use Rattle.std.specs.Prelude.{◌≡◌, IfOk, string_bytes};
+ghost use Rattle.std.specs.Prelude.{◌≡◌, IfErr, IfOk, string_bytes};
 ghost use Rattle.m161_debug.specs.Shows.{ended};
-ghost use Rattle.s161.specs.Replays.{IsReplay, status_of_verdict, verdict_text};
+ghost use Rattle.s161.specs.Replays.{IsReplay, IsReplayFault, status_of_verdict, verdict_text};
 ghost use Rattle.s161.specs.Samples.{image_file};
 
 use crate::command::FilesTask;
@@ -27,8 +27,12 @@ pub fn replay<'a, F: FileSource>(
     files: &mut F,
     task: FilesTask<'a>,
 ) -> Result<Finished, Fault<'a>>
-    ensures { IfOk result (λ done. IsReplay task.entry (image_file (F.known files.old) task.entry.image.now)
+    ensures ok { IfOk result (λ done. IsReplay task.entry
+        (image_file (F.known files.old) task.entry.image.now)
         (F.known files.old task.entry.text.now) done.text.items done.status) }
+    ensures fault { IfErr result (IsReplayFault task.entry
+        (image_file (F.known files.old) task.entry.image.now)
+        (F.known files.old task.entry.text.now)) }
 {
     let file = read_image(alloc, files, task.image)?;
     let log = read_text(alloc, files, task.text)?;

@@ -34,10 +34,11 @@ pub fn run<'a, F: FileSource, I: Read>(
     input: &mut I,
     task: RunTask<'a>,
 ) -> Result<Finished, Fault<'a>>
-    ensures ok { IfOk result (λ done. IsRun task.entry (image_file (F.known files.old) task.entry.image.now)
-        (I.remaining input.old) done.text.items done.status) }
-    ensures fault { IfErr result (IsFaultOf task.entry (image_file (F.known files.old) task.entry.image.now)
-        (I.remaining input.old)) }
+    ensures ok { IfOk result (λ done. IsRun task.entry
+        (image_file (F.known files.old) task.entry.image.now) (I.remaining input.old)
+        done.text.items done.status) }
+    ensures fault { IfErr result (IsFaultOf task.entry
+        (image_file (F.known files.old) task.entry.image.now) (I.remaining input.old)) }
 {
     let file = read_image(alloc, files, task.image)?;
     let schedule = read_input(alloc, input)?;

@@ -1,12 +1,11 @@
 //! Texts, read as what they say.
 
-ghost use Rattle.std.specs.Prelude.{◌≡◌, ◌∷◌, ◌<◌, ℕ, [], IfErr, IfOk, IfSome, IsErrOf, MatchOption, length};
-ghost use Rattle.m161_steplog.specs.Lines.{FirstBad, lines_of};
-ghost use Rattle.m161_steplog.specs.Log.{AreLogLines, IsLog};
-ghost use Rattle.m161_steplog.specs.Parts.{Cuts};
+ghost use Rattle.std.specs.Prelude.{IfErr, IfOk};
+ghost use Rattle.m161_steplog.specs.Lines.{lines_of};
+ghost use Rattle.m161_steplog.specs.Log.{IsLog};
 ghost use Rattle.m161_steplog.specs.Schedule.{IsSchedule};
+ghost use Rattle.s161.specs.Replays.{IsLogFault};
 ghost use Rattle.s161.specs.Runs.{IsScheduleFault};
-ghost use Rattle.s161.specs.declared.fault.Fault.TheVariants as faults;
 
 use crate::fault::{Fault, fault_of_log, fault_of_schedule};
 use m161_machine::{Entry, Event};
@@ -33,32 +32,10 @@ pub fn events_of<'a>(alloc: Global, text: &str) -> Result<Vec<Event>, Fault<'a>>
 /// Its first bad line; or memory was refused.
 pub fn entries_of<'a>(alloc: Global, text: &str) -> Result<Vec<Entry>, Fault<'a>>
     ensures found { IfOk result (λ entries. IsLog text.now entries.items) }
-    ensures line { (n : ℕ) → IsErrOf result (faults.Log n) → FirstBad AreLogLines text.now n }
+    ensures fault { IfErr result (IsLogFault text.now) }
 {
     match read_log(alloc, text) {
         Ok(entries) => Ok(entries),
         Err(error) => Err(fault_of_log(error)),
-    }
-}
-
-// The text before the first line feed, and the text after it.
-fn cut_at_line_feed(text: &str) -> Option<(&str, &str)>
-    ensures { Cuts 10 text.now result }
-{
-    text.split_once('\n')
-}
-
-/// The first line, without its end, and the text after it; `None` of the empty text.
-pub fn next_line(text: &str) -> Option<(&str, &str)>
-    ensures lines { MatchOption result (text.now ≡ [])
-        (λ x. lines_of text.now ≡ x.0.now ∷ lines_of x.1.now) }
-    ensures shorter { IfSome result (λ x. length x.1.now < length text.now) }
-{
-    if text.is_empty() {
-        return None;
-    }
-    match cut_at_line_feed(text) {
-        Some((line, rest)) => Some((line, rest)),
-        None => Some((text, "")),
     }
 }

@@ -3,14 +3,15 @@
 ghost use Rattle.std.specs.Prelude.{◌≡◌, ◌≢◌, ◌⊎◌, ◌≤◌, true, false, IfErr, IfOk, OnOk, map, string_bytes};
 ghost use Rattle.std.specs.Io.KnownBytes.{Appends};
 ghost use Rattle.clap.specs.Words.{kind_of};
-ghost use Rattle.s161.specs.Assemblies.{IsAssembled};
+ghost use Rattle.s161.specs.Assemblies.{IsAssembled, IsAssemblyFault};
 ghost use Rattle.s161.specs.Commands.{IsAccepted};
-ghost use Rattle.s161.specs.Debugs.{IsDebug};
-ghost use Rattle.s161.specs.Listings.{IsDisassembled};
-ghost use Rattle.s161.specs.Replays.{IsReplay};
-ghost use Rattle.s161.specs.Runs.{IsRun};
+ghost use Rattle.s161.specs.Debugs.{IsDebug, IsDebugFault};
+ghost use Rattle.s161.specs.Demos.{IsDemo};
+ghost use Rattle.s161.specs.Listings.{IsDisassembled, IsListingFault};
+ghost use Rattle.s161.specs.Replays.{IsReplay, IsReplayFault};
+ghost use Rattle.s161.specs.Runs.{IsFaultOf, IsRun};
 ghost use Rattle.s161.specs.Samples.{image_file};
-ghost use Rattle.s161.specs.Works.{Does, Finishes, IsDone, Prints};
+ghost use Rattle.s161.specs.Works.{Does, Fails, Finishes, IsDone, IsTaskFault, Prints};
 
 use crate::assembly::assembly;
 use crate::command::{FilesTask, RunTask, Task, parse};
@@ -107,6 +108,9 @@ fn do_task<'a, F: FileSource, I: Read, O: Write>(
 ) -> Result<u8, Fault<'a>>
     ensures finished { IfOk result (Finishes task.entry (F.known files.old)
         (I.remaining input.old) (O.contents output.old) (O.contents output.new)) }
+    ensures fault { IfErr result (Fails
+        (IsTaskFault task.entry (F.known files.old) (I.remaining input.old))
+        (O.contents output.old) (O.contents output.new)) }
     ensures within { IfOk result (λ status. (status ≤ 4) × (status ≢ 2)) }
 {
     match task {
@@ -121,7 +125,11 @@ fn do_task<'a, F: FileSource, I: Read, O: Write>(
 
 // Prints the demo. The result is the exit status.
 fn do_demo<'a, O: Write>(alloc: Global, output: &mut O) -> Result<u8, Fault<'a>>
-    ensures { IfOk result (λ status. status ≡ 0) }
+    ensures printed { IfOk result (λ _. Prints IsDemo
+        (O.contents output.old) (O.contents output.new)) }
+    ensures status { IfOk result (λ status. status ≡ 0) }
+    ensures fault { IfErr result (Fails (λ fault. fault ≡ Fault.Memory)
+        (O.contents output.old) (O.contents output.new)) }
 {
     let text = demo(alloc)?;
     put(output, text.as_bytes())?;
@@ -140,6 +148,9 @@ fn do_run<'a, F: FileSource, I: Read, O: Write>(
         (image_file (F.known files.old) task.entry.image.now) (I.remaining input.old) text status)
         (O.contents output.old) (O.contents output.new)) }
     ensures within { IfOk result (λ status. (status ≤ 3) × (status ≢ 2)) }
+    ensures fault { IfErr result (Fails (IsFaultOf task.entry
+        (image_file (F.known files.old) task.entry.image.now) (I.remaining input.old))
+        (O.contents output.old) (O.contents output.new)) }
 {
     print(output, run(alloc, files, input, task)?)
 }
@@ -152,9 +163,14 @@ fn do_replay<'a, F: FileSource, O: Write>(
     output: &mut O,
 ) -> Result<u8, Fault<'a>>
     ensures printed { IfOk result (λ status. Prints (λ text. IsReplay task.entry
-        (image_file (F.known files.old) task.entry.image.now) (F.known files.old task.entry.text.now) text
-        status) (O.contents output.old) (O.contents output.new)) }
+        (image_file (F.known files.old) task.entry.image.now)
+        (F.known files.old task.entry.text.now) text status)
+        (O.contents output.old) (O.contents output.new)) }
     ensures within { IfOk result (λ status. (status ≡ 0) ⊎ (status ≡ 4)) }
+    ensures fault { IfErr result (Fails (IsReplayFault task.entry
+        (image_file (F.known files.old) task.entry.image.now)
+        (F.known files.old task.entry.text.now))
+        (O.contents output.old) (O.contents output.new)) }
 {
     print(output, replay(alloc, files, task)?)
 }
@@ -168,9 +184,14 @@ fn do_debug<'a, F: FileSource, I: Read, O: Write>(
     output: &mut O,
 ) -> Result<u8, Fault<'a>>
     ensures printed { IfOk result (λ _. Prints (λ text. IsDebug task.entry
-        (image_file (F.known files.old) task.entry.image.now) (F.known files.old task.entry.text.now)
-        (I.remaining input.old) text) (O.contents output.old) (O.contents output.new)) }
+        (image_file (F.known files.old) task.entry.image.now)
+        (F.known files.old task.entry.text.now) (I.remaining input.old) text)
+        (O.contents output.old) (O.contents output.new)) }
     ensures status { IfOk result (λ status. status ≡ 0) }
+    ensures fault { IfErr result (Fails (IsDebugFault task.entry
+        (image_file (F.known files.old) task.entry.image.now)
+        (F.known files.old task.entry.text.now))
+        (O.contents output.old) (O.contents output.new)) }
 {
     print(output, debug(alloc, files, input, task)?)
 }
@@ -184,6 +205,8 @@ fn do_as<'a, I: Read, O: Write>(
     ensures printed { IfOk result (λ _. Prints (IsAssembled (I.remaining input.old))
         (O.contents output.old) (O.contents output.new)) }
     ensures status { IfOk result (λ status. status ≡ 0) }
+    ensures fault { IfErr result (Fails (IsAssemblyFault (I.remaining input.old))
+        (O.contents output.old) (O.contents output.new)) }
 {
     let source = read_input(alloc, input)?;
     let file = assembly(alloc, source.as_str())?;
@@ -202,6 +225,9 @@ fn do_dis<'a, F: FileSource, O: Write>(
         (IsDisassembled (image_file (F.known files.old) image.entry.now))
         (O.contents output.old) (O.contents output.new)) }
     ensures status { IfOk result (λ status. status ≡ 0) }
+    ensures fault { IfErr result (Fails
+        (IsListingFault image.entry.now (image_file (F.known files.old) image.entry.now))
+        (O.contents output.old) (O.contents output.new)) }
 {
     let file = read_image(alloc, files, image)?;
     let text = disassembly(alloc, &file)?;
@@ -214,6 +240,7 @@ fn print<'a, O: Write>(output: &mut O, finished: Finished) -> Result<u8, Fault<'
     ensures status { IfOk result (λ status. status ≡ finished.status) }
     ensures printed { OnOk result (Appends (O.contents output.old) (O.contents output.new)
         finished.text.items) }
+    ensures fault { IfErr result (λ fault. fault ≡ Fault.Output) }
 {
     put(output, finished.text.as_slice())?;
     Ok(finished.status)

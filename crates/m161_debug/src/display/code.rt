@@ -4,12 +4,12 @@ ghost use Rattle.std.specs.Prelude.{◌≡◌, ◌+◌, ◌*◌, ◌%◌, ◌++�
 ghost use Rattle.m161_elf.specs.Image.{is_in_ram};
 ghost use Rattle.m161_debug.specs.Shows.{code_text, code_word, ended, code_line, show_code_text};
 
-use crate::digits::Word;
 use crate::display::memory::word;
 use m161_bus::Console;
 use m161_dis::line;
 use m161_isa::unmapped;
 use m161_machine::Machine;
+use m161_steplog::Word;
 use m161_tlb::Tlb;
 use std::alloc::{AllocError, Global};
 use std::fmt::Write;

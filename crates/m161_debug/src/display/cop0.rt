@@ -4,10 +4,10 @@ ghost use Rattle.std.specs.Prelude.{◌≡◌, ◌++◌, ◌<◌, length, slice_
 ghost use Rattle.m161_cop0.specs.Registers.{all_registers};
 ghost use Rattle.m161_debug.specs.Shows.{cop0_line, ended, named, show_cop0_text};
 
-use crate::digits::Word;
 use m161_bus::Console;
 use m161_cop0::{REGISTERS, registers_in_order};
 use m161_machine::{Machine, Register};
+use m161_steplog::Word;
 use m161_tlb::Tlb;
 use std::alloc::{AllocError, Global};
 use std::fmt::Write;

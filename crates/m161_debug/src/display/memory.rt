@@ -5,9 +5,9 @@ ghost use Rattle.m161_ram.specs.Word.{word_at};
 ghost use Rattle.m161_debug.specs.Shows.{ended, memory_line, show_mem_text, word_text};
 ghost use Rattle.m161_steplog.specs.Parts.{◌␣◌};
 
-use crate::digits::Word;
 use m161_bus::Console;
 use m161_machine::Machine;
+use m161_steplog::Word;
 use m161_tlb::Tlb;
 use std::alloc::{AllocError, Global};
 use std::fmt::Write;

@@ -4,10 +4,10 @@ ghost use Rattle.std.specs.Prelude.{◌≡◌, ◌++◌, ◌<◌, length, codes,
 ghost use Rattle.m161_machine.specs.State.{processor_at};
 ghost use Rattle.m161_debug.specs.Shows.{ended, hi_lo_line, named, place_line, place_text, register_text, registers_line, show_regs_text, state_text};
 
-use crate::digits::Word;
 use m161_bus::Console;
 use m161_isa::Reg;
 use m161_machine::{Machine, ProcessorState};
+use m161_steplog::Word;
 use m161_tlb::Tlb;
 use std::alloc::{AllocError, Global};
 use std::fmt;

@@ -4,9 +4,9 @@ ghost use Rattle.std.specs.Prelude.{◌≡◌, ◌++◌, ◌<◌, length, string
 ghost use Rattle.m161_machine.specs.State.{processor_at};
 ghost use Rattle.m161_debug.specs.Shows.{ended, row_line, row_text, show_tlb_text, two_digits};
 
-use crate::digits::Word;
 use m161_bus::Console;
 use m161_machine::{Machine, Row};
+use m161_steplog::Word;
 use m161_tlb::Tlb;
 use std::alloc::{AllocError, Global};
 use std::fmt;

@@ -10,12 +10,12 @@ ghost use Rattle.m161_debug.specs.Obeys.{area_text, display_text, is_shown, is_t
 
 use crate::breakpoints::Breakpoint;
 use crate::command::{Area, Change, Command, CommandError, Display, command_of};
-use crate::digits::Word;
 use crate::display::is_code_there;
 use crate::room::{put, put_event, put_outcome, put_refusal, put_stop};
 use crate::session::Session;
 use m161_bus::Console;
 use m161_machine::Event;
+use m161_steplog::Word;
 use m161_tlb::Tlb;
 use std::alloc::AllocError;
 use std::fmt::Write;
@@ -77,8 +77,8 @@ impl<T: Tlb, D: Console> Session<T, D> {
 
     // Sets a breakpoint; the text first, since that alone may fail.
     fn set(&mut self, p: u32, address: u32, text: &mut String) -> Result<usize, CommandError>
-        ensures { (rest : List Event) → Obeys (Ok (commands.Breakpoint changes.Set p address)) self.old rest result
-            self.new (string_bytes text.old) (string_bytes text.new) }
+        ensures { (rest : List Event) → Obeys (Ok (commands.Breakpoint changes.Set p address))
+            self.old rest result self.new (string_bytes text.old) (string_bytes text.new) }
     {
         if let Some(error) = self.break_fault(Breakpoint::new(p, address)) {
             return Err(CommandError::from(error));
@@ -91,8 +91,8 @@ impl<T: Tlb, D: Console> Session<T, D> {
 
     // Deletes a breakpoint; the text first.
     fn unset(&mut self, p: u32, address: u32, text: &mut String) -> Result<usize, CommandError>
-        ensures { (rest : List Event) → Obeys (Ok (commands.Breakpoint changes.Delete p address)) self.old rest
-            result self.new (string_bytes text.old) (string_bytes text.new) }
+        ensures { (rest : List Event) → Obeys (Ok (commands.Breakpoint changes.Delete p address))
+            self.old rest result self.new (string_bytes text.old) (string_bytes text.new) }
     {
         if self.breakpoints.has(Breakpoint::new(p, address)) {
             text.push_str("deleted\n")?;
@@ -105,8 +105,8 @@ impl<T: Tlb, D: Console> Session<T, D> {
 
     // Makes an event; room for the text first, since the event can't be undone.
     fn make(&mut self, event: Event, text: &mut String) -> Result<usize, CommandError>
-        ensures { (rest : List Event) → Obeys (Ok (commands.Make event)) self.old rest result self.new
-            (string_bytes text.old) (string_bytes text.new) }
+        ensures { (rest : List Event) → Obeys (Ok (commands.Make event)) self.old rest result
+            self.new (string_bytes text.old) (string_bytes text.new) }
     {
         text.reserve(LONGEST)?;
         match self.step(event) {
@@ -163,8 +163,8 @@ impl<T: Tlb, D: Console> Session<T, D> {
 
     // Appends a display of a processor.
     fn show(&mut self, display: Display, p: u32, text: &mut String) -> Result<usize, CommandError>
-        ensures { (rest : List Event) → Obeys (Ok (commands.Show display p)) self.old rest result self.new
-            (string_bytes text.old) (string_bytes text.new) }
+        ensures { (rest : List Event) → Obeys (Ok (commands.Show display p)) self.old rest result
+            self.new (string_bytes text.old) (string_bytes text.new) }
     {
         if p >= self.machine.processors() {
             return Err(CommandError::BadProcessor);
@@ -214,8 +214,8 @@ impl<T: Tlb, D: Console> Session<T, D> {
         n: u32,
         text: &mut String,
     ) -> Result<usize, CommandError>
-        ensures { (rest : List Event) → Obeys (Ok (commands.Words area address n)) self.old rest result self.new
-            (string_bytes text.old) (string_bytes text.new) }
+        ensures { (rest : List Event) → Obeys (Ok (commands.Words area address n)) self.old rest
+            result self.new (string_bytes text.old) (string_bytes text.new) }
     {
         if !self.are_shown(area, address, n) {
             return Err(CommandError::BadArgument);

@@ -5,7 +5,10 @@ use super::listing::ENTRY;
 use super::same;
 use m161_console::PlainConsole;
 use m161_machine::{Conf, Entry, Event, Outcome};
-use m161_steplog::{Fault, Verdict, entry_line, read_log, read_schedule, verify, write_log};
+use m161_steplog::{
+    Byte, Fault, Verdict, Word, byte_of, cut_at_space, decimal_of, entry_line, next_line, read_log,
+    read_schedule, verify, word_of, write_log,
+};
 use m161_tlb_scan::Scan;
 use std::alloc::Global;
 use std::test::Fail;
@@ -37,6 +40,58 @@ fn log_text(rt: HostRuntime) -> Result<(), Fail> {
         Event::Done,
     ];
     same(&rt, events.as_slice(), expected.as_slice());
+    Ok(())
+}
+
+#[test]
+fn parts(rt: HostRuntime) {
+    for (text, parts) in [
+        ("s 0 ran", Some(("s", "0 ran"))),
+        (" o", Some(("", "o"))),
+        ("o ", Some(("o", ""))),
+        ("o", None),
+        ("", None),
+    ] {
+        same(&rt, (text, cut_at_space(text)), (text, parts));
+    }
+    for (text, parts) in [
+        ("s 0\r\no\n", Some(("s 0\r", "o\n"))),
+        ("\n", Some(("", ""))),
+        ("o", Some(("o", ""))),
+        ("", None),
+    ] {
+        same(&rt, (text, next_line(text)), (text, parts));
+    }
+}
+
+#[test]
+fn numbers(rt: HostRuntime) -> Result<(), Fail> {
+    for (text, number) in [
+        ("0", Some(0)),
+        ("4294967295", Some(4_294_967_295)),
+        ("4294967296", None),
+        ("00", None),
+        ("+1", None),
+        ("1 ", None),
+        ("", None),
+    ] {
+        same(&rt, (text, decimal_of(text)), (text, number));
+    }
+    for (text, number) in [
+        ("80000200", Some(0x8000_0200)),
+        ("ffffffff", Some(0xffff_ffff)),
+        ("8000020", None),
+        ("080000200", None),
+        ("8000020A", None),
+        ("+8000020", None),
+    ] {
+        same(&rt, (text, word_of(text)), (text, number));
+    }
+    for (text, number) in [("0a", Some(10)), ("a", None), ("00a", None), ("0A", None)] {
+        same(&rt, (text, byte_of(text)), (text, number));
+    }
+    let shown = format!(in rt.alloc(); "{} {}", Byte(0x0a), Word(0x200))?;
+    same(&rt, shown.as_str(), "0a 00000200");
     Ok(())
 }
 

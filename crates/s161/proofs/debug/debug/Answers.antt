@@ -1,10 +1,13 @@
 use Rattle.std.proofs.Common.{◌≡◌, List, ℕ, [], Option, IfSome, rules, subst, sym}
+use Rattle.std.proofs.lemmas.Result.{err_from_is_err_and}
 use Rattle.m161_machine.specs.declared.event.Event.{Event}
 use Rattle.m161_machine.specs.History.{boot_fault}
 use Rattle.m161_steplog.specs.Lines.{lines_of}
 use Rattle.m161_steplog.specs.Schedule.{IsSchedule}
 use Rattle.m161_debug.specs.Breakpoints.{Debugged}
-use Rattle.s161.specs.Debugs.{DoesLines}
+use Rattle.s161.specs.Debugs.{DoesLines, IsDebugFault}
+use Rattle.s161.specs.Runs.{HasSchedule}
+use Rattle.s161.proofs.Failing.{boot_failed, schedule_failed}
 use Rattle.s161.proofs.Making.{booted_ok}
 use Rattle.s161.specs.Samples.{image_file}
 use Rattle.s161.proofs.debug.debug.Goals as goal
@@ -36,3 +39,31 @@ returns-clause-printed g c =
       is_input = subst T (sym c.as_str-2.ensures.value) c.in_ok-commands.ensures.whole;
       does = subst V c.new-session.ensures (subst U (search rules) c.in_ok-text.ensures);
     }
+
+pub returns-in_err-events-clause-fault : goal.returns-in_err-events-clause-fault
+returns-in_err-events-clause-fault g c =
+    let known = g.F.FileSource.known c.args.files.now in
+    let image = image_file known c.args.task.image.now in
+    let text = known c.args.task.text.now in
+    let Q : Option (List ℕ) → Type 0 = λ schedule. IfSome schedule (λ bytes. c.as_str.result.now ≡ bytes) in
+    let R : List ℕ → Type 0 = λ schedule. IfSome (g.F.FileSource.known c.read_image.new.files c.args.task.text.now) (λ bytes. schedule ≡ bytes) in
+    let is = subst Q (c.in_ok-file.ensures.still c.args.task.text.now) (subst R (sym c.as_str.ensures.value) c.in_ok-schedule.ensures.whole) in
+    let failed = schedule_failed (IsDebugFault c.args.task image text) c.as_str.result.now c.in_err-events.field-0.0
+    (λ n bad. (c.as_str.result.now, is, bad)) tt c.in_err-events.ensures.fault in
+    search (rules, failed)
+
+-- the schedule's file has a schedule, and the boot's answer says the rest
+pub returns-in_err-machine-clause-fault : goal.returns-in_err-machine-clause-fault
+returns-in_err-machine-clause-fault g c =
+    let known = g.F.FileSource.known c.args.files.now in
+    let image = image_file known c.args.task.image.now in
+    let text = known c.args.task.text.now in
+    let P : List ℕ → Type 0 = λ file. IfSome image (λ bytes. file ≡ bytes) in
+    let Q : Option (List ℕ) → Type 0 = λ schedule. IfSome schedule (λ bytes. c.as_str.result.now ≡ bytes) in
+    let R : List ℕ → Type 0 = λ schedule. IfSome (g.F.FileSource.known c.read_image.new.files c.args.task.text.now) (λ bytes. schedule ≡ bytes) in
+    let is = subst Q (c.in_ok-file.ensures.still c.args.task.text.now) (subst R (sym c.as_str.ensures.value) c.in_ok-schedule.ensures.whole) in
+    let schedule : HasSchedule text = (c.as_str.result.now, is, (c.in_ok-events.events.items, c.in_ok-events.ensures.found)) in
+    let made = err_from_is_err_and c.from_residual-in_err-machine.result c.from_residual-in_err-machine.ensures.1 in
+    let failed = boot_failed (IsDebugFault c.args.task image text) image c.args.task.conf c.deref.result.now c.in_err-machine.field-0.0
+    (subst P (sym c.deref.ensures.value) c.in_ok-file.ensures.whole) (λ outside. (schedule, outside)) (λ e has. (schedule, has)) tt c.in_err-machine.ensures.answer in
+    rw (made.1, made.2) failed

@@ -5,7 +5,7 @@ use Rattle.m161_machine.specs.History.{boot_fault}
 use Rattle.m161_steplog.specs.Lines.{lines_of}
 use Rattle.m161_steplog.specs.Schedule.{IsSchedule}
 use Rattle.m161_debug.specs.Breakpoints.{Debugged}
-use Rattle.s161.specs.Runs.{HasSchedule, summary_text}
+use Rattle.s161.specs.Runs.{HasSchedule, IsFaultOf, summary_text}
 use Rattle.s161.proofs.Failing.{boot_failed, schedule_failed}
 use Rattle.s161.proofs.Making.{booted_ok}
 use Rattle.s161.specs.Samples.{image_file}
@@ -39,8 +39,9 @@ returns-in_err-events-clause-fault g c =
     let known = image_file (g.F.FileSource.known c.args.files.now) c.args.task.image.now in
     let input = g.I.Read.remaining c.args.input.now in
     let P : List ℕ → Type 0 = λ schedule. IfSome input (λ bytes. schedule ≡ bytes) in
-    let failed = schedule_failed c.args.task known input c.as_str.result.now c.in_err-events.field-0.0
-    (subst P (sym c.as_str.ensures.value) c.in_ok-schedule.ensures.whole) c.in_err-events.ensures.fault in
+    let is = subst P (sym c.as_str.ensures.value) c.in_ok-schedule.ensures.whole in
+    let failed = schedule_failed (IsFaultOf c.args.task known input) c.as_str.result.now c.in_err-events.field-0.0
+    (λ n bad. (c.as_str.result.now, is, bad)) tt c.in_err-events.ensures.fault in
     search (rules, failed)
 
 -- standard input has a schedule, and the boot's answer says the rest
@@ -52,6 +53,6 @@ returns-in_err-machine-clause-fault g c =
     let R : List ℕ → Type 0 = λ file. IfSome known (λ bytes. file ≡ bytes) in
     let made = err_from_is_err_and c.from_residual-in_err-machine.result c.from_residual-in_err-machine.ensures.1 in
     let schedule : HasSchedule input = (c.as_str.result.now, subst P (sym c.as_str.ensures.value) c.in_ok-schedule.ensures.whole, (c.in_ok-events.events.items, c.in_ok-events.ensures.found)) in
-    let failed = boot_failed c.args.task known input c.deref.result.now c.in_err-machine.field-0.0 schedule
-    (subst R (sym c.deref.ensures.value) c.in_ok-file.ensures.whole) c.in_err-machine.ensures.answer in
+    let failed = boot_failed (IsFaultOf c.args.task known input) known c.args.task.conf c.deref.result.now c.in_err-machine.field-0.0
+    (subst R (sym c.deref.ensures.value) c.in_ok-file.ensures.whole) (λ outside. (schedule, outside)) (λ e has. (schedule, has)) tt c.in_err-machine.ensures.answer in
     rw (made.1, made.2) failed

@@ -1,6 +1,0 @@
-use Rattle.std.proofs.Common.{arith}
-use Rattle.m161_debug.proofs.Parts.{cuts}
-use Rattle.m161_debug.proofs.reading.cut_at_space.Goals as goal
-
-pub returns : goal.returns
-returns c = cuts 32 c.args.text.now c.split_once.result c.split_once.ensures.cases (omega arith)

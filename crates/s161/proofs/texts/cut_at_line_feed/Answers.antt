@@ -1,6 +1,0 @@
-use Rattle.std.proofs.Common.{arith}
-use Rattle.s161.proofs.Lines.{cuts}
-use Rattle.s161.proofs.texts.cut_at_line_feed.Goals as goal
-
-pub returns : goal.returns
-returns c = cuts 10 c.args.text.now c.split_once.result c.split_once.ensures.cases (omega arith)
