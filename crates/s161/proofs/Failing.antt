@@ -12,7 +12,7 @@ use Rattle.m161_steplog.specs.Schedule.{AreScheduleLines}
 use Rattle.m161_steplog.specs.Verdict.{Verifies}
 use Rattle.s161.specs.Faults.{fault_of_boot}
 use Rattle.s161.specs.declared.fault.Fault.{Fault}
-use Rattle.s161.specs.declared.fault.Fault.TheVariants.{Conf, File, Image, Input, Log, Memory, Output, Schedule, Source}
+use Rattle.s161.specs.declared.fault.Fault.TheVariants.{Conf, File, Image, Input, Log, Memory, Output, Schedule, Source, Threads}
 use Rattle.s161.specs.Replays.{IsLogFault}
 use Rattle.s161.specs.Runs.{IsScheduleFault}
 
@@ -25,6 +25,7 @@ schedule_failed P text (Schedule n) line memory h = line n h
 schedule_failed P text Memory line memory h = memory
 schedule_failed P text (File name) line memory h = absurd h
 schedule_failed P text (Log n) line memory h = absurd h
+schedule_failed P text (Threads cause) line memory h = absurd h
 schedule_failed P text Conf line memory h = absurd h
 schedule_failed P text (Image e) line memory h = absurd h
 schedule_failed P text Input line memory h = absurd h
@@ -38,6 +39,7 @@ log_failed P text (Log n) line memory h = line n h
 log_failed P text Memory line memory h = memory
 log_failed P text (File name) line memory h = absurd h
 log_failed P text (Schedule n) line memory h = absurd h
+log_failed P text (Threads cause) line memory h = absurd h
 log_failed P text Conf line memory h = absurd h
 log_failed P text (Image e) line memory h = absurd h
 log_failed P text Input line memory h = absurd h

@@ -6,3 +6,4 @@ pub mod Listed
 pub mod Making
 pub mod Sampled
 pub mod Shown
+mod Threading

@@ -10,7 +10,7 @@ use Rattle.m161_machine.specs.declared.conf.Conf.{Conf}
 use Rattle.s161.specs.declared.command.FilesTask.{FilesTask}
 use Rattle.s161.specs.declared.command.RunTask.{RunTask}
 use Rattle.s161.specs.declared.command.Task.{Task}
-use Rattle.s161.specs.declared.command.Task.TheVariants.{Assemble, Debug, Demo, Disassemble, Replay, Run}
+use Rattle.s161.specs.declared.command.Task.TheVariants.{Assemble, Debug, Demo, Disassemble, Replay, Run, RunInThreads}
 
 -- The command line, in clap's own words.
 
@@ -31,6 +31,11 @@ abbrev pub show_log_rule : Rule
 show_log_rule =
     record (new_rule (codes "show-log")) { long = Some (codes "show-log"); action = Some SetTrue }
 
+-- a number of Steps for each thread, at most 1,000,000
+abbrev pub threads_rule : Rule
+threads_rule =
+    record (number_rule (codes "threads") (codes "0")) { parser = Some (Signed (pos 0) (pos 1000000)) }
+
 -- a command with the options of a machine's size too
 abbrev pub sized : App → App
 sized command =
@@ -41,7 +46,10 @@ sized command =
 
 -- `run` takes an image and options
 abbrev pub run_line : App
-run_line = with_rule (sized (with_rule (new_app (codes "run")) (file_rule (codes "image")))) show_log_rule
+run_line =
+    with_rule
+    (with_rule (sized (with_rule (new_app (codes "run")) (file_rule (codes "image")))) show_log_rule)
+    threads_rule
 
 -- `replay` takes an image, a log and options
 abbrev pub replay_line : App
@@ -110,6 +118,13 @@ pub record AsksRun (rows : List Row) (task : RunTask) : Type 0 where
   pub size : IsSize rows task.conf
   pub show_log : IsFlag (one_of (codes "show-log") rows) task.show_log
 
+-- `run` asks for this: a run under a schedule, or one in threads where their number of Steps isn't 0
+abbrev pub IsRunTask : List Row → Task → Type 0
+IsRunTask rows (Run task) = AsksRun rows task × IsNumberOf 0 (one_of (codes "threads") rows) 0
+IsRunTask rows (RunInThreads task quota) =
+    AsksRun rows task × IsNumberOf 0 (one_of (codes "threads") rows) quota × (0 < quota)
+IsRunTask rows _ = ⊥
+
 -- a command over an image and a text of this name asks for this
 pub record AsksFiles (name : Text) (rows : List Row) (task : FilesTask) : Type 0 where
   pub image : task.image.now ≡ given_of (codes "image") rows
@@ -124,7 +139,9 @@ IsOther word =
 -- a command, with its arguments, asks for this
 abbrev pub IsTask : Option (Text × List Row) → Task → Type 0
 IsTask command Demo = IfSome command (λ given. ¬ IsOther given.0)
-IsTask command (Run task) = IsSomeAnd command (λ given. (given.0 ≡ codes "run") × AsksRun given.1 task)
+IsTask command (Run task) = IsSomeAnd command (λ given. (given.0 ≡ codes "run") × IsRunTask given.1 (Run task))
+IsTask command (RunInThreads task quota) =
+    IsSomeAnd command (λ given. (given.0 ≡ codes "run") × IsRunTask given.1 (RunInThreads task quota))
 IsTask command (Replay task) =
     IsSomeAnd command (λ given. (given.0 ≡ codes "replay") × AsksFiles (codes "entries") given.1 task)
 IsTask command (Debug task) =

@@ -13,7 +13,7 @@ use Rattle.m161_debug.specs.Obeys.{Commands}
 use Rattle.m161_debug.specs.Shows.{ended}
 use Rattle.s161.specs.declared.command.FilesTask.{FilesTask}
 use Rattle.s161.specs.declared.fault.Fault.{Fault}
-use Rattle.s161.specs.declared.fault.Fault.TheVariants.{Conf, File, Image, Input, Log, Memory, Output, Schedule, Source}
+use Rattle.s161.specs.declared.fault.Fault.TheVariants.{Conf, File, Image, Input, Log, Memory, Output, Schedule, Source, Threads}
 use Rattle.s161.specs.Runs.{HasSchedule}
 
 -- What `debug` prints.
@@ -73,5 +73,6 @@ IsDebugFault task image schedule (Image e) =
     × ((file : List ℕ) × IfSome image (λ bytes. file ≡ bytes) × (boot_fault file task.conf ≡ Some (Load e)))
 IsDebugFault task image schedule Memory = Unit {0}
 IsDebugFault task image schedule (Log n) = ⊥
+IsDebugFault task image schedule (Threads cause) = ⊥
 IsDebugFault task image schedule (Source e) = ⊥
 IsDebugFault task image schedule Output = ⊥

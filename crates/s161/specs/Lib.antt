@@ -8,3 +8,4 @@ pub mod Replays
 pub mod Runs
 pub mod Samples
 pub mod Works
+pub mod Threads

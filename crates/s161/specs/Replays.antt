@@ -12,7 +12,7 @@ use Rattle.m161_steplog.specs.Verdict.{IsVerdict}
 use Rattle.m161_debug.specs.Shows.{ended}
 use Rattle.s161.specs.declared.command.FilesTask.{FilesTask}
 use Rattle.s161.specs.declared.fault.Fault.{Fault}
-use Rattle.s161.specs.declared.fault.Fault.TheVariants.{Conf, File, Image, Input, Log, Memory, Output, Schedule, Source}
+use Rattle.s161.specs.declared.fault.Fault.TheVariants.{Conf, File, Image, Input, Log, Memory, Output, Schedule, Source, Threads}
 
 -- What `replay` prints and answers.
 
@@ -60,5 +60,6 @@ IsReplayFault task image log (Image e) =
 IsReplayFault task image log Memory = Unit {0}
 IsReplayFault task image log (Schedule n) = ⊥
 IsReplayFault task image log Input = ⊥
+IsReplayFault task image log (Threads cause) = ⊥
 IsReplayFault task image log (Source e) = ⊥
 IsReplayFault task image log Output = ⊥

@@ -18,7 +18,7 @@ use Rattle.s161.specs.declared.command.RunTask.{RunTask}
 use Rattle.s161.specs.declared.events.Stop.{Stop}
 use Rattle.s161.specs.declared.events.Stop.TheVariants.{Off, End, Refused}
 use Rattle.s161.specs.declared.fault.Fault.{Fault}
-use Rattle.s161.specs.declared.fault.Fault.TheVariants.{Conf, File, Image, Input, Log, Memory, Output, Schedule, Source}
+use Rattle.s161.specs.declared.fault.Fault.TheVariants.{Conf, File, Image, Input, Log, Memory, Output, Schedule, Source, Threads}
 
 -- What `run` makes, prints and answers.
 
@@ -121,5 +121,6 @@ IsFaultOf task known input Conf = HasSchedule input × (is_within_limits task.co
 IsFaultOf task known input (Image e) =
     HasSchedule input × ((file : List ℕ) × IfSome known (λ bytes. file ≡ bytes) × (boot_fault file task.conf ≡ Some (Load e)))
 IsFaultOf task known input Memory = Unit {0}
+IsFaultOf task known input (Threads cause) = ⊥
 IsFaultOf task known input (Source e) = ⊥
 IsFaultOf task known input Output = ⊥

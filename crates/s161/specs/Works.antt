@@ -2,7 +2,7 @@ use Rattle.std.specs.Prelude.{◌≡◌, ◌⊎◌, ℕ, List, Option}
 use Rattle.std.specs.Io.KnownBytes.{Appends}
 use Rattle.clap.specs.Words.{Text, subcommand_of}
 use Rattle.s161.specs.declared.command.Task.{Task}
-use Rattle.s161.specs.declared.command.Task.TheVariants.{Assemble, Debug, Demo, Disassemble, Replay, Run}
+use Rattle.s161.specs.declared.command.Task.TheVariants.{Assemble, Debug, Demo, Disassemble, Replay, Run, RunInThreads}
 use Rattle.s161.specs.declared.fault.Fault.{Fault}
 use Rattle.s161.specs.declared.fault.Fault.TheVariants.{Memory, Output}
 use Rattle.s161.specs.Assemblies.{IsAssembled, IsAssemblyFault}
@@ -13,6 +13,7 @@ use Rattle.s161.specs.Listings.{IsDisassembled, IsListingFault}
 use Rattle.s161.specs.Replays.{IsReplay, IsReplayFault}
 use Rattle.s161.specs.Runs.{IsFaultOf, IsRun}
 use Rattle.s161.specs.Samples.{image_file}
+use Rattle.s161.specs.Threads.{IsRunInThreads, IsThreadsFault}
 
 -- What the work of a command line comes to.
 
@@ -25,6 +26,8 @@ abbrev pub Finishes : Task → (Text → Option (List ℕ)) → Option (List ℕ
 Finishes Demo files input before after status = (status ≡ 0) × Prints IsDemo before after
 Finishes (Run task) files input before after status =
     Prints (λ text. IsRun task (image_file files task.image.now) input text status) before after
+Finishes (RunInThreads task quota) files input before after status =
+    Prints (λ text. IsRunInThreads task quota (image_file files task.image.now) text status) before after
 Finishes (Replay task) files input before after status =
     Prints (λ text. IsReplay task (image_file files task.image.now) (files task.text.now) text status) before after
 Finishes (Debug task) files input before after status =
@@ -37,6 +40,8 @@ Finishes (Disassemble image) files input before after status =
 abbrev pub IsTaskFault : Task → (Text → Option (List ℕ)) → Option (List ℕ) → Fault → Type 0
 IsTaskFault Demo files input fault = fault ≡ Memory
 IsTaskFault (Run task) files input fault = IsFaultOf task (image_file files task.image.now) input fault
+IsTaskFault (RunInThreads task quota) files input fault =
+    IsThreadsFault task (image_file files task.image.now) fault
 IsTaskFault (Replay task) files input fault =
     IsReplayFault task (image_file files task.image.now) (files task.text.now) fault
 IsTaskFault (Debug task) files input fault =

@@ -3,7 +3,7 @@
 ghost use Rattle.std.specs.Prelude.{◌≡◌, ◌≢◌, [], IfErr, IfOk, codes, false, map, unwrap_or};
 ghost use Rattle.clap.specs.Words.{app_of, first_of, found_of, kind_of, one_of, rows_of, rule_of, subcommand_of, subcommand_rows_of};
 ghost use Rattle.clap.specs.declared.error.kind.ErrorKind.TheVariants.{OutOfMemory};
-ghost use Rattle.s161.specs.Commands.{AsksFiles, AsksRun, IsAccepted, IsFlag, IsLocal, IsNumberOf, IsSize, IsTask, as_line, command_line, debug_line, dis_line, file_rule, number_rule, replay_line, run_line, show_log_rule, sized};
+ghost use Rattle.s161.specs.Commands.{AsksFiles, AsksRun, IsAccepted, IsFlag, IsLocal, IsNumberOf, IsRunTask, IsSize, IsTask, as_line, command_line, debug_line, dis_line, file_rule, number_rule, replay_line, run_line, show_log_rule, sized, threads_rule};
 
 use clap::{Arg, ArgAction, ArgMatches, Command, Error, value_parser};
 use m161_machine::Conf;
@@ -17,6 +17,8 @@ pub enum Task<'a> {
     Demo,
     /// An image, under a schedule.
     Run(RunTask<'a>),
+    /// An image, in threads, each of which makes so many Steps.
+    RunInThreads(RunTask<'a>, u32),
     /// An image, against a log.
     Replay(FilesTask<'a>),
     /// An image, under a schedule and a debugger's commands.
@@ -59,7 +61,7 @@ Exit status:
      a log that agrees
   1  a fault, named on standard error, or a refused event of run
   2  a rejected command line, or a call for help
-  3  the schedule ended
+  3  the schedule or the Steps of the threads ended
   4  a log that differs";
 
 /// What the help of `run` ends with.
@@ -70,10 +72,14 @@ The schedule is read from standard input, an event a line:
   o        the console has sent its byte
   # ...    a comment; an empty line is ignored too
 
+With --threads each of two processors has a thread that makes Q Steps, unless
+the machine is switched off, and the host says in which order. No schedule is
+read; the log that --show-log prints can be replayed.
+
 Exit status:
   0  the machine switched itself off
   1  a fault, named on standard error, or a refused event
-  3  the schedule ended
+  3  the schedule or the Steps of the threads ended
 
 Example:
   printf 's 0 1000\\nk 41\\ns 0 1000\\n' | s161 run kernel.elf --show-log";
@@ -154,6 +160,19 @@ fn show_log_option<'a>(alloc: Global) -> Arg<'a>
         .action(ArgAction::SetTrue)
 }
 
+// The option of `run` that gives each processor a thread.
+fn threads_option<'a>(alloc: Global) -> Arg<'a>
+    ensures rule { rule_of result ≡ threads_rule }
+    ensures local { result.global ≡ false }
+{
+    Arg::new(alloc, "threads")
+        .long("threads")
+        .value_name("Q")
+        .help("Steps that each processor makes in a thread of its own, 0 to 1000000")
+        .value_parser(value_parser!(u32).range(0..=1_000_000))
+        .default_value("0")
+}
+
 // A command with the options of a machine's size too.
 fn with_size<'a>(alloc: Global, command: Command<'a>) -> Result<Command<'a>, AllocError>
     ensures shape { IsLocal command.entry
@@ -177,7 +196,9 @@ fn run_definition<'a>(alloc: Global) -> Result<Command<'a>, AllocError>
         .about("Runs an image under a schedule of events")
         .after_help(AFTER_RUN_HELP)
         .arg(file_argument(alloc, "image", "IMAGE", IMAGE_HELP))?;
-    with_size(alloc, run)?.arg(show_log_option(alloc))
+    with_size(alloc, run)?
+        .arg(show_log_option(alloc))?
+        .arg(threads_option(alloc))
 }
 
 // The definition of `replay`.
@@ -294,6 +315,17 @@ fn run_task_of<'a>(given: &ArgMatches<'a>) -> RunTask<'a>
     }
 }
 
+// What the words of `run` ask for, in threads or not.
+fn task_of_run<'a>(given: &ArgMatches<'a>) -> Task<'a>
+    ensures { IsRunTask (rows_of (found_of given.now)) result }
+{
+    let task = run_task_of(given);
+    match number_given(given, "threads", 0) {
+        0 => Task::Run(task),
+        quota => Task::RunInThreads(task, quota),
+    }
+}
+
 // What the words of a command over an image and a text ask for; `text` is the argument's name.
 fn files_task_of<'a>(given: &ArgMatches<'a>, text: &str) -> FilesTask<'a>
     ensures { AsksFiles text.now (rows_of (found_of given.now)) result }
@@ -310,7 +342,7 @@ fn task_of<'a>(matches: &ArgMatches<'a>) -> Task<'a>
     ensures { IsTask (subcommand_rows_of matches.now) result }
 {
     match matches.subcommand() {
-        Some(("run", given)) => Task::Run(run_task_of(given)),
+        Some(("run", given)) => task_of_run(given),
         Some(("replay", given)) => Task::Replay(files_task_of(given, "entries")),
         Some(("debug", given)) => Task::Debug(files_task_of(given, "schedule")),
         Some(("as", _)) => Task::Assemble,

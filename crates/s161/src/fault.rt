@@ -9,6 +9,7 @@ ghost use Rattle.s161.specs.declared.fault.Fault.TheVariants.{Memory};
 use m161_asm::{AsmError, ErrorKind};
 use m161_elf::LoadError;
 use m161_machine::BootError;
+use m161_threads::Cause;
 use std::alloc::AllocError;
 use thiserror::Error;
 
@@ -27,6 +28,8 @@ pub enum Fault<'a> {
     Image(LoadError),
     #[error("s161: source {}:{} {} {}", .0.line, .0.column, .0.kind.number(), .0.kind.name())]
     Source(AsmError),
+    #[error("s161: threads {}", .0.name())]
+    Threads(Cause),
     #[error("s161: memory")]
     Memory,
     #[error("s161: input")]

@@ -41,6 +41,7 @@ mod summary;
 #[cfg(test)]
 mod tests;
 mod texts;
+mod threaded;
 mod work;
 
 use crate::fault::Fault;

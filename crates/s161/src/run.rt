@@ -52,8 +52,8 @@ pub fn run<'a, F: FileSource, I: Read>(
     })
 }
 
-// The exit status of a run.
-fn status(stop: Stop) -> u8
+/// The exit status of a run.
+pub(crate) fn status(stop: Stop) -> u8
     ensures { result ≡ status_of stop }
 {
     match stop {

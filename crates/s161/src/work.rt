@@ -11,6 +11,7 @@ ghost use Rattle.s161.specs.Listings.{IsDisassembled, IsListingFault};
 ghost use Rattle.s161.specs.Replays.{IsReplay, IsReplayFault};
 ghost use Rattle.s161.specs.Runs.{IsFaultOf, IsRun};
 ghost use Rattle.s161.specs.Samples.{image_file};
+ghost use Rattle.s161.specs.Threads.{IsRunInThreads, IsThreadsFault};
 ghost use Rattle.s161.specs.Works.{Does, Fails, Finishes, IsDone, IsTaskFault, Prints};
 
 use crate::assembly::assembly;
@@ -24,11 +25,14 @@ use crate::input::read_input;
 use crate::replay::replay;
 use crate::run::{Finished, run};
 use crate::sample::read_image;
+use crate::threaded::run_in_threads;
 use clap::Error;
 use clap::error::ErrorKind;
 use std::alloc::Global;
 use std::convert::AsStr;
 use std::io::{Read, Write};
+use std::sync::Wait;
+use std::thread::Threads;
 
 /// The whole program: the work of a command line, or the fault of reading its words. The result
 /// is the exit status.
@@ -41,7 +45,7 @@ pub fn start<A, F, I, O, E>(
     errors: &mut E,
 ) -> u8
 where
-    A: AllocGlobal,
+    A: AllocGlobal + Threads + Wait + Sync,
     F: FileSource,
     I: Read,
     O: Write,
@@ -64,7 +68,7 @@ where
 
 /// Does what a command line says. The result is the exit status: 0 a finished demo, debug, as or
 /// dis, a machine that switched itself off, or a log that agrees; 1 a fault, or a refused event of
-/// a run; 2 a rejected command line; 3 a schedule that ended; 4 a log that differs. An output is
+/// a run; 2 a rejected command line; 3 a schedule that ended, or the Steps of threads; 4 a log that differs. An output is
 /// made whole before it is written.
 pub fn work<A, S, F, I, O, E>(
     rt: &A,
@@ -75,7 +79,7 @@ pub fn work<A, S, F, I, O, E>(
     errors: &mut E,
 ) -> u8
 where
-    A: AllocGlobal,
+    A: AllocGlobal + Threads + Wait + Sync,
     S: AsStr,
     F: FileSource,
     I: Read,
@@ -92,14 +96,15 @@ where
         Ok(task) => task,
         Err(error) => return reject(alloc, &error, output, errors),
     };
-    match do_task(alloc, task, files, input, output) {
+    match do_task(rt, alloc, task, files, input, output) {
         Ok(status) => status,
         Err(fault) => report(fault, errors),
     }
 }
 
 // Does a task. The result is the exit status.
-fn do_task<'a, F: FileSource, I: Read, O: Write>(
+fn do_task<'a, R: Threads + Wait + Sync, F: FileSource, I: Read, O: Write>(
+    rt: &R,
     alloc: Global,
     task: Task<'a>,
     files: &mut F,
@@ -116,6 +121,7 @@ fn do_task<'a, F: FileSource, I: Read, O: Write>(
     match task {
         Task::Demo => do_demo(alloc, output),
         Task::Run(task) => do_run(alloc, task, files, input, output),
+        Task::RunInThreads(task, quota) => do_threads(rt, alloc, task, quota, files, output),
         Task::Replay(task) => do_replay(alloc, task, files, output),
         Task::Debug(task) => do_debug(alloc, task, files, input, output),
         Task::Assemble => do_as(alloc, input, output),
@@ -153,6 +159,26 @@ fn do_run<'a, F: FileSource, I: Read, O: Write>(
         (O.contents output.old) (O.contents output.new)) }
 {
     print(output, run(alloc, files, input, task)?)
+}
+
+// Runs an image in threads, and prints what it did. The result is the exit status.
+fn do_threads<'a, R: Threads + Wait + Sync, F: FileSource, O: Write>(
+    rt: &R,
+    alloc: Global,
+    task: RunTask<'a>,
+    quota: u32,
+    files: &mut F,
+    output: &mut O,
+) -> Result<u8, Fault<'a>>
+    ensures printed { IfOk result (λ status. Prints (λ text. IsRunInThreads task.entry quota
+        (image_file (F.known files.old) task.entry.image.now) text status)
+        (O.contents output.old) (O.contents output.new)) }
+    ensures within { IfOk result (λ status. (status ≡ 0) ⊎ (status ≡ 3)) }
+    ensures fault { IfErr result (Fails (IsThreadsFault task.entry
+        (image_file (F.known files.old) task.entry.image.now))
+        (O.contents output.old) (O.contents output.new)) }
+{
+    print(output, run_in_threads(rt, alloc, files, task, quota)?)
 }
 
 // Replays a log, and prints the verdict. The result is the exit status.

@@ -13,11 +13,13 @@ returns-clause-shape c =
     let base_local : (out-Command c.after_help.result).has_globals ≡ false = ap (λ f. f.has_globals) c.after_help.ensures ∙ ap (λ f. f.has_globals) c.about.ensures ∙ c.new.ensures.local in
     let one = c.in_ok-run.ensures.shape c.file_argument.ensures.local ∙ ap₂ with_rule base c.file_argument.ensures.rule in
     let two = c.in_ok-with_size.ensures.shape (local_more c.in_ok-run.ensures base_local c.file_argument.ensures.local) ∙ ap sized one in
-    IfOk-weaker c.arg-2.result _ _ (λ command h. h.shape c.show_log_option.ensures.local ∙ ap₂ with_rule two c.show_log_option.ensures.rule) c.arg-2.ensures
+    let three = c.in_ok-arg.ensures.shape c.show_log_option.ensures.local ∙ ap₂ with_rule two c.show_log_option.ensures.rule in
+    IfOk-weaker c.arg-3.result _ _ (λ command h. h.shape c.threads_option.ensures.local ∙ ap₂ with_rule three c.threads_option.ensures.rule) c.arg-3.ensures
 
 pub returns-clause-local : goal.returns-clause-local
 returns-clause-local c =
     let base : (out-Command c.after_help.result).has_globals ≡ false = ap (λ f. f.has_globals) c.after_help.ensures ∙ ap (λ f. f.has_globals) c.about.ensures ∙ c.new.ensures.local in
     let one = local_more c.in_ok-run.ensures base c.file_argument.ensures.local in
     let two = c.in_ok-with_size.ensures.local one in
-    IfOk-weaker c.arg-2.result _ _ (λ command h. local_more h two c.show_log_option.ensures.local) c.arg-2.ensures
+    let three = local_more c.in_ok-arg.ensures two c.show_log_option.ensures.local in
+    IfOk-weaker c.arg-3.result _ _ (λ command h. local_more h three c.threads_option.ensures.local) c.arg-3.ensures
