@@ -114,7 +114,7 @@ abbrev pub immediate : ℕ → ℕ → ℕ → ℕ → List Placed → Reads Par
 immediate low high width past ts = do
   n ← whole past ts
   if is_within low high n.0 then Ok (Field (bits_of_whole width n.0), n.1)
-  else Err (faults.OutOfRange, here past ts)
+      else Err (faults.OutOfRange, here past ts)
 
 abbrev pub register_part : ℕ → List Placed → Reads Part
 register_part past ts = do

@@ -153,7 +153,7 @@ abbrev pub store_word_to : Scene → ℕ → ℕ → Result Change Fault
 store_word_to s word at =
     if nat_le (at + 4) (length s.around.memory) then Ok (store_word word at)
     else result_map write_board
-        (or_bus_error Store (board_written s.around.number at word s.around.board))
+    (or_bus_error Store (board_written s.around.number at word s.around.board))
 
 abbrev pub word_stored : ℕ → ℕ → Scene → Result Change Fault
 word_stored address word s =
@@ -201,10 +201,10 @@ effect_of s effect.ShiftRightArithmetic d a n =
 -- sums
 effect_of s effect.Sum d a b =
     result_map (write d.number)
-        (unless_overflow (word_of_signed (signed a.value +ℤ signed b.value)))
+    (unless_overflow (word_of_signed (signed a.value +ℤ signed b.value)))
 effect_of s effect.Difference d a b =
     result_map (write d.number)
-        (unless_overflow (word_of_signed (signed a.value -ℤ signed b.value)))
+    (unless_overflow (word_of_signed (signed a.value -ℤ signed b.value)))
 effect_of s effect.SumModulo d a b = Ok (write d.number ((a.value + b.value) % 2 ^ 32))
 effect_of s effect.DifferenceModulo d a b =
     Ok (write d.number ((a.value + (2 ^ 32 - b.value)) % 2 ^ 32))
@@ -249,7 +249,7 @@ effect_of s effect.BranchOnLessAndLink v t _ =
     outside_slot s.processor (branch_and_link s.processor 31 (is_taken zero.Less v.value) t.value)
 effect_of s effect.BranchOnGreaterOrEqualAndLink v t _ =
     outside_slot s.processor
-        (branch_and_link s.processor 31 (is_taken zero.GreaterOrEqual v.value) t.value)
+    (branch_and_link s.processor 31 (is_taken zero.GreaterOrEqual v.value) t.value)
 -- loads
 effect_of s effect.LoadByte d o b =
     load s 1 o b (λ at. write d.number (sign_extended_byte (slice_index s.around.memory at)))
@@ -263,25 +263,21 @@ effect_of s effect.LoadWord d o b =
     result_map (write_read d.number)
     (read_word (address_of o b) s.processor s.around.number s.around.memory s.around.board)
 effect_of s effect.LoadWordLeft d o b =
-    load_within s o b
-        (λ at. write d.number
-            (merged_left (word_at s.around.memory at) d.value (place_in_word o b)))
+    load_within s o b (λ at. write d.number
+    (merged_left (word_at s.around.memory at) d.value (place_in_word o b)))
 effect_of s effect.LoadWordRight d o b =
-    load_within s o b
-        (λ at. write d.number
-            (merged_right (word_at s.around.memory at) d.value (place_in_word o b)))
+    load_within s o b (λ at. write d.number
+    (merged_right (word_at s.around.memory at) d.value (place_in_word o b)))
 -- stores; a merge of a register into memory is one of memory into a register from the other end
 effect_of s effect.StoreByte t o b = store s 1 o b (store_byte (t.value % 2 ^ 8))
 effect_of s effect.StoreHalf t o b = store s 2 o b (store_half (t.value % 2 ^ 16))
 effect_of s effect.StoreWord t o b = word_stored (address_of o b) t.value s
 effect_of s effect.StoreWordLeft t o b =
-    store_within s o b
-        (λ at. store_word
-            (merged_right t.value (word_at s.around.memory at) (3 - place_in_word o b)) at)
+    store_within s o b (λ at. store_word
+    (merged_right t.value (word_at s.around.memory at) (3 - place_in_word o b)) at)
 effect_of s effect.StoreWordRight t o b =
-    store_within s o b
-        (λ at. store_word
-            (merged_left t.value (word_at s.around.memory at) (3 - place_in_word o b)) at)
+    store_within s o b (λ at. store_word
+    (merged_left t.value (word_at s.around.memory at) (3 - place_in_word o b)) at)
 -- links
 effect_of s effect.LoadLinked d o b = load s 4 o b (load_linked s d.number)
 effect_of s effect.StoreConditional t o b = store s 4 o b (store_conditional s t.number t.value)
@@ -293,7 +289,7 @@ effect_of s effect.Breakpoint _ _ _ = Err (fault kind.Breakpoint)
 -- coprocessor 0
 effect_of s effect.MoveFromCop0 t r _ =
     Ok (write t.number
-        (read_of r.number (lines_of s.around.number s.around.board) s.processor.control))
+    (read_of r.number (lines_of s.around.number s.around.board) s.processor.control))
 effect_of s effect.MoveToCop0 t r _ =
     Ok (write_control (written r.number t.value s.processor.control))
 effect_of s effect.ReadTlb _ _ _ =
