@@ -8,10 +8,10 @@ use Rattle.std.specs.Int.{to_be_bytes, from_be_bytes, w32}
 abbrev pub merged_left : ℕ → ℕ → ℕ → ℕ
 merged_left memory register place =
     from_be_bytes w32
-        (drop place (to_be_bytes w32 memory) ++ drop (4 - place) (to_be_bytes w32 register))
+    (drop place (to_be_bytes w32 memory) ++ drop (4 - place) (to_be_bytes w32 register))
 
 -- `lwr` at a place of the word: the register's first bytes, then the memory's up to there
 abbrev pub merged_right : ℕ → ℕ → ℕ → ℕ
 merged_right memory register place =
     from_be_bytes w32
-        (take (3 - place) (to_be_bytes w32 register) ++ take (place + 1) (to_be_bytes w32 memory))
+    (take (3 - place) (to_be_bytes w32 register) ++ take (place + 1) (to_be_bytes w32 memory))
