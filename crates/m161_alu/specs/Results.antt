@@ -20,7 +20,8 @@ integer_of Unsigned word = pos word
 abbrev pub shifted : ShiftOp → ℕ → ℕ → ℕ
 shifted shift.Left word amount = word * 2 ^ amount % 2 ^ 32
 shifted shift.Right word amount = word / 2 ^ amount
-shifted shift.RightArithmetic word amount = modulo (2 ^ 32) (int_div_euclid (signed word) (pos (2 ^ amount)))
+shifted shift.RightArithmetic word amount =
+    modulo (2 ^ 32) (int_div_euclid (signed word) (pos (2 ^ amount)))
 
 -- the two words of a number below 2^64
 abbrev pub halves : ℕ → HiLoPair
@@ -30,7 +31,8 @@ halves n = record { hi = n / 2 ^ 32; lo = n % 2 ^ 32 }
 abbrev pub product : Signedness → ℕ → ℕ → HiLoPair
 product s a b = halves (modulo (2 ^ 64) (integer_of s a *ℤ integer_of s b))
 
--- the quotient, toward zero, and the remainder, with the dividend's sign. A division by zero has an answer by this project's own rule
+-- the quotient, toward zero, and the remainder, with the dividend's sign. A division by zero has an
+-- answer by this project's own rule
 abbrev pub quotient : Signedness → ℕ → ℕ → HiLoPair
 quotient s a b =
     if b == 0 then record { hi = a; lo = 2 ^ 32 - 1 }

@@ -15,8 +15,11 @@ use Rattle.m161_asm.specs.declared.first.FirstPass.{FirstPass}
 
 -- The lines above, and the lines below.
 
-pub took : (old new : List CodeLine) (l : CodeLine) → new ≡ old ++ (l ∷ []) → above_of new ≡ line_seen l ∷ above_of old
-took old new l e = rw (e, map-append line_seen old (l ∷ []), reverse-append (map line_seen old) (line_seen l ∷ [])) refl
+pub took : (old new : List CodeLine) (l : CodeLine) → new ≡ old ++ (l ∷ [])
+    → above_of new ≡ line_seen l ∷ above_of old
+took old new l e =
+    rw (e, map-append line_seen old (l ∷ []), reverse-append (map line_seen old) (line_seen l ∷ []))
+    refl
 
 pub above_len : (ls : List CodeLine) → length (above_of ls) ≡ length ls
 above_len ls = simp (length-reverse, length-map)
@@ -34,7 +37,8 @@ len rest = position_or_len (λ b. b == 10) rest
 abbrev Parted : List ℕ → Type 0
 Parted rest = lines rest ≡ take (len rest) rest ∷ lines (drop (len rest + 1) rest)
 
-later : (b : ℕ) (bs : List ℕ) → (0 < length bs → Parted bs) → onto_first b (lines bs) ≡ (b ∷ take (len bs) bs) ∷ lines (drop (len bs + 1) bs)
+later : (b : ℕ) (bs : List ℕ) → (0 < length bs → Parted bs)
+    → onto_first b (lines bs) ≡ (b ∷ take (len bs) bs) ∷ lines (drop (len bs + 1) bs)
 unfolding lines
 later b [] ih = refl
 later b (c ∷ cs) ih = ap (onto_first b) (ih (omega arith))
@@ -46,36 +50,57 @@ first_line (b ∷ bs) h =
     let n : 1 + len bs ≡ suc (len bs) = omega arith in
     let m : 1 + len bs + 1 ≡ suc (len bs + 1) = omega arith in
     let t = b == 10 in
-    elim (b == 10) as (λ t. split t b (lines bs) ≡ take (cond (not t) (1 + len bs) 0) (b ∷ bs) ∷ lines (drop (cond (not t) (1 + len bs) 0 + 1) (b ∷ bs)))
+    elim (b == 10) as
+    (λ t. split t b (lines bs)
+    ≡ take (cond (not t) (1 + len bs) 0) (b ∷ bs)
+    ∷ lines (drop (cond (not t) (1 + len bs) 0 + 1) (b ∷ bs)))
     [ true ↦ refl | false ↦ rw (m, n) (later b bs (λ k. first_line bs k)) ]
 
 -- one line further
-pub gone : (above new : List Line) (bytes : List ℕ) (below : List (List ℕ)) (l : Line) → line_of above (tokens bytes) ≡ Ok l → new ≡ l ∷ above → read_lines above (bytes ∷ below) ≡ read_lines new below
+pub gone : (above new : List Line) (bytes : List ℕ) (below : List (List ℕ)) (l : Line)
+    → line_of above (tokens bytes) ≡ Ok l → new ≡ l ∷ above
+    → read_lines above (bytes ∷ below) ≡ read_lines new below
 unfolding read_lines
 gone above new bytes below l e d = rw (e, d) refl
 
-stopped : (above : List Line) (bytes : List ℕ) (below : List (List ℕ)) (f : Fault) → line_of above (tokens bytes) ≡ Err f → read_lines above (bytes ∷ below) ≡ Err (1 + length above, f)
+stopped : (above : List Line) (bytes : List ℕ) (below : List (List ℕ)) (f : Fault)
+    → line_of above (tokens bytes) ≡ Err f
+    → read_lines above (bytes ∷ below) ≡ Err (1 + length above, f)
 unfolding read_lines
 stopped above bytes below f e = rw e refl
 
-pub told : (e : AsmError) (r : ReadError) (above : List Line) (n : ℕ) (bytes : List ℕ) (below : List (List ℕ)) (x : Result (List Line) (ℕ × Fault)) → IsTold e n r → n ≡ length above + 1 → Yields {X = CodeLine} line_seen (Err r) (line_of above (tokens bytes)) → Goes (Err e) (read_lines above (bytes ∷ below)) x
+pub told : (e : AsmError) (r : ReadError) (above : List Line) (n : ℕ) (bytes : List ℕ)
+    (below : List (List ℕ)) (x : Result (List Line) (ℕ × Fault)) → IsTold e n r
+    → n ≡ length above + 1 → Yields {X = CodeLine} line_seen (Err r) (line_of above (tokens bytes))
+    → Goes (Err e) (read_lines above (bytes ∷ below)) x
 told e errors.Memory above n bytes below x t d y = inl t
 told e (errors.Fault f) above n bytes below x t d y =
     let line : 1 + length above ≡ e.line = omega (arith, t.0, d) in
     inr (stopped above bytes below (fault_seen f) y ∙ rw (line, t.1, t.2) refl)
 
 -- a step of the loop over the lines
-parted_at : (rest : List ℕ) (n : ℕ) → 0 < length rest → n ≡ len rest → lines rest ≡ take n rest ∷ lines (drop (n + 1) rest)
+parted_at : (rest : List ℕ) (n : ℕ) → 0 < length rest → n ≡ len rest
+    → lines rest ≡ take n rest ∷ lines (drop (n + 1) rest)
 parted_at rest n h e = rw e (first_line rest h)
 
-pub step_on : (above new : List Line) (rest : List ℕ) (n : ℕ) (whole : Result (List Line) (ℕ × Fault)) → 0 < length rest → n ≡ len rest → read_lines above (take n rest ∷ lines (drop (n + 1) rest)) ≡ read_lines new (lines (drop (n + 1) rest)) → read_lines above (lines rest) ≡ whole → read_lines new (lines (drop (n + 1) rest)) ≡ whole
-step_on above new rest n whole h e s k = sym s ∙ ap (read_lines above) (sym (parted_at rest n h e)) ∙ k
+pub step_on : (above new : List Line) (rest : List ℕ) (n : ℕ)
+    (whole : Result (List Line) (ℕ × Fault)) → 0 < length rest → n ≡ len rest
+    → read_lines above (take n rest ∷ lines (drop (n + 1) rest))
+    ≡ read_lines new (lines (drop (n + 1) rest)) → read_lines above (lines rest) ≡ whole
+    → read_lines new (lines (drop (n + 1) rest)) ≡ whole
+step_on above new rest n whole h e s k =
+    sym s ∙ ap (read_lines above) (sym (parted_at rest n h e)) ∙ k
 
-pub step_off : (view : FirstPass → List Line) (e : AsmError) (above : List Line) (rest : List ℕ) (n : ℕ) (after whole : Result (List Line) (ℕ × Fault)) → 0 < length rest → n ≡ len rest → Goes (Err e) (read_lines above (take n rest ∷ lines (drop (n + 1) rest))) after → read_lines above (lines rest) ≡ whole → Tells view (Err e) whole
+pub step_off : (view : FirstPass → List Line) (e : AsmError) (above : List Line) (rest : List ℕ)
+    (n : ℕ) (after whole : Result (List Line) (ℕ × Fault)) → 0 < length rest → n ≡ len rest
+    → Goes (Err e) (read_lines above (take n rest ∷ lines (drop (n + 1) rest))) after
+    → read_lines above (lines rest) ≡ whole → Tells view (Err e) whole
 step_off view e above rest n after whole h d (inl m) k = inl m
-step_off view e above rest n after whole h d (inr f) k = inr (sym k ∙ ap (read_lines above) (parted_at rest n h d) ∙ f)
+step_off view e above rest n after whole h d (inr f) k =
+    inr (sym k ∙ ap (read_lines above) (parted_at rest n h d) ∙ f)
 
-pub at_end : (above : List Line) (rest : List ℕ) (whole : Result (List Line) (ℕ × Fault)) → length rest ≤ 0 → read_lines above (lines rest) ≡ whole → whole ≡ Ok above
+pub at_end : (above : List Line) (rest : List ℕ) (whole : Result (List Line) (ℕ × Fault))
+    → length rest ≤ 0 → read_lines above (lines rest) ≡ whole → whole ≡ Ok above
 unfolding lines read_lines
 at_end above [] whole h k = sym k
 at_end above (b ∷ bs) whole h k = absurd (omega (arith, h))

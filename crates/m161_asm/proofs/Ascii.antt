@@ -23,11 +23,19 @@ take_whole (x ∷ xs) = ap (λ t. x ∷ t) (take_whole xs)
 run_ascii : (bs : List ℕ) → IsAscii (run bs)
 run_ascii [] = IsAscii-nil
 run_ascii (b ∷ bs) =
-    elim (is_word b) as (λ x. is_word b ≡ x → IsAscii (take (cond x (1 + prefix_len is_word bs) 0) (b ∷ bs)))
-    [ true ↦ λ e. let n : 1 + prefix_len is_word bs ≡ suc (prefix_len is_word bs) = omega arith in rw n (IsAscii-cons b (run bs) (word_ascii b e) (run_ascii bs)) | false ↦ λ e. IsAscii-nil ] refl
+    elim (is_word b) as
+    (λ x. is_word b ≡ x → IsAscii (take (cond x (1 + prefix_len is_word bs) 0) (b ∷ bs))) [
+      | true ↦ λ e. let n : 1 + prefix_len is_word bs ≡ suc (prefix_len is_word bs) = omega arith in
+          rw n (IsAscii-cons b (run bs) (word_ascii b e) (run_ascii bs))
+      | false ↦ λ e. IsAscii-nil
+    ] refl
 
 -- a byte that begins a name passes the second test
-second : (t u v w x y : Bool) → cond t Nothing (cond u AName (cond v ANumber (cond w ARegister (cond x ADirective (cond y AMark NoToken))))) ≡ AName → u ≡ true
+second : (t u v w x y : Bool)
+    → cond t Nothing
+    (cond u AName
+    (cond v ANumber
+    (cond w ARegister (cond x ADirective (cond y AMark NoToken))))) ≡ AName → u ≡ true
 second true u v w x y e = cc
 second false true v w x y e = refl
 second false false true w x y e = cc
@@ -39,13 +47,21 @@ second false false false false false false e = cc
 begins : (b : ℕ) → beginning b ≡ AName → b < 128
 unfolding beginning
 begins b e =
-    letter_ascii b (second ((b == 32) || (b == 9)) (begins_name b) (is_ascii_digit b) (b == 36) (b == 46) ((b == 44) || (b == 40) || (b == 41) || (b == 58) || (b == 43) || (b == 45)) e)
+    letter_ascii b
+    (second ((b == 32) || (b == 9)) (begins_name b) (is_ascii_digit b) (b == 36) (b == 46)
+    ((b == 44) || (b == 40) || (b == 41) || (b == 58) || (b == 43) || (b == 45)) e)
 
-pub name_ascii : (rest : List ℕ) → beginning (slice_index rest 0) ≡ AName → IsUtf8 (slice_index rest 0 ∷ run (drop 1 rest))
-name_ascii rest e = IsUtf8-from_ascii _ (IsAscii-cons (slice_index rest 0) (run (drop 1 rest)) (begins (slice_index rest 0) e) (run_ascii (drop 1 rest)))
+pub name_ascii : (rest : List ℕ) → beginning (slice_index rest 0) ≡ AName
+    → IsUtf8 (slice_index rest 0 ∷ run (drop 1 rest))
+name_ascii rest e =
+    IsUtf8-from_ascii _
+    (IsAscii-cons (slice_index rest 0) (run (drop 1 rest)) (begins (slice_index rest 0) e)
+    (run_ascii (drop 1 rest)))
 
 -- a name's bytes at the front of a line's rest
-pub front : (rest : List ℕ) (n : ℕ) → 0 < length rest → n ≡ prefix_len is_word (take (length rest - 1) (drop 1 rest)) → take (1 + n) rest ≡ slice_index rest 0 ∷ run (drop 1 rest)
+pub front : (rest : List ℕ) (n : ℕ) → 0 < length rest
+    → n ≡ prefix_len is_word (take (length rest - 1) (drop 1 rest))
+    → take (1 + n) rest ≡ slice_index rest 0 ∷ run (drop 1 rest)
 front [] n h e = absurd (omega (arith, h))
 front (b ∷ bs) n h e =
     let k : 1 + n ≡ suc n = omega arith in

@@ -11,9 +11,15 @@ use Rattle.m161_asm.specs.Segments.{segments_seen}
 
 -- the code's program
 abbrev pub program_seen : CodeProgram → Program
-program_seen p = record { segments = segments_seen p.segments.items; symbols = symbols_seen p.symbols; entry = p.entry }
+program_seen p = record {
+  segments = segments_seen p.segments.items;
+  symbols = symbols_seen p.symbols;
+  entry = p.entry;
+}
 
--- a result, seen by view, is what is defined; an error is want of memory, or the fault that is defined
+-- a result, seen by view, is what is defined; an error is want of memory, or the fault that is
+-- defined
 abbrev pub Tells : {X Y : Type 0} → (X → Y) → Result X AsmError → Result Y (ℕ × Fault) → Type 0
 Tells view (Ok x) defined = defined ≡ Ok (view x)
-Tells view (Err e) defined = ((e.kind ≡ faults.NoMemory) × (e.column ≡ 1)) ⊎ (defined ≡ Err (e.line, (e.kind, e.column)))
+Tells view (Err e) defined =
+    ((e.kind ≡ faults.NoMemory) × (e.column ≡ 1)) ⊎ (defined ≡ Err (e.line, (e.kind, e.column)))

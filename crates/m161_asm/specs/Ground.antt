@@ -2,9 +2,11 @@ use Rattle.std.specs.Prelude.{◌≡◌, ◌⊎◌, ℕ, zero, suc, ◌+◌, ◌
 use Rattle.m161_asm.specs.declared.ground.Run.{Run}
 use Rattle.m161_asm.specs.declared.ground.Ground.{Ground}
 
--- What the lines so far have filled, as the code keeps it: the runs of addresses between two `.org`, by address, and the run in which the next line stands.
+-- What the lines so far have filled, as the code keeps it: the runs of addresses between two
+-- `.org`, by address, and the run in which the next line stands.
 
--- the addresses from start to before end, and so many words at an address, have an address in common
+-- the addresses from start to before end, and so many words at an address, have an address in
+-- common
 abbrev pub meet : ℕ → ℕ → ℕ → ℕ → Bool
 meet start end a n = nat_lt start end && nat_lt 0 n && nat_lt a end && nat_lt start (a + 4 * n)
 
@@ -39,4 +41,5 @@ pub record IsOrdered (g : Ground) (address : ℕ) : Type 0 where
 
 -- these addresses are filled, and no others
 abbrev pub Fills : Ground → ℕ → (ℕ → ℕ → Bool) → Type 0
-Fills g address filled = (a n : ℕ) → filled a n ≡ (meet g.start address a n || meets g.runs.items a n)
+Fills g address filled =
+    (a n : ℕ) → filled a n ≡ (meet g.start address a n || meets g.runs.items a n)

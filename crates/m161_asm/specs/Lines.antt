@@ -69,7 +69,8 @@ mark byte past ts = wrong past ts
 
 -- each register token is below 32; the test makes that plain here
 abbrev pub register : ℕ → List Placed → Reads ℕ
-register past ((Register n, c, e) ∷ ts) = if nat_lt n 32 then Ok (n, ts) else wrong past ((Register n, c, e) ∷ ts)
+register past ((Register n, c, e) ∷ ts) =
+    if nat_lt n 32 then Ok (n, ts) else wrong past ((Register n, c, e) ∷ ts)
 register past ts = wrong past ts
 
 abbrev pub plain_number : ℕ → List Placed → Reads ℕ
@@ -88,13 +89,15 @@ more past ts = do
   Ok ((n.0, 0), n.1)
 
 abbrev pub whole : ℕ → List Placed → Reads Whole
-whole past ((Mark b, c, e) ∷ ts) = if b == 45 then less past ts else wrong past ((Mark b, c, e) ∷ ts)
+whole past ((Mark b, c, e) ∷ ts) =
+    if b == 45 then less past ts else wrong past ((Mark b, c, e) ∷ ts)
 whole past ts = more past ts
 
 -- `[+ number | - number]`
 abbrev pub addend : ℕ → List Placed → Reads Whole
 addend past ((Mark b, c, e) ∷ ts) =
-    if b == 43 then more past ts else if b == 45 then less past ts else Ok ((0, 0), (Mark b, c, e) ∷ ts)
+    if b == 43 then more past ts else if b == 45 then less past ts
+    else Ok ((0, 0), (Mark b, c, e) ∷ ts)
 addend past ts = Ok ((0, 0), ts)
 
 abbrev pub with_label : Option (List ℕ) → ℕ → Reads Whole → Reads Value
@@ -110,7 +113,8 @@ value past ts = with_label None (here past ts) (whole past ts)
 abbrev pub immediate : ℕ → ℕ → ℕ → ℕ → List Placed → Reads Part
 immediate low high width past ts = do
   n ← whole past ts
-  if is_within low high n.0 then Ok (Field (bits_of_whole width n.0), n.1) else Err (faults.OutOfRange, here past ts)
+  if is_within low high n.0 then Ok (Field (bits_of_whole width n.0), n.1)
+      else Err (faults.OutOfRange, here past ts)
 
 abbrev pub register_part : ℕ → List Placed → Reads Part
 register_part past ts = do
@@ -168,7 +172,8 @@ parts first (o ∷ os) past ts = do
   Ok (x.0 ∷ xs)
 
 -- the values of `.word`, with commas between; there are no more of them than `spare`
-abbrev pub further : (List Placed → Result (List Value) Fault) → ℕ → List Placed → Result (List Value) Fault
+abbrev pub further : (List Placed → Result (List Value) Fault) → ℕ → List Placed
+    → Result (List Value) Fault
 further others past [] = Ok []
 further others past (t ∷ ts) = mark 44 past (t ∷ ts) >>= others
 
@@ -246,7 +251,8 @@ label_if true x column behind all = (Some (x, column), behind)
 label_if false x column behind all = (None, all)
 
 abbrev pub label_of : List Placed → Label × List Placed
-label_of ((Name x, c, e) ∷ (Mark b, d, f) ∷ ts) = label_if (b == 58) x c ts ((Name x, c, e) ∷ (Mark b, d, f) ∷ ts)
+label_of ((Name x, c, e) ∷ (Mark b, d, f) ∷ ts) =
+    label_if (b == 58) x c ts ((Name x, c, e) ∷ (Mark b, d, f) ∷ ts)
 label_of ts = (None, ts)
 
 -- the leftmost token that is none
@@ -263,7 +269,8 @@ past_by (Some t) = t.2
 abbrev pub past_of : List Placed → ℕ
 past_of ts = past_by (slice_get ts (length ts - 1))
 
--- a line: its label, its statement, and the column of the statement's word, or of the label where there is no statement
+-- a line: its label, its statement, and the column of the statement's word, or of the label where
+-- there is no statement
 pub record Line : Type 0 where
   pub label : Label
   pub statement : Statement

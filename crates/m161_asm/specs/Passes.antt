@@ -36,7 +36,8 @@ pub record Advances (old new : Position) (origin : Option ℕ) (size : ℕ) : Ty
   pub words : new.words ≡ size + old.words
   pub segments : new.segments ≡ old.segments + opened size old.has_words
   pub has_words : new.has_words ≡ has_words_from origin (nat_lt 0 size || old.has_words)
-  pub fills : (filled : ℕ → ℕ → Bool) → Fills old.ground old.address filled → Fills new.ground new.address (λ a n. overlap old.address size a n || filled a n)
+  pub fills : (filled : ℕ → ℕ → Bool) → Fills old.ground old.address filled
+      → Fills new.ground new.address (λ a n. overlap old.address size a n || filled a n)
 
 -- the position elsewhere
 pub record Moves (old new : Position) (n : ℕ) : Type 0 where
@@ -45,7 +46,8 @@ pub record Moves (old new : Position) (n : ℕ) : Type 0 where
   pub words : new.words ≡ old.words
   pub segments : new.segments ≡ old.segments
   pub has_words : new.has_words ≡ false
-  pub fills : (filled : ℕ → ℕ → Bool) → Fills old.ground old.address filled → Fills new.ground new.address filled
+  pub fills : (filled : ℕ → ℕ → Bool) → Fills old.ground old.address filled
+      → Fills new.ground new.address filled
 
 -- the label is none of the symbols
 abbrev pub IsNew : List (List ℕ × ℕ) → Label → Type 0

@@ -12,7 +12,8 @@ use Rattle.m161_asm.specs.Seen.{fault_seen}
 -- What the second pass keeps of the lines above.
 
 -- the pass has the segments and the entry of these lines, and stands behind them
-pub record IsFilled (p : SecondPass) (symbols : List (List ℕ × ℕ)) (above : List Line) : Type 0 where
+pub record IsFilled (p : SecondPass) (symbols : List (List ℕ × ℕ)) (above : List Line)
+    : Type 0 where
   pub older : List Segment
   pub segments : segments_of symbols above ≡ Ok (segment_seen p.current ∷ older)
   pub done : full older ≡ segments_seen p.done.items
@@ -22,7 +23,9 @@ pub record IsFilled (p : SecondPass) (symbols : List (List ℕ × ℕ)) (above :
 -- the position behind so many words, and in a new segment if a statement says so
 pub record Leaves (old new : SecondPass) (origin : Option ℕ) (size : ℕ) : Type 0 where
   pub segments : (older : List Segment) → full older ≡ segments_seen old.done.items
-      → (newer : List Segment) × (segment_seen new.current ∷ newer ≡ opened_at origin (segment_seen old.current ∷ older)) × (full newer ≡ segments_seen new.done.items)
+      → (newer : List Segment)
+      × (segment_seen new.current ∷ newer ≡ opened_at origin (segment_seen old.current ∷ older))
+      × (full newer ≡ segments_seen new.done.items)
   pub address : new.address ≡ address_from origin (old.address + 4 * size)
   pub entry : new.entry ≡ old.entry
 
@@ -30,9 +33,12 @@ pub record Leaves (old new : SecondPass) (origin : Option ℕ) (size : ℕ) : Ty
 abbrev pub Fills : Result (Unit {0}) ReadError → SecondPass → List (List ℕ × ℕ) → List Line → Type 0
 Fills (Ok u) new symbols all = IsFilled new symbols all
 Fills (Err errors.Memory) new symbols all = Unit {0}
-Fills (Err (errors.Fault f)) new symbols all = segments_of symbols all ≡ Err (length all, fault_seen f)
+Fills (Err (errors.Fault f)) new symbols all =
+    segments_of symbols all ≡ Err (length all, fault_seen f)
 
 -- the second pass over these lines
 abbrev pub Passes : Result SecondPass AsmError → List (List ℕ × ℕ) → List Line → Type 0
 Passes (Ok p) symbols all = IsFilled p symbols all
-Passes (Err e) symbols all = ((e.kind ≡ faults.NoMemory) × (e.column ≡ 1)) ⊎ (segments_of symbols all ≡ Err (e.line, (e.kind, e.column)))
+Passes (Err e) symbols all =
+    ((e.kind ≡ faults.NoMemory) × (e.column ≡ 1))
+    ⊎ (segments_of symbols all ≡ Err (e.line, (e.kind, e.column)))

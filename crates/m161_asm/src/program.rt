@@ -16,8 +16,8 @@ pub struct Segment {
 /// An assembled text.
 #[derive(Drop)]
 pub struct Program {
-    /// The segments, in the order of the text: at most 1,024, with at most 4,194,304 words. Each has
-    /// a word or more, begins at a multiple of 4 and ends by 2^32, and no two overlap.
+    /// The segments, in the order of the text: at most 1,024, with at most 4,194,304 words. Each
+    /// has a word or more, begins at a multiple of 4 and ends by 2^32, and no two overlap.
     pub segments: Vec<Segment>,
     /// Each label with its address, in the order of the text.
     pub symbols: IndexMap<String, u32>,

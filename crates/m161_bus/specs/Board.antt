@@ -9,7 +9,8 @@ use Rattle.m161_bus.specs.declared.register.Register.TheVariants.{Constant, Cons
 use Rattle.m161_bus.specs.Console.{ConsoleState, console_read, after_console_read, console_written, is_line_up, with_key, done_of}
 use Rattle.m161_bus.specs.Registers.{register_of}
 
--- The board: what it holds, what each register reads as, and what a write leaves. The parts are those of the System/161 manual; what each word does is this project's own.
+-- The board: what it holds, what each register reads as, and what a write leaves. The parts are
+-- those of the System/161 manual; what each word does is this project's own.
 
 -- what the controller keeps for one processor
 pub record PlaceState : Type 0 where
@@ -143,7 +144,8 @@ board_key byte b = with_console (with_key byte b.console) b
 abbrev pub board_done : BoardState → Result BoardState DoneError
 board_done b = with_console (done_of b.console) b
 
--- how a processor starts: at CRAM word 0, with CRAM word 1 in register 4 and the end of its CRAM in register 29
+-- how a processor starts: at CRAM word 0, with CRAM word 1 in register 4 and the end of its CRAM in
+-- register 29
 abbrev pub start_words : ℕ → BoardState → StartWords
 start_words c b = record {
   pc = slice_index (place_of c b).cram 0;

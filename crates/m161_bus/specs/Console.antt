@@ -6,7 +6,8 @@ use Rattle.m161_bus.specs.declared.console.KeyFull.{KeyFull}
 use Rattle.m161_bus.specs.declared.console.DoneError.{DoneError}
 use Rattle.m161_bus.specs.declared.console.DoneError.TheVariants.{NothingSent}
 
--- The console. Its registers and bits are the System/161 manual's in outline; what each does is this project's own.
+-- The console. Its registers and bits are the System/161 manual's in outline; what each does is
+-- this project's own.
 
 -- what a console holds
 pub record ConsoleState : Type 0 where

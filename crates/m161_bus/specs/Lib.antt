@@ -2,4 +2,3 @@ pub mod Console
 pub mod Outcome
 pub mod Registers
 pub mod Board
-pub mod Examples

@@ -3,7 +3,8 @@ use Rattle.m161_bus.specs.declared.console.ConsoleRegister.TheVariants.{Char, Wr
 use Rattle.m161_bus.specs.declared.register.Register.{Register}
 use Rattle.m161_bus.specs.declared.register.Register.TheVariants.{Constant, Console, RamSize, Irqs, Power, Irqe, Cpus, Cpue, SelfBit, Cirqe, Cipi, Cram}
 
--- The slots and their registers. All places, offsets and identities are this project's own; the parts are those of the System/161 manual.
+-- The slots and their registers. All places, offsets and identities are this project's own; the
+-- parts are those of the System/161 manual.
 
 -- a line of a table: an offset, and the register there
 pub record Line : Type 0 where

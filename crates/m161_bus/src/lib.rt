@@ -38,7 +38,6 @@
 
 mod board;
 mod console;
-mod examples;
 mod irq;
 mod lines;
 mod place;
@@ -46,5 +45,4 @@ mod register;
 
 pub use board::{Board, BusFault, StartWords};
 pub use console::{Console, ConsoleRegister, DoneError, KeyFull};
-pub use examples::{board_examples, console_examples};
 pub use irq::IrqBits;

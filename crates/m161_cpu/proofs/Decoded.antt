@@ -17,13 +17,16 @@ unit_in_misfit : (word : ℕ) (o : Option Coprocessor) → unit_in (misfit word 
 unit_in_misfit word None = refl
 unit_in_misfit word (Some unit) = refl
 
-by_some : (s : Scene) (word : ℕ) (i : Instr) (o : Option Row) → i ≡ instr_by word o → numbers_of_instr i ≡ numbers_of word o →
+by_some : (s : Scene) (word : ℕ) (i : Instr) (o : Option Row) → i ≡ instr_by word o
+    → numbers_of_instr i ≡ numbers_of word o →
     change_by_some s i o ≡ change_by_row s word o
 by_some s word i (Some r) i_is numbers = ap (change_of_row s r) numbers
-by_some s word i None i_is numbers = ap (λ u. Err (fault (misfit_kind u))) (ap unit_in i_is ∙ unit_in_misfit word (absent_in word))
+by_some s word i None i_is numbers =
+    ap (λ u. Err (fault (misfit_kind u))) (ap unit_in i_is ∙ unit_in_misfit word (absent_in word))
 
 pub decoded : (s : Scene) (word : ℕ) (i : Instr) →
-    row_of_instr i ≡ row_that_fits word → numbers_of_instr i ≡ numbers_of word (row_that_fits word) → i ≡ instr_of word →
+    row_of_instr i ≡ row_that_fits word → numbers_of_instr i ≡ numbers_of word (row_that_fits word)
+    → i ≡ instr_of word →
     change_by s i ≡ change_by_row s word (row_that_fits word)
 unfolding change_by
 decoded s word i row numbers value =
@@ -31,11 +34,13 @@ decoded s word i row numbers value =
 
 -- an instruction of no row
 
-pub absent : (s : Scene) (unit : Coprocessor) → change_by s (Absent unit) ≡ Err (fault (misfit_kind (Some unit)))
+pub absent : (s : Scene) (unit : Coprocessor)
+    → change_by s (Absent unit) ≡ Err (fault (misfit_kind (Some unit)))
 unfolding change_by
 absent s unit = refl
 
-pub reserved : (s : Scene) (word : ℕ) → change_by s (Reserved word) ≡ Err (fault ReservedInstruction)
+pub reserved : (s : Scene) (word : ℕ)
+    → change_by s (Reserved word) ≡ Err (fault ReservedInstruction)
 unfolding change_by
 reserved s word = refl
 

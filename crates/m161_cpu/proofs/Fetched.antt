@@ -21,7 +21,8 @@ pub in_kernel_mode : (c : Control) (word : ℕ) → is_user c ≡ false → is_u
 unfolding may_use_cop0
 in_kernel_mode c word kernel = rw kernel (never (bits_of word 26 6 == 16))
 
-pub unusable : (memory : List ℕ) (p : Processor) (at : ℕ) → reach Fetch 4 p.pc (length memory) p ≡ Ok at →
+pub unusable : (memory : List ℕ) (p : Processor) (at : ℕ)
+    → reach Fetch 4 p.pc (length memory) p ≡ Ok at →
     is_unusable p.control (word_at memory at) ≡ true →
     fetched memory p ≡ Err (fault kind.Coprocessor0Unusable)
 unusable memory p at found is = rw (found, is) refl

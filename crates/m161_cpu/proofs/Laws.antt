@@ -20,8 +20,11 @@ links_ended s (Ok change) = refl
 links_ended s (Err f) = refl
 
 links_waiting : (s : Scene) (pending : Bool) →
-    Links s.around (if pending then running (with_processor (with_state Running) s) else idle tick s)
-links_waiting s true = links_ended (with_processor (with_state Running) s) (executed (with_processor (with_state Running) s))
+    Links s.around
+    (if pending then running (with_processor (with_state Running) s) else idle tick s)
+links_waiting s true =
+    links_ended (with_processor (with_state Running) s)
+    (executed (with_processor (with_state Running) s))
 links_waiting s false = refl
 
 links_in : (state : ProcessorState) (s : Scene) → Links s.around (step_in state s)
@@ -48,7 +51,9 @@ on_ended s (Err f) = λ h. absurd (cc)
 
 on_waiting : (s : Scene) (pending : Bool) →
     IsOn (if pending then running (with_processor (with_state Running) s) else idle tick s)
-on_waiting s true = on_ended (with_processor (with_state Running) s) (executed (with_processor (with_state Running) s))
+on_waiting s true =
+    on_ended (with_processor (with_state Running) s)
+    (executed (with_processor (with_state Running) s))
 on_waiting s false = λ h. absurd (cc)
 
 on_in : (state : ProcessorState) (s : Scene) → IsOn (step_in state s)

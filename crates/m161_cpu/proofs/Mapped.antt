@@ -14,17 +14,22 @@ use Rattle.m161_cpu.specs.Translation.{Physical, address_error, by_row, invalid,
 -- the row that matches isn't valid
 pub not_valid : (access : Access) (address page id i : ℕ) (row : Row) (rows : List Row) →
     find_row rows page id ≡ Some i → slice_get rows i ≡ Some row → row.v ≡ false →
-    result_map (λ (to : Physical). to.at) (by_row access address rows (find_row rows page id)) ≡ Err (invalid access address)
+    result_map (λ (to : Physical). to.at) (by_row access address rows (find_row rows page id))
+    ≡ Err (invalid access address)
 not_valid access address page id i row rows found here v = rw (found, here, v) refl
 
 -- a store through a row without D
 pub not_dirty : (access : Access) (address page id i : ℕ) (row : Row) (rows : List Row) →
-    find_row rows page id ≡ Some i → slice_get rows i ≡ Some row → row.v ≡ true → is_store access ≡ true → row.d ≡ false →
-    result_map (λ (to : Physical). to.at) (by_row access address rows (find_row rows page id)) ≡ Err (fault_at kind.TlbModified address)
-not_dirty access address page id i row rows found here v store d = rw (found, here, v, store, d) refl
+    find_row rows page id ≡ Some i → slice_get rows i ≡ Some row → row.v ≡ true
+    → is_store access ≡ true → row.d ≡ false →
+    result_map (λ (to : Physical). to.at) (by_row access address rows (find_row rows page id))
+    ≡ Err (fault_at kind.TlbModified address)
+not_dirty access address page id i row rows found here v store d =
+    rw (found, here, v, store, d) refl
 
 -- an address error
-pub misaddressed : (access : Access) (width address : ℕ) (p : Processor) → is_misaddressed width address p ≡ true →
+pub misaddressed : (access : Access) (width address : ℕ) (p : Processor)
+    → is_misaddressed width address p ≡ true →
     physical_at access width address p ≡ Err (address_error access address)
 unfolding physical_at
 misaddressed access width address p wrong = rw wrong refl

@@ -28,7 +28,8 @@ use Rattle.m161_cpu.specs.Scene.{Scene, Change, byte_to, half_to, word_to, nothi
 use Rattle.m161_cpu.specs.Fault.{Fault, fault}
 use Rattle.m161_cpu.specs.Translation.{physical_at, reach, reach_word_of, read_word, or_bus_error}
 
--- What the rows of the instruction table do. Kane, MIPS RISC Architecture, instruction descriptions.
+-- What the rows of the instruction table do. Kane, MIPS RISC Architecture, instruction
+-- descriptions.
 
 -- the word that an operand is, by its kind and the number in its field
 abbrev pub value_of : Processor → Operand → ℕ → ℕ
@@ -56,7 +57,8 @@ abbrev pub arguments : Processor → List Operand → List ℕ → List Argument
 arguments p (o ∷ os) (n ∷ ns) = record { number = n; value = value_of p o n } ∷ arguments p os ns
 arguments p _ _ = []
 
--- a row has three operands at most; where it has fewer, the others are blank, and its effect doesn't look at them
+-- a row has three operands at most; where it has fewer, the others are blank, and its effect
+-- doesn't look at them
 abbrev pub with_three : {R : Type 0} → (Argument → Argument → Argument → R) → List Argument → R
 with_three f [] = f blank blank blank
 with_three f (a ∷ []) = f a blank blank
@@ -100,7 +102,8 @@ abbrev pub return_address : Processor → ℕ
 return_address p = (p.pc + 8) % 2 ^ 32
 
 abbrev pub branch_and_link : Processor → ℕ → Bool → ℕ → Change
-branch_and_link p r taken target = record (branch taken target) { register = Some (r, return_address p) }
+branch_and_link p r taken target =
+    record (branch taken target) { register = Some (r, return_address p) }
 
 -- a branch; in a delay slot it is a reserved instruction
 abbrev pub outside_slot : Processor → Change → Result Change Fault
@@ -123,17 +126,21 @@ place_in_word offset base = address_of offset base % 4
 
 -- a load and a store: what is made of the place in RAM that the address names
 abbrev pub load : Scene → ℕ → Argument → Argument → (ℕ → Change) → Result Change Fault
-load s width o b change = result_map change (reach Load width (address_of o b) (length s.around.memory) s.processor)
+load s width o b change =
+    result_map change (reach Load width (address_of o b) (length s.around.memory) s.processor)
 
 abbrev pub store : Scene → ℕ → Argument → Argument → (ℕ → Change) → Result Change Fault
-store s width o b change = result_map change (reach Store width (address_of o b) (length s.around.memory) s.processor)
+store s width o b change =
+    result_map change (reach Store width (address_of o b) (length s.around.memory) s.processor)
 
 -- the same of the word that holds the address
 abbrev pub load_within : Scene → Argument → Argument → (ℕ → Change) → Result Change Fault
-load_within s o b change = result_map change (reach_word_of Load (address_of o b) (length s.around.memory) s.processor)
+load_within s o b change =
+    result_map change (reach_word_of Load (address_of o b) (length s.around.memory) s.processor)
 
 abbrev pub store_within : Scene → Argument → Argument → (ℕ → Change) → Result Change Fault
-store_within s o b change = result_map change (reach_word_of Store (address_of o b) (length s.around.memory) s.processor)
+store_within s o b change =
+    result_map change (reach_word_of Store (address_of o b) (length s.around.memory) s.processor)
 
 -- `lw` and `sw` reach the slots too
 abbrev pub write_read : ℕ → ℕ × BoardState → Change
@@ -145,10 +152,12 @@ write_board board = record nothing { board = Some board }
 abbrev pub store_word_to : Scene → ℕ → ℕ → Result Change Fault
 store_word_to s word at =
     if nat_le (at + 4) (length s.around.memory) then Ok (store_word word at)
-    else result_map write_board (or_bus_error Store (board_written s.around.number at word s.around.board))
+    else result_map write_board
+    (or_bus_error Store (board_written s.around.number at word s.around.board))
 
 abbrev pub word_stored : ℕ → ℕ → Scene → Result Change Fault
-word_stored address word s = and_then (physical_at Store 4 address s.processor) (store_word_to s word)
+word_stored address word s =
+    and_then (physical_at Store 4 address s.processor) (store_word_to s word)
 
 -- `ll` links the processor to the word
 abbrev pub load_linked : Scene → ℕ → ℕ → Change
@@ -178,29 +187,35 @@ row_indexed p = row_read p.control (slice_get p.rows (index_row_of p.control))
 
 -- `tlbp`: the lowest row that matches EntryHi, whether it is valid or not
 abbrev pub probed : Processor → Control
-probed p = with_probe (find_row p.rows (p.control.entry_hi / 2 ^ 12) (identifier_of p.control)) p.control
+probed p =
+    with_probe (find_row p.rows (p.control.entry_hi / 2 ^ 12) (identifier_of p.control)) p.control
 
 -- each effect, from its operands and what the Step sees
 abbrev pub effect_of : Scene → Effect → Argument → Argument → Argument → Result Change Fault
 -- shifts
 effect_of s effect.ShiftLeft d a n = Ok (write d.number (shifted shift.Left a.value (n.value % 32)))
-effect_of s effect.ShiftRight d a n = Ok (write d.number (shifted shift.Right a.value (n.value % 32)))
+effect_of s effect.ShiftRight d a n =
+    Ok (write d.number (shifted shift.Right a.value (n.value % 32)))
 effect_of s effect.ShiftRightArithmetic d a n =
     Ok (write d.number (shifted shift.RightArithmetic a.value (n.value % 32)))
 -- sums
 effect_of s effect.Sum d a b =
-    result_map (write d.number) (unless_overflow (word_of_signed (signed a.value +ℤ signed b.value)))
+    result_map (write d.number)
+    (unless_overflow (word_of_signed (signed a.value +ℤ signed b.value)))
 effect_of s effect.Difference d a b =
-    result_map (write d.number) (unless_overflow (word_of_signed (signed a.value -ℤ signed b.value)))
+    result_map (write d.number)
+    (unless_overflow (word_of_signed (signed a.value -ℤ signed b.value)))
 effect_of s effect.SumModulo d a b = Ok (write d.number ((a.value + b.value) % 2 ^ 32))
-effect_of s effect.DifferenceModulo d a b = Ok (write d.number ((a.value + (2 ^ 32 - b.value)) % 2 ^ 32))
+effect_of s effect.DifferenceModulo d a b =
+    Ok (write d.number ((a.value + (2 ^ 32 - b.value)) % 2 ^ 32))
 -- bit by bit, comparisons
 effect_of s effect.And d a b = Ok (write d.number (bit_and a.value b.value))
 effect_of s effect.Or d a b = Ok (write d.number (bit_or a.value b.value))
 effect_of s effect.Xor d a b = Ok (write d.number (bit_xor a.value b.value))
 effect_of s effect.Nor d a b = Ok (write d.number (2 ^ 32 - 1 - bit_or a.value b.value))
 effect_of s effect.SetOnLess d a b = Ok (write d.number (one_if (is_less Signed a.value b.value)))
-effect_of s effect.SetOnLessUnsigned d a b = Ok (write d.number (one_if (is_less Unsigned a.value b.value)))
+effect_of s effect.SetOnLessUnsigned d a b =
+    Ok (write d.number (one_if (is_less Unsigned a.value b.value)))
 effect_of s effect.LoadUpper d i _ = Ok (write d.number (i.value * 2 ^ 16))
 -- products, quotients, HI and LO
 effect_of s effect.Multiply a b _ = Ok (write_pair (product Signed a.value b.value))
@@ -213,44 +228,56 @@ effect_of s effect.MoveToHi v _ _ = Ok (write_hi_lo v.value s.processor.lo)
 effect_of s effect.MoveToLo v _ _ = Ok (write_hi_lo s.processor.hi v.value)
 -- jumps
 effect_of s effect.Jump t _ _ = outside_slot s.processor (branch true t.value)
-effect_of s effect.JumpAndLink t _ _ = outside_slot s.processor (branch_and_link s.processor 31 true t.value)
+effect_of s effect.JumpAndLink t _ _ =
+    outside_slot s.processor (branch_and_link s.processor 31 true t.value)
 effect_of s effect.JumpAndLinkRegister d v _ =
     outside_slot s.processor (branch_and_link s.processor d.number true v.value)
 -- branches
-effect_of s effect.BranchOnEqual a b t = outside_slot s.processor (branch (a.value == b.value) t.value)
-effect_of s effect.BranchOnNotEqual a b t = outside_slot s.processor (branch (not (a.value == b.value)) t.value)
-effect_of s effect.BranchOnLess v t _ = outside_slot s.processor (branch (is_taken zero.Less v.value) t.value)
+effect_of s effect.BranchOnEqual a b t =
+    outside_slot s.processor (branch (a.value == b.value) t.value)
+effect_of s effect.BranchOnNotEqual a b t =
+    outside_slot s.processor (branch (not (a.value == b.value)) t.value)
+effect_of s effect.BranchOnLess v t _ =
+    outside_slot s.processor (branch (is_taken zero.Less v.value) t.value)
 effect_of s effect.BranchOnGreaterOrEqual v t _ =
     outside_slot s.processor (branch (is_taken zero.GreaterOrEqual v.value) t.value)
 effect_of s effect.BranchOnLessOrEqual v t _ =
     outside_slot s.processor (branch (is_taken zero.LessOrEqual v.value) t.value)
-effect_of s effect.BranchOnGreater v t _ = outside_slot s.processor (branch (is_taken zero.Greater v.value) t.value)
+effect_of s effect.BranchOnGreater v t _ =
+    outside_slot s.processor (branch (is_taken zero.Greater v.value) t.value)
 effect_of s effect.BranchOnLessAndLink v t _ =
     outside_slot s.processor (branch_and_link s.processor 31 (is_taken zero.Less v.value) t.value)
 effect_of s effect.BranchOnGreaterOrEqualAndLink v t _ =
-    outside_slot s.processor (branch_and_link s.processor 31 (is_taken zero.GreaterOrEqual v.value) t.value)
+    outside_slot s.processor
+    (branch_and_link s.processor 31 (is_taken zero.GreaterOrEqual v.value) t.value)
 -- loads
 effect_of s effect.LoadByte d o b =
     load s 1 o b (λ at. write d.number (sign_extended_byte (slice_index s.around.memory at)))
-effect_of s effect.LoadByteUnsigned d o b = load s 1 o b (λ at. write d.number (slice_index s.around.memory at))
+effect_of s effect.LoadByteUnsigned d o b =
+    load s 1 o b (λ at. write d.number (slice_index s.around.memory at))
 effect_of s effect.LoadHalf d o b =
     load s 2 o b (λ at. write d.number (sign_extended_half (half_at s.around.memory at)))
-effect_of s effect.LoadHalfUnsigned d o b = load s 2 o b (λ at. write d.number (half_at s.around.memory at))
+effect_of s effect.LoadHalfUnsigned d o b =
+    load s 2 o b (λ at. write d.number (half_at s.around.memory at))
 effect_of s effect.LoadWord d o b =
     result_map (write_read d.number)
     (read_word (address_of o b) s.processor s.around.number s.around.memory s.around.board)
 effect_of s effect.LoadWordLeft d o b =
-    load_within s o b (λ at. write d.number (merged_left (word_at s.around.memory at) d.value (place_in_word o b)))
+    load_within s o b (λ at. write d.number
+    (merged_left (word_at s.around.memory at) d.value (place_in_word o b)))
 effect_of s effect.LoadWordRight d o b =
-    load_within s o b (λ at. write d.number (merged_right (word_at s.around.memory at) d.value (place_in_word o b)))
+    load_within s o b (λ at. write d.number
+    (merged_right (word_at s.around.memory at) d.value (place_in_word o b)))
 -- stores; a merge of a register into memory is one of memory into a register from the other end
 effect_of s effect.StoreByte t o b = store s 1 o b (store_byte (t.value % 2 ^ 8))
 effect_of s effect.StoreHalf t o b = store s 2 o b (store_half (t.value % 2 ^ 16))
 effect_of s effect.StoreWord t o b = word_stored (address_of o b) t.value s
 effect_of s effect.StoreWordLeft t o b =
-    store_within s o b (λ at. store_word (merged_right t.value (word_at s.around.memory at) (3 - place_in_word o b)) at)
+    store_within s o b (λ at. store_word
+    (merged_right t.value (word_at s.around.memory at) (3 - place_in_word o b)) at)
 effect_of s effect.StoreWordRight t o b =
-    store_within s o b (λ at. store_word (merged_left t.value (word_at s.around.memory at) (3 - place_in_word o b)) at)
+    store_within s o b (λ at. store_word
+    (merged_left t.value (word_at s.around.memory at) (3 - place_in_word o b)) at)
 -- links
 effect_of s effect.LoadLinked d o b = load s 4 o b (load_linked s d.number)
 effect_of s effect.StoreConditional t o b = store s 4 o b (store_conditional s t.number t.value)
@@ -261,8 +288,10 @@ effect_of s effect.SystemCall _ _ _ = Err (fault kind.SystemCall)
 effect_of s effect.Breakpoint _ _ _ = Err (fault kind.Breakpoint)
 -- coprocessor 0
 effect_of s effect.MoveFromCop0 t r _ =
-    Ok (write t.number (read_of r.number (lines_of s.around.number s.around.board) s.processor.control))
-effect_of s effect.MoveToCop0 t r _ = Ok (write_control (written r.number t.value s.processor.control))
+    Ok (write t.number
+    (read_of r.number (lines_of s.around.number s.around.board) s.processor.control))
+effect_of s effect.MoveToCop0 t r _ =
+    Ok (write_control (written r.number t.value s.processor.control))
 effect_of s effect.ReadTlb _ _ _ =
     Ok (write_control (row_indexed s.processor))
 effect_of s effect.WriteTlbIndexed _ _ _ =

@@ -14,7 +14,8 @@ use Rattle.m161_cpu.specs.Fault.{Fault, fault, noted}
 use Rattle.m161_cpu.specs.Effect.{write}
 use Rattle.m161_cpu.specs.Step.{Stepped, change_of_row, misfit_kind, running}
 
--- Words that the clauses of the code's helpers share: a Step in two parts, and effects on the code's instructions.
+-- Words that the clauses of the code's helpers share: a Step in two parts, and effects on the
+-- code's instructions.
 
 -- the same Step in two parts: a processor that rests is idle, and one that doesn't is running
 abbrev pub idle_after : Scene → Stepped
@@ -36,17 +37,21 @@ unfoldable pub change_by : Scene → Instr → Result Change Fault
 change_by s i = change_by_some s i (row_of_instr i)
 
 -- a value was found; or this is why not, and the address at fault is noted
-abbrev pub Finds : {V : Type 0} → Result V Fault → Processor → Result V FaultKind → Processor → Type 0
+abbrev pub Finds : {V : Type 0} → Result V Fault → Processor → Result V FaultKind → Processor
+    → Type 0
 Finds r before (Ok value) after = (r ≡ Ok value) × (after ≡ before)
-Finds r before (Err kind) after = (f : Fault) × (r ≡ Err f) × (kind ≡ f.kind) × (after ≡ noted f.address before)
+Finds r before (Err kind) after =
+    (f : Fault) × (r ≡ Err f) × (kind ≡ f.kind) × (after ≡ noted f.address before)
 
 -- a word was read, of RAM or of the slots, which leaves a board
-abbrev pub FindsWord : Result (ℕ × BoardState) Fault → Processor → BoardState → Result ℕ FaultKind → Processor → BoardState → Type 0
+abbrev pub FindsWord : Result (ℕ × BoardState) Fault → Processor → BoardState → Result ℕ FaultKind
+    → Processor → BoardState → Type 0
 FindsWord r before board (Ok word) after left = (r ≡ Ok (word, left)) × (after ≡ before)
 FindsWord r before board (Err kind) after left =
     (f : Fault) × (r ≡ Err f) × (kind ≡ f.kind) × (after ≡ noted f.address before) × (left ≡ board)
 
--- the processor and what is around it are as after a change; or as before it, with an address at fault noted
+-- the processor and what is around it are as after a change; or as before it, with an address at
+-- fault noted
 pub record IsAfter (p : Processor) (a : Around) (after : Scene) : Type 0 where
   pub processor_is : after.processor ≡ p
   pub memory_is : after.around.memory ≡ a.memory
@@ -55,14 +60,17 @@ pub record IsAfter (p : Processor) (a : Around) (after : Scene) : Type 0 where
 
 -- a change was made; or this is why not, the address at fault is noted, and nothing else is changed
 abbrev pub Executes : Result Change Fault → Scene → Result Unit FaultKind → Scene → Type 0
-Executes (Ok c) before (Ok done) after = IsAfter (processor_after c before.processor) (around_after c before.around) after
+Executes (Ok c) before (Ok done) after =
+    IsAfter (processor_after c before.processor) (around_after c before.around) after
 Executes (Ok c) before (Err kind) after = ⊥
 Executes (Err f) before (Ok done) after = ⊥
-Executes (Err f) before (Err kind) after = (kind ≡ f.kind) × IsAfter (noted f.address before.processor) before.around after
+Executes (Err f) before (Err kind) after =
+    (kind ≡ f.kind) × IsAfter (noted f.address before.processor) before.around after
 
 -- an instruction that leaves all around the processor alone was executed
 abbrev pub Does : Instr → Processor → Result Unit FaultKind → Processor → Type 0
-Does i before result after = (a : Around) → Executes (change_by (scene before a) i) (scene before a) result (scene after a)
+Does i before result after =
+    (a : Around) → Executes (change_by (scene before a) i) (scene before a) result (scene after a)
 
 -- a value, or why there is none: a fault without an address
 abbrev pub or_fault : Result ℕ FaultKind → Result ℕ Fault

@@ -7,7 +7,8 @@ use Rattle.m161_cpu.specs.declared.fault.FaultKind.{FaultKind}
 use Rattle.m161_cpu.specs.declared.fault.FaultKind.TheVariants as kind
 use Rattle.m161_cpu.specs.Processor.{Processor}
 
--- Why an instruction isn't executed, and the trap that it makes. Kane, MIPS RISC Architecture, "Exception processing".
+-- Why an instruction isn't executed, and the trap that it makes. Kane, MIPS RISC Architecture,
+-- "Exception processing".
 
 -- the kind, and the address that BadVAddr gets, where there is one
 pub record Fault : Type 0 where

@@ -1,6 +1,7 @@
 use Rattle.std.specs.Prelude.{ℕ, Bool, false, ◌==◌, if◌then◌else◌, List, map, slice_set, replicate, Option, None, Some}
 
--- Links of `ll` and `sc`. MIPS II has the two instructions; when a link ends is this project's own rule.
+-- Links of `ll` and `sc`. MIPS II has the two instructions; when a link ends is this project's own
+-- rule.
 
 -- the physical word that each of 32 processors is linked to, where its link is live
 abbrev pub no_links : List (Option ℕ)

@@ -59,7 +59,8 @@ started pc r4 r29 count = record {
 
 -- a register written; a write to register 0 is lost
 abbrev pub with_register : ℕ → ℕ → Processor → Processor
-with_register r word p = record p { registers = if r == 0 then p.registers else slice_set p.registers r word }
+with_register r word p =
+    record p { registers = if r == 0 then p.registers else slice_set p.registers r word }
 
 abbrev pub with_hi_lo : HiLoPair → Processor → Processor
 with_hi_lo pair p = record p { hi = pair.hi; lo = pair.lo }
@@ -87,4 +88,8 @@ is_slot (Taken target) = true
 
 -- on to the next instruction
 abbrev pub advanced : Flow → Processor → Processor
-advanced flow p = record p { pc = p.following; following = after_next flow p.following; slot = is_slot flow }
+advanced flow p = record p {
+  pc = p.following;
+  following = after_next flow p.following;
+  slot = is_slot flow;
+}

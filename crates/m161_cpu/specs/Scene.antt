@@ -20,7 +20,12 @@ pub record Around : Type 0 where
   pub links : List (Option ℕ)
 
 abbrev pub around : ℕ → List ℕ → BoardState → List (Option ℕ) → Around
-around number memory board links = record { number = number; memory = memory; board = board; links = links }
+around number memory board links = record {
+  number = number;
+  memory = memory;
+  board = board;
+  links = links;
+}
 
 -- a processor and what is around it
 pub record Scene : Type 0 where

@@ -22,7 +22,8 @@ use Rattle.m161_cpu.specs.Fault.{Fault, fault, exception_of, noted, vector, with
 use Rattle.m161_cpu.specs.Translation.{reach}
 use Rattle.m161_cpu.specs.Effect.{arguments, with_three, effect_of}
 
--- One Step of a processor. Kane, MIPS RISC Architecture; the order of its points is this project's own.
+-- One Step of a processor. Kane, MIPS RISC Architecture; the order of its points is this project's
+-- own.
 
 -- what a Step gives
 pub record Stepped : Type 0 where
@@ -60,7 +61,8 @@ ran s change = record {
 abbrev pub unlinked : Around → Around
 unlinked a = record a { links = links_after a.number End None a.links }
 
--- what a trap leaves: the registers of its entry; general registers, HI, LO, memory and the board are as they were
+-- what a trap leaves: the registers of its entry; general registers, HI, LO, memory and the board
+-- are as they were
 abbrev pub trapped : Scene → Fault → Stepped
 trapped s f = record {
   outcome = Trapped (exception_of f.kind) (vector f.kind (noted f.address s.processor));
@@ -122,12 +124,14 @@ executed s =
 abbrev pub running : Scene → Stepped
 running s = ended s (executed s)
 
--- one Step, by the processor's state: a stopped one only counts; a waiting one is idle until an interrupt is pending
+-- one Step, by the processor's state: a stopped one only counts; a waiting one is idle until an
+-- interrupt is pending
 abbrev pub step_in : ProcessorState → Scene → Stepped
 step_in Stopped s = idle counted s
 step_in Running s = running s
 step_in Waiting s =
-    if is_pending (lines_in s) s.processor.control then running (with_processor (with_state Running) s)
+    if is_pending (lines_in s) s.processor.control
+    then running (with_processor (with_state Running) s)
     else idle tick s
 
 unfoldable pub step_of : Scene → Stepped

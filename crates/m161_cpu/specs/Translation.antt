@@ -13,7 +13,8 @@ use Rattle.m161_cpu.specs.Processor.{Processor}
 use Rattle.m161_cpu.specs.Fault.{Fault, fault, fault_at}
 use Rattle.m161_cpu.specs.Scene.{result_map, and_then}
 
--- Addresses to physical ones, and where these lead. Kane, MIPS RISC Architecture, "Memory management".
+-- Addresses to physical ones, and where these lead. Kane, MIPS RISC Architecture, "Memory
+-- management".
 
 -- the width of an access in bytes
 abbrev pub IsWidth : ℕ → Type 0
@@ -26,7 +27,8 @@ is_store Store = true
 
 -- a misaligned address, or one of the kernel's in user mode
 abbrev pub address_error : Access → ℕ → Fault
-address_error access address = fault_at (if is_store access then kind.AddressErrorStore else kind.AddressErrorLoad) address
+address_error access address =
+    fault_at (if is_store access then kind.AddressErrorStore else kind.AddressErrorLoad) address
 
 -- the row that matches isn't valid
 abbrev pub invalid : Access → ℕ → Fault
@@ -75,7 +77,8 @@ by_segment access address p None = by_page access address p
 
 -- an address that isn't aligned to the access's width, or one of the kernel's in user mode
 unfoldable pub is_misaddressed : ℕ → ℕ → Processor → Bool
-is_misaddressed width address p = not (address % width == 0) || (is_user p.control && nat_le 0x80000000 address)
+is_misaddressed width address p =
+    not (address % width == 0) || (is_user p.control && nat_le 0x80000000 address)
 
 -- the physical address of an access that has to be aligned to its width
 abbrev pub translate : Access → ℕ → ℕ → Processor → Result Physical Fault
@@ -85,7 +88,8 @@ translate access width address p =
 
 -- the same without the row
 unfoldable pub physical_at : Access → ℕ → ℕ → Processor → Result ℕ Fault
-physical_at access width address p = result_map (λ (to : Physical). to.at) (translate access width address p)
+physical_at access width address p =
+    result_map (λ (to : Physical). to.at) (translate access width address p)
 
 -- nothing answers on the bus
 abbrev pub bus_error : Access → Fault
@@ -99,7 +103,8 @@ in_ram access width size at = if nat_le (at + width) size then Ok at else Err (b
 
 -- the place in RAM of an access
 abbrev pub reach : Access → ℕ → ℕ → ℕ → Processor → Result ℕ Fault
-reach access width address size p = and_then (physical_at access width address p) (in_ram access width size)
+reach access width address size p =
+    and_then (physical_at access width address p) (in_ram access width size)
 
 -- the place in RAM of the word that holds an address, which needn't be aligned
 abbrev pub reach_word_of : Access → ℕ → ℕ → Processor → Result ℕ Fault
@@ -117,4 +122,5 @@ word_read c memory board at =
     else or_bus_error Load (board_read c at board)
 
 abbrev pub read_word : ℕ → Processor → ℕ → List ℕ → BoardState → Result (ℕ × BoardState) Fault
-read_word address p c memory board = and_then (physical_at Load 4 address p) (word_read c memory board)
+read_word address p c memory board =
+    and_then (physical_at Load 4 address p) (word_read c memory board)

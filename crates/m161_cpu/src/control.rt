@@ -19,12 +19,7 @@ impl<T: Tlb> Cpu<T> {
     #[cold]
     #[inline(never)]
     #[tactic(auto, unfolding(crate::specs::Execute::change_by))]
-    pub(crate) fn move_from_cop0(
-        &mut self,
-        rt: Reg,
-        register: Reg,
-        lines: u32,
-    ) -> Result<(), FaultKind>
+    pub(crate) fn read_cop0(&mut self, rt: Reg, register: Reg, lines: u32) -> Result<(), FaultKind>
         ensures { (a : Around) → lines_of a.number a.board ≡ lines
             → Executes (change_by (scene self.old a) (MoveFromCop0 rt register))
             (scene self.old a) result
@@ -39,7 +34,7 @@ impl<T: Tlb> Cpu<T> {
     #[cold]
     #[inline(never)]
     #[tactic(auto, unfolding(crate::specs::Execute::change_by))]
-    pub(crate) fn move_to_cop0(&mut self, rt: Reg, register: Reg) -> Result<(), FaultKind>
+    pub(crate) fn write_cop0(&mut self, rt: Reg, register: Reg) -> Result<(), FaultKind>
         ensures { Does (MoveToCop0 rt register) self.old result self.new }
     {
         let word = self.reg(rt);

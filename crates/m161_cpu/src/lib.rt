@@ -28,6 +28,7 @@
 //! instruction (this project's own rules). Source: Kane, MIPS RISC Architecture.
 #![tactic(auto)]
 
+mod compute;
 mod control;
 mod execute;
 mod fault;

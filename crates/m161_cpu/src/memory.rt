@@ -2,9 +2,9 @@
 
 ghost use Rattle.std.specs.Prelude.{◌≡◌, ◌+◌, ◌-◌, ◌*◌, ◌/◌, ◌%◌, ◌^◌, ◌≤◌, ◌<◌, length, slice_index, Some, Ok, Err};
 ghost use Rattle.m161_isa.specs.declared.instr.Instr.TheVariants.{Load, Store};
-ghost use Rattle.m161_bus.specs.Board.{KeepsSize};
+ghost use Rattle.m161_bus.specs.Board.{BoardState, KeepsSize};
 ghost use Rattle.m161_alu.specs.Word.{sign_extended_half};
-ghost use Rattle.m161_cpu.specs.Effect.{word_stored};
+ghost use Rattle.m161_cpu.specs.Effect.{store_conditional, word_stored};
 ghost use Rattle.m161_cpu.specs.Execute.{change_by, Executes, FindsWord};
 ghost use Rattle.m161_cpu.specs.Links.{after_store};
 ghost use Rattle.m161_cpu.specs.Processor.{advanced};
@@ -206,16 +206,32 @@ impl<T: Tlb> Cpu<T> {
             }
             StoreOp::Conditional => {
                 let at = self.reach(Access::Store, 4, address, size)?;
-                let linked = links.names(c, at);
-                if linked {
-                    ram.set_word(at, word);
-                    links.store_to(at);
-                }
-                links.unlink(c);
-                self.set(rt, u32::from(linked));
+                self.store_conditional(at, rt, c, ram, links);
             }
         }
         Ok(())
+    }
+
+    // Stores a word where the link names it, and ends the link.
+    #[inline(always)]
+    fn store_conditional(&mut self, at: u32, rt: Reg, c: u32, ram: &mut Ram, links: &mut Links)
+        requires processor { c < 32 }
+        requires within { at + 4 ≤ length ram.old }
+        ensures store { (b : BoardState) → Executes
+            (Ok (store_conditional (here self.old c ram.old b links.old) rt
+            (slice_index self.old.registers rt) at))
+            (here self.old c ram.old b links.old) (Ok result)
+            (here self.new c ram.new b links.new) }
+        ensures size { length ram.new ≡ length ram.old }
+    {
+        let word = self.reg(rt);
+        let linked = links.names(c, at);
+        if linked {
+            ram.set_word(at, word);
+            links.store_to(at);
+        }
+        links.unlink(c);
+        self.set(rt, u32::from(linked));
     }
 
     // Goes on after a store to a word of RAM, which ends the links to it.

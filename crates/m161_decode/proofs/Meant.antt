@@ -18,7 +18,10 @@ pub meant : (word : ℕ) (i : Instr) → Stands word i → i ≡ instr_of word
 meant word i h = meant_by word i (row_of_instr i) h
 
 pub meant_row : (word : ℕ) (i : Instr) → Stands word i → row_of_instr i ≡ row_that_fits word
-meant_row word i h = ap row_of_instr (meant word i h) ∙ row_of_instr-instr_by word (row_that_fits word)
+meant_row word i h =
+    ap row_of_instr (meant word i h) ∙ row_of_instr-instr_by word (row_that_fits word)
 
-pub meant_numbers : (word : ℕ) (i : Instr) → Stands word i → numbers_of_instr i ≡ numbers_of word (row_that_fits word)
-meant_numbers word i h = ap numbers_of_instr (meant word i h) ∙ numbers_of_instr-instr_by word (row_that_fits word)
+pub meant_numbers : (word : ℕ) (i : Instr) → Stands word i
+    → numbers_of_instr i ≡ numbers_of word (row_that_fits word)
+meant_numbers word i h =
+    ap numbers_of_instr (meant word i h) ∙ numbers_of_instr-instr_by word (row_that_fits word)

@@ -8,7 +8,7 @@ use m161_isa::{Amount, Immediate, Reg, Target};
 
 /// The `width` bits of the word from bit `at` on.
 #[inline(always)]
-pub fn narrow(word: u32, at: u32, width: u32) -> u8
+pub(crate) fn narrow(word: u32, at: u32, width: u32) -> u8
     requires place { at < 32 }
     requires size { width ≤ 8 }
     ensures { result ≡ bits_of word at width }
@@ -18,7 +18,7 @@ pub fn narrow(word: u32, at: u32, width: u32) -> u8
 
 /// The register in bits 25 to 21.
 #[inline(always)]
-pub fn rs(word: u32) -> Reg
+pub(crate) fn rs(word: u32) -> Reg
     ensures { result ≡ rs_of word }
 {
     Reg::new(narrow(word, 21, 5))
@@ -26,7 +26,7 @@ pub fn rs(word: u32) -> Reg
 
 /// The register in bits 20 to 16.
 #[inline(always)]
-pub fn rt(word: u32) -> Reg
+pub(crate) fn rt(word: u32) -> Reg
     ensures { result ≡ rt_of word }
 {
     Reg::new(narrow(word, 16, 5))
@@ -34,7 +34,7 @@ pub fn rt(word: u32) -> Reg
 
 /// The register in bits 15 to 11.
 #[inline(always)]
-pub fn rd(word: u32) -> Reg
+pub(crate) fn rd(word: u32) -> Reg
     ensures { result ≡ rd_of word }
 {
     Reg::new(narrow(word, 11, 5))
@@ -42,7 +42,7 @@ pub fn rd(word: u32) -> Reg
 
 /// The shift amount, bits 10 to 6.
 #[inline(always)]
-pub fn amount(word: u32) -> Amount
+pub(crate) fn amount(word: u32) -> Amount
     ensures { result ≡ amount_of word }
 {
     Amount::new(narrow(word, 6, 5))
@@ -50,7 +50,7 @@ pub fn amount(word: u32) -> Amount
 
 /// The low half of the word.
 #[inline(always)]
-pub fn immediate(word: u32) -> Immediate
+pub(crate) fn immediate(word: u32) -> Immediate
     ensures { result ≡ immediate_of word }
 {
     Immediate::new((word % (1 << 16)) as u16)
@@ -58,7 +58,7 @@ pub fn immediate(word: u32) -> Immediate
 
 /// The low 26 bits, a jump's target in words.
 #[inline(always)]
-pub fn target(word: u32) -> Target
+pub(crate) fn target(word: u32) -> Target
     ensures { result ≡ target_of word }
 {
     Target::new(word % (1 << 26))

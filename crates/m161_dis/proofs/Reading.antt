@@ -25,37 +25,54 @@ pieces_of at word first [] = []
 pieces_of at word first (o ∷ os) =
     lead_pieces first o ++ (operand_pieces at o (number_of word o) ++ pieces_of at word false os)
 
-separated_read : (first : Bool) (o : Operand) (at n past column : ℕ) (more : List Piece) → at < 2 ^ 32 → at % 4 ≡ 0 → n < 2 ^ width_of o → IsRead at n (separated first o past (laid column (lead_pieces first o ++ (operand_pieces at o n ++ more)))) more
-separated_read true operand.Base at n past column more h w k = part_read operand.Base at n past column more h w k
-separated_read false operand.Base at n past column more h w k = part_read operand.Base at n past column more h w k
+separated_read : (first : Bool) (o : Operand) (at n past column : ℕ) (more : List Piece)
+    → at < 2 ^ 32 → at % 4 ≡ 0 → n < 2 ^ width_of o
+    → IsRead at n
+    (separated first o past
+    (laid column (lead_pieces first o ++ (operand_pieces at o n ++ more)))) more
+separated_read true operand.Base at n past column more h w k =
+    part_read operand.Base at n past column more h w k
+separated_read false operand.Base at n past column more h w k =
+    part_read operand.Base at n past column more h w k
 separated_read true o at n past column more h w k = part_read o at n past (column + 1) more h w k
-separated_read false o at n past column more h w k = part_read o at n past (column + 1 + 1) more h w k
+separated_read false o at n past column more h w k =
+    part_read o at n past (column + 1 + 1) more h w k
 
 pub number_small : (word : ℕ) (o : Operand) → number_of word o < 2 ^ width_of o
 number_small word operand.Rd = omega arith
 number_small word _ = omega arith
 
-each_cons : (f : Part → Result ℕ Fault) (read : Result (List Part) Fault) (p : Part) (n : ℕ) (ns : List ℕ) → f p ≡ Ok n → (read >>= each f) ≡ Ok ns → ((read >>= λ xs. Ok (p ∷ xs)) >>= each f) ≡ Ok (n ∷ ns)
+each_cons : (f : Part → Result ℕ Fault) (read : Result (List Part) Fault) (p : Part) (n : ℕ)
+    (ns : List ℕ) → f p ≡ Ok n → (read >>= each f) ≡ Ok ns
+    → ((read >>= λ xs. Ok (p ∷ xs)) >>= each f) ≡ Ok (n ∷ ns)
 each_cons f (Ok xs) p n ns e d = rw (e, d) refl
 each_cons f (Err x) p n ns e d = cc
 
-pub parts_read : (os : List Operand) (first : Bool) (word at past column : ℕ) → at < 2 ^ 32 → at % 4 ≡ 0 → (parts first os past (laid column (pieces_of at word first os)) >>= each (field_of [] at)) ≡ Ok (map (number_of word) os)
+pub parts_read : (os : List Operand) (first : Bool) (word at past column : ℕ) → at < 2 ^ 32
+    → at % 4 ≡ 0
+    → (parts first os past (laid column (pieces_of at word first os)) >>= each (field_of [] at))
+    ≡ Ok (map (number_of word) os)
 unfolding parts
 parts_read [] first word at past column h w = refl
 parts_read (o ∷ os) first word at past column h w =
-    let r = separated_read first o at (number_of word o) past column (pieces_of at word false os) h w (number_small word o) in
+    let r = separated_read first o at (number_of word o) past column
+    (pieces_of at word false os) h w (number_small word o) in
     let more = parts_read os false word at past r.column h w in
     rw r.reads (each_cons (field_of [] at) _ r.part (number_of word o) _ r.field more)
 
 -- the text of the pieces
-signed_spelled : (b : Bool) (n : ℕ) (more : List Piece) → text_of (signed_pieces b n ++ more) ≡ (cond b (decimal n) (codes "-" ++ decimal (0x10000 - n))) ++ text_of more
+signed_spelled : (b : Bool) (n : ℕ) (more : List Piece)
+    → text_of (signed_pieces b n ++ more)
+    ≡ (cond b (decimal n) (codes "-" ++ decimal (0x10000 - n))) ++ text_of more
 signed_spelled true n more = refl
 signed_spelled false n more = refl
 
-operand_spelled : (o : Operand) (at n : ℕ) (more : List Piece) → text_of (operand_pieces at o n ++ more) ≡ operand_text at o n ++ text_of more
+operand_spelled : (o : Operand) (at n : ℕ) (more : List Piece)
+    → text_of (operand_pieces at o n ++ more) ≡ operand_text at o n ++ text_of more
 operand_spelled operand.Signed at n more = signed_spelled (nat_lt n 0x8000) n more
 operand_spelled operand.Offset at n more = signed_spelled (nat_lt n 0x8000) n more
-operand_spelled operand.Base at n more = ap (λ x. 40 ∷ 36 ∷ x) (sym (append_assoc (decimal n) (41 ∷ []) (text_of more)))
+operand_spelled operand.Base at n more =
+    ap (λ x. 40 ∷ 36 ∷ x) (sym (append_assoc (decimal n) (41 ∷ []) (text_of more)))
 operand_spelled operand.Rd at n more = refl
 operand_spelled _ at n more = refl
 
@@ -63,18 +80,22 @@ abbrev pub lead_text : Bool → List ℕ
 lead_text true = codes " "
 lead_text false = codes ", "
 
-lead_spelled : (first : Bool) (o : Operand) (more : List Piece) → text_of (lead_pieces first o ++ more) ≡ lead_of o (lead_text first) ++ text_of more
+lead_spelled : (first : Bool) (o : Operand) (more : List Piece)
+    → text_of (lead_pieces first o ++ more) ≡ lead_of o (lead_text first) ++ text_of more
 lead_spelled true operand.Base more = refl
 lead_spelled false operand.Base more = refl
 lead_spelled true operand.Rd more = refl
 lead_spelled true _ more = refl
 lead_spelled false _ more = refl
 
-pub operands_spelled : (os : List Operand) (first : Bool) (word at : ℕ) → text_of (pieces_of at word first os) ≡ operands_text word at (lead_text first) os
+pub operands_spelled : (os : List Operand) (first : Bool) (word at : ℕ)
+    → text_of (pieces_of at word first os) ≡ operands_text word at (lead_text first) os
 operands_spelled [] first word at = refl
 operands_spelled (o ∷ os) first word at =
     lead_spelled first o (operand_pieces at o (number_of word o) ++ pieces_of at word false os)
-    ∙ ap (λ x. lead_of o (lead_text first) ++ x) (operand_spelled o at (number_of word o) (pieces_of at word false os) ∙ ap (λ x. operand_text at o (number_of word o) ++ x) (operands_spelled os false word at))
+    ∙ ap (λ x. lead_of o (lead_text first) ++ x)
+    (operand_spelled o at (number_of word o) (pieces_of at word false os)
+    ∙ ap (λ x. operand_text at o (number_of word o) ++ x) (operands_spelled os false word at))
     ∙ sym (append_assoc (lead_of o (lead_text first)) (operand_text at o (number_of word o)) _)
 
 -- the names of the rows

@@ -15,13 +15,15 @@ left : (b : Bool) (r : Row) → (b ≡ true → ⊥) → cond b (Some r) None �
 left true r never = absurd (never refl)
 left false r never = refl
 
-pub canonical_is : (word : ℕ) (o : Option Row) → o ≡ row_that_fits word → IsCanonical word → o ≡ canonical_row word
+pub canonical_is : (word : ℕ) (o : Option Row) → o ≡ row_that_fits word → IsCanonical word
+    → o ≡ canonical_row word
 unfolding canonical_row
 canonical_is word o d (r, fits, e) =
     let found = row_that_fits-is word r fits in
     d ∙ found ∙ sym (ap (canonical_by word) found ∙ chosen word _ r e)
 
-none_by : (word : ℕ) (o : Option Row) → row_that_fits word ≡ o → (IsCanonical word → ⊥) → canonical_by word o ≡ None
+none_by : (word : ℕ) (o : Option Row) → row_that_fits word ≡ o → (IsCanonical word → ⊥)
+    → canonical_by word o ≡ None
 none_by word None e never = refl
 none_by word (Some r) e never =
     left _ r (λ t. never (r, row_that_fits-fits word r e, (Decides-eqb word _).0 t))

@@ -16,22 +16,28 @@ use Rattle.m161_elf.specs.Span.{has_bytes, span_at, span_of, spans_among}
 
 -- What one program header more adds.
 
-as_list : {X : Type 0} (test : Bool) (x : X) → cond test (x ∷ []) [] ≡ cons_option (if test then Some x else None) []
+as_list : {X : Type 0} (test : Bool) (x : X)
+    → cond test (x ∷ []) [] ≡ cons_option (if test then Some x else None) []
 as_list true x = refl
 as_list false x = refl
 
 -- to the segments
-pub segments_more : (file : List ℕ) (i : ℕ) → segments_among file (i + 1) ≡ segments_among file i ++ cons_option (segment_at file i) []
+pub segments_more : (file : List ℕ) (i : ℕ)
+    → segments_among file (i + 1) ≡ segments_among file i ++ cons_option (segment_at file i) []
 segments_more file i =
     filter_of_map_range_with_len_more is_load (header file) 0 i i (omega arith)
     ∙ ap (λ more. segments_among file i ++ more) (as_list (is_load (header file i)) (header file i))
 
-pub segments_with : (file : List ℕ) (i : ℕ) (s : ProgramHeader) → Some s ≡ segment_at file i → segments_among file (i + 1) ≡ segments_among file i ++ s ∷ []
-segments_with file i s found = segments_more file i ∙ ap (λ o. segments_among file i ++ cons_option o []) (sym found)
+pub segments_with : (file : List ℕ) (i : ℕ) (s : ProgramHeader) → Some s ≡ segment_at file i
+    → segments_among file (i + 1) ≡ segments_among file i ++ s ∷ []
+segments_with file i s found =
+    segments_more file i ∙ ap (λ o. segments_among file i ++ cons_option o []) (sym found)
 
-pub segments_without : (file : List ℕ) (i : ℕ) → None ≡ segment_at file i → segments_among file (i + 1) ≡ segments_among file i
+pub segments_without : (file : List ℕ) (i : ℕ) → None ≡ segment_at file i
+    → segments_among file (i + 1) ≡ segments_among file i
 segments_without file i none =
-    segments_more file i ∙ ap (λ o. segments_among file i ++ cons_option o []) (sym none) ∙ append-nil (segments_among file i)
+    segments_more file i ∙ ap (λ o. segments_among file i ++ cons_option o []) (sym none)
+    ∙ append-nil (segments_among file i)
 
 -- to the byte at an address
 last_or : {X : Type 0} (f : X → ℕ) (x : X) (test : Bool) (rest : Option X) →
@@ -40,47 +46,65 @@ last_or f x true rest = refl
 last_or f x false rest = refl
 
 byte_left_with : (file : List ℕ) (xs : List ProgramHeader) (s : ProgramHeader) (at : ℕ) →
-    byte_left file (xs ++ s ∷ []) at ≡ (if covers at s then segment_byte file at s else byte_left file xs at)
+    byte_left file (xs ++ s ∷ []) at
+    ≡ (if covers at s then segment_byte file at s else byte_left file xs at)
 byte_left_with file xs s at =
-    rw (reverse-append xs (s ∷ [])) (last_or (segment_byte file at) s (covers at s) (find (covers at) (reverse xs)))
+    rw (reverse-append xs (s ∷ []))
+    (last_or (segment_byte file at) s (covers at s) (find (covers at) (reverse xs)))
 
-pub byte_put : (file : List ℕ) (i : ℕ) (s : ProgramHeader) (memory after : List ℕ) (at : ℕ) → Some s ≡ segment_at file i
-    → slice_index memory at ≡ byte_left file (segments_among file i) at → slice_index after at ≡ put_byte file s memory at
+pub byte_put : (file : List ℕ) (i : ℕ) (s : ProgramHeader) (memory after : List ℕ) (at : ℕ)
+    → Some s ≡ segment_at file i
+    → slice_index memory at ≡ byte_left file (segments_among file i) at
+    → slice_index after at ≡ put_byte file s memory at
     → slice_index after at ≡ byte_left file (segments_among file (i + 1)) at
 byte_put file i s memory after at found before put =
-    rw (segments_with file i s found, byte_left_with file (segments_among file i) s at, ← before) put
+    rw (segments_with file i s found, byte_left_with file (segments_among file i) s at, ← before)
+    put
 
 -- to the faults
 or_false : (a : Bool) → (a || false) ≡ a
 or_false true = refl
 or_false false = refl
 
-any_with : {X : Type 0} (test : X → Bool) (xs : List X) (x : X) → list_any test (xs ++ x ∷ []) ≡ (list_any test xs || test x)
-any_with test xs x = list_any-append test xs (x ∷ []) ∙ ap (λ b. list_any test xs || b) (or_false (test x))
+any_with : {X : Type 0} (test : X → Bool) (xs : List X) (x : X)
+    → list_any test (xs ++ x ∷ []) ≡ (list_any test xs || test x)
+any_with test xs x =
+    list_any-append test xs (x ∷ []) ∙ ap (λ b. list_any test xs || b) (or_false (test x))
 
-pub faults_with : (file : List ℕ) (ram i : ℕ) (s : ProgramHeader) → Some s ≡ segment_at file i → faults_among file ram (i + 1) ≡ record {
-  outside_file = (faults_among file ram i).outside_file || is_outside_file file s;
-  outside_ram = (faults_among file ram i).outside_ram || is_outside_ram ram s;
-  larger_in_file = (faults_among file ram i).larger_in_file || is_larger_in_file s;
-}
+pub faults_with : (file : List ℕ) (ram i : ℕ) (s : ProgramHeader) → Some s ≡ segment_at file i
+    → faults_among file ram (i + 1) ≡ record {
+      outside_file = (faults_among file ram i).outside_file || is_outside_file file s;
+      outside_ram = (faults_among file ram i).outside_ram || is_outside_ram ram s;
+      larger_in_file = (faults_among file ram i).larger_in_file || is_larger_in_file s;
+    }
 faults_with file ram i s found =
     let xs = segments_among file i in
-    rw (segments_with file i s found, any_with (is_outside_file file) xs s, any_with (is_outside_ram ram) xs s, any_with is_larger_in_file xs s) refl
+    rw (
+      segments_with file i s found,
+      any_with (is_outside_file file) xs s,
+      any_with
+          (is_outside_ram ram) xs s,
+      any_with is_larger_in_file xs s,
+    ) refl
 
-pub faults_without : (file : List ℕ) (ram i : ℕ) → None ≡ segment_at file i → faults_among file ram (i + 1) ≡ faults_among file ram i
+pub faults_without : (file : List ℕ) (ram i : ℕ) → None ≡ segment_at file i
+    → faults_among file ram (i + 1) ≡ faults_among file ram i
 faults_without file ram i none = rw (segments_without file i none) refl
 
 -- to the spans
-span_as_list : (s : ProgramHeader) (test : Bool) → map span_of (cond test (s ∷ []) []) ≡ cons_option (if test then Some (span_of s) else None) []
+span_as_list : (s : ProgramHeader) (test : Bool)
+    → map span_of (cond test (s ∷ []) []) ≡ cons_option (if test then Some (span_of s) else None) []
 span_as_list s true = refl
 span_as_list s false = refl
 
 spans_of_one : (s : ProgramHeader) (test : Bool) →
-    map span_of (filter has_bytes (cons_option (if test then Some s else None) [])) ≡ cons_option (if test && has_bytes s then Some (span_of s) else None) []
+    map span_of (filter has_bytes (cons_option (if test then Some s else None) []))
+    ≡ cons_option (if test && has_bytes s then Some (span_of s) else None) []
 spans_of_one s true = span_as_list s (has_bytes s)
 spans_of_one s false = refl
 
-pub spans_more : (file : List ℕ) (i : ℕ) → spans_among file (i + 1) ≡ spans_among file i ++ cons_option (span_at file i) []
+pub spans_more : (file : List ℕ) (i : ℕ)
+    → spans_among file (i + 1) ≡ spans_among file i ++ cons_option (span_at file i) []
 spans_more file i =
     let xs = segments_among file i in
     let more = cons_option (segment_at file i) [] in
@@ -89,9 +113,13 @@ spans_more file i =
     ∙ map-append span_of (filter has_bytes xs) (filter has_bytes more)
     ∙ ap (λ ys. spans_among file i ++ ys) (spans_of_one (header file i) (is_load (header file i)))
 
-pub spans_with : (file : List ℕ) (i : ℕ) (s : Span) → Some s ≡ span_at file i → spans_among file (i + 1) ≡ spans_among file i ++ s ∷ []
-spans_with file i s found = spans_more file i ∙ ap (λ o. spans_among file i ++ cons_option o []) (sym found)
+pub spans_with : (file : List ℕ) (i : ℕ) (s : Span) → Some s ≡ span_at file i
+    → spans_among file (i + 1) ≡ spans_among file i ++ s ∷ []
+spans_with file i s found =
+    spans_more file i ∙ ap (λ o. spans_among file i ++ cons_option o []) (sym found)
 
-pub spans_without : (file : List ℕ) (i : ℕ) → None ≡ span_at file i → spans_among file (i + 1) ≡ spans_among file i
+pub spans_without : (file : List ℕ) (i : ℕ) → None ≡ span_at file i
+    → spans_among file (i + 1) ≡ spans_among file i
 spans_without file i none =
-    spans_more file i ∙ ap (λ o. spans_among file i ++ cons_option o []) (sym none) ∙ append-nil (spans_among file i)
+    spans_more file i ∙ ap (λ o. spans_among file i ++ cons_option o []) (sym none)
+    ∙ append-nil (spans_among file i)

@@ -13,9 +13,11 @@ copied_byte file s memory at =
 -- the byte at a physical address once the rest of a segment is cleared
 abbrev pub cleared_byte : ProgramHeader → List ℕ → ℕ → ℕ
 cleared_byte s memory at =
-    if nat_le (place_in_ram s.p_vaddr + s.p_filesz) at && nat_lt at (place_in_ram s.p_vaddr + s.p_memsz)
+    if nat_le (place_in_ram s.p_vaddr + s.p_filesz) at
+    && nat_lt at (place_in_ram s.p_vaddr + s.p_memsz)
     then 0 else slice_index memory at
 
--- the byte at a physical address once a segment is put over memory: the segment's where it has one there
+-- the byte at a physical address once a segment is put over memory: the segment's where it has one
+-- there
 abbrev pub put_byte : List ℕ → ProgramHeader → List ℕ → ℕ → ℕ
 put_byte file s memory at = if covers at s then segment_byte file at s else slice_index memory at

@@ -12,9 +12,11 @@ use Rattle.m161_elf.specs.Header.{e_type, e_machine, e_entry, e_phoff, e_phentsi
 
 -- `size` bytes from an address on are RAM, all of them by kseg0 or all by kseg1
 abbrev pub is_in_ram : ℕ → ℕ → ℕ → Bool
-is_in_ram ram address size = option_map_or (λ at. nat_le (at + size) (min ram (2 ^ 29))) (unmapped address) false
+is_in_ram ram address size =
+    option_map_or (λ at. nat_le (at + size) (min ram (2 ^ 29))) (unmapped address) false
 
--- the physical byte that an address names; 0 for one outside kseg0 and kseg1, which no segment with memory has
+-- the physical byte that an address names; 0 for one outside kseg0 and kseg1, which no segment with
+-- memory has
 abbrev pub place_in_ram : ℕ → ℕ
 place_in_ram address = option_map_or (λ at. at) (unmapped address) 0
 
@@ -80,11 +82,15 @@ covers at s = nat_le (place_in_ram s.p_vaddr) at && nat_lt at (place_in_ram s.p_
 -- that byte: the file's, or zero past the file's part
 abbrev pub segment_byte : List ℕ → ℕ → ProgramHeader → ℕ
 segment_byte file at s =
-    if nat_lt at (place_in_ram s.p_vaddr + s.p_filesz) then slice_index file (s.p_offset + (at - place_in_ram s.p_vaddr)) else 0
+    if nat_lt at (place_in_ram s.p_vaddr + s.p_filesz)
+    then slice_index file (s.p_offset + (at - place_in_ram s.p_vaddr))
+    else 0
 
--- the byte at a physical address that segments leave: that of the last one that has a byte there, or 0
+-- the byte at a physical address that segments leave: that of the last one that has a byte there,
+-- or 0
 abbrev pub byte_left : List ℕ → List ProgramHeader → ℕ → ℕ
-byte_left file loaded at = option_map_or (segment_byte file at) (find (covers at) (reverse loaded)) 0
+byte_left file loaded at =
+    option_map_or (segment_byte file at) (find (covers at) (reverse loaded)) 0
 
 -- the entry and the memory that a file leaves in `ram` bytes of RAM
 pub record IsImage (file : List ℕ) (ram entry : ℕ) (bytes : List ℕ) : Type 0 where

@@ -25,4 +25,5 @@ pub record IsSoundSegment (file : List ℕ) (ram : ℕ) (s : ProgramHeader) : Ty
 pub record IsSound (file : List ℕ) (ram : ℕ) : Type 0 where
   pub header_is : 52 ≤ length file
   pub table_is : has_bad_header_table file ≡ false
-  pub segments_are : (i : ℕ) → i < e_phnum file → is_load (header file i) ≡ true → IsSoundSegment file ram (header file i)
+  pub segments_are : (i : ℕ) → i < e_phnum file → is_load (header file i) ≡ true
+      → IsSoundSegment file ram (header file i)

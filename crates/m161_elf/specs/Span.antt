@@ -26,7 +26,9 @@ spans file = spans_among file (e_phnum file)
 
 -- what program header i adds to the spans
 abbrev pub span_at : List ℕ → ℕ → Option Span
-span_at file i = if is_load (header file i) && has_bytes (header file i) then Some (span_of (header file i)) else None
+span_at file i =
+    if is_load (header file i) && has_bytes (header file i) then Some (span_of (header file i))
+    else None
 
 -- what `loads` answers, by the first fault: that fault, or the spans, or that memory was refused
 abbrev pub Lists : List ℕ → Option LoadError → Result (Vec Span Global) LoadError → Type 0

@@ -3,7 +3,8 @@ use Rattle.std.specs.List.{flat_map}
 use Rattle.std.specs.Int.{w16, w32, to_be_bytes}
 use Rattle.m161_asm.specs.Text.{Segment}
 
--- The file of a program: ELF header, program headers, segments. ELF32 specification, "ELF Header" and "Program Header".
+-- The file of a program: ELF header, program headers, segments. ELF32 specification, "ELF Header"
+-- and "Program Header".
 
 -- the bytes of half-words and of words, big-endian
 abbrev pub halves : List ℕ → List ℕ
@@ -16,7 +17,8 @@ words = flat_map (to_be_bytes w32)
 abbrev pub identification : List ℕ
 identification = 0x7f ∷ 0x45 ∷ 0x4c ∷ 0x46 ∷ 1 ∷ 2 ∷ 1 ∷ 0 ∷ 0 ∷ 0 ∷ 0 ∷ 0 ∷ 0 ∷ 0 ∷ 0 ∷ 0 ∷ []
 
--- e_type (executable) and e_machine (MIPS); e_version, e_entry, e_phoff, e_shoff and e_flags; e_ehsize, e_phentsize, e_phnum, and the three fields of a file without sections
+-- e_type (executable) and e_machine (MIPS); e_version, e_entry, e_phoff, e_shoff and e_flags;
+-- e_ehsize, e_phentsize, e_phnum, and the three fields of a file without sections
 abbrev pub file_header : ℕ → ℕ → List ℕ
 file_header entry count =
     identification
@@ -28,7 +30,8 @@ file_header entry count =
 abbrev pub size : Segment → ℕ
 size s = 4 * length s.1
 
--- p_type (PT_LOAD), p_offset, p_vaddr, p_paddr, p_filesz, p_memsz, p_flags (read, write, execute) and p_align
+-- p_type (PT_LOAD), p_offset, p_vaddr, p_paddr, p_filesz, p_memsz, p_flags (read, write, execute)
+-- and p_align
 abbrev pub segment_header : ℕ → Segment → List ℕ
 segment_header offset s = words (1 ∷ offset ∷ s.0 ∷ s.0 ∷ size s ∷ size s ∷ 7 ∷ 4 ∷ [])
 

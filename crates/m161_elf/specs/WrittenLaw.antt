@@ -18,7 +18,8 @@ has_byte at s = nat_le (place_in_ram s.0) at && nat_lt at (place_in_ram s.0 + si
 abbrev pub byte_of : ℕ → Segment → ℕ
 byte_of at s = slice_index (words s.1) (at - place_in_ram s.0)
 
--- the byte at a physical address that segments leave: that of the last one that has a byte there, or 0
+-- the byte at a physical address that segments leave: that of the last one that has a byte there,
+-- or 0
 abbrev pub byte_left_by : List Segment → ℕ → ℕ
 byte_left_by ss at = option_map_or (byte_of at) (find (has_byte at) (reverse ss)) 0
 
@@ -35,7 +36,8 @@ abbrev pub AreLoaded : List ℕ → List Segment → Type 0
 AreLoaded memory [] = Unit {0}
 AreLoaded memory (s ∷ later) =
     ((at : ℕ) → has_byte at s ≡ true
-    → (at < length memory) × (list_any (hides at s) later ≡ false → slice_index memory at ≡ byte_of at s))
+    → (at < length memory)
+    × (list_any (hides at s) later ≡ false → slice_index memory at ≡ byte_of at s))
     × AreLoaded memory later
 
 -- the file of a program, where it has no fault, leaves the program's entry and its words
@@ -45,7 +47,8 @@ WrittenIsLoaded =
     → first_fault (elf_bytes p.entry (segments_seen p.segments.items)) ram ≡ None
     → IsImage (elf_bytes p.entry (segments_seen p.segments.items)) ram entry memory
     → (entry ≡ p.entry)
-    × ((at : ℕ) → at < ram → slice_index memory at ≡ byte_left_by (segments_seen p.segments.items) at)
+    × ((at : ℕ) → at < ram
+    → slice_index memory at ≡ byte_left_by (segments_seen p.segments.items) at)
     × AreLoaded memory (segments_seen p.segments.items)
 
 -- a segment isn't all in RAM by kseg0, or all in RAM by kseg1

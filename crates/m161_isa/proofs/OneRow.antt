@@ -9,13 +9,16 @@ use Rattle.m161_isa.specs.declared.table.Row.TheVariants as rows
 use Rattle.m161_isa.specs.Table.{Field, bits_of, table, all_rows, code_of, HasFields, Fits, FitsNone, has_fields, fits, row_that_fits}
 use Rattle.m161_isa.specs.Laws.{OneRow, FindsTheRow}
 
--- A word fits one row at most: a test over the table's pairs of rows, which computes, and what follows from it.
+-- A word fits one row at most: a test over the table's pairs of rows, which computes, and what
+-- follows from it.
 
 -- fitting, as a test
-pub has_fields-Decides : (word : ℕ) (fs : List Field) → Decides (has_fields word fs) (HasFields word fs)
+pub has_fields-Decides : (word : ℕ) (fs : List Field)
+    → Decides (has_fields word fs) (HasFields word fs)
 has_fields-Decides word [] = (λ _. tt, λ _. refl)
 has_fields-Decides word (f ∷ fs) =
-    Decides-and _ _ (Decides-eqb (bits_of word f.position f.width) f.value) (has_fields-Decides word fs)
+    Decides-and _ _ (Decides-eqb (bits_of word f.position f.width) f.value)
+    (has_fields-Decides word fs)
 
 pub fits-Decides : (word : ℕ) (r : Row) → Decides (fits word r) (Fits word r)
 fits-Decides word r = has_fields-Decides word (table r).fields
@@ -24,7 +27,8 @@ fits-Decides word r = has_fields-Decides word (table r).fields
 abbrev clash : Field → Field → Bool
 clash f g =
     ((f.position == g.position) && (f.width == g.width) && not (f.value == g.value))
-    || ((f.position == 21) && (f.width == 5) && (g.position == 25) && (g.width == 1) && not (f.value / 16 == g.value))
+    || ((f.position == 21) && (f.width == 5) && (g.position == 25) && (g.width == 1)
+    && not (f.value / 16 == g.value))
 
 abbrev clashes : Field → List Field → Bool
 clashes f [] = false
@@ -43,13 +47,16 @@ all_apart-all_rows : all_apart all_rows ≡ true
 all_apart-all_rows = refl
 
 -- where what a search finds stands
-found_at : {X : Type 0} (p : X → Bool) (xs : List X) (x : X) → find p xs ≡ Some x → (i : ℕ) × (slice_get xs i ≡ Some x)
+found_at : {X : Type 0} (p : X → Bool) (xs : List X) (x : X) → find p xs ≡ Some x
+    → (i : ℕ) × (slice_get xs i ≡ Some x)
 found_at p [] x e = cc
 found_at p (y ∷ ys) x e =
-    elim (p y) as (λ b. cond b (Some y) (find p ys) ≡ Some x → (i : ℕ) × (slice_get (y ∷ ys) i ≡ Some x))
+    elim (p y) as
+    (λ b. cond b (Some y) (find p ys) ≡ Some x → (i : ℕ) × (slice_get (y ∷ ys) i ≡ Some x))
     [ true ↦ λ f. (0, f) | false ↦ λ f. let (i, at) = found_at p ys x f in (suc i, at) ] e
 
--- where a row stands in the table: its code is found there. The last equation is checked at each of the 68 other rows
+-- where a row stands in the table: its code is found there. The last equation is checked at each of
+-- the 68 other rows
 code_found : (r : Row) → row_that_fits (code_of r) ≡ Some r
 code_found rows.Sll = refl
 code_found _ = refl
@@ -62,7 +69,8 @@ both true y e = (refl, e)
 both false y e = cc
 
 -- no word has both of two fields that clash
-same_place : (word p w v q x u : ℕ) → ((p == q) && (w == x) && not (v == u)) ≡ true → bits_of word p w ≡ v → bits_of word q x ≡ u → ⊥
+same_place : (word p w v q x u : ℕ) → ((p == q) && (w == x) && not (v == u)) ≡ true
+    → bits_of word p w ≡ v → bits_of word q x ≡ u → ⊥
 same_place word p w v q x u c first second =
     let (here, other) = both _ _ c in
     let (place, width) = both _ _ here in
@@ -72,21 +80,27 @@ same_place word p w v q x u c first second =
     let t : (v == u) ≡ true = (Decides-eqb v u).1 same in
     cc
 
-not_both : (word : ℕ) (f g : Field) → clash f g ≡ true → bits_of word f.position f.width ≡ f.value → bits_of word g.position g.width ≡ g.value → ⊥
+not_both : (word : ℕ) (f g : Field) → clash f g ≡ true → bits_of word f.position f.width ≡ f.value
+    → bits_of word g.position g.width ≡ g.value → ⊥
 not_both word f g c x y = grind (arith, nat_tests)
 
-not_all : (word : ℕ) (f : Field) (gs : List Field) → clashes f gs ≡ true → bits_of word f.position f.width ≡ f.value → HasFields word gs → ⊥
+not_all : (word : ℕ) (f : Field) (gs : List Field) → clashes f gs ≡ true
+    → bits_of word f.position f.width ≡ f.value → HasFields word gs → ⊥
 not_all word f [] c x y = cc
 not_all word f (g ∷ gs) c x (y, ys) =
-    elim (or_cases (clash f g) (clashes f gs) c) [ inl d ↦ not_both word f g d x y | inr d ↦ not_all word f gs d x ys ]
+    elim (or_cases (clash f g) (clashes f gs) c)
+    [ inl d ↦ not_both word f g d x y | inr d ↦ not_all word f gs d x ys ]
 
-not_apart : (word : ℕ) (fs gs : List Field) → are_apart fs gs ≡ true → HasFields word fs → HasFields word gs → ⊥
+not_apart : (word : ℕ) (fs gs : List Field) → are_apart fs gs ≡ true → HasFields word fs
+    → HasFields word gs → ⊥
 not_apart word [] gs c x y = cc
 not_apart word (f ∷ fs) gs c (x, xs) y =
-    elim (or_cases (clashes f gs) (are_apart fs gs) c) [ inl d ↦ not_all word f gs d x y | inr d ↦ not_apart word fs gs d xs y ]
+    elim (or_cases (clashes f gs) (are_apart fs gs) c)
+    [ inl d ↦ not_all word f gs d x y | inr d ↦ not_apart word fs gs d xs y ]
 
 -- a test that each of a list passes, at one of them
-passes : {X : Type 0} (p : X → Bool) (xs : List X) (i : ℕ) (x : X) → list_all p xs ≡ true → slice_get xs i ≡ Some x → p x ≡ true
+passes : {X : Type 0} (p : X → Bool) (xs : List X) (i : ℕ) (x : X) → list_all p xs ≡ true
+    → slice_get xs i ≡ Some x → p x ≡ true
 passes p [] i x all at = cc
 passes p (y ∷ ys) zero x all at =
     let e : y ≡ x = cc in
@@ -99,7 +113,8 @@ by_test true x y z never e = absurd (never refl)
 by_test false x y z never e = e
 
 -- the first row of an apart list that a word fits is the one that it fits
-found_in : (word : ℕ) (r : Row) (rs : List Row) (i : ℕ) → all_apart rs ≡ true → slice_get rs i ≡ Some r → Fits word r → find (fits word) rs ≡ Some r
+found_in : (word : ℕ) (r : Row) (rs : List Row) (i : ℕ) → all_apart rs ≡ true
+    → slice_get rs i ≡ Some r → Fits word r → find (fits word) rs ≡ Some r
 found_in word r [] i apart at h = cc
 found_in word r (s ∷ rs) zero apart at h =
     let e : s ≡ r = cc in
@@ -109,7 +124,8 @@ found_in word r (s ∷ rs) (suc i) apart at h =
     let (here, below) = both _ _ apart in
     let d = passes (λ q. are_apart (table s).fields (table q).fields) rs i r here at in
     let rest = found_in word r rs i below at h in
-    by_test (fits word s) (Some s) (find (fits word) rs) (Some r) (λ t. not_apart word (table s).fields (table r).fields d ((fits-Decides word s).0 t) h) rest
+    by_test (fits word s) (Some s) (find (fits word) rs) (Some r)
+    (λ t. not_apart word (table s).fields (table r).fields d ((fits-Decides word s).0 t) h) rest
 
 -- a word that fits a row finds it
 pub row_that_fits-is : (word : ℕ) (r : Row) → Fits word r → row_that_fits word ≡ Some r
@@ -127,11 +143,15 @@ row_that_fits-fits word r e = (fits-Decides word r).0 (find_passes (fits word) a
 
 pub row_that_fits-None : (word : ℕ) → FitsNone word → row_that_fits word ≡ None
 row_that_fits-None word none =
-    elim (row_that_fits word) as (λ o. row_that_fits word ≡ o → o ≡ None) [ None ↦ λ _. refl | Some r ↦ λ e. absurd (none r (row_that_fits-fits word r e)) ] refl
+    elim (row_that_fits word) as
+    (λ o. row_that_fits word ≡ o → o ≡ None)
+    [ None ↦ λ _. refl | Some r ↦ λ e. absurd (none r (row_that_fits-fits word r e)) ] refl
 
 pub one_row : OneRow
 one_row word r s h k = let a = row_that_fits-is word r h in let b = row_that_fits-is word s k in cc
 
 pub finds_the_row : FindsTheRow
-finds_the_row word =
-    (λ r. (row_that_fits-fits word r, row_that_fits-is word r), λ none r h. let a = row_that_fits-is word r h in cc)
+finds_the_row word = (
+  λ r. (row_that_fits-fits word r, row_that_fits-is word r),
+  λ none r h. let a = row_that_fits-is word r h in cc,
+)

@@ -28,7 +28,8 @@ most [] = 0
 most (o ∷ os) = (2 ^ width_of o - 1) * 2 ^ position_of o + most os
 
 -- a number in its field
-in_field : (o : Operand) (n : ℕ) → n < 2 ^ width_of o → n * 2 ^ position_of o ≤ (2 ^ width_of o - 1) * 2 ^ position_of o
+in_field : (o : Operand) (n : ℕ) → n < 2 ^ width_of o
+    → n * 2 ^ position_of o ≤ (2 ^ width_of o - 1) * 2 ^ position_of o
 in_field operand.Rd n h = omega arith
 in_field _ n h = omega arith
 
@@ -36,17 +37,20 @@ sum-most : (os : List Operand) (ns : List ℕ) → AreOperands os ns → sum_of_
 sum-most [] [] h = omega arith
 sum-most [] (n ∷ ns) h = absurd h
 sum-most (o ∷ os) [] h = absurd h
-sum-most (o ∷ os) (n ∷ ns) (h, hs) = let a = in_field o n h in let b = sum-most os ns hs in omega arith
+sum-most (o ∷ os) (n ∷ ns) (h, hs) =
+    let a = in_field o n h in let b = sum-most os ns hs in omega arith
 
 -- the last equation is checked at each of the 68 other rows
 most_fits : (r : Row) → code_of r + most (table r).operands < 2 ^ 32
 most_fits rows.Sll = lit< tt
 most_fits _ = lit< tt
 
-pub word_fits : (r : Row) (ns : List ℕ) → AreOperands (table r).operands ns → code_of r + sum_of_operands (table r).operands ns < 2 ^ 32
+pub word_fits : (r : Row) (ns : List ℕ) → AreOperands (table r).operands ns
+    → code_of r + sum_of_operands (table r).operands ns < 2 ^ 32
 word_fits r ns h = let a = sum-most (table r).operands ns h in let b = most_fits r in omega arith
 
-pub operands_fit : (r : Row) (ns : List ℕ) → AreOperands (table r).operands ns → sum_of_operands (table r).operands ns < 2 ^ 32
+pub operands_fit : (r : Row) (ns : List ℕ) → AreOperands (table r).operands ns
+    → sum_of_operands (table r).operands ns < 2 ^ 32
 operands_fit r ns h = let a = word_fits r ns h in omega arith
 
 -- each number of an instruction is below its type's bound
@@ -112,8 +116,12 @@ bounded (MoveToCop0 _ _) h = (h.0, (h.1, tt))
 bounded (Absent _) h = tt
 bounded (Reserved _) h = tt
 
-pub are_operands : (i : Instr) (r : Row) (ns : List ℕ) → row_of_instr i ≡ Some r → numbers_of_instr i ≡ ns → IsBounded i → AreOperands (table r).operands ns
-are_operands i r ns e d h = subst (λ o. AreOperandsOf o ns) e (subst (λ x. AreOperandsOf (row_of_instr i) x) d (bounded i h))
+pub are_operands : (i : Instr) (r : Row) (ns : List ℕ) → row_of_instr i ≡ Some r
+    → numbers_of_instr i ≡ ns → IsBounded i → AreOperands (table r).operands ns
+are_operands i r ns e d h =
+    subst (λ o. AreOperandsOf o ns) e
+    (subst (λ x. AreOperandsOf (row_of_instr i) x) d (bounded i h))
 
-pub word_of_row : (i : Instr) (r : Row) (ns : List ℕ) → row_of_instr i ≡ Some r → numbers_of_instr i ≡ ns → word_of i ≡ word_with r ns
+pub word_of_row : (i : Instr) (r : Row) (ns : List ℕ) → row_of_instr i ≡ Some r
+    → numbers_of_instr i ≡ ns → word_of i ≡ word_with r ns
 word_of_row i r ns e d = ap (λ o. word_by o i) e ∙ ap (word_with r) d

@@ -18,7 +18,8 @@ use Rattle.m161_isa.specs.declared.instr.Coprocessor.{Coprocessor}
 use Rattle.m161_isa.specs.declared.instr.Coprocessor.TheVariants as coprocessor
 use Rattle.m161_isa.specs.Table.{bits_of, row_that_fits, absent_in, word_with}
 
--- What the code's instructions have to do with the table: an instruction is a row and the numbers of its operands.
+-- What the code's instructions have to do with the table: an instruction is a row and the numbers
+-- of its operands.
 
 -- the row that an instruction is of; a list of its own, since it ties the code's type to the rows
 abbrev pub row_of_instr : Instr → Option Row
@@ -147,15 +148,18 @@ abbrev pub misfit : ℕ → Option Coprocessor → Instr
 misfit word None = Reserved word
 misfit word (Some unit) = Absent unit
 
--- the instruction of a word, by the row that it fits; a list of its own, since it goes the other way
+-- the instruction of a word, by the row that it fits; a list of its own, since it goes the other
+-- way
 abbrev pub instr_by : ℕ → Option Row → Instr
 instr_by word None = misfit word (absent_in word)
 instr_by word (Some rows.Sll) = Shift shift.Left (rd_of word) (rt_of word) (amount_of word)
 instr_by word (Some rows.Srl) = Shift shift.Right (rd_of word) (rt_of word) (amount_of word)
-instr_by word (Some rows.Sra) = Shift shift.RightArithmetic (rd_of word) (rt_of word) (amount_of word)
+instr_by word (Some rows.Sra) =
+    Shift shift.RightArithmetic (rd_of word) (rt_of word) (amount_of word)
 instr_by word (Some rows.Sllv) = ShiftVariable shift.Left (rd_of word) (rt_of word) (rs_of word)
 instr_by word (Some rows.Srlv) = ShiftVariable shift.Right (rd_of word) (rt_of word) (rs_of word)
-instr_by word (Some rows.Srav) = ShiftVariable shift.RightArithmetic (rd_of word) (rt_of word) (rs_of word)
+instr_by word (Some rows.Srav) =
+    ShiftVariable shift.RightArithmetic (rd_of word) (rt_of word) (rs_of word)
 instr_by word (Some rows.Jr) = JumpRegister (rs_of word)
 instr_by word (Some rows.Jalr) = JumpAndLinkRegister (rd_of word) (rs_of word)
 instr_by word (Some rows.Syscall) = Plain plain.Syscall
@@ -182,20 +186,30 @@ instr_by word (Some rows.Sltu) = Arith arith.Sltu (rd_of word) (rs_of word) (rt_
 instr_by word (Some rows.Bltz) = BranchZero zero.Less (rs_of word) (immediate_of word)
 instr_by word (Some rows.Bgez) = BranchZero zero.GreaterOrEqual (rs_of word) (immediate_of word)
 instr_by word (Some rows.Bltzal) = BranchZero zero.LessAndLink (rs_of word) (immediate_of word)
-instr_by word (Some rows.Bgezal) = BranchZero zero.GreaterOrEqualAndLink (rs_of word) (immediate_of word)
+instr_by word (Some rows.Bgezal) =
+    BranchZero zero.GreaterOrEqualAndLink (rs_of word) (immediate_of word)
 instr_by word (Some rows.J) = Jump jump.Jump (target_of word)
 instr_by word (Some rows.Jal) = Jump jump.JumpAndLink (target_of word)
-instr_by word (Some rows.Beq) = BranchEqual equal.Equal (rs_of word) (rt_of word) (immediate_of word)
-instr_by word (Some rows.Bne) = BranchEqual equal.NotEqual (rs_of word) (rt_of word) (immediate_of word)
+instr_by word (Some rows.Beq) =
+    BranchEqual equal.Equal (rs_of word) (rt_of word) (immediate_of word)
+instr_by word (Some rows.Bne) =
+    BranchEqual equal.NotEqual (rs_of word) (rt_of word) (immediate_of word)
 instr_by word (Some rows.Blez) = BranchZero zero.LessOrEqual (rs_of word) (immediate_of word)
 instr_by word (Some rows.Bgtz) = BranchZero zero.Greater (rs_of word) (immediate_of word)
-instr_by word (Some rows.Addi) = Immediate immediate.Addi (rt_of word) (rs_of word) (immediate_of word)
-instr_by word (Some rows.Addiu) = Immediate immediate.Addiu (rt_of word) (rs_of word) (immediate_of word)
-instr_by word (Some rows.Slti) = Immediate immediate.Slti (rt_of word) (rs_of word) (immediate_of word)
-instr_by word (Some rows.Sltiu) = Immediate immediate.Sltiu (rt_of word) (rs_of word) (immediate_of word)
-instr_by word (Some rows.Andi) = Immediate immediate.Andi (rt_of word) (rs_of word) (immediate_of word)
-instr_by word (Some rows.Ori) = Immediate immediate.Ori (rt_of word) (rs_of word) (immediate_of word)
-instr_by word (Some rows.Xori) = Immediate immediate.Xori (rt_of word) (rs_of word) (immediate_of word)
+instr_by word (Some rows.Addi) =
+    Immediate immediate.Addi (rt_of word) (rs_of word) (immediate_of word)
+instr_by word (Some rows.Addiu) =
+    Immediate immediate.Addiu (rt_of word) (rs_of word) (immediate_of word)
+instr_by word (Some rows.Slti) =
+    Immediate immediate.Slti (rt_of word) (rs_of word) (immediate_of word)
+instr_by word (Some rows.Sltiu) =
+    Immediate immediate.Sltiu (rt_of word) (rs_of word) (immediate_of word)
+instr_by word (Some rows.Andi) =
+    Immediate immediate.Andi (rt_of word) (rs_of word) (immediate_of word)
+instr_by word (Some rows.Ori) =
+    Immediate immediate.Ori (rt_of word) (rs_of word) (immediate_of word)
+instr_by word (Some rows.Xori) =
+    Immediate immediate.Xori (rt_of word) (rs_of word) (immediate_of word)
 instr_by word (Some rows.Lui) = LoadUpper (rt_of word) (immediate_of word)
 instr_by word (Some rows.Lb) = Load load.Byte (rt_of word) (immediate_of word) (rs_of word)
 instr_by word (Some rows.Lh) = Load load.Half (rt_of word) (immediate_of word) (rs_of word)
@@ -224,7 +238,8 @@ instr_by word (Some rows.Wait) = Plain plain.Wait
 abbrev pub instr_of : ℕ → Instr
 instr_of word = instr_by word (row_that_fits word)
 
--- the word of an instruction: its row's fields and its operands, and no other bit. A coprocessor that isn't there has the word of its opcode alone
+-- the word of an instruction: its row's fields and its operands, and no other bit. A coprocessor
+-- that isn't there has the word of its opcode alone
 abbrev pub word_by : Option Row → Instr → ℕ
 word_by (Some r) i = word_with r (numbers_of_instr i)
 word_by None (Absent coprocessor.One) = 17 * 2 ^ 26

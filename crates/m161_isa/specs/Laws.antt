@@ -11,11 +11,13 @@ OneRow = (word : ℕ) (r s : Row) → Fits word r → Fits word s → r ≡ s
 -- the row that is found for a word is the one that it fits, and where none is found it fits none
 abbrev pub FindsTheRow : Type 0
 FindsTheRow =
-    (word : ℕ) → ((r : Row) → (row_that_fits word ≡ Some r) ↔ Fits word r) × (row_that_fits word ≡ None → FitsNone word)
+    (word : ℕ) → ((r : Row) → (row_that_fits word ≡ Some r) ↔ Fits word r)
+    × (row_that_fits word ≡ None → FitsNone word)
 
 -- a canonical or a reserved word is the word of its instruction
 abbrev pub ComesBack : Type 0
-ComesBack = (word : ℕ) → IsCanonical word ⊎ (instr_of word ≡ Reserved word) → word_of (instr_of word) ≡ word
+ComesBack =
+    (word : ℕ) → IsCanonical word ⊎ (instr_of word ≡ Reserved word) → word_of (instr_of word) ≡ word
 
 -- the word of a word's instruction has that instruction again
 abbrev pub DecodesAgain : Type 0

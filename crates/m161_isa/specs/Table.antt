@@ -8,7 +8,8 @@ use Rattle.m161_isa.specs.declared.effect.Effect.TheVariants as effect
 use Rattle.m161_isa.specs.declared.instr.Coprocessor.{Coprocessor}
 use Rattle.m161_isa.specs.declared.instr.Coprocessor.TheVariants as coprocessor
 
--- The instruction table. Kane, MIPS RISC Architecture, "Opcode bit encoding"; `sync`, `ll` and `sc` are MIPS II's, `wait` is System/161's.
+-- The instruction table. Kane, MIPS RISC Architecture, "Opcode bit encoding"; `sync`, `ll` and `sc`
+-- are MIPS II's, `wait` is System/161's.
 
 -- the field of a word from bit `at` on, so many bits wide
 abbrev pub bits_of : ℕ → ℕ → ℕ → ℕ
@@ -20,7 +21,8 @@ pub record Field : Type 0 where
   pub width : ℕ
   pub value : ℕ
 
--- what the table has in a row's line: its name, the fields of its words, its operands as the assembly text has them, and its effect
+-- what the table has in a row's line: its name, the fields of its words, its operands as the
+-- assembly text has them, and its effect
 pub record Columns : Type 0 where
   pub name : List ℕ
   pub fields : List Field
@@ -28,7 +30,12 @@ pub record Columns : Type 0 where
   pub effect : Effect
 
 abbrev columns : List ℕ → List Field → List Operand → Effect → Columns
-columns name fields operands what = record { name = name; fields = fields; operands = operands; effect = what }
+columns name fields operands what = record {
+  name = name;
+  fields = fields;
+  operands = operands;
+  effect = what;
+}
 
 abbrev pub field : ℕ → ℕ → ℕ → Field
 field position width value = record { position = position; width = width; value = value }
@@ -125,16 +132,19 @@ table rows.Tlbp = columns (codes "tlbp") (cop0_function 8) [] effect.ProbeTlb
 table rows.Rfe = columns (codes "rfe") (cop0_function 16) [] effect.RestoreFromException
 table rows.Wait = columns (codes "wait") (cop0_function 32) [] effect.WaitForInterrupt
 
--- the rows, in the table's order; a list of its own, since no definition can go through the names of an enum
+-- the rows, in the table's order; a list of its own, since no definition can go through the names
+-- of an enum
 abbrev pub all_rows : List Row
 all_rows =
-    rows.Sll ∷ rows.Srl ∷ rows.Sra ∷ rows.Sllv ∷ rows.Srlv ∷ rows.Srav ∷ rows.Jr ∷ rows.Jalr ∷ rows.Syscall ∷ rows.Break ∷
-    rows.Sync ∷ rows.Mfhi ∷ rows.Mthi ∷ rows.Mflo ∷ rows.Mtlo ∷ rows.Mult ∷ rows.Multu ∷ rows.Div ∷ rows.Divu ∷ rows.Add ∷
-    rows.Addu ∷ rows.Sub ∷ rows.Subu ∷ rows.And ∷ rows.Or ∷ rows.Xor ∷ rows.Nor ∷ rows.Slt ∷ rows.Sltu ∷ rows.Bltz ∷
-    rows.Bgez ∷ rows.Bltzal ∷ rows.Bgezal ∷ rows.J ∷ rows.Jal ∷ rows.Beq ∷ rows.Bne ∷ rows.Blez ∷ rows.Bgtz ∷ rows.Addi ∷
-    rows.Addiu ∷ rows.Slti ∷ rows.Sltiu ∷ rows.Andi ∷ rows.Ori ∷ rows.Xori ∷ rows.Lui ∷ rows.Lb ∷ rows.Lh ∷ rows.Lwl ∷
-    rows.Lw ∷ rows.Lbu ∷ rows.Lhu ∷ rows.Lwr ∷ rows.Sb ∷ rows.Sh ∷ rows.Swl ∷ rows.Sw ∷ rows.Swr ∷ rows.Ll ∷
-    rows.Sc ∷ rows.Mfc0 ∷ rows.Mtc0 ∷ rows.Tlbr ∷ rows.Tlbwi ∷ rows.Tlbwr ∷ rows.Tlbp ∷ rows.Rfe ∷ rows.Wait ∷ []
+    rows.Sll ∷ rows.Srl ∷ rows.Sra ∷ rows.Sllv ∷ rows.Srlv ∷ rows.Srav ∷ rows.Jr ∷ rows.Jalr ∷
+    rows.Syscall ∷ rows.Break ∷ rows.Sync ∷ rows.Mfhi ∷ rows.Mthi ∷ rows.Mflo ∷ rows.Mtlo ∷
+    rows.Mult ∷ rows.Multu ∷ rows.Div ∷ rows.Divu ∷ rows.Add ∷ rows.Addu ∷ rows.Sub ∷ rows.Subu ∷
+    rows.And ∷ rows.Or ∷ rows.Xor ∷ rows.Nor ∷ rows.Slt ∷ rows.Sltu ∷ rows.Bltz ∷ rows.Bgez ∷
+    rows.Bltzal ∷ rows.Bgezal ∷ rows.J ∷ rows.Jal ∷ rows.Beq ∷ rows.Bne ∷ rows.Blez ∷ rows.Bgtz ∷
+    rows.Addi ∷ rows.Addiu ∷ rows.Slti ∷ rows.Sltiu ∷ rows.Andi ∷ rows.Ori ∷ rows.Xori ∷ rows.Lui ∷
+    rows.Lb ∷ rows.Lh ∷ rows.Lwl ∷ rows.Lw ∷ rows.Lbu ∷ rows.Lhu ∷ rows.Lwr ∷ rows.Sb ∷ rows.Sh ∷
+    rows.Swl ∷ rows.Sw ∷ rows.Swr ∷ rows.Ll ∷ rows.Sc ∷ rows.Mfc0 ∷ rows.Mtc0 ∷ rows.Tlbr ∷
+    rows.Tlbwi ∷ rows.Tlbwr ∷ rows.Tlbp ∷ rows.Rfe ∷ rows.Wait ∷ []
 
 -- the word has all of these fields
 abbrev pub HasFields : ℕ → List Field → Type 0
@@ -195,7 +205,8 @@ numbers_of word (Some r) = map (number_of word) (table r).operands
 
 -- the opcode is one of a coprocessor: its own, or one of its loads and stores
 abbrev pub is_opcode_of : ℕ → ℕ → Bool
-is_opcode_of n word = (bits_of word 26 6 == n) || (bits_of word 26 6 == n + 32) || (bits_of word 26 6 == n + 40)
+is_opcode_of n word =
+    (bits_of word 26 6 == n) || (bits_of word 26 6 == n + 32) || (bits_of word 26 6 == n + 40)
 
 -- the coprocessor, of 1 to 3, that the word is for
 abbrev pub absent_in : ℕ → Option Coprocessor

@@ -8,4 +8,9 @@ use Rattle.m161_asm.proofs.assembly.program_with.Goals as goal
 
 pub returns : goal.returns
 returns c = λ all s f.
-    finished c.args.second all (segments_seen c.in_ok-segments.segments.items) (symbols_seen c.args.symbols) c.unwrap_or-entry.result s f c.in_ok-segments.ensures (c.unwrap_or-entry.ensures ∙ ap (unwrap_or c.args.second.entry) (c.first_address-first.ensures ∙ ap (λ x. first_address (segments_seen x)) c.deref.ensures.value))
+    finished c.args.second all (segments_seen c.in_ok-segments.segments.items)
+    (symbols_seen c.args.symbols) c.unwrap_or-entry.result s f c.in_ok-segments.ensures
+    (c.unwrap_or-entry.ensures
+    ∙ ap (unwrap_or c.args.second.entry)
+    (c.first_address-first.ensures
+    ∙ ap (λ x. first_address (segments_seen x)) c.deref.ensures.value))

@@ -7,7 +7,13 @@ use Rattle.m161_asm.proofs.first.first_pass.Goals as goal
 
 pub returns-in-Err-clause-value : goal.returns-in-Err-clause-value
 returns-in-Err-clause-value c =
-    step_off (λ p. above_of p.lines.items) _ (above_of c.loop-rest.pass.lines.items) c.loop-rest.rest.now c.len_before-len.result (Ok []) _ c.loop-rest-test.true c.len_before-len.ensures.value (c.in-Err.ensures.value (lines (drop (c.len_before-len.result + 1) c.loop-rest.rest.now))) c.loop-rest.invariant.so_far
+    step_off (λ p. above_of p.lines.items) _
+    (above_of c.loop-rest.pass.lines.items) c.loop-rest.rest.now c.len_before-len.result
+    (Ok []) _ c.loop-rest-test.true c.len_before-len.ensures.value
+    (c.in-Err.ensures.value
+    (lines (drop
+    (c.len_before-len.result + 1)
+    c.loop-rest.rest.now))) c.loop-rest.invariant.so_far
 
 pub loop-rest-preserved : goal.loop-rest-preserved
 loop-rest-preserved c =
@@ -15,9 +21,14 @@ loop-rest-preserved c =
     let d = dropped_within c.loop-rest.rest.now (c.len_before-len.result + 1) in
     record {
       pass = c.in_default.ensures.pass;
-      so_far = rw c.behind_line-rest.ensures (step_on (above_of c.loop-rest.pass.lines.items) _ c.loop-rest.rest.now c.len_before-len.result _ c.loop-rest-test.true c.len_before-len.ensures.value (c.in_default.ensures.value (lines below)) c.loop-rest.invariant.so_far);
+      so_far =
+          rw c.behind_line-rest.ensures
+          (step_on (above_of c.loop-rest.pass.lines.items) _ c.loop-rest.rest.now
+          c.len_before-len.result _ c.loop-rest-test.true c.len_before-len.ensures.value
+          (c.in_default.ensures.value (lines below)) c.loop-rest.invariant.so_far);
       within = rw c.behind_line-rest.ensures (omega (arith, d));
     }
 
 pub returns-clause-value : goal.returns-clause-value
-returns-clause-value c = at_end _ c.loop-rest.rest.now _ c.loop-rest-test.false c.loop-rest.invariant.so_far
+returns-clause-value c =
+    at_end _ c.loop-rest.rest.now _ c.loop-rest-test.false c.loop-rest.invariant.so_far

@@ -10,7 +10,8 @@ abbrev pub invariant-loop-rest : goal.invariant-loop-rest
 invariant-loop-rest l =
     record {
       pass : IsPass l.pass;
-      so_far : read_lines (above_of l.pass.lines.items) (lines l.rest) ≡ read_lines [] (lines l.text);
+      so_far : read_lines (above_of l.pass.lines.items) (lines l.rest)
+          ≡ read_lines [] (lines l.text);
       within : length l.rest ≤ length l.text;
     }
 

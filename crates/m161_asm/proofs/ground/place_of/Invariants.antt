@@ -8,7 +8,8 @@ invariant-loop-low l =
     record {
       within : (l.low ≤ l.high) × (l.high ≤ length l.runs);
       below : (i : ℕ) (d : Run) → i < l.low → (slice_index_or l.runs i d).end ≤ l.start;
-      above : (i : ℕ) (d : Run) → l.high ≤ i → i < length l.runs → l.start < (slice_index_or l.runs i d).end;
+      above : (i : ℕ) (d : Run) → l.high ≤ i → i < length l.runs
+          → l.start < (slice_index_or l.runs i d).end;
     }
 
 abbrev pub decreases-loop-low : goal.decreases-loop-low

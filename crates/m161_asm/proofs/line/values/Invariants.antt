@@ -6,4 +6,5 @@ use Rattle.m161_asm.proofs.line.values.Given as goal
 
 abbrev pub invariant-loop-i : goal.invariant-loop-i
 invariant-loop-i l =
-    with_front (map value_seen l.found.items) (values (length l.ts - l._i) l.past (all_seen l.rest)) ≡ values (length l.ts) l.past (all_seen l.ts)
+    with_front (map value_seen l.found.items) (values (length l.ts - l._i) l.past (all_seen l.rest))
+    ≡ values (length l.ts) l.past (all_seen l.ts)

@@ -5,4 +5,6 @@ use Rattle.m161_asm.proofs.scan.name_text.Goals as goal
 
 pub unreachable-requires : goal.unreachable-requires
 unreachable-requires c =
-    c.in-Err.ensures.cases.0 (subst IsUtf8 (sym (front c.args.rest.now _ c.requires.some c.word_len-width.ensures.value)) (name_ascii c.args.rest.now c.requires.begins))
+    c.in-Err.ensures.cases.0
+    (subst IsUtf8 (sym (front c.args.rest.now _ c.requires.some c.word_len-width.ensures.value))
+    (name_ascii c.args.rest.now c.requires.begins))

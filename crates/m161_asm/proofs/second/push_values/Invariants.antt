@@ -6,4 +6,7 @@ use Rattle.m161_asm.proofs.second.push_values.Given as goal
 
 abbrev pub invariant-loop-v : goal.invariant-loop-v
 invariant-loop-v l =
-    with_front l.words.items (each (word_of (symbols_seen l.symbols)) (map value_seen (drop l.v-index l.values))) ≡ with_front l.fn.words.items (each (word_of (symbols_seen l.symbols)) (map value_seen l.values))
+    with_front l.words.items
+    (each (word_of (symbols_seen l.symbols)) (map value_seen (drop l.v-index l.values)))
+    ≡ with_front l.fn.words.items
+    (each (word_of (symbols_seen l.symbols)) (map value_seen l.values))

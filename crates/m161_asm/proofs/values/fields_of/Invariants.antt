@@ -6,4 +6,6 @@ use Rattle.m161_asm.proofs.values.fields_of.Given as goal
 
 abbrev pub invariant-loop-part : goal.invariant-loop-part
 invariant-loop-part l =
-    with_front l.fields.items (each (field_of (symbols_seen l.symbols) l.at) (map part_seen (drop l.part-index l.parts))) ≡ each (field_of (symbols_seen l.symbols) l.at) (map part_seen l.parts)
+    with_front l.fields.items
+    (each (field_of (symbols_seen l.symbols) l.at) (map part_seen (drop l.part-index l.parts)))
+    ≡ each (field_of (symbols_seen l.symbols) l.at) (map part_seen l.parts)

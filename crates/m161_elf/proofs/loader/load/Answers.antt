@@ -14,7 +14,8 @@ returns-clause-answer c =
     let none = no_fault c.fault.result _ c.in_default.not-Some c.fault.ensures.first in
     let long = c.put_segments.auto.memory ∙ c.deref_mut.ensures.len in
     let size : length c.put_segments.new.memory ≡ c.args.ram = long ∙ search rules in
-    let before : length c.deref_mut.result.now ≡ c.args.ram = sym c.put_segments.auto.memory ∙ size in
+    let before : length c.deref_mut.result.now ≡ c.args.ram = sym c.put_segments.auto.memory
+    ∙ size in
     loads c.args.file.now c.args.ram _ _ none
     (rw (take_at _ _ _ long) record {
       entry_is = c.file_word.ensures;

@@ -9,7 +9,12 @@ loop-i-preserved c =
     let i = c.loop-i.i in
     elim c.match-span.branch [
       | in-Some-span+in_ok-map_err w ↦
-          rw (w.spans-is, spans_with file i w.in-Some-span.span w.in-Some-span.ensures, ← c.loop-i.invariant) (search rules)
+          rw (
+            w.spans-is,
+            spans_with file i w.in-Some-span.span w.in-Some-span.ensures,
+            ←
+                c.loop-i.invariant,
+          ) (search rules)
       | in_default-span w ↦
           rw (w.spans-is, spans_without file i w.in_default-span.ensures) c.loop-i.invariant
     ]

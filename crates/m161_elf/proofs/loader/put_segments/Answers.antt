@@ -13,14 +13,17 @@ loop-i-preserved c =
       | in-Some w ↦ λ at here.
           let before : at < length c.loop-i.memory = omega arith in
           rw w.memory-is
-          (byte_put file i w.in-Some.segment _ _ at w.in-Some.ensures (c.loop-i.invariant at before) (w.put_segment.ensures at before))
+          (byte_put file i w.in-Some.segment _ _ at w.in-Some.ensures (c.loop-i.invariant at before)
+          (w.put_segment.ensures at before))
       | in_default w ↦ λ at here.
           let before : at < length c.loop-i.memory = omega arith in
-          rw (w.memory-is, segments_without file i w.in_default.ensures) (c.loop-i.invariant at before)
+          rw (w.memory-is, segments_without file i w.in_default.ensures)
+          (c.loop-i.invariant at before)
     ]
 
 pub put_segment-requires : goal.put_segment-requires
 put_segment-requires c =
     let here : c.loop-i.i < e_phnum c.args.file.now = omega arith in
     rw c.loop-i.auto.memory
-    (sound_at c.args.file.now _ c.loop-i.i c.in-Some.segment c.requires.sound here c.in-Some.ensures)
+    (sound_at c.args.file.now _ c.loop-i.i c.in-Some.segment c.requires.sound here
+    c.in-Some.ensures)

@@ -5,4 +5,5 @@ use Rattle.m161_elf.proofs.loader.put_segments.Given as goal
 
 abbrev pub invariant-loop-i : goal.invariant-loop-i
 invariant-loop-i l =
-    (at : ℕ) → at < length l.memory → slice_index l.memory at ≡ byte_left l.file (segments_among l.file l.i) at
+    (at : ℕ) → at < length l.memory
+    → slice_index l.memory at ≡ byte_left l.file (segments_among l.file l.i) at

@@ -11,7 +11,14 @@ loop-i-preserved c =
     elim c.match-segment.branch [
       | in-Some w ↦
           let more = faults_with file ram i w.in-Some.segment w.in-Some.ensures in
-          rw (w.faults-is, more, c.loop-i.invariant, w.is_outside_file.ensures, w.is_outside_ram.ensures, w.is_larger_in_file.ensures) refl
+          rw (
+            w.faults-is,
+            more,
+            c.loop-i.invariant,
+            w.is_outside_file.ensures,
+            w.is_outside_ram.ensures,
+            w.is_larger_in_file.ensures,
+          ) refl
       | in_default w ↦
           rw (w.faults-is, faults_without file ram i w.in_default.ensures) c.loop-i.invariant
     ]

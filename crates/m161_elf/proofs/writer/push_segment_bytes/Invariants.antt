@@ -5,4 +5,5 @@ use Rattle.m161_elf.proofs.writer.push_segment_bytes.Given as goal
 
 abbrev pub invariant-loop-segment : goal.invariant-loop-segment
 invariant-loop-segment l =
-    l.file.items ≡ l.fn.file.items ++ segment_bytes (segments_seen (take l.segment-index l.segments))
+    l.file.items
+    ≡ l.fn.file.items ++ segment_bytes (segments_seen (take l.segment-index l.segments))

@@ -8,5 +8,6 @@ abbrev pub invariant-loop-segment : goal.invariant-loop-segment
 invariant-loop-segment l =
     let left = segments_seen (drop l.segment-index l.segments) in
     let all = segments_seen l.segments in
-    (l.file.items ++ segment_headers l.offset left ≡ l.fn.file.items ++ segment_headers (52 + 32 * length l.segments) all)
+    (l.file.items ++ segment_headers l.offset left
+    ≡ l.fn.file.items ++ segment_headers (52 + 32 * length l.segments) all)
     × (l.offset + 4 * words_of left ≡ 52 + 32 * length l.segments + 4 * words_of all)

@@ -12,6 +12,10 @@ returns-clause-pass c =
     let t = took old.lines.items c.push.new.self.items c.args.line c.in_ok-push.ensures.items in
     let a = rw (c.origin_of-origin.ensures, c.size_of-size.ensures) at c.in_ok-advance.ensures in
     record {
-      position = rw t (behind_line old.position c.advance.new.self (above_of old.lines.items) (line_seen c.args.line) c.requires.pass.position a);
-      symbols = rw t (c.in_ok-define.ensures ∙ rw (c.requires.pass.symbols, c.requires.pass.position.address) refl);
+      position =
+          rw t (behind_line old.position c.advance.new.self (above_of old.lines.items)
+          (line_seen c.args.line) c.requires.pass.position a);
+      symbols =
+          rw t (c.in_ok-define.ensures
+          ∙ rw (c.requires.pass.symbols, c.requires.pass.position.address) refl);
     }

@@ -4,4 +4,6 @@ use Rattle.m161_asm.proofs.place.Position.grow.Goals as goal
 
 pub returns : goal.returns
 returns c =
-    grew c.args.self.now _ c.args.size c.requires.position c.requires.room refl refl (ap (λ x. c.args.self.now.segments + x) c.opened-opened.ensures.value) c.has_words_with-self.ensures refl
+    grew c.args.self.now _ c.args.size c.requires.position c.requires.room refl refl
+    (ap (λ x. c.args.self.now.segments + x) c.opened-opened.ensures.value)
+    c.has_words_with-self.ensures refl

@@ -4,7 +4,13 @@ use Rattle.m161_asm.proofs.place.Position.move_to.Goals as goal
 pub returns : goal.returns
 returns c =
     record {
-      position = record { address = omega arith; words = c.requires.words; segments = c.requires.segments; ordered = c.in_ok-reopen.ensures.ordered };
+      position =
+          record {
+            address = omega arith;
+            words = c.requires.words;
+            segments = c.requires.segments;
+            ordered = c.in_ok-reopen.ensures.ordered;
+          };
       address = c.from-start.ensures;
       words = refl;
       segments = refl;

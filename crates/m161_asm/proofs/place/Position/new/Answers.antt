@@ -6,7 +6,15 @@ pub returns : goal.returns
 unfolding address_below is_filled
 returns c =
     record {
-      position = record { address = omega (arith, c.from-address.ensures); words = omega arith; segments = omega arith; ordered = c.new-ground.ensures.ordered };
+      position =
+          record {
+            address = omega
+                (arith, c.from-address.ensures);
+            words = omega arith;
+            segments = omega arith;
+            ordered
+                = c.new-ground.ensures.ordered;
+          };
       address = c.from-address.ensures;
       words = refl;
       segments = refl;

@@ -12,6 +12,8 @@ loop-c-preserved c =
     let before : c.loop-c.c < length c.self.inside.words = search rules in (
       length-set words c.loop-c.c c.unless_to.result ∙ c.loop-c.invariant.0,
       ap (set words c.loop-c.c) c.unless_to.ensures
-          ∙ map_over_more (unless_to c.args.word) c.self.inside.words words c.loop-c.c link before c.loop-c.invariant.1
+          ∙ map_over_more
+          (unless_to c.args.word) c.self.inside.words words c.loop-c.c link before
+          c.loop-c.invariant.1
           (get_or_default words c.loop-c.c None link inside),
     )
