@@ -5,7 +5,8 @@
 //!                         registers
 //! s161 run IMAGE          boots an ELF file, makes the events of the schedule on standard input,
 //!                         and prints the console's output, the started processors and why it
-//!                         stopped
+//!                         stopped; with --threads Q each of two processors has a thread that makes
+//!                         Q Steps, and no schedule is read
 //! s161 replay IMAGE LOG   boots an ELF file, makes the events of a log, and prints whether their
 //!                         outcomes are the log's
 //! s161 debug IMAGE SCHEDULE
@@ -15,7 +16,7 @@
 //! exit                    0 a finished demo or debug, a machine that switched itself off, or a log
 //!                         that agrees; 1 a fault, named in one line on standard error, or a
 //!                         refused event of run; 2 a rejected command line, and a call for help;
-//!                         3 the schedule ended; 4 a log that differs
+//!                         3 the schedule or the Steps of the threads ended; 4 a log that differs
 //! ```
 //!
 //! `main` only collects the arguments and names the streams; the work is in `work`, over any

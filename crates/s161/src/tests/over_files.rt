@@ -7,7 +7,6 @@ use super::same;
 use super::streams::{Failing, Memory, TwoFiles, all};
 use crate::work::work;
 use std::io::ErrorKind;
-use std::process::Abort;
 use std::test::Fail;
 
 /// A loop: `addiu $8, $8, 1`, `beq $0, $0, 0x80000200`, `nop`.
@@ -39,7 +38,7 @@ struct Case {
 }
 
 /// Runs the cases, and fails the test at the first that leaves something else.
-fn check(rt: &(impl Abort + AllocGlobal), cases: &[Case]) -> Result<(), Fail> {
+fn check(rt: &HostRuntime, cases: &[Case]) -> Result<(), Fail> {
     for case in cases {
         let image = file_at(rt.alloc(), ENTRY, case.program)?;
         let mut files = TwoFiles {

@@ -43,7 +43,7 @@ Exit status:
      a log that agrees
   1  a fault, named on standard error, or a refused event of run
   2  a rejected command line, or a call for help
-  3  the schedule ended
+  3  the schedule or the Steps of the threads ended
   4  a log that differs
 ";
 

@@ -8,7 +8,6 @@ use super::streams::{Endless, Failing, Left, Memory, OneFile, Slow, all};
 use crate::files::FileSource;
 use crate::work::work;
 use std::io::{ErrorKind, Read};
-use std::process::Abort;
 use std::test::Fail;
 
 /// Processor 0 at an image's first instruction.
@@ -55,6 +54,9 @@ const HALF_WAY: [&str; 4] = [
     "r8 bfff0000 r9 00000000 r10 00000000 r11 00000000\n",
     REST,
 ];
+
+/// A loop that leaves the registers alone: `beq $0, $0, 0x80000200`, `nop`.
+const STAND_STILL: [u32; 2] = [0x1000_ffff, 0x0000_0000];
 
 /// A byte for the console: `lui $8, 0xbfe0`, `ori $9, $0, BYTE`, `sw $9, 0($8)`.
 const SEND_H: [u32; 3] = [0x3c08_bfe0, 0x3409_0048, 0xad09_0000];
@@ -123,7 +125,7 @@ pub(crate) fn joined(rt: &impl AllocGlobal, parts: &[&[&str]]) -> Result<String,
 
 /// Runs a program over these streams, against the texts that it should write.
 pub(crate) fn left<F: FileSource, I: Read>(
-    rt: &impl AllocGlobal,
+    rt: &HostRuntime,
     words: &[&str],
     files: &mut F,
     input: &mut I,
@@ -136,7 +138,7 @@ pub(crate) fn left<F: FileSource, I: Read>(
 }
 
 /// Runs the cases, and fails the test at the first that leaves something else.
-fn check(rt: &(impl Abort + AllocGlobal), cases: &[Case]) -> Result<(), Fail> {
+fn check(rt: &HostRuntime, cases: &[Case]) -> Result<(), Fail> {
     for case in cases {
         let file = file_at(rt.alloc(), ENTRY, case.program)?;
         let mut files = OneFile {
@@ -374,13 +376,71 @@ fn faults(rt: HostRuntime) -> Result<(), Fail> {
 const WORDS: [&str; 3] = ["s161", "run", "image"];
 
 /// Runs `power-off`'s image over a reader, against the texts that it should write.
-fn over<I: Read>(rt: &impl AllocGlobal, input: &mut I, texts: [&str; 2]) -> Result<Left, Fail> {
+fn over<I: Read>(rt: &HostRuntime, input: &mut I, texts: [&str; 2]) -> Result<Left, Fail> {
     let file = file_at(rt.alloc(), ENTRY, &POWER_OFF)?;
     let mut files = OneFile {
         name: "image",
         bytes: &file,
     };
     Ok(left(rt, &WORDS, &mut files, input, texts))
+}
+
+static THREADED: [Case; 6] = [
+    // threads-command
+    Case {
+        words: &["s161", "run", "image", "--cpus", "2", "--threads", "5"],
+        program: &POWER_OFF,
+        schedule: "",
+        status: 0,
+        output: &[&POWERED_OFF, &["stop: off\n"]],
+        errors: "",
+    },
+    Case {
+        words: &["s161", "run", "image", "--cpus", "2", "--threads", "100"],
+        program: &STAND_STILL,
+        schedule: "",
+        status: 3,
+        output: &[&[AT_ENTRY, "stop: end\n"]],
+        errors: "",
+    },
+    // a schedule isn't read
+    Case {
+        words: &["s161", "run", "--threads=2", "image", "--cpus=2"],
+        program: &STAND_STILL,
+        schedule: "no schedule",
+        status: 3,
+        output: &[&[AT_ENTRY, "stop: end\n"]],
+        errors: "",
+    },
+    Case {
+        words: &["s161", "run", "image", "--threads", "0"],
+        program: &POWER_OFF,
+        schedule: "s 0 2",
+        status: 0,
+        output: &[&POWERED_OFF, &["stop: off\n"]],
+        errors: "",
+    },
+    Case {
+        words: &["s161", "run", "image", "--threads", "5"],
+        program: &POWER_OFF,
+        schedule: "",
+        status: 1,
+        output: &[],
+        errors: "s161: threads NotYet\n",
+    },
+    Case {
+        words: &["s161", "run", "image", "--cpus=2", "--threads=5", "--log=9"],
+        program: &STAND_STILL,
+        schedule: "",
+        status: 1,
+        output: &[],
+        errors: "s161: threads LogFull\n",
+    },
+];
+
+#[test]
+fn threads_command(rt: HostRuntime) -> Result<(), Fail> {
+    check(&rt, &THREADED)
 }
 
 #[test]
@@ -482,7 +542,7 @@ fn rejected_runs(rt: HostRuntime) -> Result<(), Fail> {
         &["s161", "run", "image", "--ram", "4294967296"],
         &["s161", "run", "image", "--log", "1", "--log", "1"],
         &["s161", "run", "image", "--show-log", "--show-log"],
-        &["s161", "run", "image", "--threads", "1"],
+        &["s161", "run", "image", "--threads", "1000001"],
     ];
     for words in cases {
         let mut files = OneFile {
