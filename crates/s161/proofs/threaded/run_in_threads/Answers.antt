@@ -17,9 +17,9 @@ returns-clause-ok g c =
     let booted = c.in_ok-machine.machine in
     let is_booted = booted_ok c.deref.result.now conf (boot_fault c.deref.result.now conf) booted c.in_ok-machine.ensures.answer in
     let number : c.processors.result ≡ conf.processors =
-      c.processors.ensures ∙ c.replay.ensures.processors ∙ ap (λ (x : Conf). x.processors) is_booted.conf_is in
+    c.processors.ensures ∙ c.replay.ensures.processors ∙ ap (λ (x : Conf). x.processors) is_booted.conf_is in
     let quotas : c.as_slice.result.now ≡ replicate conf.processors c.args.quota =
-      c.as_slice.ensures.value ∙ c.in_ok-quotas.ensures ∙ ap (λ n. replicate n c.args.quota) number in
+    c.as_slice.ensures.value ∙ c.in_ok-quotas.ensures ∙ ap (λ n. replicate n c.args.quota) number in
     let report = c.in-Ok.report in
     record {
       file = c.deref.result.now;
@@ -41,10 +41,10 @@ returns-in-Err-clause-fault g c =
     let cause = c.in-Err.fault.cause in
     let is_booted = booted_ok c.deref.result.now conf (boot_fault c.deref.result.now conf) booted c.in_ok-machine.ensures.answer in
     let there : length booted.state.processors ≡ conf.processors =
-      c.replay.ensures.processors ∙ ap (λ (x : Conf). x.processors) is_booted.conf_is in
+    c.replay.ensures.processors ∙ ap (λ (x : Conf). x.processors) is_booted.conf_is in
     let quotas : length c.as_slice.result.now ≡ conf.processors =
-      ap length (c.as_slice.ensures.value ∙ c.in_ok-quotas.ensures) ∙ length-replicate c.processors.result c.args.quota
-      ∙ c.processors.ensures ∙ there in
+    ap length (c.as_slice.ensures.value ∙ c.in_ok-quotas.ensures) ∙ length-replicate c.processors.result c.args.quota
+    ∙ c.processors.ensures ∙ there in
     subst (λ (n : ℕ). IsCause (bad_call n conf.processors) cause) quotas
     (subst (λ (n : ℕ). IsCause (bad_call (length c.as_slice.result.now) n) cause) there
     (failed_cause (bad_call (length c.as_slice.result.now) (length booted.state.processors)) booted cause c.in-Err.fault.machine c.in-Err.ensures.err))
