@@ -73,7 +73,7 @@ enum Turn {
     Made,
     /// The machine is off, which the seat has noted.
     Off,
-    /// The log is full.
+    /// It was refused otherwise: a seat's processor is one of the machine's, so the log is full.
     Full,
 }
 
