@@ -108,4 +108,5 @@ interleaves before after quotas seats made off replays number worked checked =
           (checked.noted p d (omega (arith, inside, worked.seats_number))) (sym checked.off_is ∙ on)));
       off_is = checked.off_is;
       counted = counted;
+      logged = checked.number;
     }

@@ -32,9 +32,10 @@ pub record IsInterleaving (made : List ℕ) (events : List Event) : Type 0 where
   pub steps : list_all (is_step_below (length made)) events ≡ true
   pub each : (p : ℕ) → p < length made → steps_of p events ≡ slice_index_or made p 0
 
--- a run from a machine, with a quota of Steps for each processor: some interleaving of so many Steps was made of
--- it. Each processor made its quota, or the machine is off and none made more
-pub record Interleaves (before : History) (quotas made : List ℕ) (off : Bool) (after : History) : Type 0 where
+-- a run from a machine, with a quota of Steps for each processor: some interleaving of so many Steps
+-- was made of it. Each processor made its quota, or the machine is off and none made more
+pub record Interleaves
+    (before : History) (quotas made : List ℕ) (off : Bool) (after : History) : Type 0 where
   pub events : List Event
   pub interleaving : IsInterleaving made events
   pub continues : Continues before events after
@@ -44,7 +45,10 @@ pub record Interleaves (before : History) (quotas made : List ℕ) (off : Bool) 
   pub off_is : off ≡ after.state.board.off
   -- and so each Step counts once
   pub counted : (p : ℕ) → p < length quotas →
-      slice_index_or (counts after.state) p 0 ≡ slice_index_or (counts before.state) p 0 + slice_index_or made p 0
+      slice_index_or (counts after.state) p 0
+      ≡ slice_index_or (counts before.state) p 0 + slice_index_or made p 0
+  -- and is one entry of the log
+  pub logged : length after.log ≡ length before.log + sum made
 
 -- why a run isn't begun, for so many quotas and processors
 abbrev pub bad_call : ℕ → ℕ → Option Cause
@@ -60,8 +64,11 @@ abbrev pub Fails : Option Cause → History → Cause → History → Type 0
 Fails (Some first) before cause after = (cause ≡ first) × (after ≡ before)
 Fails None before cause after = IsOfRun cause × IsReplay after
 
--- what is compared after a run with what was copied before it; a word that private functions' contracts share
-pub record IsChecked (start : Start) (log : List Entry) (seats : List Place) (made : List ℕ) (off : Bool) (after : History) : Type 0 where
+-- what is compared after a run with what was copied before it; a word that the contracts of private
+-- functions share
+pub record IsChecked
+    (start : Start) (log : List Entry) (seats : List Place) (made : List ℕ) (off : Bool)
+    (after : History) : Type 0 where
   pub replay : IsReplay after
   pub start_is : after.start ≡ start
   pub number : length after.log ≡ length log + sum made

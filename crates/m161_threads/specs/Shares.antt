@@ -9,13 +9,14 @@ pub record Told : Type 0 where
   pub machine : History
   pub offs : ℕ
 
--- what holds whenever the lock is free: the seats' Steps are those that the machine has counted, and
--- none has noted that the machine is off unless it is
+-- what holds whenever the lock is free: the seats' Steps are those that the machine has counted,
+-- and none has noted that the machine is off unless it is
 abbrev pub IsKept : History → ℕ → ℕ → Type 0
 IsKept machine steps offs =
     (steps ≡ sum (counts machine.state)) × (0 < offs → machine.state.board.off ≡ true)
 
--- what contracts see of a seat: its processor, how many Steps that one has made, and whether the seat has noted that the machine is off
+-- what contracts see of a seat: its processor, how many Steps that one has made, and whether the
+-- seat has noted that the machine is off
 pub record Place : Type 0 where
   pub processor : ℕ
   pub count : ℕ
@@ -32,7 +33,8 @@ places_from p (count ∷ counts) = place p count ∷ places_from (p + 1) counts
 -- a seat has the count of its processor
 abbrev pub Matches : State → Place → Type 0
 Matches s seat =
-    (seat.processor < length s.processors) × (slice_index_or (counts s) seat.processor 0 ≡ seat.count)
+    (seat.processor < length s.processors)
+    × (slice_index_or (counts s) seat.processor 0 ≡ seat.count)
 
 -- no seat has noted that the machine is off unless it is
 abbrev pub NotedOnlyOff : State → List Place → Type 0

@@ -7,9 +7,10 @@ use Rattle.m161_threads.specs.Shares.{Place}
 
 -- What a worker makes of its seat.
 
--- a worker at a processor's seat, which has so many Steps, with a quota: the seat that it gives back, how many Steps it made, and why
--- it stopped short, if it did
-pub record Works (processor before quota : ℕ) (new : Place) (made : ℕ) (cause : Option Stop) : Type 0 where
+-- a worker at a processor's seat, which has so many Steps, with a quota: the seat that it gives back,
+-- how many Steps it made, and why it stopped short, if it did
+pub record Works
+    (processor before quota : ℕ) (new : Place) (made : ℕ) (cause : Option Stop) : Type 0 where
   pub processor_is : new.processor ≡ processor
   pub counted : new.count ≡ before + made
   pub within : made ≤ quota
@@ -29,8 +30,10 @@ after_turn Made seat = record seat { count = seat.count + 1 }
 after_turn Off seat = record seat { noted = true }
 after_turn Full seat = seat
 
--- workers at these seats, with these quotas, none with a cause: the seats that they gave back, and how many Steps each made
-pub record HasWorked (seats : List Place) (quotas : List ℕ) (after : List Place) (made : List ℕ) : Type 0 where
+-- workers at these seats, with these quotas, none with a cause: the seats that they gave back, and
+-- how many Steps each made
+pub record HasWorked
+    (seats : List Place) (quotas : List ℕ) (after : List Place) (made : List ℕ) : Type 0 where
   pub seats_number : length after ≡ length quotas
   pub made_number : length made ≡ length quotas
   pub each : (k : ℕ) (d e : Place) → k < length quotas →

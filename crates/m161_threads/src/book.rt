@@ -67,7 +67,7 @@ impl<L: Ledger, M: Ledger> Seat<L, M> {
         self.processor
     }
 
-    /// How many Steps its processor has made, those before the lock counted.
+    /// How many Steps its processor has made, those before the lock included.
     pub fn count(&self) -> u64
         ensures { result ≡ self.now.count }
     {

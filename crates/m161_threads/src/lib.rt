@@ -1,14 +1,15 @@
 //! One machine behind one lock, and a thread for each processor.
 //!
 //! ```text
-//! book     what is under the lock: the machine, and two ledgers. A holding of the lock makes one
-//!          event: a Step of a seat's processor, a typed byte, or the end of a console transfer
+//! book     what is under the lock: the machine, and two ledgers. Each of its calls makes one event
+//!          at most: a Step of a seat's processor, a typed byte, or the end of a console transfer
 //! seat     a thread's right to the Steps of one processor; it counts them
 //! run      a thread for each processor makes its quota of Steps, each under a holding of its own
 //!
 //! promised      the Steps that were made are one interleaving, and the machine is what its log
 //!               replays; each processor has made its quota, or the machine is off
-//! not promised  the order between threads; that a thread gets on, or is ever served
+//! not promised  the order between threads; that a thread gets on, or is ever served; which cause
+//!               a run tells, once it is begun
 //! ```
 //!
 //! The ledgers count across threads that never see each other. One counts the Steps: the seats'

@@ -56,8 +56,9 @@ pub struct RunFault<T: Tlb, D: Console> {
 /// Which Step comes first is the host's choice, and no two runs need agree; the machine's log says
 /// which interleaving came out. It may wait, and nothing bounds for how long.
 ///
-/// Errors: the quotas, then the number of processors; or the cause of the lowest processor that has
-/// one; or that what the workers say doesn't fit the machine. The machine is given back.
+/// Errors: the number of quotas, then the number of processors, which has to be two; or the cause
+/// of the lowest processor that has one; or that what the workers say doesn't fit the machine. The
+/// machine is given back, with the Steps that were made.
 pub fn run<T, D, R, G>(
     rt: &R,
     alloc: Global,

@@ -26,7 +26,8 @@ pub(crate) struct Worked<L: Ledger, M: Ledger> {
     pub(crate) stop: Option<Stop>,
 }
 
-/// What a worker was given.
+/// What a worker was given: its seat's processor, how many Steps the seat had, and how many more
+/// are to be made.
 #[derive(Clone, Copy)]
 pub(crate) struct Task {
     pub(crate) processor: u32,
@@ -72,7 +73,7 @@ enum Turn {
     Made,
     /// The machine is off, which the seat has noted.
     Off,
-    /// The log is full.
+    /// It was refused otherwise: a seat's processor is one of the machine's, so the log is full.
     Full,
 }
 
@@ -111,16 +112,18 @@ fn work<L: Ledger, M: Ledger, T: Tlb, D: Console, R: Wait, G: Gate>(
     let mut seat = seat;
     let p = seat.processor();
     for made in 0..quota {
-        let mut stop = None;
         if !gate.pass(p, made) {
-            stop = Some(Stop::Held { p, k: made });
+            let stop = Some(Stop::Held { p, k: made });
             return Worked { seat, made, stop };
         }
         match take_turn(rt, book, &mut seat) {
             Turn::Made => {}
-            Turn::Off => return Worked { seat, made, stop },
+            Turn::Off => {
+                let stop = None;
+                return Worked { seat, made, stop };
+            }
             Turn::Full => {
-                stop = Some(Stop::LogFull);
+                let stop = Some(Stop::LogFull);
                 return Worked { seat, made, stop };
             }
         }
