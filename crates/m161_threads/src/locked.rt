@@ -25,10 +25,10 @@ pub struct Locked<L: Ledger, M: Ledger, T: Tlb, D: Console> {
 /// A processor's count isn't its seat's.
 #[derive(Drop)]
 pub struct Miscount<T: Tlb, D: Console> {
-    /// The least such processor.
-    pub processor: u32,
     /// The machine.
     pub machine: Machine<T, D>,
+    /// The least such processor.
+    pub processor: u32,
 }
 
 impl<L: Ledger, M: Ledger, T: Tlb, D: Console> Locked<L, M, T, D> {
@@ -36,6 +36,7 @@ impl<L: Ledger, M: Ledger, T: Tlb, D: Console> Locked<L, M, T, D> {
     /// many parts as the machine has processors. A refusal spends both blanks.
     ///
     /// Errors: memory was refused; the machine is given back.
+    #[inline(never)]
     pub fn new(
         alloc: Global,
         steps: Blank,
@@ -67,7 +68,7 @@ impl<L: Ledger, M: Ledger, T: Tlb, D: Console> Locked<L, M, T, D> {
                 off: offs.split_off(1, 0),
             });
         }
-        let book = Mutex::new(Book {
+        let book = behind_lock(Book {
             machine,
             steps: step_book,
             offs: off_book,
@@ -81,6 +82,7 @@ impl<L: Ledger, M: Ledger, T: Tlb, D: Console> Locked<L, M, T, D> {
     }
 
     /// The machine as it is, with no seat looked at.
+    #[inline(never)]
     pub fn into_machine(self) -> Machine<T, D>
         ensures { IsReplay result }
     {
@@ -98,6 +100,7 @@ impl<L: Ledger, M: Ledger, T: Tlb, D: Console> Locked<L, M, T, D> {
     /// in, their counts add up to the machine's whether each matches or not.
     ///
     /// Errors: one hasn't; the machine is given back.
+    #[inline(never)]
     pub fn finish(self, seats: Vec<Seat<L, M>>) -> Result<Machine<T, D>, Miscount<T, D>>
         ensures replay { MatchResult result (λ m. IsReplay m) (λ e. IsReplay e.machine) }
         ensures ok { IfOk result (λ m. All (Matches m.state) seats.items) }
@@ -151,6 +154,15 @@ impl<L: Ledger, M: Ledger, T: Tlb, D: Console> Book<L, M, T, D> {
         }
         self.steps.audit(&mut all);
     }
+}
+
+// A lock round a book. It is compiled by itself, as are the other functions that a machine is moved
+// through: LLVM takes minutes over one that moves a machine to two places of a result.
+#[inline(never)]
+fn behind_lock<L: Ledger, M: Ledger, T: Tlb, D: Console>(
+    book: Book<L, M, T, D>,
+) -> Mutex<Book<L, M, T, D>> {
+    Mutex::new(book)
 }
 
 // Whether a seat has its processor's count.

@@ -44,10 +44,10 @@ pub struct Report<T: Tlb, D: Console> {
 /// A run in threads that has no report.
 #[derive(Drop)]
 pub struct RunFault<T: Tlb, D: Console> {
-    /// Why.
-    pub cause: Cause,
     /// The machine, with the Steps that were made.
     pub machine: Machine<T, D>,
+    /// Why.
+    pub cause: Cause,
 }
 
 /// Runs a machine in threads: each processor has a worker of its own, which makes as many Steps as
@@ -59,6 +59,7 @@ pub struct RunFault<T: Tlb, D: Console> {
 /// Errors: the number of quotas, then the number of processors, which has to be two; or the cause
 /// of the lowest processor that has one; or that what the workers say doesn't fit the machine. The
 /// machine is given back, with the Steps that were made.
+#[inline(never)]
 pub fn run<T, D, R, G>(
     rt: &R,
     alloc: Global,
@@ -100,6 +101,7 @@ where
 }
 
 // A run whose Steps these ledgers count.
+#[inline(never)]
 fn run_counted<L, M, T, D, R, G>(
     rt: &R,
     alloc: Global,
@@ -185,6 +187,7 @@ where
 }
 
 // The report of a run, where what the workers have made fits the machine.
+#[inline(never)]
 fn checked_report<L: Ledger, M: Ledger, T: Tlb, D: Console>(
     locked: Locked<L, M, T, D>,
     before: &Before,
