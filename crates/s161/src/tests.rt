@@ -27,6 +27,7 @@ mod sample;
 mod steplog;
 mod streams;
 mod texts;
+mod threads;
 mod tlb;
 mod traps;
 
