@@ -7,7 +7,10 @@ use super::same;
 use super::streams::{Failing, Memory, TwoFiles, all};
 use crate::work::work;
 use std::io::ErrorKind;
+use std::process::Abort;
+use std::sync::Wait;
 use std::test::Fail;
+use std::thread::Threads;
 
 /// A loop: `addiu $8, $8, 1`, `beq $0, $0, 0x80000200`, `nop`.
 const LOOP: [u32; 3] = [0x2508_0001, 0x1000_fffe, 0x0000_0000];
@@ -38,7 +41,10 @@ struct Case {
 }
 
 /// Runs the cases, and fails the test at the first that leaves something else.
-fn check(rt: &HostRuntime, cases: &[Case]) -> Result<(), Fail> {
+fn check(
+    rt: &(impl Abort + AllocGlobal + Threads + Wait + Sync),
+    cases: &[Case],
+) -> Result<(), Fail> {
     for case in cases {
         let image = file_at(rt.alloc(), ENTRY, case.program)?;
         let mut files = TwoFiles {

@@ -6,7 +6,9 @@ use crate::fault::Fault;
 use crate::work::{start, work};
 use m161_elf::LoadError;
 use m161_machine::BootError;
+use std::sync::Wait;
 use std::test::Fail;
+use std::thread::Threads;
 
 /// What the demo prints.
 const DEMO: &str = "cpu 0 running pc 8000021c
@@ -60,7 +62,13 @@ const FAILED: &str = "s161: output\n";
 
 /// Does what a command line says, over streams with room for some bytes, against the texts that
 /// they should begin.
-fn run(rt: &HostRuntime, words: &[&str], texts: [&str; 2], room: [usize; 2], fails: bool) -> Left {
+fn run(
+    rt: &(impl AllocGlobal + Threads + Wait + Sync),
+    words: &[&str],
+    texts: [&str; 2],
+    room: [usize; 2],
+    fails: bool,
+) -> Left {
     let mut input: &[u8] = &[];
     let mut output = Memory::new(rt.alloc(), room[0], fails);
     let mut errors = Memory::new(rt.alloc(), room[1], fails);
@@ -131,7 +139,11 @@ fn failing_rejections(rt: HostRuntime) {
 }
 
 /// Starts the program on words that were read, or weren't.
-fn started(rt: &HostRuntime, words: Result<Vec<String>, Fault<'static>>, texts: [&str; 2]) -> Left {
+fn started(
+    rt: &(impl AllocGlobal + Threads + Wait + Sync),
+    words: Result<Vec<String>, Fault<'static>>,
+    texts: [&str; 2],
+) -> Left {
     let mut input: &[u8] = &[];
     let mut output = Memory::new(rt.alloc(), usize::MAX, true);
     let mut errors = Memory::new(rt.alloc(), usize::MAX, true);

@@ -8,7 +8,10 @@ use super::streams::{Endless, Failing, Left, Memory, OneFile, Slow, all};
 use crate::files::FileSource;
 use crate::work::work;
 use std::io::{ErrorKind, Read};
+use std::process::Abort;
+use std::sync::Wait;
 use std::test::Fail;
+use std::thread::Threads;
 
 /// Processor 0 at an image's first instruction.
 const AT_ENTRY: &str = "cpu 0 running pc 80000200
@@ -125,7 +128,7 @@ pub(crate) fn joined(rt: &impl AllocGlobal, parts: &[&[&str]]) -> Result<String,
 
 /// Runs a program over these streams, against the texts that it should write.
 pub(crate) fn left<F: FileSource, I: Read>(
-    rt: &HostRuntime,
+    rt: &(impl AllocGlobal + Threads + Wait + Sync),
     words: &[&str],
     files: &mut F,
     input: &mut I,
@@ -138,7 +141,10 @@ pub(crate) fn left<F: FileSource, I: Read>(
 }
 
 /// Runs the cases, and fails the test at the first that leaves something else.
-fn check(rt: &HostRuntime, cases: &[Case]) -> Result<(), Fail> {
+fn check(
+    rt: &(impl Abort + AllocGlobal + Threads + Wait + Sync),
+    cases: &[Case],
+) -> Result<(), Fail> {
     for case in cases {
         let file = file_at(rt.alloc(), ENTRY, case.program)?;
         let mut files = OneFile {
@@ -376,7 +382,11 @@ fn faults(rt: HostRuntime) -> Result<(), Fail> {
 const WORDS: [&str; 3] = ["s161", "run", "image"];
 
 /// Runs `power-off`'s image over a reader, against the texts that it should write.
-fn over<I: Read>(rt: &HostRuntime, input: &mut I, texts: [&str; 2]) -> Result<Left, Fail> {
+fn over<I: Read>(
+    rt: &(impl AllocGlobal + Threads + Wait + Sync),
+    input: &mut I,
+    texts: [&str; 2],
+) -> Result<Left, Fail> {
     let file = file_at(rt.alloc(), ENTRY, &POWER_OFF)?;
     let mut files = OneFile {
         name: "image",
