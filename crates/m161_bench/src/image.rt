@@ -32,23 +32,6 @@ fn in_kseg0(alloc: Global) -> Result<String, AllocError> {
     )
 }
 
-// The text of the same loop in kseg0 on two processors: 0 starts 1 where it then begins itself.
-fn on_two(alloc: Global) -> Result<String, AllocError> {
-    format!(in alloc;
-        "\
-        lui     $8, 0xbfff
-        ori     $9, $8, 0x8400      # the place of processor 1
-        lui     $10, 0x8000
-        ori     $10, $10, 0x021c
-        sw      $10, 768($9)        # its first address: both
-        ori     $11, $0, 2
-        sw      $11, 32276($8)      # CPUE
-both:   lui     $16, 0x8000
-        ori     $16, $16, 0x1000
-{LOOP}"
-    )
-}
-
 // The text that maps the page of the same loop, at 00400000, by a row of the TLB, and jumps there:
 // the loop stands at the start of frame 1, and its data in the same page, behind it.
 fn mapped_by(alloc: Global, row: u8) -> Result<String, AllocError> {
@@ -76,26 +59,15 @@ fn has_rows(program: &Program) -> bool {
     program.segments.iter().all(|segment| segment.words.iter().all(|word| has_row(&decode(*word))))
 }
 
-// The file of a text.
-fn file_of(alloc: Global, source: &str) -> Option<Vec<u8>> {
-    let program = assemble(alloc, source).ok()?;
-    if !has_rows(&program) {
-        return None;
-    }
-    write(alloc, &program).ok()
-}
-
 /// The file of the loop, in kseg0 or mapped by a row.
 pub(crate) fn image(alloc: Global, row: Option<u8>) -> Option<Vec<u8>> {
     let source = match row {
         Some(row) => mapped_by(alloc, row).ok()?,
         None => in_kseg0(alloc).ok()?,
     };
-    file_of(alloc, source.as_str())
-}
-
-/// The file of the loop on two processors, in kseg0.
-pub(crate) fn image_of_two(alloc: Global) -> Option<Vec<u8>> {
-    let source = on_two(alloc).ok()?;
-    file_of(alloc, source.as_str())
+    let program = assemble(alloc, source.as_str()).ok()?;
+    if !has_rows(&program) {
+        return None;
+    }
+    write(alloc, &program).ok()
 }

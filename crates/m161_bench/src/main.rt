@@ -5,15 +5,12 @@
 //! m161_bench RUNS [STEPS [ROW]]   RUNS runs of STEPS Steps each, or of 1,000,000; the loop runs in
 //!                                 kseg0, or mapped by ROW of the TLB
 //! m161_bench log STEPS            the log of one run in kseg0 as text, written and read back
-//! m161_bench threads STEPS        STEPS Steps of each of two processors: in two threads, in one by
-//!                                 turns of one Step, and in one with those of processor 0 first
 //! ```
 //!
 //! Each run boots the loop's file anew, with a log of that size, and makes the Steps. To standard
 //! output go the number of all Steps and the sum of the runs' last words; or the length of the text
-//! and the number of the entries read back; or the number of both processors' Steps in each of the
-//! three ways. To standard error go the nanoseconds that the runs took; or that the writing took
-//! and that the reading took; or that each way took.
+//! and the number of the entries read back. To standard error go the nanoseconds that the runs
+//! took; or that the writing took and that the reading took.
 //!
 //! As a user's program does, this one also calls `decode` and makes a Step by itself, so that the
 //! compiler has the same reasons to inline the loop of Steps or not.
@@ -22,17 +19,13 @@
 mod image;
 mod log;
 mod steps;
-mod threads;
 
-use crate::image::{image, image_of_two};
+use crate::image::image;
 use crate::log::measure;
 use crate::steps::runs;
-use crate::threads::measure_threads;
 use std::env;
 use std::process::ExitCode;
-use std::sync::Wait;
-use std::thread::Threads;
-use std::time::{Clock, Instant};
+use std::time::Instant;
 
 /// The Steps of a run where the arguments don't say.
 const STEPS: u32 = 1_000_000;
@@ -50,10 +43,6 @@ enum Task {
     Log {
         steps: u32,
     },
-    /// The times of two processors' Steps, in threads and without.
-    Threads {
-        steps: u32,
-    },
 }
 
 // The task of the arguments.
@@ -63,10 +52,6 @@ fn arguments(rt: &HostRuntime) -> Option<Task> {
     if first.as_str() == "log" {
         let steps = words.next()?.parse().ok()?;
         return Some(Task::Log { steps });
-    }
-    if first.as_str() == "threads" {
-        let steps = words.next()?.parse().ok()?;
-        return Some(Task::Threads { steps });
     }
     let runs = first.parse().ok()?;
     let steps = match words.next() {
@@ -99,20 +84,6 @@ fn make_log(rt: &HostRuntime, steps: u32) -> Option<()> {
     eprintln!(rt; "{} {}", measured.write, measured.read).ok()
 }
 
-// Makes the Steps of two processors in each way, and says what came of it; `None` where it doesn't.
-fn make_threads<R: Threads + Wait + Clock + AllocGlobal + Print + Eprint + Sync>(
-    rt: &R,
-    steps: u32,
-) -> Option<()> {
-    let image = image_of_two(rt.alloc())?;
-    let measured = measure_threads(rt, image.as_slice(), steps)?;
-    for took in [measured.threads, measured.turns, measured.whole] {
-        println!(rt; "{}", took.steps).ok()?;
-        eprintln!(rt; "{}", took.nanoseconds).ok()?;
-    }
-    Some(())
-}
-
 fn main(rt: HostRuntime) -> ExitCode {
     let Some(task) = arguments(&rt) else {
         return ExitCode::from(2);
@@ -120,7 +91,6 @@ fn main(rt: HostRuntime) -> ExitCode {
     let done = match task {
         Task::Runs { runs, steps, row } => make_runs(&rt, runs, steps, row),
         Task::Log { steps } => make_log(&rt, steps),
-        Task::Threads { steps } => make_threads(&rt, steps),
     };
     ExitCode::from(if done.is_some() { 0 } else { 1 })
 }

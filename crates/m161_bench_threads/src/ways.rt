@@ -106,7 +106,7 @@ fn as_whole(rt: &(impl Clock + AllocGlobal), image: &[u8], steps: u32) -> Option
 }
 
 /// Makes so many Steps of each of two processors, in each of the three ways.
-pub(crate) fn measure_threads<R: Threads + Wait + Clock + AllocGlobal + Sync>(
+pub(crate) fn measure<R: Threads + Wait + Clock + AllocGlobal + Sync>(
     rt: &R,
     image: &[u8],
     steps: u32,
