@@ -3,17 +3,21 @@
 //! A `Row` runs on a machine of 4,096 bytes with one processor. All its Steps but the last have to
 //! execute an instruction; the last has the outcome that the row names. Where that isn't `RAN`,
 //! registers, HI, LO and memory have to be as before that Step, and where it is a refusal all else
-//! too. A `Run` names each event and its answer, on a machine of any size. The words of `programs`
-//! are those of GNU as 2.40 for mips-linux-gnu, the others were assembled from their texts without
-//! it. What they leave is worked out by hand from Kane's descriptions and this project's own rules.
+//! too. A `Run` names each event and its answer, on a machine of any size. The log of each has to
+//! agree with another machine of the same file. The words of `programs` are those of GNU as 2.40
+//! for mips-linux-gnu, the others were assembled from their texts without it. What they leave is
+//! worked out by hand from Kane's descriptions and this project's own rules.
 
 use super::elf::{file_at, file_from};
 use super::same;
 use crate::Machine;
+use m161_console::PlainConsole;
 use m161_isa::Reg;
 use m161_machine::{
     Conf, Event, Exception, Outcome, ProcessorState, Refusal, Register as CopRegister,
 };
+use m161_steplog::{Verdict, verify};
+use m161_tlb_scan::Scan;
 use std::alloc::Global;
 use std::process::Abort;
 use std::test::Fail;
@@ -195,6 +199,8 @@ pub(crate) fn check(rt: &(impl Abort + AllocGlobal), rows: &[Row]) -> Result<(),
                 (row.name, *left),
             );
         }
+        let file = file_at(rt.alloc(), row.entry, &words)?;
+        check_log(rt, row.name, &file, &machine)?;
     }
     Ok(())
 }
@@ -203,8 +209,10 @@ pub(crate) fn check(rt: &(impl Abort + AllocGlobal), rows: &[Row]) -> Result<(),
 pub(crate) fn check_runs(rt: &(impl Abort + AllocGlobal), runs: &[Run]) -> Result<(), Fail> {
     for run in runs {
         let words = words_of(rt.alloc(), run.program)?;
-        let mut machine = boot_run(rt.alloc(), run, &words)?;
+        let file = file_from(rt.alloc(), run.entry, run.base, &words)?;
+        let mut machine = boot_run(rt.alloc(), run, &file)?;
         make_stages(rt, run.name, &mut machine, run.stages);
+        check_log(rt, run.name, &file, &machine)?;
     }
     Ok(())
 }
@@ -224,22 +232,35 @@ pub(crate) fn check_with(
             *word = *other;
         }
     }
-    let mut machine = boot_run(rt.alloc(), run, &words)?;
+    let file = file_from(rt.alloc(), run.entry, run.base, &words)?;
+    let mut machine = boot_run(rt.alloc(), run, &file)?;
     make_stages(rt, text, &mut machine, run.stages);
     make(rt, text, &mut machine, events);
     compare(rt, text, &machine, left);
+    check_log(rt, text, &file, &machine)
+}
+
+/// Fails the test where a machine's log isn't that of a machine of the same file.
+pub(crate) fn check_log(
+    rt: &(impl Abort + AllocGlobal),
+    name: &str,
+    file: &[u8],
+    machine: &Machine,
+) -> Result<(), Fail> {
+    let log = machine.copy_log(rt.alloc())?;
+    let found = verify::<Scan, PlainConsole>(rt.alloc(), file, machine.conf(), &log)?;
+    same(rt, (name, found), (name, Verdict::Agrees));
     Ok(())
 }
 
-/// The machine of a row, with these words.
-fn boot_run(alloc: Global, run: &Run, words: &[u32]) -> Result<Machine, Fail> {
-    let file = file_from(alloc, run.entry, run.base, words)?;
+/// The machine of a row, booted from its file.
+fn boot_run(alloc: Global, run: &Run, file: &[u8]) -> Result<Machine, Fail> {
     let conf = Conf {
         ram: run.ram,
         processors: run.processors,
         log: 1000,
     };
-    Ok(Machine::boot(alloc, &file, conf)?)
+    Ok(Machine::boot(alloc, file, conf)?)
 }
 
 /// The words of a program.

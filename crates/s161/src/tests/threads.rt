@@ -5,14 +5,13 @@ ghost use Rattle.std.specs.Prelude.{◌≡◌, length};
 
 use super::elf::file_at;
 use super::listing::Left::{Count, Entries, Memory, Output};
-use super::listing::{Answer, ENTRY, IDLE, Left, RAN, TAKEN, Times, compare, make};
+use super::listing::{Answer, ENTRY, IDLE, Left, RAN, TAKEN, Times, check_log, compare, make};
 use super::same;
 use crate::Machine;
 use crate::sample::sample_image;
 use m161_console::PlainConsole;
 use m161_machine::Event::{Done, Key, Step};
 use m161_machine::{Conf, Entry, Event, Outcome, Refusal, Start};
-use m161_steplog::{Verdict, verify};
 use m161_threads::{Cause, Gate, Report, RunFault, Seat, run};
 use m161_tlb_scan::Scan;
 use std::alloc::Global;
@@ -52,19 +51,6 @@ fn booted(
     };
     let machine = Machine::boot(alloc, &file, conf)?;
     Ok((file, machine))
-}
-
-/// Fails the test where a machine's log isn't that of a machine of the same file.
-fn check_log(
-    rt: &(impl Abort + AllocGlobal),
-    name: &str,
-    file: &[u8],
-    machine: &Machine,
-) -> Result<(), Fail> {
-    let log = machine.copy_log(rt.alloc())?;
-    let found = verify::<Scan, PlainConsole>(rt.alloc(), file, machine.conf(), &log)?;
-    same(rt, (name, found), (name, Verdict::Agrees));
-    Ok(())
 }
 
 /// Runs a machine in threads that stays on: the machine, and why there is no report, where there
