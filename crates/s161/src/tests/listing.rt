@@ -199,8 +199,6 @@ pub(crate) fn check(rt: &(impl Abort + AllocGlobal), rows: &[Row]) -> Result<(),
                 (row.name, *left),
             );
         }
-        let file = file_at(rt.alloc(), row.entry, &words)?;
-        check_log(rt, row.name, &file, &machine)?;
     }
     Ok(())
 }
@@ -326,7 +324,7 @@ pub(crate) fn found(rt: &impl Abort, machine: &Machine, p: u32, part: Left) -> L
 }
 
 /// The smallest machine after so many Steps of these words, of which all but the last execute an
-/// instruction, and the last has this answer.
+/// instruction, and the last has this answer. Its log has to replay.
 pub(crate) fn last_step(
     rt: &(impl Abort + AllocGlobal),
     name: &str,
@@ -357,6 +355,8 @@ pub(crate) fn last_step(
             same(rt, (name, after), (name, before));
         }
     }
+    let file = file_at(rt.alloc(), entry, words)?;
+    check_log(rt, name, &file, &machine)?;
     Ok(machine)
 }
 

@@ -2,7 +2,9 @@
 
 use super::elf::file_from;
 use super::listing::Left::{Count, Entries, Memory, TlbRow};
-use super::listing::{ENTRY, INTERRUPT, LOAD_MISS, Left, OFF, RAN, Times, compare, make};
+use super::listing::{
+    ENTRY, INTERRUPT, LOAD_MISS, Left, OFF, RAN, Times, check_log, compare, make,
+};
 use crate::Machine;
 use m161_machine::Conf;
 use m161_machine::Event::Step;
@@ -134,5 +136,5 @@ fn shootdown(rt: HostRuntime) -> Result<(), Fail> {
     let mut machine = Machine::boot(rt.alloc(), &file, conf)?;
     make(&rt, "shootdown", &mut machine, &SCHEDULE);
     compare(&rt, "shootdown", &machine, &LEFT);
-    Ok(())
+    check_log(&rt, "shootdown", &file, &machine)
 }
