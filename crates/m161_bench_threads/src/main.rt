@@ -2,16 +2,16 @@
 //! its slot on each, in threads and without.
 //!
 //! ```text
-//! m161_bench_threads STEPS    STEPS Steps of each of two processors: in two threads, in one by turns
-//!                             of one Step, and in one with those of processor 0 first
+//! m161_bench_threads STEPS    STEPS Steps of each of two processors: in two threads, in one by
+//!                             turns of one Step, and in one with those of processor 0 first
 //! ```
 //!
 //! Both processors run over the same words of memory. To standard output goes the number of both
 //! processors' Steps in each of the three ways, and to standard error the nanoseconds that each
 //! took.
 //!
-//! It is a program of its own, since one that steps two processors can't take the processor's number
-//! for a constant: the Steps of `m161_bench` would be slower by it.
+//! It is a program of its own, since one that steps two processors can't take the processor's
+//! number for a constant: the Steps of `m161_bench` would be slower by it.
 #![tactic(auto)]
 
 mod image;

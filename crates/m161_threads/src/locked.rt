@@ -96,8 +96,8 @@ impl<L: Ledger, M: Ledger, T: Tlb, D: Console> Locked<L, M, T, D> {
         machine
     }
 
-    /// The machine, where each seat that is handed in has its processor's count. Where all are handed
-    /// in, their counts add up to the machine's whether each matches or not.
+    /// The machine, where each seat that is handed in has its processor's count. Where all are
+    /// handed in, their counts add up to the machine's whether each matches or not.
     ///
     /// Errors: one hasn't; the machine is given back.
     #[inline(never)]

@@ -68,8 +68,8 @@ where
 
 /// Does what a command line says. The result is the exit status: 0 a finished demo, debug, as or
 /// dis, a machine that switched itself off, or a log that agrees; 1 a fault, or a refused event of
-/// a run; 2 a rejected command line; 3 a schedule that ended, or the Steps of threads; 4 a log that differs. An output is
-/// made whole before it is written.
+/// a run; 2 a rejected command line; 3 a schedule that ended, or the Steps of threads; 4 a log that
+/// differs. An output is made whole before it is written.
 pub fn work<A, S, F, I, O, E>(
     rt: &A,
     words: &[S],

@@ -1,5 +1,5 @@
-//! `run`: an image under a schedule, and what is printed. A case is one of `power-off`'s image or of
-//! a small program; what it leaves is worked out by hand.
+//! `run`: an image under a schedule or in threads, and what is printed. A case is one of
+//! `power-off`'s image or of a small program; what it leaves is worked out by hand.
 
 use super::elf::file_at;
 use super::listing::ENTRY;
