@@ -1,4 +1,4 @@
-//! What a machine shows. No view allocates but `copy_log`.
+//! What a machine shows. No view allocates but `copy_log` and `copy_start`.
 
 ghost use Rattle.std.specs.Prelude.{◌≡◌, ◌≢◌, ◌<◌, true, false, Some, length, slice_get, slice_index, IfOk};
 ghost use Rattle.m161_bus.specs.Board.{lines_of};
