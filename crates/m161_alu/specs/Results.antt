@@ -9,7 +9,7 @@ use Rattle.m161_alu.specs.declared.arithmetic.Signedness.TheVariants.{Signed, Un
 use Rattle.m161_alu.specs.declared.arithmetic.HiLoPair.{HiLoPair}
 use Rattle.m161_alu.specs.Word.{signed, modulo}
 
--- What instructions compute. Kane, MIPS RISC Architecture, instruction descriptions.
+-- The results of instructions. Kane, MIPS RISC Architecture, instruction descriptions.
 
 -- the whole number that a word is read as
 abbrev pub integer_of : Signedness → ℕ → ℤ
@@ -31,8 +31,8 @@ halves n = record { hi = n / 2 ^ 32; lo = n % 2 ^ 32 }
 abbrev pub product : Signedness → ℕ → ℕ → HiLoPair
 product s a b = halves (modulo (2 ^ 64) (integer_of s a *ℤ integer_of s b))
 
--- the quotient, toward zero, and the remainder, with the dividend's sign. A division by zero has an
--- answer by this project's own rule
+-- the quotient, toward zero, and the remainder, with the dividend's sign. The result of a division
+-- by zero is this project's own rule
 abbrev pub quotient : Signedness → ℕ → ℕ → HiLoPair
 quotient s a b =
     if b == 0 then record { hi = a; lo = 2 ^ 32 - 1 }

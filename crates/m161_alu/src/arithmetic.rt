@@ -6,7 +6,7 @@ ghost use Rattle.m161_alu.specs.Results.{shifted, product, quotient};
 
 use m161_isa::{Amount, ShiftOp};
 
-/// How a product, a quotient or a comparison reads its words: as two's complement, or as they are.
+/// How a product, a quotient or a comparison reads its words: in two's complement, or unsigned.
 #[derive(Clone, Copy, Debug, PartialEq, Eq)]
 pub enum Signedness {
     Signed,
@@ -22,7 +22,7 @@ pub struct HiLoPair {
     pub lo: u32,
 }
 
-/// The signed sum, or `None` where it isn't a signed word.
+/// The signed sum, or `None` if it isn't a signed word.
 #[inline(always)]
 pub fn add_checked(a: u32, b: u32) -> Option<u32>
     ensures { result ≡ word_of_signed (signed a +ℤ signed b) }
@@ -31,7 +31,7 @@ pub fn add_checked(a: u32, b: u32) -> Option<u32>
     Some(sum.cast_unsigned())
 }
 
-/// The signed difference, or `None` where it isn't a signed word.
+/// The signed difference, or `None` if it isn't a signed word.
 #[inline(always)]
 pub fn sub_checked(a: u32, b: u32) -> Option<u32>
     ensures { result ≡ word_of_signed (signed a -ℤ signed b) }

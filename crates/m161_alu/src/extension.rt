@@ -3,7 +3,7 @@
 ghost use Rattle.std.specs.Prelude.{◌≡◌};
 ghost use Rattle.m161_alu.specs.Word.{sign_extended_byte, sign_extended_half};
 
-/// The word of a byte that is read as two's complement.
+/// A byte in two's complement, as a word.
 #[inline(always)]
 pub fn sign_extend_byte(byte: u8) -> u32
     ensures { result ≡ sign_extended_byte byte }
@@ -11,7 +11,7 @@ pub fn sign_extend_byte(byte: u8) -> u32
     i32::from(byte.cast_signed()).cast_unsigned()
 }
 
-/// The word of a half-word that is read as two's complement.
+/// A half-word in two's complement, as a word.
 #[inline(always)]
 pub fn sign_extend_half(half: u16) -> u32
     ensures { result ≡ sign_extended_half half }

@@ -7,7 +7,7 @@ use Rattle.m161_asm.specs.declared.error.AsmError.{AsmError}
 use Rattle.m161_asm.specs.declared.statement.ReadError.{ReadError}
 use Rattle.m161_asm.specs.declared.statement.ReadError.TheVariants as errors
 use Rattle.m161_asm.specs.Tokens.{lines, split, tokens}
-use Rattle.m161_asm.specs.Lines.{Fault, Line}
+use Rattle.m161_asm.specs.Lines.{Fault, SourceLine}
 use Rattle.m161_asm.specs.Text.{line_of, read_lines}
 use Rattle.m161_asm.specs.Seen.{line_seen, above_of, fault_seen, IsTold, Yields, Goes}
 use Rattle.m161_asm.specs.Answer.{Tells}
@@ -57,20 +57,20 @@ first_line (b ∷ bs) h =
     [ true ↦ refl | false ↦ rw (m, n) (later b bs (λ k. first_line bs k)) ]
 
 -- one line further
-pub gone : (above new : List Line) (bytes : List ℕ) (below : List (List ℕ)) (l : Line)
+pub gone : (above new : List SourceLine) (bytes : List ℕ) (below : List (List ℕ)) (l : SourceLine)
     → line_of above (tokens bytes) ≡ Ok l → new ≡ l ∷ above
     → read_lines above (bytes ∷ below) ≡ read_lines new below
 unfolding read_lines
 gone above new bytes below l e d = rw (e, d) refl
 
-stopped : (above : List Line) (bytes : List ℕ) (below : List (List ℕ)) (f : Fault)
+stopped : (above : List SourceLine) (bytes : List ℕ) (below : List (List ℕ)) (f : Fault)
     → line_of above (tokens bytes) ≡ Err f
     → read_lines above (bytes ∷ below) ≡ Err (1 + length above, f)
 unfolding read_lines
 stopped above bytes below f e = rw e refl
 
-pub told : (e : AsmError) (r : ReadError) (above : List Line) (n : ℕ) (bytes : List ℕ)
-    (below : List (List ℕ)) (x : Result (List Line) (ℕ × Fault)) → IsTold e n r
+pub told : (e : AsmError) (r : ReadError) (above : List SourceLine) (n : ℕ) (bytes : List ℕ)
+    (below : List (List ℕ)) (x : Result (List SourceLine) (ℕ × Fault)) → IsTold e n r
     → n ≡ length above + 1 → Yields {X = CodeLine} line_seen (Err r) (line_of above (tokens bytes))
     → Goes (Err e) (read_lines above (bytes ∷ below)) x
 told e errors.Memory above n bytes below x t d y = inl t
@@ -83,23 +83,29 @@ parted_at : (rest : List ℕ) (n : ℕ) → 0 < length rest → n ≡ len rest
     → lines rest ≡ take n rest ∷ lines (drop (n + 1) rest)
 parted_at rest n h e = rw e (first_line rest h)
 
-pub step_on : (above new : List Line) (rest : List ℕ) (n : ℕ)
-    (whole : Result (List Line) (ℕ × Fault)) → 0 < length rest → n ≡ len rest
+pub shorter : (rest : List ℕ) (n : ℕ) → 0 < length rest → n ≡ len rest
+    → length (lines rest) ≡ length (lines (drop (n + 1) rest)) + 1
+shorter rest n h e = ap length (parted_at rest n h e) ∙ omega arith
+
+pub step_on : (above new : List SourceLine) (rest : List ℕ) (n : ℕ)
+    (whole : Result (List SourceLine) (ℕ × Fault)) → 0 < length rest → n ≡ len rest
     → read_lines above (take n rest ∷ lines (drop (n + 1) rest))
     ≡ read_lines new (lines (drop (n + 1) rest)) → read_lines above (lines rest) ≡ whole
     → read_lines new (lines (drop (n + 1) rest)) ≡ whole
 step_on above new rest n whole h e s k =
     sym s ∙ ap (read_lines above) (sym (parted_at rest n h e)) ∙ k
 
-pub step_off : (view : FirstPass → List Line) (e : AsmError) (above : List Line) (rest : List ℕ)
-    (n : ℕ) (after whole : Result (List Line) (ℕ × Fault)) → 0 < length rest → n ≡ len rest
+pub step_off : (view : FirstPass → List SourceLine) (e : AsmError) (above : List SourceLine)
+    (rest : List ℕ)
+    (n : ℕ) (after whole : Result (List SourceLine) (ℕ × Fault)) → 0 < length rest → n ≡ len rest
     → Goes (Err e) (read_lines above (take n rest ∷ lines (drop (n + 1) rest))) after
     → read_lines above (lines rest) ≡ whole → Tells view (Err e) whole
 step_off view e above rest n after whole h d (inl m) k = inl m
 step_off view e above rest n after whole h d (inr f) k =
     inr (sym k ∙ ap (read_lines above) (parted_at rest n h d) ∙ f)
 
-pub at_end : (above : List Line) (rest : List ℕ) (whole : Result (List Line) (ℕ × Fault))
+pub at_end : (above : List SourceLine) (rest : List ℕ)
+    (whole : Result (List SourceLine) (ℕ × Fault))
     → length rest ≤ 0 → read_lines above (lines rest) ≡ whole → whole ≡ Ok above
 unfolding lines read_lines
 at_end above [] whole h k = sym k

@@ -1,13 +1,13 @@
 use Rattle.std.specs.Prelude.{ℕ, zero, suc, ◌+◌, ◌-◌, List, [], ◌∷◌, ◌++◌, length, take, replicate, ◌*◌, Result, Ok, Err, unwrap_or, Option, Some, true, false, cond, nat_lt, reverse, filter}
 use Rattle.m161_asm.specs.declared.second.SecondPass.{SecondPass}
-use Rattle.m161_asm.specs.Lines.{Fault, Line, Statement, size_of}
-use Rattle.m161_asm.specs.Text.{Segment, segments_of, opened_at, words_of, address_below, address_from, entry_of, entry_by, origin_of, full}
+use Rattle.m161_asm.specs.Lines.{Fault, SourceLine, Statement, size_of}
+use Rattle.m161_asm.specs.Text.{Segment, segments_of, opened_at, words_of_statement, address_below, address_from, entry_of, entry_by, origin_of, full}
 use Rattle.m161_asm.specs.Seen.{with_front, fault_seen, Appends}
 use Rattle.m161_asm.specs.declared.statement.ReadError.{ReadError}
 use Rattle.m161_asm.specs.declared.statement.ReadError.TheVariants as errors
 use Rattle.std.proofs.lemmas.List.{reverse-append}
 use mathlib.Core.List.{append-nil}
-use Rattle.m161_asm.specs.SecondPass.{IsFilled, Fills, Leaves, segment_seen, segments_seen}
+use Rattle.m161_asm.specs.SecondPass.{IsFilled, FillsLine, AdvancesPass, segment_seen, segments_seen}
 use Rattle.std.proofs.Common.{◌≡◌, refl, ap, sym, ◌∙◌, arith}
 
 -- The segments of the second pass.
@@ -36,21 +36,21 @@ read_of : (front new : List ℕ) (read : Result (List ℕ) Fault) → with_front
 read_of front new (Ok ws) e = record { words = ws; gives = refl; joined = cc }
 read_of front new (Err f) e = cc
 
-pub filled_line : (symbols : List (List ℕ × ℕ)) (old mid new : SecondPass) (above : List Line)
-    (l : Line) → IsFilled old symbols above
-    → with_front old.current.words.items (words_of symbols old.address l.statement)
+pub filled_line : (symbols : List (List ℕ × ℕ)) (old mid new : SecondPass) (above : List SourceLine)
+    (l : SourceLine) → IsFilled old symbols above
+    → with_front old.current.words.items (words_of_statement symbols old.address l.statement)
     ≡ Ok mid.current.words.items
     → mid.current.address ≡ old.current.address → mid.done ≡ old.done → mid.address ≡ old.address
     → ((first : ℕ)
     → unwrap_or mid.entry first ≡ entry_by symbols (unwrap_or old.entry first) l.statement)
-    → Leaves mid new (origin_of l.statement) (size_of l.statement)
+    → AdvancesPass mid new (origin_of l.statement) (size_of l.statement)
     → IsFilled new symbols (l ∷ above)
 unfolding segments_of address_below entry_of
 filled_line symbols old mid new above l f w ca d a e v =
     let r = read_of old.current.words.items mid.current.words.items
-    (words_of symbols old.address l.statement) w in
-    let wordy : words_of symbols (address_below above) l.statement
-    ≡ Ok r.words = sym (ap (λ x. words_of symbols x l.statement) f.address) ∙ r.gives in
+    (words_of_statement symbols old.address l.statement) w in
+    let wordy : words_of_statement symbols (address_below above) l.statement
+    ≡ Ok r.words = sym (ap (λ x. words_of_statement symbols x l.statement) f.address) ∙ r.gives in
     let done : full f.older ≡ segments_seen mid.done.items = rw d f.done in
     let (newer, opens, full_newer) = v.segments f.older done in
     let current : (old.current.address, old.current.words.items ++ r.words)
@@ -70,37 +70,44 @@ filled_line symbols old mid new above l f w ca d a e v =
           ∙ ap (λ x. unwrap_or x first) (sym v.entry);
     }
 
-pub stopped_line : (symbols : List (List ℕ × ℕ)) (old : SecondPass) (above : List Line) (l : Line)
-    (x : Fault) → IsFilled old symbols above → words_of symbols old.address l.statement ≡ Err x
+pub stopped_line : (symbols : List (List ℕ × ℕ)) (old : SecondPass) (above : List SourceLine)
+    (l : SourceLine)
+    (x : Fault) → IsFilled old symbols above
+    → words_of_statement symbols old.address l.statement ≡ Err x
     → segments_of symbols (l ∷ above) ≡ Err (length (l ∷ above), x)
 unfolding segments_of
 stopped_line symbols old above l x f w =
-    let wordy : words_of symbols (address_below above) l.statement
-    ≡ Err x = sym (ap (λ y. words_of symbols y l.statement) f.address) ∙ w in
+    let wordy : words_of_statement symbols (address_below above) l.statement
+    ≡ Err x = sym (ap (λ y. words_of_statement symbols y l.statement) f.address) ∙ w in
     let n : 1 + length above ≡ length (l ∷ above) = omega arith in
     rw (f.segments, wordy, ← n) refl
 
 pub stop_fill : (r : ReadError) (symbols : List (List ℕ × ℕ)) (old new : SecondPass)
-    (front back : List ℕ) (above : List Line) (l : Line) (s : Statement) → l.statement ≡ s
-    → Appends (Err r) front back (words_of symbols old.address s) → IsFilled old symbols above
-    → Fills (Err r) new symbols (l ∷ above)
+    (front back : List ℕ) (above : List SourceLine) (l : SourceLine) (s : Statement)
+    → l.statement ≡ s
+    → Appends (Err r) front back (words_of_statement symbols old.address s)
+    → IsFilled old symbols above
+    → FillsLine (Err r) new symbols (l ∷ above)
 stop_fill errors.Memory symbols old new front back above l s e a f = tt
 stop_fill (errors.Fault x) symbols old new front back above l s e a f =
-    stopped_line symbols old above l (fault_seen x) f (ap (words_of symbols old.address) e ∙ a)
+    stopped_line symbols old above l (fault_seen x) f
+    (ap (words_of_statement symbols old.address) e ∙ a)
 
-pub fill_on : (symbols : List (List ℕ × ℕ)) (old mid new : SecondPass) (above : List Line)
-    (l : Line) (s : Statement) (origin : Option ℕ) (size : ℕ) → l.statement ≡ s
+pub fill_on : (symbols : List (List ℕ × ℕ)) (old mid new : SecondPass) (above : List SourceLine)
+    (l : SourceLine) (s : Statement) (origin : Option ℕ) (size : ℕ) → l.statement ≡ s
     → IsFilled old symbols above
-    → with_front old.current.words.items (words_of symbols old.address s)
+    → with_front old.current.words.items (words_of_statement symbols old.address s)
     ≡ Ok mid.current.words.items
     → mid.current.address ≡ old.current.address → mid.done ≡ old.done → mid.address ≡ old.address
     → ((first : ℕ) → unwrap_or mid.entry first ≡ entry_by symbols (unwrap_or old.entry first) s)
     → origin ≡ origin_of s → size ≡ size_of s
-    → Leaves mid new origin size → IsFilled new symbols (l ∷ above)
+    → AdvancesPass mid new origin size → IsFilled new symbols (l ∷ above)
 fill_on symbols old mid new above l s origin size e f w ca d a en o z v =
-    let v2 : Leaves mid new (origin_of l.statement) (size_of l.statement) = rw (e, ← o, ← z) v in
+    let v2 : AdvancesPass mid new (origin_of l.statement) (size_of l.statement) =
+    rw (e, ← o, ← z) v in
     filled_line symbols old mid new above l f
-    (ap (λ t. with_front old.current.words.items (words_of symbols old.address t)) e ∙ w) ca d a
+    (ap (λ t. with_front old.current.words.items (words_of_statement symbols old.address t)) e ∙ w)
+    ca d a
     (λ first. en first ∙ ap (entry_by symbols (unwrap_or old.entry first)) (sym e)) v2
 
 -- a segment is closed, and another opened
@@ -122,7 +129,7 @@ pub reopened : (old new : SecondPass) (n size : ℕ)
     → segments_seen new.done.items
     ≡ segments_seen old.done.items ++ full (segment_seen old.current ∷ [])
     → segment_seen new.current ≡ (n, []) → new.address ≡ n → new.entry ≡ old.entry
-    → Leaves old new (Some n) size
+    → AdvancesPass old new (Some n) size
 reopened old new n size d c a e =
     record {
       segments =

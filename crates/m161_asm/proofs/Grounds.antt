@@ -4,7 +4,7 @@ use Rattle.std.proofs.Common.{◌≡◌, inl, inr, refl, ap, sym, ◌∙◌, ari
 use Rattle.std.proofs.lemmas.Bool.Decides.{nat_tests}
 use Rattle.m161_asm.specs.declared.ground.Run.{Run}
 use Rattle.m161_asm.specs.declared.ground.Ground.{Ground}
-use Rattle.m161_asm.specs.Ground.{meet, meets, InOrder, Splits, limit_of, IsOrdered, Fills}
+use Rattle.m161_asm.specs.Ground.{meet, meets, InOrder, Splits, limit_of, IsOrdered, HasFilled}
 use Rattle.m161_asm.specs.Text.{overlap}
 
 -- Runs of filled addresses.
@@ -154,7 +154,7 @@ same_met : (a n : ℕ) (s : ℕ) → meet s a a n ≡ false
 same_met a n s = grind (arith, nat_tests)
 
 filled_at : (g : Ground) (address size : ℕ) → IsOrdered g address → address + 4 * size ≤ 2 ^ 32
-    → (filled : ℕ → ℕ → Bool) → Fills g address filled
+    → (filled : ℕ → ℕ → Bool) → HasFilled g address filled
     → filled address size ≡ (nat_lt 0 size && nat_lt g.limit (address + 4 * size))
 filled_at g address size o w filled f =
     let l = o.limit in
@@ -166,7 +166,7 @@ filled_at g address size o w filled f =
     ∙ ap (λ x. nat_lt 0 size && nat_lt x (address + 4 * size)) (sym l)
 
 pub filled_then : (g : Ground) (address size : ℕ) → IsOrdered g address
-    → address + 4 * size ≤ 2 ^ 32 → 0 < size → (filled : ℕ → ℕ → Bool) → Fills g address filled
+    → address + 4 * size ≤ 2 ^ 32 → 0 < size → (filled : ℕ → ℕ → Bool) → HasFilled g address filled
     → nat_lt g.limit (address + 4 * size) ≡ filled address size
 filled_then g address size o w h filled f =
     let t : nat_lt 0 size ≡ true = grind (arith, nat_tests, h) in
@@ -174,7 +174,7 @@ filled_then g address size o w h filled f =
     sym (rw t at e)
 
 pub filled_else : (g : Ground) (address size : ℕ) → IsOrdered g address
-    → address + 4 * size ≤ 2 ^ 32 → size ≤ 0 → (filled : ℕ → ℕ → Bool) → Fills g address filled
+    → address + 4 * size ≤ 2 ^ 32 → size ≤ 0 → (filled : ℕ → ℕ → Bool) → HasFilled g address filled
     → nat_lt 0 size ≡ filled address size
 filled_else g address size o w h filled f =
     let t : nat_lt 0 size ≡ false = grind (arith, nat_tests, h) in
@@ -183,7 +183,7 @@ filled_else g address size o w h filled f =
 
 -- a run is closed, and the next line stands elsewhere
 elsewhere : (g : Ground) (end start a n : ℕ) (filled : ℕ → ℕ → Bool) (runs : List Run)
-    → Fills g end filled → meets runs a n ≡ (meet g.start end a n || meets g.runs.items a n)
+    → HasFilled g end filled → meets runs a n ≡ (meet g.start end a n || meets g.runs.items a n)
     → filled a n ≡ (meet start start a n || meets runs a n)
 elsewhere g end start a n filled runs f e = f a n ∙ sym e ∙ sym (false_or _ _ (empty_met start a n))
   where

@@ -1,14 +1,14 @@
 use Rattle.std.specs.Prelude.{ℕ, ◌+◌, ◌*◌, ◌^◌, ◌/◌, ◌%◌, ◌≤◌, ◌<◌, Bool, true, false, cond, ◌||◌, ◌==◌, nat_lt, nat_le, List, [], ◌∷◌, length, Option, None, Some, Result, Ok, Err, codes, bytes_eq}
-use Rattle.std.proofs.Common.{◌≡◌, refl, subst, arith}
+use Rattle.std.proofs.Common.{◌≡◌, refl, ap, subst, arith}
 use Rattle.std.proofs.lemmas.Bool.Decides.{Decides-eqb, nat_tests}
 use Rattle.m161_isa.specs.declared.table.Row.{Row}
 use Rattle.m161_isa.specs.declared.operand.Operand.{Operand}
 use Rattle.m161_isa.specs.declared.operand.Operand.TheVariants as operand
 use Rattle.m161_isa.specs.Table.{table, width_of, AreOperands}
 use Rattle.m161_asm.specs.Tokens.{Placed, Name, Directive, Register, tokens}
-use Rattle.m161_asm.specs.Lines.{◌>>=◌, Fault, Whole, Value, Part, Field, BranchTo, JumpTo, Reads, Statement, Nothing, Origin, Space, Entry, Words, Code, Line, register, wrong, whole, is_within, bits_of_whole, part, immediate, register_part, base, target, mark, value, comma, separated, ended, parts, plain_number, multiple, origin, space, entry, words, unknown, values, directive_statement, row_named, instruction, name_statement, statement, label_of, sound, past_of, line_column, size_of}
+use Rattle.m161_asm.specs.Lines.{◌>>=◌, Fault, Whole, Value, Part, Field, BranchTo, JumpTo, Parsed, Statement, Nothing, Origin, Space, Entry, Words, Code, SourceLine, register, wrong, whole, is_within, bits_of_whole, part, immediate, register_part, base, target, mark, value, comma, separated, finish, parts, plain_number, multiple, origin, space, entry, words_statement, unknown, values, directive_statement, row_named, instruction, name_statement, statement, label_of, sound, past_of, line_column, size_of}
 use Rattle.m161_asm.specs.Text.{words_in, segments_in, address_below, with_place, is_outside, is_filled, new_label, line_of, on_line, read_lines, target_of, distance, field_of, each}
-use Rattle.m161_asm.specs.Lawful.{IsPart, AreParts, IsStatement, IsLine, Lawful}
+use Rattle.m161_asm.specs.Lawful.{IsPart, AreParts, IsStatement, HasPlace, Lawful}
 
 -- Lines that were read are lawful.
 
@@ -35,7 +35,7 @@ register_small past [] x e = cc
 register_small past ((Register n, c, d) ∷ ts) x e =
     elim (nat_lt n 32) as
     (λ b. nat_lt n 32 ≡ b
-    → cond {A = Reads ℕ} b (Ok (n, ts)) (wrong past ((Register n, c, d) ∷ ts)) ≡ Ok x
+    → cond {A = Parsed ℕ} b (Ok (n, ts)) (wrong past ((Register n, c, d) ∷ ts)) ≡ Ok x
     → x.0 < 32) [
       | true ↦ λ t f. let small : n < 32 =
           grind (arith, nat_tests, t) in
@@ -63,7 +63,8 @@ immediate_is o low high width past ts x w p e =
     by (is_within low high b.x.0) b.x.0 b.x.1 _ b.gives
   where
     by : (t : Bool) (n : Whole) (us : List Placed) (f : Fault)
-        → cond {A = Reads Part} t (Ok (Field (bits_of_whole width n), us)) (Err f) ≡ Ok x → IsPart o x.0
+        → cond {A = Parsed Part} t (Ok (Field (bits_of_whole width n), us)) (Err f) ≡ Ok x
+        → IsPart o x.0
     by true n us f d =
         subst (λ (y : Part × List Placed). IsPart o y.0)
         (same (Field (bits_of_whole width n), us) x d) (rw w (bits_small width n p))
@@ -104,14 +105,14 @@ part_is operand.Branch past ts x e =
     target_is operand.Branch BranchTo past ts x (λ v. omega arith) e
 part_is operand.Jump past ts x e = target_is operand.Jump JumpTo past ts x (λ v. omega arith) e
 
-ended_is : {A : Type 0} (y z : A) (past : ℕ) (ts : List Placed) → ended y past ts ≡ Ok z → y ≡ z
-ended_is y z past [] e = same y z e
-ended_is y z past (t ∷ ts) e = cc
+finish_is : {A : Type 0} (y z : A) (past : ℕ) (ts : List Placed) → finish y past ts ≡ Ok z → y ≡ z
+finish_is y z past [] e = same y z e
+finish_is y z past (t ∷ ts) e = cc
 
 parts_are : (first : Bool) (os : List Operand) (past : ℕ) (ts : List Placed) (xs : List Part)
     → parts first os past ts ≡ Ok xs → AreParts os xs
 unfolding parts
-parts_are first [] past ts xs e = subst (AreParts []) (ended_is [] xs past ts e) tt
+parts_are first [] past ts xs e = subst (AreParts []) (finish_is [] xs past ts e) tt
 parts_are first (o ∷ os) past ts xs e =
     let a = bound (separated first o past ts) _ xs e in
     let p = bound (comma first o past ts) _ a.x a.read in
@@ -126,11 +127,11 @@ multiple_is past ts x e =
     let a = bound (plain_number past ts) _ x e in
     by a.x _ a.gives
   where
-    by : (y : ℕ × List Placed) (f : Fault) → cond {A = Reads ℕ} (y.0 % 4 == 0) (Ok y) (Err f) ≡ Ok x
-        → x.0 % 4 ≡ 0
+    by : (y : ℕ × List Placed) (f : Fault)
+        → cond {A = Parsed ℕ} (y.0 % 4 == 0) (Ok y) (Err f) ≡ Ok x → x.0 % 4 ≡ 0
     by y f d =
         elim (y.0 % 4 == 0) as
-        (λ b. (y.0 % 4 == 0) ≡ b → cond {A = Reads ℕ} b (Ok y) (Err f) ≡ Ok x → x.0 % 4 ≡ 0) [
+        (λ b. (y.0 % 4 == 0) ≡ b → cond {A = Parsed ℕ} b (Ok y) (Err f) ≡ Ok x → x.0 % 4 ≡ 0) [
           | true ↦ λ t g. subst (λ (z : ℕ × List Placed). z.0 % 4 ≡ 0) (same y x g)
               ((Decides-eqb (y.0 % 4) 0).0 t)
           | false ↦ λ t g. cc
@@ -139,20 +140,21 @@ multiple_is past ts x e =
 origin_is : (past : ℕ) (ts : List Placed) (s : Statement) → origin past ts ≡ Ok s → IsStatement s
 origin_is past ts s e =
     let a = bound (multiple past ts) _ s e in
-    subst IsStatement (ended_is (Origin a.x.0) s past a.x.1 a.gives)
+    subst IsStatement (finish_is (Origin a.x.0) s past a.x.1 a.gives)
     (multiple_is past ts a.x a.read)
 
 space_is : (past : ℕ) (ts : List Placed) (s : Statement) → space past ts ≡ Ok s → IsStatement s
 space_is past ts s e =
     let a = bound (multiple past ts) _ s e in
-    subst IsStatement (ended_is (Space (a.x.0 / 4)) s past a.x.1 a.gives) tt
+    subst IsStatement (finish_is (Space (a.x.0 / 4)) s past a.x.1 a.gives) tt
 
 entry_is : (past : ℕ) (ts : List Placed) (s : Statement) → entry past ts ≡ Ok s → IsStatement s
 entry_is past ts s e =
     let a = bound (value past ts) _ s e in
-    subst IsStatement (ended_is (Entry a.x.0) s past a.x.1 a.gives) tt
+    subst IsStatement (finish_is (Entry a.x.0) s past a.x.1 a.gives) tt
 
-words_is : (past : ℕ) (ts : List Placed) (s : Statement) → words past ts ≡ Ok s → IsStatement s
+words_is : (past : ℕ) (ts : List Placed) (s : Statement) → words_statement past ts ≡ Ok s
+    → IsStatement s
 words_is past ts s e =
     let a = bound (values (length ts) past ts) _ s e in
     subst IsStatement (same (Words a.x) s a.gives) tt
@@ -173,7 +175,7 @@ unfolding directive_statement
 directive_is x column past ts s e =
     directive_by s (bytes_eq x (codes "org")) (bytes_eq x (codes "space"))
     (bytes_eq x (codes "entry")) (bytes_eq x (codes "word")) (origin past ts) (space past ts)
-    (entry past ts) (words past ts) column
+    (entry past ts) (words_statement past ts) column
     (origin_is past ts s) (space_is past ts s) (entry_is past ts s) (words_is past ts s) e
 
 instruction_is : (o : Option Row) (column past : ℕ) (ts : List Placed) (s : Statement)
@@ -186,7 +188,7 @@ instruction_is (Some r) column past ts s e =
 
 named_is : (t : Bool) (x : List ℕ) (column past : ℕ) (ts : List Placed) (s : Statement)
     → name_statement t x column past ts ≡ Ok s → IsStatement s
-named_is true x column past ts s e = subst IsStatement (ended_is (Space 1) s past ts e) tt
+named_is true x column past ts s e = subst IsStatement (finish_is (Space 1) s past ts e) tt
 named_is false x column past ts s e = instruction_is (row_named x) column past ts s e
 
 statement_is : (past : ℕ) (ts : List Placed) (s : Statement) → statement past ts ≡ Ok s
@@ -198,14 +200,16 @@ statement_is past ((Name n, c, x) ∷ ts) s e = named_is (bytes_eq n (codes "nop
 statement_is past ((t, c, x) ∷ ts) s e = cc
 
 -- lines
-record Placement (above : List Line) (l m : Line) : Type 0 where
+record Placement (above : List SourceLine) (l m : SourceLine) : Type 0 where
   pub same : l ≡ m
   pub outside : is_outside above l ≡ false
   pub free : is_filled above (address_below above) (size_of l.statement) ≡ false
 
-placed_by : (above : List Line) (l m : Line) (t u : Bool) (e f : Fault) → is_outside above l ≡ t
+placed_by : (above : List SourceLine) (l m : SourceLine) (t u : Bool) (e f : Fault)
+    → is_outside above l ≡ t
     → is_filled above (address_below above) (size_of l.statement) ≡ u
-    → cond {A = Result Line Fault} t (Err e) (cond u (Err f) (Ok l)) ≡ Ok m → Placement above l m
+    → cond {A = Result SourceLine Fault} t (Err e) (cond u (Err f) (Ok l)) ≡ Ok m
+    → Placement above l m
 placed_by above l m true u e f g h d = cc
 placed_by above l m false true e f g h d = cc
 placed_by above l m false false e f g h d = record { same = same l m d; outside = g; free = h }
@@ -218,7 +222,8 @@ second_of : (b c : Bool) → (b || c) ≡ false → c ≡ false
 second_of true c e = cc
 second_of false c e = e
 
-placed_is : (above : List Line) (l m : Line) → with_place above l ≡ Ok m → Placement above l m
+placed_is : (above : List SourceLine) (l m : SourceLine) → with_place above l ≡ Ok m
+    → Placement above l m
 unfolding with_place
 placed_is above l m e =
     placed_by above l m (is_outside above l)
@@ -227,8 +232,9 @@ placed_is above l m e =
 at_most : (low high : ℕ) → nat_lt low high ≡ false → high ≤ low
 at_most low high e = grind (arith, nat_tests, e)
 
-lawful_line : (above : List Line) (l m : Line) → IsStatement l.statement → Placement above l m
-    → IsLine above l
+lawful_line : (above : List SourceLine) (l m : SourceLine) → IsStatement l.statement
+    → Placement above l m
+    → HasPlace above l
 lawful_line above l m s p =
     let o = p.outside in
     record {
@@ -241,20 +247,21 @@ lawful_line above l m s p =
       free = p.free;
     }
 
-pub line_is : (above : List Line) (ts : List Placed) (l : Line) → line_of above ts ≡ Ok l
+pub line_is : (above : List SourceLine) (ts : List Placed) (l : SourceLine)
+    → line_of above ts ≡ Ok l
     → Lawful above → Lawful (l ∷ above)
 unfolding line_of
 line_is above ts l e h =
     let a = bound (sound ts) _ l e in
     let b = bound (new_label above (label_of ts).0) _ l a.gives in
     let c = bound (statement (past_of ts) (label_of ts).1) _ l b.gives in
-    let r : Line = record
+    let r : SourceLine = record
     { label = (label_of ts).0; statement = c.x; column = line_column ts (label_of ts).1 } in
     let p = placed_is above r l c.gives in
-    subst (λ (m : Line). Lawful (m ∷ above)) p.same
+    subst (λ (m : SourceLine). Lawful (m ∷ above)) p.same
     (lawful_line above r l (statement_is _ _ c.x c.read) p, h)
 
-pub read_is : (above : List Line) (texts : List (List ℕ)) (all : List Line)
+pub read_is : (above : List SourceLine) (texts : List (List ℕ)) (all : List SourceLine)
     → read_lines above texts ≡ Ok all → Lawful above → Lawful all
 unfolding read_lines
 read_is above [] all e h = subst Lawful (same above all e) h
@@ -264,9 +271,20 @@ read_is above (t ∷ texts) all e h =
     (line_is above (tokens t) b.x
     (off (1 + length above) b.x (line_of above (tokens t)) b.read) h)
   where
-    off : (n : ℕ) (x : Line) (r : Result Line Fault) → on_line n r ≡ Ok x → r ≡ Ok x
+    off : (n : ℕ) (x : SourceLine) (r : Result SourceLine Fault) → on_line n r ≡ Ok x → r ≡ Ok x
     off n x (Ok y) d = cc
     off n x (Err f) d = cc
+
+-- each line is read
+pub read_count : (above : List SourceLine) (texts : List (List ℕ)) (all : List SourceLine)
+    → read_lines above texts ≡ Ok all → length all ≡ length above + length texts
+unfolding read_lines
+read_count above [] all e =
+    let same_count = ap length (same above all e) in omega (arith, same_count)
+read_count above (t ∷ texts) all e =
+    let b = bound (on_line (1 + length above) (line_of above (tokens t))) _ all e in
+    let more = read_count (b.x ∷ above) texts all b.gives in
+    omega (arith, more)
 
 -- the numbers of the parts have room
 field_small : (symbols : List (List ℕ × ℕ)) (at : ℕ) (o : Operand) (p : Part) (n : ℕ) → IsPart o p

@@ -3,9 +3,9 @@ use Rattle.std.specs.List.{AllByRecursion}
 use Rattle.std.proofs.Common.{◌≡◌, zero, suc, refl, ap, sym, ◌∙◌, subst, arith}
 use Rattle.std.proofs.lemmas.Bool.Decides.{nat_tests}
 use Rattle.std.proofs.lemmas.List.{length-append}
-use Rattle.m161_asm.specs.Lines.{Fault, Statement, Nothing, Origin, Space, Entry, Words, Code, Line, size_of}
-use Rattle.m161_asm.specs.Text.{Segment, overlap, address_below, words_in, has_words, segments_in, opened, is_filled, origin_of, opened_at, onto_last, on_line, each, word_of, field_of, target_of, words_of, segments_of, full}
-use Rattle.m161_asm.specs.Lawful.{IsStatement, IsLine, Lawful}
+use Rattle.m161_asm.specs.Lines.{Fault, Statement, Nothing, Origin, Space, Entry, Words, Code, SourceLine, size_of}
+use Rattle.m161_asm.specs.Text.{Segment, overlap, address_below, words_in, has_words, segments_in, new_segments, is_filled, origin_of, opened_at, onto_last, on_line, each, word_of_value, field_of, target_of, words_of_statement, segments_of, full}
+use Rattle.m161_asm.specs.Lawful.{IsStatement, HasPlace, Lawful}
 use Rattle.m161_asm.specs.Segments as segments
 use Rattle.m161_asm.specs.Segments.{IsPlaced, ArePlaced, IsApart, AreApart, AreSegments}
 use Rattle.m161_asm.proofs.Filled.{full_more}
@@ -29,14 +29,14 @@ zeros_len zero = refl
 zeros_len (suc n) = let e = zeros_len n in omega (arith, e)
 
 words_len : (symbols : List (List ℕ × ℕ)) (at : ℕ) (s : Statement) (ws : List ℕ)
-    → words_of symbols at s ≡ Ok ws → length ws ≡ size_of s
-unfolding words_of
+    → words_of_statement symbols at s ≡ Ok ws → length ws ≡ size_of s
+unfolding words_of_statement
 words_len symbols at Nothing ws e = ap length (sym (same [] ws e))
 words_len symbols at (Origin n) ws e = ap length (sym (same [] ws e))
 words_len symbols at (Space n) ws e = ap length (sym (same (replicate n 0) ws e)) ∙ zeros_len n
 words_len symbols at (Entry v) ws e =
     let a = bound (target_of symbols v) _ ws e in ap length (sym (same [] ws a.gives))
-words_len symbols at (Words vs) ws e = each_len (word_of symbols) vs ws e
+words_len symbols at (Words vs) ws e = each_len (word_of_value symbols) vs ws e
 words_len symbols at (Code r ps) ws e =
     let a = bound (each (field_of symbols at) ps) _ ws e in ap length (sym (same _ ws a.gives))
 
@@ -101,17 +101,17 @@ full_len s older =
     ∙ ap (λ n. length (full older) + n) (full_one s)
 
 -- what the segments of lines have, the last one first
-record Kept (all : List Line) (s : Segment) (older : List Segment) : Type 0 where
+record Kept (all : List SourceLine) (s : Segment) (older : List Segment) : Type 0 where
   pub end : s.0 + 4 * length s.1 ≡ address_below all
   pub ended : IsEnded s
   pub olds : AllByRecursion IsEnded older
-  pub total : length s.1 + segments.words_of older ≡ words_in all
+  pub total : length s.1 + segments.word_count older ≡ words_in all
   pub some : nat_lt 0 (length s.1) ≡ has_words all
   pub count : length (full (s ∷ older)) ≡ segments_in all
   pub covers : (a n : ℕ) → is_filled all a n ≡ any (s ∷ older) a n
   pub apart : AreApart (s ∷ older)
 
-abbrev KeptAll : List Line → List Segment → Type 0
+abbrev KeptAll : List SourceLine → List Segment → Type 0
 KeptAll all [] = ⊥
 KeptAll all (s ∷ older) = Kept all s older
 
@@ -119,12 +119,14 @@ longer : (len m : ℕ) → nat_lt 0 (len + m) ≡ (nat_lt 0 m || nat_lt 0 len)
 longer len m = grind (arith, nat_tests)
 
 counted : (len m k : ℕ)
-    → k + cond (nat_lt 0 (len + m)) 1 0 ≡ k + cond (nat_lt 0 len) 1 0 + opened m (nat_lt 0 len)
+    → k + cond (nat_lt 0 (len + m)) 1 0
+    ≡ k + cond (nat_lt 0 len) 1 0 + new_segments m (nat_lt 0 len)
 counted len m k = grind (arith, nat_tests)
 
 -- a line's words join the last segment
-joined : (above : List Line) (l : Line) (s : Segment) (older : List Segment) (ws : List ℕ)
-    → Kept above s older → length ws ≡ size_of l.statement → IsLine above l
+joined : (above : List SourceLine) (l : SourceLine) (s : Segment) (older : List Segment)
+    (ws : List ℕ)
+    → Kept above s older → length ws ≡ size_of l.statement → HasPlace above l
     → Kept (record { label = l.label; statement = Space (size_of l.statement); column = l.column }
     ∷ above) (s.0, s.1 ++ ws) older
 unfolding address_below is_filled
@@ -144,8 +146,8 @@ joined above l s older ws k n i =
       some = rw len (longer (length s.1) m ∙ ap (λ b. nat_lt 0 m || b) k.some);
       count =
           full_len (s.0, s.1 ++ ws) older ∙ rw len (counted (length s.1) m (length (full older)))
-          ∙ ap (λ x. x + opened m (nat_lt 0 (length s.1))) (sym (full_len s older) ∙ k.count)
-          ∙ ap (λ b. segments_in above + opened m b) k.some;
+          ∙ ap (λ x. x + new_segments m (nat_lt 0 (length s.1))) (sym (full_len s older) ∙ k.count)
+          ∙ ap (λ b. segments_in above + new_segments m b) k.some;
       covers =
           λ a x. ap (λ b. overlap (address_below above) m a x || b) (k.covers a x)
           ∙ or_grouped (overlap (address_below above) m a x) (overlap s.0 (length s.1) a x)
@@ -159,7 +161,7 @@ joined above l s older ws k n i =
       );
     }
 
-abbrev words_only : Line → Line
+abbrev words_only : SourceLine → SourceLine
 words_only l = record {
   label = l.label;
   statement = Space (size_of l.statement);
@@ -167,7 +169,7 @@ words_only l = record {
 }
 
 -- a line that stays in the segment, and one that opens another
-stays : (above : List Line) (l : Line) (s : Segment) (older : List Segment)
+stays : (above : List SourceLine) (l : SourceLine) (s : Segment) (older : List Segment)
     → origin_of l.statement ≡ None → Kept (words_only l ∷ above) s older → Kept (l ∷ above) s older
 unfolding address_below is_filled
 stays above l s older o k =
@@ -182,7 +184,7 @@ stays above l s older o k =
       apart = k.apart;
     }
 
-leaves : (above : List Line) (l : Line) (n : ℕ) (s : Segment) (older : List Segment)
+leaves : (above : List SourceLine) (l : SourceLine) (n : ℕ) (s : Segment) (older : List Segment)
     → origin_of l.statement ≡ Some n → n % 4 ≡ 0 → Kept (words_only l ∷ above) s older
     → Kept (l ∷ above) (n, []) (s ∷ older)
 unfolding address_below is_filled
@@ -198,7 +200,7 @@ leaves above l n s older o w k =
       apart = (empty_apart n (s ∷ older), k.apart);
     }
 
-origin_multiple : (s : Statement) (n : ℕ) → IsStatement s → origin_of s ≡ Some n → n % 4 ≡ 0
+pub origin_multiple : (s : Statement) (n : ℕ) → IsStatement s → origin_of s ≡ Some n → n % 4 ≡ 0
 origin_multiple (Origin k) n h e = let q : k ≡ n = cc in subst (λ (x : ℕ). x % 4 ≡ 0) q h
 origin_multiple Nothing n h e = cc
 origin_multiple (Space k) n h e = cc
@@ -206,9 +208,10 @@ origin_multiple (Entry v) n h e = cc
 origin_multiple (Words vs) n h e = cc
 origin_multiple (Code r ps) n h e = cc
 
-line_on : (above : List Line) (l : Line) (s : Segment) (older : List Segment) (ws : List ℕ)
+line_on : (above : List SourceLine) (l : SourceLine) (s : Segment) (older : List Segment)
+    (ws : List ℕ)
     (o : Option ℕ) → origin_of l.statement ≡ o → Kept above s older
-    → length ws ≡ size_of l.statement → IsLine above l
+    → length ws ≡ size_of l.statement → HasPlace above l
     → KeptAll (l ∷ above) (opened_at o ((s.0, s.1 ++ ws) ∷ older))
 line_on above l s older ws None o k n i =
     stays above l (s.0, s.1 ++ ws) older o (joined above l s older ws k n i)
@@ -220,14 +223,15 @@ off : (n : ℕ) (x : List ℕ) (r : Result (List ℕ) Fault) → on_line n r ≡
 off n x (Ok y) d = cc
 off n x (Err f) d = cc
 
-line_all : (above : List Line) (l : Line) (ss : List Segment) (ws : List ℕ) → KeptAll above ss
-    → length ws ≡ size_of l.statement → IsLine above l
+line_all : (above : List SourceLine) (l : SourceLine) (ss : List Segment) (ws : List ℕ)
+    → KeptAll above ss
+    → length ws ≡ size_of l.statement → HasPlace above l
     → KeptAll (l ∷ above) (opened_at (origin_of l.statement) (onto_last ws ss))
 line_all above l [] ws k n i = absurd k
 line_all above l (s ∷ older) ws k n i =
     line_on above l s older ws (origin_of l.statement) refl k n i
 
-kept : (symbols : List (List ℕ × ℕ)) (all : List Line) (ss : List Segment)
+kept : (symbols : List (List ℕ × ℕ)) (all : List SourceLine) (ss : List Segment)
     → segments_of symbols all ≡ Ok ss → Lawful all → KeptAll all ss
 unfolding segments_of address_below is_filled
 kept symbols [] ss e h =
@@ -245,10 +249,10 @@ kept symbols [] ss e h =
 kept symbols (l ∷ above) ss e (i, h) =
     let a = bound (segments_of symbols above) _ ss e in
     let b = bound
-    (on_line (1 + length above) (words_of symbols (address_below above) l.statement)) _ ss
+    (on_line (1 + length above) (words_of_statement symbols (address_below above) l.statement)) _ ss
     a.gives in
     let ws = off (1 + length above) b.x
-    (words_of symbols (address_below above) l.statement) b.read in
+    (words_of_statement symbols (address_below above) l.statement) b.read in
     subst (KeptAll (l ∷ above))
     (same (opened_at (origin_of l.statement) (onto_last b.x a.x)) ss b.gives)
     (line_all above l a.x b.x (kept symbols above a.x a.read h)
@@ -256,21 +260,21 @@ kept symbols (l ∷ above) ss e (i, h) =
 
 -- the same of the segments with words
 total_append : (xs ys : List Segment)
-    → segments.words_of (xs ++ ys) ≡ segments.words_of xs + segments.words_of ys
+    → segments.word_count (xs ++ ys) ≡ segments.word_count xs + segments.word_count ys
 total_append [] ys = omega arith
 total_append (x ∷ xs) ys = let e = total_append xs ys in omega (arith, e)
 
-total_one : (s : Segment) → segments.words_of (full (s ∷ [])) ≡ length s.1
+total_one : (s : Segment) → segments.word_count (full (s ∷ [])) ≡ length s.1
 total_one s =
     elim (nat_lt 0 (length s.1)) as
     (λ b. nat_lt 0 (length s.1) ≡ b
-    → segments.words_of (reverse (cond b (s ∷ []) [])) ≡ length s.1)
+    → segments.word_count (reverse (cond b (s ∷ []) [])) ≡ length s.1)
     [ true ↦ λ t. omega arith | false ↦ λ t. grind (arith, nat_tests, t) ] refl
 
-total_full : (ss : List Segment) → segments.words_of (full ss) ≡ segments.words_of ss
+total_full : (ss : List Segment) → segments.word_count (full ss) ≡ segments.word_count ss
 total_full [] = refl
 total_full (s ∷ ss) =
-    let a = ap segments.words_of (full_more s ss) in
+    let a = ap segments.word_count (full_more s ss) in
     let b = total_append (full ss) (full (s ∷ [])) in
     let c = total_one s in
     let d = total_full ss in
@@ -329,11 +333,11 @@ apart_full (s ∷ ss) (h, hs) =
     subst AreApart (sym (full_more s ss))
     (apart_append s (full ss) (apart_full ss hs) (apart_from s ss h))
 
-limits : (all : List Line) → Lawful all → (words_in all ≤ 4194304) × (segments_in all ≤ 1024)
+limits : (all : List SourceLine) → Lawful all → (words_in all ≤ 4194304) × (segments_in all ≤ 1024)
 limits [] h = (omega arith, omega arith)
 limits (l ∷ above) (i, h) = (i.words, i.segments)
 
-pub are_segments : (symbols : List (List ℕ × ℕ)) (all : List Line) (s : Segment)
+pub are_segments : (symbols : List (List ℕ × ℕ)) (all : List SourceLine) (s : Segment)
     (older : List Segment) → segments_of symbols all ≡ Ok (s ∷ older) → Lawful all
     → AreSegments (full (s ∷ older))
 are_segments symbols all s older e h =

@@ -1,8 +1,8 @@
 use Rattle.std.specs.Prelude.{◌⊎◌, ℕ, ◌+◌, ◌*◌, ◌≤◌, Bool, true, false, ◌||◌, nat_lt, List, ◌∷◌, None, Some}
 use Rattle.std.proofs.Common.{◌≡◌, inl, inr, refl, ap, sym, ◌∙◌, arith}
 use Rattle.m161_asm.specs.declared.place.Position.{Position}
-use Rattle.m161_asm.specs.Lines.{Line, size_of}
-use Rattle.m161_asm.specs.Text.{address_below, address_from, has_words_from, opened, is_filled, overlap, origin_of}
+use Rattle.m161_asm.specs.Lines.{SourceLine, size_of}
+use Rattle.m161_asm.specs.Text.{address_below, address_from, has_words_from, new_segments, is_filled, overlap, origin_of}
 use Rattle.m161_asm.specs.Ground.{IsOrdered, meet, meets}
 use Rattle.m161_asm.specs.declared.ground.Ground.{Ground}
 use Rattle.m161_asm.proofs.Grounds.{grown}
@@ -23,7 +23,8 @@ moved old mid new n size a m =
     }
 
 -- the position behind a line more
-pub behind_line : (old new : Position) (above : List Line) (l : Line) → IsBehind old above
+pub behind_line : (old new : Position) (above : List SourceLine) (l : SourceLine)
+    → IsBehind old above
     → Advances old new (origin_of l.statement) (size_of l.statement) → IsBehind new (l ∷ above)
 unfolding address_below is_filled
 behind_line old new above l b a =
@@ -67,7 +68,7 @@ or_grouped false c d = refl
 
 pub grew : (old new : Position) (size : ℕ) → IsPosition old → HasRoom old size
     → new.address ≡ old.address + 4 * size → new.words ≡ size + old.words
-    → new.segments ≡ old.segments + opened size old.has_words
+    → new.segments ≡ old.segments + new_segments size old.has_words
     → new.has_words ≡ (nat_lt 0 size || old.has_words) → new.ground ≡ old.ground
     → Advances old new None size
 grew old new size p r a w s h g =

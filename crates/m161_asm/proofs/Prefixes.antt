@@ -8,11 +8,11 @@ use Rattle.m161_asm.specs.declared.statement.ReadError.TheVariants as errors
 use Rattle.m161_asm.specs.declared.error.AsmError.{AsmError}
 use Rattle.m161_asm.specs.declared.error.ErrorKind.TheVariants as faults
 use Rattle.m161_asm.specs.declared.second.SecondPass.{SecondPass}
-use Rattle.m161_asm.specs.Lines.{Fault, Line}
+use Rattle.m161_asm.specs.Lines.{Fault, SourceLine}
 use Rattle.m161_asm.specs.Text.{segments_of}
 use Rattle.m161_asm.specs.Lawful.{Lawful}
 use Rattle.m161_asm.specs.Seen.{line_seen, above_of, IsTold}
-use Rattle.m161_asm.specs.SecondPass.{Fills}
+use Rattle.m161_asm.specs.SecondPass.{FillsLine}
 use Rattle.m161_asm.proofs.Above.{took, above_len}
 
 -- The first lines of a text, while the second pass goes over them.
@@ -50,7 +50,7 @@ pub next_above : (ls : List CodeLine) (d : CodeLine) (i : ℕ) → i < length ls
 next_above ls d i h =
     took (take i ls) (take (i + 1) ls) (slice_index_or ls i d) (take_next ls d i h)
 
-lawful_behind : (xs ys : List Line) → Lawful (xs ++ ys) → Lawful ys
+lawful_behind : (xs ys : List SourceLine) → Lawful (xs ++ ys) → Lawful ys
 lawful_behind [] ys h = h
 lawful_behind (x ∷ xs) ys (a, h) = lawful_behind xs ys h
 
@@ -62,7 +62,7 @@ lawful_at ls d i h l =
     (subst Lawful (sym (above_at ls (i + 1))) l))
 
 -- a fault stays, whatever stands below
-faulty : (symbols : List (List ℕ × ℕ)) (xs ys : List Line) (e : ℕ × Fault)
+faulty : (symbols : List (List ℕ × ℕ)) (xs ys : List SourceLine) (e : ℕ × Fault)
     → segments_of symbols ys ≡ Err e → segments_of symbols (xs ++ ys) ≡ Err e
 unfolding segments_of
 faulty symbols [] ys e h = h
@@ -70,7 +70,7 @@ faulty symbols (x ∷ xs) ys e h = rw (faulty symbols xs ys e h) refl
 
 pub told_pass : (e : AsmError) (r : ReadError) (symbols : List (List ℕ × ℕ)) (ls : List CodeLine)
     (d : CodeLine) (i : ℕ) (new : SecondPass) → IsTold e (i + 1) r → i < length ls
-    → Fills (Err r) new symbols (line_seen (slice_index_or ls i d) ∷ above_of (take i ls))
+    → FillsLine (Err r) new symbols (line_seen (slice_index_or ls i d) ∷ above_of (take i ls))
     → ((e.kind ≡ faults.NoMemory) × (e.column ≡ 1))
     ⊎ (segments_of symbols (above_of ls) ≡ Err (e.line, (e.kind, e.column)))
 told_pass e errors.Memory symbols ls d i new t h f = inl t
@@ -79,7 +79,7 @@ told_pass e (errors.Fault x) symbols ls d i new (l, c, k) h f =
     ≡ e.line = omega (arith, l, above_len (take i ls), length_taken ls i (omega (arith, h))) in
     let here : segments_of symbols (above_of (take (i + 1) ls))
     ≡ Err (e.line, (e.kind, e.column)) = rw (next_above ls d i h) (f ∙ rw (size, c, k) refl) in
-    inr (subst (λ (xs : List Line). segments_of symbols xs ≡ Err (e.line, (e.kind, e.column)))
+    inr (subst (λ (xs : List SourceLine). segments_of symbols xs ≡ Err (e.line, (e.kind, e.column)))
     (above_at ls (i + 1))
     (faulty symbols (above_of (drop (i + 1) ls)) (above_of (take (i + 1) ls))
     (e.line, (e.kind, e.column)) here))
@@ -93,10 +93,10 @@ lawful_here ls x i e h l =
 
 pub told_here : (e : AsmError) (r : ReadError) (symbols : List (List ℕ × ℕ)) (ls : List CodeLine)
     (x : CodeLine) (i : ℕ) (new : SecondPass) → x ≡ slice_index_or ls i x → IsTold e (i + 1) r
-    → i < length ls → Fills (Err r) new symbols (line_seen x ∷ above_of (take i ls))
+    → i < length ls → FillsLine (Err r) new symbols (line_seen x ∷ above_of (take i ls))
     → ((e.kind ≡ faults.NoMemory) × (e.column ≡ 1))
     ⊎ (segments_of symbols (above_of ls) ≡ Err (e.line, (e.kind, e.column)))
 told_here e r symbols ls x i new q t h f =
     told_pass e r symbols ls x i new t h
-    (subst (λ (y : CodeLine). Fills (Err r) new symbols (line_seen y ∷ above_of (take i ls))) q
+    (subst (λ (y : CodeLine). FillsLine (Err r) new symbols (line_seen y ∷ above_of (take i ls))) q
     f)

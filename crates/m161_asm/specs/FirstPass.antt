@@ -4,7 +4,7 @@ use Rattle.m161_asm.specs.Text.{symbols_in}
 use Rattle.m161_asm.specs.Seen.{above_of, symbols_seen}
 use Rattle.m161_asm.specs.Passes.{IsBehind}
 
--- the pass has the symbols of its lines, and stands behind them
+-- the pass has the symbols of its lines, and is at the position after them
 pub record IsPass (p : FirstPass) : Type 0 where
   pub position : IsBehind p.position (above_of p.lines.items)
   pub symbols : symbols_seen p.symbols ≡ symbols_in (above_of p.lines.items)

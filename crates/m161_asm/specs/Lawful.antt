@@ -1,12 +1,12 @@
 use Rattle.std.specs.Prelude.{◌≡◌, ◌%◌, false, ◌+◌, ◌*◌, ◌^◌, ◌≤◌, ◌<◌, List, [], ◌∷◌}
 use Rattle.m161_isa.specs.declared.operand.Operand.{Operand}
 use Rattle.m161_isa.specs.Table.{table, width_of}
-use Rattle.m161_asm.specs.Lines.{Part, Field, BranchTo, JumpTo, Statement, Origin, Code, Line, size_of}
+use Rattle.m161_asm.specs.Lines.{Part, Field, BranchTo, JumpTo, Statement, Origin, Code, SourceLine, size_of}
 use Rattle.m161_asm.specs.Text.{address_below, words_in, segments_in, is_filled}
 
--- What is known of lines that were read: the second pass rests on it.
+-- Facts about lines that were read, which the second pass uses.
 
--- the number of a part has room in the operand's field
+-- the number of a part fits the operand's field
 abbrev pub IsPart : Operand → Part → Type 0
 IsPart o (Field n) = n < 2 ^ width_of o
 IsPart o (BranchTo v) = 2 ^ 16 ≤ 2 ^ width_of o
@@ -22,14 +22,14 @@ IsStatement (Origin n) = n % 4 ≡ 0
 IsStatement (Code r ps) = AreParts (table r).operands ps
 IsStatement _ = Unit {0}
 
--- a line that has a place behind these: its parts have room in their fields, and no limit is passed
-pub record IsLine (above : List Line) (l : Line) : Type 0 where
+-- a line that may follow these: its parts fit their fields, and no limit is exceeded
+pub record HasPlace (above : List SourceLine) (l : SourceLine) : Type 0 where
   pub statement : IsStatement l.statement
   pub within : address_below above + 4 * size_of l.statement ≤ 2 ^ 32
   pub words : words_in (l ∷ above) ≤ 4194304
   pub segments : segments_in (l ∷ above) ≤ 1024
   pub free : is_filled above (address_below above) (size_of l.statement) ≡ false
 
-abbrev pub Lawful : List Line → Type 0
+abbrev pub Lawful : List SourceLine → Type 0
 Lawful [] = Unit {0}
-Lawful (l ∷ above) = IsLine above l × Lawful above
+Lawful (l ∷ above) = HasPlace above l × Lawful above

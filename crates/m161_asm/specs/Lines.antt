@@ -18,19 +18,19 @@ abbrev pub ◌>>=◌ : {A B F : Type 0} → Result A F → (A → Result B F) �
 (Ok x) >>= f = f x
 (Err e) >>= f = Err e
 
--- what is read from the tokens from some place on, and the tokens behind it
-abbrev pub Reads : Type 0 → Type 0
-Reads A = Result (A × List Placed) Fault
+-- a value that is read from tokens, and the tokens after it
+abbrev pub Parsed : Type 0 → Type 0
+Parsed A = Result (A × List Placed) Fault
 
--- a whole number, as what is added less what is taken away
+-- a whole number, as the difference of two
 abbrev pub Whole : Type 0
 Whole = ℕ × ℕ
 
--- from so far below zero to so far above it
+-- a whole number is from -low to high
 abbrev pub is_within : ℕ → ℕ → Whole → Bool
 is_within low high n = nat_le n.1 (n.0 + low) && nat_le n.0 (n.1 + high)
 
--- its last so many bits
+-- its last `width` bits
 abbrev pub bits_of_whole : ℕ → Whole → ℕ
 bits_of_whole width n = (n.0 + 2 ^ width - n.1) % 2 ^ width
 
@@ -59,7 +59,7 @@ abbrev pub here : ℕ → List Placed → ℕ
 here past [] = past
 here past (t ∷ ts) = t.1
 
--- what is wanted isn't there
+-- the fault that the expected token is missing
 abbrev pub wrong : {A : Type 0} → ℕ → List Placed → Result A Fault
 wrong past ts = Err (faults.BadOperand, here past ts)
 
@@ -68,73 +68,73 @@ mark byte past ((Mark b, c, e) ∷ ts) = if b == byte then Ok ts else wrong past
 mark byte past ts = wrong past ts
 
 -- each register token is below 32; the test makes that plain here
-abbrev pub register : ℕ → List Placed → Reads ℕ
+abbrev pub register : ℕ → List Placed → Parsed ℕ
 register past ((Register n, c, e) ∷ ts) =
     if nat_lt n 32 then Ok (n, ts) else wrong past ((Register n, c, e) ∷ ts)
 register past ts = wrong past ts
 
-abbrev pub plain_number : ℕ → List Placed → Reads ℕ
+abbrev pub plain_number : ℕ → List Placed → Parsed ℕ
 plain_number past ((Number n, c, e) ∷ ts) = Ok (n, ts)
 plain_number past ts = wrong past ts
 
 -- `[-] number`; 45 is `-`, 43 is `+`
-abbrev pub less : ℕ → List Placed → Reads Whole
+abbrev pub less : ℕ → List Placed → Parsed Whole
 less past ts = do
   n ← plain_number past ts
   Ok ((0, n.0), n.1)
 
-abbrev pub more : ℕ → List Placed → Reads Whole
+abbrev pub more : ℕ → List Placed → Parsed Whole
 more past ts = do
   n ← plain_number past ts
   Ok ((n.0, 0), n.1)
 
-abbrev pub whole : ℕ → List Placed → Reads Whole
+abbrev pub whole : ℕ → List Placed → Parsed Whole
 whole past ((Mark b, c, e) ∷ ts) =
     if b == 45 then less past ts else wrong past ((Mark b, c, e) ∷ ts)
 whole past ts = more past ts
 
 -- `[+ number | - number]`
-abbrev pub addend : ℕ → List Placed → Reads Whole
+abbrev pub addend : ℕ → List Placed → Parsed Whole
 addend past ((Mark b, c, e) ∷ ts) =
     if b == 43 then more past ts else if b == 45 then less past ts
     else Ok ((0, 0), (Mark b, c, e) ∷ ts)
 addend past ts = Ok ((0, 0), ts)
 
-abbrev pub with_label : Option (List ℕ) → ℕ → Reads Whole → Reads Value
+abbrev pub with_label : Option (List ℕ) → ℕ → Parsed Whole → Parsed Value
 with_label label column read = do
   n ← read
   Ok (record { label = label; number = n.0; column = column }, n.1)
 
-abbrev pub value : ℕ → List Placed → Reads Value
+abbrev pub value : ℕ → List Placed → Parsed Value
 value past ((Name x, c, e) ∷ ts) = with_label (Some x) c (addend past ts)
 value past ts = with_label None (here past ts) (whole past ts)
 
--- a number from -low to high, as a field of so many bits
-abbrev pub immediate : ℕ → ℕ → ℕ → ℕ → List Placed → Reads Part
+-- a number from -low to high, as a field of `width` bits
+abbrev pub immediate : ℕ → ℕ → ℕ → ℕ → List Placed → Parsed Part
 immediate low high width past ts = do
   n ← whole past ts
   if is_within low high n.0 then Ok (Field (bits_of_whole width n.0), n.1)
       else Err (faults.OutOfRange, here past ts)
 
-abbrev pub register_part : ℕ → List Placed → Reads Part
+abbrev pub register_part : ℕ → List Placed → Parsed Part
 register_part past ts = do
   n ← register past ts
   Ok (Field n.0, n.1)
 
-abbrev pub base : ℕ → List Placed → Reads Part
+abbrev pub base : ℕ → List Placed → Parsed Part
 base past ts = do
   inner ← mark 40 past ts
   n ← register past inner
   outer ← mark 41 past n.1
   Ok (Field n.0, outer)
 
-abbrev pub target : (Value → Part) → ℕ → List Placed → Reads Part
+abbrev pub target : (Value → Part) → ℕ → List Placed → Parsed Part
 target part past ts = do
   v ← value past ts
   Ok (part v.0, v.1)
 
 -- an operand, by its kind in the table
-unfoldable pub part : Operand → ℕ → List Placed → Reads Part
+unfoldable pub part : Operand → ℕ → List Placed → Parsed Part
 part operand.Rd past ts = register_part past ts
 part operand.Rs past ts = register_part past ts
 part operand.Rt past ts = register_part past ts
@@ -147,25 +147,25 @@ part operand.Base past ts = base past ts
 part operand.Branch past ts = target BranchTo past ts
 part operand.Jump past ts = target JumpTo past ts
 
--- a comma (44) before each operand but the first, and but a base
+-- a comma (44) before each operand except the first and a base
 abbrev pub comma : Bool → Operand → ℕ → List Placed → Result (List Placed) Fault
 comma true o past ts = Ok ts
 comma false operand.Base past ts = Ok ts
 comma false _ past ts = mark 44 past ts
 
-abbrev pub separated : Bool → Operand → ℕ → List Placed → Reads Part
+abbrev pub separated : Bool → Operand → ℕ → List Placed → Parsed Part
 separated first o past ts = do
   inner ← comma first o past ts
   part o past inner
 
--- nothing more stands on the line
-abbrev pub ended : {A : Type 0} → A → ℕ → List Placed → Result A Fault
-ended x past [] = Ok x
-ended x past (t ∷ ts) = wrong past (t ∷ ts)
+-- the line ends here
+abbrev pub finish : {A : Type 0} → A → ℕ → List Placed → Result A Fault
+finish x past [] = Ok x
+finish x past (t ∷ ts) = wrong past (t ∷ ts)
 
 -- the operands of a row
 unfoldable pub parts : Bool → List Operand → ℕ → List Placed → Result (List Part) Fault
-parts first [] past ts = ended [] past ts
+parts first [] past ts = finish [] past ts
 parts first (o ∷ os) past ts = do
   x ← separated first o past ts
   xs ← parts false os past x.1
@@ -185,7 +185,7 @@ values (suc spare) past ts = do
   Ok (v.0 ∷ vs)
 
 -- the number of `.org` and `.space`: a multiple of 4
-abbrev pub multiple : ℕ → List Placed → Reads ℕ
+abbrev pub multiple : ℕ → List Placed → Parsed ℕ
 multiple past ts = do
   n ← plain_number past ts
   if n.0 % 4 == 0 then Ok n else Err (faults.OutOfRange, here past ts)
@@ -193,20 +193,20 @@ multiple past ts = do
 abbrev pub origin : ℕ → List Placed → Result Statement Fault
 origin past ts = do
   n ← multiple past ts
-  ended (Origin n.0) past n.1
+  finish (Origin n.0) past n.1
 
 abbrev pub space : ℕ → List Placed → Result Statement Fault
 space past ts = do
   n ← multiple past ts
-  ended (Space (n.0 / 4)) past n.1
+  finish (Space (n.0 / 4)) past n.1
 
 abbrev pub entry : ℕ → List Placed → Result Statement Fault
 entry past ts = do
   v ← value past ts
-  ended (Entry v.0) past v.1
+  finish (Entry v.0) past v.1
 
-abbrev pub words : ℕ → List Placed → Result Statement Fault
-words past ts = do
+abbrev pub words_statement : ℕ → List Placed → Result Statement Fault
+words_statement past ts = do
   vs ← values (length ts) past ts
   Ok (Words vs)
 
@@ -218,7 +218,7 @@ directive_statement d column past ts =
     if bytes_eq d (codes "org") then origin past ts
     else if bytes_eq d (codes "space") then space past ts
     else if bytes_eq d (codes "entry") then entry past ts
-    else if bytes_eq d (codes "word") then words past ts
+    else if bytes_eq d (codes "word") then words_statement past ts
     else unknown column
 
 -- the row of a name
@@ -233,7 +233,7 @@ instruction (Some r) column past ts = do
 
 -- `nop` is a word of zeros
 abbrev pub name_statement : Bool → List ℕ → ℕ → ℕ → List Placed → Result Statement Fault
-name_statement true x column past ts = ended (Space 1) past ts
+name_statement true x column past ts = finish (Space 1) past ts
 name_statement false x column past ts = instruction (row_named x) column past ts
 
 unfoldable pub statement : ℕ → List Placed → Result Statement Fault
@@ -242,7 +242,7 @@ statement past ((Directive d, c, e) ∷ ts) = directive_statement d c past ts
 statement past ((Name x, c, e) ∷ ts) = name_statement (bytes_eq x (codes "nop")) x c past ts
 statement past ((t, c, e) ∷ ts) = unknown c
 
--- a label of a line, its column, and the tokens behind it; 58 is `:`
+-- a label of a line, its column, and the tokens after it; 58 is `:`
 abbrev pub Label : Type 0
 Label = Option (List ℕ × ℕ)
 
@@ -255,7 +255,7 @@ label_of ((Name x, c, e) ∷ (Mark b, d, f) ∷ ts) =
     label_if (b == 58) x c ts ((Name x, c, e) ∷ (Mark b, d, f) ∷ ts)
 label_of ts = (None, ts)
 
--- the leftmost token that is none
+-- the leftmost bad token is a fault
 abbrev pub sound : List Placed → Result (Unit {0}) Fault
 sound [] = Ok tt
 sound ((Bad, c, e) ∷ ts) = Err (faults.BadToken, c)
@@ -269,9 +269,9 @@ past_by (Some t) = t.2
 abbrev pub past_of : List Placed → ℕ
 past_of ts = past_by (slice_get ts (length ts - 1))
 
--- a line: its label, its statement, and the column of the statement's word, or of the label where
+-- a line: its label, its statement, and the column of the statement's word, or of the label if
 -- there is no statement
-pub record Line : Type 0 where
+pub record SourceLine : Type 0 where
   pub label : Label
   pub statement : Statement
   pub column : ℕ
@@ -280,7 +280,7 @@ abbrev pub line_column : List Placed → List Placed → ℕ
 line_column all [] = here 1 all
 line_column all (t ∷ ts) = t.1
 
--- how many words a line takes: what its labels stand for plays no part
+-- how many words a line has, whatever the values of its labels
 abbrev pub size_of : Statement → ℕ
 size_of (Space n) = n
 size_of (Words vs) = length vs

@@ -12,11 +12,11 @@ abbrev pub segments_seen : List CodeSegment → List Segment
 segments_seen ss = map segment_seen ss
 
 -- how many words they have
-abbrev pub words_of : List Segment → ℕ
-words_of [] = 0
-words_of (s ∷ ss) = length s.1 + words_of ss
+abbrev pub word_count : List Segment → ℕ
+word_count [] = 0
+word_count (s ∷ ss) = length s.1 + word_count ss
 
--- a segment has a word or more, begins at a multiple of 4 and ends by the end of all addresses
+-- a segment has at least one word, begins at a multiple of 4 and ends by the end of all addresses
 abbrev pub IsPlaced : Segment → Type 0
 IsPlaced s = (0 < length s.1) × (s.0 % 4 ≡ 0) × (s.0 + 4 * length s.1 ≤ 2 ^ 32)
 
@@ -31,9 +31,13 @@ abbrev pub AreApart : List Segment → Type 0
 AreApart [] = Unit {0}
 AreApart (s ∷ ss) = AllByRecursion (IsApart s) ss × AreApart ss
 
+-- each symbol's address is a multiple of 4
+abbrev pub AreAligned : List (List ℕ × ℕ) → Type 0
+AreAligned symbols = AllByRecursion (λ symbol. symbol.1 % 4 ≡ 0) symbols
+
 -- the limits of a program
 pub record AreSegments (ss : List Segment) : Type 0 where
-  pub words : words_of ss ≤ 4194304
+  pub words : word_count ss ≤ 4194304
   pub count : length ss ≤ 1024
   pub placed : ArePlaced ss
   pub apart : AreApart ss

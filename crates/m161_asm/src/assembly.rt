@@ -1,12 +1,13 @@
 //! A text to a program.
 
-ghost use Rattle.std.specs.Prelude.{◌≡◌, ◌∷◌, [], ◌++◌, ℕ, List, IfOk, Ok};
+ghost use Rattle.std.specs.Prelude.{◌≡◌, ◌<◌, ◌%◌, ◌∷◌, [], ◌++◌, ℕ, List, length, IfOk, IfErr, Ok, unwrap_or};
+ghost use Rattle.m161_asm.specs.Tokens as tokens;
 ghost use Rattle.m161_asm.specs.Lines as lines;
 ghost use Rattle.m161_asm.specs.Text.{text, first_address, full, symbols_in, program_of};
 ghost use Rattle.m161_asm.specs.Seen.{symbols_seen};
-ghost use Rattle.m161_asm.specs.Answer.{program_seen, Tells};
+ghost use Rattle.m161_asm.specs.Answer.{program_seen, Tells, IsWithinLines};
 ghost use Rattle.m161_asm.specs.SecondPass.{IsFilled};
-ghost use Rattle.m161_asm.specs.Segments.{segment_seen, segments_seen, AreSegments};
+ghost use Rattle.m161_asm.specs.Segments.{segment_seen, segments_seen, AreAligned, AreSegments};
 
 use crate::error::AsmError;
 use crate::first::{FirstPass, at_line, first_pass};
@@ -19,8 +20,9 @@ use std::alloc::Global;
 
 // The segments with words.
 fn with_last(done: Vec<Segment>, current: Segment) -> Result<Vec<Segment>, ReadError>
-    ensures { IfOk result (λ segments. segments_seen segments.items ≡ segments_seen done.items
-        ++ full (segment_seen current ∷ [])) }
+    ensures value { IfOk result (λ segments. segments_seen segments.items ≡
+        segments_seen done.items ++ full (segment_seen current ∷ [])) }
+    ensures some { IfErr result (λ _. 0 < length current.words.items) }
 {
     let mut segments = done;
     if current.words.len() > 0 {
@@ -42,11 +44,15 @@ fn first_address(segments: &[Segment]) -> u32
 
 // The program of all lines.
 fn program_with(second: SecondPass, symbols: IndexMap<String, u32>) -> Result<Program, ReadError>
-    requires { AreSegments (segments_seen second.done.items ++ full
+    requires segments { AreSegments (segments_seen second.done.items ++ full
         (segment_seen second.current ∷ [])) }
-    ensures { (all : List lines.Line) → symbols_seen symbols ≡ symbols_in all →
+    requires symbols { AreAligned (symbols_seen symbols) }
+    requires entry { unwrap_or second.entry (first_address (segments_seen second.done.items ++ full
+        (segment_seen second.current ∷ []))) % 4 ≡ 0 }
+    ensures value { (all : List lines.SourceLine) → symbols_seen symbols ≡ symbols_in all →
         IsFilled second (symbols_in all) all →
         IfOk result (λ p. program_of all ≡ Ok (program_seen p)) }
+    ensures some { IfErr result (λ _. 0 < length second.current.words.items) }
 {
     let SecondPass {
         done,
@@ -64,13 +70,14 @@ fn program_with(second: SecondPass, symbols: IndexMap<String, u32>) -> Result<Pr
     })
 }
 
-/// The program that a text stands for.
+/// The program of a text.
 ///
 /// # Errors
-/// The first fault of the first faulty line: of the first pass, else of the second. Or memory was
+/// The first fault of the first faulty line, of the first pass or else of the second; or memory was
 /// refused.
 pub fn assemble(alloc: Global, source: &str) -> Result<Program, AsmError>
-    ensures { Tells program_seen result (text source.now) }
+    ensures value { Tells program_seen result (text source.now) }
+    ensures line { IfErr result (IsWithinLines (length (tokens.lines source.now))) }
 {
     let first = match first_pass(alloc, source.as_bytes()) {
         Ok(first) => first,

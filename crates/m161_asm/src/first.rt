@@ -1,12 +1,12 @@
 //! The first pass: a text to its lines and symbols.
 
-ghost use Rattle.std.specs.Prelude.{◌≡◌, ◌≤◌, ◌<◌, ◌+◌, ◌^◌, ◌++◌, ◌∷◌, [], length, drop, take, OnOk, IfOk, is_some, true, List, ℕ};
+ghost use Rattle.std.specs.Prelude.{◌≡◌, ◌≤◌, ◌<◌, ◌+◌, ◌^◌, ◌++◌, ◌∷◌, [], length, drop, take, OnOk, IfOk, IfErr, is_some, true, List, ℕ};
 ghost use Rattle.std.specs.List.{position_or_len};
 ghost use Rattle.m161_asm.specs.Tokens.{tokens, lines};
 ghost use Rattle.m161_asm.specs.Lines.{size_of, line_column};
 ghost use Rattle.m161_asm.specs.Text.{line_of, read_lines};
 ghost use Rattle.m161_asm.specs.Seen.{Yields, IsTold, Goes, statement_seen, label_seen, line_seen, above_of, all_seen, symbols_seen};
-ghost use Rattle.m161_asm.specs.Answer.{Tells};
+ghost use Rattle.m161_asm.specs.Answer.{Tells, IsWithinLines};
 ghost use Rattle.m161_asm.specs.Passes.{HasRoom, IsNew};
 ghost use Rattle.m161_asm.specs.FirstPass.{IsPass};
 
@@ -21,7 +21,7 @@ use crate::token::Placed;
 use indexmap::IndexMap;
 use std::alloc::Global;
 
-/// The lines so far, their symbols, and where the next line stands.
+/// The lines so far, their symbols, and the position of the next line.
 #[derive(Drop)]
 pub struct FirstPass<'a> {
     pub lines: Vec<Line<'a>>,
@@ -29,7 +29,7 @@ pub struct FirstPass<'a> {
     pub position: Position,
 }
 
-// The column of the statement's word, or of the label where there is no statement.
+// The column of the statement's word, or of the label if there is no statement.
 fn line_column(all: &[Placed<'_>], rest: &[Placed<'_>]) -> usize
     ensures { result ≡ line_column (all_seen all.now) (all_seen rest.now) }
 {
@@ -40,9 +40,10 @@ fn line_column(all: &[Placed<'_>], rest: &[Placed<'_>]) -> usize
     }
 }
 
-/// What is wrong with a line of this number.
+/// The error of a fault on the line of this number.
 pub(crate) fn at_line(line: usize, error: ReadError) -> AsmError
-    ensures { IsTold result line error }
+    ensures told { IsTold result line error }
+    ensures line { result.line ≡ line }
 {
     match error {
         ReadError::Memory => AsmError {
@@ -98,7 +99,7 @@ impl<'a> FirstPass<'a> {
         Ok(line)
     }
 
-    // Takes a line that was read.
+    // Adds a line that was read.
     fn take(&mut self, alloc: Global, line: Line<'a>) -> Result<(), ReadError>
         requires pass { IsPass self.old }
         requires new { IsNew (symbols_seen self.old.symbols) (label_seen line.label) }
@@ -116,7 +117,7 @@ impl<'a> FirstPass<'a> {
         Ok(())
     }
 
-    // Reads and takes the next line.
+    // Reads and adds the next line.
     fn next(&mut self, alloc: Global, line: &'a [u8]) -> Result<(), AsmError>
         requires pass { IsPass self.old }
         requires small { length line.now < 2 ^ 63 }
@@ -124,6 +125,9 @@ impl<'a> FirstPass<'a> {
         ensures value { (below : List (List ℕ)) →
             Goes result (read_lines (above_of self.old.lines.items) (line.now ∷ below))
             (read_lines (above_of self.new.lines.items) below) }
+        ensures count { OnOk result (length self.new.lines.items ≡
+            length self.old.lines.items + 1) }
+        ensures line { IfErr result (λ e. e.line ≡ length self.old.lines.items + 1) }
     {
         let number = self.lines.len() + 1;
         let line = match self.read(alloc, line) {
@@ -137,7 +141,7 @@ impl<'a> FirstPass<'a> {
     }
 }
 
-// What stands behind a line of this length.
+// The text after a line of this length.
 fn behind_line(rest: &[u8], len: usize) -> &[u8]
     requires { len ≤ length rest.now }
     ensures { result.now ≡ drop (len + 1) rest.now }
@@ -154,6 +158,7 @@ pub(crate) fn first_pass<'a>(alloc: Global, text: &'a [u8]) -> Result<FirstPass<
     requires { length text.now < 2 ^ 63 }
     ensures value { Tells (λ p. above_of p.lines.items) result (read_lines [] (lines text.now)) }
     ensures pass { IfOk result IsPass }
+    ensures line { IfErr result (IsWithinLines (length (lines text.now))) }
 {
     let mut pass = FirstPass::new(alloc);
     let mut rest = &text[..];

@@ -1,20 +1,20 @@
 //! Which addresses are filled.
 
 ghost use Rattle.std.specs.Prelude.{◌≡◌, ◌≤◌, ◌<◌, ◌+◌, ◌*◌, ◌^◌, ℕ, Bool, OnOk, length, drop, false, List, ◌||◌, ◌⊎◌};
-ghost use Rattle.m161_asm.specs.Ground.{InOrder, Splits, IsOrdered, Fills, limit_of, meet, meets};
+ghost use Rattle.m161_asm.specs.Ground.{InOrder, Splits, IsOrdered, HasFilled, limit_of, meet, meets};
 
 use crate::statement::ReadError;
 use std::alloc::Global;
 
-/// Addresses that follow one another: from `start` to before `end`.
+/// A run of addresses: from `start` up to, but not including, `end`.
 #[derive(Clone, Copy)]
 pub struct Run {
     pub start: u64,
     pub end: u64,
 }
 
-/// The runs that lines have filled, by address; the run in which the next line stands has begun at
-/// `start`, below the run at the place `next`, and meets it at `limit`.
+/// The runs that lines have filled, by address. The run of the next line began at `start`, below
+/// the run at the place `next`, and would meet that at `limit`.
 #[derive(Drop)]
 pub struct Ground {
     pub runs: Vec<Run>,
@@ -23,7 +23,7 @@ pub struct Ground {
     pub limit: u64,
 }
 
-// The place of the first run that ends above an address: found by halves.
+// The place of the first run that ends above an address, by binary search.
 fn place_of(runs: &[Run], start: u64) -> usize
     requires { InOrder 0 runs.now }
     ensures { Splits start result runs.now }
@@ -56,10 +56,10 @@ fn limit_at(runs: &[Run], place: usize) -> u64
 }
 
 impl Ground {
-    /// Nothing is filled, and the next line stands at `start`.
+    /// Nothing is filled, and the next line is at `start`.
     pub(crate) fn new(alloc: Global, start: u64) -> Ground
         ensures ordered { IsOrdered result start }
-        ensures fills { Fills result start (λ a n. false) }
+        ensures fills { HasFilled result start (λ a n. false) }
     {
         Ground {
             runs: Vec::new(alloc),
@@ -69,18 +69,18 @@ impl Ground {
         }
     }
 
-    /// Whether one of so many words at the next line's address is filled.
+    /// Whether one of `size` words at the next line's address is filled.
     pub(crate) fn is_filled(&self, address: u64, size: u64) -> bool
         requires ordered { IsOrdered self.now address }
         requires within { address + 4 * size ≤ 2 ^ 32 }
-        ensures value { (filled : ℕ → ℕ → Bool) → Fills self.now address filled →
+        ensures value { (filled : ℕ → ℕ → Bool) → HasFilled self.now address filled →
             result ≡ filled address size }
         ensures free { result ≡ false → (size ≡ 0) ⊎ (address + 4 * size ≤ self.now.limit) }
     {
         size > 0 && self.limit < address + 4 * size
     }
 
-    // The run ends at `end`.
+    // Ends the run at `end`.
     fn close(&mut self, end: u64) -> Result<(), ReadError>
         requires { IsOrdered self.old end }
         ensures order { OnOk result (InOrder 0 self.new.runs.items) }
@@ -98,12 +98,12 @@ impl Ground {
         Ok(())
     }
 
-    /// The run ends at `end`, and the next line stands at `start`.
+    /// Ends the run at `end`; the next line is at `start`.
     pub(crate) fn reopen(&mut self, end: u64, start: u64) -> Result<(), ReadError>
         requires { IsOrdered self.old end }
         ensures ordered { OnOk result (IsOrdered self.new start) }
-        ensures fills { OnOk result ((filled : ℕ → ℕ → Bool) → Fills self.old end filled →
-            Fills self.new start filled) }
+        ensures fills { OnOk result ((filled : ℕ → ℕ → Bool) → HasFilled self.old end filled →
+            HasFilled self.new start filled) }
     {
         self.close(end)?;
         self.next = place_of(&self.runs, start);

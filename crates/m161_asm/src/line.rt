@@ -1,7 +1,7 @@
 //! Tokens to statements and labels.
 
 ghost use Rattle.std.specs.Prelude.{◌≡◌, length};
-ghost use Rattle.m161_asm.specs.Lines.{here, multiple, origin, space, entry, words, values, ended, unknown, directive_statement, instruction, name_statement, statement, label_of, sound, past_of, line_column};
+ghost use Rattle.m161_asm.specs.Lines.{here, multiple, origin, space, entry, words_statement, values, finish, unknown, directive_statement, instruction, name_statement, statement, label_of, sound, past_of, line_column};
 ghost use Rattle.m161_asm.specs.Seen.{seen, all_seen, Gives, Yields, number_seen, value_seen, part_seen, statement_seen, label_read};
 ghost use Rattle.std.specs.Prelude.{map, bytes_eq, codes};
 ghost use Rattle.m161_asm.specs.declared.error.ErrorKind.TheVariants as faults;
@@ -13,13 +13,13 @@ use crate::token::{Placed, Token};
 use m161_isa::Row;
 use std::alloc::Global;
 
-// The statement, where nothing more stands on the line.
-fn ended<'a>(
+// The statement, if the line ends here.
+fn finish<'a>(
     statement: Statement<'a>,
     past: usize,
     ts: &[Placed<'a>],
 ) -> Result<Statement<'a>, Fault>
-    ensures { Gives statement_seen result (ended (statement_seen statement.entry) past
+    ensures { Gives statement_seen result (finish (statement_seen statement.entry) past
         (all_seen ts.now)) }
 {
     match next(ts) {
@@ -47,24 +47,24 @@ fn origin<'a>(past: usize, ts: &[Placed<'a>]) -> Result<Statement<'a>, Fault>
     ensures { Gives statement_seen result (origin past (all_seen ts.now)) }
 {
     let (n, rest) = multiple(past, ts)?;
-    ended(Statement::Origin(n), past, rest)
+    finish(Statement::Origin(n), past, rest)
 }
 
 fn space<'a>(past: usize, ts: &[Placed<'a>]) -> Result<Statement<'a>, Fault>
     ensures { Gives statement_seen result (space past (all_seen ts.now)) }
 {
     let (n, rest) = multiple(past, ts)?;
-    ended(Statement::Space(n / 4), past, rest)
+    finish(Statement::Space(n / 4), past, rest)
 }
 
 fn entry<'a>(past: usize, ts: &[Placed<'a>]) -> Result<Statement<'a>, Fault>
     ensures { Gives statement_seen result (entry past (all_seen ts.now)) }
 {
     let (v, rest) = value(past, ts)?;
-    ended(Statement::Entry(v), past, rest)
+    finish(Statement::Entry(v), past, rest)
 }
 
-// The same tokens: the borrow checker takes what a call gives for the loop's variable.
+// The same tokens: the borrow checker accepts the result of a call for the loop's variable.
 fn same<'a, 'b>(ts: &'b [Placed<'a>]) -> &'b [Placed<'a>]
     ensures { result.now ≡ ts.now }
 {
@@ -164,13 +164,13 @@ fn name_statement<'a>(
         (codes "nop")) name.now column past (all_seen ts.now)) }
 {
     if name == "nop" {
-        Ok(ended(Statement::Space(1), past, ts)?)
+        Ok(finish(Statement::Space(1), past, ts)?)
     } else {
         instruction(alloc, named_row(name.as_bytes()), column, past, ts)
     }
 }
 
-/// The statement of a line's tokens behind its label.
+/// The statement of a line's tokens after its label.
 #[tactic(auto, unfolding(crate::specs::Lines::statement))]
 pub(crate) fn statement<'a>(
     alloc: Global,
@@ -205,7 +205,7 @@ pub(crate) fn statement<'a>(
     }
 }
 
-/// The label of a line, and the tokens behind it.
+/// The label of a line, and the tokens after it.
 pub(crate) fn label_of<'a, 'b>(ts: &'b [Placed<'a>]) -> (Option<Label<'a>>, &'b [Placed<'a>])
     ensures { label_read result ≡ label_of (all_seen ts.now) }
 {
@@ -236,7 +236,7 @@ pub(crate) fn label_of<'a, 'b>(ts: &'b [Placed<'a>]) -> (Option<Label<'a>>, &'b 
     }
 }
 
-/// The leftmost token that is none is a fault.
+/// The leftmost bad token is a fault.
 pub(crate) fn sound(ts: &[Placed<'_>]) -> Result<(), Fault>
     ensures { Gives (λ _. tt) result (sound (all_seen ts.now)) }
 {

@@ -12,7 +12,7 @@ use crate::statement::{Fault, Part, ReadError, Value, Whole};
 use crate::token::{Placed, Token};
 use m161_isa::{Operand, ROWS, Row, rows_in_order};
 
-// The next token, and those behind it.
+// The next token, and those after it.
 pub(crate) fn next<'a, 'b>(ts: &'b [Placed<'a>]) -> Option<(Placed<'a>, &'b [Placed<'a>])>
     ensures within { IfSome result (λ x. length x.1.now < length ts.now) }
     ensures parts { MatchOption result (all_seen ts.now ≡ []) (λ x. all_seen ts.now
@@ -35,7 +35,7 @@ pub(crate) fn here(past: usize, ts: &[Placed<'_>]) -> usize
     }
 }
 
-// What is wanted isn't there.
+// The fault that the expected token is missing.
 pub(crate) fn wrong(past: usize, ts: &[Placed<'_>]) -> Fault
     ensures kind { result.kind ≡ faults.BadOperand }
     ensures column { result.column ≡ here past (all_seen ts.now) }
@@ -218,7 +218,7 @@ fn is_within(low: u32, high: u32, n: Whole) -> bool
         && u64::from(n.up) <= u64::from(n.down) + u64::from(high)
 }
 
-// The last so many bits of a number.
+// The last `width` bits of a number.
 fn bits_of_whole(width: u32, n: Whole) -> u32
     requires { width ≤ 32 }
     ensures { result ≡ bits_of_whole width (whole_seen n) }
@@ -227,7 +227,7 @@ fn bits_of_whole(width: u32, n: Whole) -> u32
     ((u64::from(n.up) + modulus).saturating_sub(u64::from(n.down)) % modulus) as u32
 }
 
-// A number from -low to high, as a field of so many bits.
+// A number from -low to high, as a field of `width` bits.
 fn immediate<'a, 'b>(
     low: u32,
     high: u32,
@@ -309,7 +309,7 @@ fn part<'a, 'b>(
     }
 }
 
-// A comma before each operand but the first, and but a base.
+// A comma before each operand except the first and a base.
 fn comma<'a, 'b>(
     first: bool,
     operand: Operand,
@@ -357,7 +357,7 @@ pub(crate) fn parts<'a>(
     }
 }
 
-// An operand and what stands before it.
+// An operand and the comma before it.
 fn separated_part<'a, 'b>(
     first: bool,
     operand: Operand,
@@ -376,7 +376,7 @@ fn is_named(name: &[u8], row: Row) -> bool
     name == row.name().as_bytes()
 }
 
-// What stands behind the first row.
+// The rows after the first.
 fn behind(rows: &[Row]) -> &[Row]
     requires { 0 < length rows.now }
     ensures { result.now ≡ drop 1 rows.now }

@@ -1,9 +1,9 @@
-//! Where the next line stands, and whether a line has a place there.
+//! The address of the next line, and whether a line may be there.
 
 ghost use Rattle.std.specs.Prelude.{◌≡◌, ◌≤◌, ◌<◌, ◌+◌, ◌*◌, ◌^◌, ℕ, Bool, OnOk, List, is_some, nat_lt, ◌||◌, false, true, [], None};
 ghost use Rattle.m161_asm.specs.Lines.{size_of};
 ghost use Rattle.m161_asm.specs.Lines as lines;
-ghost use Rattle.m161_asm.specs.Text.{exceeds, opened, origin_of, address_from, has_words_from, with_place};
+ghost use Rattle.m161_asm.specs.Text.{exceeds, new_segments, origin_of, address_from, has_words_from, with_place};
 ghost use Rattle.m161_asm.specs.Seen.{statement_seen, line_seen, Gives};
 ghost use Rattle.m161_asm.specs.Passes.{IsPosition, IsBehind, HasRoom, Advances, Moves};
 
@@ -15,12 +15,12 @@ use std::alloc::Global;
 /// The first address.
 pub const START: u32 = 0x8000_0200;
 
-// How many words a text may have, and how many segments with words.
+// The greatest number of words of a text, and of segments with words.
 const MAX_WORDS: u64 = 4_194_304;
 
 const MAX_SEGMENTS: u64 = 1024;
 
-/// Where the next line stands: its address, what the lines above have filled, how many words and
+/// The position of the next line: its address, what the lines above have filled, how many words and
 /// segments with words they have, and whether the last segment has words.
 #[derive(Drop)]
 pub struct Position {
@@ -31,7 +31,7 @@ pub struct Position {
     pub ground: Ground,
 }
 
-/// How many words a statement takes.
+/// How many words a statement has.
 pub(crate) fn size_of(statement: &Statement<'_>) -> u64
     ensures { result ≡ size_of (statement_seen statement.now) }
 {
@@ -45,7 +45,7 @@ pub(crate) fn size_of(statement: &Statement<'_>) -> u64
     }
 }
 
-/// Where a statement says that the next line stands.
+/// The address that a statement sets for the next line.
 pub(crate) fn origin_of(statement: &Statement<'_>) -> Option<u32>
     ensures { result ≡ origin_of (statement_seen statement.now) }
 {
@@ -60,24 +60,24 @@ pub(crate) fn origin_of(statement: &Statement<'_>) -> Option<u32>
 }
 
 impl Position {
-    // One, where so many words open a segment.
-    fn opened(&self, size: u64) -> u64
-        ensures value { result ≡ opened size self.now.has_words }
+    // 1 if `size` words open a segment, else 0.
+    fn new_segments(&self, size: u64) -> u64
+        ensures value { result ≡ new_segments size self.now.has_words }
         ensures small { result ≤ 1 }
     {
         if size > 0 && !self.has_words { 1 } else { 0 }
     }
 
-    // Whether so many words exceed a limit.
+    // Whether `size` words exceed a limit.
     fn exceeds(&self, has_label: bool, size: u64) -> bool
         requires { IsPosition self.now }
         ensures { result ≡ exceeds self.now.address has_label size (size + self.now.words)
-            (self.now.segments + opened size self.now.has_words) }
+            (self.now.segments + new_segments size self.now.has_words) }
     {
         if size > MAX_WORDS {
             return true;
         }
-        let segments = self.segments + self.opened(size);
+        let segments = self.segments + self.new_segments(size);
         self.address + 4 * size > 1 << 32
             || (has_label && self.address == 1 << 32)
             || size + self.words > MAX_WORDS
@@ -99,11 +99,11 @@ impl Position {
         }
     }
 
-    /// Whether a line has a place here.
+    /// Whether a line may be here.
     #[tactic(auto, unfolding(crate::specs::Text::with_place))]
     pub(crate) fn place(&self, line: &Line<'_>) -> Result<(), Fault>
         requires { IsPosition self.now }
-        ensures value { (above : List lines.Line) → IsBehind self.now above →
+        ensures value { (above : List lines.SourceLine) → IsBehind self.now above →
             Gives (λ _. line_seen line.now) result (with_place above (line_seen line.now)) }
         ensures room { OnOk result (HasRoom self.now (size_of
             (statement_seen line.now.statement))) }
@@ -131,20 +131,20 @@ impl Position {
         size > 0 || self.has_words
     }
 
-    // Behind so many words.
+    // Goes past `size` words.
     fn grow(&mut self, size: u64)
         requires position { IsPosition self.old }
         requires room { HasRoom self.old size }
         ensures { Advances self.old self.new None size }
     {
-        let opened = self.opened(size);
+        let opened = self.new_segments(size);
         self.segments += opened;
         self.has_words = self.has_words_with(size);
         self.words = size + self.words;
         self.address += 4 * size;
     }
 
-    // Behind an `.org`.
+    // Goes to the address of an `.org`.
     fn move_to(&mut self, start: u32) -> Result<(), ReadError>
         requires { IsPosition self.old }
         ensures { OnOk result (Moves self.old self.new start) }
@@ -156,7 +156,7 @@ impl Position {
         Ok(())
     }
 
-    /// Behind a line's words, or where it says.
+    /// Goes past a line's words, or to the address that the line sets.
 
     pub(crate) fn advance(&mut self, origin: Option<u32>, size: u64) -> Result<(), ReadError>
         requires position { IsPosition self.old }

@@ -1,11 +1,12 @@
-//! What a text is assembled to.
+//! The result of assembling a text.
 
-ghost use Rattle.std.specs.Prelude.{◌≤◌, length};
-ghost use Rattle.m161_asm.specs.Segments.{segments_seen, words_of, ArePlaced, AreApart};
+ghost use Rattle.std.specs.Prelude.{◌≡◌, ◌≤◌, ◌%◌, length};
+ghost use Rattle.m161_asm.specs.Seen.{symbols_seen};
+ghost use Rattle.m161_asm.specs.Segments.{segments_seen, word_count, ArePlaced, AreApart, AreAligned};
 
 use indexmap::IndexMap;
 
-/// Words that follow one another.
+/// A run of words.
 #[derive(Drop)]
 pub struct Segment {
     /// The address of the first word.
@@ -19,12 +20,14 @@ pub struct Program {
     /// The segments, in the order of the text: at most 1,024, with at most 4,194,304 words. Each
     /// has a word or more, begins at a multiple of 4 and ends by 2^32, and no two overlap.
     pub segments: Vec<Segment>,
-    /// Each label with its address, in the order of the text.
+    /// Each label with its address, a multiple of 4, in the order of the text.
     pub symbols: IndexMap<String, u32>,
-    /// Where the program begins.
+    /// Where the program begins: a multiple of 4.
     pub entry: u32,
-    pub ghost words: { words_of (segments_seen segments.items) ≤ 4194304 },
+    pub ghost words: { word_count (segments_seen segments.items) ≤ 4194304 },
     pub ghost count: { length segments.items ≤ 1024 },
     pub ghost placed: { ∥ ArePlaced (segments_seen segments.items) ∥₁ },
     pub ghost apart: { ∥ AreApart (segments_seen segments.items) ∥₁ },
+    pub ghost symbols_aligned: { ∥ AreAligned (symbols_seen symbols) ∥₁ },
+    pub ghost entry_aligned: { entry % 4 ≡ 0 },
 }

@@ -1,26 +1,27 @@
 //! The second pass: lines to the words of segments.
 
-ghost use Rattle.std.specs.Prelude.{◌≡◌, ◌≤◌, ◌<◌, ◌+◌, ◌*◌, ◌^◌, ◌++◌, ◌∷◌, [], ℕ, List, OnOk, map, unwrap_or, Ok, if◌then◌else◌, nat_lt, length, Option, replicate};
+ghost use Rattle.std.specs.Prelude.{◌≡◌, ◌≤◌, ◌<◌, ◌+◌, ◌*◌, ◌^◌, ◌++◌, ◌∷◌, [], ℕ, List, OnOk, IfErr, map, unwrap_or, Ok, if◌then◌else◌, nat_lt, length, Option, replicate};
 ghost use Rattle.m161_asm.specs.Lines.{size_of};
 ghost use Rattle.m161_asm.specs.Lines as lines;
-ghost use Rattle.m161_asm.specs.Text.{words_of, word_of, each, origin_of, address_from, segments_of, entry_by, full};
+ghost use Rattle.m161_asm.specs.Text.{words_of_statement, word_of_value, each, origin_of, address_from, segments_of, entry_by, full};
 ghost use Rattle.m161_isa.specs.Table.{table};
 ghost use Rattle.m161_asm.specs.Lawful.{AreParts, IsStatement, Lawful};
 ghost use Rattle.m161_asm.specs.Seen.{Appends, part_seen, value_seen, statement_seen, line_seen, above_of, symbols_seen};
-ghost use Rattle.m161_asm.specs.SecondPass.{IsFilled, segment_seen, segments_seen, Fills, Leaves, Passes};
+ghost use Rattle.m161_asm.specs.Answer.{IsWithinLines};
+ghost use Rattle.m161_asm.specs.SecondPass.{IsFilled, segment_seen, segments_seen, FillsLine, AdvancesPass, Passes};
 
 use crate::error::AsmError;
 use crate::first::at_line;
 use crate::place::{START, origin_of, size_of};
 use crate::program::Segment;
 use crate::statement::{Line, Part, ReadError, Statement, Value};
-use crate::values::{entry_by, fields_of, target_of, word_of};
+use crate::values::{entry_by, fields_of, target_of, word_of_value};
 use indexmap::IndexMap;
 use m161_isa::Row;
 use std::alloc::Global;
 
-/// The segments that later lines don't reach, the one in which the next line stands, its address,
-/// and the last `.entry`'s.
+/// The finished segments, the segment of the next line, the address of that line, and that of the
+/// last `.entry`.
 #[derive(Drop)]
 pub struct SecondPass {
     pub done: Vec<Segment>,
@@ -45,11 +46,11 @@ fn push_values(
     symbols: &IndexMap<String, u32>,
     values: &[Value<'_>],
 ) -> Result<(), ReadError>
-    ensures { Appends result words.old.items words.new.items (each (word_of
+    ensures { Appends result words.old.items words.new.items (each (word_of_value
         (symbols_seen symbols.now)) (map value_seen values.now)) }
 {
     for v in values {
-        match word_of(symbols, *v) {
+        match word_of_value(symbols, *v) {
             Ok(word) => words.push(word)?,
             Err(fault) => return Err(ReadError::Fault(fault)),
         }
@@ -57,8 +58,8 @@ fn push_values(
     Ok(())
 }
 
-// Adds the word of an instruction that stands at an address.
-#[tactic(auto, unfolding(crate::specs::Text::words_of), using(crate::proofs::Lawfuls::fields_are))]
+// Adds the word of an instruction at an address.
+#[tactic(auto, unfolding(crate::specs::Text::words_of_statement), using(crate::proofs::Lawfuls::fields_are))]
 fn push_code(
     alloc: Global,
     words: &mut Vec<u32>,
@@ -69,7 +70,7 @@ fn push_code(
 ) -> Result<(), ReadError>
     requires at { at ≤ 2 ^ 32 }
     requires fit { AreParts (table row).operands (map part_seen parts.now) }
-    ensures { Appends result words.old.items words.new.items (words_of
+    ensures { Appends result words.old.items words.new.items (words_of_statement
         (symbols_seen symbols.now) at (lines.Code row (map part_seen parts.now))) }
 {
     let numbers = fields_of(alloc, symbols, at, parts)?;
@@ -78,21 +79,21 @@ fn push_code(
 }
 
 // Tests the target of an `.entry`.
-#[tactic(auto, unfolding(crate::specs::Text::words_of))]
+#[tactic(auto, unfolding(crate::specs::Text::words_of_statement))]
 fn push_entry(
     words: &mut Vec<u32>,
     symbols: &IndexMap<String, u32>,
     v: Value<'_>,
 ) -> Result<(), ReadError>
-    ensures { (at : ℕ) → Appends result words.old.items words.new.items (words_of
+    ensures { (at : ℕ) → Appends result words.old.items words.new.items (words_of_statement
         (symbols_seen symbols.now) at (lines.Entry (value_seen v.entry))) }
 {
     target_of(symbols, v)?;
     Ok(())
 }
 
-// Adds the words of a statement that stands at an address.
-#[tactic(auto, unfolding(crate::specs::Text::words_of))]
+// Adds the words of a statement at an address.
+#[tactic(auto, unfolding(crate::specs::Text::words_of_statement))]
 fn push_words(
     alloc: Global,
     words: &mut Vec<u32>,
@@ -102,7 +103,7 @@ fn push_words(
 ) -> Result<(), ReadError>
     requires at { at ≤ 2 ^ 32 }
     requires lawful { IsStatement (statement_seen statement.now) }
-    ensures { Appends result words.old.items words.new.items (words_of
+    ensures { Appends result words.old.items words.new.items (words_of_statement
         (symbols_seen symbols.now) at (statement_seen statement.now)) }
 {
     match statement {
@@ -150,10 +151,10 @@ impl SecondPass {
         Ok(())
     }
 
-    // Behind a line's words, or where it says.
+    // Goes past a line's words, or to the address that the line sets.
     fn advance(&mut self, alloc: Global, origin: Option<u32>, size: u64) -> Result<(), ReadError>
         requires { self.old.address + 4 * size ≤ 2 ^ 32 }
-        ensures { OnOk result (Leaves self.old self.new origin size) }
+        ensures { OnOk result (AdvancesPass self.old self.new origin size) }
     {
         match origin {
             None => {
@@ -167,7 +168,7 @@ impl SecondPass {
         }
     }
 
-    // The words of the next line.
+    // Adds the words of the next line.
     fn fill(
         &mut self,
         alloc: Global,
@@ -176,10 +177,10 @@ impl SecondPass {
     ) -> Result<(), ReadError>
         requires room { self.old.address + 4 * size_of (statement_seen statement.now) ≤ 2 ^ 32 }
         requires lawful { IsStatement (statement_seen statement.now) }
-        ensures { (above : List lines.Line) (l : lines.Line) →
+        ensures { (above : List lines.SourceLine) (l : lines.SourceLine) →
             l.statement ≡ statement_seen statement.now →
             IsFilled self.old (symbols_seen symbols.now) above →
-            Fills result self.new (symbols_seen symbols.now) (l ∷ above) }
+            FillsLine result self.new (symbols_seen symbols.now) (l ∷ above) }
     {
         let words = &mut self.current.words;
         if let Err(error) = push_words(alloc, words, symbols, self.address, statement) {
@@ -200,7 +201,8 @@ pub(crate) fn second_pass(
     lines: &[Line<'_>],
 ) -> Result<SecondPass, AsmError>
     requires { Lawful (above_of lines.now) }
-    ensures { Passes result (symbols_seen symbols.now) (above_of lines.now) }
+    ensures value { Passes result (symbols_seen symbols.now) (above_of lines.now) }
+    ensures line { IfErr result (IsWithinLines (length lines.now)) }
 {
     let mut pass = SecondPass::new(alloc);
     for i in 0..lines.len() {

@@ -22,12 +22,12 @@ pub(crate) fn address_of(symbols: &IndexMap<String, u32>, name: &str) -> Option<
     }
 }
 
-/// A label that is there already is a fault.
+/// A label that already exists is a fault.
 pub(crate) fn new_label(
     symbols: &IndexMap<String, u32>,
     label: Option<Label<'_>>,
 ) -> Result<(), Fault>
-    ensures value { (above : List lines.Line) → symbols_seen symbols.now ≡ symbols_in above →
+    ensures value { (above : List lines.SourceLine) → symbols_seen symbols.now ≡ symbols_in above →
         Gives (λ _. tt) result (new_label above (label_seen label.entry)) }
     ensures new { OnOk result (IsNew (symbols_seen symbols.now) (label_seen label.entry)) }
 {
@@ -43,7 +43,7 @@ pub(crate) fn new_label(
     }
 }
 
-// Adds a symbol that is not there.
+// Adds a symbol that doesn't exist yet.
 fn add(
     alloc: Global,
     symbols: &mut IndexMap<String, u32>,

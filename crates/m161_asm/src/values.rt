@@ -2,7 +2,7 @@
 
 ghost use Rattle.std.specs.Prelude.{◌≡◌, ◌≤◌, ◌<◌, ◌+◌, ◌^◌, ℕ, IfOk, map, unwrap_or, List};
 ghost use Rattle.m161_asm.specs.declared.error.ErrorKind.TheVariants as faults;
-ghost use Rattle.m161_asm.specs.Text.{number_of, word_of, target_of, branch_field, jump_field, field_of, each, entry_by};
+ghost use Rattle.m161_asm.specs.Text.{number_of_value, word_of_value, target_of, branch_field, jump_field, field_of, each, entry_by};
 ghost use Rattle.m161_asm.specs.Seen.{Gives, Yields, value_seen, part_seen, statement_seen, symbols_seen};
 
 use crate::error::ErrorKind;
@@ -11,10 +11,10 @@ use crate::symbols::address_of;
 use indexmap::IndexMap;
 use std::alloc::Global;
 
-// A value's whole number: what is added, and what is taken away.
+// A value's whole number, as the difference of two.
 #[tactic(auto, unfolding(crate::specs::Text::number_by))]
-fn number_of(symbols: &IndexMap<String, u32>, v: Value<'_>) -> Result<(u64, u64), Fault>
-    ensures value { Gives (λ n. n) result (number_of (symbols_seen symbols.now)
+fn number_of_value(symbols: &IndexMap<String, u32>, v: Value<'_>) -> Result<(u64, u64), Fault>
+    ensures value { Gives (λ n. n) result (number_of_value (symbols_seen symbols.now)
         (value_seen v.entry)) }
     ensures small { IfOk result (λ n. (n.0 < 2 ^ 33) × (n.1 < 2 ^ 32)) }
 {
@@ -43,11 +43,12 @@ fn out_of_range(column: usize) -> Fault
 }
 
 /// The word of a value of `.word`.
-#[tactic(auto, unfolding(crate::specs::Text::word_of))]
-pub(crate) fn word_of(symbols: &IndexMap<String, u32>, v: Value<'_>) -> Result<u32, Fault>
-    ensures { Gives (λ n. n) result (word_of (symbols_seen symbols.now) (value_seen v.entry)) }
+#[tactic(auto, unfolding(crate::specs::Text::word_of_value))]
+pub(crate) fn word_of_value(symbols: &IndexMap<String, u32>, v: Value<'_>) -> Result<u32, Fault>
+    ensures { Gives (λ n. n) result (word_of_value (symbols_seen symbols.now)
+        (value_seen v.entry)) }
 {
-    let (up, down) = number_of(symbols, v)?;
+    let (up, down) = number_of_value(symbols, v)?;
     if down <= up + (1 << 31) && up <= down + 0xffff_ffff {
         Ok(((up + (1 << 32) - down) % (1 << 32)) as u32)
     } else {
@@ -55,12 +56,12 @@ pub(crate) fn word_of(symbols: &IndexMap<String, u32>, v: Value<'_>) -> Result<u
     }
 }
 
-/// The address that a value is: a multiple of 4.
+/// The address of a value: a multiple of 4.
 #[tactic(auto, unfolding(crate::specs::Text::target_of))]
 pub(crate) fn target_of(symbols: &IndexMap<String, u32>, v: Value<'_>) -> Result<u32, Fault>
     ensures { Gives (λ n. n) result (target_of (symbols_seen symbols.now) (value_seen v.entry)) }
 {
-    let (up, down) = number_of(symbols, v)?;
+    let (up, down) = number_of_value(symbols, v)?;
     if down <= up && up <= down + 0xffff_ffff && (up - down) % 4 == 0 {
         Ok((up - down) as u32)
     } else {
@@ -78,7 +79,7 @@ fn too_far(column: usize) -> Fault
     }
 }
 
-// The field of a branch that stands at an address.
+// The field of a branch at an address.
 fn branch_field(at: u64, column: usize, target: u32) -> Result<u32, Fault>
     requires { at ≤ 2 ^ 32 }
     ensures { Gives (λ n. n) result (branch_field at column target) }
@@ -91,7 +92,7 @@ fn branch_field(at: u64, column: usize, target: u32) -> Result<u32, Fault>
     }
 }
 
-// The field of a jump that stands at an address.
+// The field of a jump at an address.
 fn jump_field(at: u64, column: usize, target: u32) -> Result<u32, Fault>
     requires { at ≤ 2 ^ 32 }
     ensures { Gives (λ n. n) result (jump_field at column target) }

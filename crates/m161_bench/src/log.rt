@@ -1,11 +1,11 @@
-//! The log of a run as text, written and read back.
+//! Writing the log of a run as text, and reading it back.
 
 use crate::steps::run;
 use m161_machine::Entry;
 use m161_steplog::{read_log, write_log};
 use std::time::Instant;
 
-/// What was written and read.
+/// The result of writing and reading.
 #[derive(Clone, Copy)]
 pub(crate) struct Measured {
     /// The bytes of the text.
@@ -19,7 +19,7 @@ pub(crate) struct Measured {
 }
 
 // The text of a log, and the nanoseconds of its writing.
-fn written(rt: &HostRuntime, log: &[Entry]) -> Option<(String, u128)> {
+fn write_text(rt: &HostRuntime, log: &[Entry]) -> Option<(String, u128)> {
     let start = Instant::now(rt).ok()?;
     let text = write_log(rt.alloc(), log).ok()?;
     let took = start.elapsed(rt).ok()?;
@@ -27,19 +27,19 @@ fn written(rt: &HostRuntime, log: &[Entry]) -> Option<(String, u128)> {
 }
 
 // How many entries a text has, and the nanoseconds of its reading.
-fn read(rt: &HostRuntime, text: &str) -> Option<(usize, u128)> {
+fn read_text(rt: &HostRuntime, text: &str) -> Option<(usize, u128)> {
     let start = Instant::now(rt).ok()?;
     let entries = read_log(rt.alloc(), text).ok()?;
     let took = start.elapsed(rt).ok()?;
     Some((entries.len(), took.as_nanos()))
 }
 
-/// Writes the log of a run of so many Steps as text, and reads it back.
+/// Writes the log of a run of `steps` Steps as text, and reads it back.
 pub(crate) fn measure(rt: &HostRuntime, image: &[u8], steps: u32) -> Option<Measured> {
     let machine = run(rt.alloc(), image, steps)?;
     let log = machine.copy_log(rt.alloc()).ok()?;
-    let (text, write) = written(rt, log.as_slice())?;
-    let (entries, read) = read(rt, text.as_str())?;
+    let (text, write) = write_text(rt, log.as_slice())?;
+    let (entries, read) = read_text(rt, text.as_str())?;
     Some(Measured {
         bytes: text.len(),
         entries,

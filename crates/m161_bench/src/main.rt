@@ -1,16 +1,16 @@
 //! The machine's side of the benchmarks: Steps through a loop of loads, stores, shifts, sums and a
-//! branch with its slot, the log's entry written each Step.
+//! branch with its slot, with a log entry for each Step.
 //!
 //! ```text
 //! m161_bench RUNS [STEPS [ROW]]   RUNS runs of STEPS Steps each, or of 1,000,000; the loop runs in
 //!                                 kseg0, or mapped by ROW of the TLB
-//! m161_bench log STEPS            the log of one run in kseg0 as text, written and read back
+//! m161_bench log STEPS            writes the log of one run in kseg0 as text, and reads it back
 //! ```
 //!
-//! Each run boots the loop's file anew, with a log of that size, and makes the Steps. To standard
-//! output go the number of all Steps and the sum of the runs' last words; or the length of the text
-//! and the number of the entries read back. To standard error go the nanoseconds that the runs
-//! took; or that the writing took and that the reading took.
+//! Each run boots the loop's file again, with a log of that size, and makes the Steps. Standard
+//! output gets the number of all Steps and the sum of the runs' last words; or the length of the
+//! text and the number of entries read back. Standard error gets the nanoseconds of the runs; or
+//! those of the writing and of the reading.
 //!
 //! As a user's program does, this one also calls `decode` and makes a Step by itself, so that the
 //! compiler has the same reasons to inline the loop of Steps or not.
@@ -27,10 +27,10 @@ use std::env;
 use std::process::ExitCode;
 use std::time::Instant;
 
-/// The Steps of a run where the arguments don't say.
+/// The Steps of a run if the arguments don't say.
 const STEPS: u32 = 1_000_000;
 
-/// What the arguments ask for.
+/// A task of the program.
 #[derive(Clone, Copy)]
 enum Task {
     /// The time of some runs.
@@ -65,7 +65,7 @@ fn arguments(rt: &HostRuntime) -> Option<Task> {
     Some(Task::Runs { runs, steps, row })
 }
 
-// Makes the runs, and says what came of them; `None` where it doesn't.
+// Makes the runs and prints their results; `None` if something fails.
 fn make_runs(rt: &HostRuntime, times: u32, steps: u32, row: Option<u8>) -> Option<()> {
     let image = image(rt.alloc(), row)?;
     let start = Instant::now(rt).ok()?;
@@ -76,7 +76,7 @@ fn make_runs(rt: &HostRuntime, times: u32, steps: u32, row: Option<u8>) -> Optio
     eprintln!(rt; "{nanoseconds}").ok()
 }
 
-// Writes and reads the log of a run, and says what came of it; `None` where it doesn't.
+// Writes and reads the log of a run and prints the result; `None` if something fails.
 fn make_log(rt: &HostRuntime, steps: u32) -> Option<()> {
     let image = image(rt.alloc(), None)?;
     let measured = measure(rt, image.as_slice(), steps)?;

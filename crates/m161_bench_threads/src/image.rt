@@ -4,8 +4,7 @@ use m161_asm::assemble;
 use m161_elf::write;
 use std::alloc::Global;
 
-/// Processor 0 starts processor 1, which begins at `both` as it does itself then. The loop is that
-/// of `m161_bench`.
+/// Processor 0 starts processor 1; then both are at `both`. The loop is that of `m161_bench`.
 const SOURCE: &str = "\
         lui     $8, 0xbfff
         ori     $9, $8, 0x8400      # the place of processor 1
@@ -30,7 +29,7 @@ loop:   lw      $8, 0($16)
         addu    $17, $17, $18
 ";
 
-/// Its file.
+/// The file of the program.
 pub(crate) fn image(alloc: Global) -> Option<Vec<u8>> {
     let program = assemble(alloc, SOURCE).ok()?;
     write(alloc, &program).ok()

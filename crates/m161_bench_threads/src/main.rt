@@ -10,8 +10,8 @@
 //! processors' Steps in each of the three ways, and to standard error the nanoseconds that each
 //! took.
 //!
-//! It is a program of its own, since one that steps two processors can't take the processor's
-//! number for a constant: the Steps of `m161_bench` would be slower by it.
+//! It is a program of its own: in a program that steps two processors the processor's number isn't
+//! a constant, which would make the Steps of `m161_bench` slower.
 #![tactic(auto)]
 
 mod image;
@@ -31,7 +31,7 @@ fn arguments(rt: &HostRuntime) -> Option<u32> {
     words.next()?.parse().ok()
 }
 
-// Makes the Steps in each way, and says what came of it; `None` where it doesn't.
+// Makes the Steps in each way and prints the results; `None` if something fails.
 fn make_all<R: Threads + Wait + Clock + AllocGlobal + Print + Eprint + Sync>(
     rt: &R,
     steps: u32,

@@ -24,13 +24,13 @@ pub(crate) struct Took {
 pub(crate) struct Measured {
     /// In two threads, one for each processor.
     pub(crate) threads: Took,
-    /// In one thread, the processors by turns of one Step.
+    /// In one thread, the processors by turns, one Step each.
     pub(crate) turns: Took,
-    /// In one thread, all Steps of a processor in one go.
+    /// In one thread, all Steps of a processor at once.
     pub(crate) whole: Took,
 }
 
-/// A gate that is open.
+/// A gate that is always open.
 #[derive(Clone, Copy)]
 struct Open;
 
@@ -40,8 +40,8 @@ impl Gate for Open {
     }
 }
 
-// A machine of two started processors, with room for so many Steps of each.
-fn started(alloc: Global, image: &[u8], steps: u32) -> Option<Machine<Scan, PlainConsole>> {
+// A machine of two started processors, with room for `steps` Steps of each.
+fn start_machine(alloc: Global, image: &[u8], steps: u32) -> Option<Machine<Scan, PlainConsole>> {
     let conf = Conf {
         ram: 65_536,
         processors: 2,
@@ -52,8 +52,8 @@ fn started(alloc: Global, image: &[u8], steps: u32) -> Option<Machine<Scan, Plai
     Some(machine)
 }
 
-// How many Steps a machine made since both processors are started.
-fn made(machine: &Machine<Scan, PlainConsole>) -> Option<u64> {
+// How many Steps a machine has made since both processors were started.
+fn steps_made(machine: &Machine<Scan, PlainConsole>) -> Option<u64> {
     if machine.processors() != 2 {
         return None;
     }
@@ -61,25 +61,25 @@ fn made(machine: &Machine<Scan, PlainConsole>) -> Option<u64> {
     Some(all.saturating_sub(u64::from(START)))
 }
 
-// Makes so many Steps of each processor, in a thread for each.
+// Makes `steps` Steps of each processor, in a thread for each.
 fn in_threads<R: Threads + Wait + Clock + AllocGlobal + Sync>(
     rt: &R,
     image: &[u8],
     steps: u32,
 ) -> Option<Took> {
-    let machine = started(rt.alloc(), image, steps)?;
+    let machine = start_machine(rt.alloc(), image, steps)?;
     let start = Instant::now(rt).ok()?;
     let report = run(rt, rt.alloc(), machine, &[steps, steps], &Open).ok()?;
     let took = start.elapsed(rt).ok()?;
     Some(Took {
-        steps: made(&report.machine)?,
+        steps: steps_made(&report.machine)?,
         nanoseconds: took.as_nanos(),
     })
 }
 
-// Makes so many Steps of each processor, by turns of one Step.
+// Makes `steps` Steps of each processor, by turns of one Step.
 fn by_turns(rt: &(impl Clock + AllocGlobal), image: &[u8], steps: u32) -> Option<Took> {
-    let mut machine = started(rt.alloc(), image, steps)?;
+    let mut machine = start_machine(rt.alloc(), image, steps)?;
     let start = Instant::now(rt).ok()?;
     for _ in 0..steps {
         machine.step(0).ok()?;
@@ -87,25 +87,25 @@ fn by_turns(rt: &(impl Clock + AllocGlobal), image: &[u8], steps: u32) -> Option
     }
     let took = start.elapsed(rt).ok()?;
     Some(Took {
-        steps: made(&machine)?,
+        steps: steps_made(&machine)?,
         nanoseconds: took.as_nanos(),
     })
 }
 
-// Makes so many Steps of each processor, those of processor 0 first.
+// Makes `steps` Steps of each processor, those of processor 0 first.
 fn as_whole(rt: &(impl Clock + AllocGlobal), image: &[u8], steps: u32) -> Option<Took> {
-    let mut machine = started(rt.alloc(), image, steps)?;
+    let mut machine = start_machine(rt.alloc(), image, steps)?;
     let start = Instant::now(rt).ok()?;
     let _ = machine.steps(0, steps);
     let _ = machine.steps(1, steps);
     let took = start.elapsed(rt).ok()?;
     Some(Took {
-        steps: made(&machine)?,
+        steps: steps_made(&machine)?,
         nanoseconds: took.as_nanos(),
     })
 }
 
-/// Makes so many Steps of each of two processors, in each of the three ways.
+/// Makes `steps` Steps of each of two processors, in each of the three ways.
 pub(crate) fn measure<R: Threads + Wait + Clock + AllocGlobal + Sync>(
     rt: &R,
     image: &[u8],

@@ -9,7 +9,7 @@ use Rattle.m161_bus.specs.declared.register.Register.TheVariants.{Constant, Cons
 use Rattle.m161_bus.specs.Console.{ConsoleState, console_read, after_console_read, console_written, is_line_up, with_key, done_of}
 use Rattle.m161_bus.specs.Registers.{register_of}
 
--- The board: what it holds, what each register reads as, and what a write leaves. The parts are
+-- The board: its state, what a read of each register gives, and what a write changes. The parts are
 -- those of the System/161 manual; what each word does is this project's own.
 
 -- what the controller keeps for one processor
@@ -29,10 +29,10 @@ pub record BoardState : Type 0 where
   -- how many processors there are
   pub processors : ℕ
   pub irqe : ℕ
-  -- bit c is set where processor c was started
+  -- bit c is set if processor c was started
   pub started : ℕ
   pub off : Bool
-  -- a place for each of 32 processors; those that aren't there stay as at boot
+  -- a place for each of 32 processors; those of processors that don't exist stay as at boot
   pub places : List PlaceState
   pub console : ConsoleState
 
@@ -54,7 +54,7 @@ place_of p b = slice_index_or b.places p (place_at_boot 0)
 abbrev pub with_place : ℕ → PlaceState → BoardState → BoardState
 with_place p place b = record b { places = slice_set b.places p place }
 
--- IRQS: the slots whose line is up; the console in slot 0 alone has a line
+-- IRQS: the slots whose line is up; only the console in slot 0 has a line
 abbrev pub irqs_with : ConsoleState → ℕ
 irqs_with console = if is_line_up console then 1 else 0
 
@@ -69,7 +69,7 @@ irqs_through irqe console = bit_and (irqs_with console) irqe
 abbrev pub cpus : BoardState → ℕ
 cpus b = 2 ^ b.processors - 1
 
--- the lines of a processor, where IRQE lets these bits of IRQS through
+-- the lines of a processor, if IRQE lets these bits of IRQS through
 abbrev pub lines_at : ℕ → PlaceState → ℕ
 lines_at through place =
     (if bit_and through place.cirqe == 0 then 0 else 0x400) + (if place.cipi then 0x800 else 0)
@@ -79,50 +79,50 @@ unfoldable pub lines_of : ℕ → BoardState → ℕ
 lines_of c b = lines_at (irqs_through b.irqe b.console) (place_of c b)
 
 -- the word that processor c reads from a register
-abbrev pub word_of : ℕ → Register → BoardState → ℕ
-word_of c (Constant word) b = word
-word_of c (Console register) b = console_read register b.console
-word_of c RamSize b = b.ram
-word_of c Irqs b = irqs b
-word_of c Power b = 0
-word_of c Irqe b = b.irqe
-word_of c Cpus b = cpus b
-word_of c Cpue b = b.started
-word_of c SelfBit b = 2 ^ c
-word_of c (Cirqe p) b = (place_of p b).cirqe
-word_of c (Cipi p) b = if (place_of p b).cipi then 1 else 0
-word_of c (Cram p i) b = slice_index (place_of p b).cram i
+abbrev pub slot_word : ℕ → Register → BoardState → ℕ
+slot_word c (Constant word) b = word
+slot_word c (Console register) b = console_read register b.console
+slot_word c RamSize b = b.ram
+slot_word c Irqs b = irqs b
+slot_word c Power b = 0
+slot_word c Irqe b = b.irqe
+slot_word c Cpus b = cpus b
+slot_word c Cpue b = b.started
+slot_word c SelfBit b = 2 ^ c
+slot_word c (Cirqe p) b = (place_of p b).cirqe
+slot_word c (Cipi p) b = if (place_of p b).cipi then 1 else 0
+slot_word c (Cram p i) b = slice_index (place_of p b).cram i
 
--- reading changes nothing but the console
+-- reading changes only the console
 abbrev pub after_read : Register → BoardState → BoardState
 after_read (Console register) b = record b { console = after_console_read register b.console }
 after_read other b = b
 
--- what writing a word to a register leaves
-abbrev pub with_word : Register → ℕ → BoardState → BoardState
-with_word (Constant word) value b = b
-with_word (Console register) value b =
+-- the board after a word is written to a register
+abbrev pub with_slot_word : Register → ℕ → BoardState → BoardState
+with_slot_word (Constant word) value b = b
+with_slot_word (Console register) value b =
     record b { console = console_written register value b.console }
-with_word RamSize value b = b
-with_word Irqs value b = b
-with_word Power value b = record b { off = true }
-with_word Irqe value b = record b { irqe = value }
-with_word Cpus value b = b
--- the processors that are there and have a bit are started; a zero bit stops none
-with_word Cpue value b = record b { started = bit_or b.started (bit_and value (cpus b)) }
-with_word SelfBit value b = b
-with_word (Cirqe p) value b = with_place p (record (place_of p b) { cirqe = value }) b
-with_word (Cipi p) value b = with_place p (record (place_of p b) { cipi = not (value == 0) }) b
-with_word (Cram p i) value b =
+with_slot_word RamSize value b = b
+with_slot_word Irqs value b = b
+with_slot_word Power value b = record b { off = true }
+with_slot_word Irqe value b = record b { irqe = value }
+with_slot_word Cpus value b = b
+-- the existing processors with a bit are started; a zero bit stops none
+with_slot_word Cpue value b = record b { started = bit_or b.started (bit_and value (cpus b)) }
+with_slot_word SelfBit value b = b
+with_slot_word (Cirqe p) value b = with_place p (record (place_of p b) { cirqe = value }) b
+with_slot_word (Cipi p) value b = with_place p (record (place_of p b) { cipi = not (value == 0) }) b
+with_slot_word (Cram p i) value b =
     with_place p (record (place_of p b) { cram = slice_set (place_of p b).cram i value }) b
 
 abbrev pub read_from : ℕ → Option Register → BoardState → Result (ℕ × BoardState) BusFault
 read_from c None b = Err (record {})
-read_from c (Some register) b = Ok (word_of c register b, after_read register b)
+read_from c (Some register) b = Ok (slot_word c register b, after_read register b)
 
-abbrev pub written_to : Option Register → ℕ → BoardState → Result BoardState BusFault
-written_to None value b = Err (record {})
-written_to (Some register) value b = Ok (with_word register value b)
+abbrev pub slot_written : Option Register → ℕ → BoardState → Result BoardState BusFault
+slot_written None value b = Err (record {})
+slot_written (Some register) value b = Ok (with_slot_word register value b)
 
 -- the word that processor c reads at a physical address, and the board after it; or a bus fault
 unfoldable pub board_read : ℕ → ℕ → BoardState → Result (ℕ × BoardState) BusFault
@@ -130,14 +130,14 @@ board_read c address b = read_from c (register_of b.processors address) b
 
 -- the board after processor c wrote a word there; or a bus fault. No register looks at who writes
 unfoldable pub board_written : ℕ → ℕ → ℕ → BoardState → Result BoardState BusFault
-board_written c address value b = written_to (register_of b.processors address) value b
+board_written c address value b = slot_written (register_of b.processors address) value b
 
--- what a console's event leaves of the board
+-- the board after an event of its console
 abbrev pub with_console : {E : Type 0} → Result ConsoleState E → BoardState → Result BoardState E
 with_console (Ok console) b = Ok (record b { console = console })
 with_console (Err refusal) b = Err refusal
 
--- a typed byte, and the byte in the latch sent
+-- a byte is typed; the byte in the latch is sent
 abbrev pub board_key : ℕ → BoardState → Result BoardState KeyFull
 board_key byte b = with_console (with_key byte b.console) b
 
@@ -153,7 +153,7 @@ start_words c b = record {
   r29 = 0xbfff8000 + c * 0x400 + 0x400;
 }
 
--- what a read answers and leaves
+-- the result of a read, and the board after it
 abbrev pub Reads :
     Result (ℕ × BoardState) BusFault → BoardState → Result ℕ BusFault → BoardState → Type 0
 Reads (Ok read) old (Ok word) new = (word ≡ read.0) × (new ≡ read.1)

@@ -9,7 +9,7 @@ use Rattle.m161_bus.specs.declared.console.DoneError.TheVariants.{NothingSent}
 -- The console. Its registers and bits are the System/161 manual's in outline; what each does is
 -- this project's own.
 
--- what a console holds
+-- the state of a console
 pub record ConsoleState : Type 0 where
   -- bytes that were typed and not read yet, the oldest first
   pub waiting : List ℕ
@@ -37,11 +37,12 @@ abbrev pub irq_word : IrqBits → ℕ
 irq_word bits =
     (if bits.enable then 1 else 0) + (if bits.active then 2 else 0) + (if bits.force then 4 else 0)
 
-abbrev pub has_bit : ℕ → ℕ → Bool
-has_bit word bit = not (bit_and word bit == 0)
+abbrev pub has_flag : ℕ → ℕ → Bool
+has_flag word bit = not (bit_and word bit == 0)
 
 abbrev pub irq_bits : ℕ → IrqBits
-irq_bits word = record { enable = has_bit word 1; active = has_bit word 2; force = has_bit word 4 }
+irq_bits word =
+    record { enable = has_flag word 1; active = has_flag word 2; force = has_flag word 4 }
 
 -- an interrupt register raises the line
 abbrev pub is_up : IrqBits → Bool
@@ -63,38 +64,38 @@ abbrev pub oldest : List ℕ → ℕ
 oldest [] = 0
 oldest (byte ∷ rest) = byte
 
--- the word that a register reads as
+-- the word that a read of a register gives
 abbrev pub console_read : ConsoleRegister → ConsoleState → ℕ
 console_read Char s = oldest s.waiting
 console_read WriteIrq s = irq_word s.write_irq
 console_read ReadIrq s = irq_word (read_irq s)
 
--- reading CHAR takes the byte
+-- reading CHAR removes the byte
 abbrev pub after_console_read : ConsoleRegister → ConsoleState → ConsoleState
 after_console_read Char s = record s { waiting = drop 1 s.waiting }
 after_console_read WriteIrq s = s
 after_console_read ReadIrq s = s
 
--- a byte goes into the latch where that is free, else it is dropped
+-- a byte goes into the latch if that is free, else it is dropped
 abbrev pub latch_with : ℕ → Option ℕ → Option ℕ
 latch_with byte None = Some byte
 latch_with byte (Some other) = Some other
 
--- what writing a word to a register leaves
+-- the console after a word is written to a register
 abbrev pub console_written : ConsoleRegister → ℕ → ConsoleState → ConsoleState
 console_written Char word s = record s { latch = latch_with (word % 2 ^ 8) s.latch }
 console_written WriteIrq word s = record s { write_irq = irq_bits word }
 console_written ReadIrq word s =
-    record s { read_enable = has_bit word 1; read_force = has_bit word 4 }
+    record s { read_enable = has_flag word 1; read_force = has_flag word 4 }
 
--- a typed byte waits; 256 bytes wait at most
+-- a typed byte waits; at most 256 bytes wait
 abbrev pub with_key : ℕ → ConsoleState → Result ConsoleState KeyFull
 with_key byte s =
     if nat_lt (length s.waiting) 256
     then Ok (record s { waiting = s.waiting ++ byte ∷ [] })
     else Err (record {})
 
--- what sending a byte leaves: it is the output's last, the latch is free, and WIRQ is active
+-- the console after a byte is sent: it is the output's last, the latch is free, and WIRQ is active
 abbrev pub after_sending : ℕ → ConsoleState → ConsoleState
 after_sending byte s = record s {
   latch = None;

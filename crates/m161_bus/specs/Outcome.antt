@@ -2,16 +2,16 @@ use Rattle.std.specs.Prelude.{◌≡◌, Result, Ok, Err}
 use Rattle.m161_bus.specs.declared.console.DoneError.{DoneError}
 use Rattle.m161_bus.specs.declared.console.DoneError.TheVariants.{NoMemory}
 
--- What a call answers that may be refused, and what it leaves.
+-- The result of a call that may be refused, and the state after it.
 
--- the new state that there is; or the refusal that there is, and the old state
-abbrev pub Leaves : {S E : Type 0} → Result S E → S → Result (Unit {0}) E → S → Type 0
-Leaves (Ok after) old (Ok done) new = new ≡ after
-Leaves (Ok after) old (Err e) new = ⊥
-Leaves (Err refusal) old (Ok done) new = ⊥
-Leaves (Err refusal) old (Err e) new = (e ≡ refusal) × (new ≡ old)
+-- success and the new state; or the refusal and the old state
+abbrev pub LeavesUnlessRefused : {S E : Type 0} → Result S E → S → Result (Unit {0}) E → S → Type 0
+LeavesUnlessRefused (Ok after) old (Ok done) new = new ≡ after
+LeavesUnlessRefused (Ok after) old (Err e) new = ⊥
+LeavesUnlessRefused (Err refusal) old (Ok done) new = ⊥
+LeavesUnlessRefused (Err refusal) old (Err e) new = (e ≡ refusal) × (new ≡ old)
 
--- the same; but where there is no refusal memory may be refused, and the old state is left
+-- the same; but if there is no refusal, memory may be refused, and the old state stays
 abbrev pub LeavesUnlessNoMemory :
     {S : Type 0} → Result S DoneError → S → Result (Unit {0}) DoneError → S → Type 0
 LeavesUnlessNoMemory (Ok after) old (Ok done) new = new ≡ after

@@ -14,7 +14,7 @@ pub record Line : Type 0 where
 abbrev pub at : ℕ → Register → Line
 at offset register = record { offset = offset; register = register }
 
--- the register that a table has at an offset; a word that isn't named reads 0
+-- the register that a table has at an offset; a word that isn't in the table reads 0
 abbrev pub in_table : ℕ → List Line → Register
 in_table offset [] = Constant 0
 in_table offset (l ∷ ls) = if offset == l.offset then l.register else in_table offset ls
@@ -84,7 +84,7 @@ register_of processors address =
     then Some (register_in processors (place / 0x10000) (place % 0x10000))
     else None
 
--- the processor that a register is of is there, and so is the word of its CRAM
+-- the processor of a register exists, and so does the word of its CRAM
 abbrev pub IsThere : ℕ → Register → Type 0
 IsThere processors (Cirqe p) = p < processors
 IsThere processors (Cipi p) = p < processors

@@ -1,8 +1,8 @@
 //! The board.
 
 ghost use Rattle.std.specs.Prelude.{◌≡◌, ◌-◌, ◌%◌, ◌^◌, ◌<◌, ◌≤◌, length};
-ghost use Rattle.m161_bus.specs.Board.{KeepsLines, KeepsSize, Reads, after_read, board_at_boot, board_read, board_written, irqs_through, irqs_with, with_word, word_of};
-ghost use Rattle.m161_bus.specs.Outcome.{Leaves};
+ghost use Rattle.m161_bus.specs.Board.{KeepsLines, KeepsSize, Reads, after_read, board_at_boot, board_read, board_written, irqs_through, irqs_with, with_slot_word, slot_word};
+ghost use Rattle.m161_bus.specs.Outcome.{LeavesUnlessRefused};
 ghost use Rattle.m161_bus.specs.Registers.{IsThere};
 
 mod views;
@@ -19,7 +19,7 @@ use thiserror::Error;
 #[error("not an aligned word of the slots")]
 pub struct BusFault;
 
-/// How a processor that CPUE starts begins.
+/// How a processor begins when CPUE starts it.
 #[derive(Clone, Copy, Debug, PartialEq, Eq)]
 pub struct StartWords {
     /// Its first address.
@@ -68,7 +68,7 @@ impl<D: Console> Model for Board<D> {
         × (b.processors ≤ 32) };
 }
 
-// IRQS: the slots whose line is up. The console in slot 0 alone has a line.
+// IRQS: the slots whose line is up. Only the console in slot 0 has a line.
 fn irqs_of<D: Console>(console: &D) -> u32
     ensures { result ≡ irqs_with (D.content console.now) }
 {
@@ -115,9 +115,8 @@ impl<D: Console> Board<D> {
         }
     }
 
-    /// The word that processor `c` reads at a physical address; reading CHAR takes a byte. A bus
-    /// fault exactly where that isn't the address of an aligned word of the slots. Does not
-    /// allocate.
+    /// The word that processor `c` reads at a physical address; reading CHAR removes a byte. A bus
+    /// fault exactly if that isn't the address of an aligned word of the slots. Does not allocate.
     #[tactic(auto, unfolding(crate::specs::Board::board_read))]
     pub fn read(&mut self, c: u32, at: u32) -> Result<u32, BusFault>
         requires processor { c < self.old.processors }
@@ -128,12 +127,13 @@ impl<D: Console> Board<D> {
         Ok(self.read_register(c, register))
     }
 
-    /// Writes a word at a physical address. A bus fault exactly where that isn't the address of an
+    /// Writes a word at a physical address. A bus fault exactly if that isn't the address of an
     /// aligned word of the slots. Does not allocate.
     #[tactic(auto, unfolding(crate::specs::Board::board_written))]
     pub fn write(&mut self, c: u32, at: u32, word: u32) -> Result<(), BusFault>
         requires processor { c < self.old.processors }
-        ensures write { Leaves (board_written c at word self.old) self.old result self.new }
+        ensures write { LeavesUnlessRefused (board_written c at word self.old)
+            self.old result self.new }
         ensures size { KeepsSize self.old self.new }
     {
         let register = register_of(at, self.processors).ok_or(BusFault)?;
@@ -145,7 +145,7 @@ impl<D: Console> Board<D> {
     fn read_register(&mut self, c: u32, register: Register) -> u32
         requires processor { c < self.old.processors }
         requires there { IsThere self.old.processors register }
-        ensures word { result ≡ word_of c register self.old }
+        ensures word { result ≡ slot_word c register self.old }
         ensures after { self.new ≡ after_read register self.old }
     {
         match register {
@@ -171,7 +171,7 @@ impl<D: Console> Board<D> {
     // Writes a word to a register.
     fn write_register(&mut self, register: Register, word: u32)
         requires { IsThere self.old.processors register }
-        ensures { self.new ≡ with_word register word self.old }
+        ensures { self.new ≡ with_slot_word register word self.old }
     {
         match register {
             Register::Constant(_)

@@ -1,8 +1,8 @@
-//! What a console has to do.
+//! The laws of a console.
 
 ghost use Rattle.std.specs.Prelude.{◌≡◌, List, IfOk};
 ghost use Rattle.m161_bus.specs.Console.{ConsoleState, console_at_boot, console_read, after_console_read, console_written, with_key, done_of, is_line_up};
-ghost use Rattle.m161_bus.specs.Outcome.{Leaves, LeavesUnlessNoMemory};
+ghost use Rattle.m161_bus.specs.Outcome.{LeavesUnlessRefused, LeavesUnlessNoMemory};
 
 use std::alloc::{AllocError, Global};
 use thiserror::Error;
@@ -14,7 +14,7 @@ pub enum ConsoleRegister {
     Char,
     /// The interrupt bits of sending.
     WriteIrq,
-    /// The interrupt bits of what was typed.
+    /// The interrupt bits of typing.
     ReadIrq,
 }
 
@@ -23,7 +23,7 @@ pub enum ConsoleRegister {
 #[error("256 bytes are waiting")]
 pub struct KeyFull;
 
-/// Why no byte was sent. Each is answered where none above it holds.
+/// Why no byte was sent. Each is returned only if none above it holds.
 #[derive(Clone, Copy, Debug, PartialEq, Eq, Error)]
 pub enum DoneError {
     /// The latch is free.
@@ -55,7 +55,7 @@ pub trait Console: Drop {
     /// Adds a waiting byte. Does not allocate.
     fn key(&mut self, byte: u8) -> Result<(), KeyFull>
         ensures { let old = content self.old in
-            Leaves (with_key byte old) old result (content self.new) };
+            LeavesUnlessRefused (with_key byte old) old result (content self.new) };
 
     /// Sends the byte in the latch: it goes to the output. May allocate.
     fn done(&mut self) -> Result<(), DoneError>

@@ -35,7 +35,7 @@ impl IrqBits {
         }
     }
 
-    /// The word that the register reads as.
+    /// The word as which the register is read.
     pub fn word(self) -> u32
         ensures { result ≡ irq_word self }
     {

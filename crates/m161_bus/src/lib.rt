@@ -1,17 +1,17 @@
-//! The bus with its mainboard, and what a console has to do.
+//! The bus with its mainboard, and the laws of a console.
 //!
 //! ```text
 //! slots   physical 1fe00000 + slot x 10000, slots 0 to 31, aligned words only
 //!
 //! slot 0    the console
-//!   0000  CHAR   read: takes the oldest waiting byte, or 0;
-//!                write: low byte into the latch, dropped where the latch is full
+//!   0000  CHAR   read: removes the oldest waiting byte and gives it, or 0;
+//!                write: low byte into the latch, dropped if the latch is full
 //!   0004  WIRQ   ENABLE 1, ACTIVE 2, FORCE 4; a write replaces all three
 //!   0008  RIRQ   the same bits; ACTIVE: bytes wait; a write replaces ENABLE, FORCE
-//!         line up where ENABLE and (ACTIVE or FORCE) in either register
+//!         line up if ENABLE and (ACTIVE or FORCE) in either register
 //!
 //! slot 31   the controller
-//!   slot x 400  configuration: vendor 0, device 4, revision 8; zero where the slot is empty
+//!   slot x 400  configuration: vendor 0, device 4, revision 8; zero if the slot is empty
 //!               slot 0 has 1, 4, 1; slot 31 has 1, 10, 1
 //!   7c00 + 200  RAMSZ  bytes of RAM                                   write ignored
 //!          204  IRQS   bit s: the line of slot s is up                write ignored
@@ -25,8 +25,8 @@
 //!          004  CIPI   1 or 0                                         not zero raises, 0 drops
 //!          300  CRAM   64 words, zero at boot                         replaced
 //!
-//! lines of processor c   00000400 where IRQS & IRQE & CIRQE(c) isn't zero
-//!                        00000800 where CIPI(c) is 1
+//! lines of processor c   00000400 if IRQS & IRQE & CIRQE(c) isn't zero
+//!                        00000800 if CIPI(c) is 1
 //! a started processor    pc = CRAM word 0, $4 = CRAM word 1, $29 = the end of its CRAM in kseg1
 //! ```
 //!

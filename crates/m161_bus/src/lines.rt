@@ -8,7 +8,7 @@ use crate::place::Place;
 /// The greatest number of processors.
 pub(crate) const PLACES: usize = 32;
 
-/// The lines of every processor, where IRQE lets these bits of IRQS through.
+/// The lines of every processor, if IRQE lets these bits of IRQS through.
 pub(crate) fn lines_of_all(places: &[Place; PLACES], through: u32) -> [u32; PLACES]
     requires { length places.now ≡ 32 }
     ensures lines { KeepsLines result through places.now }

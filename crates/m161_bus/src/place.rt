@@ -36,7 +36,7 @@ impl Model for Place {
 }
 
 impl Place {
-    /// As at boot, but for CIRQE.
+    /// As at boot, except for CIRQE.
     pub(crate) fn at_boot(cirqe: u32) -> Place
         ensures { result ≡ place_at_boot cirqe }
     {
@@ -91,7 +91,7 @@ impl Place {
         self.cram[i as usize] = word;
     }
 
-    /// The lines of the processor, where IRQE lets these bits of IRQS through.
+    /// The lines of the processor, if IRQE lets these bits of IRQS through.
     pub(crate) fn lines(&self, through: u32) -> u32
         ensures { result ≡ lines_at through self.now }
     {

@@ -1,4 +1,4 @@
-//! Which register an address names.
+//! The register at an address.
 
 ghost use Rattle.std.specs.Prelude.{ℕ, ◌≡◌, ◌<◌, ◌≤◌, IfSome};
 ghost use Rattle.m161_bus.specs.Registers.{IsThere, console_table, console_configuration, controller_configuration, controller_register, in_table, place_register, register_of};
@@ -20,7 +20,7 @@ const PART_SIZE: u32 = 0x400;
 /// A word of the slots.
 #[derive(Clone, Copy)]
 pub(crate) enum Register {
-    /// It always reads as this word; a write is ignored.
+    /// Always reads as this word; a write is ignored.
     Constant(u32),
     /// A register of the console.
     Console(ConsoleRegister),
@@ -46,8 +46,8 @@ pub(crate) enum Register {
     Cram(u32, u32),
 }
 
-/// The register at a physical address, on a board with this number of processors. `None` where
-/// that isn't the address of an aligned word of the slots.
+/// The register at a physical address, on a board with this number of processors. `None` if that
+/// isn't the address of an aligned word of the slots.
 #[tactic(auto, unfolding(crate::specs::Registers::register_of))]
 pub(crate) fn register_of(at: u32, processors: u32) -> Option<Register>
     requires { processors ≤ 32 }

@@ -7,7 +7,7 @@ use m161_bus::{Console, ConsoleRegister, DoneError, IrqBits, KeyFull};
 use std::alloc::{AllocError, Global};
 use std::marker::Model;
 
-/// How many bytes wait at most.
+/// The greatest number of waiting bytes.
 const ROOM: usize = 256;
 
 /// A console over vectors.
@@ -40,7 +40,7 @@ impl Model for PlainConsole {
 }
 
 impl PlainConsole {
-    /// RIRQ as it reads: its ACTIVE says that bytes wait.
+    /// RIRQ as it is read: its ACTIVE says that bytes wait.
     fn read_irq(&self) -> IrqBits
         ensures { result ≡ read_irq self.now }
     {
@@ -51,7 +51,7 @@ impl PlainConsole {
         }
     }
 
-    /// Takes the oldest waiting byte, or gives 0.
+    /// Removes the oldest waiting byte and gives it, or gives 0.
     fn take_byte(&mut self) -> u32
         ensures word { result ≡ oldest self.old.waiting }
         ensures after { self.new ≡ record self.old { waiting = drop 1 self.old.waiting } }

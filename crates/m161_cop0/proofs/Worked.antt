@@ -11,7 +11,7 @@ use Rattle.m161_cop0.specs.Clock.{ticked, ticked_times}
 -- a user load of 00401234 without a row, EntryHi's identifier 5
 abbrev miss : Bool → ℕ → Trap
 miss slot pc = record {
-  exception = exception.TlbLoad;
+  code = exception.TlbLoad;
   unit = 0;
   user_miss = true;
   pc = pc;

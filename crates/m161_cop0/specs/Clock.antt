@@ -1,17 +1,18 @@
 use Rattle.std.specs.Prelude.{◌≡◌, ◌≢◌, ℕ, zero, suc, ◌+◌, ◌-◌, ◌%◌, ◌^◌, ◌<◌, ◌≤◌, Bool, not, ◌==◌, ◌&&◌, ◌||◌, if◌then◌else◌}
 use Rattle.m161_cop0.specs.Control.{Control}
 
--- Random and the timer at the end of a Step. Kane, MIPS RISC Architecture, "System control coprocessor"; the timer is this project's own rule.
+-- Random and the timer at the end of a Step. Kane, MIPS RISC Architecture, "System control
+-- coprocessor"; the timer is this project's own rule.
 
 -- Count's next value
 abbrev pub risen : Control → ℕ
 risen c = (c.count + 1) % 2 ^ 32
 
--- Count comes to a Compare that isn't zero
+-- Count reaches a Compare that isn't zero
 abbrev pub is_due : Control → Bool
 is_due c = (risen c == c.compare) && not (c.compare == 0)
 
--- one tick: Random falls, from 8 back to 63; Count rises, or is zero again where the timer is due
+-- one tick: Random falls, from 8 back to 63; Count rises, or becomes zero if the timer is due
 unfoldable pub ticked : Control → Control
 ticked c = record c {
   age = c.age + 1;
@@ -25,9 +26,12 @@ abbrev pub ticked_times : ℕ → Control → Control
 ticked_times zero c = c
 ticked_times (suc n) c = ticked (ticked_times n c)
 
--- the age that the code caches: where a tick brings Count to Compare, or 0 where Compare is zero or the age would be 2^64 at least
+-- the age that the code caches: that of the tick that brings Count to Compare, or 0 if Compare is
+-- zero or the age would be at least 2^64
 abbrev pub IsFire : ℕ → ℕ → ℕ → ℕ → Type 0
 IsFire age offset compare fire =
     (compare ≡ 0 → fire ≡ 0)
-    × (compare ≢ 0 → fire ≢ 0 → (age < fire) × (fire ≤ age + 2 ^ 32) × ((fire + offset) % 2 ^ 32 ≡ compare))
-    × (compare ≢ 0 → fire ≡ 0 → 2 ^ 64 ≤ age + 1 + (compare + (2 ^ 32 - 1) - (age + offset) % 2 ^ 32) % 2 ^ 32)
+    × (compare ≢ 0 → fire ≢ 0
+    → (age < fire) × (fire ≤ age + 2 ^ 32) × ((fire + offset) % 2 ^ 32 ≡ compare))
+    × (compare ≢ 0 → fire ≡ 0
+    → 2 ^ 64 ≤ age + 1 + (compare + (2 ^ 32 - 1) - (age + offset) % 2 ^ 32) % 2 ^ 32)

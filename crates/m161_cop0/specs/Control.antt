@@ -4,7 +4,8 @@ use Rattle.m161_cop0.specs.declared.register.Register.{Register}
 use Rattle.m161_cop0.specs.declared.register.Register.TheVariants as register
 use Rattle.m161_cop0.specs.Registers.{register_with}
 
--- The registers of coprocessor 0, and what reads and writes them. Kane, MIPS RISC Architecture, "System control coprocessor".
+-- The registers of coprocessor 0, and how they are read and written. Kane, MIPS RISC Architecture,
+-- "System control coprocessor".
 
 -- the registers; Cause in parts, since the board's lines are a part of it
 pub record Control : Type 0 where
@@ -49,7 +50,7 @@ start = record {
   age = 0;
 }
 
--- bit n of a word, where a test holds
+-- bit n of a word, if a test holds
 abbrev pub bit : ℕ → Bool → ℕ
 bit n test = if test then 2 ^ n else 0
 
@@ -69,11 +70,11 @@ ip_of lines c = bit_or (internal_ip_of c.timer c.software) lines
 abbrev pub im_of : ℕ → ℕ
 im_of status = bits_of status 8 8 * 2 ^ 8
 
--- IM where IEc is set, else zero: the mask that the code caches
+-- IM if IEc is set, else zero: the mask that the code caches
 abbrev pub enabled_im_of : ℕ → ℕ
 enabled_im_of status = if has_bit status 0 then im_of status else 0
 
--- an interrupt is up and not masked, whatever IEc says
+-- an interrupt is up and not masked, whatever IEc is
 unfoldable pub is_pending : ℕ → Control → Bool
 is_pending lines c = not (bit_and (ip_of lines c) (im_of c.status) == 0)
 
@@ -99,53 +100,55 @@ index_row_of c = bits_of c.index 8 6
 
 -- Cause
 abbrev pub cause_of : ℕ → Control → ℕ
-cause_of lines c = bit 31 c.branch_delay + c.unit * 2 ^ 28 + bits_of (ip_of lines c) 8 8 * 2 ^ 8 + c.code * 2 ^ 2
+cause_of lines c =
+    bit 31 c.branch_delay + c.unit * 2 ^ 28 + bits_of (ip_of lines c) 8 8 * 2 ^ 8 + c.code * 2 ^ 2
 
 -- the word of a register
-abbrev pub word_of : Register → ℕ → Control → ℕ
-word_of register.Index lines c = c.index
-word_of register.Random lines c = c.random * 2 ^ 8
-word_of register.EntryLo lines c = c.entry_lo
-word_of register.Context lines c = c.context
-word_of register.BadVaddr lines c = c.bad_vaddr
-word_of register.Count lines c = c.count
-word_of register.EntryHi lines c = c.entry_hi
-word_of register.Compare lines c = c.compare
-word_of register.Status lines c = c.status
-word_of register.Cause lines c = cause_of lines c
-word_of register.Epc lines c = c.epc
-word_of register.Prid lines c = 0xa1
+abbrev pub register_word : Register → ℕ → Control → ℕ
+register_word register.Index lines c = c.index
+register_word register.Random lines c = c.random * 2 ^ 8
+register_word register.EntryLo lines c = c.entry_lo
+register_word register.Context lines c = c.context
+register_word register.BadVaddr lines c = c.bad_vaddr
+register_word register.Count lines c = c.count
+register_word register.EntryHi lines c = c.entry_hi
+register_word register.Compare lines c = c.compare
+register_word register.Status lines c = c.status
+register_word register.Cause lines c = cause_of lines c
+register_word register.Epc lines c = c.epc
+register_word register.Prid lines c = 0xa1
 
-abbrev pub word_of_some : Option Register → ℕ → Control → ℕ
-word_of_some None lines c = 0
-word_of_some (Some r) lines c = word_of r lines c
+abbrev pub register_word_or_zero : Option Register → ℕ → Control → ℕ
+register_word_or_zero None lines c = 0
+register_word_or_zero (Some r) lines c = register_word r lines c
 
 -- `mfc0`: the word of a register number; a number without a register reads zero
 unfoldable pub read_of : ℕ → ℕ → Control → ℕ
-read_of number lines c = word_of_some (register_with number) lines c
+read_of number lines c = register_word_or_zero (register_with number) lines c
 
 -- a write of a register: the bits that it keeps, and what else it does
-abbrev pub written_to : Register → ℕ → Control → Control
-written_to register.Index word c = record c { index = bit_and word 0x80003f00 }
-written_to register.Random word c = c
-written_to register.EntryLo word c = record c { entry_lo = bit_and word 0xffffff00 }
-written_to register.Context word c = record c { context = word / 2 ^ 21 * 2 ^ 21 + c.context % 2 ^ 21 }
-written_to register.BadVaddr word c = c
-written_to register.Count word c = record c { count = word }
-written_to register.EntryHi word c = record c { entry_hi = bit_and word 0xffffffc0 }
-written_to register.Compare word c = record c { compare = word; count = 0; timer = false }
-written_to register.Status word c = record c { status = bit_and word 0xf040ff3f }
-written_to register.Cause word c = record c { software = bits_of word 8 2 }
-written_to register.Epc word c = c
-written_to register.Prid word c = c
+abbrev pub with_register_word : Register → ℕ → Control → Control
+with_register_word register.Index word c = record c { index = bit_and word 0x80003f00 }
+with_register_word register.Random word c = c
+with_register_word register.EntryLo word c = record c { entry_lo = bit_and word 0xffffff00 }
+with_register_word register.Context word c =
+    record c { context = word / 2 ^ 21 * 2 ^ 21 + c.context % 2 ^ 21 }
+with_register_word register.BadVaddr word c = c
+with_register_word register.Count word c = record c { count = word }
+with_register_word register.EntryHi word c = record c { entry_hi = bit_and word 0xffffffc0 }
+with_register_word register.Compare word c = record c { compare = word; count = 0; timer = false }
+with_register_word register.Status word c = record c { status = bit_and word 0xf040ff3f }
+with_register_word register.Cause word c = record c { software = bits_of word 8 2 }
+with_register_word register.Epc word c = c
+with_register_word register.Prid word c = c
 
-abbrev pub written_to_some : Option Register → ℕ → Control → Control
-written_to_some None word c = c
-written_to_some (Some r) word c = written_to r word c
+abbrev pub with_some_register_word : Option Register → ℕ → Control → Control
+with_some_register_word None word c = c
+with_some_register_word (Some r) word c = with_register_word r word c
 
 -- `mtc0`: a write of a register number; a number without a register ignores it
 unfoldable pub written : ℕ → ℕ → Control → Control
-written number word c = written_to_some (register_with number) word c
+written number word c = with_some_register_word (register_with number) word c
 
 -- `tlbr`: a row's two words
 abbrev pub with_tlb_row : ℕ → ℕ → Control → Control

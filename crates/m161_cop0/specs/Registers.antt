@@ -4,7 +4,8 @@ use Rattle.m161_cop0.specs.declared.register.Register.TheVariants as register
 use Rattle.m161_cop0.specs.declared.exception.Exception.{Exception}
 use Rattle.m161_cop0.specs.declared.exception.Exception.TheVariants as exception
 
--- Numbers and names. Kane, MIPS RISC Architecture, "System control coprocessor" and "Exception processing".
+-- Numbers and names. Kane, MIPS RISC Architecture, "System control coprocessor" and "Exception
+-- processing".
 
 -- the number of a register in `mfc0` and `mtc0`
 abbrev pub number_of_register : Register → ℕ
@@ -39,8 +40,9 @@ name_of_register register.Prid = codes "prid"
 -- the registers, in the order of their numbers
 abbrev pub all_registers : List Register
 all_registers =
-    register.Index ∷ register.Random ∷ register.EntryLo ∷ register.Context ∷ register.BadVaddr ∷ register.Count
-    ∷ register.EntryHi ∷ register.Compare ∷ register.Status ∷ register.Cause ∷ register.Epc ∷ register.Prid ∷ []
+    register.Index ∷ register.Random ∷ register.EntryLo ∷ register.Context ∷ register.BadVaddr
+    ∷ register.Count ∷ register.EntryHi ∷ register.Compare ∷ register.Status ∷ register.Cause
+    ∷ register.Epc ∷ register.Prid ∷ []
 
 -- the register that has a number
 abbrev pub register_with : ℕ → Option Register
@@ -65,9 +67,10 @@ number_of_exception exception.Overflow = 12
 -- the exceptions, in the order of their codes
 abbrev pub all_exceptions : List Exception
 all_exceptions =
-    exception.Interrupt ∷ exception.TlbModified ∷ exception.TlbLoad ∷ exception.TlbStore ∷ exception.AddressErrorLoad
-    ∷ exception.AddressErrorStore ∷ exception.BusErrorFetch ∷ exception.BusErrorData ∷ exception.SystemCall
-    ∷ exception.Breakpoint ∷ exception.ReservedInstruction ∷ exception.CoprocessorUnusable ∷ exception.Overflow ∷ []
+    exception.Interrupt ∷ exception.TlbModified ∷ exception.TlbLoad ∷ exception.TlbStore
+    ∷ exception.AddressErrorLoad ∷ exception.AddressErrorStore ∷ exception.BusErrorFetch
+    ∷ exception.BusErrorData ∷ exception.SystemCall ∷ exception.Breakpoint
+    ∷ exception.ReservedInstruction ∷ exception.CoprocessorUnusable ∷ exception.Overflow ∷ []
 
 -- the exception that has a code
 abbrev pub exception_with : ℕ → Option Exception

@@ -20,7 +20,7 @@ with_bad_page address c = record c {
   context = c.context / 2 ^ 21 * 2 ^ 21 + bits_of address 12 19 * 2 ^ 2;
 }
 
--- what an exception leaves of its address
+-- the registers after an exception's address is noted
 abbrev pub with_address : Exception → ℕ → Control → Control
 with_address exception.Interrupt address c = c
 with_address exception.TlbModified address c = with_bad_page address c
@@ -42,14 +42,14 @@ is e f = number_of_exception e == number_of_exception f
 
 -- CE: the unit that wasn't usable, else zero
 abbrev pub unit_of : Trap → ℕ
-unit_of trap = if is trap.exception exception.CoprocessorUnusable then trap.unit % 2 ^ 2 else 0
+unit_of trap = if is trap.code exception.CoprocessorUnusable then trap.unit % 2 ^ 2 else 0
 
 -- a miss in kuseg; a fetch that misses is TlbLoad too
 abbrev pub is_user_miss : Trap → Bool
 is_user_miss trap =
-    trap.user_miss && (is trap.exception exception.TlbLoad || is trap.exception exception.TlbStore)
+    trap.user_miss && (is trap.code exception.TlbLoad || is trap.code exception.TlbStore)
 
--- Status: the current pair to the previous one, the previous to the old; kernel mode, interrupts off
+-- Status: the current pair to the previous, the previous to the old; kernel mode, interrupts off
 abbrev pub pushed : ℕ → ℕ
 pushed status = status / 2 ^ 6 * 2 ^ 6 + status % 2 ^ 4 * 2 ^ 2
 
@@ -57,18 +57,18 @@ pushed status = status / 2 ^ 6 * 2 ^ 6 + status % 2 ^ 4 * 2 ^ 2
 abbrev pub popped : ℕ → ℕ
 popped status = status / 2 ^ 4 * 2 ^ 4 + bits_of status 2 4
 
--- EPC: the instruction, or the branch before it where it is in a delay slot
+-- EPC: the instruction, or the branch before it if it is in a delay slot
 abbrev pub epc_of : Trap → ℕ
 epc_of trap = if trap.slot then (trap.pc + (2 ^ 32 - 4)) % 2 ^ 32 else trap.pc
 
 -- the registers after the entry of a trap
 unfoldable pub entered : Trap → Control → Control
-entered trap c = with_address trap.exception trap.address (record c {
+entered trap c = with_address trap.code trap.address (record c {
   status = pushed c.status;
   epc = epc_of trap;
   branch_delay = trap.slot;
   unit = unit_of trap;
-  code = number_of_exception trap.exception;
+  code = number_of_exception trap.code;
 })
 
 -- the next address: by BEV, a user miss apart from all others
@@ -80,7 +80,8 @@ vector_of trap c =
 -- the four next addresses
 abbrev pub IsVector : ℕ → Type 0
 IsVector address =
-    (address ≡ 0x80000000) ⊎ (address ≡ 0x80000080) ⊎ (address ≡ 0xbfc00100) ⊎ (address ≡ 0xbfc00180)
+    (address ≡ 0x80000000) ⊎ (address ≡ 0x80000080)
+    ⊎ (address ≡ 0xbfc00100) ⊎ (address ≡ 0xbfc00180)
 
 -- `rfe`
 abbrev pub restored : Control → Control

@@ -45,12 +45,11 @@ pub struct Cop0 {
     code: u8,
     timer: bool,
     software: u8,
-    // The bits of IP that aren't the board's, and IM where IEc is set, else 0; both in Cause's
-    // places.
+    // The bits of IP that aren't the board's, and IM if IEc is set, else 0; both in Cause's places.
     ip: u32,
     mask: u32,
     // The ticks since the start. Count is the low word of `age + offset`; the tick that makes `age`
-    // equal to `fire` raises the timer, where `fire` isn't 0.
+    // equal to `fire` raises the timer, if `fire` isn't 0.
     age: u64,
     offset: u32,
     fire: u64,
@@ -91,7 +90,7 @@ impl Model for Cop0 {
 }
 
 impl Cop0 {
-    /// The registers at a start: all zero save Random and PRId.
+    /// The registers at a start: all zero except Random and PRId.
     pub fn new() -> Cop0
         ensures { result ≡ start }
     {
@@ -179,8 +178,8 @@ impl Cop0 {
         self.entry_lo = lo_word;
     }
 
-    /// Puts the row that a probe found into Index, as `tlbp` does; `None` sets P alone. The low six
-    /// bits of the row's number count.
+    /// Puts the row that a probe found into Index, as `tlbp` does; `None` sets only P. Of the row's
+    /// number the low six bits are used.
     #[cold]
     #[inline(never)]
     pub fn set_probe(&mut self, row: Option<u8>)
@@ -211,7 +210,7 @@ impl Cop0 {
     }
 }
 
-// IM in Cause's places where IEc is set, else 0.
+// IM in Cause's places if IEc is set, else 0.
 fn enabled_im(status: u32) -> u32
     ensures { result ≡ enabled_im_of status }
 {

@@ -14,21 +14,21 @@ pub enum Exception {
     TlbLoad,
     /// A store without a valid row.
     TlbStore,
-    /// A fetch or a load of a misaligned address, or of a kernel's in user mode.
+    /// A fetch or a load of a misaligned address, or of a kernel address in user mode.
     AddressErrorLoad,
     /// A store to such an address.
     AddressErrorStore,
     /// A fetch outside memory.
     BusErrorFetch,
-    /// A load or a store that the bus has no answer to.
+    /// A load or a store at an address where nothing is on the bus.
     BusErrorData,
     /// `syscall`.
     SystemCall,
     /// `break`.
     Breakpoint,
-    /// A word that is no instruction, or a branch in a delay slot.
+    /// A word that isn't an instruction, or a branch in a delay slot.
     ReservedInstruction,
-    /// An instruction of a coprocessor that isn't there or may not be used.
+    /// An instruction of a coprocessor that doesn't exist or may not be used.
     CoprocessorUnusable,
     /// A sum or a difference that isn't a signed word.
     Overflow,

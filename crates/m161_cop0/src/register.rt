@@ -38,7 +38,7 @@ pub static REGISTERS: [Register; 12] = [
     Register::Prid,
 ];
 
-/// The law of `REGISTERS`: it is all registers, each once and in the order of their numbers.
+/// The law of `REGISTERS`: it has all registers, each once, in the order of their numbers.
 pub fn registers_in_order()
     ensures { REGISTERS ≡ all_registers }
 {}
@@ -65,7 +65,7 @@ impl Register {
         })
     }
 
-    /// The register of a number; `None` where the number has none.
+    /// The register of a number; `None` if the number has no register.
     pub fn from_number(number: Reg) -> Option<Register>
         ensures value { result ≡ register_with number }
         ensures back { IfSome result (λ r. number_of_register r ≡ number) }

@@ -57,8 +57,8 @@ abbrev pub arguments : Processor → List Operand → List ℕ → List Argument
 arguments p (o ∷ os) (n ∷ ns) = record { number = n; value = value_of p o n } ∷ arguments p os ns
 arguments p _ _ = []
 
--- a row has three operands at most; where it has fewer, the others are blank, and its effect
--- doesn't look at them
+-- a row has at most three operands; if it has fewer, the others are blank, and its effect doesn't
+-- look at them
 abbrev pub with_three : {R : Type 0} → (Argument → Argument → Argument → R) → List Argument → R
 with_three f [] = f blank blank blank
 with_three f (a ∷ []) = f a blank blank
@@ -90,7 +90,7 @@ write_control control = record nothing { control = Some control }
 abbrev pub write_row : ℕ → TlbRow → Change
 write_row i row = record nothing { row = Some (i, row) }
 
--- the way after a branch: its delay slot comes next in either case
+-- where a processor continues after a branch: its delay slot comes next in either case
 abbrev pub branch_flow : Bool → ℕ → Flow
 branch_flow taken target = if taken then Taken target else NotTaken
 
@@ -109,7 +109,7 @@ branch_and_link p r taken target =
 abbrev pub outside_slot : Processor → Change → Result Change Fault
 outside_slot p change = if p.slot then Err (fault kind.ReservedInstruction) else Ok change
 
--- a sum that is a signed word, or the trap
+-- a sum, if it is a signed word, or the trap
 abbrev pub unless_overflow : Option ℕ → Result ℕ Fault
 unless_overflow (Some sum) = Ok sum
 unless_overflow None = Err (fault kind.Overflow)
@@ -117,14 +117,14 @@ unless_overflow None = Err (fault kind.Overflow)
 abbrev pub one_if : Bool → ℕ
 one_if test = if test then 1 else 0
 
--- the address that a load or a store names
+-- the address of a load or a store
 abbrev pub address_of : Argument → Argument → ℕ
 address_of offset base = (base.value + offset.value) % 2 ^ 32
 
 abbrev pub place_in_word : Argument → Argument → ℕ
 place_in_word offset base = address_of offset base % 4
 
--- a load and a store: what is made of the place in RAM that the address names
+-- a load and a store, as a function of the place in RAM of the address
 abbrev pub load : Scene → ℕ → Argument → Argument → (ℕ → Change) → Result Change Fault
 load s width o b change =
     result_map change (reach Load width (address_of o b) (length s.around.memory) s.processor)
@@ -133,7 +133,7 @@ abbrev pub store : Scene → ℕ → Argument → Argument → (ℕ → Change) 
 store s width o b change =
     result_map change (reach Store width (address_of o b) (length s.around.memory) s.processor)
 
--- the same of the word that holds the address
+-- the same, of the word that contains the address
 abbrev pub load_within : Scene → Argument → Argument → (ℕ → Change) → Result Change Fault
 load_within s o b change =
     result_map change (reach_word_of Load (address_of o b) (length s.around.memory) s.processor)
@@ -163,21 +163,21 @@ word_stored address word s =
 abbrev pub load_linked : Scene → ℕ → ℕ → Change
 load_linked s r at = record (write r (word_at s.around.memory at)) { link = LinkTo at }
 
--- the processor's link, where it is live
+-- the processor's link, if it is live
 abbrev pub own_link : Scene → Option ℕ
 own_link s = slice_index_or s.around.links s.around.number None
 
--- `sc` stores and gives 1 where the link names the word, else it gives 0; the link ends
+-- `sc` stores and gives 1 if the link is to the word, else it gives 0; the link ends
 abbrev pub store_conditional : Scene → ℕ → ℕ → ℕ → Change
 store_conditional s r word at =
     if is_to at (own_link s) then record (store_word word at) { register = Some (r, 1); link = End }
     else record (write r 0) { link = End }
 
--- the row that EntryHi and EntryLo hold
+-- the row in EntryHi and EntryLo
 abbrev pub entry_row : Control → TlbRow
 entry_row c = row_of_words c.entry_hi c.entry_lo
 
--- `tlbr`: the two words of a row; a row's number is below 64, so it is there
+-- `tlbr`: the two words of a row; a row's number is below 64, so the row exists
 abbrev pub row_read : Control → Option TlbRow → Control
 row_read c None = c
 row_read c (Some row) = with_tlb_row (hi_word row) (lo_word row) c
@@ -190,7 +190,7 @@ abbrev pub probed : Processor → Control
 probed p =
     with_probe (find_row p.rows (p.control.entry_hi / 2 ^ 12) (identifier_of p.control)) p.control
 
--- each effect, from its operands and what the Step sees
+-- each effect, from its operands and the scene
 abbrev pub effect_of : Scene → Effect → Argument → Argument → Argument → Result Change Fault
 -- shifts
 effect_of s effect.ShiftLeft d a n = Ok (write d.number (shifted shift.Left a.value (n.value % 32)))
@@ -281,7 +281,7 @@ effect_of s effect.StoreWordRight t o b =
 -- links
 effect_of s effect.LoadLinked d o b = load s 4 o b (load_linked s d.number)
 effect_of s effect.StoreConditional t o b = store s 4 o b (store_conditional s t.number t.value)
--- memory is in step already
+-- memory is always synchronized
 effect_of s effect.Synchronize _ _ _ = Ok nothing
 -- traps
 effect_of s effect.SystemCall _ _ _ = Err (fault kind.SystemCall)

@@ -14,7 +14,7 @@ use Rattle.m161_cpu.specs.Fault.{Fault, fault, noted}
 use Rattle.m161_cpu.specs.Effect.{write}
 use Rattle.m161_cpu.specs.Step.{Stepped, change_of_row, misfit_kind, running}
 
--- Words that the clauses of the code's helpers share: a Step in two parts, and effects on the
+-- Definitions that the clauses of the code's helpers share: a Step in two parts, and effects on the
 -- code's instructions.
 
 -- the same Step in two parts: a processor that rests is idle, and one that doesn't is running
@@ -36,7 +36,7 @@ change_by_some s i None = Err (fault (misfit_kind (unit_in i)))
 unfoldable pub change_by : Scene → Instr → Result Change Fault
 change_by s i = change_by_some s i (row_of_instr i)
 
--- a value was found; or this is why not, and the address at fault is noted
+-- a value was found; or this is the reason why not, and the address at fault is noted
 abbrev pub Finds : {V : Type 0} → Result V Fault → Processor → Result V FaultKind → Processor
     → Type 0
 Finds r before (Ok value) after = (r ≡ Ok value) × (after ≡ before)
@@ -67,7 +67,7 @@ Executes (Err f) before (Ok done) after = ⊥
 Executes (Err f) before (Err kind) after =
     (kind ≡ f.kind) × IsAfter (noted f.address before.processor) before.around after
 
--- an instruction that leaves all around the processor alone was executed
+-- an instruction was executed that changes only the processor
 abbrev pub Does : Instr → Processor → Result Unit FaultKind → Processor → Type 0
 Does i before result after =
     (a : Around) → Executes (change_by (scene before a) i) (scene before a) result (scene after a)

@@ -7,10 +7,10 @@ use Rattle.m161_cpu.specs.declared.fault.FaultKind.{FaultKind}
 use Rattle.m161_cpu.specs.declared.fault.FaultKind.TheVariants as kind
 use Rattle.m161_cpu.specs.Processor.{Processor}
 
--- Why an instruction isn't executed, and the trap that it makes. Kane, MIPS RISC Architecture,
--- "Exception processing".
+-- Why an instruction isn't executed, and the trap of it. Kane, MIPS RISC Architecture, "Exception
+-- processing".
 
--- the kind, and the address that BadVAddr gets, where there is one
+-- the kind, and the address that BadVAddr gets, if any
 pub record Fault : Type 0 where
   pub kind : FaultKind
   pub address : Option ℕ
@@ -43,35 +43,35 @@ exception_of kind.Coprocessor3Unusable = exception.CoprocessorUnusable
 exception_of kind.Overflow = exception.Overflow
 
 -- the coprocessor that isn't usable, else 0
-abbrev pub unit_of : FaultKind → ℕ
-unit_of kind.Coprocessor1Unusable = 1
-unit_of kind.Coprocessor2Unusable = 2
-unit_of kind.Coprocessor3Unusable = 3
-unit_of _ = 0
+abbrev pub unit_of_kind : FaultKind → ℕ
+unit_of_kind kind.Coprocessor1Unusable = 1
+unit_of_kind kind.Coprocessor2Unusable = 2
+unit_of_kind kind.Coprocessor3Unusable = 3
+unit_of_kind _ = 0
 
 -- no row matched an address in kuseg
-abbrev pub is_user_miss : FaultKind → Bool
-is_user_miss kind.UserMissLoad = true
-is_user_miss kind.UserMissStore = true
-is_user_miss _ = false
+abbrev pub is_user_miss_kind : FaultKind → Bool
+is_user_miss_kind kind.UserMissLoad = true
+is_user_miss_kind kind.UserMissStore = true
+is_user_miss_kind _ = false
 
 -- the address at fault is put into BadVAddr
 abbrev pub noted : Option ℕ → Processor → Processor
 noted None p = p
 noted (Some address) p = record p { control = with_bad_address address p.control }
 
--- the trap of a fault at the present instruction; the address at fault is in BadVAddr
+-- the trap of a fault at the current instruction; the address at fault is in BadVAddr
 abbrev pub trap_of : FaultKind → Processor → Trap
 trap_of kind p = record {
-  exception = exception_of kind;
-  unit = unit_of kind;
-  user_miss = is_user_miss kind;
+  code = exception_of kind;
+  unit = unit_of_kind kind;
+  user_miss = is_user_miss_kind kind;
   pc = p.pc;
   slot = p.slot;
   address = p.control.bad_vaddr;
 }
 
--- where it goes on
+-- the address at which the processor continues
 abbrev pub vector : FaultKind → Processor → ℕ
 vector kind p = vector_of (trap_of kind p) p.control
 

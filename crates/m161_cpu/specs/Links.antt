@@ -3,7 +3,7 @@ use Rattle.std.specs.Prelude.{ℕ, Bool, false, ◌==◌, if◌then◌else◌, L
 -- Links of `ll` and `sc`. MIPS II has the two instructions; when a link ends is this project's own
 -- rule.
 
--- the physical word that each of 32 processors is linked to, where its link is live
+-- the physical word that each of 32 processors is linked to, if its link is live
 abbrev pub no_links : List (Option ℕ)
 no_links = replicate 32 None
 
@@ -13,7 +13,7 @@ pub data LinkAct : Type 0 where
   LinkTo : (word : ℕ) → LinkAct
   End : LinkAct
 
--- a link names a word
+-- a link is to a word
 abbrev pub is_to : ℕ → Option ℕ → Bool
 is_to word None = false
 is_to word (Some linked) = linked == word
@@ -22,7 +22,7 @@ is_to word (Some linked) = linked == word
 abbrev pub unless_to : ℕ → Option ℕ → Option ℕ
 unless_to word link = if is_to word link then None else link
 
--- the links after a store, where there was one
+-- the links after a store, if there was one
 abbrev pub after_store : Option ℕ → List (Option ℕ) → List (Option ℕ)
 after_store None links = links
 after_store (Some word) links = map (unless_to word) links

@@ -14,10 +14,10 @@ pub record Processor : Type 0 where
   pub registers : List ℕ
   pub hi : ℕ
   pub lo : ℕ
-  -- the address of the present instruction, and of the next one
+  -- the address of the current instruction, and of the next one
   pub pc : ℕ
   pub following : ℕ
-  -- the present instruction is in a delay slot
+  -- the current instruction is in a delay slot
   pub slot : Bool
   -- coprocessor 0
   pub control : Control
@@ -42,7 +42,7 @@ stopped = record {
   count = 0;
 }
 
--- a start at an address, with words for registers 4 and 29; its Steps stay counted
+-- a start at an address, with words for registers 4 and 29; the count of its Steps stays
 abbrev pub started : ℕ → ℕ → ℕ → ℕ → Processor
 started pc r4 r29 count = record {
   registers = slice_set (slice_set (replicate 32 0) 4 r4) 29 r29;
@@ -80,7 +80,7 @@ after_next Next following = (following + 4) % 2 ^ 32
 after_next NotTaken following = (following + 4) % 2 ^ 32
 after_next (Taken target) following = target
 
--- what comes next is in a delay slot
+-- the next instruction is in a delay slot
 abbrev pub is_slot : Flow → Bool
 is_slot Next = false
 is_slot NotTaken = true

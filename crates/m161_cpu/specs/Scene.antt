@@ -57,7 +57,7 @@ pub record Change : Type 0 where
   pub row : Option (ℕ × Row)
   pub state : Option ProcessorState
   pub link : LinkAct
-  -- the way on
+  -- where the processor continues
   pub flow : Flow
 
 abbrev pub nothing : Change
@@ -73,7 +73,7 @@ nothing = record {
   flow = Next;
 }
 
--- a part changed, where there is something to change
+-- a part changed, if there is something to change
 abbrev pub applied : {A S : Type 0} → (A → S → S) → Option A → S → S
 applied f None s = s
 applied f (Some a) s = f a s
@@ -82,7 +82,7 @@ abbrev pub or_else : {A : Type 0} → Option A → A → A
 or_else None old = old
 or_else (Some new) old = new
 
--- the processor after a change, on its way on
+-- the processor after a change, at its next address
 abbrev pub processor_after : Change → Processor → Processor
 processor_after c p =
     advanced c.flow
@@ -117,7 +117,7 @@ around_after c a = record a {
 abbrev pub changed : Change → Scene → Scene
 changed c s = scene (processor_after c s.processor) (around_after c s.around)
 
--- a result, and what is made of it
+-- a function of a result
 abbrev pub result_map : {T U E : Type 0} → (T → U) → Result T E → Result U E
 result_map f (Ok x) = Ok (f x)
 result_map f (Err e) = Err e

@@ -103,11 +103,11 @@ is_unusable c word = (bits_of word 26 6 == 16) && not (may_use_cop0 c)
 abbrev pub change_in : Scene → ℕ → Result Change Fault
 change_in s word = change_by_row s word (row_that_fits word)
 
--- a word, where it may be executed
+-- a word, if it may be executed
 abbrev pub usable : Control → ℕ → Result ℕ Fault
 usable c word = if is_unusable c word then Err (fault kind.Coprocessor0Unusable) else Ok word
 
--- the word at pc, where it may be executed
+-- the word at pc, if it may be executed
 abbrev pub fetched : List ℕ → Processor → Result ℕ Fault
 fetched memory p = and_then (word_at_pc memory p) (usable p.control)
 
@@ -137,7 +137,7 @@ step_in Waiting s =
 unfoldable pub step_of : Scene → Stepped
 step_of s = step_in s.processor.state s
 
--- a Step's outcome: no input, and a vector that is one of the four
+-- a Step's outcome: it isn't that of an input, and its vector is one of the four
 abbrev pub IsProper : Outcome → Type 0
 IsProper Ran = Unit {0}
 IsProper (Trapped code vector) = IsVector vector
@@ -145,7 +145,7 @@ IsProper Idle = Unit {0}
 IsProper PoweredOff = Unit {0}
 IsProper Taken = ⊥
 
--- a Step answers and leaves what it gives
+-- the outcome of a Step, and the scene after it, are these
 pub record Leaves (x : Stepped) (outcome : Outcome) (after : Scene) : Type 0 where
   pub outcome_is : outcome ≡ x.outcome
   pub processor_is : after.processor ≡ x.after.processor

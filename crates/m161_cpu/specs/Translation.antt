@@ -13,8 +13,8 @@ use Rattle.m161_cpu.specs.Processor.{Processor}
 use Rattle.m161_cpu.specs.Fault.{Fault, fault, fault_at}
 use Rattle.m161_cpu.specs.Scene.{result_map, and_then}
 
--- Addresses to physical ones, and where these lead. Kane, MIPS RISC Architecture, "Memory
--- management".
+-- Translation of addresses to physical ones, and accesses to RAM and the slots. Kane, MIPS RISC
+-- Architecture, "Memory management".
 
 -- the width of an access in bytes
 abbrev pub IsWidth : ℕ → Type 0
@@ -25,7 +25,7 @@ is_store Fetch = false
 is_store Load = false
 is_store Store = true
 
--- a misaligned address, or one of the kernel's in user mode
+-- a misaligned address, or a kernel address in user mode
 abbrev pub address_error : Access → ℕ → Fault
 address_error access address =
     fault_at (if is_store access then kind.AddressErrorStore else kind.AddressErrorLoad) address
@@ -41,7 +41,7 @@ miss access address =
     then fault_at (if is_store access then kind.UserMissStore else kind.UserMissLoad) address
     else invalid access address
 
--- a physical address, and the number of the row that gave it, where the address is mapped
+-- a physical address, and the number of the row that gave it, if the address is mapped
 pub record Physical : Type 0 where
   pub at : ℕ
   pub row : Option ℕ
@@ -56,7 +56,7 @@ through access address i row =
     else if is_store access && not row.d then Err (fault_at kind.TlbModified address)
     else Ok (physical (row.frame * 2 ^ 12 + address % 2 ^ 12) (Some i))
 
--- the same by the row's place in the TLB; a row's number is below 64, so it is there
+-- the same by the row's place in the TLB; a row's number is below 64, so the row exists
 abbrev pub through_row : Access → ℕ → ℕ → Option Row → Result Physical Fault
 through_row access address i None = Err (miss access address)
 through_row access address i (Some row) = through access address i row
@@ -75,7 +75,7 @@ abbrev pub by_segment : Access → ℕ → Processor → Option ℕ → Result P
 by_segment access address p (Some at) = Ok (physical at None)
 by_segment access address p None = by_page access address p
 
--- an address that isn't aligned to the access's width, or one of the kernel's in user mode
+-- an address that isn't aligned to the access's width, or a kernel address in user mode
 unfoldable pub is_misaddressed : ℕ → ℕ → Processor → Bool
 is_misaddressed width address p =
     not (address % width == 0) || (is_user p.control && nat_le 0x80000000 address)
@@ -91,13 +91,13 @@ unfoldable pub physical_at : Access → ℕ → ℕ → Processor → Result ℕ
 physical_at access width address p =
     result_map (λ (to : Physical). to.at) (translate access width address p)
 
--- nothing answers on the bus
+-- nothing on the bus has this address
 abbrev pub bus_error : Access → Fault
 bus_error Fetch = fault kind.BusErrorFetch
 bus_error Load = fault kind.BusErrorData
 bus_error Store = fault kind.BusErrorData
 
--- a physical address, where the bytes of this width from it on are RAM, of which there are `size`
+-- a physical address, if the bytes of this width from it on are in RAM of `size` bytes
 abbrev pub in_ram : Access → ℕ → ℕ → ℕ → Result ℕ Fault
 in_ram access width size at = if nat_le (at + width) size then Ok at else Err (bus_error access)
 
@@ -106,7 +106,7 @@ abbrev pub reach : Access → ℕ → ℕ → ℕ → Processor → Result ℕ F
 reach access width address size p =
     and_then (physical_at access width address p) (in_ram access width size)
 
--- the place in RAM of the word that holds an address, which needn't be aligned
+-- the place in RAM of the word that contains an address, which needn't be aligned
 abbrev pub reach_word_of : Access → ℕ → ℕ → Processor → Result ℕ Fault
 reach_word_of access address size p =
     and_then (physical_at access 1 address p) (λ at. in_ram access 4 size (at / 4 * 4))

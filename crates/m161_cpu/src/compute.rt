@@ -1,4 +1,4 @@
-//! Rows that write a register by what registers hold.
+//! Rows that compute a register from registers and immediates.
 
 ghost use Rattle.std.specs.Prelude.{◌≡◌, ◌+◌, ◌*◌, ◌/◌, ◌%◌, ◌^◌, ◌<◌, ◌≤◌, ℕ};
 ghost use Rattle.m161_isa.specs.declared.instr.Instr.TheVariants.{Arith, Immediate as ByImmediate, LoadUpper, Shift, ShiftVariable};
@@ -119,7 +119,7 @@ impl<T: Tlb> Cpu<T> {
         Ok(())
     }
 
-    // Writes a register, where there is something to write.
+    // Writes a register, if there is something to write.
     #[inline(always)]
     fn set_if(&mut self, register: Reg, value: Result<u32, FaultKind>) -> Result<(), FaultKind>
         ensures { (a : Around) → Executes (result_map (write register) (or_fault value))

@@ -15,7 +15,7 @@ use m161_isa::{PlainOp, Reg};
 use m161_tlb::{Row, Tlb};
 
 impl<T: Tlb> Cpu<T> {
-    /// `mfc0`, where the board's lines of this processor are these.
+    /// `mfc0`. `lines` are the board's lines of this processor.
     #[cold]
     #[inline(never)]
     #[tactic(auto, unfolding(crate::specs::Execute::change_by))]

@@ -15,7 +15,7 @@ use m161_isa::{Coprocessor, Instr};
 use m161_ram::Ram;
 use m161_tlb::Tlb;
 
-// A coprocessor that isn't there.
+// The fault of a coprocessor that doesn't exist.
 fn absent(unit: Coprocessor) -> FaultKind
     ensures { result ≡ misfit_kind (Some unit) }
 {

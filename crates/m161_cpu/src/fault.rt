@@ -1,7 +1,7 @@
 //! Why an instruction isn't executed.
 
 ghost use Rattle.std.specs.Prelude.{◌≡◌, ◌<◌};
-ghost use Rattle.m161_cpu.specs.Fault.{exception_of, unit_of, is_user_miss};
+ghost use Rattle.m161_cpu.specs.Fault.{exception_of, unit_of_kind, is_user_miss_kind};
 
 use m161_cop0::Exception;
 
@@ -13,8 +13,8 @@ pub(crate) enum Access {
     Store,
 }
 
-/// Why an instruction isn't executed: the exception, with what its trap depends on beside. It has
-/// no fields, so that an instruction's result stays in a register.
+/// Why an instruction isn't executed: the exception and everything else that its trap depends on,
+/// except the address. It has no fields, so that an instruction's result stays in a register.
 #[derive(Clone, Copy, Debug, PartialEq, Eq)]
 pub(crate) enum FaultKind {
     Interrupt,
@@ -66,7 +66,7 @@ impl FaultKind {
 
     /// The coprocessor that isn't usable, else 0.
     pub(crate) fn unit(self) -> u8
-        ensures { result ≡ unit_of self }
+        ensures { result ≡ unit_of_kind self }
     {
         match self {
             FaultKind::Coprocessor1Unusable => 1,
@@ -78,7 +78,7 @@ impl FaultKind {
 
     /// Whether no row matched an address in kuseg.
     pub(crate) fn is_user_miss(self) -> bool
-        ensures { result ≡ is_user_miss self }
+        ensures { result ≡ is_user_miss_kind self }
     {
         match self {
             FaultKind::UserMissLoad | FaultKind::UserMissStore => true,

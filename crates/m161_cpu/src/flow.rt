@@ -13,7 +13,7 @@ use m161_alu::{branch_taken, sign_extend_half};
 use m161_isa::{EqualTest, Immediate, JumpOp, Reg, Target, ZeroTest};
 use m161_tlb::Tlb;
 
-// The way after a branch.
+// Where the processor continues after a branch.
 #[inline(always)]
 fn way(taken: bool, target: u32) -> Flow
     ensures { result ≡ branch_flow taken target }
@@ -26,7 +26,7 @@ fn way(taken: bool, target: u32) -> Flow
 }
 
 impl<T: Tlb> Cpu<T> {
-    // The target of a branch from here.
+    // The target of a branch at pc.
     #[inline(always)]
     fn branch_target(&self, offset: Immediate) -> u32
         ensures { result ≡ (self.now.pc + 4 + 4 * sign_extended_half offset) % 2 ^ 32 }
@@ -36,7 +36,7 @@ impl<T: Tlb> Cpu<T> {
             .wrapping_add(sign_extend_half(offset.half()).wrapping_mul(4))
     }
 
-    // The target of a jump from here: the upper four bits are those of the next address.
+    // The target of a jump at pc: the upper four bits are those of the next address.
     #[inline(always)]
     fn jump_target(&self, target: Target) -> u32
         ensures { result ≡ (self.now.pc + 4) % 2 ^ 32 / 2 ^ 28 * 2 ^ 28 + target * 4 }
@@ -67,7 +67,7 @@ impl<T: Tlb> Cpu<T> {
         Ok(())
     }
 
-    /// `jalr`: the target is read before the link is written.
+    /// `jalr`: the target is read before the return address is written.
     #[inline(always)]
     #[tactic(auto, unfolding(crate::specs::Execute::change_by))]
     pub(crate) fn jump_and_link_register(&mut self, rd: Reg, rs: Reg) -> Result<(), FaultKind>
@@ -124,7 +124,7 @@ impl<T: Tlb> Cpu<T> {
         Ok(())
     }
 
-    /// Branches on a test against zero; the register is read before a link is written.
+    /// Branches on a test against zero; the register is read before a return address is written.
     #[inline(always)]
     #[tactic(auto, unfolding(crate::specs::Execute::change_by))]
     pub(crate) fn branch_zero(

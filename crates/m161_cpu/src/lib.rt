@@ -3,29 +3,30 @@
 //! ```text
 //! registers  32 of 32 bits; register 0 reads zero, and a write to it is lost
 //! hi, lo     the two words of a product, or remainder and quotient
-//! pc         the address of the present instruction; `following` is that of the next
-//! slot       the present instruction is in a branch's delay slot
+//! pc         the address of the current instruction; `following` is that of the next
+//! slot       the current instruction is in a branch's delay slot
 //! control    coprocessor 0; tlb: 64 rows
-//! link       the physical word of the last `ll`, where it is live
+//! link       the physical word of the last `ll`, while it is live
 //! state      stopped until it is started, then running or waiting
-//! count      its Steps, idle ones counted
+//! count      its Steps, idle ones included
 //!
 //! one Step   1 a stopped processor is idle
-//!            2 a waiting one is idle until an interrupt is pending, whatever IEc says
+//!            2 a waiting one is idle until an interrupt is pending, whatever IEc is
 //!            3 an interrupt that is enabled traps; there is no fetch
 //!            4 fetch at pc
 //!            5 opcode 16 in user mode without CU0 traps, then words that fit no row
 //!            6 the effect, or its trap
-//!            7 Random and Count tick, also where the Step trapped or the processor waits
+//!            7 Random and Count tick, also if the Step trapped or the processor waits
 //!
 //! addresses  kseg0 80000000, kseg1 a0000000 to physical 0; kuseg below and kseg2 above by the TLB
-//!            RAM from physical 0 on; the slots by aligned `lw` and `sw` alone
+//!            RAM from physical 0 on; the slots only by aligned `lw` and `sw`
 //! a trap     leaves general registers, HI, LO, memory and devices as they were
 //! ```
 //!
-//! One delay slot follows each branch and jump, taken or not; the target counts from the branch's
-//! own address, and a branch in a slot is a reserved instruction. A load may be used by the next
-//! instruction (this project's own rules). Source: Kane, MIPS RISC Architecture.
+//! One delay slot follows each branch and jump, taken or not; a branch's target is computed from
+//! the branch's own address plus 4, and a branch in a slot is a reserved instruction. The next
+//! instruction may use a loaded register (this project's own rules). Source: Kane, MIPS RISC
+//! Architecture.
 #![tactic(auto)]
 
 mod compute;

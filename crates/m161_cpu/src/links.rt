@@ -5,17 +5,17 @@ ghost use Rattle.m161_cpu.specs.Links.{no_links, after_store, is_to, unless_to};
 
 use std::marker::Model;
 
-/// How many processors a machine may have.
+/// The greatest number of processors of a machine.
 const PROCESSORS: usize = 32;
 
 /// No link.
 const NONE: [Option<u32>; PROCESSORS] = [None; PROCESSORS];
 
-/// For each processor the physical word of RAM that it is linked to, where its link is live.
+/// For each processor the physical word of RAM that it is linked to, if its link is live.
 #[derive(Drop)]
 pub struct Links {
     words: [Option<u32>; PROCESSORS],
-    // Where this is false no link is live, so that a store need not look.
+    // If this is false, no link is live, and a store needn't look.
     any: bool,
 }
 
@@ -41,7 +41,7 @@ impl Links {
         }
     }
 
-    /// Whether a processor's link is live and names this word.
+    /// Whether a processor's link is live and to this word.
     pub(crate) fn names(&self, c: u32, word: u32) -> bool
         requires { c < 32 }
         ensures { result ≡ is_to word (slice_index_or self.now c None) }

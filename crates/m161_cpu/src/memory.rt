@@ -22,7 +22,7 @@ use m161_ram::Ram;
 use m161_tlb::Tlb;
 
 impl<T: Tlb> Cpu<T> {
-    // The address that a load or a store names.
+    // The address of a load or a store.
     #[inline(always)]
     fn address(&self, offset: Immediate, base: Reg) -> u32
         ensures { result ≡
@@ -114,7 +114,7 @@ impl<T: Tlb> Cpu<T> {
         }
     }
 
-    // A call of `read_word_elsewhere`, whose result has its place on the stack here alone.
+    // A call of `read_word_elsewhere`, so that only this function has a stack slot for the result.
     #[inline(always)]
     fn read_word_aside<D: Console>(
         &mut self,
@@ -212,7 +212,7 @@ impl<T: Tlb> Cpu<T> {
         Ok(())
     }
 
-    // Stores a word where the link names it, and ends the link.
+    // Stores a word if the link is to it, and ends the link.
     #[inline(always)]
     fn store_conditional(&mut self, at: u32, rt: Reg, c: u32, ram: &mut Ram, links: &mut Links)
         requires processor { c < 32 }

@@ -36,9 +36,9 @@ pub enum Outcome {
     Ran,
     /// A trap was entered.
     Trapped {
-        /// Why.
+        /// The exception.
         code: Exception,
-        /// Where the processor goes on.
+        /// The address at which the processor continues.
         vector: u32,
     },
     /// The processor is stopped or waiting: no instruction was executed.
@@ -49,14 +49,14 @@ pub enum Outcome {
     Taken,
 }
 
-/// The way on after an instruction.
+/// Where a processor continues after an instruction.
 #[derive(Clone, Copy)]
 pub(crate) enum Flow {
-    /// To the next address.
+    /// At the following address.
     Next,
-    /// To the next address, a delay slot.
+    /// At the following address, a delay slot.
     NotTaken,
-    /// To the next address, a delay slot, and from there to this one.
+    /// At the following address, a delay slot, and then at this one.
     Taken(u32),
 }
 
@@ -70,7 +70,7 @@ pub struct Cpu<T: Tlb> {
     following: u32,
     slot: bool,
     state: ProcessorState,
-    // The Steps that didn't tick: those before its start.
+    // The Steps that didn't tick: those before the start.
     unticked: u64,
     pub(crate) control: Cop0,
     pub(crate) tlb: T,
@@ -120,7 +120,8 @@ impl<T: Tlb> Cpu<T> {
         }
     }
 
-    /// Starts it at an address, with these words in registers 4 and 29. Its Steps stay counted.
+    /// Starts it at an address, with these words in registers 4 and 29. The count of its Steps
+    /// stays.
     pub fn start(&mut self, pc: u32, r4: u32, r29: u32)
         ensures { self.new ≡ started pc r4 r29 self.old.count }
     {
@@ -186,8 +187,8 @@ impl<T: Tlb> Cpu<T> {
         self.control.tick();
     }
 
-    /// Whether it rests in this Step, in which the board's lines of it are these. A stopped one
-    /// only counts; a waiting one ticks, or runs again where an interrupt is pending.
+    /// Whether it rests in this Step. `lines` are the board's lines of this processor. A stopped
+    /// one only counts; a waiting one ticks, or runs again if an interrupt is pending.
     #[inline(always)]
     #[tactic(auto, unfolding(crate::specs::Step::step_of))]
     pub(crate) fn rests(&mut self, lines: u32) -> bool
@@ -226,7 +227,7 @@ impl<T: Tlb> Cpu<T> {
         }
     }
 
-    /// Enters a trap; the address where it goes on.
+    /// Enters a trap. Returns the address at which it continues.
     #[cold]
     #[inline(never)]
     pub(crate) fn enter(&mut self, kind: FaultKind) -> u32
@@ -235,7 +236,7 @@ impl<T: Tlb> Cpu<T> {
         ensures place { IsVector result }
     {
         let trap = Trap {
-            exception: kind.exception(),
+            code: kind.exception(),
             unit: kind.unit(),
             user_miss: kind.is_user_miss(),
             pc: self.pc,

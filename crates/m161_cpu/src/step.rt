@@ -83,7 +83,7 @@ impl<T: Tlb> Cpu<T> {
         }
     }
 
-    // The end of a Step that traps; the address where the processor goes on.
+    // Ends a Step that traps. Returns the address at which the processor continues.
     #[cold]
     #[inline(never)]
     fn trap(&mut self, kind: FaultKind, c: u32, links: &mut Links) -> u32
@@ -128,8 +128,7 @@ impl<T: Tlb> Cpu<T> {
         self.perform(word, c, ram, board, links)
     }
 
-    // The word at pc, where the processor may execute it. By kseg0 in kernel mode it may execute
-    // any.
+    // The word at pc, if the processor may execute it. By kseg0 in kernel mode it may execute any.
     #[inline(always)]
     #[tactic(auto, using(crate::proofs::Fetched::in_kernel_mode))]
     fn fetch(&mut self, ram: &Ram) -> Result<u32, FaultKind>
@@ -142,7 +141,7 @@ impl<T: Tlb> Cpu<T> {
         }
     }
 
-    // A call of `fetch_elsewhere`, whose result has its place on the stack here alone.
+    // A call of `fetch_elsewhere`, so that only this function has a stack slot for the result.
     #[inline(always)]
     fn fetch_aside(&mut self, ram: &Ram) -> Result<u32, FaultKind>
         ensures { Finds (fetched ram.now self.old) self.old result self.new }

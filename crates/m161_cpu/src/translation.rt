@@ -1,4 +1,4 @@
-//! Addresses to physical ones.
+//! Translation of addresses to physical ones.
 
 ghost use Rattle.std.specs.Prelude.{◌≡◌, ◌+◌, ◌≤◌, ◌<◌, ◌/◌, ◌^◌, false, Ok, Some, IfOk, IfSome};
 ghost use Rattle.m161_cpu.specs.Execute.{Finds};
@@ -13,7 +13,7 @@ use crate::processor::Cpu;
 use m161_isa::unmapped;
 use m161_tlb::Tlb;
 
-/// The fault where nothing answers on the bus.
+/// The fault of an address where nothing is on the bus.
 pub(crate) fn bus_error(access: Access) -> FaultKind
     ensures { result ≡ (bus_error access).kind }
 {
@@ -24,8 +24,8 @@ pub(crate) fn bus_error(access: Access) -> FaultKind
 }
 
 impl<T: Tlb> Cpu<T> {
-    /// The place in RAM, of which there are `size` bytes, of an access by kseg0 in kernel mode that
-    /// is aligned to its width. All other accesses go through `reach_elsewhere`.
+    /// The place in RAM of an access by kseg0 in kernel mode that is aligned to its width; RAM has
+    /// `size` bytes. All other accesses go through `reach_elsewhere`.
     #[inline(always)]
     #[tactic(auto, unfolding(crate::specs::Translation::physical_at, crate::specs::Translation::is_misaddressed))]
     pub(crate) fn direct(&self, width: u32, address: u32, size: u32) -> Option<u32>
@@ -64,8 +64,8 @@ impl<T: Tlb> Cpu<T> {
         }
     }
 
-    // A call of `reach_elsewhere`, whose result has its place on the stack here alone, and not on
-    // the way that most accesses take.
+    // A call of `reach_elsewhere`, so that only this function has a stack slot for the result, and
+    // not the common path.
     #[inline(always)]
     fn reach_aside(
         &mut self,
@@ -82,7 +82,7 @@ impl<T: Tlb> Cpu<T> {
         Ok(at)
     }
 
-    /// The place in RAM of an access by another way than `direct`.
+    /// The place in RAM of an access other than those of `direct`.
     #[cold]
     #[inline(never)]
     pub(crate) fn reach_elsewhere(
@@ -103,7 +103,7 @@ impl<T: Tlb> Cpu<T> {
         Ok(at)
     }
 
-    /// The place in RAM of the word that holds an address, which needn't be aligned.
+    /// The place in RAM of the word that contains an address, which needn't be aligned.
     #[inline(always)]
     pub(crate) fn reach_word_of(
         &mut self,
@@ -141,10 +141,10 @@ impl<T: Tlb> Cpu<T> {
         if let Some(at) = unmapped(address) {
             return Ok(at);
         }
-        self.mapped(access, address)
+        self.physical_by_page(access, address)
     }
 
-    // The address isn't aligned to the access's width, or it is one of the kernel's in user mode.
+    // The address isn't aligned to the access's width, or it is a kernel address in user mode.
     #[tactic(auto, unfolding(crate::specs::Translation::is_misaddressed))]
     fn is_misaddressed(&self, width: u32, address: u32) -> bool
         requires { 0 < width }
@@ -153,8 +153,8 @@ impl<T: Tlb> Cpu<T> {
         address % width != 0 || (self.control.is_user() && address >= 0x8000_0000)
     }
 
-    // The physical address of one in kuseg or kseg2, by the lowest row that matches.
-    fn mapped(&mut self, access: Access, address: u32) -> Result<u32, FaultKind>
+    // The physical address of an address in kuseg or kseg2, by the lowest row that matches.
+    fn physical_by_page(&mut self, access: Access, address: u32) -> Result<u32, FaultKind>
         ensures { Finds (result_map (λ (to : Physical). to.at) (by_page access address self.old))
             self.old result self.new }
     {

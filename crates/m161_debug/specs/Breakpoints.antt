@@ -5,7 +5,8 @@ use Rattle.m161_debug.specs.declared.breakpoints.Breakpoint.{Breakpoint}
 use Rattle.m161_debug.specs.declared.breakpoints.BreakError.{BreakError}
 use Rattle.m161_debug.specs.declared.breakpoints.BreakError.TheVariants.{BadProcessor, TooMany}
 
--- A session: a machine, and a set of breakpoints, as the list of those that were set, the oldest first.
+-- A session: a machine, and a set of breakpoints, as the list of those that were set, the oldest
+-- first.
 
 pub record Debugged : Type 0 where
   pub machine : History
@@ -21,7 +22,7 @@ is_same b c = (b.processor == c.processor) && (b.address == c.address)
 abbrev pub has : Breakpoint → List Breakpoint → Bool
 has b bs = list_any (is_same b) bs
 
--- a set with a breakpoint more, where it isn't there yet
+-- a set with one more breakpoint, if it isn't there yet
 abbrev pub with_breakpoint : Breakpoint → List Breakpoint → List Breakpoint
 with_breakpoint b bs = if has b bs then bs else bs ++ b ∷ []
 
@@ -29,7 +30,7 @@ with_breakpoint b bs = if has b bs then bs else bs ++ b ∷ []
 abbrev pub without_breakpoint : Breakpoint → List Breakpoint → List Breakpoint
 without_breakpoint b bs = filter (λ c. not (is_same b c)) bs
 
--- no breakpoint stands twice
+-- no breakpoint is there twice
 abbrev pub IsSet : List Breakpoint → Type 0
 IsSet [] = Unit {0}
 IsSet (b ∷ bs) = (has b bs ≡ false) × IsSet bs
@@ -41,12 +42,12 @@ break_fault b s =
     else if not (has b s.breakpoints) && nat_le 64 (length s.breakpoints) then Some TooMany
     else None
 
--- what setting it answers
+-- the result of setting it
 abbrev pub break_answer : Option BreakError → Result (Unit {0}) BreakError
 break_answer None = Ok tt
 break_answer (Some e) = Err e
 
--- and the breakpoints that it leaves: where there is a fault, those that there were
+-- the breakpoints after setting it: after a fault, those before
 abbrev pub break_leaves : Option BreakError → Breakpoint → List Breakpoint → List Breakpoint
 break_leaves None b bs = with_breakpoint b bs
 break_leaves (Some e) b bs = bs

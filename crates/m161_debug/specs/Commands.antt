@@ -20,7 +20,8 @@ use Rattle.m161_debug.specs.Shows.{word_text}
 -- the words of commands
 abbrev pub words : List (List ℕ)
 words =
-    codes "b" ∷ codes "d" ∷ codes "s" ∷ codes "k" ∷ codes "o" ∷ codes "g" ∷ codes "r" ∷ codes "c" ∷ codes "t"
+    codes "b" ∷ codes "d" ∷ codes "s" ∷ codes "k" ∷ codes "o" ∷ codes "g" ∷ codes "r" ∷ codes "c"
+    ∷ codes "t"
     ∷ codes "m" ∷ codes "x" ∷ []
 
 abbrev pub change_word : Change → List ℕ
@@ -40,35 +41,39 @@ area_word Code = codes "x"
 abbrev pub IsDecimal : List ℕ → Type 0
 IsDecimal digits = IsNumeral 10 digits × (get_or digits 0 0 ≡ 48 → length digits ≡ 1)
 
--- how many events a number asks for: one too large for a list counts as 2^64 - 1
+-- how many events a number asks for: one too large for a list is read as 2^64 - 1
 abbrev pub count_of : List ℕ → ℕ
 count_of digits = min (digits_value 10 digits) (2 ^ 64 - 1)
 
--- a line is this command: its word, and its arguments, one space apart; numbers are decimal, addresses have eight digits
+-- a line is this command: its word and its arguments, separated by one space; numbers are decimal,
+-- addresses have eight digits
 abbrev pub IsLine : Command → List ℕ → Type 0
 IsLine (Breakpoint change p address) line =
     IsWord p × IsWord address × (line ≡ change_word change ␣ decimal p ␣ word_text address)
 IsLine (Make event) line = IsEvent event × (line ≡ event_text event)
 IsLine Go line = line ≡ codes "g"
-IsLine (GoFirst n) line = (digits : List ℕ) × IsDecimal digits × (n ≡ count_of digits) × (line ≡ codes "g" ␣ digits)
+IsLine (GoFirst n) line =
+    (digits : List ℕ) × IsDecimal digits × (n ≡ count_of digits) × (line ≡ codes "g" ␣ digits)
 IsLine (Show display p) line = IsWord p × (line ≡ display_word display ␣ decimal p)
 IsLine (Words area address n) line =
     IsWord address × IsWord n × (line ≡ area_word area ␣ word_text address ␣ decimal n)
 
--- what stands before the first space
+-- the part before the first space
 abbrev pub first_word : List ℕ → List ℕ
 first_word [] = []
 first_word (b ∷ bs) = if b == 32 then [] else b ∷ first_word bs
 
--- a line begins with no word of a command
+-- a line doesn't begin with the word of a command
 abbrev pub IsUnknown : List ℕ → Type 0
 IsUnknown line = AllByRecursion (λ w. first_word line ≢ w) words
 
--- what a line asks for: a command; or its word is unknown; or it is known, and the line is no command
+-- what a line asks for: a command; or its word is unknown; or it is known, but the line isn't a
+-- command
 abbrev pub IsAsked : List ℕ → Result Command CommandError → Type 0
 IsAsked line (Ok command) = IsLine command line
 IsAsked line (Err Unknown) = IsUnknown line
-IsAsked line (Err BadArgument) = (IsUnknown line → ⊥) × ((command : Command) → IsLine command line → ⊥)
+IsAsked line (Err BadArgument) =
+    (IsUnknown line → ⊥) × ((command : Command) → IsLine command line → ⊥)
 IsAsked line (Err BadProcessor) = ⊥
 IsAsked line (Err TooMany) = ⊥
 IsAsked line (Err NoMemory) = ⊥

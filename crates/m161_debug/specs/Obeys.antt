@@ -27,7 +27,7 @@ use Rattle.m161_debug.specs.Stops.{Stops}
 use Rattle.m161_debug.specs.Shows.{ended, word_text, show_regs_text, show_cop0_text, show_tlb_text, show_mem_text, show_code_text}
 use Rattle.m161_debug.specs.Commands.{IsAsked}
 
--- What commands do.
+-- The effects of commands.
 
 -- the fault of a breakpoint, as an error of a command
 abbrev pub error_of_break : BreakError → CommandError
@@ -40,17 +40,21 @@ is_there Memory s address n = nat_le (address + 4 * n) (length s.memory)
 is_there Code s address n = is_in_ram (length s.memory) address (4 * n)
 
 abbrev pub is_shown : Area → State → ℕ → ℕ → Bool
-is_shown area s address n = nat_le 1 n && nat_le n 1024 && (address % 4 == 0) && is_there area s address n
+is_shown area s address n =
+    nat_le 1 n && nat_le n 1024 && (address % 4 == 0) && is_there area s address n
 
--- why a command isn't done
+-- the fault of a command
 abbrev pub fault_of : Debugged → Command → Option CommandError
-fault_of s (Breakpoint Set p address) = option_map error_of_break (break_fault (breakpoint p address) s)
+fault_of s (Breakpoint Set p address) =
+    option_map error_of_break (break_fault (breakpoint p address) s)
 fault_of s (Breakpoint Delete p address) = None
 fault_of s (Make event) = None
 fault_of s Go = None
 fault_of s (GoFirst n) = None
-fault_of s (Show display p) = if nat_le (length s.machine.state.processors) p then Some BadProcessor else None
-fault_of s (Words area address n) = if is_shown area s.machine.state address n then None else Some BadArgument
+fault_of s (Show display p) =
+    if nat_le (length s.machine.state.processors) p then Some BadProcessor else None
+fault_of s (Words area address n) =
+    if is_shown area s.machine.state address n then None else Some BadArgument
 
 abbrev pub refused_text : Refusal → List ℕ
 refused_text r = decimal (number_of_refusal r) ␣ name_of_refusal r
@@ -66,7 +70,7 @@ stop_text (Refused k refusal) = codes "refused" ␣ decimal k ␣ refused_text r
 stop_text (Off k) = codes "off" ␣ decimal k
 stop_text (End n) = codes "end" ␣ decimal n
 
--- how many events a stop uses up: a refused event and one that switches off too
+-- how many events a stop uses up, including a refused event and one that switches the machine off
 abbrev pub used_by : Stop → ℕ
 used_by (Break k) = k
 used_by (Refused k refusal) = k + 1
@@ -82,8 +86,9 @@ abbrev pub area_text : Area → ℕ → ℕ → State → List ℕ
 area_text Memory address n s = show_mem_text address n s
 area_text Code address n s = show_code_text address n s
 
--- these events are run over
-pub record Goes (s : Debugged) (events : List Event) (used : ℕ) (t : Debugged) (printed : List ℕ) : Type 0 where
+-- a run over these events
+pub record Goes
+    (s : Debugged) (events : List Event) (used : ℕ) (t : Debugged) (printed : List ℕ) : Type 0 where
   pub stop : Stop
   pub stops : Stops s.breakpoints s.machine events stop t.machine
   pub breakpoints : t.breakpoints ≡ s.breakpoints
@@ -97,14 +102,18 @@ pub record Makes (s : Debugged) (event : Event) (t : Debugged) (printed : List �
   pub breakpoints : t.breakpoints ≡ s.breakpoints
   pub printed_is : printed ≡ ended (answer_text event answer)
 
--- what a command does to a session, how many events of the rest it uses up, and what it prints
+-- the effect of a command: the session after it, how many of the remaining events it uses up, and
+-- what it prints
 abbrev pub Does : Command → Debugged → List Event → ℕ → Debugged → List ℕ → Type 0
 Does (Breakpoint Set p address) s rest used t printed =
-    (used ≡ 0) × (t ≡ record s { breakpoints = with_breakpoint (breakpoint p address) s.breakpoints })
+    (used ≡ 0)
+    × (t ≡ record s { breakpoints = with_breakpoint (breakpoint p address) s.breakpoints })
     × (printed ≡ ended (codes "break" ␣ decimal p ␣ word_text address))
 Does (Breakpoint Delete p address) s rest used t printed =
-    (used ≡ 0) × (t ≡ record s { breakpoints = without_breakpoint (breakpoint p address) s.breakpoints })
-    × (printed ≡ ended (if has (breakpoint p address) s.breakpoints then codes "deleted" else codes "none"))
+    (used ≡ 0)
+    × (t ≡ record s { breakpoints = without_breakpoint (breakpoint p address) s.breakpoints })
+    × (printed ≡ ended
+    (if has (breakpoint p address) s.breakpoints then codes "deleted" else codes "none"))
 Does (Make event) s rest used t printed = (used ≡ 0) × Makes s event t printed
 Does Go s rest used t printed = Goes s rest used t printed
 Does (GoFirst n) s rest used t printed = Goes s (take n rest) used t printed
@@ -113,23 +122,31 @@ Does (Show display p) s rest used t printed =
 Does (Words area address n) s rest used t printed =
     (used ≡ 0) × (t ≡ s) × (printed ≡ area_text area address n s.machine.state)
 
--- the error is answered, and nothing is changed
-abbrev pub Fails : CommandError → Result ℕ CommandError → Debugged → Debugged → List ℕ → List ℕ → Type 0
+-- the error is returned, and nothing is changed
+abbrev pub Fails :
+    CommandError → Result ℕ CommandError → Debugged → Debugged → List ℕ → List ℕ → Type 0
 Fails e result s t before after = (result ≡ Err e) × (t ≡ s) × (after ≡ before)
 
--- what a command answers, by its fault: that; or it is done, and its text is appended; or memory was refused
-abbrev pub DoesUnless : Option CommandError → Command → Debugged → List Event → Result ℕ CommandError → Debugged → List ℕ → List ℕ → Type 0
+-- the result of a command, by its fault: that; or without one it is done, and its text is appended;
+-- or memory was refused
+abbrev pub DoesUnless :
+    Option CommandError → Command → Debugged → List Event → Result ℕ CommandError → Debugged →
+    List ℕ → List ℕ → Type 0
 DoesUnless (Some fault) command s rest result t before after = Fails fault result s t before after
 DoesUnless None command s rest (Ok used) t before after =
     (printed : List ℕ) × (after ≡ before ++ printed) × Does command s rest used t printed
 DoesUnless None command s rest (Err e) t before after = Fails NoMemory (Err e) s t before after
 
-abbrev pub Obeys : Result Command CommandError → Debugged → List Event → Result ℕ CommandError → Debugged → List ℕ → List ℕ → Type 0
+abbrev pub Obeys :
+    Result Command CommandError → Debugged → List Event → Result ℕ CommandError → Debugged →
+    List ℕ → List ℕ → Type 0
 Obeys (Ok command) s rest result t before after =
     DoesUnless (fault_of s command) command s rest result t before after
 Obeys (Err e) s rest result t before after = Fails e result s t before after
 
--- what a line answers and leaves: what it asks for is done
-abbrev pub Commands : List ℕ → Debugged → List Event → Result ℕ CommandError → Debugged → List ℕ → List ℕ → Type 0
+-- the result of a line, and the session after it: what the line asks for is done
+abbrev pub Commands :
+    List ℕ → Debugged → List Event → Result ℕ CommandError → Debugged → List ℕ → List ℕ → Type 0
 Commands line s rest result t before after =
-    (asked : Result Command CommandError) × IsAsked line asked × Obeys asked s rest result t before after
+    (asked : Result Command CommandError) × IsAsked line asked
+    × Obeys asked s rest result t before after

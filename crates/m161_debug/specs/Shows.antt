@@ -17,7 +17,7 @@ use Rattle.m161_cpu.specs.Processor.{Processor}
 use Rattle.m161_machine.specs.State.{State, processor_at}
 use Rattle.m161_steplog.specs.Parts.{◌␣◌, hex_text}
 
--- The displays: each is a list of lines, read off a state.
+-- The displays: each is a list of lines, computed from a state.
 
 -- a line with its end
 abbrev pub ended : List ℕ → List ℕ
@@ -26,7 +26,7 @@ ended line = line ++ 10 ∷ []
 abbrev pub text_of : List (List ℕ) → List ℕ
 text_of lines = flat_map ended lines
 
--- the lines that are counted from 0
+-- n lines, counted from 0
 abbrev pub counted : ℕ → (ℕ → List ℕ) → List (List ℕ)
 counted n line = map line (range_with_len 0 n)
 
@@ -63,7 +63,8 @@ register_text c r = named (codes "r" ++ decimal r) (slice_index c.registers r)
 -- four registers
 abbrev pub registers_line : Processor → ℕ → List ℕ
 registers_line c i =
-    register_text c (4 * i) ␣ register_text c (4 * i + 1) ␣ register_text c (4 * i + 2) ␣ register_text c (4 * i + 3)
+    register_text c (4 * i) ␣ register_text c (4 * i + 1) ␣ register_text c (4 * i + 2)
+    ␣ register_text c (4 * i + 3)
 
 abbrev pub hi_lo_line : Processor → List ℕ
 hi_lo_line c = named (codes "hi") c.hi ␣ named (codes "lo") c.lo
@@ -79,7 +80,8 @@ show_regs_text p s =
 -- a register by its name; Cause shows the board's lines as they are now
 abbrev pub cop0_line : ℕ → State → Register → List ℕ
 cop0_line p s r =
-    named (name_of_register r) (read_of (number_of_register r) (lines_of p s.board) (processor_at p s.processors).control)
+    named (name_of_register r)
+    (read_of (number_of_register r) (lines_of p s.board) (processor_at p s.processors).control)
 
 unfoldable pub show_cop0_text : ℕ → State → List ℕ
 show_cop0_text p s = text_of (map (cop0_line p s) all_registers)
@@ -110,7 +112,7 @@ show_mem_text address n s = text_of (counted n (λ i. memory_line s.memory (addr
 
 -- Code: instructions from an address in kseg0 or kseg1 on.
 
--- the word of RAM that such an address names
+-- the word of RAM at such an address
 abbrev pub code_word : List ℕ → ℕ → ℕ
 code_word memory at = option_map_or (word_at memory) (unmapped at) 0
 

@@ -6,10 +6,10 @@ ghost use Rattle.m161_debug.specs.Breakpoints.{breakpoint, has, is_same, without
 use std::marker::Model;
 use thiserror::Error;
 
-/// How many breakpoints there are at most.
+/// The greatest number of breakpoints.
 pub(crate) const MOST: usize = 64;
 
-/// A place where a run stops: a processor, and an address of it.
+/// A place where a run stops: a processor and an address.
 #[derive(Clone, Copy)]
 pub(crate) struct Breakpoint {
     pub(crate) processor: u32,
@@ -24,7 +24,7 @@ impl Breakpoint {
         Breakpoint { processor, address }
     }
 
-    // Whether both are the same place.
+    // Whether two places are the same.
     fn is_same(self, other: Breakpoint) -> bool
         ensures { result ≡ is_same self other }
     {
@@ -32,7 +32,7 @@ impl Breakpoint {
     }
 }
 
-/// Why a breakpoint isn't set. The second is answered where the first doesn't hold.
+/// Why a breakpoint isn't set. The second is returned only if the first doesn't hold.
 #[derive(Clone, Copy, Debug, PartialEq, Eq, Error)]
 pub enum BreakError {
     /// There is no such processor.
@@ -43,7 +43,7 @@ pub enum BreakError {
     TooMany,
 }
 
-/// A set of at most 64 breakpoints. Contracts see it as the list of them, the oldest first.
+/// A set of at most 64 breakpoints. Contracts see it as their list, the oldest first.
 #[derive(Drop)]
 pub(crate) struct Breakpoints {
     table: [Breakpoint; 64],
@@ -79,7 +79,7 @@ impl Breakpoints {
         self.len
     }
 
-    /// Whether this one is there.
+    /// Whether a breakpoint is set.
     pub(crate) fn has(&self, breakpoint: Breakpoint) -> bool
         ensures { result ≡ has breakpoint self.now }
     {
@@ -91,7 +91,7 @@ impl Breakpoints {
         false
     }
 
-    /// Adds one, behind the others.
+    /// Adds a breakpoint, after the others.
     pub(crate) fn add(&mut self, breakpoint: Breakpoint)
         requires { length self.old < 64 }
         ensures { self.new ≡ self.old ++ breakpoint ∷ [] }
@@ -100,7 +100,7 @@ impl Breakpoints {
         self.len += 1;
     }
 
-    /// Takes one out; whether it was there.
+    /// Removes a breakpoint. Returns whether it was set.
     pub(crate) fn remove(&mut self, breakpoint: Breakpoint) -> bool
         ensures result { result ≡ has breakpoint self.old }
         ensures after { self.new ≡ without_breakpoint breakpoint self.old }

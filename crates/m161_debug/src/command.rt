@@ -11,7 +11,7 @@ use m161_steplog::{byte_of, cut_at_space, decimal_of};
 use std::alloc::AllocError;
 use thiserror::Error;
 
-/// What is done to a breakpoint.
+/// A change of a breakpoint.
 #[derive(Clone, Copy)]
 pub(crate) enum Change {
     Set,
@@ -26,7 +26,7 @@ pub(crate) enum Display {
     Tlb,
 }
 
-/// What words of RAM are shown as.
+/// How words of RAM are shown.
 #[derive(Clone, Copy)]
 pub(crate) enum Area {
     Memory,
@@ -36,21 +36,21 @@ pub(crate) enum Area {
 /// A command.
 #[derive(Clone, Copy)]
 pub(crate) enum Command {
-    /// A breakpoint of a processor at an address is set or deleted.
+    /// Sets or deletes a breakpoint of a processor at an address.
     Breakpoint(Change, u32, u32),
-    /// An event is made.
+    /// Makes an event.
     Make(Event),
-    /// The events that are left are made, up to a stop.
+    /// Makes the remaining events, up to a stop.
     Go,
-    /// The first of them are, so many at most.
+    /// Makes at most this number of the remaining events, up to a stop.
     GoFirst(u64),
-    /// A processor is shown.
+    /// Shows a processor.
     Show(Display, u32),
-    /// So many words from an address on are shown.
+    /// Shows this number of words from an address on.
     Words(Area, u32, u32),
 }
 
-/// Why a command isn't done. Each is answered where none above it holds.
+/// Why a command isn't done. Each is returned only if none above it holds.
 #[derive(Clone, Copy, Debug, PartialEq, Eq, Error)]
 pub enum CommandError {
     /// No command has this word.
@@ -111,7 +111,7 @@ impl From<BreakError> for CommandError {
     }
 }
 
-/// What a line asks for; the error is that its word is unknown, or its arguments are bad.
+/// The command of a line. The error is that its word is unknown, or that its arguments are bad.
 pub(crate) fn command_of(line: &str) -> Result<Command, CommandError>
     ensures { IsAsked line.now result }
 {

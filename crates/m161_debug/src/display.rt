@@ -6,7 +6,7 @@ mod memory;
 mod regs;
 mod tlb;
 
-pub(crate) use code::{is_code_there, show_code};
+pub(crate) use code::show_code;
 pub(crate) use cop0::show_cop0;
 pub(crate) use memory::show_mem;
 pub(crate) use regs::show_regs;

@@ -3,7 +3,7 @@
 //! ```text
 //! breakpoint   a processor and an address; at most 64, in a fixed table
 //! go           makes events in order, up to the first stop:
-//!              Break(k)      event k is a Step that stands at a breakpoint, and k isn't 0
+//!              Break(k)      event k is a Step at a breakpoint, and k isn't 0
 //!              Refused(k, r) event k is refused
 //!              Off(k)        event k switched the machine off
 //!              End(n)        all n events are made
@@ -18,9 +18,9 @@
 //! ```
 //!
 //! P, N and K are decimal, without leading zeros; ADDR is eight and HH two lower case hexadecimal
-//! digits. One space stands between the parts of a command, and none before or after them. Each
-//! printed line ends with a line feed. ADDR is physical for `m` and in kseg0 or kseg1 for `x`.
-//! Nothing but an event changes the machine. The commands and their texts are this project's own.
+//! digits. One space separates the parts of a command, with no space before or after them. Each
+//! printed line ends with a line feed. ADDR is physical for `m` and in kseg0 or kseg1 for `x`. Only
+//! events change the machine. The commands and their texts are this project's own.
 #![tactic(auto)]
 
 mod breakpoints;

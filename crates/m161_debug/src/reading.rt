@@ -1,4 +1,4 @@
-//! Parts of a command, read.
+//! Reading the parts of a command.
 
 ghost use Rattle.std.specs.Prelude.{◌<◌, ◌≤◌, ◌≡◌, length, decimal, true, false, get_or, IfSome, IfNone};
 ghost use Rattle.std.specs.Str.Parse.{AllDigits};
@@ -41,7 +41,7 @@ fn are_digits(bytes: &[u8]) -> bool
     true
 }
 
-// Whether a text begins with a zero and goes on.
+// Whether a text begins with a zero and has more digits.
 fn has_leading_zero(text: &str) -> bool
     ensures yes { result ≡ true → (1 < length text.now) × (get_or text.now 0 0 ≡ 48) }
     ensures no { result ≡ false → get_or text.now 0 0 ≡ 48 → length text.now ≤ 1 }
@@ -63,7 +63,7 @@ fn is_decimal(text: &str) -> bool
     are_digits(text.as_bytes())
 }
 
-/// How many events a decimal number asks for; one above 2^64 - 1 counts as that.
+/// How many events a decimal number asks for; a number above 2^64 - 1 is read as 2^64 - 1.
 pub(crate) fn count_of(text: &str) -> Option<u64>
     ensures some { IfSome result (λ n. IsDecimal text.now × (n ≡ count_of text.now)) }
     ensures none { IfNone result (IsDecimal text.now → ⊥) }

@@ -1,4 +1,4 @@
-//! Text appended in room that was made before, so that it can't fail.
+//! Text appended in room reserved before, so that it can't fail.
 
 ghost use Rattle.std.specs.Prelude.{◌≡◌, ◌+◌, ◌<◌, ◌≤◌, ◌++◌, ◌∷◌, [], length, decimal, string_bytes, string_capacity, string_len};
 ghost use Rattle.m161_machine.specs.Refusal.{name_of_refusal};
@@ -70,7 +70,7 @@ fn glyph(digit: u32) -> u8
     }
 }
 
-// Appends so many hexadecimal digits of a number.
+// Appends the last `digits` hexadecimal digits of a number.
 fn put_hex(text: &mut String, digits: u32, number: u32)
     requires { string_len text.old + digits ≤ string_capacity text.old }
     ensures bytes { string_bytes text.new ≡ string_bytes text.old ++ hex_text digits number }

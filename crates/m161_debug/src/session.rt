@@ -16,13 +16,12 @@ use crate::stop::Stop;
 use m161_bus::Console;
 use m161_machine::{Event, Machine, Outcome, Refusal};
 use m161_tlb::Tlb;
-use std::alloc::{AllocError, Global};
+use std::alloc::AllocError;
 use std::marker::Model;
 
 /// A machine that is debugged, with its breakpoints.
 #[derive(Drop)]
 pub struct Session<T: Tlb, D: Console> {
-    alloc: Global,
     machine: Machine<T, D>,
     breakpoints: Breakpoints,
 }
@@ -38,13 +37,12 @@ impl<T: Tlb, D: Console> Model for Session<T, D> {
 }
 
 impl<T: Tlb, D: Console> Session<T, D> {
-    /// A session of a machine as it is, without breakpoints. The allocator is what the displays
-    /// and commands take memory from.
-    pub fn new(alloc: Global, machine: Machine<T, D>) -> Session<T, D>
+    /// A session of a machine as it is, without breakpoints. Displays and commands allocate with
+    /// the machine's allocator.
+    pub fn new(machine: Machine<T, D>) -> Session<T, D>
         ensures { result ≡ record { machine = machine; breakpoints = [] } }
     {
         Session {
-            alloc,
             machine,
             breakpoints: Breakpoints::new(),
         }
@@ -57,8 +55,8 @@ impl<T: Tlb, D: Console> Session<T, D> {
         &self.machine
     }
 
-    /// Sets a breakpoint: a run stops before a Step of processor `p` at `address`. It does not
-    /// allocate. One that is there already stays.
+    /// Sets a breakpoint: a run stops before a Step of processor `p` at `address`. Does not
+    /// allocate. A breakpoint that is already set stays.
     ///
     /// # Errors
     /// There is no such processor; or there are 64 other breakpoints. Nothing is changed then.
@@ -93,7 +91,7 @@ impl<T: Tlb, D: Console> Session<T, D> {
         }
     }
 
-    /// Takes a breakpoint out; whether it was there. It does not allocate.
+    /// Removes a breakpoint. Returns whether it was set. Does not allocate.
     pub fn delete(&mut self, p: u32, address: u32) -> bool
         ensures found { result ≡ has (breakpoint p address) self.old.breakpoints }
         ensures after { self.new ≡ record self.old {
@@ -103,17 +101,17 @@ impl<T: Tlb, D: Console> Session<T, D> {
         self.breakpoints.remove(Breakpoint::new(p, address))
     }
 
-    /// What holds of every session: no breakpoint stands twice.
+    /// The law of every session: it has no breakpoint twice.
     pub fn breakpoints_are_a_set(&self)
         ensures { IsSet self.now.breakpoints }
     {
         let _breakpoints = &self.breakpoints;
     }
 
-    /// Makes an event, wherever breakpoints stand.
+    /// Makes an event, whatever the breakpoints.
     ///
     /// # Errors
-    /// The machine's. Nothing is changed then.
+    /// Those of the machine. Nothing is changed then.
     pub fn step(&mut self, event: Event) -> Result<Outcome, Refusal>
         ensures answers { Answers self.old.machine event result self.new.machine }
         ensures breakpoints { self.new.breakpoints ≡ self.old.breakpoints }
@@ -131,7 +129,7 @@ impl<T: Tlb, D: Console> Session<T, D> {
         ensures { IfOk result (λ text. string_bytes text
             ≡ show_regs_text p self.now.machine.state) }
     {
-        show_regs(self.alloc, &self.machine, p)
+        show_regs(self.machine.allocator(), &self.machine, p)
     }
 
     /// A processor's registers of coprocessor 0, one a line, in the order of their numbers.
@@ -143,7 +141,7 @@ impl<T: Tlb, D: Console> Session<T, D> {
         ensures { IfOk result (λ text. string_bytes text
             ≡ show_cop0_text p self.now.machine.state) }
     {
-        show_cop0(self.alloc, &self.machine, p)
+        show_cop0(self.machine.allocator(), &self.machine, p)
     }
 
     /// The 64 rows of a processor's TLB, one a line: its number and its words in EntryHi and
@@ -156,7 +154,7 @@ impl<T: Tlb, D: Console> Session<T, D> {
         ensures { IfOk result (λ text. string_bytes text
             ≡ show_tlb_text p self.now.machine.state) }
     {
-        show_tlb(self.alloc, &self.machine, p)
+        show_tlb(self.machine.allocator(), &self.machine, p)
     }
 
     /// `n` words of RAM from a physical address on, one a line.
@@ -169,7 +167,7 @@ impl<T: Tlb, D: Console> Session<T, D> {
         ensures { IfOk result (λ text. string_bytes text
             ≡ show_mem_text address n self.now.machine.state) }
     {
-        show_mem(self.alloc, &self.machine, address, n)
+        show_mem(self.machine.allocator(), &self.machine, address, n)
     }
 
     /// `n` instructions from an address in kseg0 or kseg1 on, one a line: its address, its word and
@@ -183,10 +181,10 @@ impl<T: Tlb, D: Console> Session<T, D> {
         ensures { IfOk result (λ text. string_bytes text
             ≡ show_code_text address n self.now.machine.state) }
     {
-        show_code(self.alloc, &self.machine, address, n)
+        show_code(self.machine.allocator(), &self.machine, address, n)
     }
 
-    // Whether a Step stands at a breakpoint.
+    // Whether a Step is at a breakpoint.
     fn is_at_break(&self, event: Event) -> bool
         ensures { result ≡ is_break self.now.breakpoints self.now.machine.state event }
     {
@@ -200,9 +198,9 @@ impl<T: Tlb, D: Console> Session<T, D> {
         }
     }
 
-    /// Makes events in order, up to the first stop: before a Step at a breakpoint, but for the
+    /// Makes events in order, up to the first stop: before a Step at a breakpoint, unless it is the
     /// first event; at an event that is refused; after one that switches the machine off; or after
-    /// the last. It allocates only for an event `Done`.
+    /// the last. Allocates only for an event `Done`.
     pub fn go(&mut self, events: &[Event]) -> Stop
         ensures stop { Stops self.old.breakpoints self.old.machine events.now result
             self.new.machine }

@@ -8,19 +8,19 @@ use m161_machine::Refusal;
 /// Why a run over a list of events stops, and before or at which event, counted from 0.
 #[derive(Clone, Copy, Debug, PartialEq, Eq)]
 pub enum Stop {
-    /// The event is a Step that stands at a breakpoint; it isn't made.
+    /// The event is a Step at a breakpoint; it isn't made.
     Break(usize),
     /// The event is refused.
     Refused(usize, Refusal),
     /// The event switched the machine off.
     Off(usize),
-    /// All events are made, so many.
+    /// All events, this number of them, are made.
     End(usize),
 }
 
 impl Stop {
     // How many events it uses up.
-    pub(crate) fn used(self) -> usize
+    pub(crate) fn events_used(self) -> usize
         requires { used_by self < 2 ^ 64 }
         ensures { result ≡ used_by self }
     {

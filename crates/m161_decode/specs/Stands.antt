@@ -4,10 +4,11 @@ use Rattle.m161_isa.specs.declared.instr.Instr.{Instr}
 use Rattle.m161_isa.specs.Table.{Fits, FitsNone, absent_in}
 use Rattle.m161_isa.specs.Instr.{row_of_instr, instr_by, misfit}
 
--- The instruction is the word's, as a relation that each arm of the decoder meets by itself.
+-- The instruction is that of the word, as a relation that each arm of the decoder satisfies by
+-- itself.
 
--- the word fits the instruction's row and has its operands; or it fits no row, and its opcode says
--- what it is
+-- the word fits the instruction's row and has its operands; or it fits no row, and the instruction
+-- is the one for its opcode
 abbrev pub StandsBy : ℕ → Instr → Option Row → Type 0
 StandsBy word i (Some r) = Fits word r × (i ≡ instr_by word (Some r))
 StandsBy word i None = FitsNone word × (i ≡ misfit word (absent_in word))

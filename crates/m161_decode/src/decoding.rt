@@ -12,10 +12,10 @@ use m161_isa::{
 };
 
 /// The instruction of a word: the row that it fits and the numbers in its operand fields; or
-/// `Absent`, by its opcode, or `Reserved` where it fits none.
+/// `Absent`, by its opcode, or `Reserved` if it fits no row.
 ///
-/// The matches below list the rows once more, by the bits that select them: a search of the table
-/// would cost a Step some seventy tests.
+/// The matches below list the rows by the bits that select them: a search of the table would cost a
+/// Step some seventy tests.
 #[inline(always)]
 pub fn decode(word: u32) -> Instr
     ensures row { row_of_instr result ≡ row_that_fits word }
@@ -25,8 +25,8 @@ pub fn decode(word: u32) -> Instr
     by_opcode::<Elsewhere>(word)
 }
 
-/// The same as `decode`, for the one place in a program that decodes all the time: its code is
-/// compiled into its caller, however large that is and whoever else calls `decode`.
+/// The same as `decode`, for the loop of a program: it is inlined into its one caller, even if that
+/// is large and others call `decode`.
 #[inline(always)]
 pub fn decode_in_step(word: u32) -> Instr
     ensures row { row_of_instr result ≡ row_that_fits word }
@@ -36,8 +36,8 @@ pub fn decode_in_step(word: u32) -> Instr
     by_opcode::<InStep>(word)
 }
 
-// Who decodes. The compiler makes a copy of the decoder for each, and so inlines the one of a Step,
-// which has one caller.
+// The callers of the decoder. The compiler makes a copy of it for each, and so inlines the copy of
+// a Step, which has one caller.
 struct InStep;
 
 struct Elsewhere;

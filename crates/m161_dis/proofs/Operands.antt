@@ -6,7 +6,7 @@ use Rattle.m161_isa.specs.declared.operand.Operand.TheVariants as operand
 use Rattle.m161_isa.specs.Table.{width_of}
 use Rattle.m161_dis.specs.Canon.{register_text, hex_number, branch_target, jump_target}
 use Rattle.m161_asm.specs.Tokens.{Register, Number, Mark, Placed}
-use Rattle.m161_asm.specs.Lines.{Fault, Whole, Part, Field, BranchTo, JumpTo, Reads, part, immediate, is_within, bits_of_whole}
+use Rattle.m161_asm.specs.Lines.{Fault, Whole, Part, Field, BranchTo, JumpTo, Parsed, part, immediate, is_within, bits_of_whole}
 use Rattle.m161_asm.specs.Text.{field_of, target_of, number_by}
 use Rattle.m161_dis.proofs.Pieces.{Piece, laid}
 use Rattle.m161_dis.proofs.Fields.{branch_field-branch_target, jump_field-jump_target, branch_target-word, jump_target-word}
@@ -42,7 +42,7 @@ operand_pieces at operand.Branch n = hex_one 8 (branch_target at n) ∷ []
 operand_pieces at operand.Jump n = hex_one 8 (jump_target at n) ∷ []
 
 -- read as a part that stands for the field at the address, with what follows left over
-pub record IsRead (at n : ℕ) (read : Reads Part) (more : List Piece) : Type 0 where
+pub record IsRead (at n : ℕ) (read : Parsed Part) (more : List Piece) : Type 0 where
   pub part : Part
   pub column : ℕ
   pub reads : read ≡ Ok (part, laid column more)
@@ -51,7 +51,7 @@ pub record IsRead (at n : ℕ) (read : Reads Part) (more : List Piece) : Type 0 
 -- a number that is within its range
 within : (low high width n v : ℕ) (w : Whole) (x : List Placed) (e : Fault)
     → is_within low high w ≡ true → bits_of_whole width w ≡ v
-    → cond {A = Reads Part} (is_within low high w) (Ok (Field (bits_of_whole width w), x)) (Err e)
+    → cond {A = Parsed Part} (is_within low high w) (Ok (Field (bits_of_whole width w), x)) (Err e)
     ≡ Ok (Field v, x)
 within low high width n v w x e t b = rw (t, b) refl
 

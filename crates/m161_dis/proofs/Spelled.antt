@@ -9,7 +9,7 @@ use Rattle.m161_isa.specs.declared.operand.Operand.{Operand}
 use Rattle.m161_isa.specs.declared.operand.Operand.TheVariants as operand
 use Rattle.m161_isa.specs.Table.{table, width_of, number_of}
 use Rattle.m161_dis.specs.Canon.{branch_target, jump_target}
-use Rattle.m161_asm.specs.Tokens.{Name, Number, lexeme, beginning, begins_name, AName, ANumber, Beginning, is_word, reading, number_of as number_read, numeral}
+use Rattle.m161_asm.specs.Tokens.{Name, Number, lexeme, beginning, begins_name, AName, ANumber, Beginning, is_word, reading, number_of_literal, numeral}
 use Rattle.m161_dis.proofs.Pieces.{Piece, IsPiece, Sound, text_of, starts_apart, run-word, words_clean, blank, comma_piece, open_piece, close_piece, minus_piece}
 use Rattle.m161_dis.proofs.Numerals.{Decimal, decimal_is, decimal_len, below, both, register_piece, hex4_piece, hex8_piece}
 use Rattle.m161_dis.proofs.Operands.{operand_pieces, signed_pieces}
@@ -70,7 +70,7 @@ number_piece : (n first : ℕ) (others : List ℕ) → first < 10
     → list_all is_ascii_digit ((48 + first) ∷ others) ≡ true
     → reading 10 0 ((48 + first) ∷ others) ≡ Some n → length ((48 + first) ∷ others) ≤ 10
     → IsPiece ((48 + first) ∷ others, Some (Number n))
-unfolding lexeme number_read numeral
+unfolding lexeme number_of_literal numeral
 number_piece n first others small all read few = (
   omega arith,
   words_clean ((48 + first) ∷ others) (all_words ((48 + first) ∷ others) all),

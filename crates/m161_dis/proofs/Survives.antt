@@ -10,8 +10,8 @@ use Rattle.m161_dis.specs.Canon.{canon_by, canonical_row, canonical_by, data_tex
 use Rattle.m161_asm.specs.Tokens.{Name, Directive, Number, Placed, tokens, tokens_from, lexeme, beginning, is_letter}
 use Rattle.std.specs.Char.{is_ascii_digit}
 use Rattle.std.specs.List.{prefix_len}
-use Rattle.m161_asm.specs.Lines.{◌>>=◌, Fault, is_within, bits_of_whole, Part, Statement, Words, Code, label_of, sound, past_of, Line, line_column, size_of, statement, directive_statement, values, parts, row_named}
-use Rattle.m161_asm.specs.Text.{line_of, with_place, is_filled, address_below, symbols_in, words_of, word_of, number_by, field_of, each}
+use Rattle.m161_asm.specs.Lines.{◌>>=◌, Fault, is_within, bits_of_whole, Part, Statement, Words, Code, label_of, sound, past_of, SourceLine, line_column, size_of, statement, directive_statement, values, parts, row_named}
+use Rattle.m161_asm.specs.Text.{line_of, with_place, is_filled, address_below, symbols_in, words_of_statement, word_of_value, number_by, field_of, each}
 use Rattle.m161_dis.specs.Law.{origin, stands_for, SurvivesDisassembling}
 use Rattle.m161_dis.proofs.Pieces.{Piece, IsPiece, Sound, starts_apart, laid, text_of, tokens-pieces, sound-laid, blank}
 use Rattle.m161_dis.proofs.Numerals.{hex8_piece}
@@ -22,7 +22,7 @@ use Rattle.m161_dis.proofs.Spelled.{pieces_sound, apart, name_piece}
 -- A word's text stands for the word at its address.
 
 -- a line of one word has its place behind the `.org`
-placed_alone : (at : ℕ) (l : Line) → size_of l.statement ≡ 1 → l.label ≡ None → at < 2 ^ 32
+placed_alone : (at : ℕ) (l : SourceLine) → size_of l.statement ≡ 1 → l.label ≡ None → at < 2 ^ 32
     → at % 4 ≡ 0 → with_place (origin at) l ≡ Ok l
 unfolding with_place is_filled address_below
 placed_alone at l e n h w =
@@ -33,11 +33,12 @@ placed_alone at l e n h w =
 pub stands_by : (at : ℕ) (ts : List Placed) (s : Statement) → sound ts ≡ Ok tt
     → label_of ts ≡ (None, ts) → statement (past_of ts) ts ≡ Ok s → size_of s ≡ 1 → at < 2 ^ 32
     → at % 4 ≡ 0
-    → (line_of (origin at) ts >>= λ l. words_of (symbols_in (l ∷ origin at)) at l.statement)
-    ≡ words_of [] at s
+    → (line_of (origin at) ts
+    >>= λ l. words_of_statement (symbols_in (l ∷ origin at)) at l.statement)
+    ≡ words_of_statement [] at s
 unfolding line_of symbols_in
 stands_by at ts s a b c e h w =
-    let l : Line = record { label = None; statement = s; column = line_column ts ts } in
+    let l : SourceLine = record { label = None; statement = s; column = line_column ts ts } in
     let p = placed_alone at l e refl h w in
     rw (a, b, c, p) refl
 
@@ -68,8 +69,9 @@ not_nop _ = refl
 -- the operands that were read, as the word
 coded : (r : Row) (at : ℕ) (ns : List ℕ) (read : Result (List Part) Fault)
     → (read >>= each (field_of [] at)) ≡ Ok ns
-    → (xs : List Part) × (read ≡ Ok xs) × (words_of [] at (Code r xs) ≡ Ok (word_with r ns ∷ []))
-unfolding words_of
+    → (xs : List Part) × (read ≡ Ok xs)
+    × (words_of_statement [] at (Code r xs) ≡ Ok (word_with r ns ∷ []))
+unfolding words_of_statement
 coded r at ns (Ok xs) e = (xs, refl, rw e refl)
 coded r at ns (Err x) e = cc
 
@@ -111,7 +113,8 @@ row_stands word at r h w =
     ≡ Ok (Code r xs) = named_statement past x 1 d (laid d ps) r xs (not_nop r)
     (row_named-name r) read in
     row_text word at r
-    ∙ ap (λ t. line_of (origin at) t >>= λ l. words_of (symbols_in (l ∷ origin at)) at l.statement)
+    ∙ ap (λ t. line_of (origin at) t
+    >>= λ l. words_of_statement (symbols_in (l ∷ origin at)) at l.statement)
     (tokens-pieces all s)
     ∙ stands_by at ts (Code r xs) (sound-laid 1 all s)
     (no_label (table r).operands x 1 d d at word) stmt refl h w
@@ -119,7 +122,8 @@ row_stands word at r h w =
 
 -- `nop`
 nop_stands : (at : ℕ) → at < 2 ^ 32 → at % 4 ≡ 0 → stands_for at (codes "nop") ≡ Ok (0 ∷ [])
-unfolding stands_for statement tokens_from lexeme beginning words_of word_of number_by
+unfolding stands_for statement tokens_from lexeme beginning words_of_statement word_of_value
+    number_by
 nop_stands at h w = stands_by at (tokens (codes "nop")) _ refl refl refl refl h w
 
 -- `.word` and digits
@@ -135,17 +139,18 @@ unfolding lexeme beginning
 directive_piece = (omega arith, refl, λ rest f. rw (letters_end rest f) refl)
 
 word_plain : (word c : ℕ) → word < 2 ^ 32
-    → word_of [] (record { label = None; number = (word, 0); column = c }) ≡ Ok word
-unfolding word_of number_by
+    → word_of_value [] (record { label = None; number = (word, 0); column = c }) ≡ Ok word
+unfolding word_of_value number_by
 word_plain word c k =
     let t : is_within (2 ^ 31) (2 ^ 32 - 1) (word, 0) ≡ true = grind (arith, nat_tests) in
     let b : bits_of_whole 32 (word, 0) ≡ word = omega arith in
     rw (t, b) refl
 
 data_words : (word at : ℕ) → word < 2 ^ 32
-    → words_of [] at (Words (record { label = None; number = (word, 0); column = 7 } ∷ []))
+    → words_of_statement [] at
+    (Words (record { label = None; number = (word, 0); column = 7 } ∷ []))
     ≡ Ok (word ∷ [])
-unfolding words_of
+unfolding words_of_statement
 data_words word at k = rw (word_plain word 7 k) refl
 
 data_stands : (word at : ℕ) → word < 2 ^ 32 → at < 2 ^ 32 → at % 4 ≡ 0
@@ -156,7 +161,8 @@ data_stands word at k h w =
     ∷ (hex_number 8 word, Some (Number word)) ∷ [] in
     let s : Sound all = (directive_piece, refl, (blank, tt, (hex8_piece word k, refl, tt))) in
     let ts : List Placed = (Directive (codes "word"), 1, 6) ∷ (Number word, 7, 17) ∷ [] in
-    ap (λ t. line_of (origin at) t >>= λ l. words_of (symbols_in (l ∷ origin at)) at l.statement)
+    ap (λ t. line_of (origin at) t
+    >>= λ l. words_of_statement (symbols_in (l ∷ origin at)) at l.statement)
     (tokens-pieces all s)
     ∙ stands_by at ts
     (Words (record { label = None; number = (word, 0); column = 7 } ∷ [])) refl refl refl refl h

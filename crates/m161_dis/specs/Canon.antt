@@ -5,7 +5,7 @@ use Rattle.m161_isa.specs.declared.operand.Operand.{Operand}
 use Rattle.m161_isa.specs.declared.operand.Operand.TheVariants as operand
 use Rattle.m161_isa.specs.Table.{table, row_that_fits, number_of, numbers_of, word_with}
 
--- The one text of a word at an address, read off the instruction table.
+-- The one text of a word at an address, by the instruction table.
 
 -- the last k hexadecimal digits of a number, in lower case
 abbrev pub hex : ℕ → ℕ → List ℕ
@@ -23,15 +23,15 @@ register_text n = codes "$" ++ decimal n
 abbrev pub signed_text : ℕ → List ℕ
 signed_text n = if nat_lt n 0x8000 then decimal n else codes "-" ++ decimal (0x10000 - n)
 
--- where a branch at an address goes: the address after it, and its signed field in words
+-- the target of a branch at an address: the address after it plus its signed field in words
 abbrev pub branch_target : ℕ → ℕ → ℕ
 branch_target at n = (at + 4 + 4 * n + (if nat_lt n 0x8000 then 0 else 0xfffc0000)) % 2 ^ 32
 
--- where a jump at an address goes: the upper four bits are those of the address after it
+-- the target of a jump at an address: the upper four bits are those of the address after it
 abbrev pub jump_target : ℕ → ℕ → ℕ
 jump_target at n = (at + 4) % 2 ^ 32 / 2 ^ 28 * 2 ^ 28 + 4 * n
 
--- the text of an operand, by its kind and its field; a base stands behind its offset
+-- the text of an operand, by its kind and its field; a base follows its offset
 abbrev pub operand_text : ℕ → Operand → ℕ → List ℕ
 operand_text at operand.Rd n = register_text n
 operand_text at operand.Rs n = register_text n
@@ -45,7 +45,7 @@ operand_text at operand.Base n = codes "(" ++ register_text n ++ codes ")"
 operand_text at operand.Branch n = hex_number 8 (branch_target at n)
 operand_text at operand.Jump n = hex_number 8 (jump_target at n)
 
--- the text before an operand: none before a base
+-- the text before an operand: nothing before a base
 abbrev pub lead_of : Operand → List ℕ → List ℕ
 lead_of operand.Base lead = []
 lead_of _ lead = lead
@@ -62,7 +62,8 @@ instruction_text word at r = (table r).name ++ operands_text word at (codes " ")
 abbrev pub data_text : ℕ → List ℕ
 data_text word = codes ".word " ++ hex_number 8 word
 
--- the row of a canonical word: it fits the row, and has no bit beside the row's fields and operands
+-- the row of a canonical word: it fits the row, and has no bit outside the row's fields and
+-- operands
 abbrev pub canonical_by : ℕ → Option Row → Option Row
 canonical_by word None = None
 canonical_by word (Some r) = if word == word_with r (numbers_of word (Some r)) then Some r else None

@@ -9,7 +9,7 @@
 //! .word 0x00000060         any other word
 //! ```
 //!
-//! Each word has one text at an address, which assembles there to the word again and to no other.
+//! Each word has one text at an address, which is assembled there to that word and to no other.
 //! Numbers are in lower case and registers in decimal. The form is this project's own, in the
 //! syntax of MIPS assemblers.
 #![tactic(auto)]
@@ -27,10 +27,10 @@ use m161_isa::{Operand, Row};
 use std::alloc::{AllocError, Global};
 use std::fmt::Write;
 
-/// The text of the word that stands at an address.
+/// The text of the word at an address.
 ///
 /// # Errors
-/// Where there is no memory for it.
+/// Memory was refused.
 pub fn line(alloc: Global, word: u32, at: u32) -> Result<String, AllocError>
     ensures { IfOk result (λ text. string_bytes text ≡ canon word at) }
 {
@@ -168,7 +168,7 @@ fn glyph(digit: u32) -> char
     }
 }
 
-// Where a branch goes.
+// The target of a branch.
 fn branch_goes_to(at: u32, number: u32) -> u32
     requires { number < 2 ^ 16 }
     ensures { result ≡ branch_target at number }
@@ -179,7 +179,7 @@ fn branch_goes_to(at: u32, number: u32) -> u32
         .wrapping_add(beyond)
 }
 
-// Where a jump goes.
+// The target of a jump.
 fn jump_goes_to(at: u32, number: u32) -> u32
     requires { number < 2 ^ 26 }
     ensures { result ≡ jump_target at number }

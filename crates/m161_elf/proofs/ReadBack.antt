@@ -5,12 +5,12 @@ use Rattle.std.specs.Option.{option_map_or}
 use Rattle.std.proofs.lemmas.List.{get_or-append-add, get_or_append_left, length-append, reverse-append}
 use Rattle.std.proofs.lemmas.Bool.Decides.{nat_tests}
 use Rattle.std.specs.Int.{w16, w32, to_be_bytes}
-use Rattle.m161_asm.specs.Segments.{words_of}
+use Rattle.m161_asm.specs.Segments.{word_count}
 use Rattle.m161_asm.specs.Text.{Segment}
 use Rattle.m161_elf.specs.declared.header.ProgramHeader.{ProgramHeader}
 use Rattle.m161_elf.specs.Header.{e_entry, e_phnum, file_half, file_word, header_at, is_load, segments}
 use Rattle.m161_elf.specs.Image.{byte_left, covers, place_in_ram, segment_byte}
-use Rattle.m161_elf.specs.Written.{elf_bytes, file_header, segment_bytes, segment_header, segment_headers, size, words}
+use Rattle.m161_elf.specs.Written.{elf_bytes, file_header, segment_bytes, segment_header, segment_headers, size, words_bytes}
 use Rattle.m161_elf.specs.WrittenLaw.{byte_left_by, byte_of, has_byte}
 
 -- What the loader reads of a file that was written.
@@ -78,7 +78,7 @@ header_read before rest at offset s e low fits small =
 
 headers_from : (file before rest : List ℕ) (k offset : ℕ) (ss : List Segment)
     → file ≡ before ++ (segment_headers offset ss ++ rest) → length before ≡ 52 + 32 * k
-    → AllByRecursion (λ s. s.0 < 2 ^ 32) ss → offset + 4 * words_of ss < 2 ^ 32
+    → AllByRecursion (λ s. s.0 < 2 ^ 32) ss → offset + 4 * word_count ss < 2 ^ 32
     → filter is_load (map (λ i. header_at file (52 + 32 * i)) (range_with_len k (length ss)))
     ≡ load_headers offset ss
 headers_from file before rest k offset [] e long fit room = refl
@@ -99,7 +99,7 @@ headers_from file before rest k offset (s ∷ ss) e long fit room =
     ap (λ h. cond (is_load h) (h ∷ more) more) here ∙ ap (λ hs. load_header offset s ∷ hs) behind
 
 pub segments_read : (entry : ℕ) (ss : List Segment) → length ss ≤ 1024
-    → AllByRecursion (λ s. s.0 < 2 ^ 32) ss → words_of ss ≤ 4194304
+    → AllByRecursion (λ s. s.0 < 2 ^ 32) ss → word_count ss ≤ 4194304
     → segments (elf_bytes entry ss) ≡ load_headers (52 + 32 * length ss) ss
 segments_read entry ss few fit room =
     let file = elf_bytes entry ss in
@@ -110,9 +110,9 @@ segments_read entry ss few fit room =
     (52 + 32 * length ss) ss refl refl fit (omega (arith, few, room))
 
 -- the segments' bytes
-pub length-words : (ws : List ℕ) → length (words ws) ≡ 4 * length ws
-length-words [] = refl
-length-words (w ∷ ws) = omega (arith, length-words ws)
+pub length-words_bytes : (ws : List ℕ) → length (words_bytes ws) ≡ 4 * length ws
+length-words_bytes [] = refl
+length-words_bytes (w ∷ ws) = omega (arith, length-words_bytes ws)
 
 pub length-segment_headers : (offset : ℕ) (ss : List Segment)
     → length (segment_headers offset ss) ≡ 32 * length ss
@@ -173,9 +173,10 @@ byte_at before mine rest offset place size at e f here =
 
 byte_read : (before rest : List ℕ) (offset at : ℕ) (s : Segment) → length before ≡ offset
     → has_byte at s ≡ true
-    → segment_byte (before ++ (words s.1 ++ rest)) at (load_header offset s) ≡ byte_of at s
+    → segment_byte (before ++ (words_bytes s.1 ++ rest)) at (load_header offset s) ≡ byte_of at s
 byte_read before rest offset at s e =
-    byte_at before (words s.1) rest offset (place_in_ram s.0) (size s) at e (length-words s.1)
+    byte_at before (words_bytes s.1) rest offset (place_in_ram s.0) (size s) at e
+    (length-words_bytes s.1)
 
 pub bytes_read : (file before : List ℕ) (offset : ℕ) (ss : List Segment) (at other : ℕ)
     → file ≡ before ++ segment_bytes ss → length before ≡ offset
@@ -189,18 +190,19 @@ bytes_read file before offset (s ∷ ss) at other e long =
     let here : has_byte at s ≡ true
     → segment_byte file at h
     ≡ byte_of at s = λ has. rw e (byte_read before rest offset at s long has) in
-    let longer : length (before ++ words s.1)
-    ≡ offset + size s = omega (arith, length-append before (words s.1), length-words s.1, long) in
+    let longer : length (before ++ words_bytes s.1)
+    ≡ offset + size s =
+    omega (arith, length-append before (words_bytes s.1), length-words_bytes s.1, long) in
     last_value-cons (segment_byte file at) (covers at) h more other
     ∙ ap (last_value (segment_byte file at) (covers at) more)
     (same_if (has_byte at s) _ _ other here)
-    ∙ bytes_read file (before ++ words s.1) (offset + size s) ss at _
-    (e ∙ sym (append_assoc before (words s.1) rest)) longer
+    ∙ bytes_read file (before ++ words_bytes s.1) (offset + size s) ss at _
+    (e ∙ sym (append_assoc before (words_bytes s.1) rest)) longer
     ∙ sym (last_value-cons (byte_of at) (has_byte at) s ss other)
 
 -- The memory of an image: at each address the byte of the last segment that has one there.
 pub memory_read : (entry : ℕ) (ss : List Segment) (at : ℕ) → length ss ≤ 1024
-    → AllByRecursion (λ s. s.0 < 2 ^ 32) ss → words_of ss ≤ 4194304
+    → AllByRecursion (λ s. s.0 < 2 ^ 32) ss → word_count ss ≤ 4194304
     → byte_left (elf_bytes entry ss) (segments (elf_bytes entry ss)) at ≡ byte_left_by ss at
 memory_read entry ss at few fit room =
     let file = elf_bytes entry ss in

@@ -8,7 +8,7 @@ use Rattle.m161_elf.specs.declared.image.Image.{Image}
 use Rattle.m161_elf.specs.declared.image.LoadError.{LoadError}
 use Rattle.m161_elf.specs.Header.{e_phnum, header, is_load, segment_at, segments}
 use Rattle.m161_elf.specs.Image.{first_fault, IsImage, Loads, has_bad_header_table, is_larger_in_file, is_not_elf32_big, is_not_executable, is_not_mips, is_outside_file, is_outside_ram, is_truncated}
-use Rattle.m161_elf.specs.Sound.{IsSound, IsSoundSegment}
+use Rattle.m161_elf.specs.Sound.{IsSoundFile, IsSoundSegment}
 
 -- where no fault is found, the first test fails, and the rest finds none
 later : {E : Type 0} (test : Bool) (e : E) (rest : Option E)
@@ -49,7 +49,7 @@ none_among test kind f from (suc n) i none after before load =
 long_enough : (file : List ℕ) → is_truncated file ≡ false → 52 ≤ length file
 long_enough file long = grind (arith, nat_tests)
 
-pub is_sound : (file : List ℕ) (ram : ℕ) → first_fault file ram ≡ None → IsSound file ram
+pub is_sound : (file : List ℕ) (ram : ℕ) → first_fault file ram ≡ None → IsSoundFile file ram
 unfolding first_fault
 is_sound file ram none =
     let first = later (is_truncated file) _ _ none in
@@ -95,8 +95,8 @@ found_where true x y found = (refl, cc)
 found_where false x y found = absurd (cc)
 
 -- what holds of a segment that is found
-pub sound_at : (file : List ℕ) (ram i : ℕ) (s : ProgramHeader) → IsSound file ram → i < e_phnum file
-    → Some s ≡ segment_at file i → IsSoundSegment file ram s
+pub sound_at : (file : List ℕ) (ram i : ℕ) (s : ProgramHeader) → IsSoundFile file ram
+    → i < e_phnum file → Some s ≡ segment_at file i → IsSoundSegment file ram s
 sound_at file ram i s sound here found =
     let where_found = found_where (is_load (header file i)) (header file i) s found in
     rw (← where_found.1) (sound.segments_are i here where_found.0)

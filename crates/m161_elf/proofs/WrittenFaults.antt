@@ -1,35 +1,35 @@
-use Rattle.std.proofs.Common.{◌≡◌, ℕ, ◌+◌, ◌*◌, ◌<◌, ◌≤◌, List, [], ◌∷◌, ◌++◌, length, Bool, true, false, refl, ◌∙◌, ap, arith}
+use Rattle.std.proofs.Common.{◌≡◌, ℕ, ◌+◌, ◌*◌, ◌%◌, ◌<◌, ◌≤◌, List, [], ◌∷◌, ◌++◌, length, Bool, true, false, refl, ◌∙◌, ap, arith}
 use Rattle.std.specs.Prelude.{nat_lt, not, ◌==◌, ◌&&◌, ◌||◌}
 use Rattle.std.specs.List.{list_any, AllByRecursion, AllByRecursion-prop}
 use Rattle.std.proofs.Math.Bridge.{le_prop}
 use Rattle.std.proofs.Math.Logic.{∥∥₁_elim}
 use Rattle.std.proofs.lemmas.Bool.Decides.{nat_tests}
 use Rattle.std.proofs.lemmas.List.{length-append, length-map}
-use Rattle.m161_asm.specs.Segments.{segment_seen, segments_seen, words_of, ArePlaced}
+use Rattle.m161_asm.specs.Segments.{segment_seen, segments_seen, word_count, ArePlaced}
 use Rattle.m161_asm.specs.Text.{Segment}
 use Rattle.m161_elf.specs.declared.image.LoadError.TheVariants as fault
 use Rattle.m161_elf.specs.Header.{segments}
 use Rattle.m161_elf.specs.Image.{first_fault, first_of, has_bad_entry, has_bad_header_table, is_larger_in_file, is_not_elf32_big, is_not_executable, is_not_mips, is_outside_file, is_outside_ram, is_truncated}
-use Rattle.m161_elf.specs.Written.{elf_bytes, file_header, segment_bytes, segment_headers, size, words}
-use Rattle.m161_elf.specs.WrittenLaw.{is_bad_entry, lies_outside, WrittenHasFewFaults}
-use Rattle.m161_elf.proofs.ReadBack.{count_read, entry_read, length-segment_headers, length-words, load_headers, segments_read}
+use Rattle.m161_elf.specs.Written.{elf_bytes, file_header, segment_bytes, segment_headers, size, words_bytes}
+use Rattle.m161_elf.specs.WrittenLaw.{is_entry_outside, lies_outside, WrittenHasFewFaults}
+use Rattle.m161_elf.proofs.ReadBack.{count_read, entry_read, length-segment_headers, length-words_bytes, load_headers, segments_read}
 use Rattle.m161_elf.proofs.WrittenLaw.{all_low}
 
 -- The faults that the file of a program may have.
 
-length-segment_bytes : (ss : List Segment) → length (segment_bytes ss) ≡ 4 * words_of ss
+length-segment_bytes : (ss : List Segment) → length (segment_bytes ss) ≡ 4 * word_count ss
 length-segment_bytes [] = refl
 length-segment_bytes (s ∷ ss) =
     omega (
       arith,
-      length-append (words s.1)
+      length-append (words_bytes s.1)
           (segment_bytes ss),
-      length-words s.1,
+      length-words_bytes s.1,
       length-segment_bytes ss,
     )
 
 length-elf_bytes : (entry : ℕ) (ss : List Segment)
-    → length (elf_bytes entry ss) ≡ 52 + 32 * length ss + 4 * words_of ss
+    → length (elf_bytes entry ss) ≡ 52 + 32 * length ss + 4 * word_count ss
 length-elf_bytes entry ss =
     let headers = segment_headers (52 + 32 * length ss) ss in
     omega (
@@ -48,7 +48,7 @@ and_false true b e = e
 and_false false b e = refl
 
 none_outside_file : (file : List ℕ) (offset : ℕ) (ss : List Segment)
-    → offset + 4 * words_of ss ≤ length file
+    → offset + 4 * word_count ss ≤ length file
     → list_any (is_outside_file file) (load_headers offset ss) ≡ false
 none_outside_file file offset [] room = refl
 none_outside_file file offset (s ∷ ss) room =
@@ -112,10 +112,12 @@ few_faults p ram fits =
     (list_any (is_outside_file file) (segments file))
     (list_any (is_outside_ram ram) (segments file)) (list_any is_larger_in_file (segments file))
     (has_bad_entry file ram)
-    (list_any (lies_outside ram) ss) (is_bad_entry ram p.entry)
+    (list_any (lies_outside ram) ss) (is_entry_outside ram p.entry)
     (not_below 52 (length file) (omega (arith, long))) refl refl refl table
     (ap (list_any (is_outside_file file)) loaded
     ∙ none_outside_file file first ss (omega (arith, long)))
     (ap (list_any (is_outside_ram ram)) loaded ∙ outside_ram ram first ss some)
     (ap (list_any is_larger_in_file) loaded ∙ none_larger first ss)
-    (ap (λ entry. is_bad_entry ram entry) (entry_read p.entry (length ss) rest fits))
+    (ap (λ entry. not (entry % 4 == 0) || is_entry_outside ram entry)
+    (entry_read p.entry (length ss) rest fits)
+    ∙ ap (λ left. not (left == 0) || is_entry_outside ram p.entry) p.entry_aligned)

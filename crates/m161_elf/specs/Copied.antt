@@ -17,7 +17,7 @@ cleared_byte s memory at =
     && nat_lt at (place_in_ram s.p_vaddr + s.p_memsz)
     then 0 else slice_index memory at
 
--- the byte at a physical address once a segment is put over memory: the segment's where it has one
+-- the byte at a physical address once a segment is copied to memory: the segment's, if it has one
 -- there
 abbrev pub put_byte : List ℕ → ProgramHeader → List ℕ → ℕ → ℕ
 put_byte file s memory at = if covers at s then segment_byte file at s else slice_index memory at

@@ -52,7 +52,7 @@ headers file count = map (header file) (range_with_len 0 count)
 abbrev pub is_load : ProgramHeader → Bool
 is_load h = h.p_type == 1
 
--- program header i, where it is of a segment to load
+-- program header i, if it is that of a segment to load
 abbrev pub segment_at : List ℕ → ℕ → Option ProgramHeader
 segment_at file i = if is_load (header file i) then Some (header file i) else None
 

@@ -8,14 +8,14 @@ use Rattle.m161_elf.specs.declared.image.LoadError.{LoadError}
 use Rattle.m161_elf.specs.declared.image.LoadError.TheVariants as fault
 use Rattle.m161_elf.specs.Header.{e_type, e_machine, e_entry, e_phoff, e_phentsize, e_phnum, segments}
 
--- The memory that a file leaves, and the faults for which it is refused.
+-- The image of a file, and the faults for which a file is refused.
 
--- `size` bytes from an address on are RAM, all of them by kseg0 or all by kseg1
+-- `size` bytes from an address on are in RAM, all of them by kseg0 or all by kseg1
 abbrev pub is_in_ram : ℕ → ℕ → ℕ → Bool
 is_in_ram ram address size =
     option_map_or (λ at. nat_le (at + size) (min ram (2 ^ 29))) (unmapped address) false
 
--- the physical byte that an address names; 0 for one outside kseg0 and kseg1, which no segment with
+-- the physical address of an address; 0 for one outside kseg0 and kseg1, which no segment with
 -- memory has
 abbrev pub place_in_ram : ℕ → ℕ
 place_in_ram address = option_map_or (λ at. at) (unmapped address) 0
@@ -55,11 +55,11 @@ abbrev pub has_bad_entry : List ℕ → ℕ → Bool
 has_bad_entry file ram = not (e_entry file % 4 == 0) || not (is_in_ram ram (e_entry file) 1)
 
 -- the answer of the first test that holds
-abbrev pub first_of : List (Bool × LoadError) → Option LoadError
+abbrev pub first_of : {E : Type 0} → List (Bool × E) → Option E
 first_of [] = None
 first_of ((test, answer) ∷ rest) = if test then Some answer else first_of rest
 
--- the first fault that holds, each over all segments before the next
+-- the first fault that holds, each tested over all segments before the next fault
 unfoldable pub first_fault : List ℕ → ℕ → Option LoadError
 first_fault file ram =
     first_of (
@@ -86,19 +86,20 @@ segment_byte file at s =
     then slice_index file (s.p_offset + (at - place_in_ram s.p_vaddr))
     else 0
 
--- the byte at a physical address that segments leave: that of the last one that has a byte there,
--- or 0
+-- the byte at a physical address after loading: that of the last segment that has a byte there, or
+-- 0
 abbrev pub byte_left : List ℕ → List ProgramHeader → ℕ → ℕ
 byte_left file loaded at =
     option_map_or (segment_byte file at) (find (covers at) (reverse loaded)) 0
 
--- the entry and the memory that a file leaves in `ram` bytes of RAM
+-- the image of a file in `ram` bytes of RAM: its entry and the bytes
 pub record IsImage (file : List ℕ) (ram entry : ℕ) (bytes : List ℕ) : Type 0 where
   pub entry_is : entry ≡ e_entry file
   pub size_is : length bytes ≡ ram
   pub bytes_are : (at : ℕ) → at < ram → slice_index bytes at ≡ byte_left file (segments file) at
 
--- what `load` answers, by the first fault: that fault, or the image, or that memory was refused
+-- the result of `load`, by the first fault: that fault; or without a fault the image, or that
+-- memory was refused
 abbrev pub Loads : List ℕ → ℕ → Option LoadError → Result Image LoadError → Type 0
 Loads file ram (Some first) (Ok image) = ⊥
 Loads file ram (Some first) (Err e) = e ≡ first

@@ -5,7 +5,7 @@ use Rattle.m161_elf.specs.declared.segments.SegmentFaults.{SegmentFaults}
 use Rattle.m161_elf.specs.Header.{e_phnum, header, is_load, segments_among}
 use Rattle.m161_elf.specs.Image.{has_bad_header_table, is_larger_in_file, is_outside_file, is_outside_ram}
 
--- What is known of the program headers on the way to an image.
+-- Facts about the program headers while a file is loaded.
 
 -- which faults some of the first segments have
 abbrev pub faults_among : List ℕ → ℕ → ℕ → SegmentFaults
@@ -15,14 +15,14 @@ faults_among file ram count = record {
   larger_in_file = list_any is_larger_in_file (segments_among file count);
 }
 
--- what holds of a segment that has no fault
+-- the facts about a segment without a fault
 pub record IsSoundSegment (file : List ℕ) (ram : ℕ) (s : ProgramHeader) : Type 0 where
   pub in_file : is_outside_file file s ≡ false
   pub in_ram : is_outside_ram ram s ≡ false
   pub in_memory : is_larger_in_file s ≡ false
 
--- what holds of the program headers of a file without a fault
-pub record IsSound (file : List ℕ) (ram : ℕ) : Type 0 where
+-- the facts about the program headers of a file without a fault
+pub record IsSoundFile (file : List ℕ) (ram : ℕ) : Type 0 where
   pub header_is : 52 ≤ length file
   pub table_is : has_bad_header_table file ≡ false
   pub segments_are : (i : ℕ) → i < e_phnum file → is_load (header file i) ≡ true

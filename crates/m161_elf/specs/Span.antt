@@ -30,7 +30,8 @@ span_at file i =
     if is_load (header file i) && has_bytes (header file i) then Some (span_of (header file i))
     else None
 
--- what `loads` answers, by the first fault: that fault, or the spans, or that memory was refused
+-- the result of `loads`, by the first fault: that fault; or without a fault the spans, or that
+-- memory was refused
 abbrev pub Lists : List ℕ → Option LoadError → Result (Vec Span Global) LoadError → Type 0
 Lists file (Some first) (Ok listed) = ⊥
 Lists file (Some first) (Err e) = e ≡ first

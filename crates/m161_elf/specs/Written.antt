@@ -7,11 +7,11 @@ use Rattle.m161_asm.specs.Text.{Segment}
 -- and "Program Header".
 
 -- the bytes of half-words and of words, big-endian
-abbrev pub halves : List ℕ → List ℕ
-halves = flat_map (to_be_bytes w16)
+abbrev pub halves_bytes : List ℕ → List ℕ
+halves_bytes = flat_map (to_be_bytes w16)
 
-abbrev pub words : List ℕ → List ℕ
-words = flat_map (to_be_bytes w32)
+abbrev pub words_bytes : List ℕ → List ℕ
+words_bytes = flat_map (to_be_bytes w32)
 
 -- 7f, "ELF", 32 bits, big-endian, version 1, and nine zeros
 abbrev pub identification : List ℕ
@@ -22,9 +22,9 @@ identification = 0x7f ∷ 0x45 ∷ 0x4c ∷ 0x46 ∷ 1 ∷ 2 ∷ 1 ∷ 0 ∷ 0 �
 abbrev pub file_header : ℕ → ℕ → List ℕ
 file_header entry count =
     identification
-    ++ halves (2 ∷ 8 ∷ [])
-    ++ words (1 ∷ entry ∷ 52 ∷ 0 ∷ 0 ∷ [])
-    ++ halves (52 ∷ 32 ∷ count ∷ 0 ∷ 0 ∷ 0 ∷ [])
+    ++ halves_bytes (2 ∷ 8 ∷ [])
+    ++ words_bytes (1 ∷ entry ∷ 52 ∷ 0 ∷ 0 ∷ [])
+    ++ halves_bytes (52 ∷ 32 ∷ count ∷ 0 ∷ 0 ∷ 0 ∷ [])
 
 -- how many bytes a segment has
 abbrev pub size : Segment → ℕ
@@ -33,7 +33,7 @@ size s = 4 * length s.1
 -- p_type (PT_LOAD), p_offset, p_vaddr, p_paddr, p_filesz, p_memsz, p_flags (read, write, execute)
 -- and p_align
 abbrev pub segment_header : ℕ → Segment → List ℕ
-segment_header offset s = words (1 ∷ offset ∷ s.0 ∷ s.0 ∷ size s ∷ size s ∷ 7 ∷ 4 ∷ [])
+segment_header offset s = words_bytes (1 ∷ offset ∷ s.0 ∷ s.0 ∷ size s ∷ size s ∷ 7 ∷ 4 ∷ [])
 
 -- the program headers of segments whose bytes follow one another from an offset on
 abbrev pub segment_headers : ℕ → List Segment → List ℕ
@@ -41,7 +41,7 @@ segment_headers offset [] = []
 segment_headers offset (s ∷ ss) = segment_header offset s ++ segment_headers (offset + size s) ss
 
 abbrev pub segment_bytes : List Segment → List ℕ
-segment_bytes = flat_map (λ s. words s.1)
+segment_bytes = flat_map (λ s. words_bytes s.1)
 
 abbrev pub elf_bytes : ℕ → List Segment → List ℕ
 elf_bytes entry ss =

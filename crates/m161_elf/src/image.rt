@@ -1,11 +1,11 @@
-//! What a file is loaded into, and why it may be refused.
+//! The image of a file, and why a file may be refused.
 
 ghost use Rattle.std.specs.Prelude.{◌≡◌};
 ghost use Rattle.m161_elf.specs.LoadError.{name_of_fault, number_of_fault};
 
 use thiserror::Error;
 
-/// What a file leaves: where the first step fetches, and the bytes of all of RAM.
+/// The image of a file: the address of the first fetch, and the bytes of all of RAM.
 #[derive(Drop)]
 pub struct Image {
     /// The address of the first instruction, in kseg0 or kseg1.
@@ -14,18 +14,18 @@ pub struct Image {
     pub bytes: Vec<u8>,
 }
 
-/// Why a file isn't loaded. Each is answered only where none above it holds, `NoMemory` only where
-/// no fault holds.
+/// Why a file isn't loaded. Each is returned only if none above it holds, `NoMemory` only if no
+/// fault holds.
 #[derive(Clone, Copy, Debug, PartialEq, Eq, Error)]
 pub enum LoadError {
-    /// The file has under 52 bytes.
+    /// The file has fewer than 52 bytes.
     #[error("the file is shorter than an ELF header")]
     Truncated,
-    /// The file doesn't begin as a big-endian ELF32 file of version 1 does.
-    #[error("the file is no big-endian ELF32 file")]
+    /// The file doesn't begin like a big-endian ELF32 file of version 1.
+    #[error("the file is not a big-endian ELF32 file")]
     NotElf32Big,
     /// e_type isn't 2.
-    #[error("the file is no executable")]
+    #[error("the file is not an executable")]
     NotExecutable,
     /// e_machine isn't 8.
     #[error("the file is not for MIPS")]

@@ -1,4 +1,4 @@
-//! ELF32 files for MIPS: the memory that they leave, and the file of an assembled program.
+//! ELF32 files for MIPS: loading them into memory, and writing the file of an assembled program.
 //!
 //! ```text
 //! header           52 bytes: identification 0, e_type 16, e_machine 18, e_entry 24, e_phoff 28,
@@ -9,16 +9,16 @@
 //! ```
 //!
 //! A file has any number of program headers, in a table at e_phoff. Those of type PT_LOAD are the
-//! segments to load, in the table's order: at each address stands the byte of the last segment
-//! that has one there, zero past p_filesz, or else 0. A segment's addresses name RAM by kseg0 (from
-//! 80000000) or kseg1 (from a0000000), each less its base. Other headers, sections, p_flags,
-//! p_paddr and the bytes of the ABI are ignored.
+//! segments to load, in the table's order: each address gets the byte of the last segment that has
+//! one there (zero past p_filesz), or else 0. A segment's addresses are those of RAM by kseg0 (from
+//! 80000000) or kseg1 (from a0000000): the physical address is the address minus the base. Other
+//! headers, sections, p_flags, p_paddr and the bytes of the ABI are ignored.
 //!
 //! The file of a program has a header for each of its segments, with p_flags 7 (read, write and
-//! execute) and p_align 4, and behind the table the segments' words, all in the program's order.
+//! execute) and p_align 4, and after the table the segments' words, all in the program's order.
 //!
 //! Source: the ELF32 specification and its MIPS supplement; the order of the faults, that the last
-//! segment counts, and what a program's file has, are this project's own.
+//! segment is used, and the layout of a program's file, are this project's own.
 #![tactic(auto)]
 
 mod address;
@@ -31,6 +31,7 @@ mod segments;
 mod span;
 mod writer;
 
+pub use address::is_in_ram;
 pub use header::ProgramHeader;
 pub use image::{Image, LoadError};
 pub use laws::{written_has_few_faults, written_is_loaded};

@@ -4,7 +4,7 @@ ghost use Rattle.std.specs.Prelude.{◌≡◌, ◌%◌, ◌<◌, ◌≤◌, Err,
 ghost use Rattle.m161_elf.specs.Copied.{cleared_byte, copied_byte, put_byte};
 ghost use Rattle.m161_elf.specs.Header.{e_phnum, segments};
 ghost use Rattle.m161_elf.specs.Image.{byte_left, first_fault, has_bad_header_table, is_in_ram, is_larger_in_file, is_outside_ram, Loads};
-ghost use Rattle.m161_elf.specs.Sound.{IsSound, IsSoundSegment};
+ghost use Rattle.m161_elf.specs.Sound.{IsSoundFile, IsSoundSegment};
 ghost use Rattle.m161_elf.specs.Span.{span_at, Lists};
 
 use crate::address::place_in_ram;
@@ -14,7 +14,7 @@ use crate::image::{Image, LoadError};
 use crate::span::Span;
 use std::alloc::Global;
 
-/// The memory that a file leaves in `ram` bytes of RAM, or the first fault that holds.
+/// The image of a file in `ram` bytes of RAM, or the first fault that holds.
 pub fn load(alloc: Global, file: &[u8], ram: u32) -> Result<Image, LoadError>
     ensures answer { Loads file.now ram (first_fault file.now ram) result }
     ensures entry { IfOk result (λ image. (image.entry % 4
@@ -32,9 +32,9 @@ pub fn load(alloc: Global, file: &[u8], ram: u32) -> Result<Image, LoadError>
     })
 }
 
-/// Puts all segments over memory of zeros, in the table's order.
+/// Copies all segments to memory of zeros, in the table's order.
 fn put_segments(memory: &mut [u8], file: &[u8])
-    requires sound { IsSound file.now (length memory.old) }
+    requires sound { IsSoundFile file.now (length memory.old) }
     requires zeros { memory.old ≡ replicate (length memory.old) 0 }
     ensures { EachIndex memory.old (λ at. slice_index memory.new at
         ≡ byte_left file.now (segments file.now) at) }
@@ -46,7 +46,7 @@ fn put_segments(memory: &mut [u8], file: &[u8])
     }
 }
 
-/// Puts a segment over memory: the file's bytes, then zeros.
+/// Copies a segment to memory: the file's bytes, then zeros.
 fn put_segment(memory: &mut [u8], file: &[u8], segment: &ProgramHeader)
     requires { IsSoundSegment file.now (length memory.old) segment.now }
     ensures { EachIndex memory.old (λ at. slice_index memory.new at
@@ -88,7 +88,7 @@ fn clear_rest(memory: &mut [u8], segment: &ProgramHeader)
 }
 
 /// The addresses at which a file has bytes: one span for each segment that has some in the file, in
-/// the order of the program headers. Refused as `load` refuses the file.
+/// the order of the program headers. The errors are those of `load`.
 pub fn loads(alloc: Global, file: &[u8], ram: u32) -> Result<Vec<Span>, LoadError>
     ensures answer { Lists file.now (first_fault file.now ram) result }
     ensures memory { result ≡ Err LoadError.NoMemory → first_fault file.now ram ≡ None }

@@ -5,6 +5,6 @@
 pub struct Span {
     /// The address of the first, in kseg0 or kseg1.
     pub address: u32,
-    /// Their number, not 0.
+    /// Their number, which isn't 0.
     pub size: u32,
 }

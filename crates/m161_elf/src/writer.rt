@@ -1,8 +1,8 @@
 //! A program to file bytes.
 
 ghost use Rattle.std.specs.Prelude.{◌≡◌, ◌+◌, ◌*◌, ◌<◌, ◌≤◌, ◌^◌, ◌++◌, length, IfOk, OnOk};
-ghost use Rattle.m161_asm.specs.Segments.{segment_seen, segments_seen, words_of};
-ghost use Rattle.m161_elf.specs.Written.{elf_bytes, file_header, halves as halves_bytes, segment_bytes, segment_header, segment_headers, size, words as words_bytes};
+ghost use Rattle.m161_asm.specs.Segments.{segment_seen, segments_seen, word_count};
+ghost use Rattle.m161_elf.specs.Written.{elf_bytes, file_header, halves_bytes, segment_bytes, segment_header, segment_headers, size, words_bytes};
 
 use crate::fault::{EXECUTABLE, IDENTIFICATION, MIPS};
 use crate::header::{HEADER_SIZE, PROGRAM_HEADER_SIZE, PT_LOAD};
@@ -22,7 +22,7 @@ const ALIGN: u32 = 4;
 /// words, all in the program's order.
 ///
 /// # Errors
-/// Where there is no memory for it.
+/// Memory was refused.
 pub fn write(alloc: Global, program: &Program) -> Result<Vec<u8>, AllocError>
     ensures { IfOk result (λ bytes. bytes.items
         ≡ elf_bytes program.now.entry (segments_seen program.now.segments.items)) }
@@ -47,9 +47,9 @@ fn push_file_header(file: &mut Vec<u8>, entry: u32, count: u16) -> Result<(), Al
     push_halves(file, &[0, 0, 0])
 }
 
-// The program headers of all segments, whose bytes stand behind the last of them.
+// The program headers of all segments, whose bytes follow the last header.
 fn push_segment_headers(file: &mut Vec<u8>, segments: &[Segment]) -> Result<(), AllocError>
-    requires words { words_of (segments_seen segments.now) ≤ 4194304 }
+    requires words { word_count (segments_seen segments.now) ≤ 4194304 }
     requires count { length segments.now ≤ 1024 }
     ensures { OnOk result (file.new.items ≡ file.old.items
         ++ segment_headers (52 + 32 * length segments.now) (segments_seen segments.now)) }
@@ -62,7 +62,7 @@ fn push_segment_headers(file: &mut Vec<u8>, segments: &[Segment]) -> Result<(), 
     Ok(())
 }
 
-// The program header of a segment whose bytes stand at an offset. Answers the offset behind them.
+// The program header of a segment whose bytes are at an offset. Returns the offset after them.
 fn push_segment_header(
     file: &mut Vec<u8>,
     segment: &Segment,

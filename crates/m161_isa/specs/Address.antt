@@ -1,9 +1,9 @@
 use Rattle.std.specs.Prelude.{ℕ, ◌-◌, nat_lt, if◌then◌else◌, Option, None, Some}
 
--- Addresses that name physical ones without the TLB. Kane, MIPS RISC Architecture, "Virtual
--- memory".
+-- Addresses that are mapped to physical ones without the TLB. Kane, MIPS RISC Architecture,
+-- "Virtual memory".
 
--- kseg0 and kseg1, two views of the first 2^29 physical bytes: the address less the segment's base
+-- kseg0 and kseg1, two views of the first 2^29 physical bytes: the address minus the segment's base
 abbrev pub unmapped : ℕ → Option ℕ
 unmapped address =
     if nat_lt address 0x80000000 then None

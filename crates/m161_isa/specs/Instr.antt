@@ -1,6 +1,7 @@
 use Rattle.std.specs.Prelude.{ℕ, ◌*◌, ◌^◌, Bool, true, false, List, [], ◌∷◌, Option, None, Some}
 use Rattle.m161_isa.specs.declared.table.Row.{Row}
 use Rattle.m161_isa.specs.declared.table.Row.TheVariants as rows
+use Rattle.m161_isa.specs.declared.operand.Operand.TheVariants as operand
 use Rattle.m161_isa.specs.declared.instr.Instr.{Instr}
 use Rattle.m161_isa.specs.declared.instr.Instr.TheVariants.{Shift, ShiftVariable, JumpRegister, JumpAndLinkRegister, MoveFrom, MoveTo, Multiply, Arith, BranchZero, Jump, BranchEqual, Immediate, LoadUpper, Load, Store, MoveFromCop0, MoveToCop0, Plain, Absent, Reserved}
 use Rattle.m161_isa.specs.declared.instr.ShiftOp.TheVariants as shift
@@ -16,10 +17,10 @@ use Rattle.m161_isa.specs.declared.instr.StoreOp.TheVariants as store
 use Rattle.m161_isa.specs.declared.instr.PlainOp.TheVariants as plain
 use Rattle.m161_isa.specs.declared.instr.Coprocessor.{Coprocessor}
 use Rattle.m161_isa.specs.declared.instr.Coprocessor.TheVariants as coprocessor
-use Rattle.m161_isa.specs.Table.{bits_of, row_that_fits, absent_in, word_with}
+use Rattle.m161_isa.specs.Table.{number_of, row_that_fits, absent_in, word_with}
 
--- What the code's instructions have to do with the table: an instruction is a row and the numbers
--- of its operands.
+-- How the code's instructions relate to the table: an instruction is a row and the numbers of its
+-- operands.
 
 -- the row that an instruction is of; a list of its own, since it ties the code's type to the rows
 abbrev pub row_of_instr : Instr → Option Row
@@ -95,7 +96,7 @@ row_of_instr (Plain plain.Wait) = Some rows.Wait
 row_of_instr (Absent _) = None
 row_of_instr (Reserved _) = None
 
--- the instruction is of no row
+-- the instruction has no row
 abbrev pub is_misfit : Instr → Bool
 is_misfit (Absent _) = true
 is_misfit (Reserved _) = true
@@ -126,30 +127,30 @@ numbers_of_instr (Reserved _) = []
 
 -- the operands of a word
 abbrev pub rs_of : ℕ → ℕ
-rs_of word = bits_of word 21 5
+rs_of word = number_of word operand.Rs
 
 abbrev pub rt_of : ℕ → ℕ
-rt_of word = bits_of word 16 5
+rt_of word = number_of word operand.Rt
 
 abbrev pub rd_of : ℕ → ℕ
-rd_of word = bits_of word 11 5
+rd_of word = number_of word operand.Rd
 
 abbrev pub amount_of : ℕ → ℕ
-amount_of word = bits_of word 6 5
+amount_of word = number_of word operand.Amount
 
 abbrev pub immediate_of : ℕ → ℕ
-immediate_of word = bits_of word 0 16
+immediate_of word = number_of word operand.Signed
 
 abbrev pub target_of : ℕ → ℕ
-target_of word = bits_of word 0 26
+target_of word = number_of word operand.Jump
 
 -- a word that fits no row
 abbrev pub misfit : ℕ → Option Coprocessor → Instr
 misfit word None = Reserved word
 misfit word (Some unit) = Absent unit
 
--- the instruction of a word, by the row that it fits; a list of its own, since it goes the other
--- way
+-- the instruction of a word, by the row that it fits; a list of its own, since it is the other
+-- direction
 abbrev pub instr_by : ℕ → Option Row → Instr
 instr_by word None = misfit word (absent_in word)
 instr_by word (Some rows.Sll) = Shift shift.Left (rd_of word) (rt_of word) (amount_of word)
@@ -238,8 +239,8 @@ instr_by word (Some rows.Wait) = Plain plain.Wait
 abbrev pub instr_of : ℕ → Instr
 instr_of word = instr_by word (row_that_fits word)
 
--- the word of an instruction: its row's fields and its operands, and no other bit. A coprocessor
--- that isn't there has the word of its opcode alone
+-- the word of an instruction: its row's fields and its operands, all other bits zero. That of an
+-- absent coprocessor is the opcode alone
 abbrev pub word_by : Option Row → Instr → ℕ
 word_by (Some r) i = word_with r (numbers_of_instr i)
 word_by None (Absent coprocessor.One) = 17 * 2 ^ 26

@@ -11,18 +11,19 @@ use Rattle.m161_isa.specs.declared.instr.Coprocessor.TheVariants as coprocessor
 -- The instruction table. Kane, MIPS RISC Architecture, "Opcode bit encoding"; `sync`, `ll` and `sc`
 -- are MIPS II's, `wait` is System/161's.
 
--- the field of a word from bit `at` on, so many bits wide
+-- the field of a word from bit `at` on, `width` bits wide
 abbrev pub bits_of : ℕ → ℕ → ℕ → ℕ
 bits_of word at width = word / 2 ^ at % 2 ^ width
 
--- the value that the field of a row's words from bit `position` on, so many bits wide, must have
+-- the value that the field from bit `position` on, `width` bits wide, must have in the words of a
+-- row
 pub record Field : Type 0 where
   pub position : ℕ
   pub width : ℕ
   pub value : ℕ
 
--- what the table has in a row's line: its name, the fields of its words, its operands as the
--- assembly text has them, and its effect
+-- a row's line of the table: its name, the fields of its words, its operands as the assembly text
+-- has them, and its effect
 pub record Columns : Type 0 where
   pub name : List ℕ
   pub fields : List Field
@@ -132,8 +133,8 @@ table rows.Tlbp = columns (codes "tlbp") (cop0_function 8) [] effect.ProbeTlb
 table rows.Rfe = columns (codes "rfe") (cop0_function 16) [] effect.RestoreFromException
 table rows.Wait = columns (codes "wait") (cop0_function 32) [] effect.WaitForInterrupt
 
--- the rows, in the table's order; a list of its own, since no definition can go through the names
--- of an enum
+-- the rows, in the table's order; a list of its own, since no definition can enumerate an enum's
+-- variants
 abbrev pub all_rows : List Row
 all_rows =
     rows.Sll ∷ rows.Srl ∷ rows.Sra ∷ rows.Sllv ∷ rows.Srlv ∷ rows.Srav ∷ rows.Jr ∷ rows.Jalr ∷

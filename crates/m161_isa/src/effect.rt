@@ -4,120 +4,120 @@
 /// operand says how its value is read.
 #[derive(Clone, Copy, Debug, PartialEq, Eq)]
 pub enum Effect {
-    /// Left, with zeros.
+    /// Shifts left, filling with zeros.
     ShiftLeft,
-    /// Right, with zeros.
+    /// Shifts right, filling with zeros.
     ShiftRight,
-    /// Right, with the sign.
+    /// Shifts right, filling with the sign.
     ShiftRightArithmetic,
-    /// On to the target, after the delay slot.
+    /// Jumps to the target, after the delay slot.
     Jump,
-    /// A jump that leaves the return address in its first operand.
+    /// Jumps, and leaves the return address in the first operand.
     JumpAndLinkRegister,
-    /// Trap Sys.
+    /// Traps with Sys.
     SystemCall,
-    /// Trap Bp.
+    /// Traps with Bp.
     Breakpoint,
-    /// Waits for earlier loads and stores; nothing here, since each is whole when its Step ends.
+    /// Waits for earlier loads and stores; does nothing here, since each ends with its Step.
     Synchronize,
-    /// HI into a register.
+    /// Writes HI to a register.
     MoveFromHi,
-    /// A register into HI.
+    /// Writes a register to HI.
     MoveToHi,
-    /// LO into a register.
+    /// Writes LO to a register.
     MoveFromLo,
-    /// A register into LO.
+    /// Writes a register to LO.
     MoveToLo,
-    /// The signed product into HI and LO.
+    /// Writes the signed product to HI and LO.
     Multiply,
-    /// The unsigned product into HI and LO.
+    /// Writes the unsigned product to HI and LO.
     MultiplyUnsigned,
-    /// The signed quotient into LO, the remainder into HI.
+    /// Writes the signed quotient to LO and the remainder to HI.
     Divide,
-    /// The unsigned quotient into LO, the remainder into HI.
+    /// Writes the unsigned quotient to LO and the remainder to HI.
     DivideUnsigned,
-    /// The signed sum, or trap Ov.
+    /// Writes the signed sum, or traps with Ov.
     Sum,
-    /// The sum modulo 2^32.
+    /// Writes the sum modulo 2^32.
     SumModulo,
-    /// The signed difference, or trap Ov.
+    /// Writes the signed difference, or traps with Ov.
     Difference,
-    /// The difference modulo 2^32.
+    /// Writes the difference modulo 2^32.
     DifferenceModulo,
-    /// The bits that both have.
+    /// Writes the bits that both have.
     And,
-    /// The bits that one or both have.
+    /// Writes the bits that one or both have.
     Or,
-    /// The bits that exactly one has.
+    /// Writes the bits that exactly one has.
     Xor,
-    /// The bits that neither has.
+    /// Writes the bits that neither has.
     Nor,
-    /// 1 where less, signed, else 0.
+    /// Writes 1 if less, signed, else 0.
     SetOnLess,
-    /// 1 where less, unsigned, else 0.
+    /// Writes 1 if less, unsigned, else 0.
     SetOnLessUnsigned,
-    /// Below zero, signed.
+    /// Branches if below zero, signed.
     BranchOnLess,
-    /// Zero or above, signed.
+    /// Branches if zero or above, signed.
     BranchOnGreaterOrEqual,
-    /// Below zero, signed; the return address into register 31, taken or not.
+    /// Branches if below zero, signed; writes the return address to register 31, taken or not.
     BranchOnLessAndLink,
-    /// Zero or above, signed; the return address into register 31, taken or not.
+    /// Branches if zero or above, signed; writes the return address to register 31, taken or not.
     BranchOnGreaterOrEqualAndLink,
-    /// A jump that leaves the return address in register 31.
+    /// Jumps, and leaves the return address in register 31.
     JumpAndLink,
-    /// Where two registers are equal.
+    /// Branches if two registers are equal.
     BranchOnEqual,
-    /// Where two registers differ.
+    /// Branches if two registers differ.
     BranchOnNotEqual,
-    /// Zero or below, signed.
+    /// Branches if zero or below, signed.
     BranchOnLessOrEqual,
-    /// Above zero, signed.
+    /// Branches if above zero, signed.
     BranchOnGreater,
-    /// The immediate into the upper half.
+    /// Writes the immediate to the upper half.
     LoadUpper,
-    /// A byte, sign-extended.
+    /// Loads a byte, sign-extended.
     LoadByte,
-    /// A half-word, sign-extended.
+    /// Loads a half-word, sign-extended.
     LoadHalf,
-    /// The bytes from the address to its word's end, into the high bytes.
+    /// Loads the bytes from the address to its word's end into the high bytes.
     LoadWordLeft,
-    /// A word.
+    /// Loads a word.
     LoadWord,
-    /// A byte, zero-extended.
+    /// Loads a byte, zero-extended.
     LoadByteUnsigned,
-    /// A half-word, zero-extended.
+    /// Loads a half-word, zero-extended.
     LoadHalfUnsigned,
-    /// The bytes from the word's start to the address, into the low bytes.
+    /// Loads the bytes from the word's start to the address into the low bytes.
     LoadWordRight,
-    /// The low byte.
+    /// Stores the low byte.
     StoreByte,
-    /// The low half.
+    /// Stores the low half.
     StoreHalf,
-    /// The high bytes, from the address to its word's end.
+    /// Stores the high bytes, from the address to its word's end.
     StoreWordLeft,
-    /// The word.
+    /// Stores the word.
     StoreWord,
-    /// The low bytes, from the word's start to the address.
+    /// Stores the low bytes, from the word's start to the address.
     StoreWordRight,
-    /// A word, and a link to it.
+    /// Loads a word, and links to it.
     LoadLinked,
-    /// The word where the link is live, and whether it was.
+    /// Stores the word if the link is live; writes whether it was.
     StoreConditional,
-    /// A register of coprocessor 0 into a general one.
+    /// Writes a register of coprocessor 0 to a general one.
     MoveFromCop0,
-    /// A general register into one of coprocessor 0.
+    /// Writes a general register to one of coprocessor 0.
     MoveToCop0,
-    /// Row Index into EntryHi and EntryLo.
+    /// Writes row Index to EntryHi and EntryLo.
     ReadTlb,
-    /// EntryHi and EntryLo into row Index.
+    /// Writes EntryHi and EntryLo to row Index.
     WriteTlbIndexed,
-    /// EntryHi and EntryLo into row Random.
+    /// Writes EntryHi and EntryLo to row Random.
     WriteTlbRandom,
-    /// The row that matches EntryHi into Index.
+    /// Writes the number of the row that matches EntryHi to Index.
     ProbeTlb,
-    /// The previous mode and interrupt enable.
+    /// Restores the previous mode and interrupt enable.
     RestoreFromException,
-    /// Nothing more until an interrupt is pending.
+    /// Waits until an interrupt is pending.
     WaitForInterrupt,
 }

@@ -1,4 +1,7 @@
 //! Instructions: what a word is decoded into.
+//!
+//! The enums of operations list rows of the table once more, since an enum can't be computed from
+//! one: they group the rows by their operands, so that decoding and executing match on few shapes.
 
 ghost use Rattle.std.specs.Prelude.{◌≡◌, ◌↔◌, ℕ, Some, IsSome, IsTrue};
 ghost use Rattle.m161_isa.specs.Instr.{row_of_instr, is_misfit};
@@ -243,7 +246,7 @@ pub enum Instr {
     Reserved(u32),
 }
 
-/// Whether the instruction is of a row, and not of a word that fits none.
+/// Whether the instruction is of a row, and not of a word that fits no row.
 pub fn has_row(instr: &Instr) -> bool
     ensures { IsTrue result ↔ IsSome (row_of_instr instr.now) }
 {
@@ -256,10 +259,10 @@ fn is_misfit(instr: &Instr) -> bool
     matches!(instr, Instr::Absent(_) | Instr::Reserved(_))
 }
 
-/// The row of an instruction that is of one.
+/// The row of an instruction that has one.
 ///
-/// It and the functions below list the rows by the instruction, which holds no row itself, so that
-/// decoding goes straight to the operation.
+/// This function and those below list the rows by instruction. An `Instr` doesn't contain its row,
+/// so that decoding goes straight to the operation.
 pub fn row_of(instr: &Instr) -> Row
     requires { IsSome (row_of_instr instr.now) }
     ensures { row_of_instr instr.now ≡ Some result }

@@ -27,7 +27,7 @@ mod register;
 mod table;
 mod target;
 
-pub use address::unmapped;
+pub use address::{KSEG_SIZE, unmapped};
 pub use amount::Amount;
 pub use effect::Effect;
 pub use immediate::Immediate;

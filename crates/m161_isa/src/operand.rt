@@ -3,7 +3,7 @@
 ghost use Rattle.std.specs.Prelude.{◌≡◌, ◌≤◌, ◌+◌, ◌<◌, ◌^◌};
 ghost use Rattle.m161_isa.specs.Table.{position_of, width_of, number_of};
 
-/// A kind of operand: where it stands in the word, and how its field is read.
+/// A kind of operand: where its field is in the word, and how it is read.
 #[derive(Clone, Copy, Debug, PartialEq, Eq)]
 pub enum Operand {
     /// The general register in bits 15..11.
@@ -20,7 +20,7 @@ pub enum Operand {
     Unsigned,
     /// The immediate in bits 15..0, sign-extended: an offset to the base that follows.
     Offset,
-    /// The general register in bits 25..21, whose content an offset is added to.
+    /// The general register in bits 25..21, to whose content an offset is added.
     Base,
     /// A branch's target: the immediate in bits 15..0, in words, from the address after the branch.
     Branch,

@@ -7,7 +7,7 @@ use crate::effect::Effect;
 use crate::operand::Operand;
 
 /// A row of the instruction table, by its name; in the order of the manual's opcode tables.
-// A list of its own, since no macro of this language writes an enum.
+// A list of its own, since a macro of this language can't define an enum.
 #[derive(Clone, Copy, Debug, PartialEq, Eq)]
 pub enum Row {
     Sll,
@@ -81,7 +81,7 @@ pub enum Row {
     Wait,
 }
 
-/// What the table has in a row's line.
+/// A row's line of the table.
 struct Columns {
     // The name in the assembly text.
     name: &'static str,
@@ -100,8 +100,8 @@ const COP0: u32 = 16 << 26;
 
 const COP0_FUNCTION: u32 = COP0 + (1 << 25);
 
-// The lines of the table, for a macro that makes something of each: row, name, code, operands
-// and effect. Each is proved to be the row's line of `specs/Table.antt`.
+// The lines of the table, passed to the macro `make`: row, name, code, operands and effect. Each is
+// proved to be the row's line of `specs/Table.antt`.
 macro_rules! lines {
     ($make:ident) => {
         $make! {
@@ -198,10 +198,10 @@ macro_rules! columns {
 /// The rows, in the table's order.
 pub static ROWS: [Row; 69] = lines!(rows);
 
-// What stands beside each row.
+// The line of each row.
 static TABLE: [Columns; 69] = lines!(columns);
 
-/// The law of `ROWS`: it is the table's rows, each once and in its order.
+/// The law of `ROWS`: it has the table's rows, each once, in the table's order.
 pub fn rows_in_order()
     ensures { ROWS ≡ all_rows }
 {}

@@ -94,7 +94,7 @@ counts_stepped p s =
     ∙ ap (λ n. n + 1) (sym (count_at s.processors p)))
 
 -- an answer that is given isn't refused
-given : (r : Option Refusal) (x : Result (Outcome × State) Refusal) (y : Outcome × State) →
+pub given : (r : Option Refusal) (x : Result (Outcome × State) Refusal) (y : Outcome × State) →
     unless r x ≡ Ok y → x ≡ Ok y
 given None x y h = h
 given (Some r) x y h = absurd (let bad : ◌≡◌ {A = Result (Outcome × State) Refusal} (Err r) (Ok y) = h in cc)

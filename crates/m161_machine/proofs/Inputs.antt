@@ -2,7 +2,7 @@ use Rattle.std.proofs.Common.{◌≡◌, ◌∙◌, refl, ap, sym, subst, ℕ, R
 use Rattle.m161_bus.specs.declared.console.DoneError.{DoneError}
 use Rattle.m161_bus.specs.declared.console.KeyFull.{KeyFull}
 use Rattle.m161_bus.specs.Board.{BoardState, board_key, board_done}
-use Rattle.m161_bus.specs.Outcome.{Leaves, LeavesUnlessNoMemory}
+use Rattle.m161_bus.specs.Outcome.{LeavesUnlessRefused, LeavesUnlessNoMemory}
 use Rattle.m161_cpu.specs.declared.processor.Outcome.TheVariants.{Taken}
 use Rattle.m161_machine.specs.declared.event.Event.TheVariants.{Key, Done}
 use Rattle.m161_machine.specs.declared.event.Refusal.TheVariants.{KeyFull as KeyFullRefusal}
@@ -11,21 +11,21 @@ use Rattle.m161_machine.specs.History.{Refuses}
 
 -- What the console's answer is for the machine.
 
-accepted : {E : Type 0} (r : Result BoardState E) (old new : BoardState) (d : Unit {0}) → Leaves r old (Ok d) new → r ≡ Ok new
+accepted : {E : Type 0} (r : Result BoardState E) (old new : BoardState) (d : Unit {0}) → LeavesUnlessRefused r old (Ok d) new → r ≡ Ok new
 accepted (Ok after) old new d h = ap Ok (sym h)
 accepted (Err refusal) old new d h = absurd h
 
-pub key_accepted : (byte : ℕ) (old new : BoardState) (d : Unit {0}) → Leaves (board_key byte old) old (Ok d) new →
+pub key_accepted : (byte : ℕ) (old new : BoardState) (d : Unit {0}) → LeavesUnlessRefused (board_key byte old) old (Ok d) new →
     (s : State) → s.board ≡ old → answer s (Key byte) ≡ Ok (Taken, with_board new s)
 key_accepted byte old new d h s same =
     ap (λ b. answered_key s (board_key byte b)) same ∙ ap (answered_key s) (accepted (board_key byte old) old new d h)
 
-full : (r : Result BoardState KeyFull) (old new : BoardState) (e : KeyFull) → Leaves r old (Err e) new →
+full : (r : Result BoardState KeyFull) (old new : BoardState) (e : KeyFull) → LeavesUnlessRefused r old (Err e) new →
     (s : State) (byte : ℕ) → Refuses (answered_key s r) (Key byte) KeyFullRefusal
 full (Ok after) old new e h s byte = absurd h
 full (Err refusal) old new e h s byte = refl
 
-pub key_refused : (byte : ℕ) (old new : BoardState) (e : KeyFull) → Leaves (board_key byte old) old (Err e) new →
+pub key_refused : (byte : ℕ) (old new : BoardState) (e : KeyFull) → LeavesUnlessRefused (board_key byte old) old (Err e) new →
     (s : State) → s.board ≡ old → Refuses (answer s (Key byte)) (Key byte) KeyFullRefusal
 key_refused byte old new e h s same =
     let P : BoardState → Type 0 = λ b. Refuses (answered_key s (board_key byte b)) (Key byte) KeyFullRefusal in

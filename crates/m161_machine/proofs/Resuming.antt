@@ -61,3 +61,12 @@ resumes m n entries m_replays n_replays start_is log_is =
       log_is = log_is;
       start_is = start_is;
     }
+
+-- two replays of one start and one log end in the same state
+pub determined : (m n : History) → IsReplay m → IsReplay n → n.start ≡ m.start → n.log ≡ m.log → n ≡ m
+determined m n m_replays n_replays start_is log_is =
+    let both : ◌≡◌ {A = Option (List Outcome × State)} (Some (outcomes_of n.log, n.state)) (Some (outcomes_of m.log, m.state)) =
+    sym n_replays ∙ (λ i. run (boot_state (start_is i)) (events_of (log_is i))) ∙ m_replays in
+    let pair : ◌≡◌ {A = List Outcome × State} (outcomes_of n.log, n.state) (outcomes_of m.log, m.state) = cc in
+    let state_is : n.state ≡ m.state = ap (λ x. x.1) pair in
+    λ i. record { start = start_is i; log = log_is i; state = state_is i }

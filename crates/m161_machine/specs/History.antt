@@ -1,8 +1,11 @@
-use Rattle.std.specs.Prelude.{◌≡◌, ℕ, ◌-◌, ◌<◌, ◌≤◌, true, List, [], ◌∷◌, ◌++◌, map, length, replicate, Option, None, Some, Result, Ok, Err, All, if◌then◌else◌}
+use Rattle.std.specs.Prelude.{◌≡◌, ℕ, ◌-◌, ◌<◌, ◌≤◌, Bool, true, false, ◌==◌, List, [], ◌∷◌, ◌++◌, map, length, replicate, slice_index_or, Option, None, Some, Result, Ok, Err, All, if◌then◌else◌}
+use Rattle.std.specs.List.{count_by}
 use Rattle.m161_elf.specs.declared.image.LoadError.{LoadError}
 use Rattle.m161_elf.specs.Image.{first_fault, IsImage}
 use Rattle.m161_cpu.specs.declared.processor.Outcome.{Outcome}
+use Rattle.m161_cpu.specs.declared.processor.Outcome.TheVariants.{Taken}
 use Rattle.m161_cpu.specs.Processor.{stopped, started}
+use Rattle.m161_cpu.specs.Step.{IsProper}
 use Rattle.m161_machine.specs.declared.conf.Conf.{Conf}
 use Rattle.m161_machine.specs.declared.conf.BootError.{BootError}
 use Rattle.m161_machine.specs.declared.conf.BootError.TheVariants.{BadConf, Load, NoMemory}
@@ -12,12 +15,12 @@ use Rattle.m161_machine.specs.declared.event.Refusal.{Refusal}
 use Rattle.m161_machine.specs.Conf.{is_within_limits}
 use Rattle.m161_bus.specs.Console.{console_at_boot}
 use Rattle.m161_bus.specs.Board.{board_at_boot}
-use Rattle.m161_machine.specs.declared.event.Event.TheVariants.{Done}
+use Rattle.m161_machine.specs.declared.event.Event.TheVariants.{Step, Key, Done}
 use Rattle.m161_machine.specs.declared.event.Refusal.TheVariants.{NoMemory as NoMemoryRefusal}
-use Rattle.m161_machine.specs.State.{Link, State, next}
+use Rattle.m161_machine.specs.State.{Link, State, counts, next}
 use Rattle.m161_machine.specs.Parts.{CountUpTo, Parts, parts_of}
 
--- What a machine is: the replay of its log.
+-- The history of a machine: it is the replay of its log.
 
 -- what a machine is booted from: all of RAM, the address of the first instruction, and its size
 pub record Start : Type 0 where
@@ -37,17 +40,19 @@ boot_state start = record {
   accepted = 0;
 }
 
--- one outcome more, in front
+-- one more outcome, in front
 abbrev pub after_outcome : Outcome → Option (List Outcome × State) → Option (List Outcome × State)
 after_outcome o None = None
 after_outcome o (Some r) = Some (o ∷ r.0, r.1)
 
--- what comes after an event, if it is accepted
-abbrev pub going_on : Result (Outcome × State) Refusal → (State → Option (List Outcome × State)) → Option (List Outcome × State)
+-- the rest of a run after an event, if the event is accepted
+abbrev pub going_on :
+    Result (Outcome × State) Refusal → (State → Option (List Outcome × State)) →
+    Option (List Outcome × State)
 going_on (Err refusal) rest = None
 going_on (Ok r) rest = after_outcome r.0 (rest r.1)
 
--- the outcomes of a run and its last state, where each event is accepted
+-- the outcomes of a run and its last state, if each event is accepted
 abbrev pub run : State → List Event → Option (List Outcome × State)
 run s [] = Some ([], s)
 run s (e ∷ es) = going_on (next s e) (λ t. run t es)
@@ -58,7 +63,7 @@ events_of log = map (λ (e : Entry). e.event) log
 abbrev pub outcomes_of : List Entry → List Outcome
 outcomes_of log = map (λ (e : Entry). e.outcome) log
 
--- what contracts see of a machine
+-- the model of a machine in contracts
 pub record History : Type 0 where
   pub start : Start
   pub log : List Entry
@@ -67,6 +72,29 @@ pub record History : Type 0 where
 -- from its start, the events of the log are accepted with the log's outcomes, and end in the state
 abbrev pub IsReplay : History → Type 0
 IsReplay h = run (boot_state h.start) (events_of h.log) ≡ Some (outcomes_of h.log, h.state)
+
+-- an event is a Step of this processor
+abbrev pub is_step_of : ℕ → Event → Bool
+is_step_of p (Step q) = q == p
+is_step_of p (Key byte) = false
+is_step_of p Done = false
+
+-- how many of the events are Steps of this processor
+abbrev pub steps_of : ℕ → List Event → ℕ
+steps_of p events = count_by (is_step_of p) events
+
+-- each processor has counted its Steps in the log, and no others
+abbrev pub CountsSteps : History → Type 0
+CountsSteps h =
+    (p : ℕ) → p < length h.state.processors →
+    slice_index_or (counts h.state) p 0 ≡ steps_of p (events_of h.log)
+
+-- an outcome that an event can have: a Step's is never Taken, and its trap has one of the four
+-- vectors; that of a byte typed or sent is Taken
+abbrev pub CanGive : Event → Outcome → Type 0
+CanGive (Step p) o = IsProper o
+CanGive (Key byte) o = o ≡ Taken
+CanGive Done o = o ≡ Taken
 
 -- the last state of a run from s
 abbrev pub last_state : State → Option (List Outcome × State) → State
@@ -84,17 +112,21 @@ history start log = record {
 abbrev pub entry : Event → Outcome → Entry
 entry e o = record { event = e; outcome = o }
 
--- how an event is refused: as `next` says; where that accepts it, for want of memory, which Done alone may meet
+-- how an event is refused: as `next` says; or, if `next` accepts it, for want of memory, which only
+-- Done can be
 abbrev pub Refuses : Result (Outcome × State) Refusal → Event → Refusal → Type 0
 Refuses (Err first) e refusal = refusal ≡ first
 Refuses (Ok given) e refusal = (refusal ≡ NoMemoryRefusal) × (e ≡ Done)
 
--- what an event answers and leaves: what `next` gives, with its entry appended to the log; or why it is refused, and nothing is changed
+-- the result of an event and the machine after it: those of `next`, with the entry appended to the
+-- log; or the refusal, and nothing is changed
 abbrev pub Answers : History → Event → Result Outcome Refusal → History → Type 0
-Answers m e (Ok o) n = (next m.state e ≡ Ok (o, n.state)) × (n.log ≡ m.log ++ entry e o ∷ []) × (n.start ≡ m.start)
+Answers m e (Ok o) n =
+    (next m.state e ≡ Ok (o, n.state)) × (n.log ≡ m.log ++ entry e o ∷ []) × (n.start ≡ m.start)
 Answers m e (Err refusal) n = Refuses (next m.state e) e refusal × (n ≡ m)
 
--- from m the events are accepted one after the other, and leave n: their entries are appended to the log
+-- from m the events are accepted one after the other, and leave n: their entries are appended to
+-- the log
 pub record Continues (m : History) (events : List Event) (n : History) : Type 0 where
   pub entries : List Entry
   pub events_are : events_of entries ≡ events
@@ -102,7 +134,7 @@ pub record Continues (m : History) (events : List Event) (n : History) : Type 0 
   pub log_is : n.log ≡ m.log ++ entries
   pub start_is : n.start ≡ m.start
 
--- why one event was made so many times of n: it was to be made no more, or the next is refused
+-- why one event was made this many of n times: that is n, or the next one is refused
 abbrev pub Ends : History → Event → ℕ → ℕ → Option Refusal → Type 0
 Ends m e n made None = made ≡ n
 Ends m e n made (Some refusal) = (made < n) × (next m.state e ≡ Err refusal)
@@ -121,25 +153,30 @@ load_fault (Some e) = Some (Load e)
 
 -- the first reason not to boot
 abbrev pub boot_fault : List ℕ → Conf → Option BootError
-boot_fault file conf = if is_within_limits conf then load_fault (first_fault file conf.ram) else Some BadConf
+boot_fault file conf =
+    if is_within_limits conf then load_fault (first_fault file conf.ram) else Some BadConf
 
--- what a boot answers, by the first reason not to: that reason, or the machine, or that memory was refused
+-- the result of a boot, by the first reason not to boot: that reason; or without one the machine,
+-- or that memory was refused
 abbrev pub Boots : List ℕ → Conf → Option BootError → Result History BootError → Type 0
 Boots file conf (Some first) (Ok m) = ⊥
 Boots file conf (Some first) (Err e) = e ≡ first
 Boots file conf None (Ok m) = IsBooted file conf m
 Boots file conf None (Err e) = e ≡ NoMemory
 
--- a start is what some file without a fault leaves
+-- a start is the image of some file without a fault
 abbrev pub IsLoaded : Start → Type 0
-IsLoaded start = (file : List ℕ) × (first_fault file start.conf.ram ≡ None) × IsImage file start.conf.ram start.entry start.bytes
+IsLoaded start =
+    (file : List ℕ) × (first_fault file start.conf.ram ≡ None)
+    × IsImage file start.conf.ram start.entry start.bytes
 
--- a link was made when there were as many stores as now, at most
+-- a link was made when there were at most as many stores as now
 abbrev pub IsMade : List ℕ → Option Link → Type 0
 IsMade stores None = Unit {0}
 IsMade stores (Some link) = link.made ≤ length stores
 
--- what holds of each state of a machine that was booted with this configuration and has accepted n events
+-- the invariant of a machine's state that was booted with this configuration and has accepted n
+-- events
 pub record IsSound (conf : Conf) (n : ℕ) (s : State) : Type 0 where
   pub conf_is : s.conf ≡ conf
   pub ram_is : length s.memory ≡ conf.ram
@@ -151,7 +188,7 @@ pub record IsSound (conf : Conf) (n : ℕ) (s : State) : Type 0 where
   -- so no count of Steps overflows
   pub counts : CountUpTo n s.processors
 
--- what the parts of a machine have to do with its history
+-- how the parts of a machine relate to its history
 pub record Agrees (h : History) (parts : Parts) : Type 0 where
   pub replay : IsReplay h
   pub parts_are : parts ≡ parts_of h.state

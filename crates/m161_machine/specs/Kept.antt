@@ -7,12 +7,14 @@ use Rattle.m161_cpu.specs.declared.processor.Outcome.TheVariants.{Ran, Trapped, 
 use Rattle.m161_machine.specs.declared.event.Event.TheVariants.{Step, Key, Done}
 use Rattle.m161_machine.specs.declared.event.Entry.{Entry}
 
--- The word that the machine keeps of an entry: a processor or a byte, and a place below 64 for the kind of event and its outcome.
+-- The word in which the machine stores an entry: a processor or a byte, and a code below 64 for the
+-- kind of event and its outcome.
 
--- the four addresses where a trap goes on
+-- the four vectors of traps
 abbrev pub vector_with : ℕ → ℕ
 vector_with n =
-    if n == 0 then 0x80000000 else if n == 1 then 0x80000080 else if n == 2 then 0xbfc00100 else 0xbfc00180
+    if n == 0 then 0x80000000 else if n == 1 then 0x80000080 else if n == 2 then 0xbfc00100
+    else 0xbfc00180
 
 abbrev pub or_interrupt : Option Exception → Exception
 or_interrupt (Some exception) = exception

@@ -1,15 +1,17 @@
-use Rattle.std.specs.Prelude.{ℕ, ◌+◌, ◌/◌, ◌%◌, ◌^◌, Bool, false, not, nat_le, ◌==◌, ◌&&◌, ◌||◌, if◌then◌else◌, List, [], ◌∷◌, ◌++◌, drop, length, map, slice_index_or, slice_set, Option, None, Some, Result, Ok, Err}
+use Rattle.std.specs.Prelude.{ℕ, ◌+◌, ◌%◌, Bool, false, not, nat_le, ◌==◌, ◌&&◌, ◌||◌, if◌then◌else◌, List, [], ◌∷◌, ◌++◌, drop, length, map, slice_index_or, slice_set, Option, None, Some, Result, Ok, Err}
 use Rattle.m161_ram.specs.Word.{word_at}
 use Rattle.m161_bus.specs.declared.console.DoneError.{DoneError}
 use Rattle.m161_bus.specs.declared.console.DoneError.TheVariants as done
 use Rattle.m161_bus.specs.declared.console.KeyFull.{KeyFull}
 use Rattle.m161_bus.specs.Board.{BoardState, board_key, board_done, start_words}
+use Rattle.m161_cop0.specs.Control.{has_bit}
 use Rattle.m161_cpu.specs.declared.processor.Outcome.{Outcome}
 use Rattle.m161_cpu.specs.declared.processor.Outcome.TheVariants.{Taken}
 use Rattle.m161_cpu.specs.Processor.{Processor, stopped, started}
 use Rattle.m161_cpu.specs.Links.{LinkAct, Keep, LinkTo, End}
 use Rattle.m161_cpu.specs.Scene.{around, scene}
 use Rattle.m161_cpu.specs.Step.{Stepped, step_of}
+use Rattle.m161_elf.specs.Image.{first_of}
 use Rattle.m161_machine.specs.declared.conf.Conf.{Conf}
 use Rattle.m161_machine.specs.declared.event.Event.{Event}
 use Rattle.m161_machine.specs.declared.event.Event.TheVariants as event
@@ -54,24 +56,24 @@ live_links stores links = map (live stores) links
 
 -- what a Step of processor p gives
 unfoldable pub stepped : ℕ → State → Stepped
-stepped p s = step_of (scene (processor_at p s.processors) (around p s.memory s.board (live_links s.stores s.links)))
+stepped p s =
+    step_of
+    (scene (processor_at p s.processors) (around p s.memory s.board (live_links s.stores s.links)))
 
--- a store more, where there was one
+-- the stores with one more, if there was one
 abbrev pub stores_after : Option ℕ → List ℕ → List ℕ
 stores_after None stores = stores
 stores_after (Some word) stores = stores ++ word ∷ []
 
--- a processor's link after its Step, where there have been so many stores
+-- a processor's link after its Step, after this many stores in all
 abbrev pub relinked : ℕ → LinkAct → ℕ → List (Option Link) → List (Option Link)
 relinked p Keep stores links = links
-relinked p (LinkTo word) stores links = slice_set links p (Some (record { word = word; made = stores }))
+relinked p (LinkTo word) stores links =
+    slice_set links p (Some (record { word = word; made = stores }))
 relinked p End stores links = slice_set links p None
 
--- bit c of a mask is set
-abbrev pub has_bit : ℕ → ℕ → Bool
-has_bit mask c = mask / 2 ^ c % 2 == 1
-
--- processor c is started where CPUE has its bit now and hadn't before: at the words of its CRAM, its Steps stay counted
+-- processor c is started if its bit of CPUE is new: with the words of its CRAM; the count of its
+-- Steps stays
 abbrev pub started_by : ℕ → BoardState → ℕ → Processor → Processor
 started_by before board c p =
     if has_bit board.started c && not (has_bit before c)
@@ -81,12 +83,15 @@ started_by before board c p =
 -- the processors from number c on
 abbrev pub with_starts : ℕ → BoardState → ℕ → List Processor → List Processor
 with_starts before board c [] = []
-with_starts before board c (p ∷ ps) = started_by before board c p ∷ with_starts before board (c + 1) ps
+with_starts before board c (p ∷ ps) =
+    started_by before board c p ∷ with_starts before board (c + 1) ps
 
 -- the state after a Step: what the Step gives, and then the processors that it started
 abbrev pub with_step : ℕ → Stepped → State → State
 with_step p x s = record s {
-  processors = with_starts s.board.started x.after.around.board 0 (slice_set s.processors p x.after.processor);
+  processors =
+      with_starts s.board.started x.after.around.board 0
+      (slice_set s.processors p x.after.processor);
   memory = x.after.around.memory;
   board = x.after.around.board;
   links = relinked p x.link (length (stores_after x.stored s.stores)) s.links;
@@ -98,22 +103,18 @@ with_step p x s = record s {
 abbrev pub with_board : BoardState → State → State
 with_board board s = record s { board = board; accepted = s.accepted + 1 }
 
--- the answer of the first test that holds
-abbrev pub first_of : List (Bool × Refusal) → Option Refusal
-first_of [] = None
-first_of (test ∷ rest) = if test.0 then Some test.1 else first_of rest
-
 -- why an event is refused, whatever it would do
 abbrev pub is_full : State → Bool
 is_full s = nat_le s.conf.log s.accepted
 
 abbrev pub refusal : State → Event → Option Refusal
 refusal s (event.Step p) =
-    first_of ((nat_le (length s.processors) p, BadProcessor) ∷ (s.board.off, Off) ∷ (is_full s, LogFull) ∷ [])
+    first_of ((nat_le (length s.processors) p, BadProcessor) ∷
+    (s.board.off, Off) ∷ (is_full s, LogFull) ∷ [])
 refusal s (event.Key byte) = first_of ((s.board.off, Off) ∷ (is_full s, LogFull) ∷ [])
 refusal s event.Done = first_of ((s.board.off, Off) ∷ (is_full s, LogFull) ∷ [])
 
--- what a device answers
+-- the result of a device's input
 abbrev pub answered_key : State → Result BoardState KeyFull → Result (Outcome × State) Refusal
 answered_key s (Ok board) = Ok (Taken, with_board board s)
 answered_key s (Err e) = Err KeyFullRefusal
@@ -127,17 +128,18 @@ answered_done s (Ok board) = Ok (Taken, with_board board s)
 answered_done s (Err e) = Err (refusal_of_done e)
 
 -- an answer, unless there is a refusal
-abbrev pub unless : Option Refusal → Result (Outcome × State) Refusal → Result (Outcome × State) Refusal
+abbrev pub unless :
+    Option Refusal → Result (Outcome × State) Refusal → Result (Outcome × State) Refusal
 unless None answer = answer
 unless (Some r) answer = Err r
 
--- what an event does where it isn't refused, and what the device says
+-- the result of an event that no test of `refusal` refuses; a device may still refuse it
 abbrev pub answer : State → Event → Result (Outcome × State) Refusal
 answer s (event.Step p) = Ok ((stepped p s).outcome, with_step p (stepped p s) s)
 answer s (event.Key byte) = answered_key s (board_key byte s.board)
 answer s event.Done = answered_done s (board_done s.board)
 
--- what an event gives: its outcome and the state after it, or the first refusal that holds
+-- the result of an event: its outcome and the state after it, or the first refusal that holds
 unfoldable pub next : State → Event → Result (Outcome × State) Refusal
 next s e = unless (refusal s e) (answer s e)
 
@@ -151,6 +153,7 @@ counts_after (event.Step p) counts = slice_set counts p (slice_index_or counts p
 counts_after (event.Key byte) counts = counts
 counts_after event.Done counts = counts
 
--- the word at a physical address, where it is aligned and within RAM
+-- the word at a physical address, if it is aligned and within RAM
 abbrev pub word_in : List ℕ → ℕ → Option ℕ
-word_in memory at = if (at % 4 == 0) && nat_le (at + 4) (length memory) then Some (word_at memory at) else None
+word_in memory at =
+    if (at % 4 == 0) && nat_le (at + 4) (length memory) then Some (word_at memory at) else None

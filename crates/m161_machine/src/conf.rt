@@ -1,4 +1,4 @@
-//! What a machine is made of, and why one isn't made.
+//! The size of a machine, and why a machine isn't booted.
 
 ghost use Rattle.std.specs.Prelude.{◌≡◌};
 ghost use Rattle.m161_machine.specs.Conf.{is_within_limits};
@@ -10,7 +10,7 @@ use thiserror::Error;
 /// The size of a machine.
 #[derive(Clone, Copy, Debug, PartialEq, Eq)]
 pub struct Conf {
-    /// Bytes of RAM: 4,096 to 16,777,216, in pages of 4,096.
+    /// Bytes of RAM: 4,096 to 16,777,216, a multiple of 4,096.
     pub ram: u32,
     /// Processors: 1 to 32.
     pub processors: u32,
@@ -33,13 +33,13 @@ impl Conf {
     }
 }
 
-/// Why a machine isn't booted. Each is answered where none above it holds.
+/// Why a machine isn't booted. Each is returned only if none above it holds.
 #[derive(Clone, Copy, Debug, PartialEq, Eq, Error)]
 pub enum BootError {
     /// The configuration is outside the limits.
     #[error("the configuration is outside the limits")]
     BadConf,
-    /// The file isn't loaded; the error is never `NoMemory`.
+    /// The file can't be loaded; the error is never `NoMemory`.
     #[error("the image: {0}")]
     Load(LoadError),
     /// Memory was refused.

@@ -1,4 +1,4 @@
-//! What is done to a machine, and what is answered.
+//! Events of a machine, and their results.
 
 ghost use Rattle.std.specs.Prelude.{◌≡◌};
 ghost use Rattle.m161_machine.specs.Refusal.{number_of_refusal, name_of_refusal};
@@ -6,7 +6,7 @@ ghost use Rattle.m161_machine.specs.Refusal.{number_of_refusal, name_of_refusal}
 use m161_cpu::Outcome;
 use thiserror::Error;
 
-/// An event, each whole and by itself.
+/// An event. Events don't overlap.
 #[derive(Clone, Copy, Debug, PartialEq, Eq)]
 pub enum Event {
     /// One Step of this processor.
@@ -20,13 +20,13 @@ pub enum Event {
 /// An accepted event and its outcome.
 #[derive(Clone, Copy, Debug, PartialEq, Eq)]
 pub struct Entry {
-    /// What was done.
+    /// The event.
     pub event: Event,
     /// Its outcome.
     pub outcome: Outcome,
 }
 
-/// Why an event is refused. Each is answered where none above it holds.
+/// Why an event is refused. Each is returned only if none above it holds.
 #[derive(Clone, Copy, Debug, PartialEq, Eq, Error)]
 pub enum Refusal {
     /// There is no such processor.
@@ -44,7 +44,7 @@ pub enum Refusal {
     /// The console isn't sending a byte.
     #[error("the console isn't sending a byte")]
     NothingSent,
-    /// Memory was refused; of an event `Done` alone.
+    /// Memory was refused; only of an event `Done`.
     #[error("out of memory")]
     NoMemory,
 }

@@ -1,4 +1,4 @@
-//! Entries of the log as they are kept: four bytes each, since every Step writes one.
+//! The log's entries as they are stored: four bytes each, since every Step writes one.
 
 ghost use Rattle.std.specs.Prelude.{◌≡◌, ◌+◌, ◌*◌, ◌/◌, ◌%◌, ◌<◌, ◌≤◌, ◌^◌};
 ghost use Rattle.m161_cop0.specs.Trap.{IsVector};
@@ -13,13 +13,13 @@ use m161_cop0::Exception;
 use m161_cpu::Outcome;
 use std::marker::Model;
 
-/// The place of a typed byte.
+/// The code of a typed byte.
 const KEY: u32 = 62;
 
-/// The place of a byte that was sent.
+/// The code of a byte that was sent.
 const DONE: u32 = 63;
 
-/// An entry. Contracts see it as that.
+/// A stored entry. Contracts see it as the entry.
 #[derive(Drop)]
 pub(crate) struct Kept {
     word: u32,
@@ -34,11 +34,11 @@ impl Model for Kept {
 
     ghost view = { λ k. entry_of k.word };
 
-    // a typed byte is one
+    // the number with the code of a typed byte is a byte
     ghost invariant = { λ k. k.word % 64 ≡ 62 → k.word / 64 < 256 };
 }
 
-// The number of an address where a trap goes on.
+// The number of a trap's vector.
 fn vector_number(vector: u32) -> u32
     requires { IsVector vector }
     ensures small { result < 4 }
@@ -52,7 +52,7 @@ fn vector_number(vector: u32) -> u32
     }
 }
 
-// The address of a number.
+// The vector of a number.
 fn vector_at(number: u32) -> u32
     ensures { result ≡ vector_with number }
 {
@@ -64,7 +64,7 @@ fn vector_at(number: u32) -> u32
     }
 }
 
-// The place of a Step's outcome.
+// The code of a Step's outcome.
 #[inline(always)]
 fn place(outcome: Outcome) -> u32
     requires { IsProper outcome }
@@ -77,7 +77,7 @@ fn place(outcome: Outcome) -> u32
     }
 }
 
-// The place of an outcome that few Steps have.
+// The code of an outcome other than Ran.
 #[cold]
 #[inline(never)]
 fn place_of_other(outcome: Outcome) -> u32
@@ -103,7 +103,7 @@ fn place_of_trap(code: Exception, vector: u32) -> u32
     4 + u32::from(code.number()) * 4 + vector_number(vector)
 }
 
-// The outcome of a Step at a place.
+// The outcome of a Step with a code.
 fn outcome_at(place: u32) -> Outcome
     requires { place < 62 }
     ensures { result ≡ outcome_with place }

@@ -1,19 +1,19 @@
-//! The machine: processors, memory, board and links, and the log of what was done to it.
+//! The machine: processors, memory, board and links, and the log of its events.
 //!
 //! ```text
 //! event    one whole Step of one processor, a typed byte, or the end of a console transfer
-//! next     what an event gives: its outcome and the state after it, or the first refusal
+//! next     the result of an event: its outcome and the state after it, or the first refusal
 //! run      next along a list of events
 //! history  what a machine is: what it was booted from, its log, and the state that the run of
 //!          the log's events ends in
 //!
 //! refusals, in order   1 no such processor   2 off   3 log full   4 256 typed bytes wait
-//!                      5 the console isn't sending   6 no memory, of `done` alone
+//!                      5 the console isn't sending   6 no memory, only of `done`
 //! limits               RAM 4,096 to 16,777,216 bytes in pages of 4,096; 1 to 32 processors;
 //!                      a log of 1 to 16,777,216 entries
 //! ```
 //!
-//! A refused event changes nothing and isn't logged. The room of the log is made at boot, so a
+//! A refused event changes nothing and isn't logged. The room of the log is reserved at boot, so a
 //! Step and a typed byte do not allocate.
 #![tactic(auto)]
 
@@ -26,10 +26,11 @@ mod step;
 
 pub use conf::{BootError, Conf};
 pub use event::{Entry, Event, Refusal};
+pub use m161_bus::Console;
 pub use m161_cop0::{Exception, Register};
 pub use m161_cpu::{Outcome, ProcessorState};
 pub use m161_elf::LoadError;
 pub use m161_isa::Reg;
-pub use m161_tlb::Row;
+pub use m161_tlb::{Frame, Identifier, Page, Row, Tlb};
 pub use machine::Machine;
 pub use start::Start;

@@ -1,6 +1,6 @@
 //! The machine.
 
-ghost use Rattle.std.specs.Prelude.{◌≡◌, ◌⊎◌, ◌+◌, ◌-◌, ◌%◌, ◌<◌, ◌≤◌, ◌^◌, true, false, Ok, List, [], ◌∷◌, ◌++◌, length, replicate, IfNone, IfOk};
+ghost use Rattle.std.specs.Prelude.{◌≡◌, ◌⊎◌, ◌+◌, ◌-◌, ◌%◌, ◌<◌, ◌≤◌, ◌^◌, true, false, Ok, List, [], ◌∷◌, ◌++◌, length, replicate, All, IfNone, IfOk};
 ghost use Rattle.m161_elf.specs.Image.{is_in_ram};
 ghost use Rattle.m161_cpu.specs.Processor.{started, stopped};
 ghost use Rattle.m161_machine.specs.declared.event.Entry.{Entry};
@@ -8,7 +8,7 @@ ghost use Rattle.m161_machine.specs.declared.event.Event.TheVariants as events;
 ghost use Rattle.m161_machine.specs.Conf.{is_within_limits};
 ghost use Rattle.m161_machine.specs.Parts.{CountUpTo};
 ghost use Rattle.m161_machine.specs.State.{refusal};
-ghost use Rattle.m161_machine.specs.History.{boot_fault, Boots, Answers, Continues, Ends, IsLoaded, IsReplay};
+ghost use Rattle.m161_machine.specs.History.{boot_fault, Boots, Answers, CanGive, Continues, CountsSteps, Ends, IsLoaded, IsReplay};
 
 mod views;
 
@@ -81,10 +81,12 @@ fn first_processors<T: Tlb>(
 }
 
 impl<T: Tlb, D: Console> Machine<T, D> {
-    /// Boots a file. The machine keeps what was loaded beside its memory, so it takes twice the
-    /// RAM of its configuration, the log's room of four bytes an entry, and the console's room.
+    /// Boots a file. The machine keeps the loaded image in addition to its memory, so it allocates
+    /// twice the RAM of its configuration, four bytes for each entry of the log, and the console's
+    /// room.
     ///
-    /// Errors: the configuration is outside the limits, the file isn't loaded, memory was refused.
+    /// # Errors
+    /// The configuration is outside the limits; or the file can't be loaded; or memory was refused.
     pub fn boot(alloc: Global, file: &[u8], conf: Conf) -> Result<Machine<T, D>, BootError>
         ensures answer { Boots file.now conf (boot_fault file.now conf) result }
         ensures entry { IfOk result (λ m. (m.start.entry % 4 ≡ 0)
@@ -109,9 +111,10 @@ impl<T: Tlb, D: Console> Machine<T, D> {
         })
     }
 
-    /// One Step of a processor; it does not allocate.
+    /// Makes one Step of a processor. Does not allocate.
     ///
-    /// Errors: the first refusal that holds. Nothing is changed then, and nothing logged.
+    /// # Errors
+    /// The first refusal that holds. Nothing is changed then, and nothing logged.
     #[inline(never)]
     pub fn step(&mut self, p: u32) -> Result<Outcome, Refusal>
         ensures answers { Answers self.old (events.Step p) result self.new }
@@ -133,8 +136,9 @@ impl<T: Tlb, D: Console> Machine<T, D> {
         self.log[self.log.len() - 1].entry().outcome
     }
 
-    /// Steps of a processor, one after the other, until `n` are made or one is refused: how many
-    /// were made, and the refusal. The same as so many calls of `step`, in less time.
+    /// Makes Steps of a processor, one after the other, until `n` are made or one is refused.
+    /// Returns how many were made, and the refusal. The same as this many calls of `step`, in less
+    /// time.
     #[inline(never)]
     pub fn steps(&mut self, p: u32, n: u32) -> (u32, Option<Refusal>)
         ensures run { Continues self.old (replicate result.0 (events.Step p)) self.new }
@@ -159,15 +163,15 @@ impl<T: Tlb, D: Console> Machine<T, D> {
         }
     }
 
-    // How many entries more the log has room for.
+    // How many more entries the log has room for.
     fn room(&self) -> u32
         ensures { length self.now.log + result ≡ self.now.start.conf.log }
     {
         self.conf.log - self.log.len() as u32
     }
 
-    // Steps until `most` are made or one of them switches the machine off: how many were made. No
-    // other refusal can come between, so the loop tests for none.
+    // Makes Steps until `most` are made or one of them switches the machine off. Returns how many
+    // were made. No other refusal can come between, so the loop doesn't test for any.
     #[inline(always)]
     fn steps_in_room(&mut self, p: u32, most: u32) -> u32
         requires place { p < length self.old.state.processors }
@@ -189,7 +193,8 @@ impl<T: Tlb, D: Console> Machine<T, D> {
         made
     }
 
-    // Whether a Step with this outcome switched it off; where it ran there is no need to look.
+    // Whether a Step with this outcome switched the machine off; after Ran there is no need to
+    // look.
     #[inline(always)]
     fn went_off(&self, outcome: Outcome) -> bool
         requires { outcome ≡ Outcome.Ran → self.now.state.board.off ≡ false }
@@ -201,7 +206,8 @@ impl<T: Tlb, D: Console> Machine<T, D> {
         }
     }
 
-    // One Step, compiled into its one caller: the only place where a program has it.
+    // Makes one Step. It is inlined into its one caller, the only place in a program with the code
+    // of a Step.
     #[inline(always)]
     fn one_step(&mut self, p: u32) -> Outcome
         requires place { p < length self.old.state.processors }
@@ -225,7 +231,7 @@ impl<T: Tlb, D: Console> Machine<T, D> {
         outcome
     }
 
-    // The first refusal of a Step that holds.
+    // The first refusal that holds of a Step.
     #[inline(always)]
     fn refusal(&self, p: u32) -> Option<Refusal>
         ensures value { result ≡ refusal self.now.state (events.Step p) }
@@ -256,9 +262,10 @@ impl<T: Tlb, D: Console> Machine<T, D> {
         }
     }
 
-    /// Types a byte at the console; it does not allocate.
+    /// Types a byte at the console. Does not allocate.
     ///
-    /// Errors: the first refusal that holds. Nothing is changed then, and nothing logged.
+    /// # Errors
+    /// The first refusal that holds. Nothing is changed then, and nothing logged.
     pub fn key(&mut self, byte: u8) -> Result<Outcome, Refusal>
         ensures { Answers self.old (events.Key byte) result self.new }
     {
@@ -275,8 +282,9 @@ impl<T: Tlb, D: Console> Machine<T, D> {
 
     /// The console has sent the byte in its latch.
     ///
-    /// Errors: the first refusal that holds; `NoMemory` where none does. Nothing is changed then,
-    /// and nothing logged.
+    /// # Errors
+    /// The first refusal that holds, or else `NoMemory`. Nothing is changed then, and nothing
+    /// logged.
     pub fn done(&mut self) -> Result<Outcome, Refusal>
         ensures { Answers self.old events.Done result self.new }
     {
@@ -292,9 +300,10 @@ impl<T: Tlb, D: Console> Machine<T, D> {
         Ok(Outcome::Taken)
     }
 
-    /// An event, by its kind.
+    /// Makes an event, by its kind.
     ///
-    /// Errors: as `step`, `key` or `done`.
+    /// # Errors
+    /// Those of `step`, `key` or `done`.
     pub fn event(&mut self, event: Event) -> Result<Outcome, Refusal>
         ensures { Answers self.old event result self.new }
     {
@@ -305,9 +314,11 @@ impl<T: Tlb, D: Console> Machine<T, D> {
         }
     }
 
-    /// What holds of every machine: it is the replay of its log. From what it was booted from, the
-    /// log's events are accepted one after the other with the log's outcomes, and end in the
-    /// machine's state. The state keeps the configuration, which is within the limits.
+    /// The law of every machine: it is the replay of its log. Starting from what the machine was
+    /// booted from, the log's events are accepted one after the other with the log's outcomes, and
+    /// end in the machine's state. The configuration is within the limits and never changes. Each
+    /// processor has counted exactly its Steps in the log, and each entry's outcome is one that its
+    /// event can have.
     pub fn replay(&self)
         ensures replay { IsReplay self.now }
         ensures file { IsLoaded self.now.start }
@@ -318,7 +329,25 @@ impl<T: Tlb, D: Console> Machine<T, D> {
         ensures accepted { self.now.state.accepted ≡ length self.now.log }
         ensures room { length self.now.log ≤ self.now.start.conf.log }
         ensures counts { CountUpTo (length self.now.log) self.now.state.processors }
+        ensures steps { CountsSteps self.now }
+        ensures outcomes { All (λ e. CanGive e.event e.outcome) self.now.log }
     {
         let _log = &self.log;
+    }
+
+    /// The law that a machine's start and log determine its state: two machines, over any TLBs and
+    /// consoles, with the same start and the same log agree in every view.
+    pub fn is_determined_by_log<U: Tlb, E: Console>(&self, other: &Machine<U, E>)
+        requires start { other.now.start ≡ self.now.start }
+        requires log { other.now.log ≡ self.now.log }
+        ensures { other.now ≡ self.now }
+    {
+        self.replay();
+        other.replay();
+    }
+
+    /// The allocator that it was booted with.
+    pub fn allocator(&self) -> Global {
+        *self.log.allocator()
     }
 }

@@ -3,7 +3,7 @@
 use crate::conf::Conf;
 use std::marker::Model;
 
-/// What a machine was booted from: a copy that stays when the machine goes on. The history of a
+/// What a machine was booted from: a copy that doesn't change with the machine. The history of a
 /// machine begins with it.
 #[derive(Drop)]
 pub struct Start {

@@ -11,7 +11,7 @@ use m161_cpu::{Cpu, Links, Outcome};
 use m161_ram::Ram;
 use m161_tlb::Tlb;
 
-/// Makes a Step of processor `p`, and starts the processors that it started by CPUE.
+/// Makes a Step of processor `p`, and then starts the processors that the Step put into CPUE.
 #[inline(always)]
 pub(crate) fn step_parts<T: Tlb, D: Console>(
     processors: &mut Vec<Cpu<T>>,
@@ -50,7 +50,7 @@ pub(crate) fn step_parts<T: Tlb, D: Console>(
     }
 }
 
-// Starts the processors that CPUE has now and hadn't before.
+// Starts the processors that are new in CPUE.
 #[inline(always)]
 fn start_new<T: Tlb, D: Console>(processors: &mut Vec<Cpu<T>>, board: &Board<D>, before: u32)
     requires { (length processors.old.items ≡ board.now.processors) × (board.now.processors ≤ 32) }
@@ -72,7 +72,7 @@ fn start_others<T: Tlb, D: Console>(processors: &mut Vec<Cpu<T>>, board: &Board<
     }
 }
 
-// Starts a processor that CPUE has now and hadn't before.
+// Starts a processor if it is new in CPUE.
 fn start_if_new<T: Tlb, D: Console>(cpu: &mut Cpu<T>, c: u32, board: &Board<D>, before: u32)
     requires { (c < board.now.processors) × (c < 32) }
     ensures { cpu.new ≡ started_by before board.now c cpu.old }

@@ -1,6 +1,7 @@
 use Rattle.std.specs.Prelude.{ℕ, ◌+◌, ◌*◌, ◌/◌, ◌%◌, ◌^◌, List, slice_index, slice_set}
 
--- Half-words and words in memory, which is the list of its bytes from physical address 0 on. Kane, MIPS RISC Architecture, "Data formats": big-endian.
+-- Half-words and words in memory, which is the list of its bytes from physical address 0 on. Kane,
+-- MIPS RISC Architecture, "Data formats": big-endian.
 
 -- the half-word whose first byte is at an address
 abbrev pub half_at : List ℕ → ℕ → ℕ
@@ -22,5 +23,7 @@ word_at memory at =
 abbrev pub with_word : List ℕ → ℕ → ℕ → List ℕ
 with_word memory at word =
     slice_set
-    (slice_set (slice_set (slice_set memory at (word / 2 ^ 24)) (at + 1) (word / 2 ^ 16 % 2 ^ 8)) (at + 2) (word / 2 ^ 8 % 2 ^ 8))
+    (slice_set
+    (slice_set (slice_set memory at (word / 2 ^ 24)) (at + 1) (word / 2 ^ 16 % 2 ^ 8))
+    (at + 2) (word / 2 ^ 8 % 2 ^ 8))
     (at + 3) (word % 2 ^ 8)

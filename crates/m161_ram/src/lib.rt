@@ -1,14 +1,14 @@
 //! Physical memory.
 //!
 //! ```text
-//! RAM         bytes, from physical address 0 on; below 2^32 of them
+//! RAM         bytes, from physical address 0 on; fewer than 2^32
 //! half-word   two bytes, the more significant first
 //! word        four bytes, the most significant first
 //! ```
 //!
-//! The content of a `Ram` is the list of its bytes. An address within the size is a condition of
-//! each access, and so is room for the whole half-word or word; it needn't be aligned. Only `new`
-//! takes memory. Source: Kane, MIPS RISC Architecture, data formats: the machine is big-endian.
+//! The content of a `Ram` is the list of its bytes. Each access has the condition that its bytes
+//! are within the size; its address needn't be aligned. Only `new` allocates. Source: Kane, MIPS
+//! RISC Architecture, data formats: the machine is big-endian.
 #![tactic(auto)]
 
 ghost use Rattle.std.specs.Prelude.{◌≡◌, ◌+◌, ◌^◌, ◌<◌, ◌≤◌, length, replicate, slice_index, slice_set, vec_len, IfOk};
@@ -42,7 +42,7 @@ impl Ram {
         Ok(Ram { bytes })
     }
 
-    /// RAM that holds these bytes, from address 0 on. Their number has to fit a `u32`.
+    /// RAM with these bytes, from address 0 on. Their number has to fit a `u32`.
     pub fn from_bytes(bytes: Vec<u8>) -> Ram
         requires { vec_len bytes < 2 ^ 32 }
         ensures { result ≡ bytes.items }

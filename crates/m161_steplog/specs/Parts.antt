@@ -1,7 +1,7 @@
 use Rattle.std.specs.Prelude.{◌≡◌, ◌≢◌, ℕ, zero, suc, ◌+◌, ◌<◌, ◌^◌, ◌/◌, ◌%◌, List, [], ◌∷◌, ◌++◌, if◌then◌else◌, nat_lt, Option, Some, IfSome, MatchOption, length, slice_index}
 use Rattle.std.proofs.Common.{Bor}
 
--- Parts of a line: how they are written, and what it means to read one.
+-- Parts of a line: how they are written, and what reading one means.
 
 -- two parts of a line, with one space between
 infixr 10 ◌␣◌
@@ -25,8 +25,10 @@ abbrev pub hex_text : ℕ → ℕ → List ℕ
 hex_text zero n = []
 hex_text (suc k) n = hex_text k (n / 16) ++ hex_digit (n % 16) ∷ []
 
--- a text is read: the result is the valid value that has this text, or None where there is none
-pub record Reads {X T : Type 0} (Valid : X → Type 0) (text_of : X → T) (text : T) (result : Option X)
+-- a text is read: the result is the valid value that has this text, or None if there is no such
+-- value
+pub record Reads
+    {X T : Type 0} (Valid : X → Type 0) (text_of : X → T) (text : T) (result : Option X)
     : Type 0 where
   -- the result is valid and has this text
   pub found : IfSome result (λ x. Valid x × (text ≡ text_of x))
@@ -43,7 +45,7 @@ ReadsBoth {X = X} {Y = Y} ValidX ValidY f g text result =
 abbrev pub Lacks : ℕ → List ℕ → Type 0
 Lacks c text = (i : ℕ) → i < length text → slice_index text i ≢ c
 
--- the parts of a text before and after its first c; None where it has no c
+-- the parts of a text before and after its first c; None if it has no c
 abbrev pub Cuts : ℕ → List ℕ → Option (Bor (List ℕ) × Bor (List ℕ)) → Type 0
 Cuts c text result =
     MatchOption result (Lacks c text) (λ x. Lacks c x.0.now × (text ≡ x.0.now ++ c ∷ x.1.now))

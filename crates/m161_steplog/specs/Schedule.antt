@@ -7,9 +7,9 @@ use Rattle.m161_steplog.specs.declared.schedule.Item.TheVariants as items
 use Rattle.m161_steplog.specs.Parts.{◌␣◌, IsWord}
 use Rattle.m161_steplog.specs.Text.{event_text, IsEvent}
 
--- The text of a schedule: a list of events, some of them Steps that are written once for several.
+-- The text of a schedule: a list of events, in which one line may have several Steps.
 
--- what a line of a schedule has
+-- a line of a schedule
 pub data Line : Type 0 where
   Blank : Line
   Comment : (text : List ℕ) → Line

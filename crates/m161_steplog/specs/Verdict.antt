@@ -8,7 +8,7 @@ use Rattle.m161_machine.specs.History.{History, run, events_of, outcomes_of, Ans
 use Rattle.m161_steplog.specs.declared.verdict.Verdict.{Verdict}
 use Rattle.m161_steplog.specs.declared.verdict.Verdict.TheVariants.{Agrees, Differs}
 
--- Whether a log is that of a run from boot.
+-- Whether a log is the log of a run from boot.
 
 -- from s, the entries' events are accepted one after the other, each with its entry's outcome
 abbrev pub Follows : State → List Entry → Type 0
@@ -17,16 +17,21 @@ Follows s log = (t : State) × (run s (events_of log) ≡ Some (outcomes_of log,
 -- the whole log follows, or k entries do and k + 1 don't
 abbrev pub IsVerdict : State → List Entry → Verdict → Type 0
 IsVerdict s log Agrees = Follows s log
-IsVerdict s log (Differs k) = (k < length log) × Follows s (take k log) × (Follows s (take (k + 1) log) → ⊥)
+IsVerdict s log (Differs k) =
+    (k < length log) × Follows s (take k log) × (Follows s (take (k + 1) log) → ⊥)
 
--- the verdict on a log, by the first reason not to boot: that reason; or, from the state at boot, the verdict; or memory was refused
-abbrev pub Verifies : List ℕ → Conf → Option BootError → List Entry → Result Verdict BootError → Type 0
+-- the verdict on a log, by the first reason not to boot: that reason; or, from the state at boot,
+-- the verdict; or memory was refused
+abbrev pub Verifies :
+    List ℕ → Conf → Option BootError → List Entry → Result Verdict BootError → Type 0
 Verifies file conf (Some first) log (Ok verdict) = ⊥
 Verifies file conf (Some first) log (Err e) = e ≡ first
-Verifies file conf None log (Ok verdict) = (m : History) × IsBooted file conf m × IsVerdict m.state log verdict
+Verifies file conf None log (Ok verdict) =
+    (m : History) × IsBooted file conf m × IsVerdict m.state log verdict
 Verifies file conf None log (Err e) = e ≡ NoMemory
 
--- How the code checks one entry on a machine: its event is accepted with its outcome; or not; or memory was refused.
+-- How the code checks one entry on a machine: its event is accepted with its outcome; or not; or
+-- memory was refused.
 abbrev pub Repeats : History → Entry → History → Result Bool BootError → Type 0
 Repeats m entry n (Ok true) = Answers m entry.event (Ok entry.outcome) n
 Repeats m entry n (Ok false) = (t : State) → next m.state entry.event ≡ Ok (entry.outcome, t) → ⊥

@@ -4,8 +4,8 @@ ghost use Rattle.std.specs.Prelude.{◌≡◌, ◌<◌, [], ◌∷◌, MatchOpti
 ghost use Rattle.m161_steplog.specs.Lines.{lines_of};
 ghost use Rattle.m161_steplog.specs.Parts.{Cuts};
 
-/// The text before the first space, and the text after it, which may begin with a space; `None`
-/// where there is no space.
+/// The text before the first space, and the text after it, which may begin with a space; `None` if
+/// there is no space.
 pub fn cut_at_space(text: &str) -> Option<(&str, &str)>
     ensures { Cuts 32 text.now result }
 {

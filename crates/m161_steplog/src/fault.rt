@@ -1,9 +1,9 @@
-//! Why a text isn't read.
+//! Why a text can't be read.
 
 use std::alloc::{AllocError, AllocFailed};
 use thiserror::Error;
 
-/// Why a text isn't read.
+/// Why a text can't be read.
 #[derive(Clone, Copy, Debug, PartialEq, Eq, Error)]
 pub enum Fault {
     /// The first bad line, from 1.

@@ -1,6 +1,6 @@
-//! The texts of a machine's log and of a schedule of events; `verify`, which makes a log once more
-//! on a machine that it boots, and finds the first entry that differs; and the readers of lines and
-//! numbers that these texts are made of.
+//! The texts of a machine's log and of a schedule of events; `verify`, which replays a log on a
+//! machine that it boots, and finds the first entry that differs; and the readers of the lines and
+//! numbers of these texts.
 //!
 //! ```text
 //! schedule  s P        a Step of processor P
@@ -18,10 +18,11 @@
 //! ```
 //!
 //! P, N and CODE are decimal without leading zeros, P below 2^32, CODE 0 to 12 as in Cause. HH is
-//! two and VECTOR eight lower case hexadecimal digits. One space stands between the parts of a
-//! line, and none before or after them. Each line ends with a line feed, which the last may lack.
-//! A schedule has at most 16,777,216 events. A fault names the first bad line, from 1; the line
-//! that passes the limit is bad, and line 1 of an empty log. The texts are this project's own.
+//! two and VECTOR eight lower case hexadecimal digits. One space separates the parts of a line,
+//! with no space before or after them. Each line ends with a line feed; the last one may lack it. A
+//! schedule has at most 16,777,216 events. A fault has the number of the first bad line, from 1;
+//! the line that exceeds the limit is bad, and so is line 1 of an empty log. The texts are this
+//! project's own.
 #![tactic(auto)]
 
 mod cut;

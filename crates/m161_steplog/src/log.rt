@@ -25,7 +25,7 @@ pub fn entry_line(alloc: Global, entry: &Entry) -> Result<String, AllocError>
     format!(in alloc; "{}", ShownEntry(*entry))
 }
 
-/// The text of a log. Every list of entries has one, also one that no machine makes.
+/// The text of a log. Every list of entries has a text, also a list that no machine makes.
 ///
 /// # Errors
 /// Memory was refused.
@@ -72,9 +72,9 @@ fn entries_of(alloc: Global, text: &str) -> Result<Vec<Entry>, Fault>
 /// # Errors
 /// The first bad line; or memory was refused.
 pub fn read_log(alloc: Global, text: &str) -> Result<Vec<Entry>, Fault>
-    // What is read is the log of this text.
+    // The result is the log of this text.
     ensures found { IfOk result (λ entries. IsLog text.now entries.items) }
-    // A log is read wherever the text is one, unless memory is refused.
+    // If the text is a log, it is read, unless memory is refused.
     ensures only { (es : List Entry) → IsLog text.now es → IsRead es result }
     ensures line { (n : ℕ) → IsErrOf result (faults.Line n) → FirstBad AreLogLines text.now n }
 {

@@ -105,7 +105,7 @@ fn push_times(events: &mut Vec<Event>, event: Event, count: u32) -> Result<(), A
     Ok(())
 }
 
-// Appends the events of line `number`, unless they pass the limit.
+// Appends the events of line `number`, unless they exceed the limit.
 fn push_item(events: &mut Vec<Event>, item: Item, number: u64) -> Result<(), Fault>
     requires { length events.old.items ≤ 16_777_216 }
     ensures ok { OnOk result (Appends events.old.items (item_events item) events.new.items) }
@@ -129,9 +129,9 @@ fn push_item(events: &mut Vec<Event>, item: Item, number: u64) -> Result<(), Fau
 /// # Errors
 /// The first bad line; or memory was refused.
 pub fn read_schedule(alloc: Global, text: &str) -> Result<Vec<Event>, Fault>
-    // What is read is the schedule of this text.
+    // The result is the schedule of this text.
     ensures found { IfOk result (λ events. IsSchedule (lines_of text.now) events.items) }
-    // A schedule is read wherever the text has one, unless memory is refused.
+    // If the text is a schedule, it is read, unless memory is refused.
     ensures only { (es : List Event) → IsSchedule (lines_of text.now) es → IsRead es result }
     ensures line { (n : ℕ) → IsErrOf result (faults.Line n) → FirstBad AreScheduleLines text.now n }
 {

@@ -1,4 +1,4 @@
-//! A log, made once more on a machine.
+//! The replay of a log on a machine.
 
 ghost use Rattle.m161_machine.specs.History.{boot_fault};
 ghost use Rattle.m161_steplog.specs.Verdict.{Verifies, Repeats};
@@ -8,7 +8,7 @@ use m161_machine::{BootError, Conf, Entry, Machine, Refusal};
 use m161_tlb::Tlb;
 use std::alloc::Global;
 
-/// Whether a machine makes the entries of a log.
+/// Whether the replay of a log has its outcomes.
 #[derive(Clone, Copy, Debug, PartialEq, Eq)]
 pub enum Verdict {
     /// Each entry's event is accepted, with the entry's outcome.
@@ -32,7 +32,7 @@ fn repeats<T: Tlb, D: Console>(machine: &mut Machine<T, D>, entry: Entry) -> Res
 /// console, and compares the outcomes.
 ///
 /// # Errors
-/// The machine isn't booted; or memory was refused, by the boot or by an event `Done`.
+/// The machine can't be booted; or memory was refused, at the boot or at an event `Done`.
 pub fn verify<T: Tlb, D: Console>(
     alloc: Global,
     file: &[u8],

@@ -5,12 +5,13 @@ use Rattle.std.proofs.lemmas.List.Sums.{sum_by-cons}
 use Rattle.m161_cpu.specs.Processor.{Processor}
 use Rattle.m161_machine.specs.declared.event.Entry.{Entry}
 use Rattle.m161_machine.specs.State.{counts}
-use Rattle.m161_machine.specs.History.{History, Continues, IsReplay, events_of, outcomes_of}
+use Rattle.m161_machine.specs.History.{History, Continues, IsReplay, events_of, outcomes_of, steps_of}
 use Rattle.m161_machine.proofs.Resuming.{resumes}
-use Rattle.m161_threads.specs.Runs.{Interleaves, IsChecked, is_step_below, steps_of}
+use Rattle.m161_threads.specs.Runs.{Interleaves, IsChecked, is_step_below}
 use Rattle.m161_threads.specs.Shares.{Place, place, places_from}
 use Rattle.m161_threads.specs.Work.{HasWorked}
-use Rattle.m161_threads.proofs.Interleaving.{all_pass, count_through, counts_run, counts_through, length_through, sum_through}
+use Rattle.m161_machine.proofs.Counted.{count_through, counts_run, counts_through, length_through}
+use Rattle.m161_threads.proofs.Interleaving.{all_pass, sum_through}
 
 -- What the workers say and what was compared make one interleaving.
 

@@ -1,25 +1,15 @@
 use Rattle.std.specs.Prelude.{◌≡◌, ◌≢◌, ℕ, ◌+◌, ◌<◌, ◌≤◌, Bool, true, false, nat_lt, ◌==◌, if◌then◌else◌, List, length, slice_index_or, sum, take, All, Option, None, Some}
-use Rattle.std.specs.List.{count_by, list_all}
+use Rattle.std.specs.List.{list_all}
 use Rattle.m161_machine.specs.declared.event.Entry.{Entry}
 use Rattle.m161_machine.specs.declared.event.Event.{Event}
 use Rattle.m161_machine.specs.declared.event.Event.TheVariants as event
 use Rattle.m161_machine.specs.State.{counts}
-use Rattle.m161_machine.specs.History.{History, Start, Continues, IsReplay}
+use Rattle.m161_machine.specs.History.{History, Start, Continues, IsReplay, steps_of}
 use Rattle.m161_threads.specs.declared.cause.Cause.{Cause}
 use Rattle.m161_threads.specs.declared.cause.Cause.TheVariants.{BadQuotas, NotYet}
 use Rattle.m161_threads.specs.Shares.{Matches, NotedOnlyOff, Place}
 
--- What a run in threads comes to: one interleaving of Steps.
-
--- an event is a Step of this processor
-abbrev pub is_step_of : ℕ → Event → Bool
-is_step_of p (event.Step q) = q == p
-is_step_of p (event.Key byte) = false
-is_step_of p event.Done = false
-
--- how many of the events are Steps of this processor
-abbrev pub steps_of : ℕ → List Event → ℕ
-steps_of p events = count_by (is_step_of p) events
+-- The result of a run in threads: one interleaving of Steps.
 
 -- an event is a Step of one of the first n processors
 abbrev pub is_step_below : ℕ → Event → Bool
@@ -27,13 +17,13 @@ is_step_below n (event.Step q) = nat_lt q n
 is_step_below n (event.Key byte) = false
 is_step_below n event.Done = false
 
--- so many Steps of each processor, in some order, and nothing else
+-- `made` Steps of each processor, in some order, and nothing else
 pub record IsInterleaving (made : List ℕ) (events : List Event) : Type 0 where
   pub steps : list_all (is_step_below (length made)) events ≡ true
   pub each : (p : ℕ) → p < length made → steps_of p events ≡ slice_index_or made p 0
 
--- a run from a machine, with a quota of Steps for each processor: some interleaving of so many Steps
--- was made of it. Each processor made its quota, or the machine is off and none made more
+-- a run from a machine, with a quota of Steps for each processor: some interleaving of `made` Steps
+-- was made. Each processor made its quota, or the machine is off and no processor made more
 pub record Interleaves
     (before : History) (quotas made : List ℕ) (off : Bool) (after : History) : Type 0 where
   pub events : List Event
@@ -50,22 +40,22 @@ pub record Interleaves
   -- and is one entry of the log
   pub logged : length after.log ≡ length before.log + sum made
 
--- why a run isn't begun, for so many quotas and processors
+-- why a run doesn't begin, by the numbers of quotas and of processors
 abbrev pub bad_call : ℕ → ℕ → Option Cause
 bad_call quotas processors =
     if quotas == processors then (if processors == 2 then None else Some NotYet) else Some BadQuotas
 
--- a cause that comes after a run was begun
+-- a cause that comes after a run began
 abbrev pub IsOfRun : Cause → Type 0
 IsOfRun cause = (cause ≢ BadQuotas) × (cause ≢ NotYet)
 
--- how a run fails: where it isn't begun, with the machine as it was
+-- how a run fails: if it doesn't begin, with the machine unchanged
 abbrev pub Fails : Option Cause → History → Cause → History → Type 0
 Fails (Some first) before cause after = (cause ≡ first) × (after ≡ before)
 Fails None before cause after = IsOfRun cause × IsReplay after
 
--- what is compared after a run with what was copied before it; a word that the contracts of private
--- functions share
+-- the comparison after a run with the copy made before it; contracts of private functions share
+-- this definition
 pub record IsChecked
     (start : Start) (log : List Entry) (seats : List Place) (made : List ℕ) (off : Bool)
     (after : History) : Type 0 where

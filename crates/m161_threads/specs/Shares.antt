@@ -2,21 +2,21 @@ use Rattle.std.specs.Prelude.{◌≡◌, ℕ, ◌+◌, ◌<◌, ◌≤◌, Bool,
 use Rattle.m161_machine.specs.State.{State, counts}
 use Rattle.m161_machine.specs.History.{History}
 
--- A machine behind a lock, and the seats at it.
+-- A machine behind a lock, and the seats of the threads.
 
--- what contracts see of a book: its machine, and how many seats have noted that it is off
+-- the model of a book in contracts: its machine, and how many seats have noted that it is off
 pub record Told : Type 0 where
   pub machine : History
   pub offs : ℕ
 
--- what holds whenever the lock is free: the seats' Steps are those that the machine has counted,
--- and none has noted that the machine is off unless it is
+-- the invariant while the lock is free: the seats' Steps are those that the machine has counted,
+-- and no seat has noted that the machine is off unless it is
 abbrev pub IsKept : History → ℕ → ℕ → Type 0
 IsKept machine steps offs =
     (steps ≡ sum (counts machine.state)) × (0 < offs → machine.state.board.off ≡ true)
 
--- what contracts see of a seat: its processor, how many Steps that one has made, and whether the
--- seat has noted that the machine is off
+-- the model of a seat in contracts: its processor, how many Steps that processor has made, and
+-- whether the seat has noted that the machine is off
 pub record Place : Type 0 where
   pub processor : ℕ
   pub count : ℕ
@@ -40,7 +40,7 @@ Matches s seat =
 abbrev pub NotedOnlyOff : State → List Place → Type 0
 NotedOnlyOff s seats = All (λ (seat : Place). seat.noted ≡ true → s.board.off ≡ true) seats
 
--- a seat of this processor hasn't its count, and none of a lesser processor hasn't
+-- a seat of this processor differs from it in the count, and this is the least such processor
 pub record IsLeastMiscount (s : State) (seats : List Place) (p : ℕ) : Type 0 where
   pub seat : Place
   pub at : ℕ
@@ -49,12 +49,12 @@ pub record IsLeastMiscount (s : State) (seats : List Place) (p : ℕ) : Type 0 w
   pub wrong : Matches s seat → ⊥
   pub least : All (λ (other : Place). (Matches s other → ⊥) → p ≤ other.processor) seats
 
--- each seat has its processor's count, or the least of those that haven't
+-- each seat has its processor's count; or else the least processor whose seat differs
 abbrev pub Miscounts : State → List Place → Option ℕ → Type 0
 Miscounts s seats None = All (Matches s) seats
 Miscounts s seats (Some p) = IsLeastMiscount s seats p
 
--- the lesser of two numbers, where there is a first
+-- the lesser of two numbers, if there is a first
 abbrev pub least_of : Option ℕ → ℕ → ℕ
 least_of None number = number
 least_of (Some least) number = if nat_le least number then least else number

@@ -5,32 +5,32 @@ use Rattle.m161_threads.specs.declared.worker.Turn.{Turn}
 use Rattle.m161_threads.specs.declared.worker.Turn.TheVariants.{Made, Off, Full}
 use Rattle.m161_threads.specs.Shares.{Place}
 
--- What a worker makes of its seat.
+-- The work of a worker with its seat.
 
--- a worker at a processor's seat, which has so many Steps, with a quota: the seat that it gives back,
--- how many Steps it made, and why it stopped short, if it did
+-- a worker with a processor's seat, which has this many Steps, and a quota: the seat that it
+-- returns, how many Steps it made, and why it stopped early, if it did
 pub record Works
-    (processor before quota : ℕ) (new : Place) (made : ℕ) (cause : Option Stop) : Type 0 where
+    (processor before quota : ℕ) (new : Place) (made : ℕ) (stop : Option Stop) : Type 0 where
   pub processor_is : new.processor ≡ processor
   pub counted : new.count ≡ before + made
   pub within : made ≤ quota
-  -- it stops short with a cause, or at a machine that is off
-  pub whole : cause ≡ None → new.noted ≡ false → made ≡ quota
+  -- it stops early for a reason that it gives, or because the machine is off
+  pub whole : stop ≡ None → new.noted ≡ false → made ≡ quota
 
 abbrev pub task_of : Place → ℕ → Task
 task_of seat quota = record { processor = seat.processor; before = seat.count; quota = quota }
 
--- what a worker that was given a task comes to
-abbrev pub Kept : Task → Place → ℕ → Option Stop → Type 0
-Kept t new made cause = Works t.processor t.before t.quota new made cause
+-- the result of a worker with a task
+abbrev pub KeepsTask : Task → Place → ℕ → Option Stop → Type 0
+KeepsTask t new made stop = Works t.processor t.before t.quota new made stop
 
--- a seat after one holding of the lock
+-- a seat after the lock was taken for one Step
 abbrev pub after_turn : Turn → Place → Place
 after_turn Made seat = record seat { count = seat.count + 1 }
 after_turn Off seat = record seat { noted = true }
 after_turn Full seat = seat
 
--- workers at these seats, with these quotas, none with a cause: the seats that they gave back, and
+-- workers with these seats and quotas, none with a reason to stop: the seats that they return, and
 -- how many Steps each made
 pub record HasWorked
     (seats : List Place) (quotas : List ℕ) (after : List Place) (made : List ℕ) : Type 0 where

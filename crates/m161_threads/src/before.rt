@@ -1,4 +1,4 @@
-//! What a machine was before a run.
+//! A machine before a run.
 
 ghost use Rattle.std.specs.Prelude.{◌≡◌, ◌+◌, ◌≤◌, IfOk, length, take, true};
 
@@ -7,7 +7,7 @@ use m161_machine::{Entry, Machine, Start};
 use m161_tlb::Tlb;
 use std::alloc::{AllocError, Global};
 
-/// What a machine was before a run: what it was booted from, and its log.
+/// A machine before a run: what it was booted from, and its log.
 #[derive(Drop)]
 pub(crate) struct Before {
     start: Start,
@@ -15,7 +15,7 @@ pub(crate) struct Before {
 }
 
 impl Before {
-    /// A copy of what a machine is now.
+    /// A copy of what a machine was booted from and of its log.
     pub(crate) fn of<T: Tlb, D: Console>(
         alloc: Global,
         machine: &Machine<T, D>,
@@ -29,8 +29,8 @@ impl Before {
         })
     }
 
-    /// Whether a machine may have gone on from it by so many events: it has the same start, a log
-    /// that is longer by so many entries, and this log at its beginning.
+    /// Whether a machine may be this one after `made` more events: it has the same start, a log
+    /// that is longer by `made` entries, and this log at its beginning.
     pub(crate) fn leads_to<T: Tlb, D: Console>(&self, machine: &Machine<T, D>, made: u64) -> bool
         ensures start { result ≡ true → machine.now.start ≡ self.now.start }
         ensures number { result ≡ true
@@ -58,7 +58,7 @@ fn begins_with<T: Tlb, D: Console>(machine: &Machine<T, D>, entries: &[Entry]) -
     true
 }
 
-// Whether two entries are one and the same.
+// Whether two entries are the same.
 fn is_same(entry: Entry, other: Entry) -> bool
     ensures { result ≡ true → entry ≡ other }
 {

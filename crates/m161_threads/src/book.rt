@@ -1,4 +1,4 @@
-//! What is under the lock, and the seats at it.
+//! What the lock protects, and the seats of the threads.
 
 ghost use Rattle.std.specs.Prelude.{◌≡◌, ◌+◌, ◌<◌, Err, true, OnErr, OnOk, slice_index_or, if◌then◌else◌};
 ghost use Rattle.m161_machine.specs.declared.event.Event.TheVariants as events;
@@ -13,9 +13,9 @@ use std::marker::Model;
 use std::sync::ledger;
 use std::sync::ledger::{Ledger, Share};
 
-/// What is under the lock: the machine, a ledger of the Steps of all seats, and one of the seats
-/// that have noted that the machine is off. Contracts see it as its machine and how many seats
-/// have noted that.
+/// What the lock protects: the machine, a ledger of the Steps of all seats, and a ledger of the
+/// seats that have noted that the machine is off. Contracts see it as its machine and the number of
+/// seats that have noted it.
 #[derive(Drop)]
 pub struct Book<L: Ledger, M: Ledger, T: Tlb, D: Console> {
     pub(crate) machine: Machine<T, D>,
@@ -67,7 +67,7 @@ impl<L: Ledger, M: Ledger> Seat<L, M> {
         self.processor
     }
 
-    /// How many Steps its processor has made, those before the lock included.
+    /// How many Steps its processor has made, including those before the lock.
     pub fn count(&self) -> u64
         ensures { result ≡ self.now.count }
     {
@@ -76,16 +76,18 @@ impl<L: Ledger, M: Ledger> Seat<L, M> {
 }
 
 impl<L: Ledger, M: Ledger, T: Tlb, D: Console> Book<L, M, T, D> {
-    /// The machine, to look at.
+    /// The machine, read-only. It is off if a seat has noted that.
     pub fn machine(&self) -> &Machine<T, D>
-        ensures { result.now ≡ self.now.machine }
+        ensures machine { result.now ≡ self.now.machine }
+        ensures off { 0 < self.now.offs → self.now.machine.state.board.off ≡ true }
     {
         &self.machine
     }
 
-    /// One Step of a seat's processor, counted at the seat; it does not allocate.
+    /// Makes one Step of a seat's processor, counted at the seat. Does not allocate.
     ///
-    /// Errors: the first refusal that holds. Nothing is changed then.
+    /// # Errors
+    /// The first refusal that holds. Nothing is changed then.
     pub fn step_in(&mut self, seat: &mut Seat<L, M>) -> Result<Outcome, Refusal>
         ensures answers { Answers self.old.machine (events.Step seat.old.processor)
             result self.new.machine }
@@ -124,7 +126,8 @@ impl<L: Ledger, M: Ledger, T: Tlb, D: Console> Book<L, M, T, D> {
 
     /// Types a byte at the console, as the machine's `key` does; no seat is changed.
     ///
-    /// Errors: the first refusal that holds. Nothing is changed then.
+    /// # Errors
+    /// The first refusal that holds. Nothing is changed then.
     pub fn key_in(&mut self, byte: u8) -> Result<Outcome, Refusal>
         ensures answers { Answers self.old.machine (events.Key byte) result self.new.machine }
         ensures offs { self.new.offs ≡ self.old.offs }
@@ -135,7 +138,8 @@ impl<L: Ledger, M: Ledger, T: Tlb, D: Console> Book<L, M, T, D> {
     /// The console has sent the byte in its latch, as the machine's `done` does; no seat is
     /// changed.
     ///
-    /// Errors: the first refusal that holds; `NoMemory` where none does. Nothing is changed then.
+    /// # Errors
+    /// The first refusal that holds, or else `NoMemory`. Nothing is changed then.
     pub fn done_in(&mut self) -> Result<Outcome, Refusal>
         ensures answers { Answers self.old.machine events.Done result self.new.machine }
         ensures offs { self.new.offs ≡ self.old.offs }

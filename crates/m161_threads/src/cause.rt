@@ -8,10 +8,10 @@ use thiserror::Error;
 /// Why a run in threads has no report.
 #[derive(Clone, Copy, Debug, PartialEq, Eq, Error)]
 pub enum Cause {
-    /// There isn't one quota for each processor. Answered before any Step.
+    /// There isn't one quota for each processor. Returned before any Step.
     #[error("there isn't one quota for each processor")]
     BadQuotas,
-    /// The machine hasn't two processors. Answered before any Step.
+    /// The machine doesn't have two processors. Returned before any Step.
     #[error("the machine hasn't two processors")]
     NotYet,
     /// Memory was refused.
@@ -20,7 +20,7 @@ pub enum Cause {
     /// The system refused a thread.
     #[error("no thread")]
     NoThread,
-    /// The gate answered `false`.
+    /// The gate returned `false`.
     #[error("processor {p} was held at its Step {k}")]
     Held {
         /// The processor.
@@ -31,10 +31,10 @@ pub enum Cause {
     /// The log is full.
     #[error("the log is full")]
     LogFull,
-    /// A processor's count isn't its seat's.
+    /// A processor's count differs from its seat's.
     #[error("a processor's count isn't its seat's")]
     Miscount,
-    /// The machine isn't the one that was handed in, or another event was made of it.
+    /// The machine isn't the one that was passed in, or another event was made of it.
     #[error("the machine isn't the one that was handed in")]
     Swapped,
 }

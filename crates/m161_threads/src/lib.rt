@@ -1,19 +1,19 @@
 //! One machine behind one lock, and a thread for each processor.
 //!
 //! ```text
-//! book     what is under the lock: the machine, and two ledgers. Each of its calls makes one event
+//! book     what the lock protects: the machine, and two ledgers. Each of its calls makes one event
 //!          at most: a Step of a seat's processor, a typed byte, or the end of a console transfer
 //! seat     a thread's right to the Steps of one processor; it counts them
-//! run      a thread for each processor makes its quota of Steps, each under a holding of its own
+//! run      a thread for each processor makes its quota of Steps, and takes the lock for each
 //!
-//! promised      the Steps that were made are one interleaving, and the machine is what its log
-//!               replays; each processor has made its quota, or the machine is off
-//! not promised  the order between threads; that a thread gets on, or is ever served; which cause
-//!               a run tells, once it is begun
+//! promised      the Steps that were made are one interleaving, and the machine is the replay of
+//!               its log; each processor has made its quota, or the machine is off
+//! not promised  the order between threads, their progress and fairness; which cause a run
+//!               reports, once it has begun
 //! ```
 //!
-//! The ledgers count across threads that never see each other. One counts the Steps: the seats'
-//! counts add up to the machine's. The other counts the seats that found the machine off.
+//! The ledgers count across threads that don't see each other's data. One counts the Steps: the
+//! seats' counts add up to the machine's. The other counts the seats that found the machine off.
 #![tactic(auto)]
 
 mod before;

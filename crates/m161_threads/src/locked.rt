@@ -13,16 +13,16 @@ use std::alloc::{AllocError, Global};
 use std::sync::Mutex;
 use std::sync::ledger::{Blank, Ledger, Share};
 
-/// A lock round a book. The seats that were made with it, one for each processor, belong to it.
+/// A lock around a book. The seats that were made with it, one for each processor, belong to it.
 #[derive(Drop)]
 pub struct Locked<L: Ledger, M: Ledger, T: Tlb, D: Console> {
     book: Mutex<Book<L, M, T, D>>,
-    // the share that the seats have left: no part of it
+    // the share left by the seats: no part of it
     spare: Share<L>,
     ghost none: { spare.parts ≡ 0 },
 }
 
-/// A processor's count isn't its seat's.
+/// A processor's count differs from its seat's.
 #[derive(Drop)]
 pub struct Miscount<T: Tlb, D: Console> {
     /// The machine.
@@ -32,10 +32,11 @@ pub struct Miscount<T: Tlb, D: Console> {
 }
 
 impl<L: Ledger, M: Ledger, T: Tlb, D: Console> Locked<L, M, T, D> {
-    /// A lock round a machine, and a seat for each processor, in their order. The ledgers have as
-    /// many parts as the machine has processors. A refusal spends both blanks.
+    /// A lock around a machine, and a seat for each processor, in their order. The ledgers have as
+    /// many parts as the machine has processors. An error consumes both ledgers.
     ///
-    /// Errors: memory was refused; the machine is given back.
+    /// # Errors
+    /// Memory was refused; the machine is returned.
     #[inline(never)]
     pub fn new(
         alloc: Global,
@@ -76,12 +77,12 @@ impl<L: Ledger, M: Ledger, T: Tlb, D: Console> Locked<L, M, T, D> {
         Ok((Locked { book, spare: steps }, seats))
     }
 
-    /// The book, behind its lock. Whoever locks it may wait.
+    /// The book, behind its lock. Locking it may block.
     pub fn book(&self) -> &Mutex<Book<L, M, T, D>> {
         &self.book
     }
 
-    /// The machine as it is, with no seat looked at.
+    /// The machine as it is. No seat is looked at.
     #[inline(never)]
     pub fn into_machine(self) -> Machine<T, D>
         ensures { IsReplay result }
@@ -96,10 +97,11 @@ impl<L: Ledger, M: Ledger, T: Tlb, D: Console> Locked<L, M, T, D> {
         machine
     }
 
-    /// The machine, where each seat that is handed in has its processor's count. Where all are
-    /// handed in, their counts add up to the machine's whether each matches or not.
+    /// The machine, if each seat passed has its processor's count. If all seats are passed, their
+    /// counts add up to the machine's in any case.
     ///
-    /// Errors: one hasn't; the machine is given back.
+    /// # Errors
+    /// A seat's count differs from its processor's; the machine is returned.
     #[inline(never)]
     pub fn finish(self, seats: Vec<Seat<L, M>>) -> Result<Machine<T, D>, Miscount<T, D>>
         ensures replay { MatchResult result (λ m. IsReplay m) (λ e. IsReplay e.machine) }
@@ -131,7 +133,7 @@ impl<L: Ledger, M: Ledger, T: Tlb, D: Console> Locked<L, M, T, D> {
 }
 
 impl<L: Ledger, M: Ledger, T: Tlb, D: Console> Book<L, M, T, D> {
-    // Merges the seats' shares into the spare one, and looks at what the ledgers say of them.
+    // Merges the seats' shares into the spare one, and compares them with the ledgers.
     fn gather(&mut self, spare: Share<L>, seats: Vec<Seat<L, M>>)
         requires { spare.parts ≡ 0 }
         ensures machine { self.new.machine ≡ self.old.machine }
@@ -156,8 +158,8 @@ impl<L: Ledger, M: Ledger, T: Tlb, D: Console> Book<L, M, T, D> {
     }
 }
 
-// A lock round a book. It is compiled by itself, as are the other functions that a machine is moved
-// through: LLVM takes minutes over one that moves a machine to two places of a result.
+// A lock around a book. It isn't inlined, and neither are the other functions that move a machine:
+// LLVM needs minutes for a function that moves a machine to two places of a result.
 #[inline(never)]
 fn behind_lock<L: Ledger, M: Ledger, T: Tlb, D: Console>(
     book: Book<L, M, T, D>,
@@ -176,7 +178,7 @@ fn matches<L: Ledger, M: Ledger, T: Tlb, D: Console>(
     seat.processor < book.machine.processors() && book.machine.count(seat.processor) == seat.count
 }
 
-// The least processor whose count isn't its seat's.
+// The least processor whose count differs from its seat's.
 fn least_wrong<L: Ledger, M: Ledger, T: Tlb, D: Console>(
     book: &Book<L, M, T, D>,
     seats: &Vec<Seat<L, M>>,
@@ -193,7 +195,7 @@ fn least_wrong<L: Ledger, M: Ledger, T: Tlb, D: Console>(
     least
 }
 
-// The lesser of two numbers, where there is a first.
+// The lesser of two numbers, if there is a first.
 fn least_of(least: Option<u32>, number: u32) -> u32
     ensures { result ≡ least_of least number }
 {

@@ -1,4 +1,4 @@
-//! What the workers of a run have made, taken together.
+//! The combined results of the workers of a run.
 
 ghost use Rattle.std.specs.Prelude.{◌≡◌, ◌≤◌, ◌<◌, ℕ, IfErr, IfOk, None, length, map, slice_index_or, sum, vec_len};
 ghost use Rattle.m161_threads.specs.Runs.{IsOfRun};
@@ -9,16 +9,17 @@ use crate::worker::Worked;
 use std::alloc::Global;
 use std::sync::ledger::Ledger;
 
-/// What the workers of a run have made: the seats, and how many Steps each has made.
+/// The results of the workers of a run: the seats, and how many Steps each has made.
 #[derive(Drop)]
 pub(crate) struct Tally<L: Ledger, M: Ledger> {
     pub(crate) seats: Vec<Seat<L, M>>,
     pub(crate) counts: Vec<u32>,
 }
 
-/// Takes apart what the workers gave back, where none has stopped short for a cause of its own.
+/// Combines the results of the workers, if none has stopped early for a cause of its own.
 ///
-/// Errors: the cause of the first one that has; memory was refused.
+/// # Errors
+/// The cause of the first worker that has one; or memory was refused.
 pub(crate) fn take_apart<L: Ledger, M: Ledger>(
     alloc: Global,
     all: Vec<Worked<L, M>>,

@@ -22,15 +22,15 @@ use std::sync::Wait;
 use std::sync::ledger::{Blank, Ledger};
 use std::thread::Threads;
 
-/// What a worker asks before each of its Steps, without the lock: so it may wait, for another
-/// worker too.
+/// A worker calls this before each of its Steps, without the lock: so it may wait, also for another
+/// worker.
 pub trait Gate {
     /// Whether processor `p` may make its Step number `k` of the run, from 0 on. `false` ends its
     /// part of the run.
     fn pass(&self, p: u32, k: u32) -> bool;
 }
 
-/// What a run in threads comes to.
+/// The result of a run in threads.
 #[derive(Drop)]
 pub struct Report<T: Tlb, D: Console> {
     /// The machine after the run.
@@ -46,19 +46,20 @@ pub struct Report<T: Tlb, D: Console> {
 pub struct RunFault<T: Tlb, D: Console> {
     /// The machine, with the Steps that were made.
     pub machine: Machine<T, D>,
-    /// Why.
+    /// The cause.
     pub cause: Cause,
 }
 
-/// Runs a machine in threads: each processor has a worker of its own, which makes as many Steps as
-/// its quota says, each under a holding of the lock of its own. A worker that finds the machine off
-/// stops, and so does one that the gate holds or that finds the log full, while the others go on.
-/// Which Step comes first is the host's choice, and no two runs need agree; the machine's log says
-/// which interleaving came out. It may wait, and nothing bounds for how long.
+/// Runs a machine in threads: each processor has a worker of its own, which makes its quota of
+/// Steps, and takes the lock for each. A worker stops if it finds the machine off or the log full,
+/// or if the gate stops it; the others continue. The order of the Steps is the host's choice, and
+/// two runs may differ; the machine's log says which interleaving was made. The call blocks until
+/// all workers have ended, and nothing bounds that time.
 ///
-/// Errors: the number of quotas, then the number of processors, which has to be two; or the cause
-/// of the lowest processor that has one; or that what the workers say doesn't fit the machine. The
-/// machine is given back, with the Steps that were made.
+/// # Errors
+/// The number of quotas, then the number of processors, which has to be two; or the cause of the
+/// lowest processor that has one; or the workers' results don't fit the machine. The machine is
+/// returned, with the Steps that were made.
 #[inline(never)]
 pub fn run<T, D, R, G>(
     rt: &R,
@@ -160,7 +161,7 @@ where
     }
 }
 
-// Runs a worker for each seat, and says what they have made.
+// Runs a worker for each seat, and returns their results.
 fn run_seats<L, M, T, D, R, G>(
     rt: &R,
     alloc: Global,
@@ -186,7 +187,7 @@ where
     Ok(tally)
 }
 
-// The report of a run, where what the workers have made fits the machine.
+// The report of a run, if the workers' results fit the machine.
 #[inline(never)]
 fn checked_report<L: Ledger, M: Ledger, T: Tlb, D: Console>(
     locked: Locked<L, M, T, D>,

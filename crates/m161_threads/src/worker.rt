@@ -3,7 +3,7 @@
 ghost use Rattle.std.specs.Prelude.{◌≡◌, ◌+◌, ◌<◌, ℕ, length, vec_len, slice_index, slice_index_or, IfErr, IfOk};
 ghost use Rattle.m161_threads.specs.Runs.{IsOfRun};
 ghost use Rattle.m161_threads.specs.Shares.{Place};
-ghost use Rattle.m161_threads.specs.Work.{Kept, Works, after_turn, task_of};
+ghost use Rattle.m161_threads.specs.Work.{KeepsTask, Works, after_turn, task_of};
 
 use crate::book::{Book, Seat};
 use crate::cause::Cause;
@@ -17,8 +17,8 @@ use std::sync::{Mutex, Wait};
 use std::thread;
 use std::thread::{Promise, PromisedHandle, Scope, Threads};
 
-/// What a worker gives back: its seat, how many Steps it made, and why it stopped short, where it
-/// isn't that the machine is off.
+/// The result of a worker: its seat, how many Steps it made, and why it stopped early, unless
+/// because the machine is off.
 #[derive(Drop)]
 pub(crate) struct Worked<L: Ledger, M: Ledger> {
     pub(crate) seat: Seat<L, M>,
@@ -26,8 +26,8 @@ pub(crate) struct Worked<L: Ledger, M: Ledger> {
     pub(crate) stop: Option<Stop>,
 }
 
-/// What a worker was given: its seat's processor, how many Steps the seat had, and how many more
-/// are to be made.
+/// The task of a worker: its seat's processor, how many Steps the seat had, and how many more are
+/// to be made.
 #[derive(Clone, Copy)]
 pub(crate) struct Task {
     pub(crate) processor: u32,
@@ -36,15 +36,15 @@ pub(crate) struct Task {
 }
 
 impl<L: Ledger, M: Ledger> Promise<Worked<L, M>> for Task {
-    ghost use Rattle.m161_threads.specs.Work.{Kept};
+    ghost use Rattle.m161_threads.specs.Work.{KeepsTask};
 
-    ghost kept_by = { λ t worked. Kept t worked.seat worked.made worked.stop };
+    ghost kept_by = { λ t worked. KeepsTask t worked.seat worked.made worked.stop };
 }
 
-/// Why a worker stops short.
+/// Why a worker stops early.
 #[derive(Clone, Copy)]
 pub(crate) enum Stop {
-    /// The gate answered `false`.
+    /// The gate returned `false`.
     Held {
         /// The processor.
         p: u32,
@@ -56,7 +56,7 @@ pub(crate) enum Stop {
 }
 
 impl Stop {
-    /// The cause that a run tells.
+    /// The cause that a run reports.
     pub(crate) fn cause(self) -> Cause
         ensures { IsOfRun result }
     {
@@ -67,17 +67,17 @@ impl Stop {
     }
 }
 
-/// What came of one holding of the lock.
+/// The result of taking the lock for a Step.
 enum Turn {
     /// A Step was made.
     Made,
     /// The machine is off, which the seat has noted.
     Off,
-    /// It was refused otherwise: a seat's processor is one of the machine's, so the log is full.
+    /// Another refusal: a seat's processor is one of the machine's, so the log is full.
     Full,
 }
 
-// One Step of a seat's processor, under one holding of the lock.
+// Takes the lock and makes one Step of a seat's processor.
 fn take_turn<L: Ledger, M: Ledger, T: Tlb, D: Console, R: Wait>(
     rt: &R,
     book: &Mutex<Book<L, M, T, D>>,
@@ -99,7 +99,7 @@ fn take_turn<L: Ledger, M: Ledger, T: Tlb, D: Console, R: Wait>(
     }
 }
 
-// Makes as many Steps as the quota says, unless the gate, a full log or the power switch stops it.
+// Makes the quota of Steps, unless the gate, a full log or the power switch stops the worker.
 fn work<L: Ledger, M: Ledger, T: Tlb, D: Console, R: Wait, G: Gate>(
     rt: &R,
     book: &Mutex<Book<L, M, T, D>>,
@@ -191,7 +191,7 @@ where
     ensures err { IfErr result (λ cause. IsOfRun cause) }
     ensures len { IfOk result (λ v. vec_len v ≡ vec_len handles) }
     ensures each { IfOk result (λ v. (k : ℕ) (d e : _) → k < vec_len handles
-        → Kept (slice_index_or handles.items k e).promise (slice_index_or v.items k d).seat
+        → KeepsTask (slice_index_or handles.items k e).promise (slice_index_or v.items k d).seat
         (slice_index_or v.items k d).made (slice_index_or v.items k d).stop) }
 {
     match thread::join_promised(rt, handles) {
@@ -220,7 +220,7 @@ where
     ensures err { IfErr result (λ cause. IsOfRun cause) }
     ensures len { IfOk result (λ v. vec_len v ≡ length quotas.now) }
     ensures each { IfOk result (λ v. (k : ℕ) (d : _) (e : Place) → k < length quotas.now
-        → Kept (task_of (slice_index_or seats.items k e) (slice_index quotas.now k))
+        → KeepsTask (task_of (slice_index_or seats.items k e) (slice_index quotas.now k))
         (slice_index_or v.items k d).seat (slice_index_or v.items k d).made
         (slice_index_or v.items k d).stop) }
 {
@@ -232,7 +232,8 @@ where
             ensures err { IfErr result (λ cause. IsOfRun cause) }
             ensures all { IfOk result (λ v. (vec_len v ≡ length quotas.entry.now)
                 × ((k : ℕ) (d : _) (e : Place) → k < length quotas.entry.now
-                → Kept (task_of (slice_index_or seats.items k e) (slice_index quotas.entry.now k))
+                → KeepsTask
+                (task_of (slice_index_or seats.items k e) (slice_index quotas.entry.now k))
                 (slice_index_or v.items k d).seat (slice_index_or v.items k d).made
                 (slice_index_or v.items k d).stop)) }
         {

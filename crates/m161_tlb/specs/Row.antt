@@ -7,7 +7,7 @@ use Rattle.m161_tlb.specs.declared.row.Row.{Row}
 abbrev pub is_set : ℕ → ℕ → Bool
 is_set word place = word / 2 ^ place % 2 == 1
 
--- the word with that bit set, or none
+-- a word with that bit, or zero
 abbrev pub flag_of : Bool → ℕ → ℕ
 flag_of set place = if set then 2 ^ place else 0
 
@@ -17,7 +17,8 @@ hi_word row = row.page * 2 ^ 12 + row.id * 2 ^ 6
 
 -- a row's word in EntryLo
 abbrev pub lo_word : Row → ℕ
-lo_word row = row.frame * 2 ^ 12 + flag_of row.n 11 + flag_of row.d 10 + flag_of row.v 9 + flag_of row.g 8
+lo_word row =
+    row.frame * 2 ^ 12 + flag_of row.n 11 + flag_of row.d 10 + flag_of row.v 9 + flag_of row.g 8
 
 -- the row of the words in EntryHi and EntryLo
 abbrev pub row_of_words : ℕ → ℕ → Row
@@ -31,12 +32,13 @@ row_of_words hi lo = record {
   g = is_set lo 8;
 }
 
--- a row's words give the row back
+-- the row of a row's words is that row
 abbrev pub RowComesBack : Type 0
 RowComesBack =
-    (row : Row) → row.page < 2 ^ 20 → row.id < 2 ^ 6 → row.frame < 2 ^ 20 → row_of_words (hi_word row) (lo_word row) ≡ row
+    (row : Row) → row.page < 2 ^ 20 → row.id < 2 ^ 6 → row.frame < 2 ^ 20
+    → row_of_words (hi_word row) (lo_word row) ≡ row
 
--- words whose unused bits are zero are those of their row
+-- words whose unused bits are zero are the words of their row
 abbrev pub WordsComeBack : Type 0
 WordsComeBack =
     (hi lo : ℕ) → hi < 2 ^ 32 → lo < 2 ^ 32 → hi % 2 ^ 6 ≡ 0 → lo % 2 ^ 8 ≡ 0

@@ -11,7 +11,15 @@ find_row rows page id = position (matches page id) rows
 
 -- row i at a processor's start: page 0x80000 + i, all else zero
 abbrev pub start_row : ℕ → Row
-start_row i = record { page = 0x80000 + i; id = 0; frame = 0; n = false; d = false; v = false; g = false }
+start_row i = record {
+  page = 0x80000 + i;
+  id = 0;
+  frame = 0;
+  n = false;
+  d = false;
+  v = false;
+  g = false;
+}
 
 -- the rows at a processor's start
 abbrev pub start_rows : List Row

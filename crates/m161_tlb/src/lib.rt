@@ -4,15 +4,15 @@
 //! row       page, identifier and frame numbers, and the flags N, D, V and G
 //! EntryHi   page 31..12, identifier 11..6, zero 5..0
 //! EntryLo   frame 31..12, N 11, D 10, V 9, G 8, zero 7..0
-//! match     a row matches a page and an identifier where its page is that page, and it has G
+//! match     a row matches a page and an identifier if its page is that page, and it has G
 //!           or that identifier
 //! find      the lowest row that matches
-//! start     row i holds page 0x80000 + i, all else zero
+//! start     row i has page 0x80000 + i, all else zero
 //! ```
 //!
-//! The content of a `Tlb` is its list of rows (`rows`); what each method does to it stands on the
-//! trait, so that every implementation answers alike. Source: Kane, MIPS RISC Architecture, for
-//! the R3000; the start and the lowest row as the one that counts are this project's own.
+//! The content of a `Tlb` is its list of rows (`rows`); the trait's clauses say what each method
+//! does to it, so that all implementations behave alike. Source: Kane, MIPS RISC Architecture, for
+//! the R3000; the start, and that the lowest row is used, are this project's own.
 #![tactic(auto)]
 
 ghost use Rattle.std.specs.Prelude.{◌≡◌, ◌<◌, List, Some, slice_get, slice_set, IfSome};
@@ -28,7 +28,7 @@ pub use identifier::Identifier;
 pub use page::Page;
 pub use row::{Row, words_and_rows};
 
-/// A table of 64 rows. None of its calls takes memory.
+/// A table of 64 rows. None of its calls allocates.
 pub trait Tlb: Drop {
     ghost use Rattle.std.specs.Prelude.{List};
     ghost use Rattle.m161_tlb.specs.declared.row.Row.{Row};

@@ -22,7 +22,7 @@ pub struct Row {
     pub d: bool,
     /// V, valid: the page may be used.
     pub v: bool,
-    /// G, global: the page is every address space's.
+    /// G, global: the page is in every address space.
     pub g: bool,
 }
 
@@ -72,7 +72,8 @@ impl Row {
     }
 }
 
-/// A row's words give the row back, and words whose unused bits are zero are those of their row.
+/// The row of a row's words is that row, and words whose unused bits are zero are the words of
+/// their row.
 pub fn words_and_rows()
     ensures row { RowComesBack }
     ensures words { WordsComeBack }
@@ -86,7 +87,7 @@ fn is_set(word: u32, place: u32) -> bool
     (word >> place) % 2 == 1
 }
 
-/// The word with one bit set, or none.
+/// A word with the bit at `place` if `set`, else 0.
 fn flag(set: bool, place: u32) -> u32
     requires { place < 12 }
     ensures value { result ≡ flag_of set place }

@@ -2,13 +2,13 @@
 //!
 //! ```text
 //! rows    64 translation rows
-//! pages   the page of each row once more, in an array of its own
-//! find    eight pages are compared at a time; the rows themselves are looked at only where one
-//!         of the eight is the page looked for
+//! pages   a copy of the page of each row, in an array of its own
+//! find    compares eight pages at a time, and looks at the rows themselves only if one of the
+//!         eight is the page
 //! ```
 //!
-//! A search for the page of row 53 takes about 100 machine instructions, and one that finds nothing
-//! as many. `Scan` proves the laws of `m161_tlb`'s `Tlb`, and none of its calls takes memory.
+//! A search for the page of row 53 executes about 100 machine instructions, as does one that finds
+//! nothing. `Scan` proves the laws of `m161_tlb`'s `Tlb`, and none of its calls allocates.
 #![tactic(auto)]
 
 ghost use Rattle.std.specs.Prelude.{◌≡◌, ◌*◌, ◌+◌, ◌<◌, false, List, Some, length, get_or, slice_get, slice_set, IfSome};
@@ -19,7 +19,7 @@ ghost use Rattle.m161_tlb_scan.specs.Blocks.{LacksPage};
 use m161_tlb::{Frame, Identifier, Page, Row, Tlb};
 use std::marker::Model;
 
-/// How many rows there are.
+/// The number of rows.
 const ROWS: usize = 64;
 
 /// The page of row 0 at a processor's start.
@@ -101,8 +101,8 @@ impl Scan {
         self.pages[i as usize]
     }
 
-    /// Whether one of the eight rows from `8 * block` on is for a page. Eight comparisons without
-    /// a branch, which the compiler makes two of.
+    /// Whether one of the eight rows from `8 * block` on is for a page. Eight comparisons without a
+    /// branch, which the compiler turns into two vector comparisons.
     #[inline(always)]
     fn has_page(&self, block: u8, page: u32) -> bool
         requires { block < 8 }

@@ -7,7 +7,8 @@ use Rattle.m161_machine.specs.declared.event.Event.{Event}
 use Rattle.m161_machine.specs.declared.event.Event.TheVariants.{Step, Key, Done}
 use Rattle.m161_machine.specs.declared.event.Entry.{Entry}
 use Rattle.m161_machine.specs.declared.event.Refusal.{Refusal}
-use Rattle.m161_machine.specs.State.{State, first_of, is_full, next, unless, answer}
+use Rattle.m161_elf.specs.Image.{first_of}
+use Rattle.m161_machine.specs.State.{State, is_full, next, unless, answer}
 use Rattle.m161_machine.specs.History.{History, run, going_on, after_outcome, events_of, outcomes_of, Boots, Continues, Ends, IsBooted, Refuses}
 use Rattle.m161_machine.proofs.Continuing.{refused_as}
 use Rattle.m161_steplog.specs.declared.verdict.Verdict.{Verdict}

@@ -1,5 +1,7 @@
-use Rattle.std.proofs.Common.{Option, None, Some}
-use Rattle.m161_machine.specs.History.{History}
+use Rattle.std.proofs.Common.{◌≡◌, refl, ℕ, List, Option, None, Some, Ok}
+use Rattle.m161_machine.specs.declared.conf.BootError.{BootError}
+use Rattle.m161_machine.specs.declared.conf.Conf.{Conf}
+use Rattle.m161_machine.specs.History.{History, Boots}
 use Rattle.m161_threads.specs.declared.cause.Cause.{Cause}
 use Rattle.m161_threads.specs.Runs.{Fails}
 use Rattle.s161.specs.Threads.{IsCause}
@@ -9,3 +11,8 @@ use Rattle.s161.specs.Threads.{IsCause}
 pub failed_cause : (first : Option Cause) (before : History) (cause : Cause) (after : History) → Fails first before cause after → IsCause first cause
 failed_cause None before cause after h = h.0
 failed_cause (Some first) before cause after h = h.0
+
+-- nothing is wrong with what a machine was booted from
+pub booted_clear : (file : List ℕ) (conf : Conf) (fault : Option BootError) (m : History) → Boots file conf fault (Ok m) → fault ≡ None
+booted_clear file conf (Some first) m h = absurd h
+booted_clear file conf None m h = refl

@@ -6,6 +6,7 @@ use Rattle.m161_asm.specs.Text.{Program, text}
 use Rattle.m161_elf.specs.Written.{elf_bytes}
 use Rattle.s161.specs.declared.fault.Fault.{Fault}
 use Rattle.s161.specs.declared.fault.Fault.TheVariants.{Input, Memory, Source}
+use Rattle.s161.specs.Known.{OfKnown}
 
 -- The file of an assembly text.
 
@@ -15,7 +16,7 @@ pub record IsAssembly (source file : List ℕ) : Type 0 where
   pub is_program : text source ≡ Ok program
   pub file_is : file ≡ elf_bytes program.entry program.segments
 
--- standard input, which has these bytes, as far as they are known, is a text whose file this is
+-- standard input, which has these bytes, as far as they are known, is a text with this file
 pub record IsAssembled (input : Option (List ℕ)) (file : List ℕ) : Type 0 where
   pub source : List ℕ
   pub is_input : IfSome input (λ bytes. source ≡ bytes)
@@ -29,7 +30,7 @@ fault_of_kind _ e = Source e
 abbrev pub fault_of_source : AsmError → Fault
 fault_of_source e = fault_of_kind e.kind e
 
--- a text has no file: by its first fault, at this line and column; or memory was refused
+-- a text has no file: it has this first fault, at this line and column; or memory was refused
 abbrev pub IsUnassembled : List ℕ → Fault → Type 0
 IsUnassembled source (Source e) = text source ≡ Err (e.line, (e.kind, e.column))
 IsUnassembled source Memory = Unit {0}
@@ -39,6 +40,6 @@ IsUnassembled source _ = ⊥
 abbrev pub IsAssemblyFault : Option (List ℕ) → Fault → Type 0
 IsAssemblyFault input Input = Unit {0}
 IsAssemblyFault input (Source e) =
-    (source : List ℕ) × IfSome input (λ bytes. source ≡ bytes) × (text source ≡ Err (e.line, (e.kind, e.column)))
+    OfKnown input (λ source. text source ≡ Err (e.line, (e.kind, e.column)))
 IsAssemblyFault input Memory = Unit {0}
 IsAssemblyFault input _ = ⊥

@@ -34,9 +34,11 @@ show_log_rule =
 -- a number of Steps for each thread, at most 1,000,000
 abbrev pub threads_rule : Rule
 threads_rule =
-    record (number_rule (codes "threads") (codes "0")) { parser = Some (Signed (pos 0) (pos 1000000)) }
+    record (number_rule (codes "threads") (codes "0")) {
+      parser = Some (Signed (pos 0) (pos 1000000));
+    }
 
--- a command with the options of a machine's size too
+-- a command, with the options of a machine's size added
 abbrev pub sized : App → App
 sized command =
     with_rule (with_rule (with_rule command
@@ -44,35 +46,35 @@ sized command =
     (number_rule (codes "cpus") (codes "1")))
     (number_rule (codes "log") (codes "65536"))
 
--- `run` takes an image and options
+-- a command that takes an image
+abbrev pub on_image : Text → App
+on_image name = with_rule (new_app name) (file_rule (codes "image"))
+
+-- the arguments of `run`: an image and options
 abbrev pub run_line : App
-run_line =
-    with_rule
-    (with_rule (sized (with_rule (new_app (codes "run")) (file_rule (codes "image")))) show_log_rule)
-    threads_rule
+run_line = with_rule (with_rule (sized (on_image (codes "run"))) show_log_rule) threads_rule
 
--- `replay` takes an image, a log and options
+-- the arguments of `replay`: an image, a log and options
 abbrev pub replay_line : App
-replay_line =
-    sized (with_rule (with_rule (new_app (codes "replay")) (file_rule (codes "image"))) (file_rule (codes "entries")))
+replay_line = sized (with_rule (on_image (codes "replay")) (file_rule (codes "entries")))
 
--- `debug` takes an image, a schedule and options
+-- the arguments of `debug`: an image, a schedule and options
 abbrev pub debug_line : App
-debug_line =
-    sized (with_rule (with_rule (new_app (codes "debug")) (file_rule (codes "image"))) (file_rule (codes "schedule")))
+debug_line = sized (with_rule (on_image (codes "debug")) (file_rule (codes "schedule")))
 
--- `as` takes nothing
+-- `as` has no arguments
 abbrev pub as_line : App
 as_line = new_app (codes "as")
 
--- `dis` takes an image
+-- the argument of `dis`: an image
 abbrev pub dis_line : App
-dis_line = with_rule (new_app (codes "dis")) (file_rule (codes "image"))
+dis_line = on_image (codes "dis")
 
 -- the program needs a command
 abbrev pub command_line : App
 command_line =
-    with_subcommand (with_subcommand (with_subcommand (with_subcommand (with_subcommand (with_subcommand
+    with_subcommand (with_subcommand (with_subcommand
+    (with_subcommand (with_subcommand (with_subcommand
     (on_top (λ s. record s { subcommand_required = true }) (new_app (codes "s161")))
     (new_shape (codes "demo")))
     run_line.top)
@@ -85,11 +87,13 @@ command_line =
 unfoldable pub IsAccepted : List Text → Type 0
 IsAccepted words = fault_of command_line words ≡ []
 
--- a number of 32 bits in decimal digits, which a plus may precede
+-- a number of 32 bits in decimal digits, optionally after a plus
 abbrev pub IsNumber : Text → Type 0
-IsNumber text = IsNumeral 10 (without_leading_plus text) × (digits_value 10 (without_leading_plus text) < 2 ^ 32)
+IsNumber text =
+    IsNumeral 10 (without_leading_plus text)
+    × (digits_value 10 (without_leading_plus text) < 2 ^ 32)
 
--- an option's number is the one that clap's text of it writes, and else the default
+-- an option's number is that of clap's text, if it is a number, else the default
 pub record HasNumber (default : ℕ) (text : Text) (n : ℕ) : Type 0 where
   pub number : IsNumber text → n ≡ digits_value 10 (without_leading_plus text)
   pub other : ¬ IsNumber text → n ≡ default
@@ -100,7 +104,8 @@ IsNumberOf default (Some text) n = HasNumber default text n
 
 abbrev pub IsFlag : Option Text → Bool → Type 0
 IsFlag None flag = flag ≡ false
-IsFlag (Some text) flag = (text ≡ codes "true" → flag ≡ true) × (text ≡ codes "false" → flag ≡ false)
+IsFlag (Some text) flag =
+    (text ≡ codes "true" → flag ≡ true) × (text ≡ codes "false" → flag ≡ false)
 
 -- the first text that is given for an argument
 abbrev pub given_of : Text → List Row → Text
@@ -118,7 +123,7 @@ pub record AsksRun (rows : List Row) (task : RunTask) : Type 0 where
   pub size : IsSize rows task.conf
   pub show_log : IsFlag (one_of (codes "show-log") rows) task.show_log
 
--- `run` asks for this: a run under a schedule, or one in threads where their number of Steps isn't 0
+-- `run` asks for this: a run under a schedule, or one in threads if their number of Steps isn't 0
 abbrev pub IsRunTask : List Row → Task → Type 0
 IsRunTask rows (Run task) = AsksRun rows task × IsNumberOf 0 (one_of (codes "threads") rows) 0
 IsRunTask rows (RunInThreads task quota) =
@@ -134,22 +139,28 @@ pub record AsksFiles (name : Text) (rows : List Row) (task : FilesTask) : Type 0
 -- the words that ask for another task than the demo
 abbrev pub IsOther : Text → Type 0
 IsOther word =
-    (word ≡ codes "run") ⊎ (word ≡ codes "replay") ⊎ (word ≡ codes "debug") ⊎ (word ≡ codes "as") ⊎ (word ≡ codes "dis")
+    (word ≡ codes "run") ⊎ (word ≡ codes "replay") ⊎ (word ≡ codes "debug") ⊎ (word ≡ codes "as")
+    ⊎ (word ≡ codes "dis")
 
 -- a command, with its arguments, asks for this
 abbrev pub IsTask : Option (Text × List Row) → Task → Type 0
 IsTask command Demo = IfSome command (λ given. ¬ IsOther given.0)
-IsTask command (Run task) = IsSomeAnd command (λ given. (given.0 ≡ codes "run") × IsRunTask given.1 (Run task))
+IsTask command (Run task) =
+    IsSomeAnd command (λ given. (given.0 ≡ codes "run") × IsRunTask given.1 (Run task))
 IsTask command (RunInThreads task quota) =
-    IsSomeAnd command (λ given. (given.0 ≡ codes "run") × IsRunTask given.1 (RunInThreads task quota))
+    IsSomeAnd command
+    (λ given. (given.0 ≡ codes "run") × IsRunTask given.1 (RunInThreads task quota))
 IsTask command (Replay task) =
-    IsSomeAnd command (λ given. (given.0 ≡ codes "replay") × AsksFiles (codes "entries") given.1 task)
+    IsSomeAnd command
+    (λ given. (given.0 ≡ codes "replay") × AsksFiles (codes "entries") given.1 task)
 IsTask command (Debug task) =
-    IsSomeAnd command (λ given. (given.0 ≡ codes "debug") × AsksFiles (codes "schedule") given.1 task)
+    IsSomeAnd command
+    (λ given. (given.0 ≡ codes "debug") × AsksFiles (codes "schedule") given.1 task)
 IsTask command Assemble = IsSomeAnd command (λ given. given.0 ≡ codes "as")
 IsTask command (Disassemble image) =
-    IsSomeAnd command (λ given. (given.0 ≡ codes "dis") × (image.now ≡ given_of (codes "image") given.1))
+    IsSomeAnd command
+    (λ given. (given.0 ≡ codes "dis") × (image.now ≡ given_of (codes "image") given.1))
 
--- no argument of the command is one of its subcommands' too
+-- no argument of the command is also one of its subcommands
 abbrev pub IsLocal : Command → Type 0
 IsLocal command = (out-Command command).has_globals ≡ false

@@ -15,28 +15,32 @@ use Rattle.s161.specs.declared.command.FilesTask.{FilesTask}
 use Rattle.s161.specs.declared.fault.Fault.{Fault}
 use Rattle.s161.specs.declared.fault.Fault.TheVariants.{Conf, File, Image, Input, Log, Memory, Output, Schedule, Source, Threads}
 use Rattle.s161.specs.Runs.{HasSchedule}
+use Rattle.s161.specs.Known.{OfKnown}
 
--- What `debug` prints.
+-- The output of `debug`.
 
--- what is printed after a command's own text: the line of its error
+-- the text after a command's own: the line of its error
 abbrev pub error_text : Result ℕ CommandError → List ℕ
 error_text (Ok used) = []
 error_text (Err e) = ended (codes "?" ␣ name_of_error e)
 
--- the events that a command leaves
+-- the remaining events after a command
 abbrev pub left_by : Result ℕ CommandError → List Event → List Event
 left_by (Ok used) events = drop used events
 left_by (Err e) events = events
 
--- the command of a line is done, over the events that are left; this is left then, and the text before grows to this one
-pub record DoesLine (line : List ℕ) (s : Debugged) (events : List Event) (t : Debugged) (left : List Event) (before : List ℕ) (after : List ℕ) : Type 0 where
+-- the command of a line is executed over the remaining events; these are the events and the session
+-- after it, and the text grows to this one
+pub record DoesLine
+    (line : List ℕ) (s : Debugged) (events : List Event)
+    (t : Debugged) (left : List Event) (before : List ℕ) (after : List ℕ) : Type 0 where
   pub answer : Result ℕ CommandError
   pub shown : List ℕ
   pub commands : Commands line s events answer t before shown
   pub left_is : left ≡ left_by answer events
   pub after_is : after ≡ shown ++ error_text answer
 
--- the commands of these lines are done, one after the other, and the text before grows to this one
+-- the commands of these lines are executed, one after the other, and the text grows to this one
 abbrev pub DoesLines : List (List ℕ) → Debugged → List Event → List ℕ → List ℕ → Type 0
 DoesLines [] s events before after = after ≡ before
 DoesLines (line ∷ lines) s events before after =
@@ -47,8 +51,11 @@ DoesLines (line ∷ lines) s events before after =
 abbrev pub session_of : History → Debugged
 session_of m = record { machine = m; breakpoints = [] }
 
--- a debugged run that was finished: what it prints, where the files of the image and the schedule and standard input have these bytes, as far as they are known
-pub record IsDebug (task : FilesTask) (image : Option (List ℕ)) (schedule : Option (List ℕ)) (input : Option (List ℕ)) (text : List ℕ) : Type 0 where
+-- a finished debugged run: what it prints; the files of the image and the schedule and standard
+-- input have these bytes, as far as they are known
+pub record IsDebug
+    (task : FilesTask) (image : Option (List ℕ)) (schedule : Option (List ℕ))
+    (input : Option (List ℕ)) (text : List ℕ) : Type 0 where
   pub file : List ℕ
   pub is_file : IfSome image (λ bytes. file ≡ bytes)
   pub booted : History
@@ -61,16 +68,18 @@ pub record IsDebug (task : FilesTask) (image : Option (List ℕ)) (schedule : Op
   pub is_input : IfSome input (λ bytes. commands ≡ bytes)
   pub does : DoesLines (lines_of commands) (session_of booted) events [] text
 
--- a debugged run is ended by this fault, and by none before it: of the image's file, the schedule's file, standard input, the schedule, the configuration, the image; or memory was refused
+-- a debugged run is ended by this fault, and there was no fault before it in this order: of the
+-- image's file, the schedule's file, standard input, the schedule, the configuration, the image; or
+-- memory was refused
 abbrev pub IsDebugFault : FilesTask → Option (List ℕ) → Option (List ℕ) → Fault → Type 0
-IsDebugFault task image schedule (File name) = (name.now ≡ task.image.now) ⊎ (name.now ≡ task.text.now)
+IsDebugFault task image schedule (File name) =
+    (name.now ≡ task.image.now) ⊎ (name.now ≡ task.text.now)
 IsDebugFault task image schedule Input = Unit {0}
 IsDebugFault task image schedule (Schedule n) =
-    (text : List ℕ) × IfSome schedule (λ bytes. text ≡ bytes) × FirstBad AreScheduleLines text n
+    OfKnown schedule (λ text. FirstBad AreScheduleLines text n)
 IsDebugFault task image schedule Conf = HasSchedule schedule × (is_within_limits task.conf ≡ false)
 IsDebugFault task image schedule (Image e) =
-    HasSchedule schedule
-    × ((file : List ℕ) × IfSome image (λ bytes. file ≡ bytes) × (boot_fault file task.conf ≡ Some (Load e)))
+    HasSchedule schedule × OfKnown image (λ file. boot_fault file task.conf ≡ Some (Load e))
 IsDebugFault task image schedule Memory = Unit {0}
 IsDebugFault task image schedule (Log n) = ⊥
 IsDebugFault task image schedule (Threads cause) = ⊥

@@ -6,14 +6,15 @@ use Rattle.m161_machine.specs.declared.event.Refusal.{Refusal}
 use Rattle.m161_machine.specs.History.{Continues, Ends, History, IsBooted}
 use Rattle.m161_debug.specs.Shows.{show_regs_text}
 
--- What `demo` makes and prints.
+-- The Steps and the output of `demo`.
 
--- lui $8, 0x1234; ori $8, $8, 0x5678; addiu $9, $0, -1; addu $10, $8, $9; lui $11, 0x8000; sw $10, 1024($11); lw $12, 1024($11)
+-- lui $8, 0x1234; ori $8, $8, 0x5678; addiu $9, $0, -1; addu $10, $8, $9; lui $11, 0x8000; sw $10,
+-- 1024($11); lw $12, 1024($11)
 abbrev pub demo_words : List ℕ
 demo_words =
     0x3c081234 ∷ 0x35085678 ∷ 0x2409ffff ∷ 0x01095021 ∷ 0x3c0b8000 ∷ 0xad6a0400 ∷ 0x8d6c0400 ∷ []
 
--- the file of these words at 80000200, where they begin
+-- the file of these words at 80000200, which is the entry
 unfoldable pub demo_image : List ℕ
 demo_image = elf_bytes 0x80000200 ((0x80000200, demo_words) ∷ [])
 
@@ -21,7 +22,8 @@ demo_image = elf_bytes 0x80000200 ((0x80000200, demo_words) ∷ [])
 abbrev pub demo_conf : Conf
 demo_conf = record { ram = 1_048_576; processors = 1; log = 7 }
 
--- a demo that was finished: the image is booted, seven Steps of processor 0 are made, unless one is refused, and its registers are the text
+-- a finished demo: the image is booted, seven Steps of processor 0 are made, unless one is refused,
+-- and the text is its registers
 pub record IsDemo (text : List ℕ) : Type 0 where
   pub booted : History
   pub is_booted : IsBooted demo_image demo_conf booted

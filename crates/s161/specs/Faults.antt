@@ -13,12 +13,12 @@ fault_of_boot BadConf = Conf
 fault_of_boot (Load e) = Image e
 fault_of_boot NoMemory = Memory
 
--- why a schedule isn't read, as a fault of the command
+-- why a schedule can't be read, as a fault of the command
 abbrev pub fault_of_schedule : TextFault → Fault
 fault_of_schedule (text.Line n) = Schedule n
 fault_of_schedule text.NoMemory = Memory
 
--- why a log isn't read
+-- why a log can't be read
 abbrev pub fault_of_log : TextFault → Fault
 fault_of_log (text.Line n) = Log n
 fault_of_log text.NoMemory = Memory

@@ -3,6 +3,7 @@ pub mod Commands
 pub mod Debugs
 pub mod Demos
 pub mod Faults
+pub mod Known
 pub mod Listings
 pub mod Replays
 pub mod Runs

@@ -9,6 +9,7 @@ use Rattle.m161_elf.specs.Span.{spans}
 use Rattle.m161_debug.specs.Shows.{code_line, counted, text_of}
 use Rattle.s161.specs.declared.fault.Fault.{Fault}
 use Rattle.s161.specs.declared.fault.Fault.TheVariants.{File, Image, Memory}
+use Rattle.s161.specs.Known.{OfKnown}
 
 -- The listing of a file: the instructions that its segments leave in memory.
 
@@ -28,7 +29,7 @@ span_text memory span =
 abbrev pub dis_text : List ℕ → List Span → List ℕ
 dis_text memory = flat_map (span_text memory)
 
--- all the bytes of spans are RAM, by kseg0 or by kseg1
+-- all the bytes of spans are in RAM, by kseg0 or by kseg1
 abbrev pub AreInRam : ℕ → List Span → Type 0
 AreInRam ram = AllByRecursion (λ span. is_in_ram ram span.address span.size ≡ true)
 
@@ -54,7 +55,7 @@ abbrev pub fault_of_load : LoadError → Fault
 fault_of_load fault.NoMemory = Memory
 fault_of_load e = Image e
 
--- a file has no listing: by the first fault that it has; or it has none, and memory was refused
+-- a file has no listing: it has this first fault; or it has no fault, and memory was refused
 abbrev pub IsUnlisted : List ℕ → Fault → Type 0
 IsUnlisted file (Image e) = first_fault file dis_ram ≡ Some e
 IsUnlisted file Memory = first_fault file dis_ram ≡ None
@@ -64,6 +65,6 @@ IsUnlisted file _ = ⊥
 abbrev pub IsListingFault : List ℕ → Option (List ℕ) → Fault → Type 0
 IsListingFault name image (File failed) = failed.now ≡ name
 IsListingFault name image (Image e) =
-    (file : List ℕ) × IfSome image (λ bytes. file ≡ bytes) × (first_fault file dis_ram ≡ Some e)
+    OfKnown image (λ file. first_fault file dis_ram ≡ Some e)
 IsListingFault name image Memory = Unit {0}
 IsListingFault name image _ = ⊥

@@ -13,8 +13,9 @@ use Rattle.m161_debug.specs.Shows.{ended}
 use Rattle.s161.specs.declared.command.FilesTask.{FilesTask}
 use Rattle.s161.specs.declared.fault.Fault.{Fault}
 use Rattle.s161.specs.declared.fault.Fault.TheVariants.{Conf, File, Image, Input, Log, Memory, Output, Schedule, Source, Threads}
+use Rattle.s161.specs.Known.{OfKnown}
 
--- What `replay` prints and answers.
+-- The output and the exit status of `replay`.
 
 abbrev pub verdict_text : Verdict → List ℕ
 verdict_text Agrees = codes "agrees"
@@ -24,8 +25,11 @@ abbrev pub status_of_verdict : Verdict → ℕ
 status_of_verdict Agrees = 0
 status_of_verdict (Differs k) = 4
 
--- a replay that was finished: what it prints and its exit status, where the files of the image and the log have these bytes, as far as they are known
-pub record IsReplay (task : FilesTask) (image : Option (List ℕ)) (log : Option (List ℕ)) (text : List ℕ) (status : ℕ) : Type 0 where
+-- a finished replay: what it prints and its exit status; the files of the image and the log have
+-- these bytes, as far as they are known
+pub record IsReplayed
+    (task : FilesTask) (image : Option (List ℕ)) (log : Option (List ℕ))
+    (text : List ℕ) (status : ℕ) : Type 0 where
   pub file : List ℕ
   pub is_file : IfSome image (λ bytes. file ≡ bytes)
   pub booted : History
@@ -39,7 +43,7 @@ pub record IsReplay (task : FilesTask) (image : Option (List ℕ)) (log : Option
   pub text_is : text ≡ ended (verdict_text verdict)
   pub status_is : status ≡ status_of_verdict verdict
 
--- a text is no log, by its first bad line; or memory was refused
+-- a text isn't a log, by its first bad line; or memory was refused
 abbrev pub IsLogFault : List ℕ → Fault → Type 0
 IsLogFault text (Log n) = FirstBad AreLogLines text n
 IsLogFault text Memory = Unit {0}
@@ -47,16 +51,18 @@ IsLogFault text _ = ⊥
 
 -- a file has a log
 abbrev pub HasLog : Option (List ℕ) → Type 0
-HasLog log = (text : List ℕ) × IfSome log (λ bytes. text ≡ bytes) × ((entries : List Entry) × IsLog text entries)
+HasLog log = OfKnown log (λ text. (entries : List Entry) × IsLog text entries)
 
--- a replay is ended by this fault, and by none before it: of the image's file, the log's file, the log, the configuration, the image; or memory was refused
+-- a replay is ended by this fault, and there was no fault before it in this order: of the image's
+-- file, the log's file, the log, the configuration, the image; or memory was refused
 abbrev pub IsReplayFault : FilesTask → Option (List ℕ) → Option (List ℕ) → Fault → Type 0
-IsReplayFault task image log (File name) = (name.now ≡ task.image.now) ⊎ (name.now ≡ task.text.now)
+IsReplayFault task image log (File name) =
+    (name.now ≡ task.image.now) ⊎ (name.now ≡ task.text.now)
 IsReplayFault task image log (Log n) =
-    (text : List ℕ) × IfSome log (λ bytes. text ≡ bytes) × FirstBad AreLogLines text n
+    OfKnown log (λ text. FirstBad AreLogLines text n)
 IsReplayFault task image log Conf = HasLog log × (is_within_limits task.conf ≡ false)
 IsReplayFault task image log (Image e) =
-    HasLog log × ((file : List ℕ) × IfSome image (λ bytes. file ≡ bytes) × (boot_fault file task.conf ≡ Some (Load e)))
+    HasLog log × OfKnown image (λ file. boot_fault file task.conf ≡ Some (Load e))
 IsReplayFault task image log Memory = Unit {0}
 IsReplayFault task image log (Schedule n) = ⊥
 IsReplayFault task image log Input = ⊥

@@ -19,8 +19,9 @@ use Rattle.s161.specs.declared.events.Stop.{Stop}
 use Rattle.s161.specs.declared.events.Stop.TheVariants.{Off, End, Refused}
 use Rattle.s161.specs.declared.fault.Fault.{Fault}
 use Rattle.s161.specs.declared.fault.Fault.TheVariants.{Conf, File, Image, Input, Log, Memory, Output, Schedule, Source, Threads}
+use Rattle.s161.specs.Known.{OfKnown}
 
--- What `run` makes, prints and answers.
+-- The events, the output and the exit status of `run`.
 
 -- event k of these is refused in this state
 abbrev pub IsRefusedAt : List Event → ℕ → State → Refusal → Type 0
@@ -30,14 +31,16 @@ IsRefusedAt events k s refusal = IsSomeAnd (slice_get events k) (λ e. Refuses (
 abbrev pub IsSwitchedOff : History → History → Type 0
 IsSwitchedOff m n = (m.state.board.off ≡ false) × (n.state.board.off ≡ true)
 
--- why so many of these events were made of m, which left n, and no more: they switched it off; or they didn't, and there are no more, or the next is refused
+-- why this many of these events were made of m, which left n, and no more: they switched the
+-- machine off; or they didn't, and there are no more, or the next is refused
 abbrev pub Stops : History → List Event → ℕ → Stop → History → Type 0
 Stops m events made Off n = IsSwitchedOff m n
 Stops m events made End n = (n.state.board.off ≡ m.state.board.off) × (made ≡ length events)
 Stops m events made (Refused k refusal) n =
     (n.state.board.off ≡ m.state.board.off) × (made ≡ k) × IsRefusedAt events k n.state refusal
 
--- of a machine the first of these events are made, which leave n, until one switches it off or is refused
+-- the first of these events are made of a machine, until one switches it off or is refused, and
+-- leave n
 pub record Makes (m : History) (events : List Event) (stop : Stop) (n : History) : Type 0 where
   pub made : ℕ
   pub first : Continues m (take made events) n
@@ -48,7 +51,7 @@ abbrev pub lacking_end : Option ℕ → List ℕ
 lacking_end None = []
 lacking_end (Some last) = if last == 10 then [] else 10 ∷ []
 
--- what the console has sent, with a line end where that isn't empty and lacks one
+-- the bytes that the console has sent, with a line end if they aren't empty and lack one
 abbrev pub output_text : List ℕ → List ℕ
 output_text output = output ++ lacking_end (slice_get output (length output - 1))
 
@@ -69,9 +72,10 @@ abbrev pub stop_text : Stop → List ℕ
 stop_text Off = codes "stop: off"
 stop_text End = codes "stop: end"
 stop_text (Refused k refusal) =
-    codes "stop: refused" ␣ decimal k ␣ decimal (number_of_refusal refusal) ␣ name_of_refusal refusal
+    codes "stop: refused" ␣ decimal k ␣ decimal (number_of_refusal refusal)
+    ␣ name_of_refusal refusal
 
--- what `run` prints of a machine, and of its log where that is wanted
+-- what `run` prints of a machine, and of its log if that was asked for
 abbrev pub summary_text : History → Stop → Bool → List ℕ
 summary_text m stop show_log =
     output_text m.state.board.console.output
@@ -84,8 +88,11 @@ status_of Off = 0
 status_of (Refused k refusal) = 1
 status_of End = 3
 
--- a run that was finished: what it prints and its exit status, where the image's file and standard input have these bytes, as far as they are known
-pub record IsRun (task : RunTask) (known : Option (List ℕ)) (input : Option (List ℕ)) (text : List ℕ) (status : ℕ) : Type 0 where
+-- a finished run: what it prints and its exit status; the image's file and standard input have
+-- these bytes, as far as they are known
+pub record IsRun
+    (task : RunTask) (known : Option (List ℕ)) (input : Option (List ℕ))
+    (text : List ℕ) (status : ℕ) : Type 0 where
   pub file : List ℕ
   pub is_file : IfSome known (λ bytes. file ≡ bytes)
   pub booted : History
@@ -100,7 +107,7 @@ pub record IsRun (task : RunTask) (known : Option (List ℕ)) (input : Option (L
   pub text_is : text ≡ summary_text machine stop task.show_log
   pub status_is : status ≡ status_of stop
 
--- a text is no schedule, by its first bad line; or memory was refused
+-- a text isn't a schedule, by its first bad line; or memory was refused
 abbrev pub IsScheduleFault : List ℕ → Fault → Type 0
 IsScheduleFault text (Schedule n) = FirstBad AreScheduleLines text n
 IsScheduleFault text Memory = Unit {0}
@@ -108,18 +115,19 @@ IsScheduleFault text _ = ⊥
 
 -- an input or a file has a schedule
 abbrev pub HasSchedule : Option (List ℕ) → Type 0
-HasSchedule input = (text : List ℕ) × IfSome input (λ bytes. text ≡ bytes) × AreScheduleLines (lines_of text)
+HasSchedule input = OfKnown input (λ text. AreScheduleLines (lines_of text))
 
--- a run is ended by this fault, and by none before it: of the image's file, standard input, the schedule, the configuration, the image; or memory was refused
+-- a run is ended by this fault, and there was no fault before it in this order: of the image's
+-- file, standard input, the schedule, the configuration, the image; or memory was refused
 abbrev pub IsFaultOf : RunTask → Option (List ℕ) → Option (List ℕ) → Fault → Type 0
 IsFaultOf task known input (File name) = name.now ≡ task.image.now
 IsFaultOf task known input Input = Unit {0}
 IsFaultOf task known input (Schedule n) =
-    (text : List ℕ) × IfSome input (λ bytes. text ≡ bytes) × FirstBad AreScheduleLines text n
+    OfKnown input (λ text. FirstBad AreScheduleLines text n)
 IsFaultOf task known input (Log n) = ⊥
 IsFaultOf task known input Conf = HasSchedule input × (is_within_limits task.conf ≡ false)
 IsFaultOf task known input (Image e) =
-    HasSchedule input × ((file : List ℕ) × IfSome known (λ bytes. file ≡ bytes) × (boot_fault file task.conf ≡ Some (Load e)))
+    HasSchedule input × OfKnown known (λ file. boot_fault file task.conf ≡ Some (Load e))
 IsFaultOf task known input Memory = Unit {0}
 IsFaultOf task known input (Threads cause) = ⊥
 IsFaultOf task known input (Source e) = ⊥

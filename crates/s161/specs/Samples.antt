@@ -8,36 +8,36 @@ use Rattle.m161_elf.specs.Written.{elf_bytes}
 
 -- The image whose name is `@sample`: a kernel of two processors.
 
--- where it begins
+-- its entry
 abbrev pub sample_entry : ℕ
 sample_entry = 0x80000200
 
--- what a miss below 80000000 runs
+-- the handler of a miss below 80000000
 abbrev pub miss_words : List ℕ
 miss_words =
     0x3c1a8000 ∷ 0x8f5a3000 ∷ 0x409a1000 ∷ 0x42000006 ∷ 0x401b7000 ∷ 0x03600008 ∷ 0x42000010 ∷ []
 
--- what every other trap runs
+-- the handler of every other trap
 abbrev pub trap_words : List ℕ
 trap_words =
-    0x42000008 ∷ 0x40180000 ∷ 0x40195000 ∷ 0x07000007 ∷ 0x0018c100 ∷ 0x3c1a8000 ∷ 0x031ac025 ∷ 0x40985000
-    ∷ 0x40801000 ∷ 0x42000002 ∷ 0x40995000 ∷ 0x3c1abfff ∷ 0x375a8400 ∷ 0xaf400004 ∷ 0x3c1a8000 ∷ 0x241b0001
-    ∷ 0xaf5b3008 ∷ 0x401b7000 ∷ 0x03600008 ∷ 0x42000010 ∷ []
+    0x42000008 ∷ 0x40180000 ∷ 0x40195000 ∷ 0x07000007 ∷ 0x0018c100 ∷ 0x3c1a8000 ∷ 0x031ac025
+    ∷ 0x40985000 ∷ 0x40801000 ∷ 0x42000002 ∷ 0x40995000 ∷ 0x3c1abfff ∷ 0x375a8400 ∷ 0xaf400004
+    ∷ 0x3c1a8000 ∷ 0x241b0001 ∷ 0xaf5b3008 ∷ 0x401b7000 ∷ 0x03600008 ∷ 0x42000010 ∷ []
 
--- what processor 0 runs
+-- the code of processor 0
 abbrev pub first_words : List ℕ
 first_words =
-    0x3c088000 ∷ 0x34095600 ∷ 0xad093000 ∷ 0x3c0abfff ∷ 0x354b8400 ∷ 0x3c0c8000 ∷ 0x358c0280 ∷ 0xad6c0300
-    ∷ 0x340d0002 ∷ 0x354e7c00 ∷ 0xadcd0214 ∷ 0x8d0f300c ∷ 0x11e0fffe ∷ 0x00000000 ∷ 0x34096600 ∷ 0xad093000
-    ∷ 0xad6d0004 ∷ 0x8d0f3008 ∷ 0x11e0fffe ∷ 0x00000000 ∷ 0xad0d3004 ∷ 0x8d0f3010 ∷ 0x11e0fffe ∷ 0x00000000
-    ∷ 0xadc00208 ∷ []
+    0x3c088000 ∷ 0x34095600 ∷ 0xad093000 ∷ 0x3c0abfff ∷ 0x354b8400 ∷ 0x3c0c8000 ∷ 0x358c0280
+    ∷ 0xad6c0300 ∷ 0x340d0002 ∷ 0x354e7c00 ∷ 0xadcd0214 ∷ 0x8d0f300c ∷ 0x11e0fffe ∷ 0x00000000
+    ∷ 0x34096600 ∷ 0xad093000 ∷ 0xad6d0004 ∷ 0x8d0f3008 ∷ 0x11e0fffe ∷ 0x00000000 ∷ 0xad0d3004
+    ∷ 0x8d0f3010 ∷ 0x11e0fffe ∷ 0x00000000 ∷ 0xadc00208 ∷ []
 
--- what processor 1 runs
+-- the code of processor 1
 abbrev pub second_words : List ℕ
 second_words =
-    0x34080140 ∷ 0x40885000 ∷ 0x34080801 ∷ 0x3c090040 ∷ 0x3c0a8000 ∷ 0x340c0001 ∷ 0x8d2b0000 ∷ 0xad4c300c
-    ∷ 0x8d2b0000 ∷ 0x40886000 ∷ 0x40806000 ∷ 0x1160fffc ∷ 0x00000000 ∷ 0xad4b3010 ∷ 0x42000020 ∷ 0x1000fffe
-    ∷ 0x00000000 ∷ []
+    0x34080140 ∷ 0x40885000 ∷ 0x34080801 ∷ 0x3c090040 ∷ 0x3c0a8000 ∷ 0x340c0001 ∷ 0x8d2b0000
+    ∷ 0xad4c300c ∷ 0x8d2b0000 ∷ 0x40886000 ∷ 0x40806000 ∷ 0x1160fffc ∷ 0x00000000 ∷ 0xad4b3010
+    ∷ 0x42000020 ∷ 0x1000fffe ∷ 0x00000000 ∷ []
 
 -- the first word of the frame to which the page moves
 abbrev pub frame_words : List ℕ
@@ -45,8 +45,8 @@ frame_words = 7 ∷ []
 
 abbrev pub sample_segments : List Segment
 sample_segments =
-    (0x80000000, miss_words) ∷ (0x80000080, trap_words) ∷ (0x80000200, first_words) ∷ (0x80000280, second_words)
-    ∷ (0x80006000, frame_words) ∷ []
+    (0x80000000, miss_words) ∷ (0x80000080, trap_words) ∷ (0x80000200, first_words)
+    ∷ (0x80000280, second_words) ∷ (0x80006000, frame_words) ∷ []
 
 -- the sample is assembled, or memory was refused
 abbrev pub IsSample : Result Program AsmError → Type 0
@@ -56,6 +56,7 @@ IsSample (Err e) = e.kind ≡ NoMemory
 unfoldable pub sample_file : List ℕ
 sample_file = elf_bytes sample_entry sample_segments
 
--- the bytes of an image's file, where they are known: those of the sample by its name, else of the source of files
+-- the bytes of an image's file, if they are known: those of the sample by its name, else those of
+-- the source of files
 unfoldable pub image_file : (List ℕ → Option (List ℕ)) → List ℕ → Option (List ℕ)
 image_file known name = if bytes_eq name (codes "@sample") then Some sample_file else known name

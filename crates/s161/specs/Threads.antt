@@ -10,15 +10,19 @@ use Rattle.s161.specs.declared.events.Stop.TheVariants.{End, Off}
 use Rattle.s161.specs.declared.fault.Fault.{Fault}
 use Rattle.s161.specs.declared.fault.Fault.TheVariants.{Conf, File, Image, Input, Log, Memory, Output, Schedule, Source, Threads}
 use Rattle.s161.specs.Runs.{status_of, summary_text}
+use Rattle.s161.specs.Known.{OfKnown}
 
--- What `run --threads` makes, prints and answers.
+-- The Steps, the output and the exit status of `run --threads`.
 
 -- how a run in threads stopped, by whether the machine is off
 abbrev pub stop_of : Bool → Stop
 stop_of off = if off then Off else End
 
--- a run in threads that was finished, with this quota of Steps for each processor: what it prints and its exit status, where the image's file has these bytes, as far as they are known
-pub record IsRunInThreads (task : RunTask) (quota : ℕ) (known : Option (List ℕ)) (text : List ℕ) (status : ℕ) : Type 0 where
+-- a finished run in threads, with this quota of Steps for each processor: what it prints and its
+-- exit status; the image's file has these bytes, as far as they are known
+pub record IsRunInThreads
+    (task : RunTask) (quota : ℕ) (known : Option (List ℕ))
+    (text : List ℕ) (status : ℕ) : Type 0 where
   pub file : List ℕ
   pub is_file : IfSome known (λ bytes. file ≡ bytes)
   pub booted : History
@@ -30,18 +34,22 @@ pub record IsRunInThreads (task : RunTask) (quota : ℕ) (known : Option (List �
   pub text_is : text ≡ summary_text machine (stop_of off) task.show_log
   pub status_is : status ≡ status_of (stop_of off)
 
--- a cause of a run that isn't begun for this reason; or of one that is
+-- the cause of a run that doesn't begin for this reason; or of one that began
 abbrev pub IsCause : Option Cause → Cause → Type 0
 IsCause (Some first) cause = cause ≡ first
 IsCause None cause = IsOfRun cause
 
--- a run in threads is ended by this fault, and by none before it: of the image's file, the configuration, the image, the threads; or memory was refused
+-- a run in threads is ended by this fault, and there was no fault before it in this order: of the
+-- image's file, the configuration, the image, the threads of a machine that was booted; or memory
+-- was refused
 abbrev pub IsThreadsFault : RunTask → Option (List ℕ) → Fault → Type 0
 IsThreadsFault task known (File name) = name.now ≡ task.image.now
 IsThreadsFault task known Conf = is_within_limits task.conf ≡ false
 IsThreadsFault task known (Image e) =
-    (file : List ℕ) × IfSome known (λ bytes. file ≡ bytes) × (boot_fault file task.conf ≡ Some (Load e))
-IsThreadsFault task known (Threads cause) = IsCause (bad_call task.conf.processors task.conf.processors) cause
+    OfKnown known (λ file. boot_fault file task.conf ≡ Some (Load e))
+IsThreadsFault task known (Threads cause) =
+    OfKnown known (λ file. boot_fault file task.conf ≡ None)
+    × IsCause (bad_call task.conf.processors task.conf.processors) cause
 IsThreadsFault task known Memory = Unit {0}
 IsThreadsFault task known (Schedule n) = ⊥
 IsThreadsFault task known (Log n) = ⊥

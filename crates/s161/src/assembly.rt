@@ -1,4 +1,4 @@
-//! An assembly text to an ELF file.
+//! Assembling a text into an ELF file.
 
 ghost use Rattle.std.specs.Prelude.{IfErr, IfOk};
 ghost use Rattle.s161.specs.Assemblies.{IsAssembly, IsUnassembled};
@@ -11,7 +11,7 @@ use std::alloc::Global;
 /// The ELF file of an assembly text's program.
 ///
 /// # Errors
-/// The first fault of the text; memory was refused.
+/// The first fault of the text; or memory was refused.
 pub fn assembly<'a>(alloc: Global, source: &str) -> Result<Vec<u8>, Fault<'a>>
     ensures ok { IfOk result (λ file. IsAssembly source.now file.items) }
     ensures fault { IfErr result (IsUnassembled source.now) }

@@ -10,26 +10,26 @@ use m161_machine::Conf;
 use std::alloc::{AllocError, Global};
 use std::convert::AsStr;
 
-/// A command, with its words read.
+/// The task of a command line.
 #[derive(Clone, Copy)]
 pub enum Task<'a> {
-    /// The built-in image.
+    /// Run the built-in image.
     Demo,
-    /// An image, under a schedule.
+    /// Run an image under a schedule.
     Run(RunTask<'a>),
-    /// An image, in threads, each of which makes so many Steps.
+    /// Run an image in threads, each of which makes this number of Steps.
     RunInThreads(RunTask<'a>, u32),
-    /// An image, against a log.
+    /// Replay an image against a log.
     Replay(FilesTask<'a>),
-    /// An image, under a schedule and a debugger's commands.
+    /// Debug an image under a schedule.
     Debug(FilesTask<'a>),
-    /// An assembly text, to its file.
+    /// Assemble a text into its file.
     Assemble,
-    /// The listing of the image of this name.
+    /// List the instructions of the image of this name.
     Disassemble(&'a str),
 }
 
-/// What `run` is asked for.
+/// The arguments of `run`.
 #[derive(Clone, Copy)]
 pub struct RunTask<'a> {
     /// The image's name.
@@ -40,7 +40,7 @@ pub struct RunTask<'a> {
     pub show_log: bool,
 }
 
-/// What a command over an image and a text is asked for.
+/// The arguments of a command over an image and a text.
 #[derive(Clone, Copy)]
 pub struct FilesTask<'a> {
     /// The image's name.
@@ -51,10 +51,10 @@ pub struct FilesTask<'a> {
     pub conf: Conf,
 }
 
-/// What an image is.
+/// The help of the argument IMAGE.
 const IMAGE_HELP: &str = "An ELF file, or @sample, the built-in kernel of two processors";
 
-/// What the help of the program ends with.
+/// The end of the program's help.
 const AFTER_HELP: &str = "\
 Exit status:
   0  a finished demo, debug, as or dis, a machine that switched itself off, or
@@ -64,7 +64,7 @@ Exit status:
   3  the schedule or the Steps of the threads ended
   4  a log that differs";
 
-/// What the help of `run` ends with.
+/// The end of the help of `run`.
 const AFTER_RUN_HELP: &str = "\
 The schedule is read from standard input, an event a line:
   s P [N]  N Steps of processor P, 1 to 1000000; one where N is left out
@@ -84,7 +84,7 @@ Exit status:
 Example:
   printf 's 0 1000\\nk 41\\ns 0 1000\\n' | s161 run kernel.elf --show-log";
 
-/// What the help of `replay` ends with.
+/// The end of the help of `replay`.
 const AFTER_REPLAY_HELP: &str = "\
 The log is what run --show-log prints from its line `m161 log 1` on, without the last line. The
 answer is `agrees`, or `differs K` where entry K, from 0, is the first that another run makes
@@ -95,7 +95,7 @@ Exit status:
   1  a fault, named on standard error
   4  the log differs";
 
-/// What the help of `debug` ends with.
+/// The end of the help of `debug`.
 const AFTER_DEBUG_HELP: &str = "\
 The schedule is that of run, in a file. The commands are read from standard input, one a line:
   b P ADDR  d P ADDR   sets or deletes a breakpoint of processor P
@@ -112,7 +112,7 @@ Exit status:
 Example:
   printf 'b 0 80000208\\ng\\nr 0\\n' | s161 debug kernel.elf schedule";
 
-/// What the help of `as` ends with.
+/// The end of the help of `as`.
 const AFTER_AS_HELP: &str = "\
 The text is read from standard input, and its ELF file is written to standard output. A fault is
 `s161: source LINE:COLUMN N Name`.
@@ -120,7 +120,7 @@ The text is read from standard input, and its ELF file is written to standard ou
 Example:
   s161 as < kernel.s > kernel.elf";
 
-/// What the help of `dis` ends with.
+/// The end of the help of `dis`.
 const AFTER_DIS_HELP: &str = "\
 For each segment that is loaded, a line a word: its address, the word, and its assembly text. The
 image is loaded into 16777216 bytes of RAM.";
@@ -173,7 +173,7 @@ fn threads_option<'a>(alloc: Global) -> Arg<'a>
         .default_value("0")
 }
 
-// A command with the options of a machine's size too.
+// A command, with the options of a machine's size added.
 fn with_size<'a>(alloc: Global, command: Command<'a>) -> Result<Command<'a>, AllocError>
     ensures shape { IsLocal command.entry
         → IfOk result (λ more. app_of more ≡ sized (app_of command.entry)) }
@@ -304,7 +304,7 @@ fn size_given<'a>(given: &ArgMatches<'a>) -> Conf
     }
 }
 
-// What the words of `run` ask for.
+// The arguments of `run`.
 fn run_task_of<'a>(given: &ArgMatches<'a>) -> RunTask<'a>
     ensures { AsksRun (rows_of (found_of given.now)) result }
 {
@@ -315,7 +315,7 @@ fn run_task_of<'a>(given: &ArgMatches<'a>) -> RunTask<'a>
     }
 }
 
-// What the words of `run` ask for, in threads or not.
+// The task of the words of `run`, in threads or not.
 fn task_of_run<'a>(given: &ArgMatches<'a>) -> Task<'a>
     ensures { IsRunTask (rows_of (found_of given.now)) result }
 {
@@ -326,7 +326,7 @@ fn task_of_run<'a>(given: &ArgMatches<'a>) -> Task<'a>
     }
 }
 
-// What the words of a command over an image and a text ask for; `text` is the argument's name.
+// The arguments of a command over an image and a text; `text` is the name of the second one.
 fn files_task_of<'a>(given: &ArgMatches<'a>, text: &str) -> FilesTask<'a>
     ensures { AsksFiles text.now (rows_of (found_of given.now)) result }
 {
@@ -337,7 +337,7 @@ fn files_task_of<'a>(given: &ArgMatches<'a>, text: &str) -> FilesTask<'a>
     }
 }
 
-// What the words of a command line ask for.
+// The task of the words of a command line.
 fn task_of<'a>(matches: &ArgMatches<'a>) -> Task<'a>
     ensures { IsTask (subcommand_rows_of matches.now) result }
 {

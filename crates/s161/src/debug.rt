@@ -1,4 +1,4 @@
-//! An image and a schedule, under a debugger's commands.
+//! Debugging an image under a schedule.
 
 ghost use Rattle.std.specs.Prelude.{◌≡◌, [], IfErr, IfOk, drop, string_bytes};
 ghost use Rattle.m161_steplog.specs.Lines.{lines_of};
@@ -19,7 +19,7 @@ use std::alloc::{AllocError, Global};
 use std::fmt::Write;
 use std::io::Read;
 
-/// Reads the image, the schedule and then the commands, boots the image, and does the commands,
+/// Reads the image, the schedule and then the commands, boots the image, and executes the commands,
 /// one a line, over the schedule's events.
 ///
 /// # Errors
@@ -43,7 +43,7 @@ pub fn debug<'a, F: FileSource, I: Read>(
     let commands = read_input(alloc, input)?;
     let events = events_of(alloc, schedule.as_str())?;
     let machine = Machine::boot(alloc, &file, task.conf)?;
-    let mut session = Session::new(alloc, machine);
+    let mut session = Session::new(machine);
     let text = do_lines(alloc, &mut session, &events, commands.as_str())?;
     Ok(Finished {
         text: Vec::from_slice(alloc, text.as_bytes())?,
@@ -51,7 +51,7 @@ pub fn debug<'a, F: FileSource, I: Read>(
     })
 }
 
-// Does the commands of a text, one a line. What they print.
+// Executes the commands of a text, one a line. Returns what they print.
 fn do_lines(
     alloc: Global,
     session: &mut Session,
@@ -71,8 +71,8 @@ fn do_lines(
     Ok(text)
 }
 
-// Does the command of a line, and appends what it prints, or the line of its error. The events
-// that are left.
+// Executes the command of a line, and appends what it prints, or the line of its error. Returns the
+// remaining events.
 fn do_line<'a>(
     session: &mut Session,
     line: &str,

@@ -46,6 +46,6 @@ pub fn demo<'a>(alloc: Global) -> Result<String, Fault<'a>>
 {
     let mut machine = Machine::boot(alloc, &IMAGE, CONF)?;
     let _ = machine.steps(0, STEPS);
-    let session = Session::new(alloc, machine);
+    let session = Session::new(machine);
     Ok(session.show_regs(0)?)
 }

@@ -1,4 +1,4 @@
-//! The instructions of a file, a line each.
+//! The listing of a file's instructions.
 
 ghost use Rattle.std.specs.Prelude.{◌≡◌, ◌+◌, ◌<◌, ◌≤◌, ◌^◌, ◌++◌, true, length, string_bytes, IfErr, IfOk, OnOk};
 ghost use Rattle.m161_elf.specs.Image.{is_in_ram};
@@ -14,7 +14,7 @@ use m161_steplog::Word;
 use std::alloc::{AllocError, Global};
 use std::fmt::Write;
 
-/// The bytes of RAM into which a file is loaded: as many as a machine can have.
+/// The bytes of RAM into which a file is loaded: the most that a machine can have.
 const RAM: u32 = 16_777_216;
 
 /// The listing of an ELF file: for each segment, in the order of the program headers, a line for
@@ -22,7 +22,7 @@ const RAM: u32 = 16_777_216;
 /// address, the word that loading leaves there, and its text.
 ///
 /// # Errors
-/// The first fault of the file; memory was refused.
+/// The first fault of the file; or memory was refused.
 pub fn disassembly<'a>(alloc: Global, file: &[u8]) -> Result<String, Fault<'a>>
     ensures ok { IfOk result (λ text. IsListing file.now (string_bytes text)) }
     ensures fault { IfErr result (IsUnlisted file.now) }
@@ -75,7 +75,7 @@ fn write_word(alloc: Global, text: &mut String, memory: &[u8], at: u32) -> Resul
     write_code(alloc, text, code_at(memory, at), at)
 }
 
-// The word that an address in kseg0 or kseg1 names.
+// The word at an address in kseg0 or kseg1.
 fn code_at(memory: &[u8], at: u32) -> u32
     requires { is_in_ram (length memory.now) at 4 ≡ true }
     ensures { result ≡ code_word memory.now at }

@@ -1,4 +1,4 @@
-//! The events of a schedule, made on a machine.
+//! Making the events of a schedule on a machine.
 
 ghost use Rattle.std.specs.Prelude.{◌≡◌, ◌<◌, ◌≤◌, MatchOption, Some, length, replicate, slice_get, take};
 ghost use Rattle.m161_machine.specs.declared.event.Event.TheVariants.{Step};
@@ -9,14 +9,14 @@ use crate::Machine;
 use m161_machine::{Event, Refusal};
 use std::fmt;
 
-/// Why no more events are made.
+/// Why no more events were made.
 #[derive(Clone, Copy, Debug, PartialEq, Eq, Drop)]
 pub enum Stop {
     /// The last one switched the machine off.
     Off,
-    /// There are no more.
+    /// There were no more.
     End,
-    /// This event, counted from 0, is refused.
+    /// This event, counted from 0, was refused.
     Refused(usize, Refusal),
 }
 
@@ -54,7 +54,7 @@ pub fn make_events(machine: &mut Machine, events: &[Event]) -> Stop
     Stop::End
 }
 
-// Makes the first event and those that are Steps of the same processor after it: how many were
+// Makes the first event and the Steps of the same processor that follow it. Returns how many were
 // made, and why the next one wasn't.
 fn make_alike(machine: &mut Machine, events: &[Event]) -> (usize, Option<Refusal>)
     requires { 0 < length events.now }
@@ -75,7 +75,7 @@ fn make_alike(machine: &mut Machine, events: &[Event]) -> (usize, Option<Refusal
     }
 }
 
-// How many of the first events are Steps of a processor, as far as a `u32` counts.
+// How many of the first events are Steps of a processor, up to the limit of a `u32`.
 fn steps_ahead(events: &[Event], p: u32) -> u32
     requires { slice_get events.now 0 ≡ Some (Step p) }
     ensures alike { take result events.now ≡ replicate result (Step p) }

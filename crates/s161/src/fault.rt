@@ -80,7 +80,7 @@ impl<'a> From<BootError> for Fault<'a> {
     }
 }
 
-/// Why a schedule isn't read.
+/// The fault of a schedule that can't be read.
 pub fn fault_of_schedule<'a>(error: m161_steplog::Fault) -> Fault<'a>
     ensures { result ≡ fault_of_schedule error }
 {
@@ -90,7 +90,7 @@ pub fn fault_of_schedule<'a>(error: m161_steplog::Fault) -> Fault<'a>
     }
 }
 
-/// Why a log isn't read.
+/// The fault of a log that can't be read.
 pub fn fault_of_log<'a>(error: m161_steplog::Fault) -> Fault<'a>
     ensures { result ≡ fault_of_log error }
 {

@@ -1,4 +1,4 @@
-//! Where files come from.
+//! Sources of files.
 
 ghost use Rattle.std.specs.Prelude.{◌≡◌, ℕ, List, Option, None, IfOk, IfSome};
 
@@ -10,7 +10,7 @@ use std::rt::Files;
 
 /// A source of files.
 pub trait FileSource {
-    // The bytes of the file of a name, where they are known.
+    // The bytes of the file of a name, if they are known.
     ghost known: { Self → List ℕ → Option (List ℕ) } = { λ _ _. None };
 
     /// The bytes of the file of this name.

@@ -1,4 +1,4 @@
-//! Files and standard input, read whole.
+//! Reading files and standard input.
 
 ghost use Rattle.std.specs.Prelude.{◌≡◌, ◌≢◌, ◌⊎◌, ◌≤◌, ℕ, List, IfErr, IfOk, IfSome, length, string_bytes};
 ghost use Rattle.std.specs.IoError.{error_kind};
@@ -9,14 +9,14 @@ use std::alloc::Global;
 use std::io;
 use std::io::{ErrorKind, Read};
 
-/// The most bytes of an input, and the most calls that read it.
+/// The greatest number of bytes of an input, and of calls that read it.
 const LIMIT: usize = 33_554_432;
 
 /// The bytes of a reader, to its end.
 ///
 /// # Errors
-/// The reader's own; `FileTooLarge` where it has more than 33,554,432 bytes, or hasn't ended after
-/// as many calls; memory was refused.
+/// The reader's own; `FileTooLarge` if it has more than 33,554,432 bytes, or hasn't ended after
+/// that number of calls; or memory was refused.
 pub fn read_whole<R: Read>(alloc: Global, reader: &mut R) -> io::Result<Vec<u8>>
     ensures whole { IfOk result (λ bytes. IfSome (R.remaining reader.old) (λ known.
         bytes.items ≡ known)) }
@@ -44,7 +44,7 @@ pub fn read_whole<R: Read>(alloc: Global, reader: &mut R) -> io::Result<Vec<u8>>
 /// The bytes of a file.
 ///
 /// # Errors
-/// The file isn't read; memory was refused.
+/// The file can't be read; or memory was refused.
 pub fn read_file<'a, F: FileSource>(
     alloc: Global,
     files: &mut F,
@@ -64,7 +64,7 @@ pub fn read_file<'a, F: FileSource>(
 /// The text of a file.
 ///
 /// # Errors
-/// The file isn't read, or isn't UTF-8; memory was refused.
+/// The file can't be read, or isn't UTF-8; or memory was refused.
 pub fn read_text<'a, F: FileSource>(
     alloc: Global,
     files: &mut F,
@@ -81,7 +81,7 @@ pub fn read_text<'a, F: FileSource>(
 /// The text of standard input.
 ///
 /// # Errors
-/// It isn't read, or isn't UTF-8; memory was refused.
+/// It can't be read, or isn't UTF-8; or memory was refused.
 pub fn read_input<'a, I: Read>(alloc: Global, input: &mut I) -> Result<String, Fault<'a>>
     ensures whole { IfOk result (λ text. IfSome (I.remaining input.old) (λ known.
         string_bytes text ≡ known)) }
@@ -93,7 +93,7 @@ pub fn read_input<'a, I: Read>(alloc: Global, input: &mut I) -> Result<String, F
     }
 }
 
-// Why an input isn't read: memory was refused, or another fault.
+// Why an input can't be read: memory was refused, or another fault.
 fn fault_of_reading<'a>(error: &io::Error, other: Fault<'a>) -> Fault<'a>
     ensures memory { error_kind error.now ≡ ErrorKind.OutOfMemory → result ≡ Fault.Memory }
     ensures other { error_kind error.now ≢ ErrorKind.OutOfMemory → result ≡ other.entry }

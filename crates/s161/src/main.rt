@@ -10,17 +10,21 @@
 //! s161 replay IMAGE LOG   boots an ELF file, makes the events of a log, and prints whether their
 //!                         outcomes are the log's
 //! s161 debug IMAGE SCHEDULE
-//!                         boots an ELF file, and does a debugger's commands on standard input over
-//!                         the schedule's events
+//!                         boots an ELF file, and executes debugger commands from standard input
+//!                         over the schedule's events
+//! s161 as                 assembles the text on standard input, and writes its ELF file to
+//!                         standard output
+//! s161 dis IMAGE          prints the instructions of an ELF file's segments
 //!
-//! exit                    0 a finished demo or debug, a machine that switched itself off, or a log
-//!                         that agrees; 1 a fault, named in one line on standard error, or a
-//!                         refused event of run; 2 a rejected command line, and a call for help;
-//!                         3 the schedule or the Steps of the threads ended; 4 a log that differs
+//! exit                    0 a finished demo, debug, as or dis, a machine that switched itself off,
+//!                         or a log that agrees; 1 a fault, named in one line on standard error,
+//!                         or a refused event of run; 2 a rejected command line, or a call for
+//!                         help; 3 the schedule or the Steps of the threads ended; 4 a log that
+//!                         differs
 //! ```
 //!
-//! `main` only collects the arguments and names the streams; the work is in `work`, over any
-//! source of files, reader and writers.
+//! `main` only collects the arguments and passes the streams to `start`, which does all work over
+//! any source of files, reader and writers.
 #![tactic(auto)]
 
 ghost use Rattle.std.specs.Prelude.{◌≡◌, ◌≢◌, ◌⊎◌, IfErr};
@@ -79,7 +83,7 @@ fn arguments(rt: &HostRuntime) -> Result<Vec<String>, Fault<'static>>
     Ok(words.collect(rt.alloc())?)
 }
 
-// Why the words aren't read: one of them isn't UTF-8, or memory was refused.
+// Why the words can't be read: one of them isn't UTF-8, or memory was refused.
 fn fault_of_words(error: io::Error) -> Fault<'static>
     ensures input { error_kind error ≡ ErrorKind.InvalidData → result ≡ Fault.Input }
     ensures memory { error_kind error ≢ ErrorKind.InvalidData → result ≡ Fault.Memory }

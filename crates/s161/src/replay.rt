@@ -1,8 +1,8 @@
-//! A log, made once more.
+//! Replaying a log.
 
 ghost use Rattle.std.specs.Prelude.{◌≡◌, IfErr, IfOk, string_bytes};
 ghost use Rattle.m161_debug.specs.Shows.{ended};
-ghost use Rattle.s161.specs.Replays.{IsReplay, IsReplayFault, status_of_verdict, verdict_text};
+ghost use Rattle.s161.specs.Replays.{IsReplayed, IsReplayFault, status_of_verdict, verdict_text};
 ghost use Rattle.s161.specs.Samples.{image_file};
 
 use crate::command::FilesTask;
@@ -18,7 +18,7 @@ use m161_tlb_scan::Scan;
 use std::alloc::{AllocError, Global};
 
 /// Reads the image and then the log, boots the image, and makes the log's events until one is
-/// refused or has another outcome than its entry.
+/// refused or its outcome differs from its entry's.
 ///
 /// # Errors
 /// The first fault.
@@ -27,7 +27,7 @@ pub fn replay<'a, F: FileSource>(
     files: &mut F,
     task: FilesTask<'a>,
 ) -> Result<Finished, Fault<'a>>
-    ensures ok { IfOk result (λ done. IsReplay task.entry
+    ensures ok { IfOk result (λ done. IsReplayed task.entry
         (image_file (F.known files.old) task.entry.image.now)
         (F.known files.old task.entry.text.now) done.text.items done.status) }
     ensures fault { IfErr result (IsReplayFault task.entry
@@ -45,7 +45,7 @@ pub fn replay<'a, F: FileSource>(
     })
 }
 
-// What a verdict prints.
+// The text of a verdict.
 fn verdict_line(alloc: Global, verdict: Verdict) -> Result<String, AllocError>
     ensures { IfOk result (λ line. string_bytes line ≡ ended (verdict_text verdict)) }
 {

@@ -1,4 +1,4 @@
-//! An image, run under a schedule.
+//! Running an image under a schedule.
 
 ghost use Rattle.std.specs.Prelude.{◌≡◌, IfErr, IfOk};
 ghost use Rattle.s161.specs.Runs.{IsFaultOf, IsRun, status_of};
@@ -16,7 +16,7 @@ use crate::{Machine, Session};
 use std::alloc::Global;
 use std::io::Read;
 
-/// What a finished command prints, and its exit status.
+/// The text that a finished command prints, and its exit status.
 #[derive(Drop)]
 pub struct Finished {
     pub text: Vec<u8>,
@@ -45,7 +45,7 @@ pub fn run<'a, F: FileSource, I: Read>(
     let events = events_of(alloc, schedule.as_str())?;
     let mut machine = Machine::boot(alloc, &file, task.conf)?;
     let stop = make_events(&mut machine, &events);
-    let session = Session::new(alloc, machine);
+    let session = Session::new(machine);
     Ok(Finished {
         text: summary(alloc, &session, stop, task.show_log)?,
         status: status(stop),

@@ -139,7 +139,7 @@ pub fn sample_image<'a>(alloc: Global) -> Result<Vec<u8>, Fault<'a>>
 /// The bytes of an image: the sample by its name, `@sample`, or else those of a file.
 ///
 /// # Errors
-/// The file isn't read; memory was refused.
+/// The file can't be read; or memory was refused.
 #[tactic(auto, unfolding(crate::specs::Samples::image_file))]
 pub fn read_image<'a, F: FileSource>(
     alloc: Global,

@@ -1,4 +1,4 @@
-//! What `run` prints.
+//! The text that `run` prints.
 
 ghost use Rattle.std.specs.Prelude.{◌≡◌, ◌++◌, ◌<◌, length, IfOk, OnOk};
 ghost use Rattle.m161_steplog.specs.Log.{log_text};
@@ -10,7 +10,7 @@ use m161_machine::ProcessorState;
 use m161_steplog::write_log;
 use std::alloc::{AllocError, Global};
 
-/// The console's output, each started processor, the log where it is wanted, and why the events
+/// The console's output, each started processor, the log if it was asked for, and why the events
 /// ended.
 pub fn summary(
     alloc: Global,
@@ -34,7 +34,7 @@ pub fn summary(
     Ok(text)
 }
 
-// The bytes that the console has sent, and a line end where they lack one.
+// The bytes that the console has sent, with a line end if they lack one.
 fn push_output(text: &mut Vec<u8>, output: &[u8]) -> Result<(), AllocError>
     ensures { OnOk result (text.new.items ≡ text.old.items ++ output_text output.now) }
 {

@@ -1,4 +1,4 @@
-//! Texts, read as what they say.
+//! Reading the texts of schedules and logs.
 
 ghost use Rattle.std.specs.Prelude.{IfErr, IfOk};
 ghost use Rattle.m161_steplog.specs.Lines.{lines_of};

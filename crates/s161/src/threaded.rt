@@ -1,4 +1,4 @@
-//! An image, run in threads.
+//! Running an image in threads.
 
 ghost use Rattle.std.specs.Prelude.{◌≡◌, IfErr, IfOk, replicate};
 ghost use Rattle.s161.specs.Runs.{status_of, summary_text};
@@ -29,7 +29,7 @@ impl Gate for Open {
     }
 }
 
-/// Reads and boots the image, and gives each processor a thread that makes so many Steps, unless
+/// Reads and boots the image, and gives each processor a thread that makes `quota` Steps, unless
 /// the machine is switched off.
 ///
 /// # Errors
@@ -55,7 +55,7 @@ pub fn run_in_threads<'a, R: Threads + Wait + Sync, F: FileSource>(
         Ok(report) => report,
         Err(fault) => return Err(Fault::Threads(fault.cause)),
     };
-    let done = finished(alloc, report, task.show_log)?;
+    let done = finish(alloc, report, task.show_log)?;
     Ok(done)
 }
 
@@ -73,8 +73,8 @@ fn stop_of(off: bool) -> Stop
     if off { Stop::Off } else { Stop::End }
 }
 
-// What a report prints, and its exit status.
-fn finished<'a>(
+// The text that a report prints, and its exit status.
+fn finish<'a>(
     alloc: Global,
     report: Report<Scan, PlainConsole>,
     show_log: bool,
@@ -90,7 +90,7 @@ fn finished<'a>(
         off,
     } = report;
     let stop = stop_of(off);
-    let session = Session::new(alloc, machine);
+    let session = Session::new(machine);
     Ok(Finished {
         text: summary(alloc, &session, stop, show_log)?,
         status: status(stop),

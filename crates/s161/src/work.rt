@@ -8,7 +8,7 @@ ghost use Rattle.s161.specs.Commands.{IsAccepted};
 ghost use Rattle.s161.specs.Debugs.{IsDebug, IsDebugFault};
 ghost use Rattle.s161.specs.Demos.{IsDemo};
 ghost use Rattle.s161.specs.Listings.{IsDisassembled, IsListingFault};
-ghost use Rattle.s161.specs.Replays.{IsReplay, IsReplayFault};
+ghost use Rattle.s161.specs.Replays.{IsReplayed, IsReplayFault};
 ghost use Rattle.s161.specs.Runs.{IsFaultOf, IsRun};
 ghost use Rattle.s161.specs.Samples.{image_file};
 ghost use Rattle.s161.specs.Threads.{IsRunInThreads, IsThreadsFault};
@@ -34,8 +34,8 @@ use std::io::{Read, Write};
 use std::sync::Wait;
 use std::thread::Threads;
 
-/// The whole program: the work of a command line, or the fault of reading its words. The result
-/// is the exit status.
+/// The whole program: does the work of a command line, or reports the fault of reading its words.
+/// Returns the exit status.
 pub fn start<A, F, I, O, E>(
     rt: &A,
     words: Result<Vec<String>, Fault<'static>>,
@@ -66,10 +66,10 @@ where
     }
 }
 
-/// Does what a command line says. The result is the exit status: 0 a finished demo, debug, as or
-/// dis, a machine that switched itself off, or a log that agrees; 1 a fault, or a refused event of
-/// a run; 2 a rejected command line; 3 a schedule that ended, or the Steps of threads; 4 a log that
-/// differs. An output is made whole before it is written.
+/// Does the work of a command line. Returns the exit status: 0 for a finished demo, debug, as or
+/// dis, a machine that switched itself off, or a log that agrees; 1 for a fault, or a refused event
+/// of a run; 2 for a rejected command line; 3 if the schedule or the Steps of the threads ended; 4
+/// for a log that differs. The output is complete in memory before it is written.
 pub fn work<A, S, F, I, O, E>(
     rt: &A,
     words: &[S],
@@ -102,7 +102,7 @@ where
     }
 }
 
-// Does a task. The result is the exit status.
+// Does a task. Returns the exit status.
 fn do_task<'a, R: Threads + Wait + Sync, F: FileSource, I: Read, O: Write>(
     rt: &R,
     alloc: Global,
@@ -129,7 +129,7 @@ fn do_task<'a, R: Threads + Wait + Sync, F: FileSource, I: Read, O: Write>(
     }
 }
 
-// Prints the demo. The result is the exit status.
+// Prints the demo. Returns the exit status.
 fn do_demo<'a, O: Write>(alloc: Global, output: &mut O) -> Result<u8, Fault<'a>>
     ensures printed { IfOk result (λ _. Prints IsDemo
         (O.contents output.old) (O.contents output.new)) }
@@ -142,7 +142,7 @@ fn do_demo<'a, O: Write>(alloc: Global, output: &mut O) -> Result<u8, Fault<'a>>
     Ok(0)
 }
 
-// Runs an image, and prints what it did. The result is the exit status.
+// Runs an image, and prints the result. Returns the exit status.
 fn do_run<'a, F: FileSource, I: Read, O: Write>(
     alloc: Global,
     task: RunTask<'a>,
@@ -161,7 +161,7 @@ fn do_run<'a, F: FileSource, I: Read, O: Write>(
     print(output, run(alloc, files, input, task)?)
 }
 
-// Runs an image in threads, and prints what it did. The result is the exit status.
+// Runs an image in threads, and prints the result. Returns the exit status.
 fn do_threads<'a, R: Threads + Wait + Sync, F: FileSource, O: Write>(
     rt: &R,
     alloc: Global,
@@ -181,14 +181,14 @@ fn do_threads<'a, R: Threads + Wait + Sync, F: FileSource, O: Write>(
     print(output, run_in_threads(rt, alloc, files, task, quota)?)
 }
 
-// Replays a log, and prints the verdict. The result is the exit status.
+// Replays a log, and prints the verdict. Returns the exit status.
 fn do_replay<'a, F: FileSource, O: Write>(
     alloc: Global,
     task: FilesTask<'a>,
     files: &mut F,
     output: &mut O,
 ) -> Result<u8, Fault<'a>>
-    ensures printed { IfOk result (λ status. Prints (λ text. IsReplay task.entry
+    ensures printed { IfOk result (λ status. Prints (λ text. IsReplayed task.entry
         (image_file (F.known files.old) task.entry.image.now)
         (F.known files.old task.entry.text.now) text status)
         (O.contents output.old) (O.contents output.new)) }
@@ -201,7 +201,7 @@ fn do_replay<'a, F: FileSource, O: Write>(
     print(output, replay(alloc, files, task)?)
 }
 
-// Does a debugger's commands, and prints what they show. The result is the exit status.
+// Executes a debugger's commands, and prints what they show. Returns the exit status.
 fn do_debug<'a, F: FileSource, I: Read, O: Write>(
     alloc: Global,
     task: FilesTask<'a>,
@@ -222,7 +222,7 @@ fn do_debug<'a, F: FileSource, I: Read, O: Write>(
     print(output, debug(alloc, files, input, task)?)
 }
 
-// Assembles the text of standard input, and writes its file. The result is the exit status.
+// Assembles the text of standard input, and writes its file. Returns the exit status.
 fn do_as<'a, I: Read, O: Write>(
     alloc: Global,
     input: &mut I,
@@ -240,7 +240,7 @@ fn do_as<'a, I: Read, O: Write>(
     Ok(0)
 }
 
-// Prints the listing of an image. The result is the exit status.
+// Prints the listing of an image. Returns the exit status.
 fn do_dis<'a, F: FileSource, O: Write>(
     alloc: Global,
     image: &'a str,
@@ -261,7 +261,7 @@ fn do_dis<'a, F: FileSource, O: Write>(
     Ok(0)
 }
 
-// Prints what a finished command prints. The result is its exit status.
+// Prints the text of a finished command. Returns its exit status.
 fn print<'a, O: Write>(output: &mut O, finished: Finished) -> Result<u8, Fault<'a>>
     ensures status { IfOk result (λ status. status ≡ finished.status) }
     ensures printed { OnOk result (Appends (O.contents output.old) (O.contents output.new)
@@ -283,7 +283,7 @@ fn put<'a, O: Write>(output: &mut O, bytes: &[u8]) -> Result<(), Fault<'a>>
     }
 }
 
-/// Writes a fault's line on standard error. The result is the exit status.
+/// Writes a fault's line to standard error. Returns the exit status.
 pub fn report<E: Write>(fault: Fault<'_>, errors: &mut E) -> u8
     ensures { result ≡ 1 }
 {
@@ -291,7 +291,7 @@ pub fn report<E: Write>(fault: Fault<'_>, errors: &mut E) -> u8
     1
 }
 
-// Writes clap's text of a rejected command line. The result is the exit status.
+// Writes clap's text of a rejected command line. Returns the exit status.
 fn reject<O: Write, E: Write>(alloc: Global, error: &Error, output: &mut O, errors: &mut E) -> u8
     ensures rejected { result ≡ 2 → kind_of error.now ≢ ErrorKind.OutOfMemory }
     ensures within { (1 ≤ result) × (result ≤ 2) }
@@ -305,8 +305,8 @@ fn reject<O: Write, E: Write>(alloc: Global, error: &Error, output: &mut O, erro
     write_rejection(text.as_bytes(), !error.use_stderr(), output, errors)
 }
 
-// Writes a text on standard output where it is help, else on standard error. The result is the
-// exit status: 2 where all of it was written.
+// Writes a text to standard output if it is help, else to standard error. Returns the exit status:
+// 2 if all of it was written.
 fn write_rejection<O: Write, E: Write>(
     text: &[u8],
     is_help: bool,

@@ -2,7 +2,7 @@
 
 ghost use Rattle.std.specs.Prelude.{◌≡◌, ◌<◌, ◌≤◌};
 ghost use Rattle.m161_bus.specs.Board.{KeepsSize, board_done, board_key, lines_of, start_words};
-ghost use Rattle.m161_bus.specs.Outcome.{Leaves, LeavesUnlessNoMemory};
+ghost use Rattle.m161_bus.specs.Outcome.{LeavesUnlessRefused, LeavesUnlessNoMemory};
 
 use crate::board::{Board, StartWords, current_lines};
 use crate::console::{Console, DoneError, KeyFull};
@@ -24,7 +24,7 @@ impl<D: Console> Board<D> {
         self.lines[c as usize]
     }
 
-    /// CPUE: bit `c` is set where processor `c` was started.
+    /// CPUE: bit `c` is set if processor `c` was started.
     pub fn started(&self) -> u32
         ensures { result ≡ self.now.started }
     {
@@ -53,7 +53,7 @@ impl<D: Console> Board<D> {
         self.processors
     }
 
-    /// How processor `c` begins where CPUE starts it now.
+    /// How processor `c` begins if CPUE starts it now.
     pub fn start_words(&self, c: u32) -> StartWords
         requires { c < self.now.processors }
         ensures { result ≡ start_words c self.now }
@@ -82,7 +82,7 @@ impl<D: Console> Board<D> {
 
     /// Types a byte. Does not allocate.
     pub fn key(&mut self, byte: u8) -> Result<(), KeyFull>
-        ensures key { Leaves (board_key byte self.old) self.old result self.new }
+        ensures key { LeavesUnlessRefused (board_key byte self.old) self.old result self.new }
         ensures size { KeepsSize self.old self.new }
     {
         self.console.key(byte)?;

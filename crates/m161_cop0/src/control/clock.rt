@@ -1,4 +1,4 @@
-//! Random, Count and the timer, without work at each tick: they follow from the number of ticks.
+//! Random, Count and the timer, computed from the number of ticks, without work at each tick.
 
 ghost use Rattle.std.specs.Prelude.{◌≡◌, ◌+◌, ◌-◌, ◌^◌, ◌<◌, true};
 ghost use Rattle.m161_cop0.specs.Clock.{is_due, ticked, IsFire};
@@ -6,7 +6,7 @@ ghost use Rattle.m161_cop0.specs.Clock.{is_due, ticked, IsFire};
 use crate::control::{Cop0, internal_ip};
 
 impl Cop0 {
-    /// The end of a Step: Random falls by one, from 8 back to 63. Count rises by one; where it then
+    /// The end of a Step: Random falls by one, from 8 back to 63. Count rises by one; if it then
     /// equals a Compare that isn't zero, it becomes 0 and the timer's bit is set.
     #[tactic(auto, unfolding(crate::specs::Clock::ticked))]
     #[inline(always)]
@@ -49,8 +49,7 @@ impl Cop0 {
     }
 }
 
-// The age at which a tick brings Count to Compare; 0 where Compare is zero or no age is large
-// enough.
+// The age at which a tick brings Count to Compare; 0 if Compare is zero or that age doesn't fit.
 fn fire(age: u64, offset: u32, compare: u32) -> u64
     ensures { IsFire age offset compare result }
 {

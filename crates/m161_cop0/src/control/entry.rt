@@ -9,8 +9,8 @@ use crate::trap::Trap;
 
 impl Cop0 {
     /// Enters a trap: the current pair of Status goes to the previous one and the previous to the
-    /// old, EPC and Cause tell where and why, and BadVAddr, EntryHi and Context the address, where
-    /// the exception has one. Gives the address of the next instruction.
+    /// old, EPC and Cause get the place and the reason, and BadVAddr, EntryHi and Context the
+    /// address, if the exception has one. Returns the address of the next instruction.
     #[tactic(auto, unfolding(crate::specs::Trap::entered))]
     #[cold]
     #[inline(never)]
@@ -29,12 +29,12 @@ impl Cop0 {
             trap.pc
         };
         self.branch_delay = trap.slot;
-        self.unit = match trap.exception {
+        self.unit = match trap.code {
             Exception::CoprocessorUnusable => trap.unit % 4,
             _ => 0,
         };
-        self.code = trap.exception.number();
-        self.note_address(trap.exception, trap.address);
+        self.code = trap.code.number();
+        self.note_address(trap.code, trap.address);
         vector
     }
 
@@ -63,7 +63,7 @@ impl Cop0 {
         ensures value { result ≡ vector_of trap.now self.now }
         ensures place { IsVector result }
     {
-        let user_miss = match trap.exception {
+        let user_miss = match trap.code {
             Exception::TlbLoad | Exception::TlbStore => trap.user_miss,
             _ => false,
         };
@@ -82,13 +82,13 @@ impl Cop0 {
     {
         match exception {
             Exception::TlbModified | Exception::TlbLoad | Exception::TlbStore => {
-                self.bad_vaddr = address;
+                self.set_bad_vaddr(address);
                 self.entry_hi = address / (1 << 12) * (1 << 12) + self.entry_hi % (1 << 12);
                 self.context = self.context / (1 << 21) * (1 << 21)
                     + ((address >> 12) % (1 << 19) << 2);
             }
             Exception::AddressErrorLoad | Exception::AddressErrorStore => {
-                self.bad_vaddr = address;
+                self.set_bad_vaddr(address);
             }
             _ => {}
         }

@@ -6,7 +6,7 @@ ghost use Rattle.m161_cop0.specs.Control.{cause_of, identifier_of, im_of, index_
 use crate::control::Cop0;
 
 impl Cop0 {
-    /// An interrupt is up and not masked by IM, whatever IEc says; so a waiting processor goes on.
+    /// An interrupt is up and not masked by IM, whatever IEc is; so a waiting processor continues.
     /// `lines` is as for `read`.
     #[tactic(auto, unfolding(crate::specs::Control::is_pending))]
     pub fn pending(&self, lines: u32) -> bool
@@ -33,7 +33,7 @@ impl Cop0 {
         (self.status >> 1) % 2 == 1
     }
 
-    /// Coprocessor 0 may be used: in kernel mode, or where CU0 is set.
+    /// Coprocessor 0 may be used: in kernel mode, or if CU0 is set.
     #[tactic(auto, unfolding(crate::specs::Control::may_use_cop0))]
     pub fn may_use_cop0(&self) -> bool
         ensures { result ≡ may_use_cop0 self.now }
@@ -49,7 +49,7 @@ impl Cop0 {
         ((self.entry_hi >> 6) % 64) as u8
     }
 
-    /// Index's row, whatever P says.
+    /// Index's row, whatever P is.
     pub fn index_row(&self) -> u8
         ensures value { result ≡ index_row_of self.now }
         ensures small { result < 64 }

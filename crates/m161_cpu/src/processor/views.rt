@@ -18,8 +18,8 @@ impl<T: Tlb> Cpu<T> {
         self.registers[register.index()]
     }
 
-    /// A register of coprocessor 0, where the board's lines of this processor are these (Cause
-    /// shows them).
+    /// A register of coprocessor 0. `lines` are the board's lines of this processor, which Cause
+    /// shows.
     pub fn cop(&self, register: Register, lines: u32) -> u32
         ensures { result ≡ read_of (number_of_register register) lines self.now.control }
     {
@@ -48,14 +48,14 @@ impl<T: Tlb> Cpu<T> {
         self.lo
     }
 
-    /// The address of the present instruction.
+    /// The address of the current instruction.
     pub fn pc(&self) -> u32
         ensures { result ≡ self.now.pc }
     {
         self.pc
     }
 
-    /// Whether the present instruction is in a delay slot.
+    /// Whether the current instruction is in a delay slot.
     pub fn in_slot(&self) -> bool
         ensures { result ≡ self.now.slot }
     {
@@ -69,7 +69,7 @@ impl<T: Tlb> Cpu<T> {
         self.state
     }
 
-    /// How many Steps it has made, idle ones counted.
+    /// How many Steps it has made, idle ones included.
     pub fn count(&self) -> u64
         ensures { result ≡ self.now.count }
     {

@@ -14,7 +14,7 @@ use m161_tlb::Tlb;
 use std::alloc::{AllocError, Global};
 use std::fmt::Write;
 
-/// So many instructions from an address in kseg0 or kseg1 on, a line each.
+/// `n` instructions from an address in kseg0 or kseg1 on, a line each.
 #[tactic(auto, unfolding(crate::specs::Shows::show_code_text))]
 pub(crate) fn show_code<T: Tlb, D: Console>(
     alloc: Global,
@@ -34,19 +34,6 @@ pub(crate) fn show_code<T: Tlb, D: Console>(
     Ok(text)
 }
 
-/// Whether so many bytes from an address on are in RAM, by kseg0 or kseg1.
-pub(crate) fn is_code_there(memory: &[u8], address: u32, size: u32) -> bool
-    ensures { result ≡ is_in_ram (length memory.now) address size }
-{
-    match unmapped(address) {
-        Some(at) => {
-            let end = u64::from(at) + u64::from(size);
-            end <= memory.len() as u64 && end <= 0x2000_0000
-        }
-        None => false,
-    }
-}
-
 // The line of an address.
 fn write_code_at<T: Tlb, D: Console>(
     alloc: Global,
@@ -62,7 +49,7 @@ fn write_code_at<T: Tlb, D: Console>(
     write_code(alloc, text, code_at(machine, at), at)
 }
 
-// The word that an address in kseg0 or kseg1 names.
+// The word at an address in kseg0 or kseg1.
 fn code_at<T: Tlb, D: Console>(machine: &Machine<T, D>, at: u32) -> u32
     requires aligned { at % 4 ≡ 0 }
     requires inside { is_in_ram (length machine.now.state.memory) at 4 ≡ true }

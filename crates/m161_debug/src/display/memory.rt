@@ -12,7 +12,7 @@ use m161_tlb::Tlb;
 use std::alloc::{AllocError, Global};
 use std::fmt::Write;
 
-/// So many words from a physical address on, a line each.
+/// `n` words from a physical address on, a line each.
 #[tactic(auto, unfolding(crate::specs::Shows::show_mem_text))]
 pub(crate) fn show_mem<T: Tlb, D: Console>(
     alloc: Global,

@@ -121,15 +121,15 @@ fn write_registers<T: Tlb, D: Console>(
     ensures { OnOk result (string_bytes text.new ≡ string_bytes text.old
         ++ ended (registers_line (processor_at p machine.now.state.processors) i)) }
 {
-    let a = shown(machine, p, 4 * i);
-    let b = shown(machine, p, 4 * i + 1);
-    let c = shown(machine, p, 4 * i + 2);
-    let d = shown(machine, p, 4 * i + 3);
+    let a = shown_register(machine, p, 4 * i);
+    let b = shown_register(machine, p, 4 * i + 1);
+    let c = shown_register(machine, p, 4 * i + 2);
+    let d = shown_register(machine, p, 4 * i + 3);
     writeln!(text, "{a} {b} {c} {d}")
 }
 
 #[tactic(auto, unfolding(crate::specs::Shows::register_text))]
-fn shown<T: Tlb, D: Console>(machine: &Machine<T, D>, p: u32, number: u8) -> ShownRegister
+fn shown_register<T: Tlb, D: Console>(machine: &Machine<T, D>, p: u32, number: u8) -> ShownRegister
     requires processor { p < length machine.now.state.processors }
     requires register { number < 32 }
     ensures { named (codes "r" ++ decimal result.number) result.word

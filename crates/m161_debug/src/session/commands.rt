@@ -1,4 +1,4 @@
-//! What commands do to a session.
+//! The commands of a session.
 
 ghost use Rattle.std.specs.Prelude.{◌≡◌, ◌<◌, ◌≤◌, ◌++◌, ◌+◌, Bool, true, None, Some, Ok, List, length, nat_le, codes, decimal, string_bytes, string_capacity, string_len, IfOk, IsErr, OnErr, OnOk};
 ghost use Rattle.m161_machine.specs.declared.event.Event.{Event};
@@ -10,10 +10,10 @@ ghost use Rattle.m161_debug.specs.Obeys.{area_text, display_text, is_shown, is_t
 
 use crate::breakpoints::Breakpoint;
 use crate::command::{Area, Change, Command, CommandError, Display, command_of};
-use crate::display::is_code_there;
 use crate::room::{put, put_event, put_outcome, put_refusal, put_stop};
 use crate::session::Session;
 use m161_bus::Console;
+use m161_elf::is_in_ram;
 use m161_machine::Event;
 use m161_steplog::Word;
 use m161_tlb::Tlb;
@@ -24,11 +24,11 @@ use std::fmt::Write;
 const LONGEST: usize = 64;
 
 impl<T: Tlb, D: Console> Session<T, D> {
-    /// Does a command and appends what it prints; `rest` are the events that are left of a
-    /// schedule. How many of them are used up.
+    /// Does a command and appends what it prints; `rest` are the remaining events of a schedule.
+    /// Returns how many of them were used up.
     ///
     /// # Errors
-    /// The first that holds: the line's word is no command's; its arguments aren't the command's,
+    /// The first that holds: the line's word isn't a command's; its arguments aren't the command's,
     /// or are outside its limits; there is no such processor; there are 64 other breakpoints;
     /// memory was refused. Machine, breakpoints and text are unchanged then.
     pub fn command(
@@ -70,12 +70,12 @@ impl<T: Tlb, D: Console> Session<T, D> {
         ensures { IfOk result (λ line. string_bytes line
             ≡ ended (codes "break" ␣ decimal p ␣ word_text address)) }
     {
-        let mut line = String::new(self.alloc);
+        let mut line = String::new(self.machine.allocator());
         writeln!(line, "break {p} {}", Word(address))?;
         Ok(line)
     }
 
-    // Sets a breakpoint; the text first, since that alone may fail.
+    // Sets a breakpoint; the text first, since only that may fail.
     fn set(&mut self, p: u32, address: u32, text: &mut String) -> Result<usize, CommandError>
         ensures { (rest : List Event) → Obeys (Ok (commands.Breakpoint changes.Set p address))
             self.old rest result self.new (string_bytes text.old) (string_bytes text.new) }
@@ -124,7 +124,7 @@ impl<T: Tlb, D: Console> Session<T, D> {
         Ok(0)
     }
 
-    // Makes all events that are left; room for the text first.
+    // Makes all remaining events; room for the text first.
     fn go_all(&mut self, rest: &[Event], text: &mut String) -> Result<usize, CommandError>
         ensures { Obeys (Ok commands.Go) self.old rest.now result self.new
             (string_bytes text.old) (string_bytes text.new) }
@@ -133,10 +133,10 @@ impl<T: Tlb, D: Console> Session<T, D> {
         let stop = self.go(rest);
         put_stop(text, stop);
         put(text, "\n");
-        Ok(stop.used())
+        Ok(stop.events_used())
     }
 
-    // Makes the first of the events that are left.
+    // Makes the first of the remaining events.
     fn go_first(&mut self, n: u64, rest: &[Event], text: &mut String) -> Result<usize, CommandError>
         ensures { Obeys (Ok (commands.GoFirst n)) self.old rest.now result self.new
             (string_bytes text.old) (string_bytes text.new) }
@@ -183,7 +183,10 @@ impl<T: Tlb, D: Console> Session<T, D> {
             Area::Memory => {
                 u64::from(address) + 4 * u64::from(n) <= self.machine.memory().len() as u64
             }
-            Area::Code => is_code_there(self.machine.memory(), address, 4 * n),
+            Area::Code => {
+                self.machine.replay();
+                is_in_ram(self.machine.conf().ram, address, 4 * n)
+            }
         }
     }
 

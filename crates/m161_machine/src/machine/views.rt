@@ -1,4 +1,4 @@
-//! What a machine shows. No view allocates but `copy_log` and `copy_start`.
+//! The views of a machine. Only `copy_log` and `copy_start` allocate.
 
 ghost use Rattle.std.specs.Prelude.{◌≡◌, ◌≢◌, ◌<◌, true, false, Some, length, slice_get, slice_index, IfOk};
 ghost use Rattle.m161_bus.specs.Board.{lines_of};
@@ -44,7 +44,7 @@ impl<T: Tlb, D: Console> Machine<T, D> {
         self.processors[p as usize].lo()
     }
 
-    /// The address of a processor's present instruction.
+    /// The address of a processor's current instruction.
     pub fn pc(&self, p: u32) -> u32
         requires { p < length self.now.state.processors }
         ensures { result ≡ (processor_at p self.now.state.processors).pc }
@@ -52,7 +52,7 @@ impl<T: Tlb, D: Console> Machine<T, D> {
         self.processors[p as usize].pc()
     }
 
-    /// Whether a processor's present instruction is in a delay slot.
+    /// Whether a processor's current instruction is in a delay slot.
     pub fn in_slot(&self, p: u32) -> bool
         requires { p < length self.now.state.processors }
         ensures { result ≡ (processor_at p self.now.state.processors).slot }
@@ -68,7 +68,7 @@ impl<T: Tlb, D: Console> Machine<T, D> {
         self.processors[p as usize].state()
     }
 
-    /// How many Steps a processor has made, idle ones counted.
+    /// How many Steps a processor has made, idle ones included.
     pub fn count(&self, p: u32) -> u64
         requires { p < length self.now.state.processors }
         ensures { result ≡ (processor_at p self.now.state.processors).count }
@@ -76,7 +76,7 @@ impl<T: Tlb, D: Console> Machine<T, D> {
         self.processors[p as usize].count()
     }
 
-    /// The word at a physical address; `None` where it is misaligned or outside RAM.
+    /// The word at a physical address; `None` if it is misaligned or outside RAM.
     pub fn word(&self, address: u32) -> Option<u32>
         ensures { result ≡ word_in self.now.state.memory address }
     {
@@ -125,7 +125,7 @@ impl<T: Tlb, D: Console> Machine<T, D> {
         })
     }
 
-    /// Whether it was booted from the same as this; it does not allocate.
+    /// Whether it was booted from exactly this. Does not allocate.
     pub fn starts_as(&self, start: &Start) -> bool
         ensures yes { result ≡ true → self.now.start ≡ start.now }
         ensures no { result ≡ false → self.now.start ≢ start.now }

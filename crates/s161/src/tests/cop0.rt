@@ -8,7 +8,7 @@ use std::test::Fail;
 
 static CLOCK: [Run; 9] = [
     Run {
-        name: "Random",
+        name: "arithmetic: Random",
         ram: 4_096,
         processors: 1,
         entry: ENTRY,
@@ -30,7 +30,7 @@ static CLOCK: [Run; 9] = [
         ],
     },
     Run {
-        name: "Compare",
+        name: "arithmetic: Compare",
         ram: 4_096,
         processors: 1,
         entry: ENTRY,

@@ -12,7 +12,7 @@ use std::alloc::AllocError;
 use std::process::Abort;
 
 /// What a processor shows beside its registers: its state, count and slot; pc, HI and LO.
-fn shown(cpu: &Cpu<Scan>) -> (ProcessorState, u64, bool, [u32; 3]) {
+fn status_of(cpu: &Cpu<Scan>) -> (ProcessorState, u64, bool, [u32; 3]) {
     let words = [cpu.pc(), cpu.hi(), cpu.lo()];
     (cpu.state(), cpu.count(), cpu.in_slot(), words)
 }
@@ -54,18 +54,22 @@ fn one_processor(rt: HostRuntime) -> Result<(), AllocError> {
 
     let mut cpu = Cpu::new();
     let stopped = (ProcessorState::Stopped, 0, false, [0; 3]);
-    same(&rt, shown(&cpu), stopped);
+    same(&rt, status_of(&cpu), stopped);
     let outcome = step(&rt, &mut cpu, &mut ram, &mut board, &mut links);
     same(&rt, outcome, Outcome::Idle);
     let counted = (ProcessorState::Stopped, 1, false, [0; 3]);
-    same(&rt, shown(&cpu), counted);
+    same(&rt, status_of(&cpu), counted);
     same(&rt, registers(&cpu), expected);
 
     cpu.start(0x8000_0200, 0x11, 0xbfff_8000);
     expected[4] = 0x11;
     expected[29] = 0xbfff_8000;
     let start = [0x8000_0200, 0, 0];
-    same(&rt, shown(&cpu), (ProcessorState::Running, 1, false, start));
+    same(
+        &rt,
+        status_of(&cpu),
+        (ProcessorState::Running, 1, false, start),
+    );
     same(&rt, registers(&cpu), expected);
 
     // the first word; then its mask of bus lines, all set at boot; then a misaligned address
@@ -85,6 +89,10 @@ fn one_processor(rt: HostRuntime) -> Result<(), AllocError> {
         same(&rt, (pc, cpu.pc()), (pc, pc));
     }
     let end = [0x8000_0080, 0, 0];
-    same(&rt, shown(&cpu), (ProcessorState::Running, 4, false, end));
+    same(
+        &rt,
+        status_of(&cpu),
+        (ProcessorState::Running, 4, false, end),
+    );
     Ok(())
 }

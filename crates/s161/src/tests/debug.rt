@@ -5,8 +5,11 @@ use super::elf::file_from;
 use super::listing::{Answer, ENTRY, RAN, TAKEN};
 use super::same;
 use crate::Machine;
+use crate::sample::sample_image;
 use m161_console::PlainConsole;
 use m161_debug::{BreakError, CommandError, Stop};
+use m161_elf::is_in_ram;
+use m161_isa::Reg;
 use m161_machine::Event::{Done, Key, Step};
 use m161_machine::{Conf, Event, Refusal};
 use m161_tlb_scan::Scan;
@@ -15,6 +18,15 @@ use std::process::Abort;
 use std::test::Fail;
 
 type Session = m161_debug::Session<Scan, PlainConsole>;
+
+/// A display of processor 0, or of an address and a number of words.
+enum Display {
+    Regs,
+    Cop0,
+    Tlb,
+    Mem(u32, u32),
+    Code(u32, u32),
+}
 
 /// What is done to a session, and what it answers.
 enum Act {
@@ -32,9 +44,13 @@ enum Act {
     Bad(&'static str, CommandError),
     /// A command's text begins and ends with these.
     Shows(&'static str, &'static str, &'static str),
+    /// A display by its own call begins and ends with these.
+    Displays(Display, &'static str, &'static str),
+    /// A general register of processor 0, by its number.
+    Register(u8, u32),
 }
 
-use Act::{Bad, Delete, Go, Line, Make, Set, Shows};
+use Act::{Bad, Delete, Displays, Go, Line, Make, Register, Set, Shows};
 
 /// A session on a machine of 4,096 bytes.
 struct Scene {
@@ -54,13 +70,22 @@ const POWER_OFF: &[u32] = &[0x3c08_bfff, 0xad00_7e08];
 /// `lui $8, 0xbfe0`, `sw $8, 0($8)`: a byte for the console.
 const SEND: &[u32] = &[0x3c08_bfe0, 0xad08_0000];
 
+/// What `show_tlb` begins and ends with at the start, and `show_cop0`.
+const FIRST_ROWS: &str = "00 80000000 00000000\n01 80001000 00000000\n";
+
+const LAST_ROW: &str = "\n63 8003f000 00000000\n";
+
+const INDEX_AND_RANDOM: &str = "index 00000000\nrandom 00003f00\n";
+
+const PRID: &str = "\nprid 000000a1\n";
+
 const SEVEN: &[Event] = &[Step(0); 7];
 
 const FOUR: &[Event] = &[Step(0); 4];
 
 const ONE: &[Event] = &[Step(0); 1];
 
-static SCENES: [Scene; 9] = [
+static SCENES: [Scene; 15] = [
     Scene {
         name: "breakpoints",
         processors: 2,
@@ -69,13 +94,38 @@ static SCENES: [Scene; 9] = [
         acts: &[
             Set(0, ENTRY, Ok(())),
             Go(SEVEN, Stop::Break(3)),
+            Register(8, 1),
             Shows("r 0", "cpu 0 running pc 80000200\n", " lo 00000000\n"),
             Go(FOUR, Stop::Break(3)),
+            Register(8, 2),
             Go(ONE, Stop::End(1)),
+            Register(8, 3),
         ],
     },
     Scene {
-        name: "breakpoints: of another processor, in a delay slot",
+        name: "breakpoints: of another processor alone",
+        processors: 2,
+        entry: ENTRY,
+        words: LOOP,
+        acts: &[Set(1, ENTRY, Ok(())), Go(SEVEN, Stop::End(7))],
+    },
+    Scene {
+        name: "breakpoints: in a delay slot alone",
+        processors: 2,
+        entry: ENTRY,
+        words: LOOP,
+        acts: &[
+            Set(0, 0x8000_0208, Ok(())),
+            Go(SEVEN, Stop::Break(2)),
+            Displays(
+                Display::Regs,
+                "cpu 0 running pc 80000208 slot\nr0 00000000 ",
+                "\nhi 00000000 lo 00000000\n",
+            ),
+        ],
+    },
+    Scene {
+        name: "breakpoints: of another processor, then in a delay slot",
         processors: 2,
         entry: ENTRY,
         words: LOOP,
@@ -103,23 +153,69 @@ static SCENES: [Scene; 9] = [
         ],
     },
     Scene {
+        name: "displays",
+        processors: 1,
+        entry: ENTRY,
+        words: POWER_OFF,
+        acts: &[
+            Displays(
+                Display::Mem(0x200, 2),
+                "00000200 3c08bfff\n",
+                "00000204 ad007e08\n",
+            ),
+            Displays(
+                Display::Code(ENTRY, 2),
+                "80000200 3c08bfff lui $8, 0xbfff\n",
+                "80000204 ad007e08 sw $0, 32264($8)\n",
+            ),
+            Displays(Display::Tlb, FIRST_ROWS, LAST_ROW),
+            Displays(Display::Cop0, INDEX_AND_RANDOM, PRID),
+            Displays(
+                Display::Regs,
+                "cpu 0 running pc 80000200\nr0 00000000 ",
+                "\nhi 00000000 lo 00000000\n",
+            ),
+            Shows("t 0", FIRST_ROWS, LAST_ROW),
+            Shows("c 0", INDEX_AND_RANDOM, PRID),
+            Line("m 00000200 1", &[], 0, "00000200 3c08bfff\n"),
+            Bad("q", CommandError::Unknown),
+        ],
+    },
+    Scene {
+        name: "displays: a byte sent by a step",
+        processors: 1,
+        entry: ENTRY,
+        words: SEND,
+        acts: &[Make(Step(0), RAN), Make(Step(0), RAN), Make(Done, TAKEN)],
+    },
+    Scene {
+        name: "displays: a byte sent by a run",
+        processors: 1,
+        entry: ENTRY,
+        words: SEND,
+        acts: &[
+            Make(Step(0), RAN),
+            Make(Step(0), RAN),
+            Go(&[Done], Stop::End(1)),
+        ],
+    },
+    Scene {
+        name: "displays: a byte sent by a command",
+        processors: 1,
+        entry: ENTRY,
+        words: SEND,
+        acts: &[
+            Make(Step(0), RAN),
+            Make(Step(0), RAN),
+            Line("o", &[], 0, "o taken\n"),
+        ],
+    },
+    Scene {
         name: "power-off",
         processors: 1,
         entry: ENTRY,
         words: POWER_OFF,
         acts: &[
-            Shows(
-                "t 0",
-                "00 80000000 00000000\n01 80001000 ",
-                "\n63 8003f000 00000000\n",
-            ),
-            Shows(
-                "c 0",
-                "index 00000000\nrandom 00003f00\n",
-                "\nprid 000000a1\n",
-            ),
-            Line("m 00000200 1", &[], 0, "00000200 3c08bfff\n"),
-            Bad("q", CommandError::Unknown),
             Go(SEVEN, Stop::Off(1)),
             Go(SEVEN, Stop::Refused(0, Refusal::Off)),
             Go(&[], Stop::End(0)),
@@ -181,7 +277,7 @@ static SCENES: [Scene; 9] = [
         ],
     },
     Scene {
-        name: "code-and-watch: code",
+        name: "code of two words",
         processors: 1,
         entry: 0x8000_0248,
         words: &[0x11e0_fffe, 0x0000_0000],
@@ -252,12 +348,17 @@ static FAULTS: [(&str, CommandError); 38] = [
 
 fn session(alloc: Global, processors: u32, entry: u32, words: &[u32]) -> Result<Session, Fail> {
     let file = file_from(alloc, entry, entry, words)?;
+    session_of(alloc, file, 4_096, processors)
+}
+
+/// A session on the machine of a file.
+fn session_of(alloc: Global, file: Vec<u8>, ram: u32, processors: u32) -> Result<Session, Fail> {
     let conf = Conf {
-        ram: 4_096,
+        ram,
         processors,
         log: 100,
     };
-    Ok(Session::new(alloc, Machine::boot(alloc, &file, conf)?))
+    Ok(Session::new(Machine::boot(alloc, &file, conf)?))
 }
 
 /// Does a command behind a text that was there before: what it answers, whether what it appends
@@ -314,8 +415,56 @@ fn check_act(
             let (answer, fits, _) = command(rt.alloc(), session, line, SEVEN, first, last)?;
             same(rt, (name, *line, answer, fits), (name, *line, Ok(0), true));
         }
+        Displays(display, first, last) => {
+            let text = display_of(rt, session, display)?;
+            let fits = (text.starts_with(first), text.ends_with(last));
+            same(rt, (name, *first, fits), (name, *first, (true, true)));
+        }
+        Register(r, word) => {
+            let found = register_of(rt, session, *r);
+            same(rt, (name, *r, found), (name, *r, *word));
+        }
     }
     Ok(())
+}
+
+/// A general register of processor 0.
+fn register_of(rt: &impl Abort, session: &Session, r: u8) -> u32 {
+    assert!(rt; session.machine().processors() > 0);
+    session.machine().reg(0, Reg::new(r % 32))
+}
+
+/// The text of a display.
+fn display_of(
+    rt: &(impl Abort + AllocGlobal),
+    session: &Session,
+    display: &Display,
+) -> Result<String, Fail> {
+    assert!(rt; session.machine().processors() > 0);
+    Ok(match display {
+        Display::Regs => session.show_regs(0)?,
+        Display::Cop0 => session.show_cop0(0)?,
+        Display::Tlb => session.show_tlb(0)?,
+        Display::Mem(at, n) => words_of(rt, session, *at, *n)?,
+        Display::Code(at, n) => code_of(rt, session, *at, *n)?,
+    })
+}
+
+/// The text of `n` words of memory.
+fn words_of(rt: &impl Abort, session: &Session, at: u32, n: u32) -> Result<String, Fail> {
+    let size = session.machine().memory().len() as u64;
+    assert!(rt; at % 4 == 0);
+    assert!(rt; u64::from(at) + 4 * u64::from(n) <= size);
+    Ok(session.show_mem(at, n)?)
+}
+
+/// The text of `n` instructions.
+fn code_of(rt: &impl Abort, session: &Session, at: u32, n: u32) -> Result<String, Fail> {
+    assert!(rt; at % 4 == 0);
+    assert!(rt; n <= 1024);
+    session.machine().replay();
+    assert!(rt; is_in_ram(session.machine().conf().ram, at, 4 * n));
+    Ok(session.show_code(at, n)?)
 }
 
 #[test]
@@ -326,6 +475,30 @@ fn scenes(rt: HostRuntime) -> Result<(), Fail> {
             check_act(&rt, scene.name, &mut session, done)?;
         }
     }
+    Ok(())
+}
+
+#[test]
+fn code_and_watch(rt: HostRuntime) -> Result<(), Fail> {
+    let Ok(file) = sample_image(rt.alloc()) else {
+        same(&rt, "no sample", "");
+        return Ok(());
+    };
+    let session = session_of(rt.alloc(), file, 1_048_576, 2)?;
+    let text = code_of(&rt, &session, 0x8000_0248, 1)?;
+    same(
+        &rt,
+        text.as_str(),
+        "80000248 11e0fffe beq $15, $0, 0x80000244\n",
+    );
+    Ok(())
+}
+
+#[test]
+fn displays_one_word(rt: HostRuntime) -> Result<(), Fail> {
+    let session = session(rt.alloc(), 1, ENTRY, POWER_OFF)?;
+    let text = words_of(&rt, &session, 0x200, 1)?;
+    same(&rt, text.as_str(), "00000200 3c08bfff\n");
     Ok(())
 }
 
@@ -343,7 +516,7 @@ fn command_errors(rt: HostRuntime) -> Result<(), Fail> {
 }
 
 #[test]
-fn sixty_four_breakpoints(rt: HostRuntime) -> Result<(), Fail> {
+fn breakpoints_are_64_at_most(rt: HostRuntime) -> Result<(), Fail> {
     let mut session = session(rt.alloc(), 2, ENTRY, LOOP)?;
     for i in 0..64u32 {
         same(&rt, session.breakpoint(1, i), Ok(()));

@@ -1,9 +1,14 @@
 //! Files, and what they load as in 4,096 bytes of RAM.
 
+use super::listing::Left::{Count, Entries, Memory, Pc, Register};
+use super::listing::{ENTRY as START, Left, OFF, RAN, SMALLEST, Times, compare, make};
 use super::same;
+use crate::Machine;
 use crate::demo::IMAGE;
 use m161_asm::assemble;
 use m161_elf::{LoadError, load, write};
+use m161_machine::Event::Step;
+use m161_machine::Refusal;
 use m161_ram::Ram;
 use std::alloc::{AllocError, Global};
 use std::test::Fail;
@@ -98,6 +103,54 @@ pub(crate) fn file_from(
     Ok(file_of(alloc, &edits, words)?)
 }
 
+/// A program header, and the bytes that it has in the file.
+struct Part {
+    kind: u32,
+    address: u32,
+    memory_size: u32,
+    bytes: &'static [u8],
+}
+
+/// The types of program headers: a segment, and a note.
+const SEGMENT: u32 = 1;
+
+const NOTE: u32 = 4;
+
+/// A file that begins at `START`, with these program headers, and after them their bytes.
+fn file_of_parts(alloc: Global, parts: &[Part]) -> Result<Vec<u8>, Fail> {
+    let count = u32::try_from(parts.len())?;
+    let mut file = Vec::new(alloc);
+    for (place, word) in HEADERS.iter().take(13).enumerate() {
+        let word = match place {
+            ENTRY => START,
+            HEADER_COUNT => count << 16,
+            _ => *word,
+        };
+        file.extend_from_slice(&word.to_be_bytes())?;
+    }
+    let mut offset = count.wrapping_mul(32).wrapping_add(52);
+    for part in parts {
+        let size = u32::try_from(part.bytes.len())?;
+        for word in [
+            part.kind,
+            offset,
+            part.address,
+            part.address,
+            size,
+            part.memory_size,
+            7,
+            4,
+        ] {
+            file.extend_from_slice(&word.to_be_bytes())?;
+        }
+        offset = offset.wrapping_add(size);
+    }
+    for part in parts {
+        file.extend_from_slice(part.bytes)?;
+    }
+    Ok(file)
+}
+
 /// Where the first bytes of the demo's file begin, with some words of its headers changed.
 fn entry_of(
     alloc: Global,
@@ -109,9 +162,13 @@ fn entry_of(
     Ok(load(alloc, &file, 4096).map(|image| image.entry))
 }
 
-/// Whether so many bytes of the demo's segment stand at 0x200 when its file is loaded with some
-/// words of its headers changed, and how many bytes of memory aren't zero.
-fn loaded(alloc: Global, edits: &[(usize, u32)], length: usize) -> Result<(bool, usize), Fail> {
+/// Whether the first `length` bytes of the demo's segment are at 0x200 when its file is loaded with
+/// some words of its headers changed, and how many bytes of memory aren't zero.
+fn load_edited(
+    alloc: Global,
+    edits: &[(usize, u32)],
+    length: usize,
+) -> Result<(bool, usize), Fail> {
     let file = file_of(alloc, edits, &PROGRAM)?;
     let memory = load(alloc, &file, 4096)?.bytes;
     let stands = memory
@@ -178,6 +235,111 @@ fn image_refusals(rt: HostRuntime) -> Result<(), Fail> {
     Ok(())
 }
 
+/// A file with several program headers that is accepted, what is done then, and what is left.
+struct Accepted {
+    name: &'static str,
+    parts: &'static [Part],
+    /// The word at 0x200 after boot.
+    word: u32,
+    events: &'static [Times],
+    left: &'static [(u32, Left)],
+}
+
+/// `lui $8, 0xbfff`; `sw $0, 32264($8)`.
+const POWER_OFF: Part = Part {
+    kind: SEGMENT,
+    address: START,
+    memory_size: 8,
+    bytes: &[0x3c, 0x08, 0xbf, 0xff, 0xad, 0x00, 0x7e, 0x08],
+};
+
+/// The events of `power-off`.
+const TWO_STEPS: &[Times] = &[
+    (Step(0), 1, RAN),
+    (Step(0), 1, OFF),
+    (Step(0), 1, Err(Refusal::Off)),
+];
+
+const SWITCHED_OFF: &[(u32, Left)] = &[
+    (0, Count(2)),
+    (0, Entries(2)),
+    (0, Pc(0x8000_0208)),
+    (0, Register(8, 0xbfff_0000)),
+];
+
+static ACCEPTED: [Accepted; 4] = [
+    Accepted {
+        name: "image-refusals: the later of two segments",
+        parts: &[
+            Part {
+                kind: SEGMENT,
+                address: START,
+                memory_size: 4,
+                bytes: &[0x11, 0x22, 0x33, 0x44],
+            },
+            Part {
+                kind: SEGMENT,
+                address: 0xa000_0202,
+                memory_size: 2,
+                bytes: &[0x55],
+            },
+        ],
+        word: 0x1122_5500,
+        events: &[],
+        left: &[(0, Memory(0x204, 0)), (0, Pc(START)), (0, Entries(0))],
+    },
+    Accepted {
+        name: "image-refusals: a note before a segment",
+        parts: &[
+            Part {
+                kind: NOTE,
+                address: 0,
+                memory_size: 4,
+                bytes: &[0x6e, 0x6f, 0x74, 0x65],
+            },
+            POWER_OFF,
+        ],
+        word: 0x3c08_bfff,
+        events: TWO_STEPS,
+        left: SWITCHED_OFF,
+    },
+    Accepted {
+        name: "image-refusals: a note after a segment, at its address",
+        parts: &[
+            POWER_OFF,
+            Part {
+                kind: NOTE,
+                address: START,
+                memory_size: 0,
+                bytes: &[0x6e, 0x6f, 0x74, 0x65],
+            },
+        ],
+        word: 0x3c08_bfff,
+        events: TWO_STEPS,
+        left: SWITCHED_OFF,
+    },
+    Accepted {
+        name: "no program header",
+        parts: &[],
+        word: 0,
+        events: &[(Step(0), 1, RAN)],
+        left: &[(0, Memory(0, 0)), (0, Pc(0x8000_0204))],
+    },
+];
+
+#[test]
+fn image_refusals_accepted(rt: HostRuntime) -> Result<(), Fail> {
+    for row in &ACCEPTED {
+        let file = file_of_parts(rt.alloc(), row.parts)?;
+        let mut machine = Machine::boot(rt.alloc(), &file, SMALLEST)?;
+        let word = machine.word(0x200);
+        same(&rt, (row.name, word), (row.name, Some(row.word)));
+        make(&rt, row.name, &mut machine, row.events)?;
+        compare(&rt, row.name, &machine, row.left);
+    }
+    Ok(())
+}
+
 #[test]
 fn load_errors(rt: HostRuntime) {
     for &(error, number, name) in &[
@@ -220,7 +382,7 @@ fn segment_in_memory(rt: HostRuntime) -> Result<(), Fail> {
         (&[(FILE_SIZE, 4)], 4, 4),
     ];
     for (edits, length, written) in cases {
-        let found = loaded(rt.alloc(), edits, length)?;
+        let found = load_edited(rt.alloc(), edits, length)?;
         same(&rt, (edits, found), (edits, (true, written)));
     }
     Ok(())

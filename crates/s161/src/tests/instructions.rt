@@ -5,7 +5,7 @@
 use super::listing::Left::{Hi, Lo, Memory, Pc, Register};
 use super::listing::{
     ADDRESS_LOAD, ADDRESS_STORE, Answer, BREAKPOINT, BUS_DATA, ENTRY, LOAD_MISS, Left, OVERFLOW,
-    RAN, RESERVED, STORE_MISS, SYSCALL, UNUSABLE, found, last_step,
+    RAN, RESERVED, STORE_MISS, SYSCALL, UNUSABLE, last_step, part_of,
 };
 use super::same;
 use std::process::Abort;
@@ -343,7 +343,7 @@ fn leaves(
     for part in left {
         same(
             rt,
-            (text, operands, found(rt, &machine, 0, *part)),
+            (text, operands, part_of(rt, &machine, 0, *part)),
             (text, operands, *part),
         );
     }
@@ -386,7 +386,7 @@ fn loads_and_stores(rt: HostRuntime) -> Result<(), Fail> {
 }
 
 #[test]
-fn merges(rt: HostRuntime) -> Result<(), Fail> {
+fn arithmetic_merges(rt: HostRuntime) -> Result<(), Fail> {
     for &(text, word, register, memory) in &MERGES {
         // lui $16, 0x8000; ori $16, $16, 0x0400; sw $9, 0($16)
         let words = [0x3c10_8000, 0x3610_0400, 0xae09_0000, word];
@@ -425,7 +425,7 @@ fn stops(rt: HostRuntime) -> Result<(), Fail> {
             0x8000_0080
         };
         for left in [Register(8, 5), Pc(pc)] {
-            same(&rt, (text, found(&rt, &machine, 0, left)), (text, left));
+            same(&rt, (text, part_of(&rt, &machine, 0, left)), (text, left));
         }
     }
     Ok(())

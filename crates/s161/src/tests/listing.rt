@@ -1,17 +1,23 @@
 //! Worked rows: a program as a listing, its Steps, and what they leave.
 //!
-//! A `Row` runs on a machine of 4,096 bytes with one processor. All its Steps but the last have to
-//! execute an instruction; the last has the outcome that the row names. Where that isn't `RAN`,
-//! registers, HI, LO and memory have to be as before that Step, and where it is a refusal all else
-//! too. A `Run` names each event and its answer, on a machine of any size. The log of each has to
-//! agree with another machine of the same file. The words of `programs` are those of GNU as 2.40
-//! for mips-linux-gnu, the others were assembled from their texts without it. What they leave is
-//! worked out by hand from Kane's descriptions and this project's own rules.
+//! A `Worked` row runs on a machine of 4,096 bytes with one processor. All its Steps but the last
+//! have to execute an instruction; the last has the outcome that the row names. A `Run` names each
+//! event and its answer, on a machine of any size.
+//!
+//! In both forms a Step that traps or is idle has to leave the general registers, HI and LO of all
+//! processors and the memory as they were, and a refused event all that the views show, but for the
+//! TLB rows of other processors than 0. The log of each has to agree with another machine of the
+//! same file.
+//!
+//! The words of `programs` are those of GNU as 2.40 for mips-linux-gnu, the others were assembled
+//! from their texts without it. What they leave is worked out by hand from Kane's descriptions and
+//! this project's own rules.
 
 use super::elf::{file_at, file_from};
 use super::same;
 use crate::Machine;
 use m161_console::PlainConsole;
+use m161_cop0::REGISTERS;
 use m161_isa::Reg;
 use m161_machine::{
     Conf, Event, Exception, Outcome, ProcessorState, Refusal, Register as CopRegister,
@@ -26,7 +32,7 @@ use std::test::Fail;
 pub(crate) const ENTRY: u32 = 0x8000_0200;
 
 /// The smallest machine.
-const SMALLEST: Conf = Conf {
+pub(crate) const SMALLEST: Conf = Conf {
     ram: 4096,
     processors: 1,
     log: 100,
@@ -119,8 +125,8 @@ pub(crate) const OVERFLOW: Answer = Ok(Outcome::Trapped {
     vector: 0x8000_0080,
 });
 
-/// A worked row.
-pub(crate) struct Row {
+/// A worked row of Steps of one processor.
+pub(crate) struct Worked {
     pub name: &'static str,
     /// The address of its first word, where the processor starts.
     pub entry: u32,
@@ -168,7 +174,7 @@ pub(crate) enum Left {
     Hi(u32),
     Lo(u32),
     Pc(u32),
-    /// Whether the next instruction is in a delay slot.
+    /// Whether the present instruction is in a delay slot.
     Slot(bool),
     /// The word at a physical address.
     Memory(u32, u32),
@@ -188,14 +194,14 @@ pub(crate) enum Left {
 }
 
 /// Runs rows, and fails the test at the first that leaves something else.
-pub(crate) fn check(rt: &(impl Abort + AllocGlobal), rows: &[Row]) -> Result<(), Fail> {
+pub(crate) fn check(rt: &(impl Abort + AllocGlobal), rows: &[Worked]) -> Result<(), Fail> {
     for row in rows {
         let words = words_of(rt.alloc(), row.program)?;
         let machine = last_step(rt, row.name, row.entry, &words, row.steps, row.last)?;
         for left in row.left {
             same(
                 rt,
-                (row.name, found(rt, &machine, 0, *left)),
+                (row.name, part_of(rt, &machine, 0, *left)),
                 (row.name, *left),
             );
         }
@@ -209,7 +215,7 @@ pub(crate) fn check_runs(rt: &(impl Abort + AllocGlobal), runs: &[Run]) -> Resul
         let words = words_of(rt.alloc(), run.program)?;
         let file = file_from(rt.alloc(), run.entry, run.base, &words)?;
         let mut machine = boot_run(rt.alloc(), run, &file)?;
-        make_stages(rt, run.name, &mut machine, run.stages);
+        make_stages(rt, run.name, &mut machine, run.stages)?;
         check_log(rt, run.name, &file, &machine)?;
     }
     Ok(())
@@ -232,8 +238,8 @@ pub(crate) fn check_with(
     }
     let file = file_from(rt.alloc(), run.entry, run.base, &words)?;
     let mut machine = boot_run(rt.alloc(), run, &file)?;
-    make_stages(rt, text, &mut machine, run.stages);
-    make(rt, text, &mut machine, events);
+    make_stages(rt, text, &mut machine, run.stages)?;
+    make(rt, text, &mut machine, events)?;
     compare(rt, text, &machine, left);
     check_log(rt, text, &file, &machine)
 }
@@ -270,34 +276,177 @@ fn words_of(alloc: Global, program: &[(u32, &str)]) -> Result<Vec<u32>, Fail> {
     Ok(words)
 }
 
-fn make_stages(rt: &impl Abort, name: &str, machine: &mut Machine, stages: &[Stage]) {
+fn make_stages(
+    rt: &(impl Abort + AllocGlobal),
+    name: &str,
+    machine: &mut Machine,
+    stages: &[Stage],
+) -> Result<(), Fail> {
     for stage in stages {
-        make(rt, name, machine, stage.events);
+        make(rt, name, machine, stage.events)?;
         compare(rt, name, machine, stage.left);
+    }
+    Ok(())
+}
+
+/// Makes events, and fails the test at the first with another answer, or that changes something
+/// that it has to leave.
+pub(crate) fn make(
+    rt: &(impl Abort + AllocGlobal),
+    name: &str,
+    machine: &mut Machine,
+    events: &[Times],
+) -> Result<(), Fail> {
+    for (event, times, answer) in events {
+        for _ in 0..*times {
+            make_one(rt, name, machine, *event, *answer)?;
+        }
+    }
+    Ok(())
+}
+
+/// Makes an event, and fails the test where the answer is another or something changes that has to
+/// stay.
+fn make_one(
+    rt: &(impl Abort + AllocGlobal),
+    name: &str,
+    machine: &mut Machine,
+    event: Event,
+    answer: Answer,
+) -> Result<(), Fail> {
+    if !leaves_values(answer) {
+        check_answer(rt, name, machine, event, answer);
+        return Ok(());
+    }
+    let values = values_of(rt, machine, answer.is_err())?;
+    let memory = Vec::from_slice(rt.alloc(), machine.memory())?;
+    check_answer(rt, name, machine, event, answer);
+    let place = (name, machine.log_len(), event);
+    let after = values_of(rt, machine, answer.is_err())?;
+    same(rt, (place, change(&values, &after)), (place, None));
+    same(
+        rt,
+        (place, change(&memory, machine.memory())),
+        (place, None),
+    );
+    Ok(())
+}
+
+/// Fails the test where an event is answered otherwise.
+fn check_answer(rt: &impl Abort, name: &str, machine: &mut Machine, event: Event, answer: Answer) {
+    let found = machine.event(event);
+    let place = (name, machine.log_len(), event);
+    same(rt, (place, found), (place, answer));
+}
+
+/// Whether an event with this answer leaves registers and memory.
+fn leaves_values(answer: Answer) -> bool {
+    match answer {
+        Ok(Outcome::Trapped { code: _, vector: _ }) => true,
+        Ok(Outcome::Idle) => true,
+        Ok(_) => false,
+        Err(_) => true,
     }
 }
 
-/// Makes events, and fails the test at the first with another answer.
-pub(crate) fn make(rt: &impl Abort, name: &str, machine: &mut Machine, events: &[Times]) {
-    for (event, times, answer) in events {
-        for _ in 0..*times {
-            let found = machine.event(*event);
-            let place = (name, machine.log_len(), *event);
-            same(rt, (place, found), (place, *answer));
+/// The first place where two lists differ, with what stands there in each; their lengths where one
+/// is longer.
+fn change<T: PartialEq + Copy>(before: &[T], after: &[T]) -> Option<(usize, Option<T>, Option<T>)> {
+    for (i, (old, new)) in before.iter().zip(after).enumerate() {
+        if *old != *new {
+            return Some((i, Some(*old), Some(*new)));
         }
     }
+    if before.len() != after.len() {
+        return Some((before.len().min(after.len()), None, None));
+    }
+    None
+}
+
+/// The general registers, HI and LO of each processor; with `all` whatever else the views show,
+/// but for memory and the TLB rows of other processors than 0.
+fn values_of(
+    rt: &(impl Abort + AllocGlobal),
+    machine: &Machine,
+    all: bool,
+) -> Result<Vec<u64>, Fail> {
+    let mut values = Vec::new(rt.alloc());
+    for p in 0..machine.processors() {
+        push_registers(rt, machine, p, &mut values)?;
+        if all {
+            push_control(rt, machine, p, &mut values)?;
+        }
+    }
+    if all {
+        push_rows(rt, machine, &mut values)?;
+        values.push(machine.log_len() as u64)?;
+        values.push(u64::from(machine.is_off()))?;
+        for byte in machine.output() {
+            values.push(u64::from(*byte))?;
+        }
+    }
+    Ok(values)
+}
+
+/// Appends a processor's general registers, HI and LO.
+fn push_registers(
+    rt: &impl Abort,
+    machine: &Machine,
+    p: u32,
+    values: &mut Vec<u64>,
+) -> Result<(), Fail> {
+    assert!(rt; p < machine.processors());
+    for r in 0..32u8 {
+        values.push(u64::from(machine.reg(p, Reg::new(r))))?;
+    }
+    values.push(u64::from(machine.hi(p)))?;
+    values.push(u64::from(machine.lo(p)))?;
+    Ok(())
+}
+
+/// Appends what else the views show of a processor, but for its TLB.
+fn push_control(
+    rt: &impl Abort,
+    machine: &Machine,
+    p: u32,
+    values: &mut Vec<u64>,
+) -> Result<(), Fail> {
+    assert!(rt; p < machine.processors());
+    for register in &REGISTERS {
+        values.push(u64::from(machine.cop(p, *register)))?;
+    }
+    values.push(u64::from(machine.pc(p)))?;
+    values.push(u64::from(machine.in_slot(p)))?;
+    values.push(machine.count(p))?;
+    values.push(match machine.state(p) {
+        ProcessorState::Stopped => 0,
+        ProcessorState::Running => 1,
+        ProcessorState::Waiting => 2,
+    })?;
+    Ok(())
+}
+
+/// Appends the words of processor 0's TLB rows.
+fn push_rows(rt: &impl Abort, machine: &Machine, values: &mut Vec<u64>) -> Result<(), Fail> {
+    assert!(rt; machine.processors() > 0);
+    for i in 0..64u8 {
+        let row = machine.row(0, i);
+        values.push(u64::from(row.entry_hi()))?;
+        values.push(u64::from(row.entry_lo()))?;
+    }
+    Ok(())
 }
 
 /// Fails the test where other parts are left.
 pub(crate) fn compare(rt: &impl Abort, name: &str, machine: &Machine, left: &[(u32, Left)]) {
     for (p, part) in left {
         let place = (name, machine.log_len(), *p);
-        same(rt, (place, found(rt, machine, *p, *part)), (place, *part));
+        same(rt, (place, part_of(rt, machine, *p, *part)), (place, *part));
     }
 }
 
 /// What is left at the same part of a machine, of a processor.
-pub(crate) fn found(rt: &impl Abort, machine: &Machine, p: u32, part: Left) -> Left {
+pub(crate) fn part_of(rt: &impl Abort, machine: &Machine, p: u32, part: Left) -> Left {
     assert!(rt; p < machine.processors());
     match part {
         Left::Register(r, _) => Left::Register(r, machine.reg(p, Reg::new(r % 32))),
@@ -323,7 +472,7 @@ pub(crate) fn found(rt: &impl Abort, machine: &Machine, p: u32, part: Left) -> L
     }
 }
 
-/// The smallest machine after so many Steps of these words, of which all but the last execute an
+/// The smallest machine after `steps` Steps of these words, of which all but the last execute an
 /// instruction, and the last has this answer. Its log has to replay.
 pub(crate) fn last_step(
     rt: &(impl Abort + AllocGlobal),
@@ -333,82 +482,15 @@ pub(crate) fn last_step(
     steps: u32,
     last: Answer,
 ) -> Result<Machine, Fail> {
-    let mut machine = booted(rt.alloc(), entry, words)?;
-    run_steps(rt, &mut machine, steps.saturating_sub(1));
-    let before = look(rt, &machine);
-    let memory = memory_of(rt.alloc(), &machine)?;
-    let answer = machine.step(0);
-    same(rt, (name, answer), (name, last));
-    if last != RAN {
-        let after = look(rt, &machine);
-        let found = after.registers;
-        let expected = before.registers;
-        same(rt, (name, found), (name, expected));
-        same(rt, (name, after.hi, after.lo), (name, before.hi, before.lo));
-        let memory_after = memory_of(rt.alloc(), &machine)?;
-        same(
-            rt,
-            (name, memory_after.as_slice()),
-            (name, memory.as_slice()),
-        );
-        if last.is_err() {
-            same(rt, (name, after), (name, before));
-        }
-    }
     let file = file_at(rt.alloc(), entry, words)?;
+    let mut machine = Machine::boot(rt.alloc(), &file, SMALLEST)?;
+    run_steps(rt, &mut machine, steps.saturating_sub(1));
+    make_one(rt, name, &mut machine, Event::Step(0), last)?;
     check_log(rt, name, &file, &machine)?;
     Ok(machine)
 }
 
-/// A machine and its processor 0, but for its memory, board and coprocessor 0.
-#[derive(Clone, Copy, Debug, PartialEq)]
-pub(crate) struct Seen {
-    pub state: ProcessorState,
-    pub pc: u32,
-    pub in_slot: bool,
-    pub count: u64,
-    pub hi: u32,
-    pub lo: u32,
-    pub registers: [u32; 32],
-    pub entries: usize,
-    pub is_off: bool,
-}
-
-pub(crate) fn look(rt: &impl Abort, machine: &Machine) -> Seen {
-    assert!(rt; machine.processors() > 0);
-    let mut registers = [0; 32];
-    for r in 0..32u8 {
-        registers[usize::from(r)] = machine.reg(0, Reg::new(r));
-    }
-    Seen {
-        state: machine.state(0),
-        pc: machine.pc(0),
-        in_slot: machine.in_slot(0),
-        count: machine.count(0),
-        hi: machine.hi(0),
-        lo: machine.lo(0),
-        registers,
-        entries: machine.log_len(),
-        is_off: machine.is_off(),
-    }
-}
-
-/// All words of a machine's memory.
-pub(crate) fn memory_of(alloc: Global, machine: &Machine) -> Result<Vec<u32>, Fail> {
-    let mut words = Vec::new(alloc);
-    for i in 0..machine.conf().ram / 4 {
-        words.push(machine.word(i * 4).unwrap_or(0))?;
-    }
-    Ok(words)
-}
-
-/// The smallest machine, with these words at an address, where it begins.
-pub(crate) fn booted(alloc: Global, entry: u32, words: &[u32]) -> Result<Machine, Fail> {
-    let file = file_at(alloc, entry, words)?;
-    Ok(Machine::boot(alloc, &file, SMALLEST)?)
-}
-
-/// Makes so many Steps, each of which executes an instruction.
+/// Makes `steps` Steps, each of which executes an instruction.
 pub(crate) fn run_steps(rt: &impl Abort, machine: &mut Machine, steps: u32) {
     for _ in 0..steps {
         same(rt, machine.step(0), RAN);

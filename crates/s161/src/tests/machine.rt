@@ -1,22 +1,90 @@
 //! Machines by their public calls.
 
 use super::elf::file_at;
-use super::listing::{ENTRY, Left, RAN, Seen, found, look, run_steps};
+use super::listing::{ENTRY, Left, RAN, part_of, run_steps};
 use super::same;
 use crate::Machine;
 use crate::demo::{CONF, IMAGE};
+use m161_console::PlainConsole;
 use m161_elf::LoadError;
-use m161_machine::{BootError, Conf, Entry, Event, Outcome, ProcessorState, Refusal};
+use m161_isa::Reg;
+use m161_machine::{BootError, Conf, Entry, Event, Outcome, ProcessorState, Refusal, Register};
+use m161_tlb_scan::Scan;
 use std::alloc::Global;
+use std::process::Abort;
 use std::test::Fail;
 
-/// An entry of the log, if there are so many.
+/// Entry `i` of the log, if there is one.
 fn log_at(machine: &Machine, i: usize) -> Option<Entry> {
     if i < machine.log_len() {
         Some(machine.log_at(i))
     } else {
         None
     }
+}
+
+/// A machine and its processor 0, but for its memory, board and coprocessor 0.
+#[derive(Clone, Copy, Debug, PartialEq)]
+struct Seen {
+    state: ProcessorState,
+    pc: u32,
+    in_slot: bool,
+    count: u64,
+    hi: u32,
+    lo: u32,
+    registers: [u32; 32],
+    entries: usize,
+    is_off: bool,
+}
+
+fn look(rt: &impl Abort, machine: &Machine) -> Seen {
+    assert!(rt; machine.processors() > 0);
+    let mut registers = [0; 32];
+    for r in 0..32u8 {
+        registers[usize::from(r)] = machine.reg(0, Reg::new(r));
+    }
+    Seen {
+        state: machine.state(0),
+        pc: machine.pc(0),
+        in_slot: machine.in_slot(0),
+        count: machine.count(0),
+        hi: machine.hi(0),
+        lo: machine.lo(0),
+        registers,
+        entries: machine.log_len(),
+        is_off: machine.is_off(),
+    }
+}
+
+/// The lines of the README, with the conditions of the last two calls tested before them.
+#[test]
+fn library_lines(rt: HostRuntime) -> Result<(), Fail> {
+    let file = file_at(rt.alloc(), ENTRY, &[0x1000_ffff, 0])?;
+    let conf = Conf {
+        ram: 1_048_576,
+        processors: 2,
+        log: 65_536,
+    };
+    let mut machine: m161_machine::Machine<Scan, PlainConsole> = m161_machine::Machine::boot(
+        rt.alloc(),
+        &file,
+        conf,
+    )?;
+    let (made, refusal) = machine.steps(0, 1000);
+    same(&rt, (made, refusal), (1000, None));
+    let outcome = machine.event(Event::Key(b'x'))?;
+    same(&rt, outcome, Outcome::Taken);
+    assert!(rt; machine.processors() > 0);
+    let cause = machine.cop(0, Register::Cause);
+    same(&rt, cause, 0);
+    assert!(rt; machine.log_len() == 1001);
+    let entry = machine.log_at(0);
+    same(
+        &rt,
+        (entry.event, entry.outcome),
+        (Event::Step(0), Outcome::Ran),
+    );
+    Ok(())
 }
 
 #[test]
@@ -40,6 +108,7 @@ fn demo_six_steps(rt: HostRuntime) -> Result<(), Fail> {
         is_off: false,
     };
     same(&rt, look(&rt, &machine), six);
+    same(&rt, machine.word(0x400), Some(0x1234_5677));
 
     same(&rt, machine.step(0), RAN);
     for left in [
@@ -48,7 +117,7 @@ fn demo_six_steps(rt: HostRuntime) -> Result<(), Fail> {
         Left::NoMemory(2),
         Left::NoMemory(0x10_0000),
     ] {
-        same(&rt, found(&rt, &machine, 0, left), left);
+        same(&rt, part_of(&rt, &machine, 0, left), left);
     }
     Ok(())
 }
@@ -83,7 +152,7 @@ fn largest_sizes(rt: HostRuntime) -> Result<(), Fail> {
     let mut machine = Machine::boot(rt.alloc(), &IMAGE, conf)?;
     same(&rt, machine.steps(0, 7), (7, None));
     let last = Left::Memory(0x00ff_fffc, 0);
-    same(&rt, found(&rt, &machine, 0, last), last);
+    same(&rt, part_of(&rt, &machine, 0, last), last);
     Ok(())
 }
 
@@ -101,7 +170,7 @@ fn refusals(rt: HostRuntime) {
     }
 }
 
-/// Why a machine isn't booted from so many bytes of the demo's image, if it isn't.
+/// Why a machine isn't booted from the first bytes of the demo's image, if it isn't.
 fn boot_error(alloc: Global, length: usize, conf: Conf) -> Option<BootError> {
     Machine::boot(alloc, IMAGE.get(..length)?, conf).err()
 }

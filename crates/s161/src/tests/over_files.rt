@@ -2,7 +2,7 @@
 
 use super::elf::file_at;
 use super::listing::ENTRY;
-use super::run::{POWER_OFF, REST, START_OTHER, ZEROS, joined, left};
+use super::run::{POWER_OFF, REST, START_OTHER, ZEROS, join, work_over};
 use super::same;
 use super::streams::{Failing, Memory, TwoFiles, all};
 use crate::work::work;
@@ -51,10 +51,10 @@ fn check(
             image: &image,
             text: case.text.as_bytes(),
         };
-        let output = joined(rt, &[case.output])?;
+        let output = join(rt, &[case.output])?;
         let texts = [output.as_str(), case.errors];
         let mut input = case.input.as_bytes();
-        let found = left(rt, case.words, &mut files, &mut input, texts);
+        let found = work_over(rt, case.words, &mut files, &mut input, texts);
         let expected = (case.status, all(texts[0]), all(texts[1]));
         same(rt, (case.text, found), (case.text, expected));
     }
@@ -62,7 +62,6 @@ fn check(
 }
 
 static VERDICTS: [Case; 8] = [
-    // verify
     Case {
         words: &["s161", "replay", "image", "text"],
         program: &POWER_OFF,
@@ -329,7 +328,7 @@ static DEBUG_FAULTS: [Case; 5] = [
 ];
 
 #[test]
-fn verdicts(rt: HostRuntime) -> Result<(), Fail> {
+fn verify_by_replay(rt: HostRuntime) -> Result<(), Fail> {
     check(&rt, &VERDICTS)
 }
 
@@ -359,10 +358,10 @@ fn commands_that_are_not_read(rt: HostRuntime) -> Result<(), Fail> {
         text: b"bad\n",
     };
     let mut input: &[u8] = b"g\n\xff\n";
-    let found = left(&rt, &words, &mut files, &mut input, ["", line]);
+    let found = work_over(&rt, &words, &mut files, &mut input, ["", line]);
     same(&rt, found, (1, all(""), all(line)));
     let mut input = Failing(ErrorKind::BrokenPipe);
-    let found = left(&rt, &words, &mut files, &mut input, ["", line]);
+    let found = work_over(&rt, &words, &mut files, &mut input, ["", line]);
     same(&rt, found, (1, all(""), all(line)));
     Ok(())
 }
@@ -384,7 +383,7 @@ fn rejected_words(rt: HostRuntime) -> Result<(), Fail> {
             text: LOG.as_bytes(),
         };
         let mut input: &[u8] = &[];
-        let (status, output, _) = left(&rt, words, &mut files, &mut input, ["", ""]);
+        let (status, output, _) = work_over(&rt, words, &mut files, &mut input, ["", ""]);
         same(&rt, (words, status, output), (words, 2, all("")));
     }
     Ok(())
@@ -410,7 +409,11 @@ fn failing_output_of_a_verdict(rt: HostRuntime) -> Result<(), Fail> {
             &mut output,
             &mut errors,
         );
-        let found = (status, output.written("agrees\n"), errors.written(failed));
+        let found = (
+            status,
+            output.match_text("agrees\n"),
+            errors.match_text(failed),
+        );
         same(&rt, found, (1, (room, true), all(failed)));
     }
     Ok(())

@@ -80,7 +80,11 @@ fn run(
         &mut output,
         &mut errors,
     );
-    (status, output.written(texts[0]), errors.written(texts[1]))
+    (
+        status,
+        output.match_text(texts[0]),
+        errors.match_text(texts[1]),
+    )
 }
 
 #[test]
@@ -139,7 +143,7 @@ fn failing_rejections(rt: HostRuntime) {
 }
 
 /// Starts the program on words that were read, or weren't.
-fn started(
+fn start_on(
     rt: &(impl AllocGlobal + Threads + Wait + Sync),
     words: Result<Vec<String>, Fault<'static>>,
     texts: [&str; 2],
@@ -155,7 +159,11 @@ fn started(
         &mut output,
         &mut errors,
     );
-    (status, output.written(texts[0]), errors.written(texts[1]))
+    (
+        status,
+        output.match_text(texts[0]),
+        errors.match_text(texts[1]),
+    )
 }
 
 #[test]
@@ -163,13 +171,13 @@ fn starts(rt: HostRuntime) -> Result<(), Fail> {
     let mut words = Vec::new(rt.alloc());
     words.push(String::from_str(rt.alloc(), "s161")?)?;
     words.push(String::from_str(rt.alloc(), "demo")?)?;
-    let found = started(&rt, Ok(words), [DEMO, ""]);
+    let found = start_on(&rt, Ok(words), [DEMO, ""]);
     same(&rt, found, (0, all(DEMO), all("")));
     for &(fault, line) in &[
         (Fault::Input, "s161: input\n"),
         (Fault::Memory, "s161: memory\n"),
     ] {
-        let found = started(&rt, Err(fault), ["", line]);
+        let found = start_on(&rt, Err(fault), ["", line]);
         same(&rt, found, (1, all(""), all(line)));
     }
     Ok(())

@@ -1,14 +1,21 @@
 //! Worked rows of small programs.
+//!
+//! To add one, copy a row: give it a name, the address of its first word, and its words with their
+//! texts. `s161 as` makes the words of a text, and `s161 dis` prints them with their addresses and
+//! texts. Then say how many Steps are made, what the last one answers (`RAN`, or a trap's name in
+//! `listing`; the others have to be `RAN`), and what is left: registers, HI, LO, words of memory,
+//! the address where it goes on, and whether that is in a delay slot. Raise the length of the
+//! table, and run `rt test` in `crates/s161`: it proves the tests and runs them.
 
 use super::listing::Left::{Hi, Lo, Memory, Pc, Register, Slot};
 use super::listing::{
-    ADDRESS_LOAD, BREAKPOINT, BUS_FETCH, ENTRY, LOAD_MISS, OVERFLOW, RAN, RESERVED, Row, SYSCALL,
-    check,
+    ADDRESS_LOAD, BREAKPOINT, BUS_FETCH, ENTRY, LOAD_MISS, OVERFLOW, RAN, RESERVED, SYSCALL,
+    Worked, check,
 };
 use std::test::Fail;
 
-static SUMS: [Row; 2] = [
-    Row {
+static SUMS: [Worked; 2] = [
+    Worked {
         name: "a sum that overflows",
         entry: ENTRY,
         program: &[
@@ -21,7 +28,7 @@ static SUMS: [Row; 2] = [
         last: OVERFLOW,
         left: &[Register(9, 0x11), Pc(0x8000_0080), Slot(false)],
     },
-    Row {
+    Worked {
         name: "a load read by the next instruction",
         entry: ENTRY,
         program: &[
@@ -36,8 +43,8 @@ static SUMS: [Row; 2] = [
     },
 ];
 
-static LINKS: [Row; 4] = [
-    Row {
+static LINK_REGISTERS: [Worked; 4] = [
+    Worked {
         name: "a link is written where the branch isn't taken",
         entry: ENTRY,
         program: &[(0x0410_0004, "bltzal $0, 0x80000214"), (0, "nop")],
@@ -45,7 +52,7 @@ static LINKS: [Row; 4] = [
         last: RAN,
         left: &[Register(31, 0x8000_0208), Pc(0x8000_0208)],
     },
-    Row {
+    Worked {
         name: "a branch tests its register before the link is written",
         entry: 0x8000_01fc,
         program: &[
@@ -57,7 +64,7 @@ static LINKS: [Row; 4] = [
         last: RAN,
         left: &[Register(31, 0x8000_0208), Pc(0x8000_0208)],
     },
-    Row {
+    Worked {
         name: "a jump reads its target before the link is written",
         entry: 0x8000_01f8,
         program: &[
@@ -70,7 +77,7 @@ static LINKS: [Row; 4] = [
         last: RAN,
         left: &[Register(8, 0x8000_0208), Pc(0x8000_0400)],
     },
-    Row {
+    Worked {
         name: "a jump keeps the upper bits of the address",
         entry: 0xa000_0200,
         program: &[(0x0c00_0095, "jal 0xa0000254"), (0, "nop")],
@@ -80,9 +87,9 @@ static LINKS: [Row; 4] = [
     },
 ];
 
-static DIVISIONS: [Row; 2] = [
-    Row {
-        name: "7 by 0",
+static DIVISIONS: [Worked; 2] = [
+    Worked {
+        name: "arithmetic: 7 by 0",
         entry: ENTRY,
         program: &[
             (0x3408_0007, "ori $8, $0, 0x0007"),
@@ -92,8 +99,8 @@ static DIVISIONS: [Row; 2] = [
         last: RAN,
         left: &[Lo(0xffff_ffff), Hi(7)],
     },
-    Row {
-        name: "the least number by -1",
+    Worked {
+        name: "arithmetic: the least number by -1",
         entry: ENTRY,
         program: &[
             (0x3c08_8000, "lui $8, 0x8000"),
@@ -106,8 +113,8 @@ static DIVISIONS: [Row; 2] = [
     },
 ];
 
-static SLOTS: [Row; 6] = [
-    Row {
+static SLOTS: [Worked; 6] = [
+    Worked {
         name: "after a taken branch",
         entry: ENTRY,
         program: &[(0x1000_0002, "beq $0, $0, 0x8000020c")],
@@ -115,7 +122,7 @@ static SLOTS: [Row; 6] = [
         last: RAN,
         left: &[Slot(true), Register(10, 0), Pc(0x8000_0204)],
     },
-    Row {
+    Worked {
         name: "after a taken branch and its slot",
         entry: ENTRY,
         program: &[
@@ -126,7 +133,7 @@ static SLOTS: [Row; 6] = [
         last: RAN,
         left: &[Slot(false), Register(10, 5), Pc(0x8000_020c)],
     },
-    Row {
+    Worked {
         name: "after an untaken branch",
         entry: ENTRY,
         program: &[(0x1400_0002, "bne $0, $0, 0x8000020c")],
@@ -134,7 +141,7 @@ static SLOTS: [Row; 6] = [
         last: RAN,
         left: &[Slot(true), Register(10, 0), Pc(0x8000_0204)],
     },
-    Row {
+    Worked {
         name: "after an untaken branch and its slot",
         entry: ENTRY,
         program: &[
@@ -145,7 +152,7 @@ static SLOTS: [Row; 6] = [
         last: RAN,
         left: &[Slot(false), Register(10, 5), Pc(0x8000_0208)],
     },
-    Row {
+    Worked {
         name: "after a jump",
         entry: ENTRY,
         program: &[(0x0800_0080, "j 0x80000200")],
@@ -153,7 +160,7 @@ static SLOTS: [Row; 6] = [
         last: RAN,
         left: &[Slot(true), Register(10, 0), Pc(0x8000_0204)],
     },
-    Row {
+    Worked {
         name: "after a jump and its slot",
         entry: ENTRY,
         program: &[
@@ -166,8 +173,8 @@ static SLOTS: [Row; 6] = [
     },
 ];
 
-static BRANCHES_IN_SLOTS: [Row; 6] = [
-    Row {
+static BRANCHES_IN_SLOTS: [Worked; 6] = [
+    Worked {
         name: "a branch after a taken one",
         entry: ENTRY,
         program: &[
@@ -178,7 +185,7 @@ static BRANCHES_IN_SLOTS: [Row; 6] = [
         last: RESERVED,
         left: &[Pc(0x8000_0080), Slot(false)],
     },
-    Row {
+    Worked {
         name: "a branch after an untaken one",
         entry: ENTRY,
         program: &[
@@ -189,7 +196,7 @@ static BRANCHES_IN_SLOTS: [Row; 6] = [
         last: RESERVED,
         left: &[Pc(0x8000_0080), Slot(false)],
     },
-    Row {
+    Worked {
         name: "a branch with a link after an untaken one",
         entry: ENTRY,
         program: &[
@@ -200,7 +207,7 @@ static BRANCHES_IN_SLOTS: [Row; 6] = [
         last: RESERVED,
         left: &[Register(31, 0), Pc(0x8000_0080), Slot(false)],
     },
-    Row {
+    Worked {
         name: "a jump with a link after an untaken branch",
         entry: ENTRY,
         program: &[
@@ -211,7 +218,7 @@ static BRANCHES_IN_SLOTS: [Row; 6] = [
         last: RESERVED,
         left: &[Register(31, 0), Pc(0x8000_0080), Slot(false)],
     },
-    Row {
+    Worked {
         name: "a jump by a register after a jump",
         entry: ENTRY,
         program: &[(0x0800_0095, "j 0x80000254"), (0x0100_0008, "jr $8")],
@@ -219,7 +226,7 @@ static BRANCHES_IN_SLOTS: [Row; 6] = [
         last: RESERVED,
         left: &[Pc(0x8000_0080), Slot(false)],
     },
-    Row {
+    Worked {
         name: "a jump by a register with a link after a branch with a link",
         entry: ENTRY,
         program: &[
@@ -232,8 +239,8 @@ static BRANCHES_IN_SLOTS: [Row; 6] = [
     },
 ];
 
-static TRAPS: [Row; 2] = [
-    Row {
+static TRAPS: [Worked; 2] = [
+    Worked {
         name: "a system call",
         entry: ENTRY,
         program: &[
@@ -244,7 +251,7 @@ static TRAPS: [Row; 2] = [
         last: SYSCALL,
         left: &[Register(8, 5), Pc(0x8000_0080), Slot(false)],
     },
-    Row {
+    Worked {
         name: "a breakpoint",
         entry: ENTRY,
         program: &[(0x3408_0005, "ori $8, $0, 0x0005"), (0x0000_000d, "break")],
@@ -254,8 +261,8 @@ static TRAPS: [Row; 2] = [
     },
 ];
 
-static FETCHES: [Row; 3] = [
-    Row {
+static FETCHES: [Worked; 3] = [
+    Worked {
         name: "a fetch outside kseg0 and kseg1",
         entry: ENTRY,
         program: &[(0x0000_0008, "jr $0"), (0, "nop")],
@@ -263,7 +270,7 @@ static FETCHES: [Row; 3] = [
         last: LOAD_MISS,
         left: &[Pc(0x8000_0000)],
     },
-    Row {
+    Worked {
         name: "a fetch past RAM",
         entry: ENTRY,
         program: &[
@@ -276,7 +283,7 @@ static FETCHES: [Row; 3] = [
         last: BUS_FETCH,
         left: &[Pc(0x8000_0080)],
     },
-    Row {
+    Worked {
         name: "a misaligned fetch",
         entry: ENTRY,
         program: &[
@@ -297,12 +304,12 @@ fn sums(rt: HostRuntime) -> Result<(), Fail> {
 }
 
 #[test]
-fn links(rt: HostRuntime) -> Result<(), Fail> {
-    check(&rt, &LINKS)
+fn link_registers(rt: HostRuntime) -> Result<(), Fail> {
+    check(&rt, &LINK_REGISTERS)
 }
 
 #[test]
-fn divisions(rt: HostRuntime) -> Result<(), Fail> {
+fn arithmetic_divisions(rt: HostRuntime) -> Result<(), Fail> {
     check(&rt, &DIVISIONS)
 }
 

@@ -2,11 +2,15 @@
 //! `power-off`'s image or of a small program; what it leaves is worked out by hand.
 
 use super::elf::file_at;
-use super::listing::ENTRY;
+use super::listing::{ENTRY, Times};
 use super::same;
-use super::streams::{Endless, Failing, Left, Memory, OneFile, Slow, all};
+use super::sample::SCHEDULE;
+use super::streams::{Endless, Failing, Left, Memory, NoFiles, OneFile, Slow, all};
 use crate::files::FileSource;
 use crate::work::work;
+use m161_machine::Entry;
+use m161_steplog::entry_line;
+use std::alloc::Global;
 use std::io::{ErrorKind, Read};
 use std::process::Abort;
 use std::sync::Wait;
@@ -116,7 +120,7 @@ struct Case {
 }
 
 /// One text of several.
-pub(crate) fn joined(rt: &impl AllocGlobal, parts: &[&[&str]]) -> Result<String, Fail> {
+pub(crate) fn join(rt: &impl AllocGlobal, parts: &[&[&str]]) -> Result<String, Fail> {
     let mut text = String::new(rt.alloc());
     for part in parts {
         for piece in *part {
@@ -127,7 +131,7 @@ pub(crate) fn joined(rt: &impl AllocGlobal, parts: &[&[&str]]) -> Result<String,
 }
 
 /// Runs a program over these streams, against the texts that it should write.
-pub(crate) fn left<F: FileSource, I: Read>(
+pub(crate) fn work_over<F: FileSource, I: Read>(
     rt: &(impl AllocGlobal + Threads + Wait + Sync),
     words: &[&str],
     files: &mut F,
@@ -137,7 +141,11 @@ pub(crate) fn left<F: FileSource, I: Read>(
     let mut output = Memory::new(rt.alloc(), usize::MAX, true);
     let mut errors = Memory::new(rt.alloc(), usize::MAX, true);
     let status = work(rt, words, files, input, &mut output, &mut errors);
-    (status, output.written(texts[0]), errors.written(texts[1]))
+    (
+        status,
+        output.match_text(texts[0]),
+        errors.match_text(texts[1]),
+    )
 }
 
 /// Runs the cases, and fails the test at the first that leaves something else.
@@ -151,17 +159,17 @@ fn check(
             name: "image",
             bytes: &file,
         };
-        let output = joined(rt, case.output)?;
+        let output = join(rt, case.output)?;
         let texts = [output.as_str(), case.errors];
         let mut input = case.schedule.as_bytes();
-        let found = left(rt, case.words, &mut files, &mut input, texts);
+        let found = work_over(rt, case.words, &mut files, &mut input, texts);
         let expected = (case.status, all(texts[0]), all(texts[1]));
         same(rt, (case.schedule, found), (case.schedule, expected));
     }
     Ok(())
 }
 
-static STOPS: [Case; 8] = [
+static STOPS: [Case; 7] = [
     // power-off
     Case {
         words: &["s161", "run", "image"],
@@ -178,15 +186,6 @@ static STOPS: [Case; 8] = [
         schedule: "s 0 3\ns 9\no",
         status: 0,
         output: &[&POWERED_OFF, &["stop: off\n"]],
-        errors: "",
-    },
-    // empty-schedule
-    Case {
-        words: &["s161", "run", "image", "--show-log"],
-        program: &POWER_OFF,
-        schedule: "",
-        status: 3,
-        output: &[&[AT_ENTRY, "m161 log 1\n", "stop: end\n"]],
         errors: "",
     },
     Case {
@@ -232,6 +231,25 @@ static STOPS: [Case; 8] = [
         schedule: "s 0 2\n",
         status: 1,
         output: &[&HALF_WAY, &["stop: refused 1 3 LogFull\n"]],
+        errors: "",
+    },
+];
+
+static EMPTY_SCHEDULES: [Case; 2] = [
+    Case {
+        words: &["s161", "run", "image"],
+        program: &POWER_OFF,
+        schedule: "",
+        status: 3,
+        output: &[&[AT_ENTRY, "stop: end\n"]],
+        errors: "",
+    },
+    Case {
+        words: &["s161", "run", "image", "--show-log"],
+        program: &POWER_OFF,
+        schedule: "",
+        status: 3,
+        output: &[&[AT_ENTRY, "m161 log 1\n", "stop: end\n"]],
         errors: "",
     },
 ];
@@ -369,6 +387,11 @@ fn stops(rt: HostRuntime) -> Result<(), Fail> {
 }
 
 #[test]
+fn empty_schedule(rt: HostRuntime) -> Result<(), Fail> {
+    check(&rt, &EMPTY_SCHEDULES)
+}
+
+#[test]
 fn outputs(rt: HostRuntime) -> Result<(), Fail> {
     check(&rt, &OUTPUTS)
 }
@@ -392,7 +415,7 @@ fn over<I: Read>(
         name: "image",
         bytes: &file,
     };
-    Ok(left(rt, &WORDS, &mut files, input, texts))
+    Ok(work_over(rt, &WORDS, &mut files, input, texts))
 }
 
 static THREADED: [Case; 6] = [
@@ -453,9 +476,74 @@ fn threads_command(rt: HostRuntime) -> Result<(), Fail> {
     check(&rt, &THREADED)
 }
 
+/// The built-in sample's schedule.
+const SAMPLE_SCHEDULE: &str = "s 0 11\ns 1 16\ns 0 6\ns 1 23\ns 0 4\ns 1 17\ns 0 4\n";
+
+/// Both processors after it.
+const SAMPLE_LEFT: &str = "cpu 0 running pc 80000264
+r0 00000000 r1 00000000 r2 00000000 r3 00000000
+r4 00000000 r5 00000000 r6 00000000 r7 00000000
+r8 80000000 r9 00006600 r10 bfff0000 r11 bfff8400
+r12 80000280 r13 00000002 r14 bfff7c00 r15 00000007
+r16 00000000 r17 00000000 r18 00000000 r19 00000000
+r20 00000000 r21 00000000 r22 00000000 r23 00000000
+r24 00000000 r25 00000000 r26 00000000 r27 00000000
+r28 00000000 r29 00000000 r30 00000000 r31 00000000
+hi 00000000 lo 00000000
+cpu 1 running pc 800002b8
+r0 00000000 r1 00000000 r2 00000000 r3 00000000
+r4 00000000 r5 00000000 r6 00000000 r7 00000000
+r8 00000801 r9 00400000 r10 80000000 r11 00000007
+r12 00000001 r13 00000000 r14 00000000 r15 00000000
+r16 00000000 r17 00000000 r18 00000000 r19 00000000
+r20 00000000 r21 00000000 r22 00000000 r23 00000000
+r24 80035000 r25 00400140 r26 00006600 r27 800002a0
+r28 00000000 r29 bfff8800 r30 00000000 r31 00000000
+hi 00000000 lo 00000000
+";
+
+/// The text of a log of these events.
+fn log_of(alloc: Global, events: &[Times]) -> Result<String, Fail> {
+    let mut text = String::from_str(alloc, "m161 log 1\n")?;
+    for (event, times, answer) in events {
+        let Ok(outcome) = *answer else {
+            continue;
+        };
+        let entry = Entry {
+            event: *event,
+            outcome,
+        };
+        let line = entry_line(alloc, &entry)?;
+        for _ in 0..*times {
+            text.push_str(line.as_str())?;
+            text.push_str("\n")?;
+        }
+    }
+    Ok(text)
+}
+
+#[test]
+fn run_sample(rt: HostRuntime) -> Result<(), Fail> {
+    let log = log_of(rt.alloc(), &SCHEDULE)?;
+    for (words, log) in [
+        (&["s161", "run", "@sample", "--cpus", "2"][..], ""),
+        (
+            &["s161", "run", "@sample", "--cpus", "2", "--show-log"],
+            log.as_str(),
+        ),
+    ] {
+        let text = join(&rt, &[&[SAMPLE_LEFT, log, "stop: off\n"]])?;
+        let mut input = SAMPLE_SCHEDULE.as_bytes();
+        let texts = [text.as_str(), ""];
+        let found = work_over(&rt, words, &mut NoFiles, &mut input, texts);
+        same(&rt, (words, found), (words, (0, all(texts[0]), all(""))));
+    }
+    Ok(())
+}
+
 #[test]
 fn slow_reader(rt: HostRuntime) -> Result<(), Fail> {
-    let output = joined(&rt, &[&POWERED_OFF, &["stop: off\n"]])?;
+    let output = join(&rt, &[&POWERED_OFF, &["stop: off\n"]])?;
     let mut slow = Slow::new(b"s 0 2\n");
     let found = over(&rt, &mut slow, [output.as_str(), ""])?;
     same(&rt, found, (0, all(output.as_str()), all("")));
@@ -492,7 +580,7 @@ fn failing_files(rt: HostRuntime) {
         (ErrorKind::OutOfMemory, "s161: memory\n"),
     ] {
         let mut input: &[u8] = b"bad\n";
-        let found = left(&rt, &WORDS, &mut Failing(kind), &mut input, ["", line]);
+        let found = work_over(&rt, &WORDS, &mut Failing(kind), &mut input, ["", line]);
         same(&rt, found, (1, all(""), all(line)));
     }
 }
@@ -506,7 +594,7 @@ fn truncated_image(rt: HostRuntime) -> Result<(), Fail> {
     };
     let mut input: &[u8] = b"s 0 2\n";
     let line = "s161: image 1 Truncated\n";
-    let found = left(&rt, &WORDS, &mut files, &mut input, ["", line]);
+    let found = work_over(&rt, &WORDS, &mut files, &mut input, ["", line]);
     same(&rt, found, (1, all(""), all(line)));
     Ok(())
 }
@@ -514,7 +602,7 @@ fn truncated_image(rt: HostRuntime) -> Result<(), Fail> {
 #[test]
 fn failing_output_of_a_run(rt: HostRuntime) -> Result<(), Fail> {
     let file = file_at(rt.alloc(), ENTRY, &POWER_OFF)?;
-    let text = joined(&rt, &[&POWERED_OFF, &["stop: off\n"]])?;
+    let text = join(&rt, &[&POWERED_OFF, &["stop: off\n"]])?;
     let failed = "s161: output\n";
     for room in [0, 26, 300] {
         let mut files = OneFile {
@@ -534,8 +622,8 @@ fn failing_output_of_a_run(rt: HostRuntime) -> Result<(), Fail> {
         );
         let found = (
             status,
-            output.written(text.as_str()),
-            errors.written(failed),
+            output.match_text(text.as_str()),
+            errors.match_text(failed),
         );
         same(&rt, found, (1, (room, true), all(failed)));
     }
@@ -560,7 +648,7 @@ fn rejected_runs(rt: HostRuntime) -> Result<(), Fail> {
             bytes: &file,
         };
         let mut input: &[u8] = &[];
-        let (status, output, _) = left(&rt, words, &mut files, &mut input, ["", ""]);
+        let (status, output, _) = work_over(&rt, words, &mut files, &mut input, ["", ""]);
         same(&rt, (words, status, output), (words, 2, all("")));
     }
     Ok(())

@@ -87,7 +87,7 @@ pub(crate) static KERNEL: [(u32, u32, &str); 70] = [
 ];
 
 /// A schedule on which it ends.
-static SCHEDULE: [Times; 14] = [
+pub(crate) static SCHEDULE: [Times; 14] = [
     (Step(0), 11, RAN),
     (Step(1), 6, RAN),
     (Step(1), 1, LOAD_MISS),
@@ -134,7 +134,7 @@ fn shootdown(rt: HostRuntime) -> Result<(), Fail> {
         log: 1000,
     };
     let mut machine = Machine::boot(rt.alloc(), &file, conf)?;
-    make(&rt, "shootdown", &mut machine, &SCHEDULE);
+    make(&rt, "shootdown", &mut machine, &SCHEDULE)?;
     compare(&rt, "shootdown", &machine, &LEFT);
     check_log(&rt, "shootdown", &file, &machine)
 }

@@ -96,7 +96,7 @@ fn numbers(rt: HostRuntime) -> Result<(), Fail> {
 }
 
 /// Why a text is no schedule, or how many events it has.
-fn counted(alloc: Global, text: &str) -> Result<usize, Fault> {
+fn count_of(alloc: Global, text: &str) -> Result<usize, Fault> {
     Ok(read_schedule(alloc, text)?.len())
 }
 
@@ -129,7 +129,7 @@ fn bad_lines(rt: HostRuntime) {
     for text in &TEXTS {
         same(
             &rt,
-            (*text, counted(rt.alloc(), text)),
+            (*text, count_of(rt.alloc(), text)),
             (*text, Err(Fault::Line(1))),
         );
     }
@@ -145,12 +145,12 @@ fn good_lines(rt: HostRuntime) {
         ("s 0\n\nk FF\no\n", Err(Fault::Line(3))),
         ("s 0\n\n# \no\nq", Err(Fault::Line(5))),
     ] {
-        same(&rt, (text, counted(rt.alloc(), text)), (text, events));
+        same(&rt, (text, count_of(rt.alloc(), text)), (text, events));
     }
 }
 
 #[test]
-fn verdicts(rt: HostRuntime) -> Result<(), Fail> {
+fn verify_of_logs(rt: HostRuntime) -> Result<(), Fail> {
     let alloc = rt.alloc();
     let file = file_at(alloc, ENTRY, &[0x3c08_bfff, 0xad00_7e08])?;
     let conf = Conf {

@@ -33,7 +33,7 @@ impl Memory {
     }
 
     /// How many bytes were written, and whether the text begins with them.
-    pub(crate) fn written(&self, text: &str) -> (usize, bool) {
+    pub(crate) fn match_text(&self, text: &str) -> (usize, bool) {
         (self.bytes.len(), text.as_bytes().starts_with(&self.bytes))
     }
 }
@@ -148,7 +148,7 @@ impl Read for Slow<'_> {
     }
 }
 
-/// A reader that never ends, of bytes as they stand where they are wanted.
+/// A reader that never ends, and leaves the bytes of the buffer as they are.
 #[derive(Drop)]
 pub(crate) struct Endless;
 

@@ -1,7 +1,7 @@
-//! Texts of programs: the listing of a file, the file of a text, and the built-in sample.
+//! Texts of programs: a word's, the listing of a file, the file of a text, and the built-in sample.
 
 use super::elf::file_from;
-use super::listing::ENTRY;
+use super::listing::{ENTRY, RAN, RESERVED, last_step};
 use super::same;
 use super::sample::KERNEL;
 use super::streams::{NoFiles, OneFile};
@@ -13,6 +13,8 @@ use crate::events::{Stop, make_events};
 use crate::fault::Fault;
 use crate::files::FileSource;
 use crate::sample::{read_image, sample_image};
+use m161_asm::assemble;
+use m161_dis::line;
 use m161_machine::Conf;
 use m161_steplog::read_schedule;
 use std::alloc::{AllocError, Global};
@@ -44,16 +46,38 @@ fn line_of(alloc: Global, fault: Fault<'_>) -> Result<String, AllocError> {
 }
 
 /// The listing of a file, or the line of its fault.
-fn listed(alloc: Global, file: &[u8]) -> Result<String, AllocError> {
+fn list(alloc: Global, file: &[u8]) -> Result<String, AllocError> {
     match disassembly(alloc, file) {
         Ok(text) => Ok(text),
         Err(fault) => line_of(alloc, fault),
     }
 }
 
+/// Words, the address of each, and its text.
+static LINES: [(u32, u32, &str); 5] = [
+    (0x0000_0000, 0x8000_0200, "nop"),
+    (0x0000_0060, 0x8000_0200, ".word 0x00000060"),
+    (0x4200_0008, 0x8000_0200, "tlbp"),
+    (0xffff_ffff, 0x8000_0200, ".word 0xffffffff"),
+    (0x11e0_fffe, 0x8000_0248, "beq $15, $0, 0x80000244"),
+];
+
+#[test]
+fn disassembled_words(rt: HostRuntime) -> Result<(), Fail> {
+    for &(word, at, expected) in &LINES {
+        let text = line(rt.alloc(), word, at)?;
+        same(&rt, (word, text.as_str()), (word, expected));
+    }
+    // the second is executed as `add`, and the fourth traps
+    for &(word, answer) in &[(0x0000_0060, RAN), (0xffff_ffff, RESERVED)] {
+        last_step(&rt, "disassembled-words", ENTRY, &[word], 1, answer)?;
+    }
+    Ok(())
+}
+
 #[test]
 fn dis_demo(rt: HostRuntime) -> Result<(), Fail> {
-    let text = listed(rt.alloc(), &IMAGE)?;
+    let text = list(rt.alloc(), &IMAGE)?;
     same(&rt, text.as_str() == LISTED_DEMO, true);
     Ok(())
 }
@@ -63,7 +87,7 @@ fn dis_demo(rt: HostRuntime) -> Result<(), Fail> {
 fn words_of_the_file(rt: HostRuntime) -> Result<(), Fail> {
     let mut file = IMAGE;
     file[71] = 7;
-    let text = listed(rt.alloc(), &file)?;
+    let text = list(rt.alloc(), &file)?;
     same(&rt, text.as_str(), "80000200 3c081234 lui $8, 0x1234\n");
     Ok(())
 }
@@ -73,7 +97,7 @@ fn words_of_the_file(rt: HostRuntime) -> Result<(), Fail> {
 fn misaligned_span(rt: HostRuntime) -> Result<(), Fail> {
     let words = [0x1122_3344, 0x5566_7788];
     let file = file_from(rt.alloc(), ENTRY, 0x8000_0202, &words)?;
-    let text = listed(rt.alloc(), &file)?;
+    let text = list(rt.alloc(), &file)?;
     same(
         &rt,
         text.as_str(),
@@ -88,24 +112,24 @@ fn no_whole_word(rt: HostRuntime) -> Result<(), Fail> {
     let mut file = IMAGE;
     file[63] = 1;
     file[71] = 2;
-    let text = listed(rt.alloc(), &file)?;
+    let text = list(rt.alloc(), &file)?;
     same(&rt, text.as_str(), "");
     Ok(())
 }
 
 #[test]
 fn image_without_listing(rt: HostRuntime) -> Result<(), Fail> {
-    let text = listed(rt.alloc(), &IMAGE[..51])?;
+    let text = list(rt.alloc(), &IMAGE[..51])?;
     same(&rt, text.as_str(), "s161: image 1 Truncated");
     let mut file = IMAGE;
     file[60] = 0;
-    let text = listed(rt.alloc(), &file)?;
+    let text = list(rt.alloc(), &file)?;
     same(&rt, text.as_str(), "s161: image 7 SegmentOutsideRam");
     Ok(())
 }
 
 /// The length of a text's file and whether it has these bytes.
-fn assembled(alloc: Global, source: &str, expected: &[u8]) -> (usize, bool) {
+fn assemble_text(alloc: Global, source: &str, expected: &[u8]) -> (usize, bool) {
     match assembly(alloc, source) {
         Ok(file) => (file.len(), file.as_slice() == expected),
         Err(_) => (0, false),
@@ -114,7 +138,7 @@ fn assembled(alloc: Global, source: &str, expected: &[u8]) -> (usize, bool) {
 
 #[test]
 fn as_demo(rt: HostRuntime) -> Result<(), Fail> {
-    same(&rt, assembled(rt.alloc(), DEMO, &IMAGE), (112, true));
+    same(&rt, assemble_text(rt.alloc(), DEMO, &IMAGE), (112, true));
     Ok(())
 }
 
@@ -137,7 +161,7 @@ static FAULTS: [(&str, &str); 8] = [
 ];
 
 #[test]
-fn source_faults(rt: HostRuntime) -> Result<(), Fail> {
+fn assembler_errors(rt: HostRuntime) -> Result<(), Fail> {
     for (source, expected) in &FAULTS {
         match assembly(rt.alloc(), source) {
             Ok(_) => same(&rt, *source, "accepted"),
@@ -147,6 +171,8 @@ fn source_faults(rt: HostRuntime) -> Result<(), Fail> {
             }
         }
     }
+    let empty = assemble(rt.alloc(), "")?;
+    same(&rt, (empty.segments.len(), empty.entry), (0, 0x8000_0200));
     Ok(())
 }
 
@@ -175,7 +201,7 @@ fn counts(machine: &Machine) -> Option<(u64, u64)> {
 }
 
 #[test]
-fn run_sample(rt: HostRuntime) -> Result<(), Fail> {
+fn run_sample_counts(rt: HostRuntime) -> Result<(), Fail> {
     let schedule = "s 0 11\ns 1 16\ns 0 6\ns 1 23\ns 0 4\ns 1 17\ns 0 4\n";
     match sample_machine(rt.alloc(), schedule)? {
         Some((machine, stop)) => {

@@ -37,7 +37,7 @@ const POWER_OFF: [u32; 2] = [0x3c08_bfff, 0xad00_7e08];
 const SEND: [u32; 3] = [0x3c08_bfe0, 0x3409_0041, 0xad09_0000];
 
 /// The file of these words, and its machine.
-fn booted(
+fn boot(
     alloc: Global,
     words: &[u32],
     processors: u32,
@@ -110,7 +110,7 @@ impl<R: Clock> Gate for Meeting<'_, R> {
 #[test]
 fn two_workers(rt: HostRuntime) -> Result<(), Fail> {
     let name = "two workers at a time";
-    let (file, machine) = booted(rt.alloc(), &LOOP, 2, 200)?;
+    let (file, machine) = boot(rt.alloc(), &LOOP, 2, 200)?;
     let gate = Meeting {
         clock: &rt,
         first: AtomicBool::new(false),
@@ -131,7 +131,7 @@ struct OneClosed {
 }
 
 /// A gate that is closed for a Step: its processor, and its number.
-fn closed_at(step: (u32, u32)) -> OneClosed {
+fn gate_but(step: (u32, u32)) -> OneClosed {
     OneClosed {
         step,
         asked: AtomicU32::new(0),
@@ -218,8 +218,8 @@ static LIMITED: [Limited; 5] = [
 #[test]
 fn quotas(rt: HostRuntime) -> Result<(), Fail> {
     for row in &LIMITED {
-        let (file, machine) = booted(rt.alloc(), &LOOP, row.processors, row.log)?;
-        let gate = closed_at(row.closed);
+        let (file, machine) = boot(rt.alloc(), &LOOP, row.processors, row.log)?;
+        let gate = gate_but(row.closed);
         let (machine, cause) = run_on(&rt, row.name, machine, row.quotas, &gate);
         same(&rt, (row.name, cause), (row.name, row.cause));
         let asked = gate.asked.load(Ordering::SeqCst) > 0;
@@ -262,8 +262,8 @@ fn sample_in_threads(rt: HostRuntime) -> Result<(), Fail> {
         log: 65_536,
     };
     let mut machine = Machine::boot(rt.alloc(), &file, conf)?;
-    make(&rt, name, &mut machine, &FIRST_STEPS);
-    let gate = closed_at(NONE);
+    make(&rt, name, &mut machine, &FIRST_STEPS)?;
+    let gate = gate_but(NONE);
     match run(&rt, rt.alloc(), machine, &[2000, 2000], &gate) {
         Ok(report) => {
             if report.off {
@@ -281,6 +281,8 @@ fn sample_in_threads(rt: HostRuntime) -> Result<(), Fail> {
 struct Locking {
     name: &'static str,
     words: &'static [u32],
+    /// Words that it isn't booted from.
+    other: &'static [u32],
     events: &'static [(Event, Answer)],
     log: &'static [Entry],
     left: &'static [(u32, Left)],
@@ -290,6 +292,7 @@ static LOCKINGS: [Locking; 3] = [
     Locking {
         name: "two Steps and a key",
         words: &LOOP,
+        other: &POWER_OFF,
         events: &[
             (Step(0), RAN),
             (Step(1), IDLE),
@@ -315,6 +318,7 @@ static LOCKINGS: [Locking; 3] = [
     Locking {
         name: "a byte sent",
         words: &SEND,
+        other: &POWER_OFF,
         events: &[
             (Step(0), RAN),
             (Step(0), RAN),
@@ -344,6 +348,7 @@ static LOCKINGS: [Locking; 3] = [
     Locking {
         name: "off",
         words: &POWER_OFF,
+        other: &LOOP,
         events: &[
             (Step(0), RAN),
             (Step(0), Ok(Outcome::PoweredOff)),
@@ -438,14 +443,14 @@ fn make_branded<R: Wait + Abort + AllocGlobal>(
 
 /// What a machine of other words than `LOOP` or of the same was booted from.
 fn start_of(alloc: Global, words: &[u32]) -> Result<Start, Fail> {
-    let (_, machine) = booted(alloc, words, 2, 16)?;
+    let (_, machine) = boot(alloc, words, 2, 16)?;
     Ok(machine.copy_start(alloc)?)
 }
 
 #[test]
 fn locked_book(rt: HostRuntime) -> Result<(), Fail> {
     for row in &LOCKINGS {
-        let (file, machine) = booted(rt.alloc(), row.words, 2, 16)?;
+        let (file, machine) = boot(rt.alloc(), row.words, 2, 16)?;
         let start = machine.copy_start(rt.alloc())?;
         let machine = make_branded(&rt, machine, row)?;
         let log = machine.copy_log(rt.alloc())?;
@@ -453,13 +458,19 @@ fn locked_book(rt: HostRuntime) -> Result<(), Fail> {
         compare(&rt, row.name, &machine, row.left);
         check_log(&rt, row.name, &file, &machine)?;
         same(&rt, (row.name, machine.starts_as(&start)), (row.name, true));
+        let other = start_of(rt.alloc(), row.other)?;
+        same(
+            &rt,
+            (row.name, machine.starts_as(&other)),
+            (row.name, false),
+        );
     }
     Ok(())
 }
 
 #[test]
 fn other_starts(rt: HostRuntime) -> Result<(), Fail> {
-    let (_, machine) = booted(rt.alloc(), &LOOP, 2, 16)?;
+    let (_, machine) = boot(rt.alloc(), &LOOP, 2, 16)?;
     for (words, is_same) in [(&LOOP, true), (&POWER_OFF, false)] {
         let start = start_of(rt.alloc(), words)?;
         same(&rt, machine.starts_as(&start), is_same);

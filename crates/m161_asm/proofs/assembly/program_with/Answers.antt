@@ -6,10 +6,10 @@ use Rattle.m161_asm.specs.Segments.{segments_seen}
 use Rattle.m161_asm.proofs.Assembled.{finished}
 use Rattle.m161_asm.proofs.assembly.program_with.Goals as goal
 
-pub returns : goal.returns
-returns c = λ all s f.
+pub returns-clause-value : goal.returns-clause-value
+returns-clause-value c = λ all s f.
     finished c.args.second all (segments_seen c.in_ok-segments.segments.items)
-    (symbols_seen c.args.symbols) c.unwrap_or-entry.result s f c.in_ok-segments.ensures
+    (symbols_seen c.args.symbols) c.unwrap_or-entry.result s f c.in_ok-segments.ensures.value
     (c.unwrap_or-entry.ensures
     ∙ ap (unwrap_or c.args.second.entry)
     (c.first_address-first.ensures

@@ -2,7 +2,7 @@ use Rattle.std.specs.Prelude.{Ok, [], drop, ◌+◌}
 use Rattle.std.proofs.Common.{arith}
 use Rattle.m161_asm.specs.Tokens.{lines}
 use Rattle.m161_asm.specs.Seen.{above_of}
-use Rattle.m161_asm.proofs.Above.{step_on, step_off, at_end, dropped_within}
+use Rattle.m161_asm.proofs.Above.{shorter, step_on, step_off, at_end, dropped_within}
 use Rattle.m161_asm.proofs.first.first_pass.Goals as goal
 
 pub returns-in-Err-clause-value : goal.returns-in-Err-clause-value
@@ -15,10 +15,20 @@ returns-in-Err-clause-value c =
     (c.len_before-len.result + 1)
     c.loop-rest.rest.now))) c.loop-rest.invariant.so_far
 
+pub returns-in-Err-clause-line : goal.returns-in-Err-clause-line
+returns-in-Err-clause-line c =
+    let e = shorter c.loop-rest.rest.now c.len_before-len.result c.loop-rest-test.true
+    c.len_before-len.ensures.value in (
+      omega (arith, c.in-Err.ensures.line),
+      omega (arith, e, c.in-Err.ensures.line, c.loop-rest.invariant.counted),
+    )
+
 pub loop-rest-preserved : goal.loop-rest-preserved
 loop-rest-preserved c =
     let below = drop (c.len_before-len.result + 1) c.loop-rest.rest.now in
     let d = dropped_within c.loop-rest.rest.now (c.len_before-len.result + 1) in
+    let e = shorter c.loop-rest.rest.now c.len_before-len.result c.loop-rest-test.true
+    c.len_before-len.ensures.value in
     record {
       pass = c.in_default.ensures.pass;
       so_far =
@@ -27,6 +37,9 @@ loop-rest-preserved c =
           c.len_before-len.result _ c.loop-rest-test.true c.len_before-len.ensures.value
           (c.in_default.ensures.value (lines below)) c.loop-rest.invariant.so_far);
       within = rw c.behind_line-rest.ensures (omega (arith, d));
+      counted =
+          rw c.behind_line-rest.ensures
+          (omega (arith, e, c.in_default.ensures.count, c.loop-rest.invariant.counted));
     }
 
 pub returns-clause-value : goal.returns-clause-value

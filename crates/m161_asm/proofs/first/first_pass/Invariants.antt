@@ -1,5 +1,5 @@
 use Rattle.std.specs.Prelude.{[]}
-use Rattle.std.proofs.Common.{◌≡◌, ◌≤◌, length}
+use Rattle.std.proofs.Common.{◌≡◌, ◌≤◌, ◌+◌, length}
 use Rattle.m161_asm.specs.Tokens.{lines}
 use Rattle.m161_asm.specs.Text.{read_lines}
 use Rattle.m161_asm.specs.Seen.{above_of}
@@ -13,6 +13,7 @@ invariant-loop-rest l =
       so_far : read_lines (above_of l.pass.lines.items) (lines l.rest)
           ≡ read_lines [] (lines l.text);
       within : length l.rest ≤ length l.text;
+      counted : length l.pass.lines.items + length (lines l.rest) ≡ length (lines l.text);
     }
 
 abbrev pub decreases-loop-rest : goal.decreases-loop-rest

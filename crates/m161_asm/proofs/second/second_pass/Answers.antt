@@ -15,11 +15,11 @@ fill-requires-clause-lawful c =
     (lawful_here c.args.lines.now c.index-lines-i.result c.loop-i.i c.index-lines-i.is
     c.loop-i-test.true c.requires).0.statement
 
-pub returns-in-Err : goal.returns-in-Err
-returns-in-Err c =
+pub returns-in-Err-clause-value : goal.returns-in-Err-clause-value
+returns-in-Err-clause-value c =
     let x = c.index-lines-i.result in
     told_here c.at_line.result c.in-Err.error
     (symbols_seen c.args.symbols.now) c.args.lines.now x c.loop-i.i c.fill.new.self
-    c.index-lines-i.is c.at_line.ensures c.loop-i-test.true
+    c.index-lines-i.is c.at_line.ensures.told c.loop-i-test.true
     (c.in-Err.ensures (above_of (take c.loop-i.i c.args.lines.now))
     (line_seen x) refl c.loop-i.invariant)

@@ -1,5 +1,5 @@
 use Rattle.std.proofs.Common.{◌≡◌, ◌++◌, take}
-use Rattle.m161_elf.specs.Written.{halves as halves_bytes}
+use Rattle.m161_elf.specs.Written.{halves_bytes}
 use Rattle.m161_elf.proofs.writer.push_halves.Given as goal
 
 abbrev pub invariant-loop-half : goal.invariant-loop-half

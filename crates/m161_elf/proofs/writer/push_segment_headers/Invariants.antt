@@ -1,5 +1,5 @@
 use Rattle.std.proofs.Common.{◌≡◌, ◌+◌, ◌*◌, ◌++◌, length, drop}
-use Rattle.m161_asm.specs.Segments.{segments_seen, words_of}
+use Rattle.m161_asm.specs.Segments.{segments_seen, word_count}
 use Rattle.m161_elf.specs.Written.{segment_headers}
 use Rattle.m161_elf.proofs.writer.push_segment_headers.Given as goal
 
@@ -10,4 +10,4 @@ invariant-loop-segment l =
     let all = segments_seen l.segments in
     (l.file.items ++ segment_headers l.offset left
     ≡ l.fn.file.items ++ segment_headers (52 + 32 * length l.segments) all)
-    × (l.offset + 4 * words_of left ≡ 52 + 32 * length l.segments + 4 * words_of all)
+    × (l.offset + 4 * word_count left ≡ 52 + 32 * length l.segments + 4 * word_count all)

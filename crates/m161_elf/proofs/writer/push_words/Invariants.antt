@@ -1,5 +1,5 @@
 use Rattle.std.proofs.Common.{◌≡◌, ◌++◌, take}
-use Rattle.m161_elf.specs.Written.{words as words_bytes}
+use Rattle.m161_elf.specs.Written.{words_bytes}
 use Rattle.m161_elf.proofs.writer.push_words.Given as goal
 
 abbrev pub invariant-loop-word : goal.invariant-loop-word

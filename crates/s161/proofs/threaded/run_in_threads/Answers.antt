@@ -1,4 +1,4 @@
-use Rattle.std.proofs.Common.{◌≡◌, ◌∙◌, ap, sym, subst, ℕ, List, length, replicate, IfSome}
+use Rattle.std.proofs.Common.{◌≡◌, ◌∙◌, ap, sym, subst, ℕ, List, Option, None, length, replicate, IfSome}
 use Rattle.std.proofs.lemmas.List.{length-replicate}
 use Rattle.m161_machine.specs.declared.conf.Conf.{Conf}
 use Rattle.m161_machine.specs.History.{IsBooted, boot_fault}
@@ -6,7 +6,7 @@ use Rattle.m161_threads.specs.Runs.{Interleaves, bad_call}
 use Rattle.s161.specs.Samples.{image_file}
 use Rattle.s161.specs.Threads.{IsCause}
 use Rattle.s161.proofs.Making.{booted_ok}
-use Rattle.s161.proofs.Threading.{failed_cause}
+use Rattle.s161.proofs.Threading.{booted_clear, failed_cause}
 use Rattle.s161.proofs.threaded.run_in_threads.Goals as goal
 
 pub returns-clause-ok : goal.returns-clause-ok
@@ -36,6 +36,8 @@ returns-clause-ok g c =
 
 pub returns-in-Err-clause-fault : goal.returns-in-Err-clause-fault
 returns-in-Err-clause-fault g c =
+    let known = image_file (g.F.FileSource.known c.args.files.now) c.args.task.image.now in
+    let R : List ℕ → Type 0 = λ file. IfSome known (λ bytes. file ≡ bytes) in
     let conf = c.args.task.conf in
     let booted = c.in_ok-machine.machine in
     let cause = c.in-Err.fault.cause in
@@ -45,6 +47,10 @@ returns-in-Err-clause-fault g c =
     let quotas : length c.as_slice.result.now ≡ conf.processors =
     ap length (c.as_slice.ensures.value ∙ c.in_ok-quotas.ensures) ∙ length-replicate c.processors.result c.args.quota
     ∙ c.processors.ensures ∙ there in
+    let clear : boot_fault c.deref.result.now conf ≡ None =
+    booted_clear c.deref.result.now conf (boot_fault c.deref.result.now conf) booted c.in_ok-machine.ensures.answer in
+    let why : IsCause (bad_call conf.processors conf.processors) cause =
     subst (λ (n : ℕ). IsCause (bad_call n conf.processors) cause) quotas
     (subst (λ (n : ℕ). IsCause (bad_call (length c.as_slice.result.now) n) cause) there
-    (failed_cause (bad_call (length c.as_slice.result.now) (length booted.state.processors)) booted cause c.in-Err.fault.machine c.in-Err.ensures.err))
+    (failed_cause (bad_call (length c.as_slice.result.now) (length booted.state.processors)) booted cause c.in-Err.fault.machine c.in-Err.ensures.err)) in
+    ((c.deref.result.now, subst R (sym c.deref.ensures.value) c.in_ok-file.ensures.whole, clear), why)

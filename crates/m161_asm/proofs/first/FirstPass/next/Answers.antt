@@ -7,7 +7,7 @@ use Rattle.m161_asm.proofs.first.FirstPass.next.Goals as goal
 pub returns-in-Err-clause-value : goal.returns-in-Err-clause-value
 returns-in-Err-clause-value c = λ below.
     told c.at_line.result c.in-Err.error
-    (above_of c.args.self.now.lines.items) _ c.args.line.now below (Ok []) c.at_line.ensures
+    (above_of c.args.self.now.lines.items) _ c.args.line.now below (Ok []) c.at_line.ensures.told
     (omega (arith, above_len c.args.self.now.lines.items, c.args.self.now.lines.ok))
     c.in-Err.ensures.value
 

@@ -3,7 +3,7 @@ use Rattle.m161_cpu.specs.declared.fault.FaultKind.TheVariants as kind
 use Rattle.m161_cpu.specs.Fault.{fault_at}
 use Rattle.m161_cpu.specs.Translation.{invalid}
 use Rattle.m161_cpu.proofs.Mapped.{not_valid, not_dirty}
-use Rattle.m161_cpu.proofs.processor.Cpu.mapped.Goals as goal
+use Rattle.m161_cpu.proofs.processor.Cpu.physical_by_page.Goals as goal
 
 pub returns-then-not-row : goal.returns-then-not-row
 returns-then-not-row g c = (

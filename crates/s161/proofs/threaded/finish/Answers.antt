@@ -2,7 +2,7 @@ use Rattle.std.proofs.Common.{◌∙◌, ap}
 use Rattle.m161_debug.specs.Breakpoints.{Debugged}
 use Rattle.s161.specs.declared.events.Stop.{Stop}
 use Rattle.s161.specs.Runs.{summary_text}
-use Rattle.s161.proofs.threaded.finished.Goals as goal
+use Rattle.s161.proofs.threaded.finish.Goals as goal
 
 pub returns-clause-text : goal.returns-clause-text
 returns-clause-text c =

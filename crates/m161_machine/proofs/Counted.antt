@@ -1,0 +1,104 @@
+use Rattle.std.proofs.Common.{◌≡◌, ◌∙◌, refl, ap, sym, ℕ, zero, suc, ◌+◌, ◌-◌, ◌<◌, Bool, true, false, List, [], ◌∷◌, length, map, replicate, set, get_or, Option, None, Some, Result, Ok, Err, arith}
+use Rattle.std.specs.Prelude.{◌==◌, if◌then◌else◌}
+use Rattle.std.proofs.lemmas.Bool.Decides.{nat_tests}
+use Rattle.std.proofs.lemmas.List.{get_or-set_same, get_or-set_other, length-map, length-set}
+use Rattle.std.proofs.lemmas.List.Sums.{sum_by-cons}
+use Rattle.m161_cpu.specs.declared.processor.Outcome.{Outcome}
+use Rattle.m161_cpu.specs.Processor.{Processor, stopped}
+use Rattle.m161_machine.specs.declared.event.Event.{Event}
+use Rattle.m161_machine.specs.declared.event.Event.TheVariants.{Step, Key, Done}
+use Rattle.m161_machine.specs.declared.event.Refusal.{Refusal}
+use Rattle.m161_machine.specs.State.{State, counts, counts_after, next}
+use Rattle.m161_machine.specs.History.{History, Start, CountsSteps, IsReplay, after_outcome, boot_state, events_of, going_on, is_step_of, outcomes_of, run, steps_of}
+use Rattle.m161_machine.proofs.Counting.{counts_law}
+
+-- What the counts of a run say of its events.
+
+-- the counts after these events
+abbrev pub counts_through : List Event → List ℕ → List ℕ
+counts_through [] cs = cs
+counts_through (e ∷ es) cs = counts_through es (counts_after e cs)
+
+-- what comes after the first event of a run
+rest_of : (y : Option (List Outcome × State)) (first : Outcome) (os : List Outcome) (t : State) →
+    after_outcome first y ≡ Some (os, t) → (rest : List Outcome) × (y ≡ Some (rest, t))
+rest_of None first os t h = absurd (let bad : ◌≡◌ {A = Option (List Outcome × State)} None (Some (os, t)) = h in cc)
+rest_of (Some r) first os t h =
+    let pair : ◌≡◌ {A = List Outcome × State} (first ∷ r.0, r.1) (os, t) = cc in
+    let last_is : r.1 ≡ t = ap (λ x. x.1) pair in
+    (r.0, ap (λ u. Some (r.0, u)) last_is)
+
+counts_going : (x : Result (Outcome × State) Refusal) (e : Event) (es : List Event) (s t : State) (os : List Outcome) →
+    next s e ≡ x → ((u : State) (rest : List Outcome) → run u es ≡ Some (rest, t) → counts t ≡ counts_through es (counts u)) →
+    going_on x (λ u. run u es) ≡ Some (os, t) → counts t ≡ counts_through es (counts_after e (counts s))
+counts_going (Err refusal) e es s t os is rest h = absurd (let bad : ◌≡◌ {A = Option (List Outcome × State)} None (Some (os, t)) = h in cc)
+counts_going (Ok r) e es s t os is rest h =
+    let after = rest_of (run r.1 es) r.0 os t h in
+    rest r.1 after.0 after.1 ∙ ap (counts_through es) (counts_law s r.1 e r.0 is)
+
+pub counts_run : (es : List Event) (s t : State) (os : List Outcome) → run s es ≡ Some (os, t) → counts t ≡ counts_through es (counts s)
+counts_run [] s t os h =
+    let pair : ◌≡◌ {A = List Outcome × State} ([], s) (os, t) = cc in
+    let same : s ≡ t = ap (λ x. x.1) pair in ap counts (sym same)
+counts_run (e ∷ es) s t os h =
+    counts_going (next s e) e es s t os refl (λ u rest k. counts_run es u t rest k) h
+
+pub same_length : (e : Event) (cs : List ℕ) → length (counts_after e cs) ≡ length cs
+same_length (Step q) cs = length-set cs q (get_or cs q 0 + 1)
+same_length (Key byte) cs = refl
+same_length Done cs = refl
+
+-- a processor's count goes up by its Steps
+count_by_step : (b : Bool) (q p : ℕ) (cs : List ℕ) → (q == p) ≡ b → p < length cs →
+    get_or (set cs q (get_or cs q 0 + 1)) p 0 ≡ get_or cs p 0 + (if b then 1 else 0)
+count_by_step true q p cs test inside =
+    let same : q ≡ p = grind (arith, nat_tests, test) in
+    ap (λ n. get_or (set cs n (get_or cs n 0 + 1)) p 0) same ∙ get_or-set_same cs p (get_or cs p 0 + 1) 0 inside
+count_by_step false q p cs test inside =
+    let other : (p ≡ q) → ⊥ = λ same. absurd (let bad : ⊥ = grind (arith, nat_tests, test, same) in bad) in
+    let none : get_or cs p 0 + 0 ≡ get_or cs p 0 = omega arith in
+    get_or-set_other cs q p (get_or cs q 0 + 1) 0 other ∙ sym none
+
+count_after : (e : Event) (p : ℕ) (cs : List ℕ) → p < length cs →
+    get_or (counts_after e cs) p 0 ≡ get_or cs p 0 + (if is_step_of p e then 1 else 0)
+count_after (Step q) p cs inside = count_by_step (q == p) q p cs refl inside
+count_after (Key byte) p cs inside = omega arith
+count_after Done p cs inside = omega arith
+
+pub count_through : (es : List Event) (p : ℕ) (cs : List ℕ) → p < length cs →
+    get_or (counts_through es cs) p 0 ≡ get_or cs p 0 + steps_of p es
+count_through [] p cs inside = omega arith
+count_through (e ∷ es) p cs inside =
+    let still : p < length (counts_after e cs) = omega (arith, inside, same_length e cs) in
+    let rest = count_through es p (counts_after e cs) still in
+    let here = count_after e p cs inside in
+    let more = sum_by-cons (λ (x : Event). if is_step_of p x then 1 else 0) e es in
+    omega (arith, rest, here, more)
+
+pub length_through : (es : List Event) (cs : List ℕ) → length (counts_through es cs) ≡ length cs
+length_through [] cs = refl
+length_through (e ∷ es) cs = length_through es (counts_after e cs) ∙ same_length e cs
+
+-- at boot no processor has made a Step
+none_made : (n p : ℕ) → get_or (map (λ (q : Processor). q.count) (replicate n stopped)) p 0 ≡ 0
+none_made zero p = refl
+none_made (suc n) zero = refl
+none_made (suc n) (suc p) = none_made n p
+
+none_at_boot : (start : Start) (p : ℕ) → get_or (counts (boot_state start)) p 0 ≡ 0
+none_at_boot start zero = refl
+none_at_boot start (suc p) = none_made (start.conf.processors - 1) p
+
+pub counts_steps : (h : History) → IsReplay h → CountsSteps h
+counts_steps h replay p inside =
+    let es = events_of h.log in
+    let cs = counts (boot_state h.start) in
+    let through : counts h.state ≡ counts_through es cs =
+    counts_run es (boot_state h.start) h.state (outcomes_of h.log) replay in
+    let number : length (counts h.state) ≡ length h.state.processors =
+    length-map h.state.processors (λ (q : Processor). q.count) in
+    let there : p < length cs =
+    omega (arith, inside, number, ap length through, length_through es cs) in
+    let made = count_through es p cs there in
+    let none = none_at_boot h.start p in
+    ap (λ l. get_or l p 0) through ∙ omega (arith, made, none)

@@ -1,0 +1,118 @@
+use Rattle.std.proofs.Common.{◌≡◌, refl, ap, sym, subst, inl, inr, ℕ, Bool, true, false, List, [], ◌∷◌, Option, None, Some, Result, Ok, Err}
+use Rattle.std.specs.Prelude.{All, if◌then◌else◌}
+use Rattle.std.proofs.lemmas.List.Elements.{All-cons, All-nil}
+use Rattle.m161_bus.specs.declared.console.DoneError.{DoneError}
+use Rattle.m161_bus.specs.declared.console.KeyFull.{KeyFull}
+use Rattle.m161_bus.specs.Board.{BoardState, board_key, board_done}
+use Rattle.m161_cop0.specs.Control.{Control, is_pending}
+use Rattle.m161_cop0.specs.declared.trap.Trap.{Trap}
+use Rattle.m161_cop0.specs.Trap.{IsVector, vector_of}
+use Rattle.m161_cpu.specs.declared.processor.Outcome.{Outcome}
+use Rattle.m161_cpu.specs.declared.processor.Outcome.TheVariants.{Ran, PoweredOff, Taken}
+use Rattle.m161_cpu.specs.declared.processor.ProcessorState.{ProcessorState}
+use Rattle.m161_cpu.specs.declared.processor.ProcessorState.TheVariants.{Stopped, Running, Waiting}
+use Rattle.m161_cpu.specs.Fault.{Fault, noted, trap_of}
+use Rattle.m161_cpu.specs.Processor.{with_state}
+use Rattle.m161_cpu.specs.Scene.{Change, Scene, around, changed, scene}
+use Rattle.m161_cpu.specs.Step.{IsProper, ended, executed, idle, lines_in, running, step_in, step_of, tick, with_processor}
+use Rattle.m161_machine.specs.declared.event.Entry.{Entry}
+use Rattle.m161_machine.specs.declared.event.Event.{Event}
+use Rattle.m161_machine.specs.declared.event.Event.TheVariants.{Step, Key, Done}
+use Rattle.m161_machine.specs.declared.event.Refusal.{Refusal}
+use Rattle.m161_machine.specs.declared.event.Refusal.TheVariants.{KeyFull as KeyFullRefusal}
+use Rattle.m161_machine.specs.State.{State, answer, answered_done, answered_key, live_links, next, processor_at, refusal, refusal_of_done, stepped, with_board, with_step}
+use Rattle.m161_machine.specs.History.{CanGive, after_outcome, events_of, going_on, outcomes_of, run}
+use Rattle.m161_machine.proofs.Counting.{given}
+
+-- Each entry of a run has an outcome that its event can have.
+
+by_bits : (miss boot : Bool) →
+    IsVector (if miss then (if boot then 0xbfc00100 else 0x80000000) else (if boot then 0xbfc00180 else 0x80000080))
+by_bits true true = inr (inr (inl refl))
+by_bits true false = inl refl
+by_bits false true = inr (inr (inr refl))
+by_bits false false = inr (inl refl)
+
+is_vector : (trap : Trap) (c : Control) → IsVector (vector_of trap c)
+unfolding vector_of
+is_vector trap c = by_bits _ _
+
+by_power : (off : Bool) → IsProper (if off then PoweredOff else Ran)
+by_power true = tt
+by_power false = tt
+
+ended_proper : (s : Scene) (r : Result Change Fault) → IsProper (ended s r).outcome
+ended_proper s (Ok change) = by_power (changed change s).around.board.off
+ended_proper s (Err f) =
+    is_vector (trap_of f.kind (noted f.address s.processor)) (noted f.address s.processor).control
+
+waiting_proper : (s : Scene) (pending : Bool) →
+    IsProper (if pending then running (with_processor (with_state Running) s) else idle tick s).outcome
+waiting_proper s true =
+    ended_proper (with_processor (with_state Running) s) (executed (with_processor (with_state Running) s))
+waiting_proper s false = tt
+
+proper_in : (state : ProcessorState) (s : Scene) → IsProper (step_in state s).outcome
+proper_in Stopped s = tt
+proper_in Running s = ended_proper s (executed s)
+proper_in Waiting s = waiting_proper s (is_pending (lines_in s) s.processor.control)
+
+step_proper : (s : Scene) → IsProper (step_of s).outcome
+unfolding step_of
+step_proper s = proper_in s.processor.state s
+
+stepped_proper : (p : ℕ) (s : State) → IsProper (stepped p s).outcome
+unfolding stepped
+stepped_proper p s =
+    step_proper (scene (processor_at p s.processors) (around p s.memory s.board (live_links s.stores s.links)))
+
+-- the outcome of an answer
+outcome_of : (x y : Outcome × State) → ◌≡◌ {A = Result (Outcome × State) Refusal} (Ok x) (Ok y) → x.0 ≡ y.0
+outcome_of x y h = let pair : x ≡ y = cc in ap (λ z. z.0) pair
+
+key_gives : (s t : State) (o : Outcome) (r : Result BoardState KeyFull) →
+    answered_key s r ≡ Ok (o, t) → o ≡ Taken
+key_gives s t o (Ok board) h = sym (outcome_of (Taken, with_board board s) (o, t) h)
+key_gives s t o (Err e) h = absurd (let bad : ◌≡◌ {A = Result (Outcome × State) Refusal} (Err KeyFullRefusal) (Ok (o, t)) = h in cc)
+
+done_gives : (s t : State) (o : Outcome) (r : Result BoardState DoneError) →
+    answered_done s r ≡ Ok (o, t) → o ≡ Taken
+done_gives s t o (Ok board) h = sym (outcome_of (Taken, with_board board s) (o, t) h)
+done_gives s t o (Err e) h = absurd (let bad : ◌≡◌ {A = Result (Outcome × State) Refusal} (Err (refusal_of_done e)) (Ok (o, t)) = h in cc)
+
+answer_gives : (e : Event) (s t : State) (o : Outcome) → answer s e ≡ Ok (o, t) → CanGive e o
+answer_gives (Step p) s t o h =
+    subst IsProper (outcome_of ((stepped p s).outcome, with_step p (stepped p s) s) (o, t) h) (stepped_proper p s)
+answer_gives (Key byte) s t o h = key_gives s t o (board_key byte s.board) h
+answer_gives Done s t o h = done_gives s t o (board_done s.board) h
+
+gives : (e : Event) (s t : State) (o : Outcome) → next s e ≡ Ok (o, t) → CanGive e o
+unfolding next
+gives e s t o h = answer_gives e s t o (given (refusal s e) (answer s e) (o, t) h)
+
+-- the first outcome of a run, and the rest
+after_first : (y : Option (List Outcome × State)) (o first : Outcome) (os : List Outcome) (t : State) →
+    after_outcome o y ≡ Some (first ∷ os, t) → (o ≡ first) × (y ≡ Some (os, t))
+after_first None o first os t h = absurd (let bad : ◌≡◌ {A = Option (List Outcome × State)} None (Some (first ∷ os, t)) = h in cc)
+after_first (Some q) o first os t h =
+    let pair : ◌≡◌ {A = List Outcome × State} (o ∷ q.0, q.1) (first ∷ os, t) = cc in
+    let list : ◌≡◌ {A = List Outcome} (o ∷ q.0) (first ∷ os) = ap (λ x. x.0) pair in
+    let first_is : o ≡ first = cc in
+    let rest_is : q.0 ≡ os = cc in
+    let last_is : q.1 ≡ t = ap (λ x. x.1) pair in
+    (first_is, λ i. Some (rest_is i, last_is i))
+
+going_first : (x : Result (Outcome × State) Refusal) (y : State → Option (List Outcome × State)) (first : Outcome) (os : List Outcome) (t : State) →
+    going_on x y ≡ Some (first ∷ os, t) → (u : State) × (x ≡ Ok (first, u)) × (y u ≡ Some (os, t))
+going_first (Err refusal) y first os t h = absurd (let bad : ◌≡◌ {A = Option (List Outcome × State)} None (Some (first ∷ os, t)) = h in cc)
+going_first (Ok r) y first os t h =
+    let parts = after_first (y r.1) r.0 first os t h in
+    (r.1, ap (λ o. Ok (o, r.1)) parts.0, parts.1)
+
+pub run_gives : (log : List Entry) (s t : State) → run s (events_of log) ≡ Some (outcomes_of log, t) →
+    All (λ (e : Entry). CanGive e.event e.outcome) log
+run_gives [] s t h = All-nil (λ (e : Entry). CanGive e.event e.outcome)
+run_gives (e ∷ log) s t h =
+    let parts = going_first (next s e.event) (λ u. run u (events_of log)) e.outcome (outcomes_of log) t h in
+    All-cons (λ (e : Entry). CanGive e.event e.outcome) e log
+    (gives e.event s parts.0 e.outcome parts.1) (run_gives log parts.0 t parts.2)
