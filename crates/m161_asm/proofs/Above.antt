@@ -9,7 +9,7 @@ use Rattle.m161_asm.specs.declared.statement.ReadError.TheVariants as errors
 use Rattle.m161_asm.specs.Tokens.{lines, split, tokens}
 use Rattle.m161_asm.specs.Lines.{Fault, SourceLine}
 use Rattle.m161_asm.specs.Text.{line_of, read_lines}
-use Rattle.m161_asm.specs.Seen.{line_seen, above_of, fault_seen, IsTold, Yields, Goes}
+use Rattle.m161_asm.specs.Seen.{line_seen, above_of, fault_seen, IsTold, Yields, GoesOn}
 use Rattle.m161_asm.specs.Answer.{Tells}
 use Rattle.m161_asm.specs.declared.first.FirstPass.{FirstPass}
 
@@ -72,7 +72,7 @@ stopped above bytes below f e = rw e refl
 pub told : (e : AsmError) (r : ReadError) (above : List SourceLine) (n : ℕ) (bytes : List ℕ)
     (below : List (List ℕ)) (x : Result (List SourceLine) (ℕ × Fault)) → IsTold e n r
     → n ≡ length above + 1 → Yields {X = CodeLine} line_seen (Err r) (line_of above (tokens bytes))
-    → Goes (Err e) (read_lines above (bytes ∷ below)) x
+    → GoesOn (Err e) (read_lines above (bytes ∷ below)) x
 told e errors.Memory above n bytes below x t d y = inl t
 told e (errors.Fault f) above n bytes below x t d y =
     let line : 1 + length above ≡ e.line = omega (arith, t.0, d) in
@@ -98,7 +98,7 @@ step_on above new rest n whole h e s k =
 pub step_off : (view : FirstPass → List SourceLine) (e : AsmError) (above : List SourceLine)
     (rest : List ℕ)
     (n : ℕ) (after whole : Result (List SourceLine) (ℕ × Fault)) → 0 < length rest → n ≡ len rest
-    → Goes (Err e) (read_lines above (take n rest ∷ lines (drop (n + 1) rest))) after
+    → GoesOn (Err e) (read_lines above (take n rest ∷ lines (drop (n + 1) rest))) after
     → read_lines above (lines rest) ≡ whole → Tells view (Err e) whole
 step_off view e above rest n after whole h d (inl m) k = inl m
 step_off view e above rest n after whole h d (inr f) k =

@@ -2,7 +2,7 @@ use Rattle.std.specs.Prelude.{ℕ, ◌+◌, ◌-◌, ◌*◌, ◌%◌, ◌^◌, 
 use Rattle.std.proofs.Common.{◌≡◌, refl, subst, arith}
 use Rattle.std.proofs.lemmas.Bool.Decides.{Decides-eqb}
 use Rattle.m161_asm.specs.Lines.{Fault, Value, Statement, Nothing, Origin, Space, Entry, Words, Code, Label, SourceLine, is_within, size_of}
-use Rattle.m161_asm.specs.Text.{Segment, address_below, address_from, origin_of, symbol, symbols_in, number_of_value, target_of, first_address, or_address, entry_by, entry_of}
+use Rattle.m161_asm.specs.Text.{Segment, address_below, address_from, origin_of, symbol, symbols_in, number_of_value, word_address, first_address, or_address, entry_by, entry_of}
 use Rattle.m161_asm.specs.Lawful.{IsStatement, Lawful}
 use Rattle.m161_asm.specs.Segments.{AreAligned, ArePlaced}
 use Rattle.m161_asm.proofs.Lawfuls.{bound, same}
@@ -36,8 +36,8 @@ symbols_are_multiples (l ∷ above) (i, h) =
     (address_is_multiple above h)
 
 target_is_multiple : (symbols : List (List ℕ × ℕ)) (v : Value) (n : ℕ)
-    → target_of symbols v ≡ Ok n → n % 4 ≡ 0
-unfolding target_of
+    → word_address symbols v ≡ Ok n → n % 4 ≡ 0
+unfolding word_address
 target_is_multiple symbols v n e =
     let a = bound (number_of_value symbols v) _ n e in
     by (is_within 0 (2 ^ 32 - 1) a.x) (a.x.0 - a.x.1) _ a.gives
@@ -60,7 +60,7 @@ or_is_multiple a (Err e) h f = h
 entry_by_is_multiple : (symbols : List (List ℕ × ℕ)) (other : ℕ) (s : Statement)
     → other % 4 ≡ 0 → entry_by symbols other s % 4 ≡ 0
 entry_by_is_multiple symbols other (Entry v) h =
-    or_is_multiple other (target_of symbols v) h (target_is_multiple symbols v)
+    or_is_multiple other (word_address symbols v) h (target_is_multiple symbols v)
 entry_by_is_multiple symbols other Nothing h = h
 entry_by_is_multiple symbols other (Origin n) h = h
 entry_by_is_multiple symbols other (Space n) h = h

@@ -6,7 +6,7 @@ use Rattle.std.proofs.Common.{◌≡◌, true, false, suc, refl, ap, arith}
 use Rattle.std.proofs.lemmas.Bool.Decides.{nat_tests}
 use Rattle.std.proofs.lemmas.Str.{IsUtf8-from_ascii}
 use Rattle.std.proofs.lemmas.Str.Ascii.{IsAscii-nil, IsAscii-cons}
-use Rattle.m161_asm.specs.Tokens.{Nothing, AName, ANumber, ARegister, ADirective, AMark, NoToken, beginning, begins_name, is_word, run}
+use Rattle.m161_asm.specs.Tokens.{Nothing, AName, ANumber, ARegister, ADirective, AMark, NoToken, beginning, begins_name, is_word, name_bytes}
 
 -- A name is ASCII.
 
@@ -20,13 +20,13 @@ take_whole : (xs : List ℕ) → take (length xs) xs ≡ xs
 take_whole [] = refl
 take_whole (x ∷ xs) = ap (λ t. x ∷ t) (take_whole xs)
 
-run_ascii : (bs : List ℕ) → IsAscii (run bs)
+run_ascii : (bs : List ℕ) → IsAscii (name_bytes bs)
 run_ascii [] = IsAscii-nil
 run_ascii (b ∷ bs) =
     elim (is_word b) as
     (λ x. is_word b ≡ x → IsAscii (take (cond x (1 + prefix_len is_word bs) 0) (b ∷ bs))) [
       | true ↦ λ e. let n : 1 + prefix_len is_word bs ≡ suc (prefix_len is_word bs) = omega arith in
-          rw n (IsAscii-cons b (run bs) (word_ascii b e) (run_ascii bs))
+          rw n (IsAscii-cons b (name_bytes bs) (word_ascii b e) (run_ascii bs))
       | false ↦ λ e. IsAscii-nil
     ] refl
 
@@ -52,16 +52,16 @@ begins b e =
     ((b == 44) || (b == 40) || (b == 41) || (b == 58) || (b == 43) || (b == 45)) e)
 
 pub name_ascii : (rest : List ℕ) → beginning (slice_index rest 0) ≡ AName
-    → IsUtf8 (slice_index rest 0 ∷ run (drop 1 rest))
+    → IsUtf8 (slice_index rest 0 ∷ name_bytes (drop 1 rest))
 name_ascii rest e =
     IsUtf8-from_ascii _
-    (IsAscii-cons (slice_index rest 0) (run (drop 1 rest)) (begins (slice_index rest 0) e)
+    (IsAscii-cons (slice_index rest 0) (name_bytes (drop 1 rest)) (begins (slice_index rest 0) e)
     (run_ascii (drop 1 rest)))
 
 -- a name's bytes at the front of a line's rest
 pub front : (rest : List ℕ) (n : ℕ) → 0 < length rest
     → n ≡ prefix_len is_word (take (length rest - 1) (drop 1 rest))
-    → take (1 + n) rest ≡ slice_index rest 0 ∷ run (drop 1 rest)
+    → take (1 + n) rest ≡ slice_index rest 0 ∷ name_bytes (drop 1 rest)
 front [] n h e = absurd (omega (arith, h))
 front (b ∷ bs) n h e =
     let k : 1 + n ≡ suc n = omega arith in

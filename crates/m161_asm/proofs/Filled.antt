@@ -2,7 +2,7 @@ use Rattle.std.specs.Prelude.{ℕ, zero, suc, ◌+◌, ◌-◌, List, [], ◌∷
 use Rattle.m161_asm.specs.declared.second.SecondPass.{SecondPass}
 use Rattle.m161_asm.specs.Lines.{Fault, SourceLine, Statement, size_of}
 use Rattle.m161_asm.specs.Text.{Segment, segments_of, opened_at, words_of_statement, address_below, address_from, entry_of, entry_by, origin_of, full}
-use Rattle.m161_asm.specs.Seen.{with_front, fault_seen, Appends}
+use Rattle.m161_asm.specs.Seen.{with_front, fault_seen, AddsNumbers}
 use Rattle.m161_asm.specs.declared.statement.ReadError.{ReadError}
 use Rattle.m161_asm.specs.declared.statement.ReadError.TheVariants as errors
 use Rattle.std.proofs.lemmas.List.{reverse-append}
@@ -85,7 +85,7 @@ stopped_line symbols old above l x f w =
 pub stop_fill : (r : ReadError) (symbols : List (List ℕ × ℕ)) (old new : SecondPass)
     (front back : List ℕ) (above : List SourceLine) (l : SourceLine) (s : Statement)
     → l.statement ≡ s
-    → Appends (Err r) front back (words_of_statement symbols old.address s)
+    → AddsNumbers (Err r) front back (words_of_statement symbols old.address s)
     → IsFilled old symbols above
     → FillsLine (Err r) new symbols (l ∷ above)
 stop_fill errors.Memory symbols old new front back above l s e a f = tt

@@ -6,8 +6,8 @@ use Rattle.m161_isa.specs.declared.operand.Operand.{Operand}
 use Rattle.m161_isa.specs.declared.operand.Operand.TheVariants as operand
 use Rattle.m161_isa.specs.Table.{table, width_of, AreOperands}
 use Rattle.m161_asm.specs.Tokens.{Placed, Name, Directive, Register, tokens}
-use Rattle.m161_asm.specs.Lines.{◌>>=◌, Fault, Whole, Value, Part, Field, BranchTo, JumpTo, Parsed, Statement, Nothing, Origin, Space, Entry, Words, Code, SourceLine, register, wrong, whole, is_within, bits_of_whole, part, immediate, register_part, base, target, mark, value, comma, separated, finish, parts, plain_number, multiple, origin, space, entry, words_statement, unknown, values, directive_statement, row_named, instruction, name_statement, statement, label_of, sound, past_of, line_column, size_of}
-use Rattle.m161_asm.specs.Text.{words_in, segments_in, address_below, with_place, is_outside, is_filled, new_label, line_of, on_line, read_lines, target_of, distance, field_of, each}
+use Rattle.m161_asm.specs.Lines.{◌>>=◌, Fault, Whole, Value, Part, Field, BranchTo, JumpTo, Parsed, Statement, Nothing, Origin, Space, Entry, Words, Code, SourceLine, register, wrong, whole, is_within, bits_of_whole, part, immediate, register_part, base, target, mark, value, comma, separated, finish, operand_parts, plain_number, multiple, origin_statement, space_statement, entry_statement, words_statement, unknown, values, directive_statement, row_named, instruction, name_statement, statement, label_of, sound, past_of, line_column, size_of}
+use Rattle.m161_asm.specs.Text.{count_words, segments_in, address_below, line_in_place, is_outside, is_filled, new_label, line_of, on_line, read_lines, word_address, distance, field_of, each}
 use Rattle.m161_asm.specs.Lawful.{IsPart, AreParts, IsStatement, HasPlace, Lawful}
 
 -- Lines that were read are lawful.
@@ -110,13 +110,13 @@ finish_is y z past [] e = same y z e
 finish_is y z past (t ∷ ts) e = cc
 
 parts_are : (first : Bool) (os : List Operand) (past : ℕ) (ts : List Placed) (xs : List Part)
-    → parts first os past ts ≡ Ok xs → AreParts os xs
-unfolding parts
+    → operand_parts first os past ts ≡ Ok xs → AreParts os xs
+unfolding operand_parts
 parts_are first [] past ts xs e = subst (AreParts []) (finish_is [] xs past ts e) tt
 parts_are first (o ∷ os) past ts xs e =
     let a = bound (separated first o past ts) _ xs e in
     let p = bound (comma first o past ts) _ a.x a.read in
-    let b = bound (parts false os past a.x.1) _ xs a.gives in
+    let b = bound (operand_parts false os past a.x.1) _ xs a.gives in
     subst (AreParts (o ∷ os)) (same (a.x.0 ∷ b.x) xs b.gives)
     (part_is o past p.x a.x p.gives, parts_are false os past a.x.1 b.x b.read)
 
@@ -137,18 +137,18 @@ multiple_is past ts x e =
           | false ↦ λ t g. cc
         ] refl d
 
-origin_is : (past : ℕ) (ts : List Placed) (s : Statement) → origin past ts ≡ Ok s → IsStatement s
+origin_is : (past : ℕ) (ts : List Placed) (s : Statement) → origin_statement past ts ≡ Ok s → IsStatement s
 origin_is past ts s e =
     let a = bound (multiple past ts) _ s e in
     subst IsStatement (finish_is (Origin a.x.0) s past a.x.1 a.gives)
     (multiple_is past ts a.x a.read)
 
-space_is : (past : ℕ) (ts : List Placed) (s : Statement) → space past ts ≡ Ok s → IsStatement s
+space_is : (past : ℕ) (ts : List Placed) (s : Statement) → space_statement past ts ≡ Ok s → IsStatement s
 space_is past ts s e =
     let a = bound (multiple past ts) _ s e in
     subst IsStatement (finish_is (Space (a.x.0 / 4)) s past a.x.1 a.gives) tt
 
-entry_is : (past : ℕ) (ts : List Placed) (s : Statement) → entry past ts ≡ Ok s → IsStatement s
+entry_is : (past : ℕ) (ts : List Placed) (s : Statement) → entry_statement past ts ≡ Ok s → IsStatement s
 entry_is past ts s e =
     let a = bound (value past ts) _ s e in
     subst IsStatement (finish_is (Entry a.x.0) s past a.x.1 a.gives) tt
@@ -174,15 +174,15 @@ directive_is : (x : List ℕ) (column past : ℕ) (ts : List Placed) (s : Statem
 unfolding directive_statement
 directive_is x column past ts s e =
     directive_by s (bytes_eq x (codes "org")) (bytes_eq x (codes "space"))
-    (bytes_eq x (codes "entry")) (bytes_eq x (codes "word")) (origin past ts) (space past ts)
-    (entry past ts) (words_statement past ts) column
+    (bytes_eq x (codes "entry")) (bytes_eq x (codes "word")) (origin_statement past ts) (space_statement past ts)
+    (entry_statement past ts) (words_statement past ts) column
     (origin_is past ts s) (space_is past ts s) (entry_is past ts s) (words_is past ts s) e
 
 instruction_is : (o : Option Row) (column past : ℕ) (ts : List Placed) (s : Statement)
     → instruction o column past ts ≡ Ok s → IsStatement s
 instruction_is None column past ts s e = cc
 instruction_is (Some r) column past ts s e =
-    let a = bound (parts true (table r).operands past ts) _ s e in
+    let a = bound (operand_parts true (table r).operands past ts) _ s e in
     subst IsStatement (same (Code r a.x) s a.gives)
     (parts_are true (table r).operands past ts a.x a.read)
 
@@ -222,9 +222,9 @@ second_of : (b c : Bool) → (b || c) ≡ false → c ≡ false
 second_of true c e = cc
 second_of false c e = e
 
-placed_is : (above : List SourceLine) (l m : SourceLine) → with_place above l ≡ Ok m
+placed_is : (above : List SourceLine) (l m : SourceLine) → line_in_place above l ≡ Ok m
     → Placement above l m
-unfolding with_place
+unfolding line_in_place
 placed_is above l m e =
     placed_by above l m (is_outside above l)
     (is_filled above (address_below above) (size_of l.statement)) _ _ refl refl e
@@ -242,7 +242,7 @@ lawful_line above l m s p =
       within =
           at_most (2 ^ 32) (address_below above + 4 * size_of l.statement)
           (first_of _ _ (first_of _ _ (first_of _ _ o)));
-      words = at_most 4194304 (words_in (l ∷ above)) (second_of _ _ (first_of _ _ o));
+      words = at_most 4194304 (count_words (l ∷ above)) (second_of _ _ (first_of _ _ o));
       segments = at_most 1024 (segments_in (l ∷ above)) (second_of _ _ o);
       free = p.free;
     }
@@ -292,7 +292,7 @@ field_small : (symbols : List (List ℕ × ℕ)) (at : ℕ) (o : Operand) (p : P
 unfolding field_of
 field_small symbols at o (Field k) n h e = let q = same k n e in omega (arith, q, h)
 field_small symbols at o (BranchTo v) n h e =
-    let b = bound (target_of symbols v) _ n e in
+    let b = bound (word_address symbols v) _ n e in
     by (nat_lt (distance at b.x) 0x20000 || nat_le 0xfffe0000 (distance at b.x))
     (distance at b.x) _ b.gives
   where
@@ -301,7 +301,7 @@ field_small symbols at o (BranchTo v) n h e =
     by true d f g = let q = same (d / 4 % 2 ^ 16) n g in omega (arith, q, h)
     by false d f g = cc
 field_small symbols at o (JumpTo v) n h e =
-    let b = bound (target_of symbols v) _ n e in
+    let b = bound (word_address symbols v) _ n e in
     by (b.x / 2 ^ 28 == (at + 4) % 2 ^ 32 / 2 ^ 28) b.x _ b.gives
   where
     by : (t : Bool) (d : ℕ) (f : Fault)

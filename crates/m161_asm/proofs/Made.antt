@@ -4,7 +4,7 @@ use Rattle.std.proofs.Common.{◌≡◌, zero, suc, refl, ap, sym, ◌∙◌, su
 use Rattle.std.proofs.lemmas.Bool.Decides.{nat_tests}
 use Rattle.std.proofs.lemmas.List.{length-append}
 use Rattle.m161_asm.specs.Lines.{Fault, Statement, Nothing, Origin, Space, Entry, Words, Code, SourceLine, size_of}
-use Rattle.m161_asm.specs.Text.{Segment, overlap, address_below, words_in, has_words, segments_in, new_segments, is_filled, origin_of, opened_at, onto_last, on_line, each, word_of_value, field_of, target_of, words_of_statement, segments_of, full}
+use Rattle.m161_asm.specs.Text.{Segment, overlap, address_below, count_words, has_words, segments_in, new_segments, is_filled, origin_of, opened_at, onto_last, on_line, each, word_of_value, field_of, word_address, words_of_statement, segments_of, full}
 use Rattle.m161_asm.specs.Lawful.{IsStatement, HasPlace, Lawful}
 use Rattle.m161_asm.specs.Segments as segments
 use Rattle.m161_asm.specs.Segments.{IsPlaced, ArePlaced, IsApart, AreApart, AreSegments}
@@ -35,7 +35,7 @@ words_len symbols at Nothing ws e = ap length (sym (same [] ws e))
 words_len symbols at (Origin n) ws e = ap length (sym (same [] ws e))
 words_len symbols at (Space n) ws e = ap length (sym (same (replicate n 0) ws e)) ∙ zeros_len n
 words_len symbols at (Entry v) ws e =
-    let a = bound (target_of symbols v) _ ws e in ap length (sym (same [] ws a.gives))
+    let a = bound (word_address symbols v) _ ws e in ap length (sym (same [] ws a.gives))
 words_len symbols at (Words vs) ws e = each_len (word_of_value symbols) vs ws e
 words_len symbols at (Code r ps) ws e =
     let a = bound (each (field_of symbols at) ps) _ ws e in ap length (sym (same _ ws a.gives))
@@ -105,7 +105,7 @@ record Kept (all : List SourceLine) (s : Segment) (older : List Segment) : Type 
   pub end : s.0 + 4 * length s.1 ≡ address_below all
   pub ended : IsEnded s
   pub olds : AllByRecursion IsEnded older
-  pub total : length s.1 + segments.word_count older ≡ words_in all
+  pub total : length s.1 + segments.word_count older ≡ count_words all
   pub some : nat_lt 0 (length s.1) ≡ has_words all
   pub count : length (full (s ∷ older)) ≡ segments_in all
   pub covers : (a n : ℕ) → is_filled all a n ≡ any (s ∷ older) a n
@@ -333,7 +333,7 @@ apart_full (s ∷ ss) (h, hs) =
     subst AreApart (sym (full_more s ss))
     (apart_append s (full ss) (apart_full ss hs) (apart_from s ss h))
 
-limits : (all : List SourceLine) → Lawful all → (words_in all ≤ 4194304) × (segments_in all ≤ 1024)
+limits : (all : List SourceLine) → Lawful all → (count_words all ≤ 4194304) × (segments_in all ≤ 1024)
 limits [] h = (omega arith, omega arith)
 limits (l ∷ above) (i, h) = (i.words, i.segments)
 

@@ -5,7 +5,7 @@ use Rattle.std.specs.String.{string_eq}
 use Rattle.std.proofs.Common.{◌≡◌, refl, ap}
 use Rattle.std.proofs.lemmas.List.{map-append}
 use Rattle.indexmap.specs.IndexMap.{insert_entry}
-use Rattle.m161_asm.specs.Text.{address_of}
+use Rattle.m161_asm.specs.Text.{label_address}
 use Rattle.m161_asm.specs.Seen.{symbol_seen}
 
 -- The table of symbols.
@@ -27,10 +27,10 @@ added (e ∷ es) k v h =
     [ true ↦ λ d. cc | false ↦ λ d. ap (λ r. e ∷ r) (added es k v d) ] h
 
 pub added_seen : (old new : List (String Global × ℕ)) (k : String Global) (x : List ℕ) (v : ℕ)
-    → string_bytes k ≡ x → address_of (map symbol_seen old) x ≡ None
+    → string_bytes k ≡ x → label_address (map symbol_seen old) x ≡ None
     → new ≡ insert_entry string_eq old k v
     → map symbol_seen new ≡ map symbol_seen old ++ ((x, v) ∷ [])
-unfolding address_of
+unfolding label_address
 added_seen old new k x v b h e =
     let n : lookup (bytes_eq (string_bytes k)) (map symbol_seen old) ≡ None = rw b h in
     rw (e, added old k v n, ← b) (map-append symbol_seen old ((k, v) ∷ []))

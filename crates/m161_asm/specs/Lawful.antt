@@ -2,7 +2,7 @@ use Rattle.std.specs.Prelude.{◌≡◌, ◌%◌, false, ◌+◌, ◌*◌, ◌^�
 use Rattle.m161_isa.specs.declared.operand.Operand.{Operand}
 use Rattle.m161_isa.specs.Table.{table, width_of}
 use Rattle.m161_asm.specs.Lines.{Part, Field, BranchTo, JumpTo, Statement, Origin, Code, SourceLine, size_of}
-use Rattle.m161_asm.specs.Text.{address_below, words_in, segments_in, is_filled}
+use Rattle.m161_asm.specs.Text.{address_below, count_words, segments_in, is_filled}
 
 -- Facts about lines that were read, which the second pass uses.
 
@@ -26,7 +26,7 @@ IsStatement _ = Unit {0}
 pub record HasPlace (above : List SourceLine) (l : SourceLine) : Type 0 where
   pub statement : IsStatement l.statement
   pub within : address_below above + 4 * size_of l.statement ≤ 2 ^ 32
-  pub words : words_in (l ∷ above) ≤ 4194304
+  pub words : count_words (l ∷ above) ≤ 4194304
   pub segments : segments_in (l ∷ above) ≤ 1024
   pub free : is_filled above (address_below above) (size_of l.statement) ≡ false
 

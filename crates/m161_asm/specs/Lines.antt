@@ -55,13 +55,13 @@ pub data Statement : Type 0 where
   Code : (row : Row) → (parts : List Part) → Statement
 
 -- the column of the next token, or the one past the last
-abbrev pub here : ℕ → List Placed → ℕ
-here past [] = past
-here past (t ∷ ts) = t.1
+abbrev pub next_column : ℕ → List Placed → ℕ
+next_column past [] = past
+next_column past (t ∷ ts) = t.1
 
 -- the fault that the expected token is missing
 abbrev pub wrong : {A : Type 0} → ℕ → List Placed → Result A Fault
-wrong past ts = Err (faults.BadOperand, here past ts)
+wrong past ts = Err (faults.BadOperand, next_column past ts)
 
 abbrev pub mark : ℕ → ℕ → List Placed → Result (List Placed) Fault
 mark byte past ((Mark b, c, e) ∷ ts) = if b == byte then Ok ts else wrong past ((Mark b, c, e) ∷ ts)
@@ -107,14 +107,14 @@ with_label label column read = do
 
 abbrev pub value : ℕ → List Placed → Parsed Value
 value past ((Name x, c, e) ∷ ts) = with_label (Some x) c (addend past ts)
-value past ts = with_label None (here past ts) (whole past ts)
+value past ts = with_label None (next_column past ts) (whole past ts)
 
 -- a number from -low to high, as a field of `width` bits
 abbrev pub immediate : ℕ → ℕ → ℕ → ℕ → List Placed → Parsed Part
 immediate low high width past ts = do
   n ← whole past ts
   if is_within low high n.0 then Ok (Field (bits_of_whole width n.0), n.1)
-      else Err (faults.OutOfRange, here past ts)
+      else Err (faults.OutOfRange, next_column past ts)
 
 abbrev pub register_part : ℕ → List Placed → Parsed Part
 register_part past ts = do
@@ -164,11 +164,11 @@ finish x past [] = Ok x
 finish x past (t ∷ ts) = wrong past (t ∷ ts)
 
 -- the operands of a row
-unfoldable pub parts : Bool → List Operand → ℕ → List Placed → Result (List Part) Fault
-parts first [] past ts = finish [] past ts
-parts first (o ∷ os) past ts = do
+unfoldable pub operand_parts : Bool → List Operand → ℕ → List Placed → Result (List Part) Fault
+operand_parts first [] past ts = finish [] past ts
+operand_parts first (o ∷ os) past ts = do
   x ← separated first o past ts
-  xs ← parts false os past x.1
+  xs ← operand_parts false os past x.1
   Ok (x.0 ∷ xs)
 
 -- the values of `.word`, with commas between; there are no more of them than `spare`
@@ -188,20 +188,20 @@ values (suc spare) past ts = do
 abbrev pub multiple : ℕ → List Placed → Parsed ℕ
 multiple past ts = do
   n ← plain_number past ts
-  if n.0 % 4 == 0 then Ok n else Err (faults.OutOfRange, here past ts)
+  if n.0 % 4 == 0 then Ok n else Err (faults.OutOfRange, next_column past ts)
 
-abbrev pub origin : ℕ → List Placed → Result Statement Fault
-origin past ts = do
+abbrev pub origin_statement : ℕ → List Placed → Result Statement Fault
+origin_statement past ts = do
   n ← multiple past ts
   finish (Origin n.0) past n.1
 
-abbrev pub space : ℕ → List Placed → Result Statement Fault
-space past ts = do
+abbrev pub space_statement : ℕ → List Placed → Result Statement Fault
+space_statement past ts = do
   n ← multiple past ts
   finish (Space (n.0 / 4)) past n.1
 
-abbrev pub entry : ℕ → List Placed → Result Statement Fault
-entry past ts = do
+abbrev pub entry_statement : ℕ → List Placed → Result Statement Fault
+entry_statement past ts = do
   v ← value past ts
   finish (Entry v.0) past v.1
 
@@ -215,9 +215,9 @@ unknown column = Err (faults.UnknownWord, column)
 
 unfoldable pub directive_statement : List ℕ → ℕ → ℕ → List Placed → Result Statement Fault
 directive_statement d column past ts =
-    if bytes_eq d (codes "org") then origin past ts
-    else if bytes_eq d (codes "space") then space past ts
-    else if bytes_eq d (codes "entry") then entry past ts
+    if bytes_eq d (codes "org") then origin_statement past ts
+    else if bytes_eq d (codes "space") then space_statement past ts
+    else if bytes_eq d (codes "entry") then entry_statement past ts
     else if bytes_eq d (codes "word") then words_statement past ts
     else unknown column
 
@@ -228,7 +228,7 @@ row_named x = find (λ r. bytes_eq x (table r).name) all_rows
 abbrev pub instruction : Option Row → ℕ → ℕ → List Placed → Result Statement Fault
 instruction None column past ts = unknown column
 instruction (Some r) column past ts = do
-  xs ← parts true (table r).operands past ts
+  xs ← operand_parts true (table r).operands past ts
   Ok (Code r xs)
 
 -- `nop` is a word of zeros
@@ -277,7 +277,7 @@ pub record SourceLine : Type 0 where
   pub column : ℕ
 
 abbrev pub line_column : List Placed → List Placed → ℕ
-line_column all [] = here 1 all
+line_column all [] = next_column 1 all
 line_column all (t ∷ ts) = t.1
 
 -- how many words a line has, whatever the values of its labels

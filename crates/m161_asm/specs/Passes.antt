@@ -2,7 +2,7 @@ use Rattle.std.specs.Prelude.{◌≡◌, ◌⊎◌, ℕ, ◌+◌, ◌*◌, ◌^�
 use Rattle.m161_asm.specs.declared.place.Position.{Position}
 use Rattle.m161_asm.specs.Ground.{IsOrdered, HasFilled}
 use Rattle.m161_asm.specs.Lines.{Label, SourceLine}
-use Rattle.m161_asm.specs.Text.{address_below, address_from, words_in, has_words, has_words_from, segments_in, new_segments, is_filled, overlap, address_of}
+use Rattle.m161_asm.specs.Text.{address_below, address_from, count_words, has_words, has_words_from, segments_in, new_segments, is_filled, overlap, label_address}
 
 -- What the passes keep of the lines above.
 
@@ -17,7 +17,7 @@ pub record IsPosition (p : Position) : Type 0 where
 pub record IsBehind (p : Position) (above : List SourceLine) : Type 0 where
   pub position : IsPosition p
   pub address : p.address ≡ address_below above
-  pub words : p.words ≡ words_in above
+  pub words : p.words ≡ count_words above
   pub segments : p.segments ≡ segments_in above
   pub has_words : p.has_words ≡ has_words above
   pub fills : HasFilled p.ground p.address (is_filled above)
@@ -52,4 +52,4 @@ pub record Moves (old new : Position) (n : ℕ) : Type 0 where
 -- the label isn't among the symbols
 abbrev pub IsNew : List (List ℕ × ℕ) → Label → Type 0
 IsNew symbols None = Unit {0}
-IsNew symbols (Some x) = address_of symbols x.0 ≡ None
+IsNew symbols (Some x) = label_address symbols x.0 ≡ None

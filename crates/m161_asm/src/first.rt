@@ -5,14 +5,14 @@ ghost use Rattle.std.specs.List.{position_or_len};
 ghost use Rattle.m161_asm.specs.Tokens.{tokens, lines};
 ghost use Rattle.m161_asm.specs.Lines.{size_of, line_column};
 ghost use Rattle.m161_asm.specs.Text.{line_of, read_lines};
-ghost use Rattle.m161_asm.specs.Seen.{Yields, IsTold, Goes, statement_seen, label_seen, line_seen, above_of, all_seen, symbols_seen};
+ghost use Rattle.m161_asm.specs.Seen.{Yields, IsTold, GoesOn, statement_seen, label_seen, line_seen, above_of, all_seen, symbols_seen};
 ghost use Rattle.m161_asm.specs.Answer.{Tells, IsWithinLines};
 ghost use Rattle.m161_asm.specs.Passes.{HasRoom, IsNew};
 ghost use Rattle.m161_asm.specs.FirstPass.{IsPass};
 
 use crate::error::{AsmError, ErrorKind};
 use crate::line::{label_of, past_of, sound, statement};
-use crate::parse::here;
+use crate::parse::next_column;
 use crate::place::{Position, origin_of, size_of};
 use crate::scan::{after, len_before, tokens};
 use crate::statement::{Line, ReadError};
@@ -34,9 +34,9 @@ fn line_column(all: &[Placed<'_>], rest: &[Placed<'_>]) -> usize
     ensures { result ≡ line_column (all_seen all.now) (all_seen rest.now) }
 {
     if rest.len() == 0 {
-        here(1, all)
+        next_column(1, all)
     } else {
-        here(1, rest)
+        next_column(1, rest)
     }
 }
 
@@ -123,7 +123,7 @@ impl<'a> FirstPass<'a> {
         requires small { length line.now < 2 ^ 63 }
         ensures pass { OnOk result (IsPass self.new) }
         ensures value { (below : List (List ℕ)) →
-            Goes result (read_lines (above_of self.old.lines.items) (line.now ∷ below))
+            GoesOn result (read_lines (above_of self.old.lines.items) (line.now ∷ below))
             (read_lines (above_of self.new.lines.items) below) }
         ensures count { OnOk result (length self.new.lines.items ≡
             length self.old.lines.items + 1) }

@@ -24,7 +24,7 @@ pub struct Ground {
 }
 
 // The place of the first run that ends above an address, by binary search.
-fn place_of(runs: &[Run], start: u64) -> usize
+fn first_above(runs: &[Run], start: u64) -> usize
     requires { InOrder 0 runs.now }
     ensures { Splits start result runs.now }
 {
@@ -106,7 +106,7 @@ impl Ground {
             HasFilled self.new start filled) }
     {
         self.close(end)?;
-        self.next = place_of(&self.runs, start);
+        self.next = first_above(&self.runs, start);
         self.start = start;
         self.limit = limit_at(&self.runs, self.next);
         Ok(())

@@ -1,13 +1,13 @@
 //! Tokens to statements and labels.
 
 ghost use Rattle.std.specs.Prelude.{◌≡◌, length};
-ghost use Rattle.m161_asm.specs.Lines.{here, multiple, origin, space, entry, words_statement, values, finish, unknown, directive_statement, instruction, name_statement, statement, label_of, sound, past_of, line_column};
+ghost use Rattle.m161_asm.specs.Lines.{next_column, multiple, origin_statement, space_statement, entry_statement, words_statement, values, finish, unknown, directive_statement, instruction, name_statement, statement, label_of, sound, past_of, line_column};
 ghost use Rattle.m161_asm.specs.Seen.{seen, all_seen, Gives, Yields, number_seen, value_seen, part_seen, statement_seen, label_read};
 ghost use Rattle.std.specs.Prelude.{map, bytes_eq, codes};
 ghost use Rattle.m161_asm.specs.declared.error.ErrorKind.TheVariants as faults;
 
 use crate::error::ErrorKind;
-use crate::parse::{here, mark, named_row, next, parts, plain_number, value, wrong};
+use crate::parse::{mark, named_row, next, next_column, operand_parts, plain_number, value, wrong};
 use crate::statement::{Fault, Label, ReadError, Statement, Value};
 use crate::token::{Placed, Token};
 use m161_isa::Row;
@@ -38,27 +38,27 @@ fn multiple<'a, 'b>(past: usize, ts: &'b [Placed<'a>]) -> Result<(u32, &'b [Plac
     } else {
         Err(Fault {
             kind: ErrorKind::OutOfRange,
-            column: here(past, ts),
+            column: next_column(past, ts),
         })
     }
 }
 
-fn origin<'a>(past: usize, ts: &[Placed<'a>]) -> Result<Statement<'a>, Fault>
-    ensures { Gives statement_seen result (origin past (all_seen ts.now)) }
+fn origin_statement<'a>(past: usize, ts: &[Placed<'a>]) -> Result<Statement<'a>, Fault>
+    ensures { Gives statement_seen result (origin_statement past (all_seen ts.now)) }
 {
     let (n, rest) = multiple(past, ts)?;
     finish(Statement::Origin(n), past, rest)
 }
 
-fn space<'a>(past: usize, ts: &[Placed<'a>]) -> Result<Statement<'a>, Fault>
-    ensures { Gives statement_seen result (space past (all_seen ts.now)) }
+fn space_statement<'a>(past: usize, ts: &[Placed<'a>]) -> Result<Statement<'a>, Fault>
+    ensures { Gives statement_seen result (space_statement past (all_seen ts.now)) }
 {
     let (n, rest) = multiple(past, ts)?;
     finish(Statement::Space(n / 4), past, rest)
 }
 
-fn entry<'a>(past: usize, ts: &[Placed<'a>]) -> Result<Statement<'a>, Fault>
-    ensures { Gives statement_seen result (entry past (all_seen ts.now)) }
+fn entry_statement<'a>(past: usize, ts: &[Placed<'a>]) -> Result<Statement<'a>, Fault>
+    ensures { Gives statement_seen result (entry_statement past (all_seen ts.now)) }
 {
     let (v, rest) = value(past, ts)?;
     finish(Statement::Entry(v), past, rest)
@@ -113,7 +113,7 @@ fn instruction<'a>(
         return Err(ReadError::Fault(unknown(column)));
     };
     let mut found = Vec::new(alloc);
-    parts(&mut found, true, row.operands(), past, ts)?;
+    operand_parts(&mut found, true, row.operands(), past, ts)?;
     Ok(Statement::Code(row, found))
 }
 
@@ -140,11 +140,11 @@ fn directive_statement<'a>(
         (all_seen ts.now)) }
 {
     if directive == "org".as_bytes() {
-        Ok(origin(past, ts)?)
+        Ok(origin_statement(past, ts)?)
     } else if directive == "space".as_bytes() {
-        Ok(space(past, ts)?)
+        Ok(space_statement(past, ts)?)
     } else if directive == "entry".as_bytes() {
-        Ok(entry(past, ts)?)
+        Ok(entry_statement(past, ts)?)
     } else if directive == "word".as_bytes() {
         Ok(Statement::Words(values(alloc, past, ts)?))
     } else {

@@ -2,7 +2,7 @@
 
 ghost use Rattle.std.specs.Prelude.{◌≡◌, ◌≤◌, ◌<◌, ◌+◌, ◌^◌, ℕ, List, [], ◌∷◌, length, Result, IfSome, MatchOption, find, bytes_eq, drop};
 ghost use Rattle.m161_asm.specs.declared.error.ErrorKind.TheVariants as faults;
-ghost use Rattle.m161_asm.specs.Lines.{here, mark, register, plain_number, less, more, whole, addend, value, immediate, register_part, base, target, part, is_within, bits_of_whole, Field, BranchTo, JumpTo, comma, parts, separated};
+ghost use Rattle.m161_asm.specs.Lines.{next_column, mark, register, plain_number, less, more, whole, addend, value, immediate, register_part, base, target, part, is_within, bits_of_whole, Field, BranchTo, JumpTo, comma, operand_parts, separated};
 ghost use Rattle.m161_isa.specs.Table.{table};
 ghost use Rattle.m161_asm.specs.Lines.{row_named};
 ghost use Rattle.m161_asm.specs.Seen.{seen, all_seen, Gives, rest_seen, number_seen, whole_seen, whole_read, value_read, value_seen, part_read, part_seen, Adds};
@@ -26,8 +26,8 @@ pub(crate) fn next<'a, 'b>(ts: &'b [Placed<'a>]) -> Option<(Placed<'a>, &'b [Pla
 }
 
 // The column of the next token, or the one past the last.
-pub(crate) fn here(past: usize, ts: &[Placed<'_>]) -> usize
-    ensures { result ≡ here past (all_seen ts.now) }
+pub(crate) fn next_column(past: usize, ts: &[Placed<'_>]) -> usize
+    ensures { result ≡ next_column past (all_seen ts.now) }
 {
     match next(ts) {
         None => past,
@@ -38,11 +38,11 @@ pub(crate) fn here(past: usize, ts: &[Placed<'_>]) -> usize
 // The fault that the expected token is missing.
 pub(crate) fn wrong(past: usize, ts: &[Placed<'_>]) -> Fault
     ensures kind { result.kind ≡ faults.BadOperand }
-    ensures column { result.column ≡ here past (all_seen ts.now) }
+    ensures column { result.column ≡ next_column past (all_seen ts.now) }
 {
     Fault {
         kind: ErrorKind::BadOperand,
-        column: here(past, ts),
+        column: next_column(past, ts),
     }
 }
 
@@ -197,7 +197,7 @@ pub(crate) fn value<'a, 'b>(
             ))
         }
         _ => {
-            let column = here(past, ts);
+            let column = next_column(past, ts);
             let (number, rest) = whole(past, ts)?;
             Ok((
                 Value {
@@ -244,7 +244,7 @@ fn immediate<'a, 'b>(
     } else {
         Err(Fault {
             kind: ErrorKind::OutOfRange,
-            column: here(past, ts),
+            column: next_column(past, ts),
         })
     }
 }
@@ -328,15 +328,15 @@ fn comma<'a, 'b>(
 }
 
 // The operands of a row from some place on.
-#[tactic(auto, unfolding(crate::specs::Lines::parts), using(crate::proofs::Fronts::fronted))]
-pub(crate) fn parts<'a>(
+#[tactic(auto, unfolding(crate::specs::Lines::operand_parts), using(crate::proofs::Fronts::fronted))]
+pub(crate) fn operand_parts<'a>(
     out: &mut Vec<Part<'a>>,
     first: bool,
     operands: &[Operand],
     past: usize,
     ts: &[Placed<'a>],
 ) -> Result<(), ReadError>
-    ensures { Adds part_seen result out.old.items out.new.items (parts first operands.now past
+    ensures { Adds part_seen result out.old.items out.new.items (operand_parts first operands.now past
         (all_seen ts.now)) }
 {
     match operands {
@@ -350,7 +350,7 @@ pub(crate) fn parts<'a>(
         [operand, others @ ..] => {
             let (part, rest) = separated_part(first, *operand, past, ts)?;
             match out.push(part) {
-                Ok(()) => parts(out, false, others, past, rest),
+                Ok(()) => operand_parts(out, false, others, past, rest),
                 Err(_) => Err(ReadError::Memory),
             }
         }

@@ -3,7 +3,7 @@
 ghost use Rattle.std.specs.Prelude.{◌≡◌, ◌≤◌, ◌<◌, ◌+◌, ◌*◌, ◌^◌, ℕ, Bool, OnOk, List, is_some, nat_lt, ◌||◌, false, true, [], None};
 ghost use Rattle.m161_asm.specs.Lines.{size_of};
 ghost use Rattle.m161_asm.specs.Lines as lines;
-ghost use Rattle.m161_asm.specs.Text.{exceeds, new_segments, origin_of, address_from, has_words_from, with_place};
+ghost use Rattle.m161_asm.specs.Text.{exceeds, new_segments, origin_of, address_from, has_words_from, line_in_place};
 ghost use Rattle.m161_asm.specs.Seen.{statement_seen, line_seen, Gives};
 ghost use Rattle.m161_asm.specs.Passes.{IsPosition, IsBehind, HasRoom, Advances, Moves};
 
@@ -100,11 +100,11 @@ impl Position {
     }
 
     /// Whether a line may be here.
-    #[tactic(auto, unfolding(crate::specs::Text::with_place))]
+    #[tactic(auto, unfolding(crate::specs::Text::line_in_place))]
     pub(crate) fn place(&self, line: &Line<'_>) -> Result<(), Fault>
         requires { IsPosition self.now }
         ensures value { (above : List lines.SourceLine) → IsBehind self.now above →
-            Gives (λ _. line_seen line.now) result (with_place above (line_seen line.now)) }
+            Gives (λ _. line_seen line.now) result (line_in_place above (line_seen line.now)) }
         ensures room { OnOk result (HasRoom self.now (size_of
             (statement_seen line.now.statement))) }
         ensures label { OnOk result (is_some line.now.label ≡ true → self.now.address < 2 ^ 32) }

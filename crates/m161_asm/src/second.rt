@@ -6,7 +6,7 @@ ghost use Rattle.m161_asm.specs.Lines as lines;
 ghost use Rattle.m161_asm.specs.Text.{words_of_statement, word_of_value, each, origin_of, address_from, segments_of, entry_by, full};
 ghost use Rattle.m161_isa.specs.Table.{table};
 ghost use Rattle.m161_asm.specs.Lawful.{AreParts, IsStatement, Lawful};
-ghost use Rattle.m161_asm.specs.Seen.{Appends, part_seen, value_seen, statement_seen, line_seen, above_of, symbols_seen};
+ghost use Rattle.m161_asm.specs.Seen.{AddsNumbers, part_seen, value_seen, statement_seen, line_seen, above_of, symbols_seen};
 ghost use Rattle.m161_asm.specs.Answer.{IsWithinLines};
 ghost use Rattle.m161_asm.specs.SecondPass.{IsFilled, segment_seen, segments_seen, FillsLine, AdvancesPass, Passes};
 
@@ -15,7 +15,7 @@ use crate::first::at_line;
 use crate::place::{START, origin_of, size_of};
 use crate::program::Segment;
 use crate::statement::{Line, Part, ReadError, Statement, Value};
-use crate::values::{entry_by, fields_of, target_of, word_of_value};
+use crate::values::{entry_by, fields_of, word_address, word_of_value};
 use indexmap::IndexMap;
 use m161_isa::Row;
 use std::alloc::Global;
@@ -33,7 +33,7 @@ pub struct SecondPass {
 // Adds words of zeros.
 #[tactic(auto, using(crate::proofs::Filled::padded))]
 fn push_zeros(words: &mut Vec<u32>, count: u32) -> Result<(), ReadError>
-    ensures { Appends result words.old.items words.new.items (Ok (replicate count 0)) }
+    ensures { AddsNumbers result words.old.items words.new.items (Ok (replicate count 0)) }
 {
     let len = words.len();
     words.resize(len + count as usize, 0)?;
@@ -46,7 +46,7 @@ fn push_values(
     symbols: &IndexMap<String, u32>,
     values: &[Value<'_>],
 ) -> Result<(), ReadError>
-    ensures { Appends result words.old.items words.new.items (each (word_of_value
+    ensures { AddsNumbers result words.old.items words.new.items (each (word_of_value
         (symbols_seen symbols.now)) (map value_seen values.now)) }
 {
     for v in values {
@@ -70,7 +70,7 @@ fn push_code(
 ) -> Result<(), ReadError>
     requires at { at ≤ 2 ^ 32 }
     requires fit { AreParts (table row).operands (map part_seen parts.now) }
-    ensures { Appends result words.old.items words.new.items (words_of_statement
+    ensures { AddsNumbers result words.old.items words.new.items (words_of_statement
         (symbols_seen symbols.now) at (lines.Code row (map part_seen parts.now))) }
 {
     let numbers = fields_of(alloc, symbols, at, parts)?;
@@ -85,10 +85,10 @@ fn push_entry(
     symbols: &IndexMap<String, u32>,
     v: Value<'_>,
 ) -> Result<(), ReadError>
-    ensures { (at : ℕ) → Appends result words.old.items words.new.items (words_of_statement
+    ensures { (at : ℕ) → AddsNumbers result words.old.items words.new.items (words_of_statement
         (symbols_seen symbols.now) at (lines.Entry (value_seen v.entry))) }
 {
-    target_of(symbols, v)?;
+    word_address(symbols, v)?;
     Ok(())
 }
 
@@ -103,7 +103,7 @@ fn push_words(
 ) -> Result<(), ReadError>
     requires at { at ≤ 2 ^ 32 }
     requires lawful { IsStatement (statement_seen statement.now) }
-    ensures { Appends result words.old.items words.new.items (words_of_statement
+    ensures { AddsNumbers result words.old.items words.new.items (words_of_statement
         (symbols_seen symbols.now) at (statement_seen statement.now)) }
 {
     match statement {

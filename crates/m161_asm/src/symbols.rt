@@ -2,7 +2,7 @@
 
 ghost use Rattle.std.specs.Prelude.{◌≡◌, ◌<◌, ◌^◌, ◌++◌, OnOk, is_some, true, List, None, ◌∷◌, []};
 ghost use Rattle.m161_asm.specs.Lines as lines;
-ghost use Rattle.m161_asm.specs.Text.{address_of, symbol, new_label, symbols_in};
+ghost use Rattle.m161_asm.specs.Text.{label_address, symbol, new_label, symbols_in};
 ghost use Rattle.m161_asm.specs.Seen.{Gives, label_seen, symbols_seen};
 ghost use Rattle.m161_asm.specs.Passes.{IsNew};
 
@@ -13,8 +13,8 @@ use std::alloc::Global;
 
 /// The address of a label.
 
-pub(crate) fn address_of(symbols: &IndexMap<String, u32>, name: &str) -> Option<u32>
-    ensures { result ≡ address_of (symbols_seen symbols.now) name.now }
+pub(crate) fn label_address(symbols: &IndexMap<String, u32>, name: &str) -> Option<u32>
+    ensures { result ≡ label_address (symbols_seen symbols.now) name.now }
 {
     match symbols.get(name) {
         Some(address) => Some(*address),
@@ -34,7 +34,7 @@ pub(crate) fn new_label(
     let Some(label) = label else {
         return Ok(());
     };
-    match address_of(symbols, label.name) {
+    match label_address(symbols, label.name) {
         None => Ok(()),
         Some(_) => Err(Fault {
             kind: ErrorKind::DoubleLabel,
@@ -50,7 +50,7 @@ fn add(
     name: &str,
     address: u32,
 ) -> Result<(), ReadError>
-    requires { address_of (symbols_seen symbols.old) name.now ≡ None }
+    requires { label_address (symbols_seen symbols.old) name.now ≡ None }
     ensures { OnOk result (symbols_seen symbols.new ≡ symbols_seen symbols.old ++
         ((name.now, address) ∷ [])) }
 {

@@ -2,12 +2,12 @@
 
 ghost use Rattle.std.specs.Prelude.{◌≡◌, ◌≤◌, ◌<◌, ◌+◌, ◌^◌, ℕ, IfOk, map, unwrap_or, List};
 ghost use Rattle.m161_asm.specs.declared.error.ErrorKind.TheVariants as faults;
-ghost use Rattle.m161_asm.specs.Text.{number_of_value, word_of_value, target_of, branch_field, jump_field, field_of, each, entry_by};
+ghost use Rattle.m161_asm.specs.Text.{number_of_value, word_of_value, word_address, branch_field, jump_field, field_of, each, entry_by};
 ghost use Rattle.m161_asm.specs.Seen.{Gives, Yields, value_seen, part_seen, statement_seen, symbols_seen};
 
 use crate::error::ErrorKind;
 use crate::statement::{Fault, Part, ReadError, Statement, Value};
-use crate::symbols::address_of;
+use crate::symbols::label_address;
 use indexmap::IndexMap;
 use std::alloc::Global;
 
@@ -23,7 +23,7 @@ fn number_of_value(symbols: &IndexMap<String, u32>, v: Value<'_>) -> Result<(u64
     let Some(name) = v.label else {
         return Ok((up, down));
     };
-    match address_of(symbols, name) {
+    match label_address(symbols, name) {
         Some(address) => Ok((u64::from(address) + up, down)),
         None => Err(Fault {
             kind: ErrorKind::UnknownLabel,
@@ -57,9 +57,9 @@ pub(crate) fn word_of_value(symbols: &IndexMap<String, u32>, v: Value<'_>) -> Re
 }
 
 /// The address of a value: a multiple of 4.
-#[tactic(auto, unfolding(crate::specs::Text::target_of))]
-pub(crate) fn target_of(symbols: &IndexMap<String, u32>, v: Value<'_>) -> Result<u32, Fault>
-    ensures { Gives (λ n. n) result (target_of (symbols_seen symbols.now) (value_seen v.entry)) }
+#[tactic(auto, unfolding(crate::specs::Text::word_address))]
+pub(crate) fn word_address(symbols: &IndexMap<String, u32>, v: Value<'_>) -> Result<u32, Fault>
+    ensures { Gives (λ n. n) result (word_address (symbols_seen symbols.now) (value_seen v.entry)) }
 {
     let (up, down) = number_of_value(symbols, v)?;
     if down <= up && up <= down + 0xffff_ffff && (up - down) % 4 == 0 {
@@ -113,8 +113,8 @@ fn field_of(symbols: &IndexMap<String, u32>, at: u64, part: Part<'_>) -> Result<
 {
     match part {
         Part::Field(n) => Ok(n),
-        Part::BranchTo(v) => branch_field(at, v.column, target_of(symbols, v)?),
-        Part::JumpTo(v) => jump_field(at, v.column, target_of(symbols, v)?),
+        Part::BranchTo(v) => branch_field(at, v.column, word_address(symbols, v)?),
+        Part::JumpTo(v) => jump_field(at, v.column, word_address(symbols, v)?),
     }
 }
 
@@ -149,7 +149,7 @@ pub(crate) fn entry_by(
         (unwrap_or entry first) (statement_seen statement.now) }
 {
     match statement {
-        Statement::Entry(v) => match target_of(symbols, *v) {
+        Statement::Entry(v) => match word_address(symbols, *v) {
             Ok(address) => Some(address),
             Err(_) => entry,
         },

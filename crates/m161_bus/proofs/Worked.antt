@@ -5,7 +5,7 @@ use Rattle.m161_bus.specs.declared.console.DoneError.TheVariants.{NothingSent}
 use Rattle.m161_bus.specs.declared.board.BusFault.{BusFault}
 use Rattle.m161_bus.specs.Console.{ConsoleState, console_at_boot, console_read, console_written, with_key, done_of}
 use Rattle.m161_bus.specs.Registers.{register_of}
-use Rattle.m161_bus.specs.Board.{BoardState, board_at_boot, board_read, board_written, board_done, lines_of, start_words}
+use Rattle.m161_bus.specs.Board.{BoardState, board_at_boot, board_read, board_written, board_done, interrupt_lines, start_words}
 
 -- Worked values of the definitions, by computation.
 
@@ -98,12 +98,12 @@ interrupting-irqs : reads 0 0x1fff7e04 interrupting ≡ Some 1
 unfolding board_read board_written register_of
 interrupting-irqs = refl
 
-interrupting-first : lines_of 0 interrupting ≡ 0x400
-unfolding lines_of board_written register_of
+interrupting-first : interrupt_lines 0 interrupting ≡ 0x400
+unfolding interrupt_lines board_written register_of
 interrupting-first = refl
 
-interrupting-second : lines_of 1 interrupting ≡ 0
-unfolding lines_of board_written register_of
+interrupting-second : interrupt_lines 1 interrupting ≡ 0
+unfolding interrupt_lines board_written register_of
 interrupting-second = refl
 
 -- WIRQ written again: sending no longer interrupts
@@ -118,8 +118,8 @@ rewritten-irqs : reads 0 0x1fff7e04 after_rewrite ≡ Some 0
 unfolding board_read board_written register_of
 rewritten-irqs = refl
 
-rewritten-lines : lines_of 0 after_rewrite ≡ 0
-unfolding lines_of board_written register_of
+rewritten-lines : interrupt_lines 0 after_rewrite ≡ 0
+unfolding interrupt_lines board_written register_of
 rewritten-lines = refl
 
 -- processor 0 raises processor 1's CIPI, and drops it
@@ -129,16 +129,16 @@ after_raise = after 0x1fff8404 1 board
 abbrev after_drop : BoardState
 after_drop = after 0x1fff8404 0 after_raise
 
-raised-second : lines_of 1 after_raise ≡ 0x800
-unfolding lines_of board_written register_of
+raised-second : interrupt_lines 1 after_raise ≡ 0x800
+unfolding interrupt_lines board_written register_of
 raised-second = refl
 
-raised-first : lines_of 0 after_raise ≡ 0
-unfolding lines_of board_written register_of
+raised-first : interrupt_lines 0 after_raise ≡ 0
+unfolding interrupt_lines board_written register_of
 raised-first = refl
 
-dropped : lines_of 1 after_drop ≡ 0
-unfolding lines_of board_written register_of
+dropped : interrupt_lines 1 after_drop ≡ 0
+unfolding interrupt_lines board_written register_of
 dropped = refl
 
 -- the end of processor 1's CRAM in kseg1, and its bit in SELF

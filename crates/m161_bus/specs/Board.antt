@@ -75,8 +75,8 @@ lines_at through place =
     (if bit_and through place.cirqe == 0 then 0 else 0x400) + (if place.cipi then 0x800 else 0)
 
 -- the lines of processor c, as bits of Cause's IP
-unfoldable pub lines_of : ℕ → BoardState → ℕ
-lines_of c b = lines_at (irqs_through b.irqe b.console) (place_of c b)
+unfoldable pub interrupt_lines : ℕ → BoardState → ℕ
+interrupt_lines c b = lines_at (irqs_through b.irqe b.console) (place_of c b)
 
 -- the word that processor c reads from a register
 abbrev pub slot_word : ℕ → Register → BoardState → ℕ
@@ -154,12 +154,12 @@ start_words c b = record {
 }
 
 -- the result of a read, and the board after it
-abbrev pub Reads :
+abbrev pub ReadsSlot :
     Result (ℕ × BoardState) BusFault → BoardState → Result ℕ BusFault → BoardState → Type 0
-Reads (Ok read) old (Ok word) new = (word ≡ read.0) × (new ≡ read.1)
-Reads (Ok read) old (Err e) new = ⊥
-Reads (Err fault) old (Ok word) new = ⊥
-Reads (Err fault) old (Err e) new = new ≡ old
+ReadsSlot (Ok read) old (Ok word) new = (word ≡ read.0) × (new ≡ read.1)
+ReadsSlot (Ok read) old (Err e) new = ⊥
+ReadsSlot (Err fault) old (Ok word) new = ⊥
+ReadsSlot (Err fault) old (Err e) new = new ≡ old
 
 -- the number of processors and the size of RAM stay
 abbrev pub KeepsSize : BoardState → BoardState → Type 0

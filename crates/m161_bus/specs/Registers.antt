@@ -7,28 +7,28 @@ use Rattle.m161_bus.specs.declared.register.Register.TheVariants.{Constant, Cons
 -- parts are those of the System/161 manual.
 
 -- a line of a table: an offset, and the register there
-pub record Line : Type 0 where
+pub record RegisterLine : Type 0 where
   pub offset : ℕ
   pub register : Register
 
-abbrev pub at : ℕ → Register → Line
+abbrev pub at : ℕ → Register → RegisterLine
 at offset register = record { offset = offset; register = register }
 
 -- the register that a table has at an offset; a word that isn't in the table reads 0
-abbrev pub in_table : ℕ → List Line → Register
+abbrev pub in_table : ℕ → List RegisterLine → Register
 in_table offset [] = Constant 0
 in_table offset (l ∷ ls) = if offset == l.offset then l.register else in_table offset ls
 
 -- slot 0
-abbrev pub console_table : List Line
+abbrev pub console_table : List RegisterLine
 console_table = at 0x0 (Console Char) ∷ at 0x4 (Console WriteIrq) ∷ at 0x8 (Console ReadIrq) ∷ []
 
 -- a device's identity: vendor, device, revision
-abbrev pub console_configuration : List Line
+abbrev pub console_configuration : List RegisterLine
 console_configuration = at 0x0 (Constant 1) ∷ at 0x4 (Constant 4) ∷ at 0x8 (Constant 1) ∷ []
 
 -- the controller's own configuration, with its registers
-abbrev pub controller_configuration : List Line
+abbrev pub controller_configuration : List RegisterLine
 controller_configuration =
     at 0x0 (Constant 1) ∷ at 0x4 (Constant 10) ∷ at 0x8 (Constant 1)
     ∷ at 0x200 RamSize
@@ -41,7 +41,7 @@ controller_configuration =
     ∷ []
 
 -- a processor's registers; its CRAM is the 64 words from 0x300 on
-abbrev pub place_table : ℕ → List Line
+abbrev pub place_table : ℕ → List RegisterLine
 place_table p = at 0x0 (Cirqe p) ∷ at 0x4 (Cipi p) ∷ []
 
 abbrev pub place_register : ℕ → ℕ → Register

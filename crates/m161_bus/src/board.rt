@@ -1,7 +1,7 @@
 //! The board.
 
 ghost use Rattle.std.specs.Prelude.{◌≡◌, ◌-◌, ◌%◌, ◌^◌, ◌<◌, ◌≤◌, length};
-ghost use Rattle.m161_bus.specs.Board.{KeepsLines, KeepsSize, Reads, after_read, board_at_boot, board_read, board_written, irqs_through, irqs_with, with_slot_word, slot_word};
+ghost use Rattle.m161_bus.specs.Board.{KeepsLines, KeepsSize, ReadsSlot, after_read, board_at_boot, board_read, board_written, irqs_through, irqs_with, with_slot_word, slot_word};
 ghost use Rattle.m161_bus.specs.Outcome.{LeavesUnlessRefused};
 ghost use Rattle.m161_bus.specs.Registers.{IsThere};
 
@@ -120,7 +120,7 @@ impl<D: Console> Board<D> {
     #[tactic(auto, unfolding(crate::specs::Board::board_read))]
     pub fn read(&mut self, c: u32, at: u32) -> Result<u32, BusFault>
         requires processor { c < self.old.processors }
-        ensures read { Reads (board_read c at self.old) self.old result self.new }
+        ensures read { ReadsSlot (board_read c at self.old) self.old result self.new }
         ensures size { KeepsSize self.old self.new }
     {
         let register = register_of(at, self.processors).ok_or(BusFault)?;

@@ -16,7 +16,7 @@ use Rattle.m161_tlb.specs.Row.{hi_word, lo_word, row_of_words}
 use Rattle.m161_tlb.specs.Rows.{find_row}
 use Rattle.m161_cop0.specs.Control.{Control, read_of, written, with_tlb_row, with_probe, identifier_of, index_row_of}
 use Rattle.m161_cop0.specs.Trap.{restored}
-use Rattle.m161_bus.specs.Board.{BoardState, board_written, lines_of}
+use Rattle.m161_bus.specs.Board.{BoardState, board_written, interrupt_lines}
 use Rattle.m161_cpu.specs.declared.fault.Access.TheVariants.{Load, Store}
 use Rattle.m161_cpu.specs.declared.fault.FaultKind.TheVariants as kind
 use Rattle.m161_cpu.specs.declared.processor.Flow.{Flow}
@@ -118,29 +118,33 @@ abbrev pub one_if : Bool → ℕ
 one_if test = if test then 1 else 0
 
 -- the address of a load or a store
-abbrev pub address_of : Argument → Argument → ℕ
-address_of offset base = (base.value + offset.value) % 2 ^ 32
+abbrev pub effective_address : Argument → Argument → ℕ
+effective_address offset base = (base.value + offset.value) % 2 ^ 32
 
 abbrev pub place_in_word : Argument → Argument → ℕ
-place_in_word offset base = address_of offset base % 4
+place_in_word offset base = effective_address offset base % 4
 
 -- a load and a store, as a function of the place in RAM of the address
 abbrev pub load : Scene → ℕ → Argument → Argument → (ℕ → Change) → Result Change Fault
 load s width o b change =
-    result_map change (reach Load width (address_of o b) (length s.around.memory) s.processor)
+    result_map change
+    (reach Load width (effective_address o b) (length s.around.memory) s.processor)
 
 abbrev pub store : Scene → ℕ → Argument → Argument → (ℕ → Change) → Result Change Fault
 store s width o b change =
-    result_map change (reach Store width (address_of o b) (length s.around.memory) s.processor)
+    result_map change
+    (reach Store width (effective_address o b) (length s.around.memory) s.processor)
 
 -- the same, of the word that contains the address
 abbrev pub load_within : Scene → Argument → Argument → (ℕ → Change) → Result Change Fault
 load_within s o b change =
-    result_map change (reach_word_of Load (address_of o b) (length s.around.memory) s.processor)
+    result_map change
+    (reach_word_of Load (effective_address o b) (length s.around.memory) s.processor)
 
 abbrev pub store_within : Scene → Argument → Argument → (ℕ → Change) → Result Change Fault
 store_within s o b change =
-    result_map change (reach_word_of Store (address_of o b) (length s.around.memory) s.processor)
+    result_map change
+    (reach_word_of Store (effective_address o b) (length s.around.memory) s.processor)
 
 -- `lw` and `sw` reach the slots too
 abbrev pub write_read : ℕ → ℕ × BoardState → Change
@@ -261,7 +265,7 @@ effect_of s effect.LoadHalfUnsigned d o b =
     load s 2 o b (λ at. write d.number (half_at s.around.memory at))
 effect_of s effect.LoadWord d o b =
     result_map (write_read d.number)
-    (read_word (address_of o b) s.processor s.around.number s.around.memory s.around.board)
+    (read_word (effective_address o b) s.processor s.around.number s.around.memory s.around.board)
 effect_of s effect.LoadWordLeft d o b =
     load_within s o b (λ at. write d.number
     (merged_left (word_at s.around.memory at) d.value (place_in_word o b)))
@@ -271,7 +275,7 @@ effect_of s effect.LoadWordRight d o b =
 -- stores; a merge of a register into memory is one of memory into a register from the other end
 effect_of s effect.StoreByte t o b = store s 1 o b (store_byte (t.value % 2 ^ 8))
 effect_of s effect.StoreHalf t o b = store s 2 o b (store_half (t.value % 2 ^ 16))
-effect_of s effect.StoreWord t o b = word_stored (address_of o b) t.value s
+effect_of s effect.StoreWord t o b = word_stored (effective_address o b) t.value s
 effect_of s effect.StoreWordLeft t o b =
     store_within s o b (λ at. store_word
     (merged_right t.value (word_at s.around.memory at) (3 - place_in_word o b)) at)
@@ -289,7 +293,7 @@ effect_of s effect.Breakpoint _ _ _ = Err (fault kind.Breakpoint)
 -- coprocessor 0
 effect_of s effect.MoveFromCop0 t r _ =
     Ok (write t.number
-    (read_of r.number (lines_of s.around.number s.around.board) s.processor.control))
+    (read_of r.number (interrupt_lines s.around.number s.around.board) s.processor.control))
 effect_of s effect.MoveToCop0 t r _ =
     Ok (write_control (written r.number t.value s.processor.control))
 effect_of s effect.ReadTlb _ _ _ =

@@ -68,8 +68,8 @@ Executes (Err f) before (Err kind) after =
     (kind ≡ f.kind) × IsAfter (noted f.address before.processor) before.around after
 
 -- an instruction was executed that changes only the processor
-abbrev pub Does : Instr → Processor → Result Unit FaultKind → Processor → Type 0
-Does i before result after =
+abbrev pub ExecutesInProcessor : Instr → Processor → Result Unit FaultKind → Processor → Type 0
+ExecutesInProcessor i before result after =
     (a : Around) → Executes (change_by (scene before a) i) (scene before a) result (scene after a)
 
 -- a value, or why there is none: a fault without an address

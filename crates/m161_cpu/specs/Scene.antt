@@ -1,4 +1,4 @@
-use Rattle.std.specs.Prelude.{ℕ, ◌*◌, ◌/◌, List, slice_set, Option, None, Some, Result, Ok, Err}
+use Rattle.std.specs.Prelude.{ℕ, ◌*◌, ◌/◌, List, slice_set, Option, None, Some, unwrap_or, Result, Ok, Err}
 use Rattle.m161_alu.specs.declared.arithmetic.HiLoPair.{HiLoPair}
 use Rattle.m161_tlb.specs.declared.row.Row.{Row}
 use Rattle.m161_ram.specs.Word.{with_half, with_word}
@@ -36,8 +36,8 @@ abbrev pub scene : Processor → Around → Scene
 scene p a = record { processor = p; around = a }
 
 -- processor p by this number, with this memory, board and links around it
-abbrev pub here : Processor → ℕ → List ℕ → BoardState → List (Option ℕ) → Scene
-here p number memory board links = scene p (around number memory board links)
+abbrev pub scene_of : Processor → ℕ → List ℕ → BoardState → List (Option ℕ) → Scene
+scene_of p number memory board links = scene p (around number memory board links)
 
 -- what is stored, and from which physical address on
 pub data Store : Type 0 where
@@ -78,10 +78,6 @@ abbrev pub applied : {A S : Type 0} → (A → S → S) → Option A → S → S
 applied f None s = s
 applied f (Some a) s = f a s
 
-abbrev pub or_else : {A : Type 0} → Option A → A → A
-or_else None old = old
-or_else (Some new) old = new
-
 -- the processor after a change, at its next address
 abbrev pub processor_after : Change → Processor → Processor
 processor_after c p =
@@ -110,7 +106,7 @@ stored_by (Some store) = Some (word_of_store store)
 abbrev pub around_after : Change → Around → Around
 around_after c a = record a {
   memory = applied with_store c.store a.memory;
-  board = or_else c.board a.board;
+  board = unwrap_or c.board a.board;
   links = links_after a.number c.link (stored_by c.store) a.links;
 }
 

@@ -7,7 +7,7 @@ use Rattle.m161_ram.specs.Word.{word_at}
 use Rattle.m161_cop0.specs.Control.{Control, is_pending, is_interrupted, may_use_cop0}
 use Rattle.m161_cop0.specs.Clock.{ticked}
 use Rattle.m161_cop0.specs.Trap.{IsVector}
-use Rattle.m161_bus.specs.Board.{lines_of}
+use Rattle.m161_bus.specs.Board.{interrupt_lines}
 use Rattle.m161_cpu.specs.declared.fault.Access.TheVariants.{Fetch}
 use Rattle.m161_cpu.specs.declared.fault.FaultKind.{FaultKind}
 use Rattle.m161_cpu.specs.declared.fault.FaultKind.TheVariants as kind
@@ -113,7 +113,7 @@ fetched memory p = and_then (word_at_pc memory p) (usable p.control)
 
 -- the lines of the board that the processor sees
 abbrev pub lines_in : Scene → ℕ
-lines_in s = lines_of s.around.number s.around.board
+lines_in s = interrupt_lines s.around.number s.around.board
 
 -- interrupt, fetch, coprocessor 0 unusable, decode, effect or trap, in this order
 unfoldable pub executed : Scene → Result Change Fault
@@ -138,12 +138,12 @@ unfoldable pub step_of : Scene → Stepped
 step_of s = step_in s.processor.state s
 
 -- a Step's outcome: it isn't that of an input, and its vector is one of the four
-abbrev pub IsProper : Outcome → Type 0
-IsProper Ran = Unit {0}
-IsProper (Trapped code vector) = IsVector vector
-IsProper Idle = Unit {0}
-IsProper PoweredOff = Unit {0}
-IsProper Taken = ⊥
+abbrev pub IsOfStep : Outcome → Type 0
+IsOfStep Ran = Unit {0}
+IsOfStep (Trapped code vector) = IsVector vector
+IsOfStep Idle = Unit {0}
+IsOfStep PoweredOff = Unit {0}
+IsOfStep Taken = ⊥
 
 -- the outcome of a Step, and the scene after it, are these
 pub record Leaves (x : Stepped) (outcome : Outcome) (after : Scene) : Type 0 where

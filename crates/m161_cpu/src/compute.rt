@@ -4,7 +4,7 @@ ghost use Rattle.std.specs.Prelude.{◌≡◌, ◌+◌, ◌*◌, ◌/◌, ◌%�
 ghost use Rattle.m161_isa.specs.declared.instr.Instr.TheVariants.{Arith, Immediate as ByImmediate, LoadUpper, Shift, ShiftVariable};
 ghost use Rattle.m161_cpu.specs.Effect.{write};
 ghost use Rattle.m161_cpu.specs.Scene.{Around, result_map, scene};
-ghost use Rattle.m161_cpu.specs.Execute.{change_by, or_fault, Does, Executes, Writes, WritesFrom};
+ghost use Rattle.m161_cpu.specs.Execute.{change_by, or_fault, ExecutesInProcessor, Executes, Writes, WritesFrom};
 
 use crate::fault::FaultKind;
 use crate::processor::Cpu;
@@ -62,7 +62,7 @@ impl<T: Tlb> Cpu<T> {
         rt: Reg,
         amount: Amount,
     ) -> Result<(), FaultKind>
-        ensures { Does (Shift op rd rt amount) self.old result self.new }
+        ensures { ExecutesInProcessor (Shift op rd rt amount) self.old result self.new }
     {
         let word = shift(op, self.reg(rt), amount);
         self.set(rd, word);
@@ -79,7 +79,7 @@ impl<T: Tlb> Cpu<T> {
         rt: Reg,
         rs: Reg,
     ) -> Result<(), FaultKind>
-        ensures { Does (ShiftVariable op rd rt rs) self.old result self.new }
+        ensures { ExecutesInProcessor (ShiftVariable op rd rt rs) self.old result self.new }
     {
         let amount = Amount::new((self.reg(rs) % 32) as u8);
         let word = shift(op, self.reg(rt), amount);
@@ -90,7 +90,7 @@ impl<T: Tlb> Cpu<T> {
     /// A row on two registers.
     #[inline(always)]
     pub(crate) fn arith(&mut self, op: ArithOp, rd: Reg, rs: Reg, rt: Reg) -> Result<(), FaultKind>
-        ensures { Does (Arith op rd rs rt) self.old result self.new }
+        ensures { ExecutesInProcessor (Arith op rd rs rt) self.old result self.new }
     {
         self.set_if(rd, arithmetic(op, self.reg(rs), self.reg(rt)))
     }
@@ -104,7 +104,7 @@ impl<T: Tlb> Cpu<T> {
         rs: Reg,
         immediate: Immediate,
     ) -> Result<(), FaultKind>
-        ensures { Does (ByImmediate op rt rs immediate) self.old result self.new }
+        ensures { ExecutesInProcessor (ByImmediate op rt rs immediate) self.old result self.new }
     {
         self.set_if(rt, with_immediate(op, self.reg(rs), immediate))
     }
@@ -113,7 +113,7 @@ impl<T: Tlb> Cpu<T> {
     #[inline(always)]
     #[tactic(auto, unfolding(crate::specs::Execute::change_by))]
     pub(crate) fn load_upper(&mut self, rt: Reg, immediate: Immediate) -> Result<(), FaultKind>
-        ensures { Does (LoadUpper rt immediate) self.old result self.new }
+        ensures { ExecutesInProcessor (LoadUpper rt immediate) self.old result self.new }
     {
         self.set(rt, u32::from(immediate.half()) << 16);
         Ok(())

@@ -2,11 +2,11 @@
 
 ghost use Rattle.std.specs.Prelude.{◌≡◌, ◌<◌, ℕ, List};
 ghost use Rattle.m161_isa.specs.declared.instr.Instr.TheVariants.{MoveFromCop0, MoveToCop0, Plain};
-ghost use Rattle.m161_bus.specs.Board.{BoardState, lines_of};
+ghost use Rattle.m161_bus.specs.Board.{BoardState, interrupt_lines};
 ghost use Rattle.m161_cpu.specs.Effect.{entry_row, probed, row_indexed};
 ghost use Rattle.m161_cpu.specs.Processor.{with_control, with_row};
-ghost use Rattle.m161_cpu.specs.Execute.{change_by, Does, Executes};
-ghost use Rattle.m161_cpu.specs.Scene.{Around, here, scene};
+ghost use Rattle.m161_cpu.specs.Execute.{change_by, ExecutesInProcessor, Executes};
+ghost use Rattle.m161_cpu.specs.Scene.{Around, scene_of, scene};
 
 use crate::fault::FaultKind;
 use crate::links::Links;
@@ -20,7 +20,7 @@ impl<T: Tlb> Cpu<T> {
     #[inline(never)]
     #[tactic(auto, unfolding(crate::specs::Execute::change_by))]
     pub(crate) fn read_cop0(&mut self, rt: Reg, register: Reg, lines: u32) -> Result<(), FaultKind>
-        ensures { (a : Around) → lines_of a.number a.board ≡ lines
+        ensures { (a : Around) → interrupt_lines a.number a.board ≡ lines
             → Executes (change_by (scene self.old a) (MoveFromCop0 rt register))
             (scene self.old a) result
             (scene self.new a) }
@@ -35,7 +35,7 @@ impl<T: Tlb> Cpu<T> {
     #[inline(never)]
     #[tactic(auto, unfolding(crate::specs::Execute::change_by))]
     pub(crate) fn write_cop0(&mut self, rt: Reg, register: Reg) -> Result<(), FaultKind>
-        ensures { Does (MoveToCop0 rt register) self.old result self.new }
+        ensures { ExecutesInProcessor (MoveToCop0 rt register) self.old result self.new }
     {
         let word = self.reg(rt);
         self.control.write(register, word);
@@ -49,9 +49,9 @@ impl<T: Tlb> Cpu<T> {
     pub(crate) fn plain(&mut self, op: PlainOp, c: u32, links: &mut Links) -> Result<(), FaultKind>
         requires { c < 32 }
         ensures { (m : List ℕ) (b : BoardState)
-            → Executes (change_by (here self.old c m b links.old) (Plain op))
-            (here self.old c m b links.old) result
-            (here self.new c m b links.new) }
+            → Executes (change_by (scene_of self.old c m b links.old) (Plain op))
+            (scene_of self.old c m b links.old) result
+            (scene_of self.new c m b links.new) }
     {
         match op {
             PlainOp::Sync => {}

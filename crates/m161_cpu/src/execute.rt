@@ -2,7 +2,7 @@
 
 ghost use Rattle.std.specs.Prelude.{Some, ◌≡◌, ◌^◌, ◌<◌, ◌≤◌, length};
 ghost use Rattle.m161_bus.specs.Board.{KeepsSize};
-ghost use Rattle.m161_cpu.specs.Scene.{here};
+ghost use Rattle.m161_cpu.specs.Scene.{scene_of};
 ghost use Rattle.m161_cpu.specs.Step.{change_in, misfit_kind};
 ghost use Rattle.m161_cpu.specs.Execute.{change_by, Executes};
 
@@ -40,9 +40,9 @@ impl<T: Tlb> Cpu<T> {
     ) -> Result<(), FaultKind>
         requires processor { (c < board.old.processors) × (board.old.processors ≤ 32) }
         requires ram { length ram.old ≤ 2 ^ 29 }
-        ensures change { Executes (change_in (here self.old c ram.old board.old links.old) word)
-            (here self.old c ram.old board.old links.old) result
-            (here self.new c ram.new board.new links.new) }
+        ensures change { Executes (change_in (scene_of self.old c ram.old board.old links.old) word)
+            (scene_of self.old c ram.old board.old links.old) result
+            (scene_of self.new c ram.new board.new links.new) }
         ensures board { KeepsSize board.old board.new }
         ensures size { length ram.new ≡ length ram.old }
     {
@@ -63,9 +63,9 @@ impl<T: Tlb> Cpu<T> {
         requires processor { (c < board.old.processors) × (board.old.processors ≤ 32) }
         requires ram { length ram.old ≤ 2 ^ 29 }
         ensures change { Executes (change_by
-            (here self.old c ram.old board.old links.old) instr.now)
-            (here self.old c ram.old board.old links.old) result
-            (here self.new c ram.new board.new links.new) }
+            (scene_of self.old c ram.old board.old links.old) instr.now)
+            (scene_of self.old c ram.old board.old links.old) result
+            (scene_of self.new c ram.new board.new links.new) }
         ensures board { KeepsSize board.old board.new }
         ensures size { length ram.new ≡ length ram.old }
     {

@@ -5,7 +5,7 @@ ghost use Rattle.m161_isa.specs.declared.instr.Instr.TheVariants.{BranchEqual, B
 ghost use Rattle.m161_alu.specs.Word.{sign_extended_half};
 ghost use Rattle.m161_cpu.specs.Effect.{branch_flow, return_address};
 ghost use Rattle.m161_cpu.specs.Processor.{with_register};
-ghost use Rattle.m161_cpu.specs.Execute.{Does};
+ghost use Rattle.m161_cpu.specs.Execute.{ExecutesInProcessor};
 
 use crate::fault::FaultKind;
 use crate::processor::{Cpu, Flow};
@@ -57,7 +57,7 @@ impl<T: Tlb> Cpu<T> {
     #[inline(always)]
     #[tactic(auto, unfolding(crate::specs::Execute::change_by))]
     pub(crate) fn jump_register(&mut self, rs: Reg) -> Result<(), FaultKind>
-        ensures { Does (JumpRegister rs) self.old result self.new }
+        ensures { ExecutesInProcessor (JumpRegister rs) self.old result self.new }
     {
         if self.in_slot() {
             return Err(FaultKind::ReservedInstruction);
@@ -71,7 +71,7 @@ impl<T: Tlb> Cpu<T> {
     #[inline(always)]
     #[tactic(auto, unfolding(crate::specs::Execute::change_by))]
     pub(crate) fn jump_and_link_register(&mut self, rd: Reg, rs: Reg) -> Result<(), FaultKind>
-        ensures { Does (JumpAndLinkRegister rd rs) self.old result self.new }
+        ensures { ExecutesInProcessor (JumpAndLinkRegister rd rs) self.old result self.new }
     {
         if self.in_slot() {
             return Err(FaultKind::ReservedInstruction);
@@ -86,7 +86,7 @@ impl<T: Tlb> Cpu<T> {
     #[inline(always)]
     #[tactic(auto, unfolding(crate::specs::Execute::change_by))]
     pub(crate) fn jump(&mut self, op: JumpOp, target: Target) -> Result<(), FaultKind>
-        ensures { Does (Jump op target) self.old result self.new }
+        ensures { ExecutesInProcessor (Jump op target) self.old result self.new }
     {
         if self.in_slot() {
             return Err(FaultKind::ReservedInstruction);
@@ -110,7 +110,7 @@ impl<T: Tlb> Cpu<T> {
         rt: Reg,
         offset: Immediate,
     ) -> Result<(), FaultKind>
-        ensures { Does (BranchEqual test rs rt offset) self.old result self.new }
+        ensures { ExecutesInProcessor (BranchEqual test rs rt offset) self.old result self.new }
     {
         if self.in_slot() {
             return Err(FaultKind::ReservedInstruction);
@@ -133,7 +133,7 @@ impl<T: Tlb> Cpu<T> {
         rs: Reg,
         offset: Immediate,
     ) -> Result<(), FaultKind>
-        ensures { Does (BranchZero test rs offset) self.old result self.new }
+        ensures { ExecutesInProcessor (BranchZero test rs offset) self.old result self.new }
     {
         if self.in_slot() {
             return Err(FaultKind::ReservedInstruction);

@@ -8,7 +8,7 @@ ghost use Rattle.m161_cpu.specs.Effect.{store_conditional, word_stored};
 ghost use Rattle.m161_cpu.specs.Execute.{change_by, Executes, FindsWord};
 ghost use Rattle.m161_cpu.specs.Links.{after_store};
 ghost use Rattle.m161_cpu.specs.Processor.{advanced};
-ghost use Rattle.m161_cpu.specs.Scene.{here};
+ghost use Rattle.m161_cpu.specs.Scene.{scene_of};
 ghost use Rattle.m161_cpu.specs.Translation.{read_word};
 
 use crate::fault::{Access, FaultKind};
@@ -47,10 +47,10 @@ impl<T: Tlb> Cpu<T> {
     ) -> Result<(), FaultKind>
         requires processor { (c < board.old.processors) × (board.old.processors ≤ 32) }
         requires ram { length ram.now ≤ 2 ^ 29 }
-        ensures load { Executes (change_by (here self.old c ram.now board.old links.old)
+        ensures load { Executes (change_by (scene_of self.old c ram.now board.old links.old)
             (Load op rt offset base))
-            (here self.old c ram.now board.old links.old) result
-            (here self.new c ram.now board.new links.new) }
+            (scene_of self.old c ram.now board.old links.old) result
+            (scene_of self.new c ram.now board.new links.new) }
         ensures board { KeepsSize board.old board.new }
     {
         let address = self.address(offset, base);
@@ -172,10 +172,10 @@ impl<T: Tlb> Cpu<T> {
     ) -> Result<(), FaultKind>
         requires processor { (c < board.old.processors) × (board.old.processors ≤ 32) }
         requires ram { length ram.old ≤ 2 ^ 29 }
-        ensures store { Executes (change_by (here self.old c ram.old board.old links.old)
+        ensures store { Executes (change_by (scene_of self.old c ram.old board.old links.old)
             (Store op rt offset base))
-            (here self.old c ram.old board.old links.old) result
-            (here self.new c ram.new board.new links.new) }
+            (scene_of self.old c ram.old board.old links.old) result
+            (scene_of self.new c ram.new board.new links.new) }
         ensures board { KeepsSize board.old board.new }
         ensures size { length ram.new ≡ length ram.old }
     {
@@ -218,10 +218,10 @@ impl<T: Tlb> Cpu<T> {
         requires processor { c < 32 }
         requires within { at + 4 ≤ length ram.old }
         ensures store { (b : BoardState) → Executes
-            (Ok (store_conditional (here self.old c ram.old b links.old) rt
+            (Ok (store_conditional (scene_of self.old c ram.old b links.old) rt
             (slice_index self.old.registers rt) at))
-            (here self.old c ram.old b links.old) (Ok result)
-            (here self.new c ram.new b links.new) }
+            (scene_of self.old c ram.old b links.old) (Ok result)
+            (scene_of self.new c ram.new b links.new) }
         ensures size { length ram.new ≡ length ram.old }
     {
         let word = self.reg(rt);
@@ -258,9 +258,9 @@ impl<T: Tlb> Cpu<T> {
         requires processor { c < board.old.processors }
         requires ram { length ram.old ≤ 2 ^ 29 }
         ensures store { Executes
-            (word_stored address word (here self.old c ram.old board.old links.old))
-            (here self.old c ram.old board.old links.old) result
-            (here self.new c ram.new board.new links.new) }
+            (word_stored address word (scene_of self.old c ram.old board.old links.old))
+            (scene_of self.old c ram.old board.old links.old) result
+            (scene_of self.new c ram.new board.new links.new) }
         ensures board { KeepsSize board.old board.new }
         ensures size { length ram.new ≡ length ram.old }
     {
@@ -285,9 +285,9 @@ impl<T: Tlb> Cpu<T> {
     ) -> Result<(), FaultKind>
         requires processor { c < board.old.processors }
         ensures store { Executes
-            (word_stored address word (here self.old c ram.old board.old links.old))
-            (here self.old c ram.old board.old links.old) result
-            (here self.new c ram.new board.new links.new) }
+            (word_stored address word (scene_of self.old c ram.old board.old links.old))
+            (scene_of self.old c ram.old board.old links.old) result
+            (scene_of self.new c ram.new board.new links.new) }
         ensures board { KeepsSize board.old board.new }
         ensures size { length ram.new ≡ length ram.old }
     {

@@ -1,7 +1,7 @@
 //! The registers of a processor, and one Step of it.
 
 ghost use Rattle.std.specs.Prelude.{◌≡◌, ◌+◌, ◌-◌, ◌^◌, ◌<◌, ◌≤◌, ◌%◌, if◌then◌else◌, length, slice_index, Ok, Err};
-ghost use Rattle.m161_bus.specs.Board.{lines_of};
+ghost use Rattle.m161_bus.specs.Board.{interrupt_lines};
 ghost use Rattle.m161_cop0.specs.Trap.{IsVector};
 ghost use Rattle.m161_cpu.specs.Processor.{stopped, started, with_register, with_hi_lo, advanced};
 ghost use Rattle.m161_cpu.specs.Scene.{Around, scene};
@@ -193,7 +193,7 @@ impl<T: Tlb> Cpu<T> {
     #[tactic(auto, unfolding(crate::specs::Step::step_of))]
     pub(crate) fn rests(&mut self, lines: u32) -> bool
         requires { self.old.count < 2 ^ 64 - 1 }
-        ensures step { (a : Around) → lines_of a.number a.board ≡ lines
+        ensures step { (a : Around) → interrupt_lines a.number a.board ≡ lines
             → step_of (scene self.old a) ≡ rested result (scene self.new a) }
         ensures counted { self.new.count ≡ self.old.count + (if result then 1 else 0) }
     {
@@ -205,7 +205,7 @@ impl<T: Tlb> Cpu<T> {
     #[tactic(auto, unfolding(crate::specs::Step::step_of))]
     fn rests_elsewhere(&mut self, lines: u32) -> bool
         requires { self.old.count < 2 ^ 64 - 1 }
-        ensures step { (a : Around) → lines_of a.number a.board ≡ lines
+        ensures step { (a : Around) → interrupt_lines a.number a.board ≡ lines
             → step_of (scene self.old a) ≡ rested result (scene self.new a) }
         ensures counted { self.new.count ≡ self.old.count + (if result then 1 else 0) }
     {

@@ -2,7 +2,7 @@
 
 ghost use Rattle.std.specs.Prelude.{◌≡◌, ℕ, List};
 ghost use Rattle.m161_isa.specs.declared.instr.Instr.TheVariants.{MoveFrom, MoveTo, Multiply};
-ghost use Rattle.m161_cpu.specs.Execute.{Does};
+ghost use Rattle.m161_cpu.specs.Execute.{ExecutesInProcessor};
 
 use crate::fault::FaultKind;
 use crate::processor::{Cpu, Flow};
@@ -15,7 +15,7 @@ impl<T: Tlb> Cpu<T> {
     #[inline(always)]
     #[tactic(auto, unfolding(crate::specs::Execute::change_by))]
     pub(crate) fn multiply(&mut self, op: MultiplyOp, rs: Reg, rt: Reg) -> Result<(), FaultKind>
-        ensures { Does (Multiply op rs rt) self.old result self.new }
+        ensures { ExecutesInProcessor (Multiply op rs rt) self.old result self.new }
     {
         let s = self.reg(rs);
         let t = self.reg(rt);
@@ -34,7 +34,7 @@ impl<T: Tlb> Cpu<T> {
     #[inline(always)]
     #[tactic(auto, unfolding(crate::specs::Execute::change_by))]
     pub(crate) fn move_from(&mut self, from: HiLo, rd: Reg) -> Result<(), FaultKind>
-        ensures { Does (MoveFrom from rd) self.old result self.new }
+        ensures { ExecutesInProcessor (MoveFrom from rd) self.old result self.new }
     {
         let word = match from {
             HiLo::Hi => self.hi(),
@@ -48,7 +48,7 @@ impl<T: Tlb> Cpu<T> {
     #[inline(always)]
     #[tactic(auto, unfolding(crate::specs::Execute::change_by))]
     pub(crate) fn move_to(&mut self, to: HiLo, rs: Reg) -> Result<(), FaultKind>
-        ensures { Does (MoveTo to rs) self.old result self.new }
+        ensures { ExecutesInProcessor (MoveTo to rs) self.old result self.new }
     {
         let word = self.reg(rs);
         let (hi, lo) = match to {

@@ -1,13 +1,13 @@
 //! One Step.
 
 ghost use Rattle.std.specs.Prelude.{◌≡◌, ◌+◌, ◌-◌, ◌^◌, ◌<◌, ◌≤◌, None, length};
-ghost use Rattle.m161_bus.specs.Board.{KeepsSize, lines_of};
+ghost use Rattle.m161_bus.specs.Board.{KeepsSize, interrupt_lines};
 ghost use Rattle.m161_cpu.specs.Links.{End, links_after};
-ghost use Rattle.m161_cpu.specs.Scene.{here};
+ghost use Rattle.m161_cpu.specs.Scene.{scene_of};
 ghost use Rattle.m161_cop0.specs.Trap.{IsVector};
 ghost use Rattle.m161_cpu.specs.Fault.{vector, with_trap};
 ghost use Rattle.m161_cpu.specs.Execute.{Executes, Finds};
-ghost use Rattle.m161_cpu.specs.Step.{executed, fetched, is_unusable, running, step_of, tick, IsProper, Leaves};
+ghost use Rattle.m161_cpu.specs.Step.{executed, fetched, is_unusable, running, step_of, tick, IsOfStep, Leaves};
 
 use crate::fault::{Access, FaultKind};
 use crate::links::Links;
@@ -29,12 +29,12 @@ impl<T: Tlb> Cpu<T> {
         requires processor { (c < board.old.processors) × (board.old.processors ≤ 32) }
         requires ram { length ram.old ≤ 2 ^ 29 }
         requires room { self.old.count < 2 ^ 64 - 1 }
-        ensures step { Leaves (step_of (here self.old c ram.old board.old links.old)) result
-            (here self.new c ram.new board.new links.new) }
+        ensures step { Leaves (step_of (scene_of self.old c ram.old board.old links.old)) result
+            (scene_of self.new c ram.new board.new links.new) }
         ensures counted { self.new.count ≡ self.old.count + 1 }
         ensures size { length ram.new ≡ length ram.old }
         ensures board { KeepsSize board.old board.new }
-        ensures proper { IsProper result }
+        ensures proper { IsOfStep result }
     {
         let lines = board.lines(c);
         if self.rests(lines) {
@@ -54,15 +54,15 @@ impl<T: Tlb> Cpu<T> {
         links: &mut Links,
     ) -> Outcome
         requires processor { (c < board.old.processors) × (board.old.processors ≤ 32) }
-        requires lines { lines ≡ lines_of c board.old }
+        requires lines { lines ≡ interrupt_lines c board.old }
         requires ram { length ram.old ≤ 2 ^ 29 }
         requires room { self.old.count < 2 ^ 64 - 1 }
-        ensures step { Leaves (running (here self.old c ram.old board.old links.old)) result
-            (here self.new c ram.new board.new links.new) }
+        ensures step { Leaves (running (scene_of self.old c ram.old board.old links.old)) result
+            (scene_of self.new c ram.new board.new links.new) }
         ensures counted { self.new.count ≡ self.old.count + 1 }
         ensures size { length ram.new ≡ length ram.old }
         ensures board { KeepsSize board.old board.new }
-        ensures proper { IsProper result }
+        ensures proper { IsOfStep result }
     {
         match self.execute_next(c, lines, ram, board, links) {
             Ok(()) => {
@@ -113,11 +113,11 @@ impl<T: Tlb> Cpu<T> {
         links: &mut Links,
     ) -> Result<(), FaultKind>
         requires processor { (c < board.old.processors) × (board.old.processors ≤ 32) }
-        requires lines { lines ≡ lines_of c board.old }
+        requires lines { lines ≡ interrupt_lines c board.old }
         requires ram { length ram.old ≤ 2 ^ 29 }
-        ensures change { Executes (executed (here self.old c ram.old board.old links.old))
-            (here self.old c ram.old board.old links.old) result
-            (here self.new c ram.new board.new links.new) }
+        ensures change { Executes (executed (scene_of self.old c ram.old board.old links.old))
+            (scene_of self.old c ram.old board.old links.old) result
+            (scene_of self.new c ram.new board.new links.new) }
         ensures board { KeepsSize board.old board.new }
         ensures size { length ram.new ≡ length ram.old }
     {

@@ -10,7 +10,7 @@ use Rattle.m161_debug.specs.declared.command.Change.TheVariants as changes
 use Rattle.m161_debug.specs.declared.command.Command.{Command}
 use Rattle.m161_debug.specs.declared.command.Command.TheVariants as commands
 use Rattle.m161_debug.specs.declared.command.Display.TheVariants as displays
-use Rattle.m161_debug.specs.Commands.{area_word, first_word, IsLine, IsUnknown}
+use Rattle.m161_debug.specs.Commands.{area_word, first_word, IsCommandLine, IsUnknown}
 use Rattle.m161_steplog.proofs.Parts.{rest_lacks}
 
 pub first_word_alone : (line : List ℕ) → Lacks 32 line → first_word line ≡ line
@@ -34,7 +34,7 @@ words_known areas.Memory text unknown = unknown.1.1.1.1.1.1.1.1.1.0 refl
 words_known areas.Code text unknown = unknown.1.1.1.1.1.1.1.1.1.1.0 refl
 
 -- no command has one of them with arguments that aren't read
-pub no_words : (area : Area) (text : List ℕ) (command : Command) → ReadsBoth IsWord IsWord word_text decimal text None → IsLine command (area_word area ␣ text) → ⊥
+pub no_words : (area : Area) (text : List ℕ) (command : Command) → ReadsBoth IsWord IsWord word_text decimal text None → IsCommandLine command (area_word area ␣ text) → ⊥
 no_words areas.Memory text (commands.Breakpoint changes.Set p address) none is = omega (arith, ap (λ ds. get_or ds 0 0) is.2)
 no_words areas.Memory text (commands.Breakpoint changes.Delete p address) none is = omega (arith, ap (λ ds. get_or ds 0 0) is.2)
 no_words areas.Memory text (commands.Make (events.Step p)) none is = omega (arith, ap (λ ds. get_or ds 0 0) is.1)

@@ -9,12 +9,12 @@ use Rattle.m161_debug.specs.declared.command.Change.TheVariants.{Set}
 use Rattle.m161_debug.specs.declared.command.Command.TheVariants.{Breakpoint, Go, GoFirst}
 use Rattle.m161_debug.specs.declared.command.CommandError.{CommandError}
 use Rattle.m161_debug.specs.Breakpoints.{Debugged, breakpoint, break_leaves}
-use Rattle.m161_debug.specs.Shows.{ended, word_text}
-use Rattle.m161_debug.specs.Obeys.{error_of_break, DoesUnless, Goes}
+use Rattle.m161_debug.specs.Shows.{with_line_end, word_text}
+use Rattle.m161_debug.specs.Obeys.{error_of_break, HasEffectUnless, Goes}
 
 -- the first events are all of them
 pub first_is_all : (n : ℕ) (s : Debugged) (rest : List Event) (result : Result ℕ CommandError) (t : Debugged) (before after : List ℕ) → take n rest ≡ rest
-    → DoesUnless None Go s rest result t before after → DoesUnless None (GoFirst n) s rest result t before after
+    → HasEffectUnless None Go s rest result t before after → HasEffectUnless None (GoFirst n) s rest result t before after
 first_is_all n s rest (Ok used) t before after all done =
     let P : List Event → Type 0 = λ es. Goes s es used t done.0 in
     (done.0, done.1, subst P (sym all) done.2)
@@ -23,8 +23,8 @@ first_is_all n s rest (Err e) t before after all failed = failed
 -- a breakpoint is set, and its line appended
 pub set_done : (s t : Debugged) (p address : ℕ) (rest : List Event) (before after : List ℕ) (fault : Option BreakError) → fault ≡ None
     → t ≡ record s { breakpoints = break_leaves fault (breakpoint p address) s.breakpoints }
-    → after ≡ before ++ ended (codes "break" ␣ decimal p ␣ word_text address)
-    → DoesUnless (option_map error_of_break fault) (Breakpoint Set p address) s rest (Ok 0) t before after
-set_done s t p address rest before after None none is text = (ended (codes "break" ␣ decimal p ␣ word_text address), text, (refl, is, refl))
+    → after ≡ before ++ with_line_end (codes "break" ␣ decimal p ␣ word_text address)
+    → HasEffectUnless (option_map error_of_break fault) (Breakpoint Set p address) s rest (Ok 0) t before after
+set_done s t p address rest before after None none is text = (with_line_end (codes "break" ␣ decimal p ␣ word_text address), text, (refl, is, refl))
 set_done s t p address rest before after (Some breaks.BadProcessor) none is text = absurd (cc)
 set_done s t p address rest before after (Some breaks.TooMany) none is text = absurd (cc)

@@ -47,15 +47,15 @@ count_of digits = min (digits_value 10 digits) (2 ^ 64 - 1)
 
 -- a line is this command: its word and its arguments, separated by one space; numbers are decimal,
 -- addresses have eight digits
-abbrev pub IsLine : Command → List ℕ → Type 0
-IsLine (Breakpoint change p address) line =
+abbrev pub IsCommandLine : Command → List ℕ → Type 0
+IsCommandLine (Breakpoint change p address) line =
     IsWord p × IsWord address × (line ≡ change_word change ␣ decimal p ␣ word_text address)
-IsLine (Make event) line = IsEvent event × (line ≡ event_text event)
-IsLine Go line = line ≡ codes "g"
-IsLine (GoFirst n) line =
+IsCommandLine (Make event) line = IsEvent event × (line ≡ event_text event)
+IsCommandLine Go line = line ≡ codes "g"
+IsCommandLine (GoFirst n) line =
     (digits : List ℕ) × IsDecimal digits × (n ≡ count_of digits) × (line ≡ codes "g" ␣ digits)
-IsLine (Show display p) line = IsWord p × (line ≡ display_word display ␣ decimal p)
-IsLine (Words area address n) line =
+IsCommandLine (Show display p) line = IsWord p × (line ≡ display_word display ␣ decimal p)
+IsCommandLine (Words area address n) line =
     IsWord address × IsWord n × (line ≡ area_word area ␣ word_text address ␣ decimal n)
 
 -- the part before the first space
@@ -70,10 +70,10 @@ IsUnknown line = AllByRecursion (λ w. first_word line ≢ w) words
 -- what a line asks for: a command; or its word is unknown; or it is known, but the line isn't a
 -- command
 abbrev pub IsAsked : List ℕ → Result Command CommandError → Type 0
-IsAsked line (Ok command) = IsLine command line
+IsAsked line (Ok command) = IsCommandLine command line
 IsAsked line (Err Unknown) = IsUnknown line
 IsAsked line (Err BadArgument) =
-    (IsUnknown line → ⊥) × ((command : Command) → IsLine command line → ⊥)
+    (IsUnknown line → ⊥) × ((command : Command) → IsCommandLine command line → ⊥)
 IsAsked line (Err BadProcessor) = ⊥
 IsAsked line (Err TooMany) = ⊥
 IsAsked line (Err NoMemory) = ⊥

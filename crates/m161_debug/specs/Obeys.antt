@@ -24,7 +24,7 @@ use Rattle.m161_debug.specs.declared.stop.Stop.{Stop}
 use Rattle.m161_debug.specs.declared.stop.Stop.TheVariants.{Break, Refused, Off, End}
 use Rattle.m161_debug.specs.Breakpoints.{Debugged, breakpoint, break_fault, has, with_breakpoint, without_breakpoint}
 use Rattle.m161_debug.specs.Stops.{Stops}
-use Rattle.m161_debug.specs.Shows.{ended, word_text, show_regs_text, show_cop0_text, show_tlb_text, show_mem_text, show_code_text}
+use Rattle.m161_debug.specs.Shows.{with_line_end, word_text, show_regs_text, show_cop0_text, show_tlb_text, show_mem_text, show_code_text}
 use Rattle.m161_debug.specs.Commands.{IsAsked}
 
 -- The effects of commands.
@@ -93,56 +93,59 @@ pub record Goes
   pub stops : Stops s.breakpoints s.machine events stop t.machine
   pub breakpoints : t.breakpoints ≡ s.breakpoints
   pub used_is : used ≡ used_by stop
-  pub printed_is : printed ≡ ended (stop_text stop)
+  pub printed_is : printed ≡ with_line_end (stop_text stop)
 
 -- an event is made
-pub record Makes (s : Debugged) (event : Event) (t : Debugged) (printed : List ℕ) : Type 0 where
+pub record MakesEvent
+    (s : Debugged) (event : Event) (t : Debugged) (printed : List ℕ) : Type 0 where
   pub answer : Result Outcome Refusal
   pub answers : Answers s.machine event answer t.machine
   pub breakpoints : t.breakpoints ≡ s.breakpoints
-  pub printed_is : printed ≡ ended (answer_text event answer)
+  pub printed_is : printed ≡ with_line_end (answer_text event answer)
 
 -- the effect of a command: the session after it, how many of the remaining events it uses up, and
 -- what it prints
-abbrev pub Does : Command → Debugged → List Event → ℕ → Debugged → List ℕ → Type 0
-Does (Breakpoint Set p address) s rest used t printed =
+abbrev pub HasEffect : Command → Debugged → List Event → ℕ → Debugged → List ℕ → Type 0
+HasEffect (Breakpoint Set p address) s rest used t printed =
     (used ≡ 0)
     × (t ≡ record s { breakpoints = with_breakpoint (breakpoint p address) s.breakpoints })
-    × (printed ≡ ended (codes "break" ␣ decimal p ␣ word_text address))
-Does (Breakpoint Delete p address) s rest used t printed =
+    × (printed ≡ with_line_end (codes "break" ␣ decimal p ␣ word_text address))
+HasEffect (Breakpoint Delete p address) s rest used t printed =
     (used ≡ 0)
     × (t ≡ record s { breakpoints = without_breakpoint (breakpoint p address) s.breakpoints })
-    × (printed ≡ ended
+    × (printed ≡ with_line_end
     (if has (breakpoint p address) s.breakpoints then codes "deleted" else codes "none"))
-Does (Make event) s rest used t printed = (used ≡ 0) × Makes s event t printed
-Does Go s rest used t printed = Goes s rest used t printed
-Does (GoFirst n) s rest used t printed = Goes s (take n rest) used t printed
-Does (Show display p) s rest used t printed =
+HasEffect (Make event) s rest used t printed = (used ≡ 0) × MakesEvent s event t printed
+HasEffect Go s rest used t printed = Goes s rest used t printed
+HasEffect (GoFirst n) s rest used t printed = Goes s (take n rest) used t printed
+HasEffect (Show display p) s rest used t printed =
     (used ≡ 0) × (t ≡ s) × (printed ≡ display_text display p s.machine.state)
-Does (Words area address n) s rest used t printed =
+HasEffect (Words area address n) s rest used t printed =
     (used ≡ 0) × (t ≡ s) × (printed ≡ area_text area address n s.machine.state)
 
 -- the error is returned, and nothing is changed
-abbrev pub Fails :
+abbrev pub FailsWith :
     CommandError → Result ℕ CommandError → Debugged → Debugged → List ℕ → List ℕ → Type 0
-Fails e result s t before after = (result ≡ Err e) × (t ≡ s) × (after ≡ before)
+FailsWith e result s t before after = (result ≡ Err e) × (t ≡ s) × (after ≡ before)
 
 -- the result of a command, by its fault: that; or without one it is done, and its text is appended;
 -- or memory was refused
-abbrev pub DoesUnless :
+abbrev pub HasEffectUnless :
     Option CommandError → Command → Debugged → List Event → Result ℕ CommandError → Debugged →
     List ℕ → List ℕ → Type 0
-DoesUnless (Some fault) command s rest result t before after = Fails fault result s t before after
-DoesUnless None command s rest (Ok used) t before after =
-    (printed : List ℕ) × (after ≡ before ++ printed) × Does command s rest used t printed
-DoesUnless None command s rest (Err e) t before after = Fails NoMemory (Err e) s t before after
+HasEffectUnless (Some fault) command s rest result t before after =
+    FailsWith fault result s t before after
+HasEffectUnless None command s rest (Ok used) t before after =
+    (printed : List ℕ) × (after ≡ before ++ printed) × HasEffect command s rest used t printed
+HasEffectUnless None command s rest (Err e) t before after =
+    FailsWith NoMemory (Err e) s t before after
 
 abbrev pub Obeys :
     Result Command CommandError → Debugged → List Event → Result ℕ CommandError → Debugged →
     List ℕ → List ℕ → Type 0
 Obeys (Ok command) s rest result t before after =
-    DoesUnless (fault_of s command) command s rest result t before after
-Obeys (Err e) s rest result t before after = Fails e result s t before after
+    HasEffectUnless (fault_of s command) command s rest result t before after
+Obeys (Err e) s rest result t before after = FailsWith e result s t before after
 
 -- the result of a line, and the session after it: what the line asks for is done
 abbrev pub Commands :

@@ -10,7 +10,7 @@ use Rattle.m161_cop0.specs.declared.register.Register.{Register}
 use Rattle.m161_cop0.specs.Registers.{all_registers, name_of_register, number_of_register}
 use Rattle.m161_cop0.specs.Control.{read_of}
 use Rattle.m161_ram.specs.Word.{word_at}
-use Rattle.m161_bus.specs.Board.{lines_of}
+use Rattle.m161_bus.specs.Board.{interrupt_lines}
 use Rattle.m161_cpu.specs.declared.processor.ProcessorState.{ProcessorState}
 use Rattle.m161_cpu.specs.declared.processor.ProcessorState.TheVariants.{Stopped, Running, Waiting}
 use Rattle.m161_cpu.specs.Processor.{Processor}
@@ -20,15 +20,15 @@ use Rattle.m161_steplog.specs.Parts.{◌␣◌, hex_text}
 -- The displays: each is a list of lines, computed from a state.
 
 -- a line with its end
-abbrev pub ended : List ℕ → List ℕ
-ended line = line ++ 10 ∷ []
+abbrev pub with_line_end : List ℕ → List ℕ
+with_line_end line = line ++ 10 ∷ []
 
 abbrev pub text_of : List (List ℕ) → List ℕ
-text_of lines = flat_map ended lines
+text_of lines = flat_map with_line_end lines
 
 -- n lines, counted from 0
-abbrev pub counted : ℕ → (ℕ → List ℕ) → List (List ℕ)
-counted n line = map line (range_with_len 0 n)
+abbrev pub numbered_lines : ℕ → (ℕ → List ℕ) → List (List ℕ)
+numbered_lines n line = map line (range_with_len 0 n)
 
 abbrev pub word_text : ℕ → List ℕ
 word_text word = hex_text 8 word
@@ -57,14 +57,14 @@ place_text p state pc slot =
 abbrev pub place_line : ℕ → Processor → List ℕ
 place_line p c = place_text p c.state c.pc c.slot
 
-unfoldable pub register_text : Processor → ℕ → List ℕ
-register_text c r = named (codes "r" ++ decimal r) (slice_index c.registers r)
+unfoldable pub register_and_word : Processor → ℕ → List ℕ
+register_and_word c r = named (codes "r" ++ decimal r) (slice_index c.registers r)
 
 -- four registers
 abbrev pub registers_line : Processor → ℕ → List ℕ
 registers_line c i =
-    register_text c (4 * i) ␣ register_text c (4 * i + 1) ␣ register_text c (4 * i + 2)
-    ␣ register_text c (4 * i + 3)
+    register_and_word c (4 * i) ␣ register_and_word c (4 * i + 1) ␣ register_and_word c (4 * i + 2)
+    ␣ register_and_word c (4 * i + 3)
 
 abbrev pub hi_lo_line : Processor → List ℕ
 hi_lo_line c = named (codes "hi") c.hi ␣ named (codes "lo") c.lo
@@ -73,7 +73,7 @@ hi_lo_line c = named (codes "hi") c.hi ␣ named (codes "lo") c.lo
 unfoldable pub show_regs_text : ℕ → State → List ℕ
 show_regs_text p s =
     let c = processor_at p s.processors in
-    text_of (place_line p c ∷ counted 8 (registers_line c) ++ hi_lo_line c ∷ [])
+    text_of (place_line p c ∷ numbered_lines 8 (registers_line c) ++ hi_lo_line c ∷ [])
 
 -- Coprocessor 0: a line for each register, in the order of their numbers.
 
@@ -81,7 +81,8 @@ show_regs_text p s =
 abbrev pub cop0_line : ℕ → State → Register → List ℕ
 cop0_line p s r =
     named (name_of_register r)
-    (read_of (number_of_register r) (lines_of p s.board) (processor_at p s.processors).control)
+    (read_of (number_of_register r) (interrupt_lines p s.board)
+    (processor_at p s.processors).control)
 
 unfoldable pub show_cop0_text : ℕ → State → List ℕ
 show_cop0_text p s = text_of (map (cop0_line p s) all_registers)
@@ -100,7 +101,7 @@ abbrev pub row_line : List Row → ℕ → List ℕ
 row_line rows i = row_text i (slice_index_or rows i blank_row)
 
 unfoldable pub show_tlb_text : ℕ → State → List ℕ
-show_tlb_text p s = text_of (counted 64 (row_line (processor_at p s.processors).rows))
+show_tlb_text p s = text_of (numbered_lines 64 (row_line (processor_at p s.processors).rows))
 
 -- Memory: words from a physical address on.
 
@@ -108,7 +109,7 @@ abbrev pub memory_line : List ℕ → ℕ → List ℕ
 memory_line memory at = word_text at ␣ word_text (word_at memory at)
 
 unfoldable pub show_mem_text : ℕ → ℕ → State → List ℕ
-show_mem_text address n s = text_of (counted n (λ i. memory_line s.memory (address + 4 * i)))
+show_mem_text address n s = text_of (numbered_lines n (λ i. memory_line s.memory (address + 4 * i)))
 
 -- Code: instructions from an address in kseg0 or kseg1 on.
 
@@ -116,11 +117,11 @@ show_mem_text address n s = text_of (counted n (λ i. memory_line s.memory (addr
 abbrev pub code_word : List ℕ → ℕ → ℕ
 code_word memory at = option_map_or (word_at memory) (unmapped at) 0
 
-abbrev pub code_text : ℕ → ℕ → List ℕ
-code_text at word = word_text at ␣ word_text word ␣ canon word at
+abbrev pub listing_text : ℕ → ℕ → List ℕ
+listing_text at word = word_text at ␣ word_text word ␣ canon word at
 
 abbrev pub code_line : List ℕ → ℕ → List ℕ
-code_line memory at = code_text at (code_word memory at)
+code_line memory at = listing_text at (code_word memory at)
 
 unfoldable pub show_code_text : ℕ → ℕ → State → List ℕ
-show_code_text address n s = text_of (counted n (λ i. code_line s.memory (address + 4 * i)))
+show_code_text address n s = text_of (numbered_lines n (λ i. code_line s.memory (address + 4 * i)))

@@ -5,7 +5,7 @@ ghost use Rattle.m161_steplog.specs.Parts.{◌␣◌, Lacks};
 ghost use Rattle.m161_debug.specs.Commands.{change_word, display_word, area_word, name_of_error, IsAsked};
 
 use crate::breakpoints::BreakError;
-use crate::reading::{count_of, place_of, span_of};
+use crate::reading::{count_of, processor_and_address, span_of};
 use m161_machine::Event;
 use m161_steplog::{byte_of, cut_at_space, decimal_of};
 use std::alloc::AllocError;
@@ -159,7 +159,7 @@ fn command_with(word: &str, arguments: &str) -> Result<Command, CommandError>
 fn breakpoint_of(change: Change, arguments: &str) -> Result<Command, CommandError>
     ensures { IsAsked (change_word change ␣ arguments.now) result }
 {
-    match place_of(arguments) {
+    match processor_and_address(arguments) {
         Some((p, address)) => Ok(Command::Breakpoint(change, p, address)),
         None => Err(CommandError::BadArgument),
     }

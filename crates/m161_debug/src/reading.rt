@@ -9,7 +9,7 @@ ghost use Rattle.m161_debug.specs.Commands.{count_of, IsDecimal};
 use m161_steplog::{cut_at_space, decimal_of, word_of};
 
 /// A processor and an address.
-pub(crate) fn place_of(text: &str) -> Option<(u32, u32)>
+pub(crate) fn processor_and_address(text: &str) -> Option<(u32, u32)>
     ensures { ReadsBoth IsWord IsWord decimal word_text text.now result }
 {
     let (p, address) = cut_at_space(text)?;

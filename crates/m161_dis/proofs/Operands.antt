@@ -7,7 +7,7 @@ use Rattle.m161_isa.specs.Table.{width_of}
 use Rattle.m161_dis.specs.Canon.{register_text, hex_number, branch_target, jump_target}
 use Rattle.m161_asm.specs.Tokens.{Register, Number, Mark, Placed}
 use Rattle.m161_asm.specs.Lines.{Fault, Whole, Part, Field, BranchTo, JumpTo, Parsed, part, immediate, is_within, bits_of_whole}
-use Rattle.m161_asm.specs.Text.{field_of, target_of, number_by}
+use Rattle.m161_asm.specs.Text.{field_of, word_address, number_by}
 use Rattle.m161_dis.proofs.Pieces.{Piece, laid}
 use Rattle.m161_dis.proofs.Fields.{branch_field-branch_target, jump_field-jump_target, branch_target-word, jump_target-word}
 
@@ -61,8 +61,8 @@ known at n = refl
 
 -- a target that is a word's address stands for itself
 target_plain : (a c : ℕ) → a < 2 ^ 32 → a % 4 ≡ 0
-    → target_of [] (record { label = None; number = (a, 0); column = c }) ≡ Ok a
-unfolding target_of number_by
+    → word_address [] (record { label = None; number = (a, 0); column = c }) ≡ Ok a
+unfolding word_address number_by
 target_plain a c h w =
     let t : (nat_le 0 (a + 0) && nat_le a (0 + (2 ^ 32 - 1)) && ((a - 0) % 4 == 0))
     ≡ true = grind (arith, nat_tests) in

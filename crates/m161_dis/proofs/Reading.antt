@@ -8,7 +8,7 @@ use Rattle.m161_isa.specs.declared.operand.Operand.TheVariants as operand
 use Rattle.m161_isa.specs.Table.{table, width_of, number_of}
 use Rattle.m161_dis.specs.Canon.{lead_of, operand_text, operands_text}
 use Rattle.m161_asm.specs.Tokens.{Mark}
-use Rattle.m161_asm.specs.Lines.{◌>>=◌, Fault, Part, parts, separated, row_named}
+use Rattle.m161_asm.specs.Lines.{◌>>=◌, Fault, Part, operand_parts, separated, row_named}
 use Rattle.m161_asm.specs.Text.{field_of, each}
 use Rattle.m161_dis.proofs.Pieces.{Piece, laid, text_of}
 use Rattle.m161_dis.proofs.Operands.{IsRead, operand_pieces, signed_pieces, part_read}
@@ -50,9 +50,9 @@ each_cons f (Err x) p n ns e d = cc
 
 pub parts_read : (os : List Operand) (first : Bool) (word at past column : ℕ) → at < 2 ^ 32
     → at % 4 ≡ 0
-    → (parts first os past (laid column (pieces_of at word first os)) >>= each (field_of [] at))
+    → (operand_parts first os past (laid column (pieces_of at word first os)) >>= each (field_of [] at))
     ≡ Ok (map (number_of word) os)
-unfolding parts
+unfolding operand_parts
 parts_read [] first word at past column h w = refl
 parts_read (o ∷ os) first word at past column h w =
     let r = separated_read first o at (number_of word o) past column

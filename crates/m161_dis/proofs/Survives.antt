@@ -10,8 +10,8 @@ use Rattle.m161_dis.specs.Canon.{canon_by, canonical_row, canonical_by, data_tex
 use Rattle.m161_asm.specs.Tokens.{Name, Directive, Number, Placed, tokens, tokens_from, lexeme, beginning, is_letter}
 use Rattle.std.specs.Char.{is_ascii_digit}
 use Rattle.std.specs.List.{prefix_len}
-use Rattle.m161_asm.specs.Lines.{◌>>=◌, Fault, is_within, bits_of_whole, Part, Statement, Words, Code, label_of, sound, past_of, SourceLine, line_column, size_of, statement, directive_statement, values, parts, row_named}
-use Rattle.m161_asm.specs.Text.{line_of, with_place, is_filled, address_below, symbols_in, words_of_statement, word_of_value, number_by, field_of, each}
+use Rattle.m161_asm.specs.Lines.{◌>>=◌, Fault, is_within, bits_of_whole, Part, Statement, Words, Code, label_of, sound, past_of, SourceLine, line_column, size_of, statement, directive_statement, values, operand_parts, row_named}
+use Rattle.m161_asm.specs.Text.{line_of, line_in_place, is_filled, address_below, symbols_in, words_of_statement, word_of_value, number_by, field_of, each}
 use Rattle.m161_dis.specs.Law.{origin, stands_for, SurvivesDisassembling}
 use Rattle.m161_dis.proofs.Pieces.{Piece, IsPiece, Sound, starts_apart, laid, text_of, tokens-pieces, sound-laid, blank}
 use Rattle.m161_dis.proofs.Numerals.{hex8_piece}
@@ -23,8 +23,8 @@ use Rattle.m161_dis.proofs.Spelled.{pieces_sound, apart, name_piece}
 
 -- a line of one word has its place behind the `.org`
 placed_alone : (at : ℕ) (l : SourceLine) → size_of l.statement ≡ 1 → l.label ≡ None → at < 2 ^ 32
-    → at % 4 ≡ 0 → with_place (origin at) l ≡ Ok l
-unfolding with_place is_filled address_below
+    → at % 4 ≡ 0 → line_in_place (origin at) l ≡ Ok l
+unfolding line_in_place is_filled address_below
 placed_alone at l e n h w =
     let t : nat_lt (2 ^ 32) (at + 4 * 1) ≡ false = grind (arith, nat_tests) in
     rw (e, n, t) refl
@@ -77,7 +77,7 @@ coded r at ns (Err x) e = cc
 
 named_statement : (past : ℕ) (x : List ℕ) (c e : ℕ) (ts : List Placed) (r : Row) (xs : List Part)
     → bytes_eq x (codes "nop") ≡ false → row_named x ≡ Some r
-    → parts true (table r).operands past ts ≡ Ok xs
+    → operand_parts true (table r).operands past ts ≡ Ok xs
     → statement past ((Name x, c, e) ∷ ts) ≡ Ok (Code r xs)
 unfolding statement
 named_statement past x c e ts r xs a b d = rw (a, b, d) refl
@@ -107,7 +107,7 @@ row_stands word at r h w =
     let d = 1 + length x in
     let ts : List Placed = (Name x, 1, d) ∷ laid d ps in
     let past = past_of ts in
-    let (xs, read, meant) = coded r at _ (parts true (table r).operands past (laid d ps))
+    let (xs, read, meant) = coded r at _ (operand_parts true (table r).operands past (laid d ps))
     (parts_read (table r).operands true word at past d h w) in
     let stmt : statement past ts
     ≡ Ok (Code r xs) = named_statement past x 1 d (laid d ps) r xs (not_nop r)

@@ -14,7 +14,7 @@ use Rattle.m161_cpu.specs.declared.processor.ProcessorState.TheVariants.{Stopped
 use Rattle.m161_cpu.specs.Fault.{Fault, noted, trap_of}
 use Rattle.m161_cpu.specs.Processor.{with_state}
 use Rattle.m161_cpu.specs.Scene.{Change, Scene, around, changed, scene}
-use Rattle.m161_cpu.specs.Step.{IsProper, ended, executed, idle, lines_in, running, step_in, step_of, tick, with_processor}
+use Rattle.m161_cpu.specs.Step.{IsOfStep, ended, executed, idle, lines_in, running, step_in, step_of, tick, with_processor}
 use Rattle.m161_machine.specs.declared.event.Entry.{Entry}
 use Rattle.m161_machine.specs.declared.event.Event.{Event}
 use Rattle.m161_machine.specs.declared.event.Event.TheVariants.{Step, Key, Done}
@@ -37,31 +37,31 @@ is_vector : (trap : Trap) (c : Control) → IsVector (vector_of trap c)
 unfolding vector_of
 is_vector trap c = by_bits _ _
 
-by_power : (off : Bool) → IsProper (if off then PoweredOff else Ran)
+by_power : (off : Bool) → IsOfStep (if off then PoweredOff else Ran)
 by_power true = tt
 by_power false = tt
 
-ended_proper : (s : Scene) (r : Result Change Fault) → IsProper (ended s r).outcome
+ended_proper : (s : Scene) (r : Result Change Fault) → IsOfStep (ended s r).outcome
 ended_proper s (Ok change) = by_power (changed change s).around.board.off
 ended_proper s (Err f) =
     is_vector (trap_of f.kind (noted f.address s.processor)) (noted f.address s.processor).control
 
 waiting_proper : (s : Scene) (pending : Bool) →
-    IsProper (if pending then running (with_processor (with_state Running) s) else idle tick s).outcome
+    IsOfStep (if pending then running (with_processor (with_state Running) s) else idle tick s).outcome
 waiting_proper s true =
     ended_proper (with_processor (with_state Running) s) (executed (with_processor (with_state Running) s))
 waiting_proper s false = tt
 
-proper_in : (state : ProcessorState) (s : Scene) → IsProper (step_in state s).outcome
+proper_in : (state : ProcessorState) (s : Scene) → IsOfStep (step_in state s).outcome
 proper_in Stopped s = tt
 proper_in Running s = ended_proper s (executed s)
 proper_in Waiting s = waiting_proper s (is_pending (lines_in s) s.processor.control)
 
-step_proper : (s : Scene) → IsProper (step_of s).outcome
+step_proper : (s : Scene) → IsOfStep (step_of s).outcome
 unfolding step_of
 step_proper s = proper_in s.processor.state s
 
-stepped_proper : (p : ℕ) (s : State) → IsProper (stepped p s).outcome
+stepped_proper : (p : ℕ) (s : State) → IsOfStep (stepped p s).outcome
 unfolding stepped
 stepped_proper p s =
     step_proper (scene (processor_at p s.processors) (around p s.memory s.board (live_links s.stores s.links)))
@@ -82,7 +82,7 @@ done_gives s t o (Err e) h = absurd (let bad : ◌≡◌ {A = Result (Outcome ×
 
 answer_gives : (e : Event) (s t : State) (o : Outcome) → answer s e ≡ Ok (o, t) → CanGive e o
 answer_gives (Step p) s t o h =
-    subst IsProper (outcome_of ((stepped p s).outcome, with_step p (stepped p s) s) (o, t) h) (stepped_proper p s)
+    subst IsOfStep (outcome_of ((stepped p s).outcome, with_step p (stepped p s) s) (o, t) h) (stepped_proper p s)
 answer_gives (Key byte) s t o h = key_gives s t o (board_key byte s.board) h
 answer_gives Done s t o h = done_gives s t o (board_done s.board) h
 

@@ -4,7 +4,7 @@ use Rattle.std.specs.Prelude.{◌==◌}
 use Rattle.m161_cop0.specs.Registers.{exception_with}
 use Rattle.m161_cpu.specs.declared.processor.Outcome.TheVariants.{Trapped}
 use Rattle.m161_machine.specs.declared.event.Event.TheVariants.{Step}
-use Rattle.m161_machine.specs.Kept.{entry_of, or_interrupt, outcome_with, vector_with}
+use Rattle.m161_machine.specs.Kept.{entry_in_word, or_interrupt, outcome_with, vector_with}
 
 -- The word of an entry.
 
@@ -19,7 +19,7 @@ trap_place n v small =
     rw (not_ran, not_idle, not_off, number, vector) refl
 
 -- a Step's word
-pub step_word : (p place : ℕ) → place < 62 → entry_of (p * 64 + place) ≡ record { event = Step p; outcome = outcome_with place }
+pub step_word : (p place : ℕ) → place < 62 → entry_in_word (p * 64 + place) ≡ record { event = Step p; outcome = outcome_with place }
 step_word p place small =
     let place_is : (p * 64 + place) % 64 ≡ place = omega (arith, small) in
     let not_key : (place == 62) ≡ false = grind (arith, nat_tests) in

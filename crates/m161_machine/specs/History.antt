@@ -5,7 +5,7 @@ use Rattle.m161_elf.specs.Image.{first_fault, IsImage}
 use Rattle.m161_cpu.specs.declared.processor.Outcome.{Outcome}
 use Rattle.m161_cpu.specs.declared.processor.Outcome.TheVariants.{Taken}
 use Rattle.m161_cpu.specs.Processor.{stopped, started}
-use Rattle.m161_cpu.specs.Step.{IsProper}
+use Rattle.m161_cpu.specs.Step.{IsOfStep}
 use Rattle.m161_machine.specs.declared.conf.Conf.{Conf}
 use Rattle.m161_machine.specs.declared.conf.BootError.{BootError}
 use Rattle.m161_machine.specs.declared.conf.BootError.TheVariants.{BadConf, Load, NoMemory}
@@ -92,7 +92,7 @@ CountsSteps h =
 -- an outcome that an event can have: a Step's is never Taken, and its trap has one of the four
 -- vectors; that of a byte typed or sent is Taken
 abbrev pub CanGive : Event → Outcome → Type 0
-CanGive (Step p) o = IsProper o
+CanGive (Step p) o = IsOfStep o
 CanGive (Key byte) o = o ≡ Taken
 CanGive Done o = o ≡ Taken
 

@@ -25,8 +25,8 @@ outcome_with place =
     if place == 0 then Ran else if place == 1 then Idle else if place == 2 then PoweredOff
     else Trapped (or_interrupt (exception_with ((place - 4) / 4))) (vector_with ((place - 4) % 4))
 
-abbrev pub entry_of : ℕ → Entry
-entry_of word =
+abbrev pub entry_in_word : ℕ → Entry
+entry_in_word word =
     if word % 64 == 62 then record { event = Key (word / 64); outcome = Taken }
     else if word % 64 == 63 then record { event = Done; outcome = Taken }
     else record { event = Step (word / 64); outcome = outcome_with (word % 64) }

@@ -3,7 +3,7 @@
 ghost use Rattle.std.specs.Prelude.{◌≡◌, ◌+◌, ◌*◌, ◌/◌, ◌%◌, ◌<◌, ◌≤◌, ◌^◌};
 ghost use Rattle.m161_cop0.specs.Trap.{IsVector};
 ghost use Rattle.m161_cpu.specs.declared.processor.Outcome.TheVariants as outcomes;
-ghost use Rattle.m161_cpu.specs.Step.{IsProper};
+ghost use Rattle.m161_cpu.specs.Step.{IsOfStep};
 ghost use Rattle.m161_machine.specs.declared.event.Event.TheVariants as events;
 ghost use Rattle.m161_machine.specs.History.{entry};
 ghost use Rattle.m161_machine.specs.Kept.{vector_with, outcome_with};
@@ -28,11 +28,11 @@ pub(crate) struct Kept {
 impl Model for Kept {
     ghost use Rattle.std.specs.Prelude.{◌≡◌, ◌/◌, ◌%◌, ◌<◌};
     ghost use Rattle.m161_machine.specs.declared.event.Entry.{Entry};
-    ghost use Rattle.m161_machine.specs.Kept.{entry_of};
+    ghost use Rattle.m161_machine.specs.Kept.{entry_in_word};
 
     ghost Value = { Entry };
 
-    ghost view = { λ k. entry_of k.word };
+    ghost view = { λ k. entry_in_word k.word };
 
     // the number with the code of a typed byte is a byte
     ghost invariant = { λ k. k.word % 64 ≡ 62 → k.word / 64 < 256 };
@@ -67,7 +67,7 @@ fn vector_at(number: u32) -> u32
 // The code of a Step's outcome.
 #[inline(always)]
 fn place(outcome: Outcome) -> u32
-    requires { IsProper outcome }
+    requires { IsOfStep outcome }
     ensures small { result < 62 }
     ensures value { outcome_with result ≡ outcome }
 {
@@ -81,7 +81,7 @@ fn place(outcome: Outcome) -> u32
 #[cold]
 #[inline(never)]
 fn place_of_other(outcome: Outcome) -> u32
-    requires { IsProper outcome }
+    requires { IsOfStep outcome }
     ensures small { result < 62 }
     ensures value { outcome_with result ≡ outcome }
 {
@@ -127,7 +127,7 @@ impl Kept {
     #[inline(always)]
     pub(crate) fn of_step(p: u32, outcome: Outcome) -> Kept
         requires small { p < 2 ^ 26 }
-        requires proper { IsProper outcome }
+        requires proper { IsOfStep outcome }
         ensures { result ≡ entry (events.Step p) outcome }
     {
         Kept {

@@ -2,7 +2,7 @@
 
 ghost use Rattle.std.specs.Prelude.{◌≡◌, ◌+◌, ◌-◌, ◌^◌, ◌<◌, ◌≤◌, length, ℕ};
 ghost use Rattle.m161_bus.specs.Board.{KeepsSize};
-ghost use Rattle.m161_cpu.specs.Step.{IsProper};
+ghost use Rattle.m161_cpu.specs.Step.{IsOfStep};
 ghost use Rattle.m161_machine.specs.State.{started_by, with_starts};
 ghost use Rattle.m161_machine.specs.Parts.{CountUpTo, parts, step_on, stepped_parts};
 
@@ -34,7 +34,7 @@ pub(crate) fn step_parts<T: Tlb, D: Console>(
     ensures number { length processors.new.items ≡ length processors.old.items }
     ensures size { length ram.new ≡ length ram.old }
     ensures board { KeepsSize board.old board.new }
-    ensures proper { IsProper result }
+    ensures proper { IsOfStep result }
 {
     let before = board.started();
     match processors[p as usize].step(p, ram, board, links) {

@@ -8,37 +8,37 @@ use Rattle.m161_steplog.specs.declared.schedule.Item.{Item}
 use Rattle.m161_steplog.specs.declared.fault.Fault.{Fault}
 use Rattle.m161_steplog.specs.declared.fault.Fault.TheVariants as faults
 use Rattle.m161_steplog.specs.Lines.{lines_of, FirstBad}
-use Rattle.m161_steplog.specs.Schedule.{Line, line_text, line_events, item_events, IsLine, ReadsLine, IsSchedule, AreScheduleLines}
+use Rattle.m161_steplog.specs.Schedule.{ScheduleLine, line_text, line_events, item_events, IsLine, ReadsLine, IsSchedule, AreScheduleLines}
 
 -- a line; every line with its text has its events
-pub record IsSure (line : Line) : Type 0 where
+pub record IsSure (line : ScheduleLine) : Type 0 where
   pub proper : IsLine line
-  pub alone : (other : Line) → IsLine other → line_text line ≡ line_text other → line_events line ≡ line_events other
+  pub alone : (other : ScheduleLine) → IsLine other → line_text line ≡ line_text other → line_events line ≡ line_events other
 
 -- the first n lines were read, and have the events es
 pub record SoFar (text rest : List ℕ) (es : List Event) (n : ℕ) : Type 0 where
-  pub content : List Line
+  pub content : List ScheduleLine
   pub each : AllByRecursion IsSure content
   pub lines : lines_of text ≡ map line_text content ++ lines_of rest
   pub events : es ≡ flat_map line_events content
   pub room : length es ≤ 16_777_216
   pub number : n ≡ length content
 
-all_lines : (content : List Line) → AllByRecursion IsSure content → AllByRecursion IsLine content
+all_lines : (content : List ScheduleLine) → AllByRecursion IsSure content → AllByRecursion IsLine content
 all_lines [] each = tt
 all_lines (line ∷ content) each = (each.0.proper, all_lines content each.1)
 
-all_take : (j : ℕ) (content : List Line) → AllByRecursion IsLine content → AllByRecursion IsLine (take j content)
+all_take : (j : ℕ) (content : List ScheduleLine) → AllByRecursion IsLine content → AllByRecursion IsLine (take j content)
 all_take zero content each = tt
 all_take (suc j) [] each = tt
 all_take (suc j) (line ∷ content) each = (each.0, all_take j content each.1)
 
-all_push : (content : List Line) (line : Line) → AllByRecursion IsSure content → IsSure line → AllByRecursion IsSure (content ++ line ∷ [])
+all_push : (content : List ScheduleLine) (line : ScheduleLine) → AllByRecursion IsSure content → IsSure line → AllByRecursion IsSure (content ++ line ∷ [])
 all_push [] line each one = (one, tt)
 all_push (x ∷ content) line each one = (each.0, all_push content line each.1 one)
 
 -- lines with the same texts have the same events
-events_same : (a b : List Line) → AllByRecursion IsSure a → AllByRecursion IsLine b → map line_text a ≡ map line_text b → flat_map line_events a ≡ flat_map line_events b
+events_same : (a b : List ScheduleLine) → AllByRecursion IsSure a → AllByRecursion IsLine b → map line_text a ≡ map line_text b → flat_map line_events a ≡ flat_map line_events b
 events_same [] [] each proper e = refl
 events_same [] (y ∷ b) each proper e = absurd (omega (arith, ap length e))
 events_same (x ∷ a) [] each proper e = absurd (omega (arith, ap length e))
@@ -47,13 +47,13 @@ events_same (x ∷ a) (y ∷ b) each proper e =
     let rest : map line_text a ≡ map line_text b = cc in
     ap₂ (λ (s t : List Event). s ++ t) (each.0.alone y proper.0 head) (events_same a b each.1 proper.1 rest)
 
-take_shorter : (j : ℕ) (content : List Line) → length (flat_map line_events (take j content)) ≤ length (flat_map line_events content)
+take_shorter : (j : ℕ) (content : List ScheduleLine) → length (flat_map line_events (take j content)) ≤ length (flat_map line_events content)
 take_shorter zero content = omega arith
 take_shorter (suc j) [] = omega arith
 take_shorter (suc j) (line ∷ content) = simp length-append (omega (arith, take_shorter j content))
 
 -- the first lines of a schedule are a schedule
-fits_take : (lines : List (List ℕ)) (content : List Line) (j : ℕ) → AllByRecursion IsLine content → lines ≡ map line_text content → length (flat_map line_events content) ≤ 16_777_216 → AreScheduleLines (take j lines)
+fits_take : (lines : List (List ℕ)) (content : List ScheduleLine) (j : ℕ) → AllByRecursion IsLine content → lines ≡ map line_text content → length (flat_map line_events content) ≤ 16_777_216 → AreScheduleLines (take j lines)
 fits_take lines content j each e room = (
   flat_map line_events (take j content),
   record {
@@ -100,13 +100,13 @@ end_only text es fs n so other =
 pub no_bad : (text : List ℕ) (fs : List Event) (n : ℕ) → IsSchedule (lines_of text) fs → FirstBad AreScheduleLines text n → ⊥
 no_bad text fs n other fault = fault.bad (fits_take (lines_of text) other.content n other.each other.text (omega (arith, other.room, ap length other.events)))
 
-upto : (content : List Line) (line : List ℕ) (more : List (List ℕ)) → take (suc (length content)) (map line_text content ++ line ∷ more) ≡ map line_text content ++ line ∷ []
+upto : (content : List ScheduleLine) (line : List ℕ) (more : List (List ℕ)) → take (suc (length content)) (map line_text content ++ line ∷ more) ≡ map line_text content ++ line ∷ []
 upto [] line more = refl
 upto (x ∷ content) line more = ap (λ ls. line_text x ∷ ls) (upto content line more)
 
 -- a next line that no schedule has is the first bad one
 bad_next : (text rest line after : List ℕ) (es : List Event) (n : ℕ) (so : SoFar text rest es n) → lines_of rest ≡ line ∷ lines_of after
-    → ((content : List Line) → AllByRecursion IsLine content → map line_text so.content ++ line ∷ [] ≡ map line_text content → length (flat_map line_events content) ≤ 16_777_216 → ⊥) → FirstBad AreScheduleLines text (n + 1)
+    → ((content : List ScheduleLine) → AllByRecursion IsLine content → map line_text so.content ++ line ∷ [] ≡ map line_text content → length (flat_map line_events content) ≤ 16_777_216 → ⊥) → FirstBad AreScheduleLines text (n + 1)
 bad_next text rest line after es n so lines none =
     let all : lines_of text ≡ map line_text so.content ++ line ∷ lines_of after = so.lines ∙ ap (λ ls. map line_text so.content ++ ls) lines in
     let count : n + 1 ≡ suc (length so.content) = omega (arith, so.number) in
@@ -121,7 +121,7 @@ bad_next text rest line after es n so lines none =
           rw front (fits_take (map line_text so.content) so.content k (all_lines so.content so.each) refl (omega (arith, so.room, ap length so.events)));
     }
 
-last_is : (line : List ℕ) (a b : List Line) → AllByRecursion IsLine b → map line_text a ++ line ∷ [] ≡ map line_text b → (x : Line) × IsLine x × (line ≡ line_text x)
+last_is : (line : List ℕ) (a b : List ScheduleLine) → AllByRecursion IsLine b → map line_text a ++ line ∷ [] ≡ map line_text b → (x : ScheduleLine) × IsLine x × (line ≡ line_text x)
 last_is line [] [] each e = absurd (omega (arith, ap length e))
 last_is line [] (y ∷ b) each e = (y, each.0, (cc))
 last_is line (x ∷ a) [] each e = absurd (omega (arith, ap length e))

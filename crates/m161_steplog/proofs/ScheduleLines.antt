@@ -7,7 +7,7 @@ use Rattle.m161_steplog.specs.declared.schedule.Item.{Item}
 use Rattle.m161_steplog.specs.declared.schedule.Item.TheVariants as items
 use Rattle.m161_steplog.specs.Parts.{◌␣◌, hex_text, Reads, ReadsBoth, Lacks, IsWord}
 use Rattle.m161_steplog.specs.Text.{event_text, IsEvent}
-use Rattle.m161_steplog.specs.Schedule.{Line, line_text, line_events, item_events, IsLine, IsCount, ReadsLine}
+use Rattle.m161_steplog.specs.Schedule.{ScheduleLine, line_text, line_events, item_events, IsLine, IsCount, ReadsLine}
 use Rattle.m161_steplog.proofs.Reading.{nothing}
 use Rattle.m161_steplog.proofs.Parts.{cut_same, has_space, not_spaced, one_lacks}
 use Rattle.m161_steplog.proofs.Decimal.{decimal_lacks_space}
@@ -80,41 +80,41 @@ event_not_times events.Done p n fits same = omega (arith, ap (λ ds. get_or ds 0
 pub comment : (text : List ℕ) → 0 < length text → get_or text 0 0 ≡ 35 → ReadsLine text (Some items.Nothing)
 comment [] some first = absurd (omega arith)
 comment (c ∷ rest) some first = record {
-  found = (Line.Comment rest, tt, ap (λ x. x ∷ rest) first, refl);
+  found = (ScheduleLine.Comment rest, tt, ap (λ x. x ∷ rest) first, refl);
   only = only;
 }
   where
-    only : (line : Line) → IsLine line → c ∷ rest ≡ line_text line → (item : Item) × (◌≡◌ {A = Option Item} (Some items.Nothing) (Some item)) × (line_events line ≡ item_events item)
-    only Line.Blank fits same = absurd (omega (arith, ap length same))
-    only (Line.Comment text) fits same = (items.Nothing, refl, refl)
-    only (Line.Once e) fits same = absurd ((begins e).1 (sym (ap (λ ds. get_or ds 0 0) same) ∙ first))
-    only (Line.Times p n) fits same = absurd (omega (arith, first, ap (λ ds. get_or ds 0 0) same))
+    only : (line : ScheduleLine) → IsLine line → c ∷ rest ≡ line_text line → (item : Item) × (◌≡◌ {A = Option Item} (Some items.Nothing) (Some item)) × (line_events line ≡ item_events item)
+    only ScheduleLine.Blank fits same = absurd (omega (arith, ap length same))
+    only (ScheduleLine.Comment text) fits same = (items.Nothing, refl, refl)
+    only (ScheduleLine.Once e) fits same = absurd ((begins e).1 (sym (ap (λ ds. get_or ds 0 0) same) ∙ first))
+    only (ScheduleLine.Times p n) fits same = absurd (omega (arith, first, ap (λ ds. get_or ds 0 0) same))
 
 -- a line with one event
 pub once : (text : List ℕ) (e : Event) → 0 < length text → get_or text 0 0 ≢ 35 → Reads IsEvent event_text text (Some e) → ReadsLine text (Some (items.Repeated e 1))
 once text e some first one = record {
-  found = (Line.Once e, one.found.0, one.found.1, refl);
+  found = (ScheduleLine.Once e, one.found.0, one.found.1, refl);
   only = only;
 }
   where
-    only : (line : Line) → IsLine line → text ≡ line_text line → (item : Item) × (◌≡◌ {A = Option Item} (Some (items.Repeated e 1)) (Some item)) × (line_events line ≡ item_events item)
-    only Line.Blank fits same = absurd (omega (arith, ap length same))
-    only (Line.Comment rest) fits same = absurd (first (ap (λ ds. get_or ds 0 0) same))
-    only (Line.Once x) fits same = (items.Repeated e 1, refl, ap (λ y. y ∷ []) (sym (same_Some e x (one.only x fits same))))
-    only (Line.Times p n) fits same = absurd (event_not_times e p n one.found.0 (sym one.found.1 ∙ same))
+    only : (line : ScheduleLine) → IsLine line → text ≡ line_text line → (item : Item) × (◌≡◌ {A = Option Item} (Some (items.Repeated e 1)) (Some item)) × (line_events line ≡ item_events item)
+    only ScheduleLine.Blank fits same = absurd (omega (arith, ap length same))
+    only (ScheduleLine.Comment rest) fits same = absurd (first (ap (λ ds. get_or ds 0 0) same))
+    only (ScheduleLine.Once x) fits same = (items.Repeated e 1, refl, ap (λ y. y ∷ []) (sym (same_Some e x (one.only x fits same))))
+    only (ScheduleLine.Times p n) fits same = absurd (event_not_times e p n one.found.0 (sym one.found.1 ∙ same))
 
 -- a line with Steps
 pub steps : (text : List ℕ) (p n : ℕ) → 0 < length text → get_or text 0 0 ≢ 35 → Reads IsEvent event_text text None → Steps text (Some (p, n)) → ReadsLine text (Some (items.Repeated (events.Step p) n))
 steps text p n some first none one = record {
-  found = (Line.Times p n, one.found.0, one.found.1, refl);
+  found = (ScheduleLine.Times p n, one.found.0, one.found.1, refl);
   only = only;
 }
   where
-    only : (line : Line) → IsLine line → text ≡ line_text line → (item : Item) × (◌≡◌ {A = Option Item} (Some (items.Repeated (events.Step p) n)) (Some item)) × (line_events line ≡ item_events item)
-    only Line.Blank fits same = absurd (omega (arith, ap length same))
-    only (Line.Comment rest) fits same = absurd (first (ap (λ ds. get_or ds 0 0) same))
-    only (Line.Once x) fits same = absurd (none-some x (none.only x fits same))
-    only (Line.Times q m) fits same =
+    only : (line : ScheduleLine) → IsLine line → text ≡ line_text line → (item : Item) × (◌≡◌ {A = Option Item} (Some (items.Repeated (events.Step p) n)) (Some item)) × (line_events line ≡ item_events item)
+    only ScheduleLine.Blank fits same = absurd (omega (arith, ap length same))
+    only (ScheduleLine.Comment rest) fits same = absurd (first (ap (λ ds. get_or ds 0 0) same))
+    only (ScheduleLine.Once x) fits same = absurd (none-some x (none.only x fits same))
+    only (ScheduleLine.Times q m) fits same =
         let parts = some_pair_parts p q n m (one.only (q, m) fits same) in
         (items.Repeated (events.Step p) n, refl, ap₂ (λ a b. replicate b (events.Step a)) (sym parts.0) (sym parts.1))
 
@@ -122,8 +122,8 @@ steps text p n some first none one = record {
 pub no_item : (text : List ℕ) → 0 < length text → get_or text 0 0 ≢ 35 → Reads IsEvent event_text text None → Steps text None → ReadsLine text None
 no_item text some first none none' = record { found = tt; only = only }
   where
-    only : (line : Line) → IsLine line → text ≡ line_text line → (item : Item) × (◌≡◌ {A = Option Item} None (Some item)) × (line_events line ≡ item_events item)
-    only Line.Blank fits same = absurd (omega (arith, ap length same))
-    only (Line.Comment rest) fits same = absurd (first (ap (λ ds. get_or ds 0 0) same))
-    only (Line.Once x) fits same = absurd (none-some x (none.only x fits same))
-    only (Line.Times q m) fits same = absurd (none-some (q, m) (none'.only (q, m) fits same))
+    only : (line : ScheduleLine) → IsLine line → text ≡ line_text line → (item : Item) × (◌≡◌ {A = Option Item} None (Some item)) × (line_events line ≡ item_events item)
+    only ScheduleLine.Blank fits same = absurd (omega (arith, ap length same))
+    only (ScheduleLine.Comment rest) fits same = absurd (first (ap (λ ds. get_or ds 0 0) same))
+    only (ScheduleLine.Once x) fits same = absurd (none-some x (none.only x fits same))
+    only (ScheduleLine.Times q m) fits same = absurd (none-some (q, m) (none'.only (q, m) fits same))

@@ -10,20 +10,20 @@ use Rattle.m161_steplog.specs.Text.{event_text, IsEvent}
 -- The text of a schedule: a list of events, in which one line may have several Steps.
 
 -- a line of a schedule
-pub data Line : Type 0 where
-  Blank : Line
-  Comment : (text : List ℕ) → Line
-  Once : (event : Event) → Line
-  Times : (p n : ℕ) → Line
+pub data ScheduleLine : Type 0 where
+  Blank : ScheduleLine
+  Comment : (text : List ℕ) → ScheduleLine
+  Once : (event : Event) → ScheduleLine
+  Times : (p n : ℕ) → ScheduleLine
 
 -- a comment begins with `#`
-abbrev pub line_text : Line → List ℕ
+abbrev pub line_text : ScheduleLine → List ℕ
 line_text Blank = []
 line_text (Comment text) = 35 ∷ text
 line_text (Once e) = event_text e
 line_text (Times p n) = event_text (events.Step p) ␣ decimal n
 
-abbrev pub line_events : Line → List Event
+abbrev pub line_events : ScheduleLine → List Event
 line_events Blank = []
 line_events (Comment text) = []
 line_events (Once e) = e ∷ []
@@ -34,7 +34,7 @@ abbrev pub IsCount : ℕ → Type 0
 IsCount n = (1 ≤ n) × (n ≤ 1_000_000)
 
 -- the numbers of a line are within their limits
-abbrev pub IsLine : Line → Type 0
+abbrev pub IsLine : ScheduleLine → Type 0
 IsLine Blank = Unit {0}
 IsLine (Comment text) = Unit {0}
 IsLine (Once e) = IsEvent e
@@ -42,7 +42,7 @@ IsLine (Times p n) = IsWord p × IsCount n
 
 -- these are the lines of a schedule with these events
 pub record IsSchedule (lines : List (List ℕ)) (es : List Event) : Type 0 where
-  pub content : List Line
+  pub content : List ScheduleLine
   pub each : AllByRecursion IsLine content
   pub text : lines ≡ map line_text content
   pub events : es ≡ flat_map line_events content
@@ -61,10 +61,12 @@ item_events (items.Repeated e n) = replicate n e
 -- a line is read: the result has its events, or there is no such line
 pub record ReadsLine (text : List ℕ) (result : Option Item) : Type 0 where
   pub found : IfSome result (λ item.
-      (line : Line) × IsLine line × (text ≡ line_text line) × (line_events line ≡ item_events item))
-  pub only : (line : Line) → IsLine line → text ≡ line_text line
+      (line : ScheduleLine) × IsLine line × (text ≡ line_text line)
+      × (line_events line ≡ item_events item))
+  pub only : (line : ScheduleLine) → IsLine line → text ≡ line_text line
       → (item : Item) × (result ≡ Some item) × (line_events line ≡ item_events item)
 
 -- events were appended, within the limit
-abbrev pub Appends : List Event → List Event → List Event → Type 0
-Appends before added after = (after ≡ before ++ added) × (length before + length added ≤ 16_777_216)
+abbrev pub AddsEvents : List Event → List Event → List Event → Type 0
+AddsEvents before added after =
+    (after ≡ before ++ added) × (length before + length added ≤ 16_777_216)

@@ -7,7 +7,7 @@ ghost use Rattle.m161_steplog.specs.declared.fault.Fault.TheVariants as faults;
 ghost use Rattle.m161_steplog.specs.Lines.{lines_of, FirstBad, IsRead};
 ghost use Rattle.m161_steplog.specs.Parts.{Reads, ReadsBoth, IsWord};
 ghost use Rattle.m161_steplog.specs.Text.{event_text, IsEvent};
-ghost use Rattle.m161_steplog.specs.Schedule.{item_events, Appends, IsCount, ReadsLine, IsSchedule, AreScheduleLines};
+ghost use Rattle.m161_steplog.specs.Schedule.{item_events, AddsEvents, IsCount, ReadsLine, IsSchedule, AreScheduleLines};
 
 use crate::cut::{cut_at_space, next_line};
 use crate::digits::{byte_of, decimal_of};
@@ -108,7 +108,7 @@ fn push_times(events: &mut Vec<Event>, event: Event, count: u32) -> Result<(), A
 // Appends the events of line `number`, unless they exceed the limit.
 fn push_item(events: &mut Vec<Event>, item: Item, number: u64) -> Result<(), Fault>
     requires { length events.old.items ≤ 16_777_216 }
-    ensures ok { OnOk result (Appends events.old.items (item_events item) events.new.items) }
+    ensures ok { OnOk result (AddsEvents events.old.items (item_events item) events.new.items) }
     ensures full { (n : ℕ) → IsErrOf result (faults.Line n)
         → (n ≡ number) × (16_777_216 < length events.old.items + length (item_events item)) }
 {

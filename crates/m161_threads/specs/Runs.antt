@@ -50,9 +50,9 @@ abbrev pub IsOfRun : Cause → Type 0
 IsOfRun cause = (cause ≢ BadQuotas) × (cause ≢ NotYet)
 
 -- how a run fails: if it doesn't begin, with the machine unchanged
-abbrev pub Fails : Option Cause → History → Cause → History → Type 0
-Fails (Some first) before cause after = (cause ≡ first) × (after ≡ before)
-Fails None before cause after = IsOfRun cause × IsReplay after
+abbrev pub FailsRun : Option Cause → History → Cause → History → Type 0
+FailsRun (Some first) before cause after = (cause ≡ first) × (after ≡ before)
+FailsRun None before cause after = IsOfRun cause × IsReplay after
 
 -- the comparison after a run with the copy made before it; contracts of private functions share
 -- this definition

@@ -3,7 +3,7 @@
 ghost use Rattle.std.specs.Prelude.{◌≡◌, ◌+◌, ◌<◌, ◌≤◌, ℕ, All, IfErr, IfOk, MatchResult, None, length, map, slice_index_or, sum, take, true, vec_len};
 ghost use Rattle.m161_machine.specs.History.{IsReplay};
 ghost use Rattle.m161_machine.specs.State.{counts};
-ghost use Rattle.m161_threads.specs.Runs.{Fails, Interleaves, IsChecked, IsOfRun, bad_call};
+ghost use Rattle.m161_threads.specs.Runs.{FailsRun, Interleaves, IsChecked, IsOfRun, bad_call};
 ghost use Rattle.m161_threads.specs.Shares.{Place, places_from};
 ghost use Rattle.m161_threads.specs.Work.{HasWorked};
 
@@ -77,7 +77,7 @@ where
         Interleaves machine quotas.now r.counts.items r.off r.machine) }
     ensures begun { IfOk result (λ r.
         bad_call (length quotas.now) (length machine.state.processors) ≡ None) }
-    ensures err { IfErr result (λ f. Fails
+    ensures err { IfErr result (λ f. FailsRun
         (bad_call (length quotas.now) (length machine.state.processors))
         machine f.cause f.machine) }
     ensures replay { MatchResult result (λ r. IsReplay r.machine) (λ f. IsReplay f.machine) }
@@ -127,7 +127,7 @@ where
     requires few { length machine.state.processors ≤ 32 }
     ensures ok { IfOk result (λ r.
         Interleaves machine quotas.now r.counts.items r.off r.machine) }
-    ensures err { IfErr result (λ f. Fails None machine f.cause f.machine) }
+    ensures err { IfErr result (λ f. FailsRun None machine f.cause f.machine) }
     ensures replay { IfOk result (λ r. IsReplay r.machine) }
 {
     machine.replay();

@@ -5,7 +5,7 @@ use Rattle.std.specs.List.{range_with_len}
 use Rattle.std.proofs.lemmas.Bool.Decides.{nat_tests}
 use Rattle.std.proofs.lemmas.List.{flat_map_more}
 use Rattle.std.proofs.lemmas.List.FromFn.{map-range_with_len_more}
-use Rattle.m161_debug.specs.Shows.{counted, ended, text_of}
+use Rattle.m161_debug.specs.Shows.{numbered_lines, with_line_end, text_of}
 use Rattle.m161_elf.specs.declared.header.ProgramHeader.{ProgramHeader}
 use Rattle.m161_elf.specs.declared.image.Image.{Image}
 use Rattle.m161_elf.specs.declared.image.LoadError.{LoadError}
@@ -21,8 +21,8 @@ use Rattle.s161.specs.Listings.{AreInRam, IsListing, IsUnlisted, dis_ram, dis_te
 -- The listing of a file.
 
 -- Lines: one more of counted lines, and the lines of one more span.
-pub counted_more : (line : ℕ → List ℕ) (n : ℕ) → text_of (counted (n + 1) line) ≡ text_of (counted n line) ++ ended (line n)
-counted_more line n = ap text_of (map-range_with_len_more line 0 n n (omega arith)) ∙ sym (flat_map_more ended [] (counted n line) (line n))
+pub counted_more : (line : ℕ → List ℕ) (n : ℕ) → text_of (numbered_lines (n + 1) line) ≡ text_of (numbered_lines n line) ++ with_line_end (line n)
+counted_more line n = ap text_of (map-range_with_len_more line 0 n n (omega arith)) ∙ sym (flat_map_more with_line_end [] (numbered_lines n line) (line n))
 
 -- Places: the bytes of an address within a span that is in RAM are RAM.
 pub in_ram_within : (ram address size at : ℕ) → is_in_ram ram address size ≡ true → address ≤ at → at + 4 ≤ address + size → is_in_ram ram at 4 ≡ true

@@ -10,7 +10,7 @@ use Rattle.m161_debug.specs.declared.command.CommandError.{CommandError}
 use Rattle.m161_debug.specs.Breakpoints.{Debugged}
 use Rattle.m161_debug.specs.Commands.{name_of_error}
 use Rattle.m161_debug.specs.Obeys.{Commands}
-use Rattle.m161_debug.specs.Shows.{ended}
+use Rattle.m161_debug.specs.Shows.{with_line_end}
 use Rattle.s161.specs.declared.command.FilesTask.{FilesTask}
 use Rattle.s161.specs.declared.fault.Fault.{Fault}
 use Rattle.s161.specs.declared.fault.Fault.TheVariants.{Conf, File, Image, Input, Log, Memory, Output, Schedule, Source, Threads}
@@ -22,7 +22,7 @@ use Rattle.s161.specs.Known.{OfKnown}
 -- the text after a command's own: the line of its error
 abbrev pub error_text : Result ℕ CommandError → List ℕ
 error_text (Ok used) = []
-error_text (Err e) = ended (codes "?" ␣ name_of_error e)
+error_text (Err e) = with_line_end (codes "?" ␣ name_of_error e)
 
 -- the remaining events after a command
 abbrev pub left_by : Result ℕ CommandError → List Event → List Event

@@ -6,7 +6,7 @@ use Rattle.m161_elf.specs.declared.image.LoadError.TheVariants as fault
 use Rattle.m161_elf.specs.Header.{e_entry}
 use Rattle.m161_elf.specs.Image.{IsImage, first_fault, is_in_ram}
 use Rattle.m161_elf.specs.Span.{spans}
-use Rattle.m161_debug.specs.Shows.{code_line, counted, text_of}
+use Rattle.m161_debug.specs.Shows.{code_line, numbered_lines, text_of}
 use Rattle.s161.specs.declared.fault.Fault.{Fault}
 use Rattle.s161.specs.declared.fault.Fault.TheVariants.{File, Image, Memory}
 use Rattle.s161.specs.Known.{OfKnown}
@@ -18,13 +18,14 @@ abbrev pub aligned_up : ℕ → ℕ
 aligned_up address = (address + 3) / 4 * 4
 
 -- how many whole words a span has from there on
-abbrev pub words_in : Span → ℕ
-words_in span = (span.address + span.size - aligned_up span.address) / 4
+abbrev pub whole_words : Span → ℕ
+whole_words span = (span.address + span.size - aligned_up span.address) / 4
 
 -- a line for each of them, as memory has it
 abbrev pub span_text : List ℕ → Span → List ℕ
 span_text memory span =
-    text_of (counted (words_in span) (λ i. code_line memory (aligned_up span.address + 4 * i)))
+    text_of
+    (numbered_lines (whole_words span) (λ i. code_line memory (aligned_up span.address + 4 * i)))
 
 abbrev pub dis_text : List ℕ → List Span → List ℕ
 dis_text memory = flat_map (span_text memory)

@@ -9,7 +9,7 @@ use Rattle.m161_steplog.specs.Lines.{FirstBad}
 use Rattle.m161_steplog.specs.Log.{AreLogLines, IsLog}
 use Rattle.m161_steplog.specs.Parts.{◌␣◌}
 use Rattle.m161_steplog.specs.Verdict.{IsVerdict}
-use Rattle.m161_debug.specs.Shows.{ended}
+use Rattle.m161_debug.specs.Shows.{with_line_end}
 use Rattle.s161.specs.declared.command.FilesTask.{FilesTask}
 use Rattle.s161.specs.declared.fault.Fault.{Fault}
 use Rattle.s161.specs.declared.fault.Fault.TheVariants.{Conf, File, Image, Input, Log, Memory, Output, Schedule, Source, Threads}
@@ -40,7 +40,7 @@ pub record IsReplayed
   pub is_log : IsLog entries_text entries
   pub verdict : Verdict
   pub is_verdict : IsVerdict booted.state entries verdict
-  pub text_is : text ≡ ended (verdict_text verdict)
+  pub text_is : text ≡ with_line_end (verdict_text verdict)
   pub status_is : status ≡ status_of_verdict verdict
 
 -- a text isn't a log, by its first bad line; or memory was refused

@@ -9,7 +9,7 @@ use Rattle.m161_machine.specs.Conf.{is_within_limits}
 use Rattle.m161_machine.specs.Refusal.{name_of_refusal, number_of_refusal}
 use Rattle.m161_machine.specs.State.{State, next, processor_at}
 use Rattle.m161_machine.specs.History.{History, Continues, IsBooted, Refuses, boot_fault}
-use Rattle.m161_debug.specs.Shows.{ended, show_regs_text}
+use Rattle.m161_debug.specs.Shows.{with_line_end, show_regs_text}
 use Rattle.m161_steplog.specs.Lines.{FirstBad, lines_of}
 use Rattle.m161_steplog.specs.Log.{log_text}
 use Rattle.m161_steplog.specs.Parts.{◌␣◌}
@@ -33,18 +33,19 @@ IsSwitchedOff m n = (m.state.board.off ≡ false) × (n.state.board.off ≡ true
 
 -- why this many of these events were made of m, which left n, and no more: they switched the
 -- machine off; or they didn't, and there are no more, or the next is refused
-abbrev pub Stops : History → List Event → ℕ → Stop → History → Type 0
-Stops m events made Off n = IsSwitchedOff m n
-Stops m events made End n = (n.state.board.off ≡ m.state.board.off) × (made ≡ length events)
-Stops m events made (Refused k refusal) n =
+abbrev pub StopsAfter : History → List Event → ℕ → Stop → History → Type 0
+StopsAfter m events made Off n = IsSwitchedOff m n
+StopsAfter m events made End n = (n.state.board.off ≡ m.state.board.off) × (made ≡ length events)
+StopsAfter m events made (Refused k refusal) n =
     (n.state.board.off ≡ m.state.board.off) × (made ≡ k) × IsRefusedAt events k n.state refusal
 
 -- the first of these events are made of a machine, until one switches it off or is refused, and
 -- leave n
-pub record Makes (m : History) (events : List Event) (stop : Stop) (n : History) : Type 0 where
+pub record MakesEvents
+    (m : History) (events : List Event) (stop : Stop) (n : History) : Type 0 where
   pub made : ℕ
   pub first : Continues m (take made events) n
-  pub why : Stops m events made stop n
+  pub why : StopsAfter m events made stop n
 
 -- the line end that a text with this last byte lacks
 abbrev pub lacking_end : Option ℕ → List ℕ
@@ -68,10 +69,10 @@ started_text s p = if_started (processor_at p s.processors).state (show_regs_tex
 abbrev pub started_texts : State → ℕ → List ℕ
 started_texts s n = flat_map (started_text s) (range_with_len 0 n)
 
-abbrev pub stop_text : Stop → List ℕ
-stop_text Off = codes "stop: off"
-stop_text End = codes "stop: end"
-stop_text (Refused k refusal) =
+abbrev pub stop_line : Stop → List ℕ
+stop_line Off = codes "stop: off"
+stop_line End = codes "stop: end"
+stop_line (Refused k refusal) =
     codes "stop: refused" ␣ decimal k ␣ decimal (number_of_refusal refusal)
     ␣ name_of_refusal refusal
 
@@ -81,7 +82,7 @@ summary_text m stop show_log =
     output_text m.state.board.console.output
     ++ started_texts m.state (length m.state.processors)
     ++ (if show_log then log_text m.log else [])
-    ++ ended (stop_text stop)
+    ++ with_line_end (stop_line stop)
 
 abbrev pub status_of : Stop → ℕ
 status_of Off = 0
@@ -103,7 +104,7 @@ pub record IsRun
   pub is_schedule : IsSchedule (lines_of schedule) events
   pub machine : History
   pub stop : Stop
-  pub makes : Makes booted events stop machine
+  pub makes : MakesEvents booted events stop machine
   pub text_is : text ≡ summary_text machine stop task.show_log
   pub status_is : status ≡ status_of stop
 

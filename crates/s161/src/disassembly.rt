@@ -3,7 +3,7 @@
 ghost use Rattle.std.specs.Prelude.{◌≡◌, ◌+◌, ◌<◌, ◌≤◌, ◌^◌, ◌++◌, true, length, string_bytes, IfErr, IfOk, OnOk};
 ghost use Rattle.m161_elf.specs.Image.{is_in_ram};
 ghost use Rattle.m161_ram.specs.Word.{word_at};
-ghost use Rattle.m161_debug.specs.Shows.{code_line, code_text, code_word, ended};
+ghost use Rattle.m161_debug.specs.Shows.{code_line, listing_text, code_word, with_line_end};
 ghost use Rattle.s161.specs.Listings.{aligned_up, dis_text, span_text, AreInRam, IsListing, IsUnlisted};
 
 use crate::fault::Fault;
@@ -70,7 +70,7 @@ fn aligned_up(address: u32) -> u32
 fn write_word(alloc: Global, text: &mut String, memory: &[u8], at: u32) -> Result<(), AllocError>
     requires { is_in_ram (length memory.now) at 4 ≡ true }
     ensures { OnOk result (string_bytes text.new
-        ≡ string_bytes text.old ++ ended (code_line memory.now at)) }
+        ≡ string_bytes text.old ++ with_line_end (code_line memory.now at)) }
 {
     write_code(alloc, text, code_at(memory, at), at)
 }
@@ -97,7 +97,7 @@ fn word(memory: &[u8], at: usize) -> u32
 // The line of a word at an address.
 fn write_code(alloc: Global, text: &mut String, word: u32, at: u32) -> Result<(), AllocError>
     ensures { OnOk result (string_bytes text.new
-        ≡ string_bytes text.old ++ ended (code_text at word)) }
+        ≡ string_bytes text.old ++ with_line_end (listing_text at word)) }
 {
     let instruction = line(alloc, word, at)?;
     let (at, word) = (Word(at), Word(word));

@@ -3,7 +3,7 @@
 ghost use Rattle.std.specs.Prelude.{◌≡◌, ◌<◌, ◌≤◌, MatchOption, Some, length, replicate, slice_get, take};
 ghost use Rattle.m161_machine.specs.declared.event.Event.TheVariants.{Step};
 ghost use Rattle.m161_machine.specs.History.{Continues};
-ghost use Rattle.s161.specs.Runs.{IsRefusedAt, Makes, stop_text};
+ghost use Rattle.s161.specs.Runs.{IsRefusedAt, MakesEvents, stop_line};
 
 use crate::Machine;
 use m161_machine::{Event, Refusal};
@@ -21,7 +21,7 @@ pub enum Stop {
 }
 
 impl fmt::Display for Stop {
-    ghost output = { λ stop. Some (stop_text stop) };
+    ghost output = { λ stop. Some (stop_line stop) };
 
     fn fmt<W: fmt::Write>(&self, f: &mut fmt::Formatter<W>) -> fmt::Result {
         match self {
@@ -37,7 +37,7 @@ impl fmt::Display for Stop {
 
 /// Makes events in order, until one switches the machine off or is refused.
 pub fn make_events(machine: &mut Machine, events: &[Event]) -> Stop
-    ensures { Makes machine.old events.now result machine.new }
+    ensures { MakesEvents machine.old events.now result machine.new }
 {
     let was_off = machine.is_off();
     let mut made = 0;

@@ -1,7 +1,7 @@
 //! Replaying a log.
 
 ghost use Rattle.std.specs.Prelude.{◌≡◌, IfErr, IfOk, string_bytes};
-ghost use Rattle.m161_debug.specs.Shows.{ended};
+ghost use Rattle.m161_debug.specs.Shows.{with_line_end};
 ghost use Rattle.s161.specs.Replays.{IsReplayed, IsReplayFault, status_of_verdict, verdict_text};
 ghost use Rattle.s161.specs.Samples.{image_file};
 
@@ -47,7 +47,7 @@ pub fn replay<'a, F: FileSource>(
 
 // The text of a verdict.
 fn verdict_line(alloc: Global, verdict: Verdict) -> Result<String, AllocError>
-    ensures { IfOk result (λ line. string_bytes line ≡ ended (verdict_text verdict)) }
+    ensures { IfOk result (λ line. string_bytes line ≡ with_line_end (verdict_text verdict)) }
 {
     match verdict {
         Verdict::Agrees => String::from_str(alloc, "agrees\n"),

@@ -1,7 +1,7 @@
 //! What a board shows, and the events of its console.
 
 ghost use Rattle.std.specs.Prelude.{◌≡◌, ◌<◌, ◌≤◌};
-ghost use Rattle.m161_bus.specs.Board.{KeepsSize, board_done, board_key, lines_of, start_words};
+ghost use Rattle.m161_bus.specs.Board.{KeepsSize, board_done, board_key, interrupt_lines, start_words};
 ghost use Rattle.m161_bus.specs.Outcome.{LeavesUnlessRefused, LeavesUnlessNoMemory};
 
 use crate::board::{Board, StartWords, current_lines};
@@ -16,10 +16,10 @@ const PLACE_SIZE: u32 = 0x400;
 impl<D: Console> Board<D> {
     /// The lines of processor `c`, as bits of Cause's IP: 00000400 the bus, 00000800 the
     /// interprocessor interrupt. One load.
-    #[tactic(auto, unfolding(crate::specs::Board::lines_of))]
+    #[tactic(auto, unfolding(crate::specs::Board::interrupt_lines))]
     pub fn lines(&self, c: u32) -> u32
         requires { c < self.now.processors }
-        ensures { result ≡ lines_of c self.now }
+        ensures { result ≡ interrupt_lines c self.now }
     {
         self.lines[c as usize]
     }

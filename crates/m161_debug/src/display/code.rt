@@ -2,7 +2,7 @@
 
 ghost use Rattle.std.specs.Prelude.{◌≡◌, ◌+◌, ◌*◌, ◌%◌, ◌++◌, true, length, string_bytes, IfOk, OnOk};
 ghost use Rattle.m161_elf.specs.Image.{is_in_ram};
-ghost use Rattle.m161_debug.specs.Shows.{code_text, code_word, ended, code_line, show_code_text};
+ghost use Rattle.m161_debug.specs.Shows.{listing_text, code_word, with_line_end, code_line, show_code_text};
 
 use crate::display::memory::word;
 use m161_bus::Console;
@@ -44,7 +44,7 @@ fn write_code_at<T: Tlb, D: Console>(
     requires aligned { at % 4 ≡ 0 }
     requires inside { is_in_ram (length machine.now.state.memory) at 4 ≡ true }
     ensures { OnOk result (string_bytes text.new ≡ string_bytes text.old
-        ++ ended (code_line machine.now.state.memory at)) }
+        ++ with_line_end (code_line machine.now.state.memory at)) }
 {
     write_code(alloc, text, code_at(machine, at), at)
 }
@@ -64,7 +64,7 @@ fn code_at<T: Tlb, D: Console>(machine: &Machine<T, D>, at: u32) -> u32
 // The line of a word at an address.
 fn write_code(alloc: Global, text: &mut String, word: u32, at: u32) -> Result<(), AllocError>
     ensures { OnOk result (string_bytes text.new ≡ string_bytes text.old
-        ++ ended (code_text at word)) }
+        ++ with_line_end (listing_text at word)) }
 {
     let instruction = line(alloc, word, at)?;
     writeln!(text, "{} {} {instruction}", Word(at), Word(word))

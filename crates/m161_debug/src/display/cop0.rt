@@ -2,7 +2,7 @@
 
 ghost use Rattle.std.specs.Prelude.{◌≡◌, ◌++◌, ◌<◌, length, slice_get, string_bytes, IfOk, OnOk, Some};
 ghost use Rattle.m161_cop0.specs.Registers.{all_registers};
-ghost use Rattle.m161_debug.specs.Shows.{cop0_line, ended, named, show_cop0_text};
+ghost use Rattle.m161_debug.specs.Shows.{cop0_line, with_line_end, named, show_cop0_text};
 
 use m161_bus::Console;
 use m161_cop0::{REGISTERS, registers_in_order};
@@ -47,7 +47,7 @@ fn write_register<T: Tlb, D: Console>(
 ) -> Result<(), AllocError>
     requires { p < length machine.now.state.processors }
     ensures { OnOk result (string_bytes text.new ≡ string_bytes text.old
-        ++ ended (cop0_line p machine.now.state register)) }
+        ++ with_line_end (cop0_line p machine.now.state register)) }
 {
     write_named(text, register.name(), machine.cop(p, register))
 }
@@ -56,7 +56,7 @@ fn write_register<T: Tlb, D: Console>(
 #[tactic(auto, unfolding(crate::specs::Shows::named))]
 fn write_named(text: &mut String, name: &str, word: u32) -> Result<(), AllocError>
     ensures { OnOk result (string_bytes text.new ≡ string_bytes text.old
-        ++ ended (named name.now word)) }
+        ++ with_line_end (named name.now word)) }
 {
     writeln!(text, "{name} {}", Word(word))
 }

@@ -2,7 +2,7 @@
 
 ghost use Rattle.std.specs.Prelude.{◌≡◌, ◌+◌, ◌*◌, ◌%◌, ◌++◌, ◌≤◌, length, string_bytes, IfOk, OnOk};
 ghost use Rattle.m161_ram.specs.Word.{word_at};
-ghost use Rattle.m161_debug.specs.Shows.{ended, memory_line, show_mem_text, word_text};
+ghost use Rattle.m161_debug.specs.Shows.{with_line_end, memory_line, show_mem_text, word_text};
 ghost use Rattle.m161_steplog.specs.Parts.{◌␣◌};
 
 use m161_bus::Console;
@@ -44,7 +44,7 @@ fn write_word<T: Tlb, D: Console>(
     requires aligned { at % 4 ≡ 0 }
     requires inside { at + 4 ≤ length machine.now.state.memory }
     ensures { OnOk result (string_bytes text.new ≡ string_bytes text.old
-        ++ ended (memory_line machine.now.state.memory at)) }
+        ++ with_line_end (memory_line machine.now.state.memory at)) }
 {
     write_words(text, at, word(machine, at))
 }
@@ -64,7 +64,7 @@ pub(crate) fn word<T: Tlb, D: Console>(machine: &Machine<T, D>, at: u32) -> u32
 // A line of two words.
 fn write_words(text: &mut String, first: u32, second: u32) -> Result<(), AllocError>
     ensures { OnOk result (string_bytes text.new ≡ string_bytes text.old
-        ++ ended (word_text first ␣ word_text second)) }
+        ++ with_line_end (word_text first ␣ word_text second)) }
 {
     let (first, second) = (Word(first), Word(second));
     writeln!(text, "{first} {second}")

@@ -2,7 +2,7 @@
 
 ghost use Rattle.std.specs.Prelude.{◌≡◌, ◌++◌, ◌<◌, length, codes, decimal, string_bytes, IfOk, OnOk, Some};
 ghost use Rattle.m161_machine.specs.State.{processor_at};
-ghost use Rattle.m161_debug.specs.Shows.{ended, hi_lo_line, named, place_line, place_text, register_text, registers_line, show_regs_text, state_text};
+ghost use Rattle.m161_debug.specs.Shows.{with_line_end, hi_lo_line, named, place_line, place_text, register_and_word, registers_line, show_regs_text, state_text};
 
 use m161_bus::Console;
 use m161_isa::Reg;
@@ -98,7 +98,7 @@ fn write_place<T: Tlb, D: Console>(
 ) -> Result<(), AllocError>
     requires { p < length machine.now.state.processors }
     ensures { OnOk result (string_bytes text.new ≡ string_bytes text.old
-        ++ ended (place_line p (processor_at p machine.now.state.processors))) }
+        ++ with_line_end (place_line p (processor_at p machine.now.state.processors))) }
 {
     let place = ShownPlace {
         processor: p,
@@ -119,7 +119,7 @@ fn write_registers<T: Tlb, D: Console>(
     requires processor { p < length machine.now.state.processors }
     requires line { i < 8 }
     ensures { OnOk result (string_bytes text.new ≡ string_bytes text.old
-        ++ ended (registers_line (processor_at p machine.now.state.processors) i)) }
+        ++ with_line_end (registers_line (processor_at p machine.now.state.processors) i)) }
 {
     let a = shown_register(machine, p, 4 * i);
     let b = shown_register(machine, p, 4 * i + 1);
@@ -128,12 +128,12 @@ fn write_registers<T: Tlb, D: Console>(
     writeln!(text, "{a} {b} {c} {d}")
 }
 
-#[tactic(auto, unfolding(crate::specs::Shows::register_text))]
+#[tactic(auto, unfolding(crate::specs::Shows::register_and_word))]
 fn shown_register<T: Tlb, D: Console>(machine: &Machine<T, D>, p: u32, number: u8) -> ShownRegister
     requires processor { p < length machine.now.state.processors }
     requires register { number < 32 }
     ensures { named (codes "r" ++ decimal result.number) result.word
-        ≡ register_text (processor_at p machine.now.state.processors) number }
+        ≡ register_and_word (processor_at p machine.now.state.processors) number }
 {
     ShownRegister {
         number,
@@ -149,7 +149,7 @@ fn write_hi_lo<T: Tlb, D: Console>(
 ) -> Result<(), AllocError>
     requires { p < length machine.now.state.processors }
     ensures { OnOk result (string_bytes text.new ≡ string_bytes text.old
-        ++ ended (hi_lo_line (processor_at p machine.now.state.processors))) }
+        ++ with_line_end (hi_lo_line (processor_at p machine.now.state.processors))) }
 {
     let (hi, lo) = (Word(machine.hi(p)), Word(machine.lo(p)));
     writeln!(text, "hi {hi} lo {lo}")

@@ -2,7 +2,7 @@
 
 ghost use Rattle.std.specs.Prelude.{◌≡◌, ◌++◌, ◌<◌, length, string_bytes, IfOk, OnOk, Some};
 ghost use Rattle.m161_machine.specs.State.{processor_at};
-ghost use Rattle.m161_debug.specs.Shows.{ended, row_line, row_text, show_tlb_text, two_digits};
+ghost use Rattle.m161_debug.specs.Shows.{with_line_end, row_line, row_text, show_tlb_text, two_digits};
 
 use m161_bus::Console;
 use m161_machine::{Machine, Row};
@@ -52,7 +52,7 @@ fn write_row_of<T: Tlb, D: Console>(
     requires processor { p < length machine.now.state.processors }
     requires row { i < 64 }
     ensures { OnOk result (string_bytes text.new ≡ string_bytes text.old
-        ++ ended (row_line (processor_at p machine.now.state.processors).rows i)) }
+        ++ with_line_end (row_line (processor_at p machine.now.state.processors).rows i)) }
 {
     write_row(text, i, &machine.row(p, i))
 }
@@ -61,7 +61,7 @@ fn write_row_of<T: Tlb, D: Console>(
 fn write_row(text: &mut String, i: u8, row: &Row) -> Result<(), AllocError>
     requires { i < 64 }
     ensures { OnOk result (string_bytes text.new ≡ string_bytes text.old
-        ++ ended (row_text i row.now)) }
+        ++ with_line_end (row_text i row.now)) }
 {
     let (hi, lo) = (Word(row.entry_hi()), Word(row.entry_lo()));
     writeln!(text, "{} {hi} {lo}", TwoDigits(i))

@@ -5,7 +5,7 @@ ghost use Rattle.m161_machine.specs.declared.event.Event.{Event};
 ghost use Rattle.m161_debug.specs.declared.command.Change.TheVariants as changes;
 ghost use Rattle.m161_debug.specs.declared.command.Command.TheVariants as commands;
 ghost use Rattle.m161_steplog.specs.Parts.{◌␣◌};
-ghost use Rattle.m161_debug.specs.Shows.{ended, word_text};
+ghost use Rattle.m161_debug.specs.Shows.{with_line_end, word_text};
 ghost use Rattle.m161_debug.specs.Obeys.{area_text, display_text, is_shown, is_there, Commands, Obeys};
 
 use crate::breakpoints::Breakpoint;
@@ -68,7 +68,7 @@ impl<T: Tlb, D: Console> Session<T, D> {
     // What setting a breakpoint prints.
     fn break_line(&self, p: u32, address: u32) -> Result<String, AllocError>
         ensures { IfOk result (λ line. string_bytes line
-            ≡ ended (codes "break" ␣ decimal p ␣ word_text address)) }
+            ≡ with_line_end (codes "break" ␣ decimal p ␣ word_text address)) }
     {
         let mut line = String::new(self.machine.allocator());
         writeln!(line, "break {p} {}", Word(address))?;

@@ -1,7 +1,7 @@
 //! The views of a machine. Only `copy_log` and `copy_start` allocate.
 
 ghost use Rattle.std.specs.Prelude.{◌≡◌, ◌≢◌, ◌<◌, true, false, Some, length, slice_get, slice_index, IfOk};
-ghost use Rattle.m161_bus.specs.Board.{lines_of};
+ghost use Rattle.m161_bus.specs.Board.{interrupt_lines};
 ghost use Rattle.m161_cop0.specs.Control.{read_of};
 ghost use Rattle.m161_cop0.specs.Registers.{number_of_register};
 ghost use Rattle.m161_machine.specs.State.{processor_at, word_in};
@@ -146,7 +146,7 @@ impl<T: Tlb, D: Console> Machine<T, D> {
     pub fn cop(&self, p: u32, register: Register) -> u32
         requires { p < length self.now.state.processors }
         ensures { result ≡ read_of (number_of_register register)
-            (lines_of p self.now.state.board)
+            (interrupt_lines p self.now.state.board)
             (processor_at p self.now.state.processors).control }
     {
         self.processors[p as usize].cop(register, self.board.lines(p))

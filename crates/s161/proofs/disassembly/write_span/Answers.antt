@@ -1,6 +1,6 @@
 use Rattle.std.proofs.Common.{◌≡◌, ◌∙◌, ◌+◌, ◌*◌, ◌++◌, ℕ, List, length, string_bytes, ap, sym, append_assoc, arith}
-use Rattle.m161_debug.specs.Shows.{code_line, counted, ended, text_of}
-use Rattle.s161.specs.Listings.{words_in}
+use Rattle.m161_debug.specs.Shows.{code_line, numbered_lines, with_line_end, text_of}
+use Rattle.s161.specs.Listings.{whole_words}
 use Rattle.s161.proofs.Listed.{counted_more, in_ram_within}
 use Rattle.s161.proofs.disassembly.write_span.Goals as goal
 
@@ -11,14 +11,14 @@ write_word-requires c =
 pub loop-i-preserved : goal.loop-i-preserved
 loop-i-preserved c =
     let line : ℕ → List ℕ = λ i. code_line c.args.memory.now (c.aligned_up-start.result + 4 * i) in
-    c.in_ok-write_word.ensures ∙ ap (λ bs. bs ++ ended (line c.loop-i.i)) c.loop-i.invariant
-    ∙ append_assoc (string_bytes c.args.text.now) (text_of (counted c.loop-i.i line)) (ended (line c.loop-i.i))
+    c.in_ok-write_word.ensures ∙ ap (λ bs. bs ++ with_line_end (line c.loop-i.i)) c.loop-i.invariant
+    ∙ append_assoc (string_bytes c.args.text.now) (text_of (numbered_lines c.loop-i.i line)) (with_line_end (line c.loop-i.i))
     ∙ ap (λ bs. string_bytes c.args.text.now ++ bs) (sym (counted_more line c.loop-i.i))
 
 pub returns : goal.returns
 returns c =
     let line : ℕ → ℕ → List ℕ = λ start i. code_line c.args.memory.now (start + 4 * i) in
-    let whole : c.loop-i.i ≡ words_in c.args.span = omega arith in
+    let whole : c.loop-i.i ≡ whole_words c.args.span = omega arith in
     c.loop-i.invariant
-    ∙ ap (λ n. string_bytes c.args.text.now ++ text_of (counted n (line c.aligned_up-start.result))) whole
-    ∙ ap (λ start. string_bytes c.args.text.now ++ text_of (counted (words_in c.args.span) (line start))) c.aligned_up-start.ensures
+    ∙ ap (λ n. string_bytes c.args.text.now ++ text_of (numbered_lines n (line c.aligned_up-start.result))) whole
+    ∙ ap (λ start. string_bytes c.args.text.now ++ text_of (numbered_lines (whole_words c.args.span) (line start))) c.aligned_up-start.ensures

@@ -7,5 +7,5 @@ use Rattle.m161_asm.proofs.ground.Ground.reopen.Goals as goal
 pub limit_at-self-requires : goal.limit_at-self-requires
 limit_at-self-requires c =
     let e : c.deref.result.now ≡ c.deref-2.result.now = cc in
-    subst (λ (x : List Run). c.place_of-self.result ≤ length x) e
-    (splits_within _ _ _ c.place_of-self.ensures)
+    subst (λ (x : List Run). c.first_above-self.result ≤ length x) e
+    (splits_within _ _ _ c.first_above-self.ensures)

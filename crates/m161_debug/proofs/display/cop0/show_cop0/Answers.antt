@@ -3,7 +3,7 @@ use Rattle.std.proofs.lemmas.Option.{get_or_from_slice_get}
 use Rattle.m161_cop0.specs.Registers.{all_registers}
 use Rattle.m161_cop0.specs.declared.register.Register.{Register}
 use Rattle.m161_cop0.specs.declared.register.Register.TheVariants as registers
-use Rattle.m161_debug.specs.Shows.{cop0_line, ended, show_cop0_text, text_of}
+use Rattle.m161_debug.specs.Shows.{cop0_line, with_line_end, show_cop0_text, text_of}
 use Rattle.m161_debug.proofs.Shown.{mapped_more}
 use Rattle.m161_debug.proofs.display.cop0.show_cop0.Goals as goal
 
@@ -11,8 +11,8 @@ pub loop-i-preserved : goal.loop-i-preserved
 loop-i-preserved g c =
     let line : Register → List ℕ = cop0_line c.args.p c.args.machine.now.state in
     let here = get_or_from_slice_get all_registers c.loop-i.i _ registers.Index c.register.ensures in
-    c.in_ok-write_register.ensures ∙ ap (λ bs. bs ++ ended (line c.register.result)) c.loop-i.invariant
-    ∙ ap (λ r. text_of (map line (take c.loop-i.i all_registers)) ++ ended (line r)) (sym here)
+    c.in_ok-write_register.ensures ∙ ap (λ bs. bs ++ with_line_end (line c.register.result)) c.loop-i.invariant
+    ∙ ap (λ r. text_of (map line (take c.loop-i.i all_registers)) ++ with_line_end (line r)) (sym here)
     ∙ sym (mapped_more line all_registers c.loop-i.i registers.Index (omega arith))
 
 pub returns : goal.returns

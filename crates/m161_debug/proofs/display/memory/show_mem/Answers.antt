@@ -1,9 +1,9 @@
 use Rattle.std.proofs.Common.{◌∙◌, ◌+◌, ◌*◌, ◌++◌, ℕ, List, sym, ap}
-use Rattle.m161_debug.specs.Shows.{ended, memory_line}
+use Rattle.m161_debug.specs.Shows.{with_line_end, memory_line}
 use Rattle.m161_debug.proofs.Shown.{counted_more}
 use Rattle.m161_debug.proofs.display.memory.show_mem.Goals as goal
 
 pub loop-i-preserved : goal.loop-i-preserved
 loop-i-preserved g c =
     let line : ℕ → List ℕ = λ i. memory_line c.args.machine.now.state.memory (c.args.address + 4 * i) in
-    c.in_ok-write_word.ensures ∙ ap (λ bs. bs ++ ended (line c.loop-i.i)) c.loop-i.invariant ∙ sym (counted_more line c.loop-i.i)
+    c.in_ok-write_word.ensures ∙ ap (λ bs. bs ++ with_line_end (line c.loop-i.i)) c.loop-i.invariant ∙ sym (counted_more line c.loop-i.i)

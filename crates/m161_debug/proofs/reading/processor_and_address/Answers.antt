@@ -3,7 +3,7 @@ use Rattle.m161_steplog.specs.Parts.{Lacks, IsWord}
 use Rattle.m161_debug.specs.Shows.{word_text}
 use Rattle.m161_steplog.proofs.Decimal.{decimal_lacks_space}
 use Rattle.m161_steplog.proofs.Parts.{no_cut, no_first, no_second, both}
-use Rattle.m161_debug.proofs.reading.place_of.Goals as goal
+use Rattle.m161_debug.proofs.reading.processor_and_address.Goals as goal
 
 one_part : (n : ℕ) → IsWord n → Lacks 32 (decimal n)
 one_part n small = decimal_lacks_space n (omega arith)

@@ -1,7 +1,7 @@
 use Rattle.std.proofs.Common.{◌-◌, ◌≤◌, ◌<◌, ℕ, length}
 use Rattle.std.specs.List.{slice_index_or}
 use Rattle.m161_asm.specs.declared.ground.Run.{Run}
-use Rattle.m161_asm.proofs.ground.place_of.Given as goal
+use Rattle.m161_asm.proofs.ground.first_above.Given as goal
 
 abbrev pub invariant-loop-low : goal.invariant-loop-low
 invariant-loop-low l =

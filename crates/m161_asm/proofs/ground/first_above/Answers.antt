@@ -1,6 +1,6 @@
 use Rattle.std.proofs.Common.{arith}
 use Rattle.m161_asm.proofs.Grounds.{below_middle, above_middle, splits_by}
-use Rattle.m161_asm.proofs.ground.place_of.Goals as goal
+use Rattle.m161_asm.proofs.ground.first_above.Goals as goal
 
 pub loop-low-preserved-then-runs-middle : goal.loop-low-preserved-then-runs-middle
 loop-low-preserved-then-runs-middle c =
