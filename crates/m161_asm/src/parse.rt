@@ -336,8 +336,8 @@ pub(crate) fn operand_parts<'a>(
     past: usize,
     ts: &[Placed<'a>],
 ) -> Result<(), ReadError>
-    ensures { Adds part_seen result out.old.items out.new.items (operand_parts first operands.now past
-        (all_seen ts.now)) }
+    ensures { Adds part_seen result out.old.items out.new.items
+        (operand_parts first operands.now past (all_seen ts.now)) }
 {
     match operands {
         [] => {

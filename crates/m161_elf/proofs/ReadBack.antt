@@ -8,7 +8,8 @@ use Rattle.std.specs.Int.{w16, w32, to_be_bytes}
 use Rattle.m161_asm.specs.Segments.{word_count}
 use Rattle.m161_asm.specs.Text.{Segment}
 use Rattle.m161_elf.specs.declared.header.ProgramHeader.{ProgramHeader}
-use Rattle.m161_elf.specs.Header.{e_entry, e_phnum, file_half, file_word, header_at, is_load, segments}
+use Rattle.m161_ram.specs.Word.{half_at, word_at}
+use Rattle.m161_elf.specs.Header.{e_entry, e_phnum, header_at, is_load, segments}
 use Rattle.m161_elf.specs.Image.{byte_left, covers, place_in_ram, segment_byte}
 use Rattle.m161_elf.specs.Written.{elf_bytes, file_header, segment_bytes, segment_header, segment_headers, size, words_bytes}
 use Rattle.m161_elf.specs.WrittenLaw.{byte_left_by, byte_of, has_byte}
@@ -17,17 +18,17 @@ use Rattle.m161_elf.specs.WrittenLaw.{byte_left_by, byte_of, has_byte}
 
 -- half-words and words
 half_behind : (before file : List ℕ) (at : ℕ)
-    → file_half (before ++ file) (length before + at) ≡ file_half file at
+    → half_at (before ++ file) (length before + at) ≡ half_at file at
 half_behind before file at = grind (arith, get_or-append-add)
 
 word_behind : (before file : List ℕ) (place at : ℕ) → place ≡ length before + at
-    → file_word (before ++ file) place ≡ file_word file at
+    → word_at (before ++ file) place ≡ word_at file at
 word_behind before file place at e = rw e (grind (arith, get_or-append-add))
 
-half_read : (half : ℕ) → half < 2 ^ 16 → file_half (to_be_bytes w16 half) 0 ≡ half
+half_read : (half : ℕ) → half < 2 ^ 16 → half_at (to_be_bytes w16 half) 0 ≡ half
 half_read half fits = grind arith
 
-word_read : (word : ℕ) → word < 2 ^ 32 → file_word (to_be_bytes w32 word) 0 ≡ word
+word_read : (word : ℕ) → word < 2 ^ 32 → word_at (to_be_bytes w32 word) 0 ≡ word
 word_read word fits = grind arith
 
 -- the ELF header

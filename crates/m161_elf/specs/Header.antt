@@ -1,43 +1,38 @@
-use Rattle.std.specs.Prelude.{ℕ, ◌+◌, ◌*◌, ◌^◌, Bool, ◌==◌, if◌then◌else◌, List, map, filter, slice_index, Option, None, Some}
+use Rattle.std.specs.Prelude.{ℕ, ◌+◌, ◌*◌, Bool, ◌==◌, if◌then◌else◌, List, map, filter, Option, None, Some}
 use Rattle.std.specs.List.{range_with_len}
+use Rattle.m161_ram.specs.Word.{half_at, word_at}
 use Rattle.m161_elf.specs.declared.header.ProgramHeader.{ProgramHeader}
 
--- The headers of a file. ELF32 specification, "ELF Header" and "Program Header".
-
--- the half-word and the word at an offset in the file, big-endian
-abbrev pub file_half : List ℕ → ℕ → ℕ
-file_half file at = slice_index file at * 2 ^ 8 + slice_index file (at + 1)
-
-abbrev pub file_word : List ℕ → ℕ → ℕ
-file_word file at = file_half file at * 2 ^ 16 + file_half file (at + 2)
+-- The headers of a file, whose half-words and words are big-endian, as memory's are. ELF32
+-- specification, "ELF Header" and "Program Header".
 
 -- the fields of the ELF header
 abbrev pub e_type : List ℕ → ℕ
-e_type file = file_half file 16
+e_type file = half_at file 16
 
 abbrev pub e_machine : List ℕ → ℕ
-e_machine file = file_half file 18
+e_machine file = half_at file 18
 
 abbrev pub e_entry : List ℕ → ℕ
-e_entry file = file_word file 24
+e_entry file = word_at file 24
 
 abbrev pub e_phoff : List ℕ → ℕ
-e_phoff file = file_word file 28
+e_phoff file = word_at file 28
 
 abbrev pub e_phentsize : List ℕ → ℕ
-e_phentsize file = file_half file 42
+e_phentsize file = half_at file 42
 
 abbrev pub e_phnum : List ℕ → ℕ
-e_phnum file = file_half file 44
+e_phnum file = half_at file 44
 
 -- the program header at an offset in the file
 abbrev pub header_at : List ℕ → ℕ → ProgramHeader
 header_at file at = record {
-  p_type = file_word file at;
-  p_offset = file_word file (at + 4);
-  p_vaddr = file_word file (at + 8);
-  p_filesz = file_word file (at + 16);
-  p_memsz = file_word file (at + 20);
+  p_type = word_at file at;
+  p_offset = word_at file (at + 4);
+  p_vaddr = word_at file (at + 8);
+  p_filesz = word_at file (at + 16);
+  p_memsz = word_at file (at + 20);
 }
 
 -- program header i of the table

@@ -1,7 +1,8 @@
 //! The fields of ELF32's headers.
 
 ghost use Rattle.std.specs.Prelude.{◌≡◌, ◌+◌, ◌*◌, ◌<◌, ◌≤◌, false, length};
-ghost use Rattle.m161_elf.specs.Header.{e_phnum, e_phoff, file_half, file_word, header_at, segment_at};
+ghost use Rattle.m161_ram.specs.Word.{half_at, word_at};
+ghost use Rattle.m161_elf.specs.Header.{e_phnum, e_phoff, header_at, segment_at};
 ghost use Rattle.m161_elf.specs.Image.{has_bad_header_table};
 
 /// The size of the ELF header.
@@ -49,7 +50,7 @@ pub struct ProgramHeader {
 /// The half-word at an offset in the file.
 pub(crate) fn file_half(file: &[u8], at: usize) -> u16
     requires { at + 2 ≤ length file.now }
-    ensures { result ≡ file_half file.now at }
+    ensures { result ≡ half_at file.now at }
 {
     u16::from_be_bytes([file[at], file[at + 1]])
 }
@@ -57,7 +58,7 @@ pub(crate) fn file_half(file: &[u8], at: usize) -> u16
 /// The word at an offset in the file.
 pub(crate) fn file_word(file: &[u8], at: usize) -> u32
     requires { at + 4 ≤ length file.now }
-    ensures { result ≡ file_word file.now at }
+    ensures { result ≡ word_at file.now at }
 {
     u32::from_be_bytes([file[at], file[at + 1], file[at + 2], file[at + 3]])
 }

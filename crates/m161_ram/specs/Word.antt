@@ -1,7 +1,8 @@
 use Rattle.std.specs.Prelude.{ℕ, ◌+◌, ◌*◌, ◌/◌, ◌%◌, ◌^◌, List, slice_index, slice_set}
 
--- Half-words and words in memory, which is the list of its bytes from physical address 0 on. Kane,
--- MIPS RISC Architecture, "Data formats": big-endian.
+-- Half-words and words in memory, which is the list of its bytes from physical address 0 on; those
+-- of an ELF file are read by the same definitions. Kane, MIPS RISC Architecture, "Data formats":
+-- big-endian.
 
 -- the half-word whose first byte is at an address
 abbrev pub half_at : List ℕ → ℕ → ℕ
