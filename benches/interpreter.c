@@ -24,7 +24,7 @@ struct machine {
     uint32_t lines; /* the bus's lines, in Cause's places */
     int off, linked;
     uint8_t *ram;
-    uint32_t *log; /* four bytes an entry: the processor, and what its step came to */
+    uint32_t *log; /* four bytes an entry: the processor, and the outcome of its step */
     uint32_t log_len, log_room;
 };
 
@@ -41,7 +41,7 @@ static void put_word(uint8_t *p, uint32_t w) {
     p[0] = w >> 24, p[1] = w >> 16, p[2] = w >> 8, p[3] = w;
 }
 
-/* The place in RAM of an access of so many bytes, or -1. */
+/* The place in RAM of an access of `width` bytes, or -1. */
 static int64_t place(const struct cpu *c, uint32_t address, uint32_t width) {
     if (address < 0x80000000u || address >= 0xc0000000u || address % width || c->status & 2)
         return -1;

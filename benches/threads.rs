@@ -19,7 +19,7 @@ struct Pair {
 }
 
 impl Pair {
-    /// A pair with room in its log for so many steps.
+    /// A pair with room in its log for this number of steps.
     fn new(steps: usize) -> Pair {
         let mut first = processor(steps);
         first.ram = vec![0; RAM as usize];

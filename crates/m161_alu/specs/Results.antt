@@ -17,10 +17,10 @@ integer_of Signed word = signed word
 integer_of Unsigned word = pos word
 
 -- a word shifted: times a power of two modulo 2^32, or divided by it, rounded down
-abbrev pub shifted : ShiftOp → ℕ → ℕ → ℕ
-shifted shift.Left word amount = word * 2 ^ amount % 2 ^ 32
-shifted shift.Right word amount = word / 2 ^ amount
-shifted shift.RightArithmetic word amount =
+abbrev pub shifted_word : ShiftOp → ℕ → ℕ → ℕ
+shifted_word shift.Left word amount = word * 2 ^ amount % 2 ^ 32
+shifted_word shift.Right word amount = word / 2 ^ amount
+shifted_word shift.RightArithmetic word amount =
     modulo (2 ^ 32) (int_div_euclid (signed word) (pos (2 ^ amount)))
 
 -- the two words of a number below 2^64

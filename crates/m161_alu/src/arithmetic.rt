@@ -2,14 +2,16 @@
 
 ghost use Rattle.std.specs.Prelude.{◌≡◌, ◌+ℤ◌, ◌-ℤ◌};
 ghost use Rattle.m161_alu.specs.Word.{signed, word_of_signed};
-ghost use Rattle.m161_alu.specs.Results.{shifted, product, quotient};
+ghost use Rattle.m161_alu.specs.Results.{shifted_word, product, quotient};
 
 use m161_isa::{Amount, ShiftOp};
 
 /// How a product, a quotient or a comparison reads its words: in two's complement, or unsigned.
 #[derive(Clone, Copy, Debug, PartialEq, Eq)]
 pub enum Signedness {
+    /// From 2^31 on a word's value is 2^32 less.
     Signed,
+    /// A word is its own value.
     Unsigned,
 }
 
@@ -43,7 +45,7 @@ pub fn sub_checked(a: u32, b: u32) -> Option<u32>
 /// A word shifted by an amount.
 #[inline(always)]
 pub fn shift(op: ShiftOp, word: u32, amount: Amount) -> u32
-    ensures { result ≡ shifted op word amount }
+    ensures { result ≡ shifted_word op word amount }
 {
     let bits = amount.bits();
     match op {

@@ -6,14 +6,14 @@ use Rattle.std.proofs.Common.{◌≡◌, true, false, suc, refl, ap, arith}
 use Rattle.std.proofs.lemmas.Bool.Decides.{nat_tests}
 use Rattle.std.proofs.lemmas.Str.{IsUtf8-from_ascii}
 use Rattle.std.proofs.lemmas.Str.Ascii.{IsAscii-nil, IsAscii-cons}
-use Rattle.m161_asm.specs.Tokens.{Nothing, AName, ANumber, ARegister, ADirective, AMark, NoToken, beginning, begins_name, is_word, name_bytes}
+use Rattle.m161_asm.specs.Tokens.{Nothing, AName, ANumber, ARegister, ADirective, AMark, NoToken, beginning, begins_name, continues_name, name_bytes}
 
 -- A name is ASCII.
 
 letter_ascii : (b : ℕ) → begins_name b ≡ true → b < 128
 letter_ascii b h = grind (arith, nat_tests, h)
 
-word_ascii : (b : ℕ) → is_word b ≡ true → b < 128
+word_ascii : (b : ℕ) → continues_name b ≡ true → b < 128
 word_ascii b h = grind (arith, nat_tests, h)
 
 take_whole : (xs : List ℕ) → take (length xs) xs ≡ xs
@@ -23,9 +23,9 @@ take_whole (x ∷ xs) = ap (λ t. x ∷ t) (take_whole xs)
 run_ascii : (bs : List ℕ) → IsAscii (name_bytes bs)
 run_ascii [] = IsAscii-nil
 run_ascii (b ∷ bs) =
-    elim (is_word b) as
-    (λ x. is_word b ≡ x → IsAscii (take (cond x (1 + prefix_len is_word bs) 0) (b ∷ bs))) [
-      | true ↦ λ e. let n : 1 + prefix_len is_word bs ≡ suc (prefix_len is_word bs) = omega arith in
+    elim (continues_name b) as
+    (λ x. continues_name b ≡ x → IsAscii (take (cond x (1 + prefix_len continues_name bs) 0) (b ∷ bs))) [
+      | true ↦ λ e. let n : 1 + prefix_len continues_name bs ≡ suc (prefix_len continues_name bs) = omega arith in
           rw n (IsAscii-cons b (name_bytes bs) (word_ascii b e) (run_ascii bs))
       | false ↦ λ e. IsAscii-nil
     ] refl
@@ -60,11 +60,11 @@ name_ascii rest e =
 
 -- a name's bytes at the front of a line's rest
 pub front : (rest : List ℕ) (n : ℕ) → 0 < length rest
-    → n ≡ prefix_len is_word (take (length rest - 1) (drop 1 rest))
+    → n ≡ prefix_len continues_name (take (length rest - 1) (drop 1 rest))
     → take (1 + n) rest ≡ slice_index rest 0 ∷ name_bytes (drop 1 rest)
 front [] n h e = absurd (omega (arith, h))
 front (b ∷ bs) n h e =
     let k : 1 + n ≡ suc n = omega arith in
     let l : length (b ∷ bs) - 1 ≡ length bs = omega arith in
-    let m : n ≡ prefix_len is_word bs = rw (l, take_whole bs) at e in
+    let m : n ≡ prefix_len continues_name bs = rw (l, take_whole bs) at e in
     rw (k, m) refl

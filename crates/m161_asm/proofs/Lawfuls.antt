@@ -6,7 +6,7 @@ use Rattle.m161_isa.specs.declared.operand.Operand.{Operand}
 use Rattle.m161_isa.specs.declared.operand.Operand.TheVariants as operand
 use Rattle.m161_isa.specs.Table.{table, width_of, AreOperands}
 use Rattle.m161_asm.specs.Tokens.{Placed, Name, Directive, Register, tokens}
-use Rattle.m161_asm.specs.Lines.{◌>>=◌, Fault, Whole, Value, Part, Field, BranchTo, JumpTo, Parsed, Statement, Nothing, Origin, Space, Entry, Words, Code, SourceLine, register, wrong, whole, is_within, bits_of_whole, part, immediate, register_part, base, target, mark, value, comma, separated, finish, operand_parts, plain_number, multiple, origin_statement, space_statement, entry_statement, words_statement, unknown, values, directive_statement, row_named, instruction, name_statement, statement, label_of, sound, past_of, line_column, size_of}
+use Rattle.m161_asm.specs.Lines.{◌>>=◌, Fault, Whole, Value, Part, Field, BranchTo, JumpTo, Parsed, Statement, Nothing, Origin, Space, Entry, Words, Code, SourceLine, register, wrong, whole, is_within, bits_of_whole, part, immediate, register_part, base, target, mark, value, comma, comma_and_part, end_of_line, operand_parts, plain_number, multiple, origin_statement, space_statement, entry_statement, words_statement, unknown, values, directive_statement, row_named, instruction, name_statement, statement, label_of, sound, past_of, line_column, size_of}
 use Rattle.m161_asm.specs.Text.{count_words, segments_in, address_below, line_in_place, is_outside, is_filled, new_label, line_of, on_line, read_lines, word_address, distance, field_of, each}
 use Rattle.m161_asm.specs.Lawful.{IsPart, AreParts, IsStatement, HasPlace, Lawful}
 
@@ -105,7 +105,7 @@ part_is operand.Branch past ts x e =
     target_is operand.Branch BranchTo past ts x (λ v. omega arith) e
 part_is operand.Jump past ts x e = target_is operand.Jump JumpTo past ts x (λ v. omega arith) e
 
-finish_is : {A : Type 0} (y z : A) (past : ℕ) (ts : List Placed) → finish y past ts ≡ Ok z → y ≡ z
+finish_is : {A : Type 0} (y z : A) (past : ℕ) (ts : List Placed) → end_of_line y past ts ≡ Ok z → y ≡ z
 finish_is y z past [] e = same y z e
 finish_is y z past (t ∷ ts) e = cc
 
@@ -114,7 +114,7 @@ parts_are : (first : Bool) (os : List Operand) (past : ℕ) (ts : List Placed) (
 unfolding operand_parts
 parts_are first [] past ts xs e = subst (AreParts []) (finish_is [] xs past ts e) tt
 parts_are first (o ∷ os) past ts xs e =
-    let a = bound (separated first o past ts) _ xs e in
+    let a = bound (comma_and_part first o past ts) _ xs e in
     let p = bound (comma first o past ts) _ a.x a.read in
     let b = bound (operand_parts false os past a.x.1) _ xs a.gives in
     subst (AreParts (o ∷ os)) (same (a.x.0 ∷ b.x) xs b.gives)

@@ -78,25 +78,25 @@ plain_number past ((Number n, c, e) ∷ ts) = Ok (n, ts)
 plain_number past ts = wrong past ts
 
 -- `[-] number`; 45 is `-`, 43 is `+`
-abbrev pub less : ℕ → List Placed → Parsed Whole
-less past ts = do
+abbrev pub negative_number : ℕ → List Placed → Parsed Whole
+negative_number past ts = do
   n ← plain_number past ts
   Ok ((0, n.0), n.1)
 
-abbrev pub more : ℕ → List Placed → Parsed Whole
-more past ts = do
+abbrev pub positive_number : ℕ → List Placed → Parsed Whole
+positive_number past ts = do
   n ← plain_number past ts
   Ok ((n.0, 0), n.1)
 
 abbrev pub whole : ℕ → List Placed → Parsed Whole
 whole past ((Mark b, c, e) ∷ ts) =
-    if b == 45 then less past ts else wrong past ((Mark b, c, e) ∷ ts)
-whole past ts = more past ts
+    if b == 45 then negative_number past ts else wrong past ((Mark b, c, e) ∷ ts)
+whole past ts = positive_number past ts
 
 -- `[+ number | - number]`
 abbrev pub addend : ℕ → List Placed → Parsed Whole
 addend past ((Mark b, c, e) ∷ ts) =
-    if b == 43 then more past ts else if b == 45 then less past ts
+    if b == 43 then positive_number past ts else if b == 45 then negative_number past ts
     else Ok ((0, 0), (Mark b, c, e) ∷ ts)
 addend past ts = Ok ((0, 0), ts)
 
@@ -153,21 +153,21 @@ comma true o past ts = Ok ts
 comma false operand.Base past ts = Ok ts
 comma false _ past ts = mark 44 past ts
 
-abbrev pub separated : Bool → Operand → ℕ → List Placed → Parsed Part
-separated first o past ts = do
+abbrev pub comma_and_part : Bool → Operand → ℕ → List Placed → Parsed Part
+comma_and_part first o past ts = do
   inner ← comma first o past ts
   part o past inner
 
 -- the line ends here
-abbrev pub finish : {A : Type 0} → A → ℕ → List Placed → Result A Fault
-finish x past [] = Ok x
-finish x past (t ∷ ts) = wrong past (t ∷ ts)
+abbrev pub end_of_line : {A : Type 0} → A → ℕ → List Placed → Result A Fault
+end_of_line x past [] = Ok x
+end_of_line x past (t ∷ ts) = wrong past (t ∷ ts)
 
 -- the operands of a row
 unfoldable pub operand_parts : Bool → List Operand → ℕ → List Placed → Result (List Part) Fault
-operand_parts first [] past ts = finish [] past ts
+operand_parts first [] past ts = end_of_line [] past ts
 operand_parts first (o ∷ os) past ts = do
-  x ← separated first o past ts
+  x ← comma_and_part first o past ts
   xs ← operand_parts false os past x.1
   Ok (x.0 ∷ xs)
 
@@ -193,17 +193,17 @@ multiple past ts = do
 abbrev pub origin_statement : ℕ → List Placed → Result Statement Fault
 origin_statement past ts = do
   n ← multiple past ts
-  finish (Origin n.0) past n.1
+  end_of_line (Origin n.0) past n.1
 
 abbrev pub space_statement : ℕ → List Placed → Result Statement Fault
 space_statement past ts = do
   n ← multiple past ts
-  finish (Space (n.0 / 4)) past n.1
+  end_of_line (Space (n.0 / 4)) past n.1
 
 abbrev pub entry_statement : ℕ → List Placed → Result Statement Fault
 entry_statement past ts = do
   v ← value past ts
-  finish (Entry v.0) past v.1
+  end_of_line (Entry v.0) past v.1
 
 abbrev pub words_statement : ℕ → List Placed → Result Statement Fault
 words_statement past ts = do
@@ -233,7 +233,7 @@ instruction (Some r) column past ts = do
 
 -- `nop` is a word of zeros
 abbrev pub name_statement : Bool → List ℕ → ℕ → ℕ → List Placed → Result Statement Fault
-name_statement true x column past ts = finish (Space 1) past ts
+name_statement true x column past ts = end_of_line (Space 1) past ts
 name_statement false x column past ts = instruction (row_named x) column past ts
 
 unfoldable pub statement : ℕ → List Placed → Result Statement Fault

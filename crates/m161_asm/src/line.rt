@@ -1,8 +1,8 @@
 //! Tokens to statements and labels.
 
 ghost use Rattle.std.specs.Prelude.{◌≡◌, length};
-ghost use Rattle.m161_asm.specs.Lines.{next_column, multiple, origin_statement, space_statement, entry_statement, words_statement, values, finish, unknown, directive_statement, instruction, name_statement, statement, label_of, sound, past_of, line_column};
-ghost use Rattle.m161_asm.specs.Seen.{seen, all_seen, Gives, Yields, number_seen, value_seen, part_seen, statement_seen, label_read};
+ghost use Rattle.m161_asm.specs.Lines.{next_column, multiple, origin_statement, space_statement, entry_statement, words_statement, values, end_of_line, unknown, directive_statement, instruction, name_statement, statement, label_of, sound, past_of, line_column};
+ghost use Rattle.m161_asm.specs.Seen.{placed_seen, all_seen, Gives, Yields, number_seen, value_seen, part_seen, statement_seen, label_read};
 ghost use Rattle.std.specs.Prelude.{map, bytes_eq, codes};
 ghost use Rattle.m161_asm.specs.declared.error.ErrorKind.TheVariants as faults;
 
@@ -14,12 +14,12 @@ use m161_isa::Row;
 use std::alloc::Global;
 
 // The statement, if the line ends here.
-fn finish<'a>(
+fn end_of_line<'a>(
     statement: Statement<'a>,
     past: usize,
     ts: &[Placed<'a>],
 ) -> Result<Statement<'a>, Fault>
-    ensures { Gives statement_seen result (finish (statement_seen statement.entry) past
+    ensures { Gives statement_seen result (end_of_line (statement_seen statement.entry) past
         (all_seen ts.now)) }
 {
     match next(ts) {
@@ -47,21 +47,21 @@ fn origin_statement<'a>(past: usize, ts: &[Placed<'a>]) -> Result<Statement<'a>,
     ensures { Gives statement_seen result (origin_statement past (all_seen ts.now)) }
 {
     let (n, rest) = multiple(past, ts)?;
-    finish(Statement::Origin(n), past, rest)
+    end_of_line(Statement::Origin(n), past, rest)
 }
 
 fn space_statement<'a>(past: usize, ts: &[Placed<'a>]) -> Result<Statement<'a>, Fault>
     ensures { Gives statement_seen result (space_statement past (all_seen ts.now)) }
 {
     let (n, rest) = multiple(past, ts)?;
-    finish(Statement::Space(n / 4), past, rest)
+    end_of_line(Statement::Space(n / 4), past, rest)
 }
 
 fn entry_statement<'a>(past: usize, ts: &[Placed<'a>]) -> Result<Statement<'a>, Fault>
     ensures { Gives statement_seen result (entry_statement past (all_seen ts.now)) }
 {
     let (v, rest) = value(past, ts)?;
-    finish(Statement::Entry(v), past, rest)
+    end_of_line(Statement::Entry(v), past, rest)
 }
 
 // The same tokens: the borrow checker accepts the result of a call for the loop's variable.
@@ -164,7 +164,7 @@ fn name_statement<'a>(
         (codes "nop")) name.now column past (all_seen ts.now)) }
 {
     if name == "nop" {
-        Ok(finish(Statement::Space(1), past, ts)?)
+        Ok(end_of_line(Statement::Space(1), past, ts)?)
     } else {
         instruction(alloc, named_row(name.as_bytes()), column, past, ts)
     }

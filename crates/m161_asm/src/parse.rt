@@ -2,10 +2,10 @@
 
 ghost use Rattle.std.specs.Prelude.{◌≡◌, ◌≤◌, ◌<◌, ◌+◌, ◌^◌, ℕ, List, [], ◌∷◌, length, Result, IfSome, MatchOption, find, bytes_eq, drop};
 ghost use Rattle.m161_asm.specs.declared.error.ErrorKind.TheVariants as faults;
-ghost use Rattle.m161_asm.specs.Lines.{next_column, mark, register, plain_number, less, more, whole, addend, value, immediate, register_part, base, target, part, is_within, bits_of_whole, Field, BranchTo, JumpTo, comma, operand_parts, separated};
+ghost use Rattle.m161_asm.specs.Lines.{next_column, mark, register, plain_number, negative_number, positive_number, whole, addend, value, immediate, register_part, base, target, part, is_within, bits_of_whole, Field, BranchTo, JumpTo, comma, operand_parts, comma_and_part};
 ghost use Rattle.m161_isa.specs.Table.{table};
 ghost use Rattle.m161_asm.specs.Lines.{row_named};
-ghost use Rattle.m161_asm.specs.Seen.{seen, all_seen, Gives, rest_seen, number_seen, whole_seen, whole_read, value_read, value_seen, part_read, part_seen, Adds};
+ghost use Rattle.m161_asm.specs.Seen.{placed_seen, all_seen, Gives, rest_seen, number_seen, whole_seen, whole_read, value_read, value_seen, part_read, part_seen, Adds};
 
 use crate::error::ErrorKind;
 use crate::statement::{Fault, Part, ReadError, Value, Whole};
@@ -16,7 +16,7 @@ use m161_isa::{Operand, ROWS, Row, rows_in_order};
 pub(crate) fn next<'a, 'b>(ts: &'b [Placed<'a>]) -> Option<(Placed<'a>, &'b [Placed<'a>])>
     ensures within { IfSome result (λ x. length x.1.now < length ts.now) }
     ensures parts { MatchOption result (all_seen ts.now ≡ []) (λ x. all_seen ts.now
-        ≡ seen x.0 ∷ all_seen x.1.now) }
+        ≡ placed_seen x.0 ∷ all_seen x.1.now) }
 {
     if ts.len() == 0 {
         return None;
@@ -104,15 +104,21 @@ pub(crate) fn plain_number<'a, 'b>(
     }
 }
 
-fn less<'a, 'b>(past: usize, ts: &'b [Placed<'a>]) -> Result<(Whole, &'b [Placed<'a>]), Fault>
-    ensures { Gives whole_read result (less past (all_seen ts.now)) }
+fn negative_number<'a, 'b>(
+    past: usize,
+    ts: &'b [Placed<'a>],
+) -> Result<(Whole, &'b [Placed<'a>]), Fault>
+    ensures { Gives whole_read result (negative_number past (all_seen ts.now)) }
 {
     let (n, rest) = plain_number(past, ts)?;
     Ok((Whole { up: 0, down: n }, rest))
 }
 
-fn more<'a, 'b>(past: usize, ts: &'b [Placed<'a>]) -> Result<(Whole, &'b [Placed<'a>]), Fault>
-    ensures { Gives whole_read result (more past (all_seen ts.now)) }
+fn positive_number<'a, 'b>(
+    past: usize,
+    ts: &'b [Placed<'a>],
+) -> Result<(Whole, &'b [Placed<'a>]), Fault>
+    ensures { Gives whole_read result (positive_number past (all_seen ts.now)) }
 {
     let (n, rest) = plain_number(past, ts)?;
     Ok((Whole { up: n, down: 0 }, rest))
@@ -133,12 +139,12 @@ fn whole<'a, 'b>(past: usize, ts: &'b [Placed<'a>]) -> Result<(Whole, &'b [Place
             ),
         ) => {
             if b == b'-' {
-                less(past, rest)
+                negative_number(past, rest)
             } else {
                 Err(wrong(past, ts))
             }
         }
-        _ => more(past, ts),
+        _ => positive_number(past, ts),
     }
 }
 
@@ -157,9 +163,9 @@ fn addend<'a, 'b>(past: usize, ts: &'b [Placed<'a>]) -> Result<(Whole, &'b [Plac
             ),
         ) => {
             if b == b'+' {
-                more(past, rest)
+                positive_number(past, rest)
             } else if b == b'-' {
-                less(past, rest)
+                negative_number(past, rest)
             } else {
                 Ok((Whole { up: 0, down: 0 }, ts))
             }
@@ -269,7 +275,7 @@ fn base<'a, 'b>(past: usize, ts: &'b [Placed<'a>]) -> Result<(Part<'a>, &'b [Pla
     Ok((Part::Field(n), rest))
 }
 
-fn branch_target<'a, 'b>(
+fn branch_part<'a, 'b>(
     past: usize,
     ts: &'b [Placed<'a>],
 ) -> Result<(Part<'a>, &'b [Placed<'a>]), Fault>
@@ -279,7 +285,7 @@ fn branch_target<'a, 'b>(
     Ok((Part::BranchTo(v), rest))
 }
 
-fn jump_target<'a, 'b>(
+fn jump_part<'a, 'b>(
     past: usize,
     ts: &'b [Placed<'a>],
 ) -> Result<(Part<'a>, &'b [Placed<'a>]), Fault>
@@ -304,8 +310,8 @@ fn part<'a, 'b>(
         Operand::Signed | Operand::Offset => immediate(32768, 32767, 16, past, ts),
         Operand::Unsigned => immediate(0, 65535, 16, past, ts),
         Operand::Base => base(past, ts),
-        Operand::Branch => branch_target(past, ts),
-        Operand::Jump => jump_target(past, ts),
+        Operand::Branch => branch_part(past, ts),
+        Operand::Jump => jump_part(past, ts),
     }
 }
 
@@ -364,7 +370,7 @@ fn separated_part<'a, 'b>(
     past: usize,
     ts: &'b [Placed<'a>],
 ) -> Result<(Part<'a>, &'b [Placed<'a>]), Fault>
-    ensures { Gives part_read result (separated first operand past (all_seen ts.now)) }
+    ensures { Gives part_read result (comma_and_part first operand past (all_seen ts.now)) }
 {
     let rest = comma(first, operand, past, ts)?;
     part(operand, past, rest)

@@ -11,6 +11,7 @@ use indexmap::IndexMap;
 pub struct Segment {
     /// The address of the first word.
     pub address: u32,
+    /// The words, in order.
     pub words: Vec<u32>,
 }
 

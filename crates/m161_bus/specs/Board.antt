@@ -128,7 +128,8 @@ slot_written (Some register) value b = Ok (with_slot_word register value b)
 unfoldable pub board_read : ℕ → ℕ → BoardState → Result (ℕ × BoardState) BusFault
 board_read c address b = read_from c (register_of b.processors address) b
 
--- the board after processor c wrote a word there; or a bus fault. No register looks at who writes
+-- the board after processor c wrote a word there; or a bus fault. No register depends on which
+-- processor writes
 unfoldable pub board_written : ℕ → ℕ → ℕ → BoardState → Result BoardState BusFault
 board_written c address value b = slot_written (register_of b.processors address) value b
 

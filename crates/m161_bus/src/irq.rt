@@ -35,7 +35,7 @@ impl IrqBits {
         }
     }
 
-    /// The word as which the register is read.
+    /// The word that a read of the register gives.
     pub fn word(self) -> u32
         ensures { result ≡ irq_word self }
     {

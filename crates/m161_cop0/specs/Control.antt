@@ -5,7 +5,8 @@ use Rattle.m161_cop0.specs.declared.register.Register.TheVariants as register
 use Rattle.m161_cop0.specs.Registers.{register_with}
 
 -- The registers of coprocessor 0, and how they are read and written. Kane, MIPS RISC Architecture,
--- "System control coprocessor".
+-- "System control coprocessor"; which bits a write keeps, the timer and PRId are this project's
+-- own.
 
 -- the registers; Cause in parts, since the board's lines are a part of it
 pub record Control : Type 0 where
@@ -30,8 +31,8 @@ pub record Control : Type 0 where
   pub age : ℕ
 
 -- at a start
-abbrev pub start : Control
-start = record {
+abbrev pub control_at_start : Control
+control_at_start = record {
   index = 0;
   random = 63;
   entry_lo = 0;
@@ -147,8 +148,8 @@ with_some_register_word None word c = c
 with_some_register_word (Some r) word c = with_register_word r word c
 
 -- `mtc0`: a write of a register number; a number without a register ignores it
-unfoldable pub written : ℕ → ℕ → Control → Control
-written number word c = with_some_register_word (register_with number) word c
+unfoldable pub after_write : ℕ → ℕ → Control → Control
+after_write number word c = with_some_register_word (register_with number) word c
 
 -- `tlbr`: a row's two words
 abbrev pub with_tlb_row : ℕ → ℕ → Control → Control

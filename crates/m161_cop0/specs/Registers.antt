@@ -5,7 +5,7 @@ use Rattle.m161_cop0.specs.declared.exception.Exception.{Exception}
 use Rattle.m161_cop0.specs.declared.exception.Exception.TheVariants as exception
 
 -- Numbers and names. Kane, MIPS RISC Architecture, "System control coprocessor" and "Exception
--- processing".
+-- processing"; the names in displays are this project's own.
 
 -- the number of a register in `mfc0` and `mtc0`
 abbrev pub number_of_register : Register → ℕ

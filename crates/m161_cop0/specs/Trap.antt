@@ -36,35 +36,38 @@ with_address exception.ReservedInstruction address c = c
 with_address exception.CoprocessorUnusable address c = c
 with_address exception.Overflow address c = c
 
--- two exceptions are one
-abbrev pub is : Exception → Exception → Bool
-is e f = number_of_exception e == number_of_exception f
+-- two exceptions are the same
+abbrev pub is_same_exception : Exception → Exception → Bool
+is_same_exception e f = number_of_exception e == number_of_exception f
 
 -- CE: the unit that wasn't usable, else zero
 abbrev pub unit_of : Trap → ℕ
-unit_of trap = if is trap.code exception.CoprocessorUnusable then trap.unit % 2 ^ 2 else 0
+unit_of trap =
+    if is_same_exception trap.code exception.CoprocessorUnusable then trap.unit % 2 ^ 2 else 0
 
 -- a miss in kuseg; a fetch that misses is TlbLoad too
 abbrev pub is_user_miss : Trap → Bool
 is_user_miss trap =
-    trap.user_miss && (is trap.code exception.TlbLoad || is trap.code exception.TlbStore)
+    trap.user_miss
+    && (is_same_exception trap.code exception.TlbLoad
+    || is_same_exception trap.code exception.TlbStore)
 
 -- Status: the current pair to the previous, the previous to the old; kernel mode, interrupts off
-abbrev pub pushed : ℕ → ℕ
-pushed status = status / 2 ^ 6 * 2 ^ 6 + status % 2 ^ 4 * 2 ^ 2
+abbrev pub push_modes : ℕ → ℕ
+push_modes status = status / 2 ^ 6 * 2 ^ 6 + status % 2 ^ 4 * 2 ^ 2
 
 -- Status: the previous pair to the current one, the old to the previous; the old stays
-abbrev pub popped : ℕ → ℕ
-popped status = status / 2 ^ 4 * 2 ^ 4 + bits_of status 2 4
+abbrev pub pop_modes : ℕ → ℕ
+pop_modes status = status / 2 ^ 4 * 2 ^ 4 + bits_of status 2 4
 
 -- EPC: the instruction, or the branch before it if it is in a delay slot
 abbrev pub epc_of : Trap → ℕ
 epc_of trap = if trap.slot then (trap.pc + (2 ^ 32 - 4)) % 2 ^ 32 else trap.pc
 
 -- the registers after the entry of a trap
-unfoldable pub entered : Trap → Control → Control
-entered trap c = with_address trap.code trap.address (record c {
-  status = pushed c.status;
+unfoldable pub after_trap : Trap → Control → Control
+after_trap trap c = with_address trap.code trap.address (record c {
+  status = push_modes c.status;
   epc = epc_of trap;
   branch_delay = trap.slot;
   unit = unit_of trap;
@@ -84,5 +87,5 @@ IsVector address =
     ⊎ (address ≡ 0xbfc00100) ⊎ (address ≡ 0xbfc00180)
 
 -- `rfe`
-abbrev pub restored : Control → Control
-restored c = record c { status = popped c.status }
+abbrev pub after_rfe : Control → Control
+after_rfe c = record c { status = pop_modes c.status }

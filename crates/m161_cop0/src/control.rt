@@ -1,7 +1,7 @@
 //! The registers of coprocessor 0.
 
 ghost use Rattle.std.specs.Prelude.{◌≡◌, ◌<◌};
-ghost use Rattle.m161_cop0.specs.Control.{start, read_of, written, with_tlb_row, with_probe, internal_ip_of, enabled_im_of};
+ghost use Rattle.m161_cop0.specs.Control.{control_at_start, read_of, after_write, with_tlb_row, with_probe, internal_ip_of, enabled_im_of};
 
 mod clock;
 mod entry;
@@ -92,7 +92,7 @@ impl Model for Cop0 {
 impl Cop0 {
     /// The registers at a start: all zero except Random and PRId.
     pub fn new() -> Cop0
-        ensures { result ≡ start }
+        ensures { result ≡ control_at_start }
     {
         Cop0 {
             index: 0,
@@ -142,11 +142,11 @@ impl Cop0 {
 
     /// Writes a register, as `mtc0` does: the bits that the register keeps. A write to Random,
     /// BadVAddr, EPC, PRId or a number without a register is ignored.
-    #[tactic(auto, unfolding(crate::specs::Control::written))]
+    #[tactic(auto, unfolding(crate::specs::Control::after_write))]
     #[cold]
     #[inline(never)]
     pub fn write(&mut self, register: Reg, word: u32)
-        ensures registers { self.new ≡ written register word self.old }
+        ensures registers { self.new ≡ after_write register word self.old }
         ensures age { self.new.age ≡ self.old.age }
     {
         match Register::from_number(register) {

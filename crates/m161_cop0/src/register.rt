@@ -8,17 +8,29 @@ use m161_isa::Reg;
 /// A register of coprocessor 0.
 #[derive(Clone, Copy, Debug, PartialEq, Eq)]
 pub enum Register {
+    /// Register 0: the row of `tlbr` and `tlbwi`, and what `tlbp` found.
     Index,
+    /// Register 1: the row of `tlbwr`.
     Random,
+    /// Register 2: the second word of a TLB row.
     EntryLo,
+    /// Register 4: PTEBase, and the page of a failed translation.
     Context,
+    /// Register 8: the address of a failed translation or of an error of addressing.
     BadVaddr,
+    /// Register 9: rises by one with each Step.
     Count,
+    /// Register 10: the first word of a TLB row; its identifier is that of translations.
     EntryHi,
+    /// Register 11: the timer's value, or zero.
     Compare,
+    /// Register 12.
     Status,
+    /// Register 13.
     Cause,
+    /// Register 14: the address to return to from a trap.
     Epc,
+    /// Register 15: 000000a1.
     Prid,
 }
 

@@ -8,7 +8,7 @@ use Rattle.m161_cpu.specs.declared.fault.FaultKind.TheVariants as kind
 use Rattle.m161_cpu.specs.Processor.{Processor}
 use Rattle.m161_cpu.specs.Fault.{fault}
 use Rattle.m161_cpu.specs.Translation.{reach}
-use Rattle.m161_cpu.specs.Step.{fetched, is_unusable}
+use Rattle.m161_cpu.specs.Step.{executable_word, is_unusable}
 
 -- Whether the word at pc may be executed.
 
@@ -24,5 +24,5 @@ in_kernel_mode c word kernel = rw kernel (never (bits_of word 26 6 == 16))
 pub unusable : (memory : List ℕ) (p : Processor) (at : ℕ)
     → reach Fetch 4 p.pc (length memory) p ≡ Ok at →
     is_unusable p.control (word_at memory at) ≡ true →
-    fetched memory p ≡ Err (fault kind.Coprocessor0Unusable)
+    executable_word memory p ≡ Err (fault kind.Coprocessor0Unusable)
 unusable memory p at found is = rw (found, is) refl

@@ -6,30 +6,30 @@ use Rattle.m161_cpu.specs.declared.processor.ProcessorState.TheVariants.{Stopped
 use Rattle.m161_cpu.specs.declared.processor.Outcome.TheVariants.{Ran, PoweredOff}
 use Rattle.m161_cpu.specs.Processor.{with_state}
 use Rattle.m161_cpu.specs.Links.{links_after}
-use Rattle.m161_cpu.specs.Scene.{Around, Scene, Change, changed}
+use Rattle.m161_cpu.specs.Scene.{Around, Scene, Change, scene_after}
 use Rattle.m161_cpu.specs.Fault.{Fault}
-use Rattle.m161_cpu.specs.Step.{Stepped, ended, executed, idle, lines_in, running, step_in, step_of, tick, with_processor}
+use Rattle.m161_cpu.specs.Step.{Stepped, step_of_result, change_of_step, idle, lines_in, running_step, step_by_state, step_of, tick, with_processor}
 
 -- What a Step leaves of the links is told by what it does to its own, and by its store.
 
 abbrev pub Links : Around → Stepped → Type 0
 Links a x = x.after.around.links ≡ links_after a.number x.link x.stored a.links
 
-links_ended : (s : Scene) (r : Result Change Fault) → Links s.around (ended s r)
+links_ended : (s : Scene) (r : Result Change Fault) → Links s.around (step_of_result s r)
 links_ended s (Ok change) = refl
 links_ended s (Err f) = refl
 
 links_waiting : (s : Scene) (pending : Bool) →
     Links s.around
-    (if pending then running (with_processor (with_state Running) s) else idle tick s)
+    (if pending then running_step (with_processor (with_state Running) s) else idle tick s)
 links_waiting s true =
     links_ended (with_processor (with_state Running) s)
-    (executed (with_processor (with_state Running) s))
+    (change_of_step (with_processor (with_state Running) s))
 links_waiting s false = refl
 
-links_in : (state : ProcessorState) (s : Scene) → Links s.around (step_in state s)
+links_in : (state : ProcessorState) (s : Scene) → Links s.around (step_by_state state s)
 links_in Stopped s = refl
-links_in Running s = links_ended s (executed s)
+links_in Running s = links_ended s (change_of_step s)
 links_in Waiting s = links_waiting s (is_pending (lines_in s) s.processor.control)
 
 pub step_links : (s : Scene) → Links s.around (step_of s)
@@ -45,20 +45,20 @@ on_by : (off : Bool) → (if off then PoweredOff else Ran) ≡ Ran → off ≡ f
 on_by true h = absurd (let bad : PoweredOff ≡ Ran = h in cc)
 on_by false h = refl
 
-on_ended : (s : Scene) (r : Result Change Fault) → IsOn (ended s r)
-on_ended s (Ok change) = on_by (changed change s).around.board.off
+on_ended : (s : Scene) (r : Result Change Fault) → IsOn (step_of_result s r)
+on_ended s (Ok change) = on_by (scene_after change s).around.board.off
 on_ended s (Err f) = λ h. absurd (cc)
 
 on_waiting : (s : Scene) (pending : Bool) →
-    IsOn (if pending then running (with_processor (with_state Running) s) else idle tick s)
+    IsOn (if pending then running_step (with_processor (with_state Running) s) else idle tick s)
 on_waiting s true =
     on_ended (with_processor (with_state Running) s)
-    (executed (with_processor (with_state Running) s))
+    (change_of_step (with_processor (with_state Running) s))
 on_waiting s false = λ h. absurd (cc)
 
-on_in : (state : ProcessorState) (s : Scene) → IsOn (step_in state s)
+on_in : (state : ProcessorState) (s : Scene) → IsOn (step_by_state state s)
 on_in Stopped s = λ h. absurd (cc)
-on_in Running s = on_ended s (executed s)
+on_in Running s = on_ended s (change_of_step s)
 on_in Waiting s = on_waiting s (is_pending (lines_in s) s.processor.control)
 
 pub ran_on : (s : Scene) → (step_of s).outcome ≡ Ran → (step_of s).after.around.board.off ≡ false

@@ -8,14 +8,14 @@ use Rattle.m161_isa.specs.declared.instr.ZeroTest.TheVariants as zero
 use Rattle.m161_alu.specs.declared.arithmetic.Signedness.TheVariants.{Signed, Unsigned}
 use Rattle.m161_alu.specs.declared.arithmetic.HiLoPair.{HiLoPair}
 use Rattle.m161_alu.specs.Word.{signed, word_of_signed, sign_extended_byte, sign_extended_half}
-use Rattle.m161_alu.specs.Results.{shifted, product, quotient, is_less, is_taken}
+use Rattle.m161_alu.specs.Results.{shifted_word, product, quotient, is_less, is_taken}
 use Rattle.m161_alu.specs.Merge.{merged_left, merged_right}
 use Rattle.m161_ram.specs.Word.{word_at, half_at}
 use Rattle.m161_tlb.specs.declared.row.Row.{Row as TlbRow}
 use Rattle.m161_tlb.specs.Row.{hi_word, lo_word, row_of_words}
 use Rattle.m161_tlb.specs.Rows.{find_row}
-use Rattle.m161_cop0.specs.Control.{Control, read_of, written, with_tlb_row, with_probe, identifier_of, index_row_of}
-use Rattle.m161_cop0.specs.Trap.{restored}
+use Rattle.m161_cop0.specs.Control.{Control, read_of, after_write, with_tlb_row, with_probe, identifier_of, index_row_of}
+use Rattle.m161_cop0.specs.Trap.{after_rfe}
 use Rattle.m161_bus.specs.Board.{BoardState, board_written, interrupt_lines}
 use Rattle.m161_cpu.specs.declared.fault.Access.TheVariants.{Load, Store}
 use Rattle.m161_cpu.specs.declared.fault.FaultKind.TheVariants as kind
@@ -153,15 +153,15 @@ write_read r read = record (write r read.0) { board = Some read.1 }
 abbrev pub write_board : BoardState → Change
 write_board board = record nothing { board = Some board }
 
-abbrev pub store_word_to : Scene → ℕ → ℕ → Result Change Fault
-store_word_to s word at =
+abbrev pub store_physical_word : Scene → ℕ → ℕ → Result Change Fault
+store_physical_word s word at =
     if nat_le (at + 4) (length s.around.memory) then Ok (store_word word at)
     else result_map write_board
     (or_bus_error Store (board_written s.around.number at word s.around.board))
 
-abbrev pub word_stored : ℕ → ℕ → Scene → Result Change Fault
-word_stored address word s =
-    and_then (physical_at Store 4 address s.processor) (store_word_to s word)
+abbrev pub store_word_at : ℕ → ℕ → Scene → Result Change Fault
+store_word_at address word s =
+    and_then (physical_at Store 4 address s.processor) (store_physical_word s word)
 
 -- `ll` links the processor to the word
 abbrev pub load_linked : Scene → ℕ → ℕ → Change
@@ -190,18 +190,19 @@ abbrev pub row_indexed : Processor → Control
 row_indexed p = row_read p.control (slice_get p.rows (index_row_of p.control))
 
 -- `tlbp`: the lowest row that matches EntryHi, whether it is valid or not
-abbrev pub probed : Processor → Control
-probed p =
+abbrev pub after_probe : Processor → Control
+after_probe p =
     with_probe (find_row p.rows (p.control.entry_hi / 2 ^ 12) (identifier_of p.control)) p.control
 
 -- each effect, from its operands and the scene
 abbrev pub effect_of : Scene → Effect → Argument → Argument → Argument → Result Change Fault
 -- shifts
-effect_of s effect.ShiftLeft d a n = Ok (write d.number (shifted shift.Left a.value (n.value % 32)))
+effect_of s effect.ShiftLeft d a n =
+    Ok (write d.number (shifted_word shift.Left a.value (n.value % 32)))
 effect_of s effect.ShiftRight d a n =
-    Ok (write d.number (shifted shift.Right a.value (n.value % 32)))
+    Ok (write d.number (shifted_word shift.Right a.value (n.value % 32)))
 effect_of s effect.ShiftRightArithmetic d a n =
-    Ok (write d.number (shifted shift.RightArithmetic a.value (n.value % 32)))
+    Ok (write d.number (shifted_word shift.RightArithmetic a.value (n.value % 32)))
 -- sums
 effect_of s effect.Sum d a b =
     result_map (write d.number)
@@ -275,7 +276,7 @@ effect_of s effect.LoadWordRight d o b =
 -- stores; a merge of a register into memory is one of memory into a register from the other end
 effect_of s effect.StoreByte t o b = store s 1 o b (store_byte (t.value % 2 ^ 8))
 effect_of s effect.StoreHalf t o b = store s 2 o b (store_half (t.value % 2 ^ 16))
-effect_of s effect.StoreWord t o b = word_stored (effective_address o b) t.value s
+effect_of s effect.StoreWord t o b = store_word_at (effective_address o b) t.value s
 effect_of s effect.StoreWordLeft t o b =
     store_within s o b (λ at. store_word
     (merged_right t.value (word_at s.around.memory at) (3 - place_in_word o b)) at)
@@ -295,14 +296,14 @@ effect_of s effect.MoveFromCop0 t r _ =
     Ok (write t.number
     (read_of r.number (interrupt_lines s.around.number s.around.board) s.processor.control))
 effect_of s effect.MoveToCop0 t r _ =
-    Ok (write_control (written r.number t.value s.processor.control))
+    Ok (write_control (after_write r.number t.value s.processor.control))
 effect_of s effect.ReadTlb _ _ _ =
     Ok (write_control (row_indexed s.processor))
 effect_of s effect.WriteTlbIndexed _ _ _ =
     Ok (write_row (index_row_of s.processor.control) (entry_row s.processor.control))
 effect_of s effect.WriteTlbRandom _ _ _ =
     Ok (write_row s.processor.control.random (entry_row s.processor.control))
-effect_of s effect.ProbeTlb _ _ _ = Ok (write_control (probed s.processor))
+effect_of s effect.ProbeTlb _ _ _ = Ok (write_control (after_probe s.processor))
 effect_of s effect.RestoreFromException _ _ _ =
-    Ok (record (write_control (restored s.processor.control)) { link = End })
+    Ok (record (write_control (after_rfe s.processor.control)) { link = End })
 effect_of s effect.WaitForInterrupt _ _ _ = Ok (record nothing { state = Some Waiting })

@@ -10,9 +10,9 @@ use Rattle.m161_cpu.specs.declared.processor.Outcome.TheVariants.{Idle}
 use Rattle.m161_cpu.specs.Processor.{Processor}
 use Rattle.m161_cpu.specs.Links.{Keep}
 use Rattle.m161_cpu.specs.Scene.{Around, Scene, Change, scene, result_map, processor_after, around_after}
-use Rattle.m161_cpu.specs.Fault.{Fault, fault, noted}
+use Rattle.m161_cpu.specs.Fault.{Fault, fault, with_fault_address}
 use Rattle.m161_cpu.specs.Effect.{write}
-use Rattle.m161_cpu.specs.Step.{Stepped, change_of_row, misfit_kind, running}
+use Rattle.m161_cpu.specs.Step.{Stepped, change_of_row, misfit_kind, running_step}
 
 -- Definitions that the clauses of the code's helpers share: a Step in two parts, and effects on the
 -- code's instructions.
@@ -21,8 +21,8 @@ use Rattle.m161_cpu.specs.Step.{Stepped, change_of_row, misfit_kind, running}
 abbrev pub idle_after : Scene → Stepped
 idle_after s = record { outcome = Idle; after = s; link = Keep; stored = None }
 
-abbrev pub rested : Bool → Scene → Stepped
-rested rests after = if rests then idle_after after else running after
+abbrev pub idle_or_running : Bool → Scene → Stepped
+idle_or_running rests after = if rests then idle_after after else running_step after
 
 abbrev pub unit_in : Instr → Option Coprocessor
 unit_in (Absent unit) = Some unit
@@ -41,14 +41,15 @@ abbrev pub Finds : {V : Type 0} → Result V Fault → Processor → Result V Fa
     → Type 0
 Finds r before (Ok value) after = (r ≡ Ok value) × (after ≡ before)
 Finds r before (Err kind) after =
-    (f : Fault) × (r ≡ Err f) × (kind ≡ f.kind) × (after ≡ noted f.address before)
+    (f : Fault) × (r ≡ Err f) × (kind ≡ f.kind) × (after ≡ with_fault_address f.address before)
 
 -- a word was read, of RAM or of the slots, which leaves a board
 abbrev pub FindsWord : Result (ℕ × BoardState) Fault → Processor → BoardState → Result ℕ FaultKind
     → Processor → BoardState → Type 0
 FindsWord r before board (Ok word) after left = (r ≡ Ok (word, left)) × (after ≡ before)
 FindsWord r before board (Err kind) after left =
-    (f : Fault) × (r ≡ Err f) × (kind ≡ f.kind) × (after ≡ noted f.address before) × (left ≡ board)
+    (f : Fault) × (r ≡ Err f) × (kind ≡ f.kind) × (after ≡ with_fault_address f.address before)
+    × (left ≡ board)
 
 -- the processor and what is around it are as after a change; or as before it, with an address at
 -- fault noted
@@ -65,7 +66,7 @@ Executes (Ok c) before (Ok done) after =
 Executes (Ok c) before (Err kind) after = ⊥
 Executes (Err f) before (Ok done) after = ⊥
 Executes (Err f) before (Err kind) after =
-    (kind ≡ f.kind) × IsAfter (noted f.address before.processor) before.around after
+    (kind ≡ f.kind) × IsAfter (with_fault_address f.address before.processor) before.around after
 
 -- an instruction was executed that changes only the processor
 abbrev pub ExecutesInProcessor : Instr → Processor → Result Unit FaultKind → Processor → Type 0

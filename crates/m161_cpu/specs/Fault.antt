@@ -2,12 +2,12 @@ use Rattle.std.specs.Prelude.{ℕ, ◌+◌, Bool, true, false, Option, None, Som
 use Rattle.m161_cop0.specs.declared.exception.Exception.{Exception}
 use Rattle.m161_cop0.specs.declared.exception.Exception.TheVariants as exception
 use Rattle.m161_cop0.specs.declared.trap.Trap.{Trap}
-use Rattle.m161_cop0.specs.Trap.{entered, vector_of, with_bad_address}
+use Rattle.m161_cop0.specs.Trap.{after_trap, vector_of, with_bad_address}
 use Rattle.m161_cpu.specs.declared.fault.FaultKind.{FaultKind}
 use Rattle.m161_cpu.specs.declared.fault.FaultKind.TheVariants as kind
 use Rattle.m161_cpu.specs.Processor.{Processor}
 
--- Why an instruction isn't executed, and the trap of it. Kane, MIPS RISC Architecture, "Exception
+-- Why an instruction isn't executed, and its trap. Kane, MIPS RISC Architecture, "Exception
 -- processing".
 
 -- the kind, and the address that BadVAddr gets, if any
@@ -56,9 +56,9 @@ is_user_miss_kind kind.UserMissStore = true
 is_user_miss_kind _ = false
 
 -- the address at fault is put into BadVAddr
-abbrev pub noted : Option ℕ → Processor → Processor
-noted None p = p
-noted (Some address) p = record p { control = with_bad_address address p.control }
+abbrev pub with_fault_address : Option ℕ → Processor → Processor
+with_fault_address None p = p
+with_fault_address (Some address) p = record p { control = with_bad_address address p.control }
 
 -- the trap of a fault at the current instruction; the address at fault is in BadVAddr
 abbrev pub trap_of : FaultKind → Processor → Trap
@@ -78,7 +78,7 @@ vector kind p = vector_of (trap_of kind p) p.control
 -- a processor that has entered the trap
 abbrev pub with_trap : FaultKind → Processor → Processor
 with_trap kind p = record p {
-  control = entered (trap_of kind p) p.control;
+  control = after_trap (trap_of kind p) p.control;
   pc = vector kind p;
   following = vector kind p + 4;
   slot = false;

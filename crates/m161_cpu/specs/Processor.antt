@@ -2,7 +2,7 @@ use Rattle.std.specs.Prelude.{ℕ, ◌+◌, ◌%◌, ◌^◌, Bool, true, false,
 use Rattle.m161_alu.specs.declared.arithmetic.HiLoPair.{HiLoPair}
 use Rattle.m161_tlb.specs.declared.row.Row.{Row}
 use Rattle.m161_tlb.specs.Rows.{start_rows}
-use Rattle.m161_cop0.specs.Control.{Control, start}
+use Rattle.m161_cop0.specs.Control.{Control, control_at_start}
 use Rattle.m161_cpu.specs.declared.processor.Flow.{Flow}
 use Rattle.m161_cpu.specs.declared.processor.Flow.TheVariants.{Next, NotTaken, Taken}
 use Rattle.m161_cpu.specs.declared.processor.ProcessorState.{ProcessorState}
@@ -28,30 +28,30 @@ pub record Processor : Type 0 where
   pub count : ℕ
 
 -- one that was never started
-abbrev pub stopped : Processor
-stopped = record {
+abbrev pub stopped_processor : Processor
+stopped_processor = record {
   registers = replicate 32 0;
   hi = 0;
   lo = 0;
   pc = 0;
   following = 0;
   slot = false;
-  control = start;
+  control = control_at_start;
   rows = start_rows;
   state = Stopped;
   count = 0;
 }
 
 -- a start at an address, with words for registers 4 and 29; the count of its Steps stays
-abbrev pub started : ℕ → ℕ → ℕ → ℕ → Processor
-started pc r4 r29 count = record {
+abbrev pub started_processor : ℕ → ℕ → ℕ → ℕ → Processor
+started_processor pc r4 r29 count = record {
   registers = slice_set (slice_set (replicate 32 0) 4 r4) 29 r29;
   hi = 0;
   lo = 0;
   pc = pc;
   following = (pc + 4) % 2 ^ 32;
   slot = false;
-  control = start;
+  control = control_at_start;
   rows = start_rows;
   state = Running;
   count = count;
@@ -87,8 +87,8 @@ is_slot NotTaken = true
 is_slot (Taken target) = true
 
 -- on to the next instruction
-abbrev pub advanced : Flow → Processor → Processor
-advanced flow p = record p {
+abbrev pub with_flow : Flow → Processor → Processor
+with_flow flow p = record p {
   pc = p.following;
   following = after_next flow p.following;
   slot = is_slot flow;

@@ -7,7 +7,7 @@ use Rattle.m161_bus.specs.Board.{BoardState}
 use Rattle.m161_cpu.specs.declared.processor.Flow.{Flow}
 use Rattle.m161_cpu.specs.declared.processor.Flow.TheVariants.{Next}
 use Rattle.m161_cpu.specs.declared.processor.ProcessorState.{ProcessorState}
-use Rattle.m161_cpu.specs.Processor.{Processor, with_register, with_hi_lo, with_control, with_row, with_state, advanced}
+use Rattle.m161_cpu.specs.Processor.{Processor, with_register, with_hi_lo, with_control, with_row, with_state, with_flow}
 use Rattle.m161_cpu.specs.Links.{LinkAct, Keep, links_after}
 
 -- What one Step of a processor sees, and what its instruction changes.
@@ -74,18 +74,19 @@ nothing = record {
 }
 
 -- a part changed, if there is something to change
-abbrev pub applied : {A S : Type 0} → (A → S → S) → Option A → S → S
-applied f None s = s
-applied f (Some a) s = f a s
+abbrev pub apply_part : {A S : Type 0} → (A → S → S) → Option A → S → S
+apply_part f None s = s
+apply_part f (Some a) s = f a s
 
 -- the processor after a change, at its next address
 abbrev pub processor_after : Change → Processor → Processor
 processor_after c p =
-    advanced c.flow
-    (applied with_state c.state
-    (applied (λ (x : ℕ × Row). with_row x.0 x.1) c.row
-    (applied with_control c.control
-    (applied with_hi_lo c.hi_lo (applied (λ (x : ℕ × ℕ). with_register x.0 x.1) c.register p)))))
+    with_flow c.flow
+    (apply_part with_state c.state
+    (apply_part (λ (x : ℕ × Row). with_row x.0 x.1) c.row
+    (apply_part with_control c.control
+    (apply_part with_hi_lo c.hi_lo
+    (apply_part (λ (x : ℕ × ℕ). with_register x.0 x.1) c.register p)))))
 
 abbrev pub with_store : Store → List ℕ → List ℕ
 with_store (byte_to at byte) memory = slice_set memory at byte
@@ -105,13 +106,13 @@ stored_by (Some store) = Some (word_of_store store)
 -- what is around the processor after a change
 abbrev pub around_after : Change → Around → Around
 around_after c a = record a {
-  memory = applied with_store c.store a.memory;
+  memory = apply_part with_store c.store a.memory;
   board = unwrap_or c.board a.board;
   links = links_after a.number c.link (stored_by c.store) a.links;
 }
 
-abbrev pub changed : Change → Scene → Scene
-changed c s = scene (processor_after c s.processor) (around_after c s.around)
+abbrev pub scene_after : Change → Scene → Scene
+scene_after c s = scene (processor_after c s.processor) (around_after c s.around)
 
 -- a function of a result
 abbrev pub result_map : {T U E : Type 0} → (T → U) → Result T E → Result U E

@@ -5,7 +5,7 @@ use Rattle.m161_isa.specs.declared.instr.Coprocessor.TheVariants as coprocessor
 use Rattle.m161_isa.specs.Table.{bits_of, table, row_that_fits, numbers_of, absent_in}
 use Rattle.m161_ram.specs.Word.{word_at}
 use Rattle.m161_cop0.specs.Control.{Control, is_pending, is_interrupted, may_use_cop0}
-use Rattle.m161_cop0.specs.Clock.{ticked}
+use Rattle.m161_cop0.specs.Clock.{after_tick}
 use Rattle.m161_cop0.specs.Trap.{IsVector}
 use Rattle.m161_bus.specs.Board.{interrupt_lines}
 use Rattle.m161_cpu.specs.declared.fault.Access.TheVariants.{Fetch}
@@ -17,8 +17,8 @@ use Rattle.m161_cpu.specs.declared.processor.Outcome.{Outcome}
 use Rattle.m161_cpu.specs.declared.processor.Outcome.TheVariants.{Ran, Trapped, Idle, PoweredOff, Taken}
 use Rattle.m161_cpu.specs.Processor.{Processor, with_state}
 use Rattle.m161_cpu.specs.Links.{LinkAct, Keep, End, links_after}
-use Rattle.m161_cpu.specs.Scene.{Around, Scene, Change, scene, result_map, and_then, changed, stored_by}
-use Rattle.m161_cpu.specs.Fault.{Fault, fault, exception_of, noted, vector, with_trap}
+use Rattle.m161_cpu.specs.Scene.{Around, Scene, Change, scene, result_map, and_then, scene_after, stored_by}
+use Rattle.m161_cpu.specs.Fault.{Fault, fault, exception_of, with_fault_address, vector, with_trap}
 use Rattle.m161_cpu.specs.Translation.{reach}
 use Rattle.m161_cpu.specs.Effect.{arguments, with_three, effect_of}
 
@@ -34,12 +34,12 @@ pub record Stepped : Type 0 where
   pub stored : Option ℕ
 
 -- every Step counts
-abbrev pub counted : Processor → Processor
-counted p = record p { count = p.count + 1 }
+abbrev pub count_step : Processor → Processor
+count_step p = record p { count = p.count + 1 }
 
 -- one of a started processor ticks too
 abbrev pub tick : Processor → Processor
-tick p = counted (record p { control = ticked p.control })
+tick p = count_step (record p { control = after_tick p.control })
 
 abbrev pub with_processor : (Processor → Processor) → Scene → Scene
 with_processor f s = scene (f s.processor) s.around
@@ -49,31 +49,34 @@ abbrev pub idle : (Processor → Processor) → Scene → Stepped
 idle f s = record { outcome = Idle; after = with_processor f s; link = Keep; stored = None }
 
 -- what an instruction leaves
-abbrev pub ran : Scene → Change → Stepped
-ran s change = record {
-  outcome = if (changed change s).around.board.off then PoweredOff else Ran;
-  after = with_processor tick (changed change s);
+abbrev pub step_of_change : Scene → Change → Stepped
+step_of_change s change = record {
+  outcome = if (scene_after change s).around.board.off then PoweredOff else Ran;
+  after = with_processor tick (scene_after change s);
   link = change.link;
   stored = stored_by change.store;
 }
 
 -- the end of a processor's link
-abbrev pub unlinked : Around → Around
-unlinked a = record a { links = links_after a.number End None a.links }
+abbrev pub without_link : Around → Around
+without_link a = record a { links = links_after a.number End None a.links }
 
 -- what a trap leaves: the registers of its entry; general registers, HI, LO, memory and the board
 -- are as they were
-abbrev pub trapped : Scene → Fault → Stepped
-trapped s f = record {
-  outcome = Trapped (exception_of f.kind) (vector f.kind (noted f.address s.processor));
-  after = scene (tick (with_trap f.kind (noted f.address s.processor))) (unlinked s.around);
+abbrev pub step_of_fault : Scene → Fault → Stepped
+step_of_fault s f = record {
+  outcome =
+      Trapped (exception_of f.kind) (vector f.kind (with_fault_address f.address s.processor));
+  after =
+      scene (tick (with_trap f.kind (with_fault_address f.address s.processor)))
+      (without_link s.around);
   link = End;
   stored = None;
 }
 
-abbrev pub ended : Scene → Result Change Fault → Stepped
-ended s (Ok change) = ran s change
-ended s (Err f) = trapped s f
+abbrev pub step_of_result : Scene → Result Change Fault → Stepped
+step_of_result s (Ok change) = step_of_change s change
+step_of_result s (Err f) = step_of_fault s f
 
 -- the word at pc, in this memory
 abbrev pub word_at_pc : List ℕ → Processor → Result ℕ Fault
@@ -108,34 +111,34 @@ abbrev pub usable : Control → ℕ → Result ℕ Fault
 usable c word = if is_unusable c word then Err (fault kind.Coprocessor0Unusable) else Ok word
 
 -- the word at pc, if it may be executed
-abbrev pub fetched : List ℕ → Processor → Result ℕ Fault
-fetched memory p = and_then (word_at_pc memory p) (usable p.control)
+abbrev pub executable_word : List ℕ → Processor → Result ℕ Fault
+executable_word memory p = and_then (word_at_pc memory p) (usable p.control)
 
 -- the lines of the board that the processor sees
 abbrev pub lines_in : Scene → ℕ
 lines_in s = interrupt_lines s.around.number s.around.board
 
 -- interrupt, fetch, coprocessor 0 unusable, decode, effect or trap, in this order
-unfoldable pub executed : Scene → Result Change Fault
-executed s =
+unfoldable pub change_of_step : Scene → Result Change Fault
+change_of_step s =
     if is_interrupted (lines_in s) s.processor.control then Err (fault kind.Interrupt)
-    else and_then (fetched s.around.memory s.processor) (change_in s)
+    else and_then (executable_word s.around.memory s.processor) (change_in s)
 
-abbrev pub running : Scene → Stepped
-running s = ended s (executed s)
+abbrev pub running_step : Scene → Stepped
+running_step s = step_of_result s (change_of_step s)
 
 -- one Step, by the processor's state: a stopped one only counts; a waiting one is idle until an
 -- interrupt is pending
-abbrev pub step_in : ProcessorState → Scene → Stepped
-step_in Stopped s = idle counted s
-step_in Running s = running s
-step_in Waiting s =
+abbrev pub step_by_state : ProcessorState → Scene → Stepped
+step_by_state Stopped s = idle count_step s
+step_by_state Running s = running_step s
+step_by_state Waiting s =
     if is_pending (lines_in s) s.processor.control
-    then running (with_processor (with_state Running) s)
+    then running_step (with_processor (with_state Running) s)
     else idle tick s
 
 unfoldable pub step_of : Scene → Stepped
-step_of s = step_in s.processor.state s
+step_of s = step_by_state s.processor.state s
 
 -- a Step's outcome: it isn't that of an input, and its vector is one of the four
 abbrev pub IsOfStep : Outcome → Type 0

@@ -116,11 +116,11 @@ abbrev pub or_bus_error : {V : Type 0} → Access → Result V BusFault → Resu
 or_bus_error access (Ok value) = Ok value
 or_bus_error access (Err e) = Err (bus_error access)
 
-abbrev pub word_read : ℕ → List ℕ → BoardState → ℕ → Result (ℕ × BoardState) Fault
-word_read c memory board at =
+abbrev pub read_physical_word : ℕ → List ℕ → BoardState → ℕ → Result (ℕ × BoardState) Fault
+read_physical_word c memory board at =
     if nat_le (at + 4) (length memory) then Ok (word_at memory at, board)
     else or_bus_error Load (board_read c at board)
 
 abbrev pub read_word : ℕ → Processor → ℕ → List ℕ → BoardState → Result (ℕ × BoardState) Fault
 read_word address p c memory board =
-    and_then (physical_at Load 4 address p) (word_read c memory board)
+    and_then (physical_at Load 4 address p) (read_physical_word c memory board)

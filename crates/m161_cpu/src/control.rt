@@ -3,7 +3,7 @@
 ghost use Rattle.std.specs.Prelude.{◌≡◌, ◌<◌, ℕ, List};
 ghost use Rattle.m161_isa.specs.declared.instr.Instr.TheVariants.{MoveFromCop0, MoveToCop0, Plain};
 ghost use Rattle.m161_bus.specs.Board.{BoardState, interrupt_lines};
-ghost use Rattle.m161_cpu.specs.Effect.{entry_row, probed, row_indexed};
+ghost use Rattle.m161_cpu.specs.Effect.{entry_row, after_probe, row_indexed};
 ghost use Rattle.m161_cpu.specs.Processor.{with_control, with_row};
 ghost use Rattle.m161_cpu.specs.Execute.{change_by, ExecutesInProcessor, Executes};
 ghost use Rattle.m161_cpu.specs.Scene.{Around, scene_of, scene};
@@ -102,7 +102,7 @@ impl<T: Tlb> Cpu<T> {
     #[cold]
     #[inline(never)]
     fn probe(&mut self)
-        ensures { self.new ≡ with_control (probed self.old) self.old }
+        ensures { self.new ≡ with_control (after_probe self.old) self.old }
     {
         let row = self
             .tlb

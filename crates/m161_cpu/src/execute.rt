@@ -16,7 +16,7 @@ use m161_ram::Ram;
 use m161_tlb::Tlb;
 
 // The fault of a coprocessor that doesn't exist.
-fn absent(unit: Coprocessor) -> FaultKind
+fn misfit_kind(unit: Coprocessor) -> FaultKind
     ensures { result ≡ misfit_kind (Some unit) }
 {
     match unit {
@@ -108,7 +108,7 @@ impl<T: Tlb> Cpu<T> {
             Instr::Plain(op) => self.plain(op, c, links),
             Instr::MoveFromCop0 { rt, register } => self.read_cop0(rt, register, board.lines(c)),
             Instr::MoveToCop0 { rt, register } => self.write_cop0(rt, register),
-            Instr::Absent(unit) => Err(absent(unit)),
+            Instr::Absent(unit) => Err(misfit_kind(unit)),
             Instr::Reserved(_) => Err(FaultKind::ReservedInstruction),
         }
     }

@@ -15,7 +15,7 @@ use m161_tlb::Tlb;
 
 // Where the processor continues after a branch.
 #[inline(always)]
-fn way(taken: bool, target: u32) -> Flow
+fn branch_flow(taken: bool, target: u32) -> Flow
     ensures { result ≡ branch_flow taken target }
 {
     if taken {
@@ -46,7 +46,7 @@ impl<T: Tlb> Cpu<T> {
 
     // Puts the return address into a register.
     #[inline(always)]
-    fn link(&mut self, register: Reg)
+    fn set_return_address(&mut self, register: Reg)
         ensures { self.new ≡ with_register register (return_address self.old) self.old }
     {
         let address = self.pc().wrapping_add(8);
@@ -77,7 +77,7 @@ impl<T: Tlb> Cpu<T> {
             return Err(FaultKind::ReservedInstruction);
         }
         let target = self.reg(rs);
-        self.link(rd);
+        self.set_return_address(rd);
         self.advance(Flow::Taken(target));
         Ok(())
     }
@@ -94,7 +94,7 @@ impl<T: Tlb> Cpu<T> {
         let address = self.jump_target(target);
         match op {
             JumpOp::Jump => {}
-            JumpOp::JumpAndLink => self.link(Reg::new(31)),
+            JumpOp::JumpAndLink => self.set_return_address(Reg::new(31)),
         }
         self.advance(Flow::Taken(address));
         Ok(())
@@ -119,7 +119,7 @@ impl<T: Tlb> Cpu<T> {
             EqualTest::Equal => self.reg(rs) == self.reg(rt),
             EqualTest::NotEqual => self.reg(rs) != self.reg(rt),
         };
-        let flow = way(taken, self.branch_target(offset));
+        let flow = branch_flow(taken, self.branch_target(offset));
         self.advance(flow);
         Ok(())
     }
@@ -138,11 +138,13 @@ impl<T: Tlb> Cpu<T> {
         if self.in_slot() {
             return Err(FaultKind::ReservedInstruction);
         }
-        let flow = way(branch_taken(test, self.reg(rs)), self.branch_target(offset));
+        let flow = branch_flow(branch_taken(test, self.reg(rs)), self.branch_target(offset));
         match test {
             ZeroTest::Less | ZeroTest::GreaterOrEqual | ZeroTest::LessOrEqual | ZeroTest::Greater =>
                 {}
-            ZeroTest::LessAndLink | ZeroTest::GreaterOrEqualAndLink => self.link(Reg::new(31)),
+            ZeroTest::LessAndLink | ZeroTest::GreaterOrEqualAndLink => self.set_return_address(
+                Reg::new(31),
+            ),
         }
         self.advance(flow);
         Ok(())

@@ -25,8 +25,9 @@
 //!
 //! One delay slot follows each branch and jump, taken or not; a branch's target is computed from
 //! the branch's own address plus 4, and a branch in a slot is a reserved instruction. The next
-//! instruction may use a loaded register (this project's own rules). Source: Kane, MIPS RISC
-//! Architecture.
+//! instruction may use a loaded register. Source: Kane, MIPS RISC Architecture; MIPS II for `ll`
+//! and `sc`; the System/161 manual for `wait` and for starting a processor. The order of a Step,
+//! when a link ends, a branch in a slot, and loads without delay are this project's own.
 #![tactic(auto)]
 
 mod compute;

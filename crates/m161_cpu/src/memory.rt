@@ -4,10 +4,10 @@ ghost use Rattle.std.specs.Prelude.{◌≡◌, ◌+◌, ◌-◌, ◌*◌, ◌/�
 ghost use Rattle.m161_isa.specs.declared.instr.Instr.TheVariants.{Load, Store};
 ghost use Rattle.m161_bus.specs.Board.{BoardState, KeepsSize};
 ghost use Rattle.m161_alu.specs.Word.{sign_extended_half};
-ghost use Rattle.m161_cpu.specs.Effect.{store_conditional, word_stored};
+ghost use Rattle.m161_cpu.specs.Effect.{store_conditional, store_word_at};
 ghost use Rattle.m161_cpu.specs.Execute.{change_by, Executes, FindsWord};
 ghost use Rattle.m161_cpu.specs.Links.{after_store};
-ghost use Rattle.m161_cpu.specs.Processor.{advanced};
+ghost use Rattle.m161_cpu.specs.Processor.{with_flow};
 ghost use Rattle.m161_cpu.specs.Scene.{scene_of};
 ghost use Rattle.m161_cpu.specs.Translation.{read_word};
 
@@ -237,7 +237,7 @@ impl<T: Tlb> Cpu<T> {
     // Goes on after a store to a word of RAM, which ends the links to it.
     #[inline(always)]
     fn end_store(&mut self, at: u32, links: &mut Links)
-        ensures processor { self.new ≡ advanced Flow.Next self.old }
+        ensures processor { self.new ≡ with_flow Flow.Next self.old }
         ensures links { links.new ≡ after_store (Some at) links.old }
     {
         links.store_to(at);
@@ -258,7 +258,7 @@ impl<T: Tlb> Cpu<T> {
         requires processor { c < board.old.processors }
         requires ram { length ram.old ≤ 2 ^ 29 }
         ensures store { Executes
-            (word_stored address word (scene_of self.old c ram.old board.old links.old))
+            (store_word_at address word (scene_of self.old c ram.old board.old links.old))
             (scene_of self.old c ram.old board.old links.old) result
             (scene_of self.new c ram.new board.new links.new) }
         ensures board { KeepsSize board.old board.new }
@@ -285,7 +285,7 @@ impl<T: Tlb> Cpu<T> {
     ) -> Result<(), FaultKind>
         requires processor { c < board.old.processors }
         ensures store { Executes
-            (word_stored address word (scene_of self.old c ram.old board.old links.old))
+            (store_word_at address word (scene_of self.old c ram.old board.old links.old))
             (scene_of self.old c ram.old board.old links.old) result
             (scene_of self.new c ram.new board.new links.new) }
         ensures board { KeepsSize board.old board.new }

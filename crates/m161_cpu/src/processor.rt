@@ -1,13 +1,13 @@
-//! The registers of a processor, and one Step of it.
+//! A processor: its registers, its state and the count of its Steps.
 
 ghost use Rattle.std.specs.Prelude.{◌≡◌, ◌+◌, ◌-◌, ◌^◌, ◌<◌, ◌≤◌, ◌%◌, if◌then◌else◌, length, slice_index, Ok, Err};
 ghost use Rattle.m161_bus.specs.Board.{interrupt_lines};
 ghost use Rattle.m161_cop0.specs.Trap.{IsVector};
-ghost use Rattle.m161_cpu.specs.Processor.{stopped, started, with_register, with_hi_lo, advanced};
+ghost use Rattle.m161_cpu.specs.Processor.{stopped_processor, started_processor, with_register, with_hi_lo, with_flow};
 ghost use Rattle.m161_cpu.specs.Scene.{Around, scene};
 ghost use Rattle.m161_cpu.specs.Fault.{vector, with_trap};
 ghost use Rattle.m161_cpu.specs.Step.{step_of, tick};
-ghost use Rattle.m161_cpu.specs.Execute.{rested};
+ghost use Rattle.m161_cpu.specs.Execute.{idle_or_running};
 
 mod views;
 
@@ -104,7 +104,7 @@ impl<T: Tlb> Model for Cpu<T> {
 impl<T: Tlb> Cpu<T> {
     /// A processor that was never started.
     pub fn new() -> Cpu<T>
-        ensures { result ≡ stopped }
+        ensures { result ≡ stopped_processor }
     {
         Cpu {
             registers: [0; 32],
@@ -123,7 +123,7 @@ impl<T: Tlb> Cpu<T> {
     /// Starts it at an address, with these words in registers 4 and 29. The count of its Steps
     /// stays.
     pub fn start(&mut self, pc: u32, r4: u32, r29: u32)
-        ensures { self.new ≡ started pc r4 r29 self.old.count }
+        ensures { self.new ≡ started_processor pc r4 r29 self.old.count }
     {
         let mut registers = [0; 32];
         registers[4] = r4;
@@ -172,7 +172,7 @@ impl<T: Tlb> Cpu<T> {
     /// Writes a register, and goes on to the next instruction.
     #[inline(always)]
     pub(crate) fn set(&mut self, register: Reg, word: u32)
-        ensures { self.new ≡ advanced Flow.Next (with_register register word self.old) }
+        ensures { self.new ≡ with_flow Flow.Next (with_register register word self.old) }
     {
         self.set_reg(register, word);
         self.advance(Flow::Next);
@@ -194,7 +194,7 @@ impl<T: Tlb> Cpu<T> {
     pub(crate) fn rests(&mut self, lines: u32) -> bool
         requires { self.old.count < 2 ^ 64 - 1 }
         ensures step { (a : Around) → interrupt_lines a.number a.board ≡ lines
-            → step_of (scene self.old a) ≡ rested result (scene self.new a) }
+            → step_of (scene self.old a) ≡ idle_or_running result (scene self.new a) }
         ensures counted { self.new.count ≡ self.old.count + (if result then 1 else 0) }
     {
         self.state != ProcessorState::Running && self.rests_elsewhere(lines)
@@ -206,7 +206,7 @@ impl<T: Tlb> Cpu<T> {
     fn rests_elsewhere(&mut self, lines: u32) -> bool
         requires { self.old.count < 2 ^ 64 - 1 }
         ensures step { (a : Around) → interrupt_lines a.number a.board ≡ lines
-            → step_of (scene self.old a) ≡ rested result (scene self.new a) }
+            → step_of (scene self.old a) ≡ idle_or_running result (scene self.new a) }
         ensures counted { self.new.count ≡ self.old.count + (if result then 1 else 0) }
     {
         match self.state {
@@ -253,7 +253,7 @@ impl<T: Tlb> Cpu<T> {
     /// Goes on to the next instruction.
     #[inline(always)]
     pub(crate) fn advance(&mut self, flow: Flow)
-        ensures { self.new ≡ advanced flow self.old }
+        ensures { self.new ≡ with_flow flow self.old }
     {
         self.pc = self.following;
         match flow {

@@ -7,7 +7,7 @@ ghost use Rattle.m161_cpu.specs.Scene.{scene_of};
 ghost use Rattle.m161_cop0.specs.Trap.{IsVector};
 ghost use Rattle.m161_cpu.specs.Fault.{vector, with_trap};
 ghost use Rattle.m161_cpu.specs.Execute.{Executes, Finds};
-ghost use Rattle.m161_cpu.specs.Step.{executed, fetched, is_unusable, running, step_of, tick, IsOfStep, Leaves};
+ghost use Rattle.m161_cpu.specs.Step.{change_of_step, executable_word, is_unusable, running_step, step_of, tick, IsOfStep, Leaves};
 
 use crate::fault::{Access, FaultKind};
 use crate::links::Links;
@@ -40,12 +40,12 @@ impl<T: Tlb> Cpu<T> {
         if self.rests(lines) {
             return Outcome::Idle;
         }
-        self.run(c, lines, ram, board, links)
+        self.running_step(c, lines, ram, board, links)
     }
 
     // One Step of a processor that doesn't rest.
     #[inline(always)]
-    fn run<D: Console>(
+    fn running_step<D: Console>(
         &mut self,
         c: u32,
         lines: u32,
@@ -57,8 +57,8 @@ impl<T: Tlb> Cpu<T> {
         requires lines { lines ≡ interrupt_lines c board.old }
         requires ram { length ram.old ≤ 2 ^ 29 }
         requires room { self.old.count < 2 ^ 64 - 1 }
-        ensures step { Leaves (running (scene_of self.old c ram.old board.old links.old)) result
-            (scene_of self.new c ram.new board.new links.new) }
+        ensures step { Leaves (running_step (scene_of self.old c ram.old board.old links.old))
+            result (scene_of self.new c ram.new board.new links.new) }
         ensures counted { self.new.count ≡ self.old.count + 1 }
         ensures size { length ram.new ≡ length ram.old }
         ensures board { KeepsSize board.old board.new }
@@ -103,7 +103,7 @@ impl<T: Tlb> Cpu<T> {
 
     // Looks for an interrupt, fetches an instruction and executes it.
     #[inline(always)]
-    #[tactic(auto, unfolding(crate::specs::Step::executed))]
+    #[tactic(auto, unfolding(crate::specs::Step::change_of_step))]
     fn execute_next<D: Console>(
         &mut self,
         c: u32,
@@ -115,7 +115,7 @@ impl<T: Tlb> Cpu<T> {
         requires processor { (c < board.old.processors) × (board.old.processors ≤ 32) }
         requires lines { lines ≡ interrupt_lines c board.old }
         requires ram { length ram.old ≤ 2 ^ 29 }
-        ensures change { Executes (executed (scene_of self.old c ram.old board.old links.old))
+        ensures change { Executes (change_of_step (scene_of self.old c ram.old board.old links.old))
             (scene_of self.old c ram.old board.old links.old) result
             (scene_of self.new c ram.new board.new links.new) }
         ensures board { KeepsSize board.old board.new }
@@ -133,7 +133,7 @@ impl<T: Tlb> Cpu<T> {
     #[tactic(auto, using(crate::proofs::Fetched::in_kernel_mode))]
     fn fetch(&mut self, ram: &Ram) -> Result<u32, FaultKind>
         requires ram { length ram.now ≤ 2 ^ 29 }
-        ensures { Finds (fetched ram.now self.old) self.old result self.new }
+        ensures { Finds (executable_word ram.now self.old) self.old result self.new }
     {
         match self.direct(4, self.pc(), ram.size()) {
             Some(at) => Ok(ram.word(at)),
@@ -144,7 +144,7 @@ impl<T: Tlb> Cpu<T> {
     // A call of `fetch_elsewhere`, so that only this function has a stack slot for the result.
     #[inline(always)]
     fn fetch_aside(&mut self, ram: &Ram) -> Result<u32, FaultKind>
-        ensures { Finds (fetched ram.now self.old) self.old result self.new }
+        ensures { Finds (executable_word ram.now self.old) self.old result self.new }
     {
         let word = self.fetch_elsewhere(ram)?;
         Ok(word)
@@ -153,7 +153,7 @@ impl<T: Tlb> Cpu<T> {
     #[cold]
     #[inline(never)]
     fn fetch_elsewhere(&mut self, ram: &Ram) -> Result<u32, FaultKind>
-        ensures { Finds (fetched ram.now self.old) self.old result self.new }
+        ensures { Finds (executable_word ram.now self.old) self.old result self.new }
     {
         let at = self.reach_elsewhere(Access::Fetch, 4, self.pc(), ram.size())?;
         let word = ram.word(at);

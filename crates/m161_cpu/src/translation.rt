@@ -2,7 +2,7 @@
 
 ghost use Rattle.std.specs.Prelude.{◌≡◌, ◌+◌, ◌≤◌, ◌<◌, ◌/◌, ◌^◌, false, Ok, Some, IfOk, IfSome};
 ghost use Rattle.m161_cpu.specs.Execute.{Finds};
-ghost use Rattle.m161_cpu.specs.Fault.{noted};
+ghost use Rattle.m161_cpu.specs.Fault.{with_fault_address};
 ghost use Rattle.m161_cpu.specs.Scene.{result_map};
 ghost use Rattle.m161_cpu.specs.Translation.{IsWidth, Physical, address_error, bus_error, by_page, invalid, is_misaddressed, miss, physical_at, reach, reach_word_of};
 ghost use Rattle.m161_tlb.specs.Rows.{find_row};
@@ -183,7 +183,7 @@ impl<T: Tlb> Cpu<T> {
     // Puts an address at fault into BadVAddr.
     fn note(&mut self, address: u32, kind: FaultKind) -> FaultKind
         ensures kind { result ≡ kind }
-        ensures noted { self.new ≡ noted (Some address) self.old }
+        ensures noted { self.new ≡ with_fault_address (Some address) self.old }
     {
         self.control.set_bad_vaddr(address);
         kind
@@ -191,7 +191,7 @@ impl<T: Tlb> Cpu<T> {
 
     fn address_error(&mut self, access: Access, address: u32) -> FaultKind
         ensures kind { result ≡ (address_error access address).kind }
-        ensures noted { self.new ≡ noted (Some address) self.old }
+        ensures noted { self.new ≡ with_fault_address (Some address) self.old }
     {
         match access {
             Access::Fetch | Access::Load => self.note(address, FaultKind::AddressErrorLoad),
@@ -201,7 +201,7 @@ impl<T: Tlb> Cpu<T> {
 
     fn invalid(&mut self, access: Access, address: u32) -> FaultKind
         ensures kind { result ≡ (invalid access address).kind }
-        ensures noted { self.new ≡ noted (Some address) self.old }
+        ensures noted { self.new ≡ with_fault_address (Some address) self.old }
     {
         match access {
             Access::Fetch | Access::Load => self.note(address, FaultKind::TlbLoad),
@@ -211,7 +211,7 @@ impl<T: Tlb> Cpu<T> {
 
     fn miss(&mut self, access: Access, address: u32) -> FaultKind
         ensures kind { result ≡ (miss access address).kind }
-        ensures noted { self.new ≡ noted (Some address) self.old }
+        ensures noted { self.new ≡ with_fault_address (Some address) self.old }
     {
         if address >= 0x8000_0000 {
             return self.invalid(access, address);

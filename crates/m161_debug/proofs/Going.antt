@@ -1,5 +1,5 @@
 -- A run, one event after the other.
-use Rattle.std.proofs.Common.{◌≡◌, ◌∙◌, inl, inr, sym, ap, refl, subst, ℕ, ◌+◌, ◌<◌, ◌&&◌, false, nat_lt, List, ◌∷◌, length, get_or, take, drop, slice_get, Some, Result, Ok, Err}
+use Rattle.std.proofs.Common.{◌≡◌, ◌∙◌, inl, inr, sym, ap, refl, subst, ℕ, ◌+◌, ◌<◌, ◌&&◌, false, nat_lt, List, ◌∷◌, length, get_or, take, drop, slice_get, Some, IsOk, Result, Ok, Err}
 use Rattle.std.proofs.lemmas.List.{take_more, at_drop_more}
 use Rattle.std.proofs.lemmas.Option.{slice_get-get_or}
 use Rattle.m161_cpu.specs.declared.processor.Outcome.{Outcome}
@@ -10,7 +10,7 @@ use Rattle.m161_machine.specs.History.{History, Answers, Continues, Refuses}
 use Rattle.m161_machine.proofs.Continuing.{continues_more}
 use Rattle.m161_debug.specs.declared.breakpoints.Breakpoint.{Breakpoint}
 use Rattle.m161_debug.specs.declared.stop.Stop.TheVariants.{Refused}
-use Rattle.m161_debug.specs.Stops.{is_break, is_power_off, extended, stop_after, stop_from, Stops}
+use Rattle.m161_debug.specs.Stops.{is_break, is_power_off, with_event, stop_after, stop_from, Stops}
 
 -- no breakpoint stands before event k
 abbrev pub Passes : List Breakpoint → ℕ → History → Event → Type 0
@@ -28,7 +28,16 @@ by_refusal : (bs : List Breakpoint) (m n : History) (es : List Event) (k : ℕ) 
     → Refuses x e refusal → Stops bs m es (Refused k refusal) n
 by_refusal bs m n es k e refusal (Err first) is event made no_stop here refused = inl (no_stop ∙ here ∙ ap (λ r. (Refused k r, n)) (sym refused))
 by_refusal bs m n es k e refusal (Ok given) is event made no_stop here refused =
-    inr (k, ap (Refused k) refused.0, record { event = event ∙ ap (λ v. Some v) refused.1; before = made; no_stop = no_stop })
+    inr (
+      k,
+      ap (Refused k) refused.0,
+      record {
+        event = event ∙ ap (λ v. Some v) refused.1;
+        before = made;
+        accepts = subst (λ y. IsOk (next n.state y)) refused.1 (subst IsOk (sym is) refl);
+        no_stop = no_stop;
+      },
+    )
 
 pub refused : (bs : List Breakpoint) (m n t : History) (es : List Event) (k : ℕ) (d : Event) (refusal : Refusal) → k < length es
     → Continues m (take k es) n → stop_from bs 0 m es ≡ stop_from bs k n (drop k es) → Passes bs k n (get_or es k d)
@@ -40,7 +49,7 @@ refused bs m n t es k d refusal lt made no_stop passes answer =
     subst P (sym answer.1) (by_refusal bs m n es k (get_or es k d) refusal (next n.state (get_or es k d)) refl event made no_stop here answer.0)
 
 -- the run after an accepted event
-accepted : (m t : History) (e : Event) (o : Outcome) → Answers m e (Ok o) t → extended m e (o, t.state) ≡ t
+accepted : (m t : History) (e : Event) (o : Outcome) → Answers m e (Ok o) t → with_event m e (o, t.state) ≡ t
 accepted m t e o answer = λ i. record { start = sym answer.2 i; log = sym answer.1 i; state = t.state }
 
 pub goes_on : (bs : List Breakpoint) (m n t : History) (es : List Event) (k : ℕ) (d : Event) (o : Outcome) → k < length es

@@ -8,12 +8,12 @@ use Rattle.m161_debug.specs.declared.breakpoints.BreakError.TheVariants as break
 use Rattle.m161_debug.specs.declared.command.Change.TheVariants.{Set}
 use Rattle.m161_debug.specs.declared.command.Command.TheVariants.{Breakpoint, Go, GoFirst}
 use Rattle.m161_debug.specs.declared.command.CommandError.{CommandError}
-use Rattle.m161_debug.specs.Breakpoints.{Debugged, breakpoint, break_leaves}
+use Rattle.m161_debug.specs.Breakpoints.{SessionState, breakpoint, break_leaves}
 use Rattle.m161_debug.specs.Shows.{with_line_end, word_text}
 use Rattle.m161_debug.specs.Obeys.{error_of_break, HasEffectUnless, Goes}
 
 -- the first events are all of them
-pub first_is_all : (n : ℕ) (s : Debugged) (rest : List Event) (result : Result ℕ CommandError) (t : Debugged) (before after : List ℕ) → take n rest ≡ rest
+pub first_is_all : (n : ℕ) (s : SessionState) (rest : List Event) (result : Result ℕ CommandError) (t : SessionState) (before after : List ℕ) → take n rest ≡ rest
     → HasEffectUnless None Go s rest result t before after → HasEffectUnless None (GoFirst n) s rest result t before after
 first_is_all n s rest (Ok used) t before after all done =
     let P : List Event → Type 0 = λ es. Goes s es used t done.0 in
@@ -21,7 +21,7 @@ first_is_all n s rest (Ok used) t before after all done =
 first_is_all n s rest (Err e) t before after all failed = failed
 
 -- a breakpoint is set, and its line appended
-pub set_done : (s t : Debugged) (p address : ℕ) (rest : List Event) (before after : List ℕ) (fault : Option BreakError) → fault ≡ None
+pub set_done : (s t : SessionState) (p address : ℕ) (rest : List Event) (before after : List ℕ) (fault : Option BreakError) → fault ≡ None
     → t ≡ record s { breakpoints = break_leaves fault (breakpoint p address) s.breakpoints }
     → after ≡ before ++ with_line_end (codes "break" ␣ decimal p ␣ word_text address)
     → HasEffectUnless (option_map error_of_break fault) (Breakpoint Set p address) s rest (Ok 0) t before after

@@ -8,7 +8,7 @@ use Rattle.m161_debug.specs.declared.breakpoints.BreakError.TheVariants.{BadProc
 -- A session: a machine, and a set of breakpoints, as the list of those that were set, the oldest
 -- first.
 
-pub record Debugged : Type 0 where
+pub record SessionState : Type 0 where
   pub machine : History
   pub breakpoints : List Breakpoint
 
@@ -36,7 +36,7 @@ IsSet [] = Unit {0}
 IsSet (b ∷ bs) = (has b bs ≡ false) × IsSet bs
 
 -- why a breakpoint isn't set: there is no such processor, or there are 64 others
-abbrev pub break_fault : Breakpoint → Debugged → Option BreakError
+abbrev pub break_fault : Breakpoint → SessionState → Option BreakError
 break_fault b s =
     if nat_le (length s.machine.state.processors) b.processor then Some BadProcessor
     else if not (has b s.breakpoints) && nat_le 64 (length s.breakpoints) then Some TooMany

@@ -18,8 +18,8 @@ use Rattle.m161_debug.specs.Shows.{word_text}
 -- The lines of commands.
 
 -- the words of commands
-abbrev pub words : List (List ℕ)
-words =
+abbrev pub command_words : List (List ℕ)
+command_words =
     codes "b" ∷ codes "d" ∷ codes "s" ∷ codes "k" ∷ codes "o" ∷ codes "g" ∷ codes "r" ∷ codes "c"
     ∷ codes "t"
     ∷ codes "m" ∷ codes "x" ∷ []
@@ -65,7 +65,7 @@ first_word (b ∷ bs) = if b == 32 then [] else b ∷ first_word bs
 
 -- a line doesn't begin with the word of a command
 abbrev pub IsUnknown : List ℕ → Type 0
-IsUnknown line = AllByRecursion (λ w. first_word line ≢ w) words
+IsUnknown line = AllByRecursion (λ w. first_word line ≢ w) command_words
 
 -- what a line asks for: a command; or its word is unknown; or it is known, but the line isn't a
 -- command

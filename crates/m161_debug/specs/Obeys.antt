@@ -22,7 +22,7 @@ use Rattle.m161_debug.specs.declared.command.Display.{Display}
 use Rattle.m161_debug.specs.declared.command.Display.TheVariants.{Regs, Cop0, Tlb}
 use Rattle.m161_debug.specs.declared.stop.Stop.{Stop}
 use Rattle.m161_debug.specs.declared.stop.Stop.TheVariants.{Break, Refused, Off, End}
-use Rattle.m161_debug.specs.Breakpoints.{Debugged, breakpoint, break_fault, has, with_breakpoint, without_breakpoint}
+use Rattle.m161_debug.specs.Breakpoints.{SessionState, breakpoint, break_fault, has, with_breakpoint, without_breakpoint}
 use Rattle.m161_debug.specs.Stops.{Stops}
 use Rattle.m161_debug.specs.Shows.{with_line_end, word_text, show_regs_text, show_cop0_text, show_tlb_text, show_mem_text, show_code_text}
 use Rattle.m161_debug.specs.Commands.{IsAsked}
@@ -44,7 +44,7 @@ is_shown area s address n =
     nat_le 1 n && nat_le n 1024 && (address % 4 == 0) && is_there area s address n
 
 -- the fault of a command
-abbrev pub fault_of : Debugged → Command → Option CommandError
+abbrev pub fault_of : SessionState → Command → Option CommandError
 fault_of s (Breakpoint Set p address) =
     option_map error_of_break (break_fault (breakpoint p address) s)
 fault_of s (Breakpoint Delete p address) = None
@@ -88,7 +88,8 @@ area_text Code address n s = show_code_text address n s
 
 -- a run over these events
 pub record Goes
-    (s : Debugged) (events : List Event) (used : ℕ) (t : Debugged) (printed : List ℕ) : Type 0 where
+    (s : SessionState) (events : List Event) (used : ℕ) (t : SessionState) (printed : List ℕ)
+    : Type 0 where
   pub stop : Stop
   pub stops : Stops s.breakpoints s.machine events stop t.machine
   pub breakpoints : t.breakpoints ≡ s.breakpoints
@@ -97,7 +98,7 @@ pub record Goes
 
 -- an event is made
 pub record MakesEvent
-    (s : Debugged) (event : Event) (t : Debugged) (printed : List ℕ) : Type 0 where
+    (s : SessionState) (event : Event) (t : SessionState) (printed : List ℕ) : Type 0 where
   pub answer : Result Outcome Refusal
   pub answers : Answers s.machine event answer t.machine
   pub breakpoints : t.breakpoints ≡ s.breakpoints
@@ -105,7 +106,7 @@ pub record MakesEvent
 
 -- the effect of a command: the session after it, how many of the remaining events it uses up, and
 -- what it prints
-abbrev pub HasEffect : Command → Debugged → List Event → ℕ → Debugged → List ℕ → Type 0
+abbrev pub HasEffect : Command → SessionState → List Event → ℕ → SessionState → List ℕ → Type 0
 HasEffect (Breakpoint Set p address) s rest used t printed =
     (used ≡ 0)
     × (t ≡ record s { breakpoints = with_breakpoint (breakpoint p address) s.breakpoints })
@@ -125,14 +126,14 @@ HasEffect (Words area address n) s rest used t printed =
 
 -- the error is returned, and nothing is changed
 abbrev pub FailsWith :
-    CommandError → Result ℕ CommandError → Debugged → Debugged → List ℕ → List ℕ → Type 0
+    CommandError → Result ℕ CommandError → SessionState → SessionState → List ℕ → List ℕ → Type 0
 FailsWith e result s t before after = (result ≡ Err e) × (t ≡ s) × (after ≡ before)
 
 -- the result of a command, by its fault: that; or without one it is done, and its text is appended;
 -- or memory was refused
 abbrev pub HasEffectUnless :
-    Option CommandError → Command → Debugged → List Event → Result ℕ CommandError → Debugged →
-    List ℕ → List ℕ → Type 0
+    Option CommandError → Command → SessionState → List Event → Result ℕ CommandError →
+    SessionState → List ℕ → List ℕ → Type 0
 HasEffectUnless (Some fault) command s rest result t before after =
     FailsWith fault result s t before after
 HasEffectUnless None command s rest (Ok used) t before after =
@@ -141,7 +142,7 @@ HasEffectUnless None command s rest (Err e) t before after =
     FailsWith NoMemory (Err e) s t before after
 
 abbrev pub Obeys :
-    Result Command CommandError → Debugged → List Event → Result ℕ CommandError → Debugged →
+    Result Command CommandError → SessionState → List Event → Result ℕ CommandError → SessionState →
     List ℕ → List ℕ → Type 0
 Obeys (Ok command) s rest result t before after =
     HasEffectUnless (fault_of s command) command s rest result t before after
@@ -149,7 +150,8 @@ Obeys (Err e) s rest result t before after = FailsWith e result s t before after
 
 -- the result of a line, and the session after it: what the line asks for is done
 abbrev pub Commands :
-    List ℕ → Debugged → List Event → Result ℕ CommandError → Debugged → List ℕ → List ℕ → Type 0
+    List ℕ → SessionState → List Event → Result ℕ CommandError → SessionState → List ℕ → List ℕ →
+    Type 0
 Commands line s rest result t before after =
     (asked : Result Command CommandError) × IsAsked line asked
     × Obeys asked s rest result t before after

@@ -34,8 +34,8 @@ abbrev pub word_text : ℕ → List ℕ
 word_text word = hex_text 8 word
 
 -- a name and a word
-unfoldable pub named : List ℕ → ℕ → List ℕ
-named name word = name ␣ word_text word
+unfoldable pub name_and_word : List ℕ → ℕ → List ℕ
+name_and_word name word = name ␣ word_text word
 
 -- The registers of a processor.
 
@@ -58,7 +58,7 @@ abbrev pub place_line : ℕ → Processor → List ℕ
 place_line p c = place_text p c.state c.pc c.slot
 
 unfoldable pub register_and_word : Processor → ℕ → List ℕ
-register_and_word c r = named (codes "r" ++ decimal r) (slice_index c.registers r)
+register_and_word c r = name_and_word (codes "r" ++ decimal r) (slice_index c.registers r)
 
 -- four registers
 abbrev pub registers_line : Processor → ℕ → List ℕ
@@ -67,7 +67,7 @@ registers_line c i =
     ␣ register_and_word c (4 * i + 3)
 
 abbrev pub hi_lo_line : Processor → List ℕ
-hi_lo_line c = named (codes "hi") c.hi ␣ named (codes "lo") c.lo
+hi_lo_line c = name_and_word (codes "hi") c.hi ␣ name_and_word (codes "lo") c.lo
 
 -- a processor and its registers: ten lines
 unfoldable pub show_regs_text : ℕ → State → List ℕ
@@ -80,7 +80,7 @@ show_regs_text p s =
 -- a register by its name; Cause shows the board's lines as they are now
 abbrev pub cop0_line : ℕ → State → Register → List ℕ
 cop0_line p s r =
-    named (name_of_register r)
+    name_and_word (name_of_register r)
     (read_of (number_of_register r) (interrupt_lines p s.board)
     (processor_at p s.processors).control)
 

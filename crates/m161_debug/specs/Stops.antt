@@ -1,4 +1,4 @@
-use Rattle.std.specs.Prelude.{◌≡◌, ◌⊎◌, ℕ, ◌+◌, Bool, true, false, nat_lt, ◌&&◌, if◌then◌else◌, List, [], ◌∷◌, ◌++◌, length, take, drop, slice_get, Some, Result, Ok, Err}
+use Rattle.std.specs.Prelude.{◌≡◌, ◌⊎◌, ℕ, ◌+◌, Bool, true, false, nat_lt, ◌&&◌, if◌then◌else◌, List, [], ◌∷◌, ◌++◌, length, take, drop, slice_get, Some, IsOk, Result, Ok, Err}
 use Rattle.m161_cpu.specs.declared.processor.Outcome.{Outcome}
 use Rattle.m161_cpu.specs.declared.processor.Outcome.TheVariants as outcomes
 use Rattle.m161_machine.specs.declared.event.Event.{Event}
@@ -29,8 +29,8 @@ is_power_off outcomes.Idle = false
 is_power_off outcomes.Taken = false
 
 -- a history with one more accepted event
-abbrev pub extended : History → Event → Outcome × State → History
-extended m e r = record m { log = m.log ++ entry e r.0 ∷ []; state = r.1 }
+abbrev pub with_event : History → Event → Outcome × State → History
+with_event m e r = record m { log = m.log ++ entry e r.0 ∷ []; state = r.1 }
 
 -- after event k: it was refused, it switched the machine off, or the run goes on
 abbrev pub stop_after :
@@ -38,7 +38,7 @@ abbrev pub stop_after :
     Stop × History
 stop_after k m e (Err refusal) rest = (Refused k refusal, m)
 stop_after k m e (Ok r) rest =
-    if is_power_off r.0 then (Off k, extended m e r) else rest (extended m e r)
+    if is_power_off r.0 then (Off k, with_event m e r) else rest (with_event m e r)
 
 -- where a run over the events from place k on stops, and the history at the stop; no breakpoint is
 -- looked for at place 0
@@ -48,12 +48,13 @@ stop_from bs k m (e ∷ es) =
     if nat_lt 0 k && is_break bs m.state e then (Break k, m)
     else stop_after k m e (next m.state e) (λ n. stop_from bs (k + 1) n es)
 
--- for event k, a Done, memory was refused: the k events before it are made, and no stop is among
--- them
+-- for event k, a Done that would be accepted, memory was refused: the k events before it are made,
+-- and no stop is among them
 pub record LacksMemory
     (bs : List Breakpoint) (m : History) (es : List Event) (k : ℕ) (n : History) : Type 0 where
   pub event : slice_get es k ≡ Some events.Done
   pub before : Continues m (take k es) n
+  pub accepts : IsOk (next n.state events.Done)
   pub no_stop : stop_from bs 0 m es ≡ stop_from bs k n (drop k es)
 
 -- where a run over these events stops, and the history at the stop

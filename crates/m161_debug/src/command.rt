@@ -5,9 +5,9 @@ ghost use Rattle.m161_steplog.specs.Parts.{◌␣◌, Lacks};
 ghost use Rattle.m161_debug.specs.Commands.{change_word, display_word, area_word, name_of_error, IsAsked};
 
 use crate::breakpoints::BreakError;
-use crate::reading::{count_of, processor_and_address, span_of};
+use crate::reading::{address_and_count, count_of, processor_and_address};
 use m161_machine::Event;
-use m161_steplog::{byte_of, cut_at_space, decimal_of};
+use m161_steplog::{cut_at_space, parse_byte, parse_decimal};
 use std::alloc::AllocError;
 use thiserror::Error;
 
@@ -50,7 +50,7 @@ pub(crate) enum Command {
     Words(Area, u32, u32),
 }
 
-/// Why a command isn't done. Each is returned only if none above it holds.
+/// Why a command isn't executed. Each is returned only if none above it holds.
 #[derive(Clone, Copy, Debug, PartialEq, Eq, Error)]
 pub enum CommandError {
     /// No command has this word.
@@ -142,8 +142,8 @@ fn command_with(word: &str, arguments: &str) -> Result<Command, CommandError>
     match word {
         "b" => breakpoint_of(Change::Set, arguments),
         "d" => breakpoint_of(Change::Delete, arguments),
-        "s" => step_of(arguments),
-        "k" => key_of(arguments),
+        "s" => step_command(arguments),
+        "k" => key_command(arguments),
         "o" => Err(CommandError::BadArgument),
         "g" => go_of(arguments),
         "r" => show_of(Display::Regs, arguments),
@@ -165,19 +165,19 @@ fn breakpoint_of(change: Change, arguments: &str) -> Result<Command, CommandErro
     }
 }
 
-fn step_of(arguments: &str) -> Result<Command, CommandError>
+fn step_command(arguments: &str) -> Result<Command, CommandError>
     ensures { IsAsked (codes "s" ␣ arguments.now) result }
 {
-    match decimal_of(arguments) {
+    match parse_decimal(arguments) {
         Some(p) => Ok(Command::Make(Event::Step(p))),
         None => Err(CommandError::BadArgument),
     }
 }
 
-fn key_of(arguments: &str) -> Result<Command, CommandError>
+fn key_command(arguments: &str) -> Result<Command, CommandError>
     ensures { IsAsked (codes "k" ␣ arguments.now) result }
 {
-    match byte_of(arguments) {
+    match parse_byte(arguments) {
         Some(byte) => Ok(Command::Make(Event::Key(byte))),
         None => Err(CommandError::BadArgument),
     }
@@ -195,7 +195,7 @@ fn go_of(arguments: &str) -> Result<Command, CommandError>
 fn show_of(display: Display, arguments: &str) -> Result<Command, CommandError>
     ensures { IsAsked (display_word display ␣ arguments.now) result }
 {
-    match decimal_of(arguments) {
+    match parse_decimal(arguments) {
         Some(p) => Ok(Command::Show(display, p)),
         None => Err(CommandError::BadArgument),
     }
@@ -204,7 +204,7 @@ fn show_of(display: Display, arguments: &str) -> Result<Command, CommandError>
 fn words_of(area: Area, arguments: &str) -> Result<Command, CommandError>
     ensures { IsAsked (area_word area ␣ arguments.now) result }
 {
-    match span_of(arguments) {
+    match address_and_count(arguments) {
         Some((address, n)) => Ok(Command::Words(area, address, n)),
         None => Err(CommandError::BadArgument),
     }

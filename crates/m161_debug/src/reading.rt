@@ -6,25 +6,25 @@ ghost use Rattle.m161_steplog.specs.Parts.{ReadsBoth, IsWord};
 ghost use Rattle.m161_debug.specs.Shows.{word_text};
 ghost use Rattle.m161_debug.specs.Commands.{count_of, IsDecimal};
 
-use m161_steplog::{cut_at_space, decimal_of, word_of};
+use m161_steplog::{cut_at_space, parse_decimal, parse_word};
 
 /// A processor and an address.
 pub(crate) fn processor_and_address(text: &str) -> Option<(u32, u32)>
     ensures { ReadsBoth IsWord IsWord decimal word_text text.now result }
 {
     let (p, address) = cut_at_space(text)?;
-    let p = decimal_of(p)?;
-    let address = word_of(address)?;
+    let p = parse_decimal(p)?;
+    let address = parse_word(address)?;
     Some((p, address))
 }
 
 /// An address and how many words.
-pub(crate) fn span_of(text: &str) -> Option<(u32, u32)>
+pub(crate) fn address_and_count(text: &str) -> Option<(u32, u32)>
     ensures { ReadsBoth IsWord IsWord word_text decimal text.now result }
 {
     let (address, n) = cut_at_space(text)?;
-    let address = word_of(address)?;
-    let n = decimal_of(n)?;
+    let address = parse_word(address)?;
+    let n = parse_decimal(n)?;
     Some((address, n))
 }
 

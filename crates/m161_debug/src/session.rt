@@ -27,9 +27,9 @@ pub struct Session<T: Tlb, D: Console> {
 }
 
 impl<T: Tlb, D: Console> Model for Session<T, D> {
-    ghost use Rattle.m161_debug.specs.Breakpoints.{Debugged, IsSet};
+    ghost use Rattle.m161_debug.specs.Breakpoints.{SessionState, IsSet};
 
-    ghost Value = { Debugged };
+    ghost Value = { SessionState };
 
     ghost view = { λ s. record { machine = s.machine; breakpoints = s.breakpoints } };
 

@@ -3,7 +3,7 @@
 ghost use Rattle.std.specs.Prelude.{◌≡◌, ◌≢◌};
 ghost use Rattle.m161_isa.specs.Table.{bits_of, row_that_fits, numbers_of};
 ghost use Rattle.m161_isa.specs.Instr.{row_of_instr, numbers_of_instr, instr_of, rs_of, rt_of, rd_of, amount_of, immediate_of, target_of};
-ghost use Rattle.m161_decode.specs.Stands.{Stands};
+ghost use Rattle.m161_decode.specs.Decoded.{IsInstrOf};
 
 use crate::fields::{amount, immediate, narrow, rd, rs, rt, target};
 use m161_isa::{
@@ -56,7 +56,7 @@ pub fn row_that_fits(word: u32) -> Option<Row>
 
 #[inline(always)]
 fn by_opcode<Caller>(word: u32) -> Instr
-    ensures { Stands word result }
+    ensures { IsInstrOf word result }
 {
     match narrow(word, 26, 6) {
         0 => special::<Caller>(word),
@@ -104,7 +104,7 @@ fn by_opcode<Caller>(word: u32) -> Instr
 #[inline(always)]
 fn special<Caller>(word: u32) -> Instr
     requires { bits_of word 26 6 ≡ 0 }
-    ensures { Stands word result }
+    ensures { IsInstrOf word result }
 {
     match narrow(word, 0, 6) {
         0 => shift(ShiftOp::Left, word),
@@ -159,7 +159,7 @@ fn special<Caller>(word: u32) -> Instr
 #[inline(always)]
 fn regimm(word: u32) -> Instr
     requires { bits_of word 26 6 ≡ 1 }
-    ensures { Stands word result }
+    ensures { IsInstrOf word result }
 {
     match narrow(word, 16, 5) {
         0 => branch_zero(ZeroTest::Less, word),
@@ -174,7 +174,7 @@ fn regimm(word: u32) -> Instr
 #[inline(always)]
 fn cop0(word: u32) -> Instr
     requires { bits_of word 26 6 ≡ 16 }
-    ensures { Stands word result }
+    ensures { IsInstrOf word result }
 {
     if narrow(word, 25, 1) == 1 {
         cop0_function(word)
@@ -188,7 +188,7 @@ fn cop0(word: u32) -> Instr
 fn cop0_function(word: u32) -> Instr
     requires opcode { bits_of word 26 6 ≡ 16 }
     requires function { bits_of word 25 1 ≡ 1 }
-    ensures { Stands word result }
+    ensures { IsInstrOf word result }
 {
     match narrow(word, 0, 6) {
         1 => Instr::Plain(PlainOp::Tlbr),
@@ -206,7 +206,7 @@ fn cop0_function(word: u32) -> Instr
 fn cop0_move(word: u32) -> Instr
     requires opcode { bits_of word 26 6 ≡ 16 }
     requires plain { bits_of word 25 1 ≢ 1 }
-    ensures { Stands word result }
+    ensures { IsInstrOf word result }
 {
     match narrow(word, 21, 5) {
         0 => Instr::MoveFromCop0 {

@@ -1,4 +1,4 @@
-//! The fields of a word.
+//! The fields of a word. Their places are written out, so that a Step looks none up in a table.
 
 ghost use Rattle.std.specs.Prelude.{◌≡◌, ◌≤◌, ◌<◌, ◌^◌};
 ghost use Rattle.m161_isa.specs.Table.{bits_of};

@@ -8,7 +8,7 @@ use Rattle.m161_isa.specs.declared.operand.Operand.TheVariants as operand
 use Rattle.m161_isa.specs.Table.{table, width_of, number_of}
 use Rattle.m161_dis.specs.Canon.{lead_of, operand_text, operands_text}
 use Rattle.m161_asm.specs.Tokens.{Mark}
-use Rattle.m161_asm.specs.Lines.{◌>>=◌, Fault, Part, operand_parts, separated, row_named}
+use Rattle.m161_asm.specs.Lines.{◌>>=◌, Fault, Part, operand_parts, comma_and_part, row_named}
 use Rattle.m161_asm.specs.Text.{field_of, each}
 use Rattle.m161_dis.proofs.Pieces.{Piece, laid, text_of}
 use Rattle.m161_dis.proofs.Operands.{IsRead, operand_pieces, signed_pieces, part_read}
@@ -28,7 +28,7 @@ pieces_of at word first (o ∷ os) =
 separated_read : (first : Bool) (o : Operand) (at n past column : ℕ) (more : List Piece)
     → at < 2 ^ 32 → at % 4 ≡ 0 → n < 2 ^ width_of o
     → IsRead at n
-    (separated first o past
+    (comma_and_part first o past
     (laid column (lead_pieces first o ++ (operand_pieces at o n ++ more)))) more
 separated_read true operand.Base at n past column more h w k =
     part_read operand.Base at n past column more h w k

@@ -9,7 +9,7 @@ use Rattle.m161_isa.specs.declared.operand.Operand.{Operand}
 use Rattle.m161_isa.specs.declared.operand.Operand.TheVariants as operand
 use Rattle.m161_isa.specs.Table.{table, width_of, number_of}
 use Rattle.m161_dis.specs.Canon.{branch_target, jump_target}
-use Rattle.m161_asm.specs.Tokens.{Name, Number, lexeme, beginning, begins_name, AName, ANumber, Beginning, is_word, reading, number_of_literal, numeral}
+use Rattle.m161_asm.specs.Tokens.{Name, Number, lexeme, beginning, begins_name, AName, ANumber, Beginning, continues_name, number_from, number_of_literal, numeral}
 use Rattle.m161_dis.proofs.Pieces.{Piece, IsPiece, Sound, text_of, starts_apart, run-word, words_clean, blank, comma_piece, open_piece, close_piece, minus_piece}
 use Rattle.m161_dis.proofs.Numerals.{Decimal, decimal_is, decimal_len, below, both, register_piece, hex4_piece, hex8_piece}
 use Rattle.m161_dis.proofs.Operands.{operand_pieces, signed_pieces}
@@ -21,12 +21,12 @@ word_if : (x d : Bool) → d ≡ true → (x || d) ≡ true
 word_if true d e = refl
 word_if false d e = e
 
-all_words : (ds : List ℕ) → list_all is_ascii_digit ds ≡ true → list_all is_word ds ≡ true
+all_words : (ds : List ℕ) → list_all is_ascii_digit ds ≡ true → list_all continues_name ds ≡ true
 all_words [] h = refl
 all_words (b ∷ bs) h =
     elim (is_ascii_digit b) as
     (λ d. is_ascii_digit b ≡ d → (d && list_all is_ascii_digit bs) ≡ true
-    → list_all is_word (b ∷ bs) ≡ true) [
+    → list_all continues_name (b ∷ bs) ≡ true) [
       | true ↦ λ e f. rw (word_if (begins_name b) (is_ascii_digit b) e) (all_words bs f)
       | false ↦
           λ e f. cc
@@ -68,7 +68,7 @@ begins d h = a_number _ (below (λ d. is_a_number (beginning (48 + d))) 10 d ref
 
 number_piece : (n first : ℕ) (others : List ℕ) → first < 10
     → list_all is_ascii_digit ((48 + first) ∷ others) ≡ true
-    → reading 10 0 ((48 + first) ∷ others) ≡ Some n → length ((48 + first) ∷ others) ≤ 10
+    → number_from 10 0 ((48 + first) ∷ others) ≡ Some n → length ((48 + first) ∷ others) ≤ 10
     → IsPiece ((48 + first) ∷ others, Some (Number n))
 unfolding lexeme number_of_literal numeral
 number_piece n first others small all read few = (
@@ -89,8 +89,8 @@ decimal_by : (n : ℕ) (ds : List ℕ) → Decimal n ds → length ds ≤ 10 →
 decimal_by n ds d l =
     let all : list_all is_ascii_digit ((48 + d.first) ∷ d.others)
     ≡ true = subst (λ x. list_all is_ascii_digit x ≡ true) d.whole d.digits_all in
-    let read : reading 10 0 ((48 + d.first) ∷ d.others)
-    ≡ Some n = subst (λ x. reading 10 0 x ≡ Some n) d.whole d.read in
+    let read : number_from 10 0 ((48 + d.first) ∷ d.others)
+    ≡ Some n = subst (λ x. number_from 10 0 x ≡ Some n) d.whole d.read in
     let few : length ((48 + d.first) ∷ d.others) ≤ 10 = subst (λ x. length x ≤ 10) d.whole l in
     let P : List ℕ → Type 0 = λ x. IsPiece (x, Some (Number n)) in
     subst P (sym d.whole) (number_piece n d.first d.others d.small all read few)
@@ -144,8 +144,8 @@ pieces_sound (o ∷ os) first at word =
     (apart os false at word) (pieces_sound os false at word))
 
 -- the names of rows
-named : (b : ℕ) (bs : List ℕ) → beginning b ≡ AName → list_all is_word (b ∷ bs) ≡ true
-    → list_all is_word bs ≡ true → IsPiece (b ∷ bs, Some (Name (b ∷ bs)))
+named : (b : ℕ) (bs : List ℕ) → beginning b ≡ AName → list_all continues_name (b ∷ bs) ≡ true
+    → list_all continues_name bs ≡ true → IsPiece (b ∷ bs, Some (Name (b ∷ bs)))
 unfolding lexeme
 named b bs e g h = (
   omega arith,

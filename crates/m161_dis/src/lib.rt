@@ -118,11 +118,11 @@ fn write_operand(
         Operand::Base => write!(text, "(${number})"),
         Operand::Branch => {
             text.push_str(lead)?;
-            write_hex_number(text, 8, branch_goes_to(at, number))
+            write_hex_number(text, 8, branch_target(at, number))
         }
         Operand::Jump => {
             text.push_str(lead)?;
-            write_hex_number(text, 8, jump_goes_to(at, number))
+            write_hex_number(text, 8, jump_target(at, number))
         }
     }
 }
@@ -169,7 +169,7 @@ fn glyph(digit: u32) -> char
 }
 
 // The target of a branch.
-fn branch_goes_to(at: u32, number: u32) -> u32
+fn branch_target(at: u32, number: u32) -> u32
     requires { number < 2 ^ 16 }
     ensures { result ≡ branch_target at number }
 {
@@ -180,7 +180,7 @@ fn branch_goes_to(at: u32, number: u32) -> u32
 }
 
 // The target of a jump.
-fn jump_goes_to(at: u32, number: u32) -> u32
+fn jump_target(at: u32, number: u32) -> u32
     requires { number < 2 ^ 26 }
     ensures { result ≡ jump_target at number }
 {

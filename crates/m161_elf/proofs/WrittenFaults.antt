@@ -9,7 +9,7 @@ use Rattle.m161_asm.specs.Segments.{segment_seen, segments_seen, word_count, Are
 use Rattle.m161_asm.specs.Text.{Segment}
 use Rattle.m161_elf.specs.declared.image.LoadError.TheVariants as fault
 use Rattle.m161_elf.specs.Header.{segments}
-use Rattle.m161_elf.specs.Image.{first_fault, first_of, has_bad_entry, has_bad_header_table, is_larger_in_file, is_not_elf32_big, is_not_executable, is_not_mips, is_outside_file, is_outside_ram, is_truncated}
+use Rattle.m161_elf.specs.Image.{first_fault, first_answer, has_bad_entry, has_bad_header_table, is_larger_in_file, is_not_elf32_big, is_not_executable, is_not_mips, is_outside_file, is_outside_ram, is_truncated}
 use Rattle.m161_elf.specs.Written.{elf_bytes, file_header, segment_bytes, segment_headers, size, words_bytes}
 use Rattle.m161_elf.specs.WrittenLaw.{is_entry_outside, lies_outside, WrittenHasFewFaults}
 use Rattle.m161_elf.proofs.ReadBack.{count_read, entry_read, length-segment_headers, length-words_bytes, load_headers, segments_read}
@@ -84,11 +84,11 @@ has_table n length room = and_false (not (n == 0)) _ (not_below (52 + 32 * n) le
 
 left : (t n x m h o r l e outside bad : Bool) → t ≡ false → n ≡ false → x ≡ false → m ≡ false
     → h ≡ false → o ≡ false → r ≡ outside → l ≡ false → e ≡ bad
-    → first_of ((t, fault.Truncated) ∷ (n, fault.NotElf32Big) ∷ (x, fault.NotExecutable)
+    → first_answer ((t, fault.Truncated) ∷ (n, fault.NotElf32Big) ∷ (x, fault.NotExecutable)
     ∷ (m, fault.NotMips) ∷ (h, fault.BadHeaderTable)
     ∷ (o, fault.SegmentOutsideFile) ∷ (r, fault.SegmentOutsideRam) ∷ (l, fault.FileLargerThanMemory)
     ∷ (e, fault.BadEntry) ∷ [])
-    ≡ first_of ((outside, fault.SegmentOutsideRam) ∷ (bad, fault.BadEntry) ∷ [])
+    ≡ first_answer ((outside, fault.SegmentOutsideRam) ∷ (bad, fault.BadEntry) ∷ [])
 left t n x m h o r l e outside bad a b c d f g i j k = rw (a, b, c, d, f, g, i, j, k) refl
 
 pub few_faults : WrittenHasFewFaults

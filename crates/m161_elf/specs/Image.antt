@@ -8,7 +8,8 @@ use Rattle.m161_elf.specs.declared.image.LoadError.{LoadError}
 use Rattle.m161_elf.specs.declared.image.LoadError.TheVariants as fault
 use Rattle.m161_elf.specs.Header.{e_type, e_machine, e_entry, e_phoff, e_phentsize, e_phnum, segments}
 
--- The image of a file, and the faults for which a file is refused.
+-- The image of a file, and the faults for which a file is refused. ELF32 specification; the order
+-- of the faults, and that a later segment's bytes win, are this project's own.
 
 -- `size` bytes from an address on are in RAM, all of them by kseg0 or all by kseg1
 abbrev pub is_in_ram : ℕ → ℕ → ℕ → Bool
@@ -55,14 +56,14 @@ abbrev pub has_bad_entry : List ℕ → ℕ → Bool
 has_bad_entry file ram = not (e_entry file % 4 == 0) || not (is_in_ram ram (e_entry file) 1)
 
 -- the answer of the first test that holds
-abbrev pub first_of : {E : Type 0} → List (Bool × E) → Option E
-first_of [] = None
-first_of ((test, answer) ∷ rest) = if test then Some answer else first_of rest
+abbrev pub first_answer : {E : Type 0} → List (Bool × E) → Option E
+first_answer [] = None
+first_answer ((test, answer) ∷ rest) = if test then Some answer else first_answer rest
 
 -- the first fault that holds, each tested over all segments before the next fault
 unfoldable pub first_fault : List ℕ → ℕ → Option LoadError
 first_fault file ram =
-    first_of (
+    first_answer (
     (is_truncated file, fault.Truncated)
     ∷ (is_not_elf32_big file, fault.NotElf32Big)
     ∷ (is_not_executable file, fault.NotExecutable)

@@ -4,7 +4,7 @@ use Rattle.std.specs.Option.{option_map_or}
 use Rattle.m161_asm.specs.declared.program.Program.{Program}
 use Rattle.m161_asm.specs.Segments.{segments_seen}
 use Rattle.m161_asm.specs.Text.{Segment}
-use Rattle.m161_elf.specs.Image.{first_fault, first_of, is_in_ram, place_in_ram, IsImage}
+use Rattle.m161_elf.specs.Image.{first_fault, first_answer, is_in_ram, place_in_ram, IsImage}
 use Rattle.m161_elf.specs.declared.image.LoadError.TheVariants as fault
 use Rattle.m161_elf.specs.Written.{elf_bytes, size, words_bytes}
 
@@ -64,7 +64,7 @@ abbrev pub WrittenHasFewFaults : Type 0
 WrittenHasFewFaults =
     (p : Program) (ram : ℕ) → p.entry < 2 ^ 32
     → first_fault (elf_bytes p.entry (segments_seen p.segments.items)) ram
-    ≡ first_of (
+    ≡ first_answer (
     (list_any (lies_outside ram) (segments_seen p.segments.items), fault.SegmentOutsideRam)
     ∷ (is_entry_outside ram p.entry, fault.BadEntry)
     ∷ []

@@ -1,7 +1,7 @@
 use Rattle.std.specs.Prelude.{ℕ, ◌-◌, nat_lt, if◌then◌else◌, Option, None, Some}
 
 -- Addresses that are mapped to physical ones without the TLB. Kane, MIPS RISC Architecture,
--- "Virtual memory".
+-- "Memory management".
 
 -- kseg0 and kseg1, two views of the first 2^29 physical bytes: the address minus the segment's base
 abbrev pub unmapped : ℕ → Option ℕ

@@ -61,7 +61,8 @@ cop0 n = field 26 6 16 ∷ field 21 5 n ∷ []
 abbrev pub cop0_function : ℕ → List Field
 cop0_function n = field 26 6 16 ∷ field 25 1 1 ∷ field 0 6 n ∷ []
 
--- the table: a row has its one line here, and the code's line is proved to be the same
+-- the table: a row has its one line here, and the code's line is proved to be the same; so this one
+-- can be read without the code
 abbrev pub table : Row → Columns
 table rows.Sll = columns (codes "sll") (special 0) (operand.Rd ∷ operand.Rt ∷ operand.Amount ∷ []) effect.ShiftLeft
 table rows.Srl = columns (codes "srl") (special 2) (operand.Rd ∷ operand.Rt ∷ operand.Amount ∷ []) effect.ShiftRight

@@ -6,7 +6,7 @@ use Rattle.m161_elf.specs.declared.image.LoadError.{LoadError}
 use Rattle.m161_elf.specs.Image.{first_fault, Loads, IsImage}
 use Rattle.m161_bus.specs.Console.{console_at_boot}
 use Rattle.m161_bus.specs.Board.{board_at_boot}
-use Rattle.m161_cpu.specs.Processor.{Processor, started, stopped}
+use Rattle.m161_cpu.specs.Processor.{Processor, started_processor, stopped_processor}
 use Rattle.m161_cpu.specs.Links.{no_links}
 use Rattle.m161_machine.specs.declared.conf.Conf.{Conf}
 use Rattle.m161_machine.specs.declared.event.Entry.{Entry}
@@ -35,7 +35,7 @@ log_is_short conf h = search rules
 -- the parts of a machine that was just booted
 pub agrees_at_boot : (start : Start) (processors : List Processor) (log : List Entry) →
     IsLoaded start → is_within_limits start.conf ≡ true →
-    processors ≡ started start.entry 0 0 0 ∷ replicate (start.conf.processors - 1) stopped → log ≡ [] →
+    processors ≡ started_processor start.entry 0 0 0 ∷ replicate (start.conf.processors - 1) stopped_processor → log ≡ [] →
     Agrees (history start log) (record {
       processors = processors;
       memory = start.bytes;
@@ -44,7 +44,7 @@ pub agrees_at_boot : (start : Start) (processors : List Processor) (log : List E
     })
 agrees_at_boot start processors log from_file within them empty =
     let one = one_at_least start.conf within in
-    let others = length-replicate (start.conf.processors - 1) stopped in
+    let others = length-replicate (start.conf.processors - 1) stopped_processor in
     rw (empty, them) record {
       replay = refl;
       parts_are = refl;
@@ -57,8 +57,8 @@ agrees_at_boot start processors log from_file within them empty =
         made = All-replicate (IsMade []) 32 None tt;
         accepted_is = refl;
         counts = let P : Processor → Type 0 = λ p. p.count ≤ 0 in
-            All-cons P (started start.entry 0 0 0) (replicate (start.conf.processors - 1) stopped) (omega arith)
-            (All-replicate P (start.conf.processors - 1) stopped (omega arith));
+            All-cons P (started_processor start.entry 0 0 0) (replicate (start.conf.processors - 1) stopped_processor) (omega arith)
+            (All-replicate P (start.conf.processors - 1) stopped_processor (omega arith));
       };
       is_loaded = from_file;
       limits_hold = within;

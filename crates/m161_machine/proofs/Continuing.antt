@@ -6,7 +6,7 @@ use Rattle.m161_machine.specs.declared.event.Event.TheVariants.{Step}
 use Rattle.m161_machine.specs.declared.event.Entry.{Entry}
 use Rattle.m161_machine.specs.declared.event.Refusal.{Refusal}
 use Rattle.m161_machine.specs.State.{State, next}
-use Rattle.m161_machine.specs.History.{History, run, going_on, entry, events_of, outcomes_of, Answers, Continues, Refuses}
+use Rattle.m161_machine.specs.History.{History, run, rest_of_run, entry, events_of, outcomes_of, Answers, Continues, Refuses}
 use Rattle.m161_machine.proofs.Replay.{run_more}
 
 -- no event
@@ -40,7 +40,7 @@ repeats_more m n k made e o c a =
 
 -- what the first event of a run gives, where it is the last as well
 given : (y : Result (Outcome × State) Refusal) (o : Outcome) (t : State) →
-    going_on y (λ u. Some ([], u)) ≡ Some (o ∷ [], t) → y ≡ Ok (o, t)
+    rest_of_run y (λ u. Some ([], u)) ≡ Some (o ∷ [], t) → y ≡ Ok (o, t)
 given (Err refusal) o t h = absurd (let bad : ◌≡◌ {A = Option (List Outcome × State)} None (Some (o ∷ [], t)) = h in cc)
 given (Ok r) o t h =
     let pair : ◌≡◌ {A = List Outcome × State} (r.0 ∷ [], r.1) (o ∷ [], t) = cc in

@@ -4,12 +4,12 @@ use Rattle.std.proofs.lemmas.Bool.Decides.{nat_tests}
 use Rattle.std.proofs.lemmas.List.{get_or-set_same, get_or-set_other, length-map, length-set}
 use Rattle.std.proofs.lemmas.List.Sums.{sum_by-cons}
 use Rattle.m161_cpu.specs.declared.processor.Outcome.{Outcome}
-use Rattle.m161_cpu.specs.Processor.{Processor, stopped}
+use Rattle.m161_cpu.specs.Processor.{Processor, stopped_processor}
 use Rattle.m161_machine.specs.declared.event.Event.{Event}
 use Rattle.m161_machine.specs.declared.event.Event.TheVariants.{Step, Key, Done}
 use Rattle.m161_machine.specs.declared.event.Refusal.{Refusal}
 use Rattle.m161_machine.specs.State.{State, counts, counts_after, next}
-use Rattle.m161_machine.specs.History.{History, Start, CountsSteps, IsReplay, after_outcome, boot_state, events_of, going_on, is_step_of, outcomes_of, run, steps_of}
+use Rattle.m161_machine.specs.History.{History, Start, CountsSteps, IsReplay, after_outcome, boot_state, events_of, rest_of_run, is_step_of, outcomes_of, run, steps_of}
 use Rattle.m161_machine.proofs.Counting.{counts_law}
 
 -- What the counts of a run say of its events.
@@ -30,7 +30,7 @@ rest_of (Some r) first os t h =
 
 counts_going : (x : Result (Outcome × State) Refusal) (e : Event) (es : List Event) (s t : State) (os : List Outcome) →
     next s e ≡ x → ((u : State) (rest : List Outcome) → run u es ≡ Some (rest, t) → counts t ≡ counts_through es (counts u)) →
-    going_on x (λ u. run u es) ≡ Some (os, t) → counts t ≡ counts_through es (counts_after e (counts s))
+    rest_of_run x (λ u. run u es) ≡ Some (os, t) → counts t ≡ counts_through es (counts_after e (counts s))
 counts_going (Err refusal) e es s t os is rest h = absurd (let bad : ◌≡◌ {A = Option (List Outcome × State)} None (Some (os, t)) = h in cc)
 counts_going (Ok r) e es s t os is rest h =
     let after = rest_of (run r.1 es) r.0 os t h in
@@ -80,7 +80,7 @@ length_through [] cs = refl
 length_through (e ∷ es) cs = length_through es (counts_after e cs) ∙ same_length e cs
 
 -- at boot no processor has made a Step
-none_made : (n p : ℕ) → get_or (map (λ (q : Processor). q.count) (replicate n stopped)) p 0 ≡ 0
+none_made : (n p : ℕ) → get_or (map (λ (q : Processor). q.count) (replicate n stopped_processor)) p 0 ≡ 0
 none_made zero p = refl
 none_made (suc n) zero = refl
 none_made (suc n) (suc p) = none_made n p

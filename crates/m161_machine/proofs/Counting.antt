@@ -9,15 +9,15 @@ use Rattle.m161_cpu.specs.declared.processor.Outcome.{Outcome}
 use Rattle.m161_cpu.specs.declared.processor.Outcome.TheVariants.{Taken}
 use Rattle.m161_cpu.specs.declared.processor.ProcessorState.{ProcessorState}
 use Rattle.m161_cpu.specs.declared.processor.ProcessorState.TheVariants.{Stopped, Running, Waiting}
-use Rattle.m161_cpu.specs.Fault.{Fault, noted}
-use Rattle.m161_cpu.specs.Processor.{Processor, stopped, with_register, with_hi_lo, with_control, with_row, with_state}
-use Rattle.m161_cpu.specs.Scene.{Change, Scene, applied, around, processor_after, scene}
-use Rattle.m161_cpu.specs.Step.{ended, executed, idle, lines_in, running, step_in, step_of, tick, with_processor}
+use Rattle.m161_cpu.specs.Fault.{Fault, with_fault_address}
+use Rattle.m161_cpu.specs.Processor.{Processor, stopped_processor, with_register, with_hi_lo, with_control, with_row, with_state}
+use Rattle.m161_cpu.specs.Scene.{Change, Scene, apply_part, around, processor_after, scene}
+use Rattle.m161_cpu.specs.Step.{step_of_result, change_of_step, idle, lines_in, running_step, step_by_state, step_of, tick, with_processor}
 use Rattle.m161_machine.specs.declared.event.Event.{Event}
 use Rattle.m161_machine.specs.declared.event.Event.TheVariants.{Step, Key, Done}
 use Rattle.m161_machine.specs.declared.event.Refusal.{Refusal}
 use Rattle.m161_machine.specs.declared.event.Refusal.TheVariants.{KeyFull as KeyFullRefusal}
-use Rattle.m161_machine.specs.State.{State, answer, answered_done, answered_key, counts, counts_after, live_links, next, processor_at, refusal, refusal_of_done, stepped, unless, with_board, with_starts, with_step}
+use Rattle.m161_machine.specs.State.{State, answer, answered_done, answered_key, counts, counts_after, live_links, next, processor_at, refusal, refusal_of_done, step_result, unless, with_board, with_starts, with_step}
 use Rattle.m161_machine.proofs.Starting.{count_kept}
 use Rattle.m161_tlb.specs.declared.row.Row.{Row}
 
@@ -26,41 +26,41 @@ use Rattle.m161_tlb.specs.declared.row.Row.{Row}
 -- a part changed, by a change that keeps the count
 kept_by_part : {A : Type 0} (f : A → Processor → Processor) →
     ((a : A) (p : Processor) → (f a p).count ≡ p.count) → (o : Option A) (p : Processor) →
-    (applied f o p).count ≡ p.count
+    (apply_part f o p).count ≡ p.count
 kept_by_part f keeps None p = refl
 kept_by_part f keeps (Some a) p = keeps a p
 
 kept_by_change : (c : Change) (p : Processor) → (processor_after c p).count ≡ p.count
 kept_by_change c p =
-    let with_words = applied (λ (x : ℕ × ℕ). with_register x.0 x.1) c.register p in
-    let with_pair = applied with_hi_lo c.hi_lo with_words in
-    let with_registers = applied with_control c.control with_pair in
-    let with_rows = applied (λ (x : ℕ × Row). with_row x.0 x.1) c.row with_registers in
+    let with_words = apply_part (λ (x : ℕ × ℕ). with_register x.0 x.1) c.register p in
+    let with_pair = apply_part with_hi_lo c.hi_lo with_words in
+    let with_registers = apply_part with_control c.control with_pair in
+    let with_rows = apply_part (λ (x : ℕ × Row). with_row x.0 x.1) c.row with_registers in
     kept_by_part with_state (λ _ _. refl) c.state with_rows
     ∙ kept_by_part (λ (x : ℕ × Row). with_row x.0 x.1) (λ _ _. refl) c.row with_registers
     ∙ kept_by_part with_control (λ _ _. refl) c.control with_pair
     ∙ kept_by_part with_hi_lo (λ _ _. refl) c.hi_lo with_words
     ∙ kept_by_part (λ (x : ℕ × ℕ). with_register x.0 x.1) (λ _ _. refl) c.register p
 
-kept_by_note : (address : Option ℕ) (p : Processor) → (noted address p).count ≡ p.count
+kept_by_note : (address : Option ℕ) (p : Processor) → (with_fault_address address p).count ≡ p.count
 kept_by_note None p = refl
 kept_by_note (Some address) p = refl
 
 count_ended : (s : Scene) (r : Result Change Fault) →
-    (ended s r).after.processor.count ≡ s.processor.count + 1
+    (step_of_result s r).after.processor.count ≡ s.processor.count + 1
 count_ended s (Ok change) = ap (λ n. n + 1) (kept_by_change change s.processor)
 count_ended s (Err f) = ap (λ n. n + 1) (kept_by_note f.address s.processor)
 
 count_waiting : (s : Scene) (pending : Bool) →
-    (if pending then running (with_processor (with_state Running) s) else idle tick s).after.processor.count
+    (if pending then running_step (with_processor (with_state Running) s) else idle tick s).after.processor.count
     ≡ s.processor.count + 1
 count_waiting s true =
-    count_ended (with_processor (with_state Running) s) (executed (with_processor (with_state Running) s))
+    count_ended (with_processor (with_state Running) s) (change_of_step (with_processor (with_state Running) s))
 count_waiting s false = refl
 
-count_in : (state : ProcessorState) (s : Scene) → (step_in state s).after.processor.count ≡ s.processor.count + 1
+count_in : (state : ProcessorState) (s : Scene) → (step_by_state state s).after.processor.count ≡ s.processor.count + 1
 count_in Stopped s = refl
-count_in Running s = count_ended s (executed s)
+count_in Running s = count_ended s (change_of_step s)
 count_in Waiting s = count_waiting s (is_pending (lines_in s) s.processor.control)
 
 step_count : (s : Scene) → (step_of s).after.processor.count ≡ s.processor.count + 1
@@ -77,16 +77,16 @@ starts_count before board c (p ∷ ps) =
     λ i. first i ∷ rest i
 
 pub count_at : (ps : List Processor) (p : ℕ) →
-    get_or (map (λ (q : Processor). q.count) ps) p 0 ≡ (get_or ps p stopped).count
+    get_or (map (λ (q : Processor). q.count) ps) p 0 ≡ (get_or ps p stopped_processor).count
 count_at [] p = refl
 count_at (q ∷ qs) zero = refl
 count_at (q ∷ qs) (suc p) = count_at qs p
 
 counts_stepped : (p : ℕ) (s : State) →
-    counts (with_step p (stepped p s) s) ≡ counts_after (Step p) (counts s)
-unfolding stepped
+    counts (with_step p (step_result p s) s) ≡ counts_after (Step p) (counts s)
+unfolding step_result
 counts_stepped p s =
-    let x = stepped p s in
+    let x = step_result p s in
     starts_count s.board.started x.after.around.board 0 (set s.processors p x.after.processor)
     ∙ map-set (λ (q : Processor). q.count) s.processors p x.after.processor
     ∙ ap (λ n. set (counts s) p n)
@@ -115,7 +115,7 @@ counts_sent s t o (Err e) h = absurd (let bad : ◌≡◌ {A = Result (Outcome �
 counts_answered : (e : Event) (s t : State) (o : Outcome) →
     answer s e ≡ Ok (o, t) → counts t ≡ counts_after e (counts s)
 counts_answered (Step p) s t o h =
-    ap counts (sym (state_of ((stepped p s).outcome, with_step p (stepped p s) s) (o, t) h)) ∙ counts_stepped p s
+    ap counts (sym (state_of ((step_result p s).outcome, with_step p (step_result p s) s) (o, t) h)) ∙ counts_stepped p s
 counts_answered (Key byte) s t o h = counts_keyed s t o (board_key byte s.board) h
 counts_answered Done s t o h = counts_sent s t o (board_done s.board) h
 

@@ -11,17 +11,17 @@ use Rattle.m161_cpu.specs.declared.processor.Outcome.{Outcome}
 use Rattle.m161_cpu.specs.declared.processor.Outcome.TheVariants.{Ran, PoweredOff, Taken}
 use Rattle.m161_cpu.specs.declared.processor.ProcessorState.{ProcessorState}
 use Rattle.m161_cpu.specs.declared.processor.ProcessorState.TheVariants.{Stopped, Running, Waiting}
-use Rattle.m161_cpu.specs.Fault.{Fault, noted, trap_of}
+use Rattle.m161_cpu.specs.Fault.{Fault, with_fault_address, trap_of}
 use Rattle.m161_cpu.specs.Processor.{with_state}
-use Rattle.m161_cpu.specs.Scene.{Change, Scene, around, changed, scene}
-use Rattle.m161_cpu.specs.Step.{IsOfStep, ended, executed, idle, lines_in, running, step_in, step_of, tick, with_processor}
+use Rattle.m161_cpu.specs.Scene.{Change, Scene, around, scene_after, scene}
+use Rattle.m161_cpu.specs.Step.{IsOfStep, step_of_result, change_of_step, idle, lines_in, running_step, step_by_state, step_of, tick, with_processor}
 use Rattle.m161_machine.specs.declared.event.Entry.{Entry}
 use Rattle.m161_machine.specs.declared.event.Event.{Event}
 use Rattle.m161_machine.specs.declared.event.Event.TheVariants.{Step, Key, Done}
 use Rattle.m161_machine.specs.declared.event.Refusal.{Refusal}
 use Rattle.m161_machine.specs.declared.event.Refusal.TheVariants.{KeyFull as KeyFullRefusal}
-use Rattle.m161_machine.specs.State.{State, answer, answered_done, answered_key, live_links, next, processor_at, refusal, refusal_of_done, stepped, with_board, with_step}
-use Rattle.m161_machine.specs.History.{CanGive, after_outcome, events_of, going_on, outcomes_of, run}
+use Rattle.m161_machine.specs.State.{State, answer, answered_done, answered_key, live_links, next, processor_at, refusal, refusal_of_done, step_result, with_board, with_step}
+use Rattle.m161_machine.specs.History.{CanGive, after_outcome, events_of, rest_of_run, outcomes_of, run}
 use Rattle.m161_machine.proofs.Counting.{given}
 
 -- Each entry of a run has an outcome that its event can have.
@@ -41,28 +41,28 @@ by_power : (off : Bool) → IsOfStep (if off then PoweredOff else Ran)
 by_power true = tt
 by_power false = tt
 
-ended_proper : (s : Scene) (r : Result Change Fault) → IsOfStep (ended s r).outcome
-ended_proper s (Ok change) = by_power (changed change s).around.board.off
+ended_proper : (s : Scene) (r : Result Change Fault) → IsOfStep (step_of_result s r).outcome
+ended_proper s (Ok change) = by_power (scene_after change s).around.board.off
 ended_proper s (Err f) =
-    is_vector (trap_of f.kind (noted f.address s.processor)) (noted f.address s.processor).control
+    is_vector (trap_of f.kind (with_fault_address f.address s.processor)) (with_fault_address f.address s.processor).control
 
 waiting_proper : (s : Scene) (pending : Bool) →
-    IsOfStep (if pending then running (with_processor (with_state Running) s) else idle tick s).outcome
+    IsOfStep (if pending then running_step (with_processor (with_state Running) s) else idle tick s).outcome
 waiting_proper s true =
-    ended_proper (with_processor (with_state Running) s) (executed (with_processor (with_state Running) s))
+    ended_proper (with_processor (with_state Running) s) (change_of_step (with_processor (with_state Running) s))
 waiting_proper s false = tt
 
-proper_in : (state : ProcessorState) (s : Scene) → IsOfStep (step_in state s).outcome
+proper_in : (state : ProcessorState) (s : Scene) → IsOfStep (step_by_state state s).outcome
 proper_in Stopped s = tt
-proper_in Running s = ended_proper s (executed s)
+proper_in Running s = ended_proper s (change_of_step s)
 proper_in Waiting s = waiting_proper s (is_pending (lines_in s) s.processor.control)
 
 step_proper : (s : Scene) → IsOfStep (step_of s).outcome
 unfolding step_of
 step_proper s = proper_in s.processor.state s
 
-stepped_proper : (p : ℕ) (s : State) → IsOfStep (stepped p s).outcome
-unfolding stepped
+stepped_proper : (p : ℕ) (s : State) → IsOfStep (step_result p s).outcome
+unfolding step_result
 stepped_proper p s =
     step_proper (scene (processor_at p s.processors) (around p s.memory s.board (live_links s.stores s.links)))
 
@@ -82,7 +82,7 @@ done_gives s t o (Err e) h = absurd (let bad : ◌≡◌ {A = Result (Outcome ×
 
 answer_gives : (e : Event) (s t : State) (o : Outcome) → answer s e ≡ Ok (o, t) → CanGive e o
 answer_gives (Step p) s t o h =
-    subst IsOfStep (outcome_of ((stepped p s).outcome, with_step p (stepped p s) s) (o, t) h) (stepped_proper p s)
+    subst IsOfStep (outcome_of ((step_result p s).outcome, with_step p (step_result p s) s) (o, t) h) (stepped_proper p s)
 answer_gives (Key byte) s t o h = key_gives s t o (board_key byte s.board) h
 answer_gives Done s t o h = done_gives s t o (board_done s.board) h
 
@@ -103,7 +103,7 @@ after_first (Some q) o first os t h =
     (first_is, λ i. Some (rest_is i, last_is i))
 
 going_first : (x : Result (Outcome × State) Refusal) (y : State → Option (List Outcome × State)) (first : Outcome) (os : List Outcome) (t : State) →
-    going_on x y ≡ Some (first ∷ os, t) → (u : State) × (x ≡ Ok (first, u)) × (y u ≡ Some (os, t))
+    rest_of_run x y ≡ Some (first ∷ os, t) → (u : State) × (x ≡ Ok (first, u)) × (y u ≡ Some (os, t))
 going_first (Err refusal) y first os t h = absurd (let bad : ◌≡◌ {A = Option (List Outcome × State)} None (Some (first ∷ os, t)) = h in cc)
 going_first (Ok r) y first os t h =
     let parts = after_first (y r.1) r.0 first os t h in

@@ -3,7 +3,7 @@ use Rattle.std.specs.Prelude.{◌==◌, ◌||◌, if◌then◌else◌, slice_set
 use Rattle.std.proofs.lemmas.List.{drop_all, drop-append-le, length-append, map-set}
 use Rattle.std.proofs.lemmas.List.Elements.{All-set, All-weaker, All-head, All-tail}
 use Rattle.m161_cpu.specs.Links.{LinkAct, Keep, LinkTo, End, unless_to, after_store, after_act, links_after}
-use Rattle.m161_machine.specs.State.{Link, live, live_links, touches, relinked, stores_after}
+use Rattle.m161_machine.specs.State.{Link, live, live_links, touches, with_link_act, stores_after}
 use Rattle.m161_machine.specs.History.{IsMade}
 
 -- The code keeps the words of the live links. They are those of the links that the meaning keeps, with all stores.
@@ -54,7 +54,7 @@ live_now stores word =
     ap (λ ws. if touches word ws then None else Some word) none
 
 after_its_act : (p : ℕ) (act : LinkAct) (stores : List ℕ) (links : List (Option Link)) →
-    after_act p act (live_links stores links) ≡ live_links stores (relinked p act (length stores) links)
+    after_act p act (live_links stores links) ≡ live_links stores (with_link_act p act (length stores) links)
 after_its_act p Keep stores links = refl
 after_its_act p (LinkTo word) stores links =
     ap (slice_set (live_links stores links) p) (sym (live_now stores word))
@@ -63,7 +63,7 @@ after_its_act p End stores links = sym (map-set (live stores) links p None)
 
 pub live_after : (p : ℕ) (act : LinkAct) (stored : Option ℕ) (stores : List ℕ) (links : List (Option Link)) → All (IsMade stores) links →
     links_after p act stored (live_links stores links)
-    ≡ live_links (stores_after stored stores) (relinked p act (length (stores_after stored stores)) links)
+    ≡ live_links (stores_after stored stores) (with_link_act p act (length (stores_after stored stores)) links)
 live_after p act stored stores links made =
     ap (after_act p act) (after_its_store stored stores links made)
     ∙ after_its_act p act (stores_after stored stores) links
@@ -78,14 +78,14 @@ still_made stored stores None made = made
 still_made stored stores (Some link) made = let more = longer stored stores in omega (arith, more, made)
 
 made_after : (p : ℕ) (act : LinkAct) (stores : List ℕ) (links : List (Option Link)) → All (IsMade stores) links →
-    All (IsMade stores) (relinked p act (length stores) links)
+    All (IsMade stores) (with_link_act p act (length stores) links)
 made_after p Keep stores links made = made
 made_after p (LinkTo word) stores links made =
     All-set (IsMade stores) links p (Some (record { word = word; made = length stores })) (omega arith) made
 made_after p End stores links made = All-set (IsMade stores) links p None tt made
 
 pub all_made : (p : ℕ) (act : LinkAct) (stored : Option ℕ) (stores : List ℕ) (links : List (Option Link)) → All (IsMade stores) links →
-    All (IsMade (stores_after stored stores)) (relinked p act (length (stores_after stored stores)) links)
+    All (IsMade (stores_after stored stores)) (with_link_act p act (length (stores_after stored stores)) links)
 all_made p act stored stores links made =
     made_after p act (stores_after stored stores) links
     (All-weaker (IsMade stores) (IsMade (stores_after stored stores)) (still_made stored stores) links made)

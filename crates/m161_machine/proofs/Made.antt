@@ -17,7 +17,7 @@ use Rattle.m161_machine.specs.declared.event.Event.TheVariants.{Step}
 use Rattle.m161_machine.specs.declared.event.Entry.{Entry}
 use Rattle.m161_machine.specs.declared.event.Refusal.{Refusal}
 use Rattle.m161_machine.specs.declared.event.Refusal.TheVariants.{Off, LogFull}
-use Rattle.m161_machine.specs.State.{Link, State, answer, live_links, next, processor_at, refusal, relinked, stepped, stores_after, unless, with_board, with_step}
+use Rattle.m161_machine.specs.State.{Link, State, answer, live_links, next, processor_at, refusal, with_link_act, step_result, stores_after, unless, with_board, with_step}
 use Rattle.m161_machine.specs.Parts.{Parts, parts_after, parts_of, step_on}
 use Rattle.m161_machine.specs.History.{Start, History, outcomes_of, history, entry, Agrees, Answers, IsMade, IsSound, Refuses}
 use Rattle.m161_machine.proofs.Linking.{all_made, live_after}
@@ -156,23 +156,23 @@ input_refused m start log e before r view a allows gives =
     subst (λ x. Refuses x e r) (sym (allowed m.state e allows)) (gives m.state board_was)
 
 -- a Step
-length_relinked : (p : ℕ) (act : LinkAct) (n : ℕ) (links : List (Option Link)) → length (relinked p act n links) ≡ length links
+length_relinked : (p : ℕ) (act : LinkAct) (n : ℕ) (links : List (Option Link)) → length (with_link_act p act n links) ≡ length links
 length_relinked p Keep n links = refl
 length_relinked p (LinkTo word) n links = length-set links p (Some (record { word = word; made = n }))
 length_relinked p End n links = length-set links p None
 
 -- a Step on the parts of a state is the state's
-step_on_parts : (p : ℕ) (s : State) (parts : Parts) → parts ≡ parts_of s → step_on p parts ≡ stepped p s
-unfolding stepped
+step_on_parts : (p : ℕ) (s : State) (parts : Parts) → parts ≡ parts_of s → step_on p parts ≡ step_result p s
+unfolding step_result
 step_on_parts p s parts same = ap (step_on p) same
 
 -- the parts after it are those of the state after it
 parts_stepped : (p : ℕ) (s : State) → All (IsMade s.stores) s.links →
-    parts_after p (stepped p s) (parts_of s) ≡ parts_of (with_step p (stepped p s) s)
-unfolding stepped
+    parts_after p (step_result p s) (parts_of s) ≡ parts_of (with_step p (step_result p s) s)
+unfolding step_result
 parts_stepped p s links_made =
     let x = step_of (scene (processor_at p s.processors) (around p s.memory s.board (live_links s.stores s.links))) in
-    let links_are : x.after.around.links ≡ live_links (stores_after x.stored s.stores) (relinked p x.link (length (stores_after x.stored s.stores)) s.links) =
+    let links_are : x.after.around.links ≡ live_links (stores_after x.stored s.stores) (with_link_act p x.link (length (stores_after x.stored s.stores)) s.links) =
     step_links (scene (processor_at p s.processors) (around p s.memory s.board (live_links s.stores s.links)))
     ∙ live_after p x.link x.stored s.stores s.links links_made in
     ap (λ links. record (parts_after p x (parts_of s)) { links = links }) links_are
@@ -189,7 +189,7 @@ pub step_made : (m : History) (start : Start) (log : List Entry) (p : ℕ) (befo
     Made m start log (Step p) o after
 step_made m start log p before view a allows room after after_is number size board counts o outcome_is =
     let s = (history start log).state in
-    let x = stepped p s in
+    let x = step_result p s in
     let t = with_step p x s in
     let state_is : s ≡ m.state = ap (λ (y : History). y.state) view in
     let x_is : step_on p before ≡ x = step_on_parts p s before a.parts_are in
@@ -214,7 +214,7 @@ step_made m start log p before view a allows room after after_is number size boa
 
 -- a Step whose outcome is Ran leaves the machine on
 ran_by : (r : Option Refusal) (s t : State) (p : ℕ) → unless r (answer s (Step p)) ≡ Ok (Ran, t) → t.board.off ≡ false
-unfolding stepped
+unfolding step_result
 ran_by (Some r) s t p h = absurd (let bad : ◌≡◌ {A = Result (Outcome × State) Refusal} (Err r) (Ok (Ran, t)) = h in cc)
 ran_by None s t p h =
     let x = step_of (scene (processor_at p s.processors) (around p s.memory s.board (live_links s.stores s.links))) in

@@ -5,7 +5,7 @@ use Rattle.m161_machine.specs.declared.event.Event.{Event}
 use Rattle.m161_machine.specs.declared.event.Entry.{Entry}
 use Rattle.m161_machine.specs.declared.event.Refusal.{Refusal}
 use Rattle.m161_machine.specs.State.{State, next}
-use Rattle.m161_machine.specs.History.{Start, run, going_on, after_outcome, boot_state, events_of, outcomes_of, entry, history, last_state, IsReplay}
+use Rattle.m161_machine.specs.History.{Start, run, rest_of_run, after_outcome, boot_state, events_of, outcomes_of, entry, history, last_state, IsReplay}
 
 -- what comes after the first outcome of a run, with one event more
 outcome_more : (y z : Option (List Outcome × State)) (u t : State) (first o : Outcome) (os : List Outcome) →
@@ -21,7 +21,7 @@ outcome_more (Some r) z u t first o os more h =
 -- the same, by what the first event gives
 going_more : (x : Result (Outcome × State) Refusal) (y z : State → Option (List Outcome × State)) (u t : State) (o : Outcome) (os : List Outcome) →
     ((v : State) (rest : List Outcome) → y v ≡ Some (rest, u) → z v ≡ Some (rest ++ o ∷ [], t)) →
-    going_on x y ≡ Some (os, u) → going_on x z ≡ Some (os ++ o ∷ [], t)
+    rest_of_run x y ≡ Some (os, u) → rest_of_run x z ≡ Some (os ++ o ∷ [], t)
 going_more (Err refusal) y z u t o os more h = absurd (let bad : ◌≡◌ {A = Option (List Outcome × State)} None (Some (os, u)) = h in cc)
 going_more (Ok r) y z u t o os more h = outcome_more (y r.1) (z r.1) u t r.0 o os (more r.1) h
 

@@ -5,7 +5,7 @@ use Rattle.m161_machine.specs.declared.event.Event.{Event}
 use Rattle.m161_machine.specs.declared.event.Entry.{Entry}
 use Rattle.m161_machine.specs.declared.event.Refusal.{Refusal}
 use Rattle.m161_machine.specs.State.{State, next}
-use Rattle.m161_machine.specs.History.{History, run, going_on, after_outcome, boot_state, events_of, outcomes_of, Continues, IsReplay}
+use Rattle.m161_machine.specs.History.{History, run, rest_of_run, after_outcome, boot_state, events_of, outcomes_of, Continues, IsReplay}
 
 -- Of two machines with one start, the one with the longer log goes on from the other.
 
@@ -28,20 +28,20 @@ rest_after (Some r) (Some q) first os more u t rest goes h k =
 
 rest_going : (x : Result (Outcome × State) Refusal) (y z : State → Option (List Outcome × State)) (os more : List Outcome) (u t : State) (rest : Option (List Outcome × State)) →
     ((v : State) (os' : List Outcome) → y v ≡ Some (os', u) → z v ≡ Some (os' ++ more, t) → rest ≡ Some (more, t)) →
-    going_on x y ≡ Some (os, u) → going_on x z ≡ Some (os ++ more, t) → rest ≡ Some (more, t)
+    rest_of_run x y ≡ Some (os, u) → rest_of_run x z ≡ Some (os ++ more, t) → rest ≡ Some (more, t)
 rest_going (Err refusal) y z os more u t rest goes h k = absurd (let bad : ◌≡◌ {A = Option (List Outcome × State)} None (Some (os, u)) = h in cc)
 rest_going (Ok r) y z os more u t rest goes h k = rest_after (y r.1) (z r.1) r.0 os more u t rest (goes r.1) h k
 
-rest_of_run : (es fs : List Event) (s u t : State) (os more : List Outcome) →
+rest_is_run : (es fs : List Event) (s u t : State) (os more : List Outcome) →
     run s es ≡ Some (os, u) → run s (es ++ fs) ≡ Some (os ++ more, t) → run u fs ≡ Some (more, t)
-rest_of_run [] fs s u t os more h k =
+rest_is_run [] fs s u t os more h k =
     let pair : ◌≡◌ {A = List Outcome × State} ([], s) (os, u) = cc in
     let none_is : ◌≡◌ {A = List Outcome} [] os = ap (λ x. x.0) pair in
     let same : s ≡ u = ap (λ x. x.1) pair in
     ap (λ v. run v fs) (sym same) ∙ k ∙ ap (λ (l : List Outcome). Some (l ++ more, t)) (sym none_is)
-rest_of_run (e ∷ es) fs s u t os more h k =
+rest_is_run (e ∷ es) fs s u t os more h k =
     rest_going (next s e) (λ v. run v es) (λ v. run v (es ++ fs)) os more u t (run u fs)
-    (λ v os' a b. rest_of_run es fs v u t os' more a b) h k
+    (λ v os' a b. rest_is_run es fs v u t os' more a b) h k
 
 -- both are replays, of one start, and the one's log begins with the other's
 pub resumes : (m n : History) (entries : List Entry) → IsReplay m → IsReplay n → n.start ≡ m.start →
@@ -57,7 +57,7 @@ resumes m n entries m_replays n_replays start_is log_is =
     record {
       entries = entries;
       events_are = refl;
-      run_is = rest_of_run (events_of m.log) (events_of entries) (boot_state m.start) m.state n.state (outcomes_of m.log) (outcomes_of entries) m_replays whole;
+      run_is = rest_is_run (events_of m.log) (events_of entries) (boot_state m.start) m.state n.state (outcomes_of m.log) (outcomes_of entries) m_replays whole;
       log_is = log_is;
       start_is = start_is;
     }

@@ -2,7 +2,7 @@ use Rattle.std.proofs.Common.{◌≡◌, ◌∙◌, refl, ap, sym, subst, ℕ, z
 use Rattle.std.specs.Prelude.{not, ◌&&◌, if◌then◌else◌, All}
 use Rattle.std.proofs.lemmas.List.Elements.{All-nil, All-cons, All-head, All-set, All-tail, All-weaker}
 use Rattle.m161_bus.specs.Board.{BoardState, start_words}
-use Rattle.m161_cpu.specs.Processor.{Processor, started}
+use Rattle.m161_cpu.specs.Processor.{Processor, started_processor}
 use Rattle.m161_cop0.specs.Control.{has_bit}
 use Rattle.m161_machine.specs.State.{started_by, with_starts}
 
@@ -16,8 +16,8 @@ not_again false a b = refl
 none_starts : (before : ℕ) (board : BoardState) → board.started ≡ before → (c : ℕ) (p : Processor) → started_by before board c p ≡ p
 none_starts before board same c p =
     ap (λ m. if has_bit m c && not (has_bit before c)
-    then started (start_words c board).pc (start_words c board).r4 (start_words c board).r29 p.count else p) same
-    ∙ not_again (has_bit before c) (started (start_words c board).pc (start_words c board).r4 (start_words c board).r29 p.count) p
+    then started_processor (start_words c board).pc (start_words c board).r4 (start_words c board).r29 p.count else p) same
+    ∙ not_again (has_bit before c) (started_processor (start_words c board).pc (start_words c board).r4 (start_words c board).r29 p.count) p
 
 pub no_starts : (before : ℕ) (board : BoardState) (c : ℕ) (ps : List Processor) → board.started ≡ before → with_starts before board c ps ≡ ps
 no_starts before board c [] same = refl
@@ -38,7 +38,7 @@ kept_count false a p same = refl
 pub count_kept : (before : ℕ) (board : BoardState) (c : ℕ) (p : Processor) → (started_by before board c p).count ≡ p.count
 count_kept before board c p =
     kept_count (has_bit board.started c && not (has_bit before c))
-    (started (start_words c board).pc (start_words c board).r4 (start_words c board).r29 p.count) p refl
+    (started_processor (start_words c board).pc (start_words c board).r4 (start_words c board).r29 p.count) p refl
 
 pub counts_kept : (n before : ℕ) (board : BoardState) (c : ℕ) (ps : List Processor) →
     All (λ (p : Processor). p.count ≤ n) ps → All (λ (p : Processor). p.count ≤ n) (with_starts before board c ps)

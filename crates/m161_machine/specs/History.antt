@@ -4,7 +4,7 @@ use Rattle.m161_elf.specs.declared.image.LoadError.{LoadError}
 use Rattle.m161_elf.specs.Image.{first_fault, IsImage}
 use Rattle.m161_cpu.specs.declared.processor.Outcome.{Outcome}
 use Rattle.m161_cpu.specs.declared.processor.Outcome.TheVariants.{Taken}
-use Rattle.m161_cpu.specs.Processor.{stopped, started}
+use Rattle.m161_cpu.specs.Processor.{stopped_processor, started_processor}
 use Rattle.m161_cpu.specs.Step.{IsOfStep}
 use Rattle.m161_machine.specs.declared.conf.Conf.{Conf}
 use Rattle.m161_machine.specs.declared.conf.BootError.{BootError}
@@ -32,7 +32,9 @@ pub record Start : Type 0 where
 abbrev pub boot_state : Start → State
 boot_state start = record {
   conf = start.conf;
-  processors = started start.entry 0 0 0 ∷ replicate (start.conf.processors - 1) stopped;
+  processors =
+      started_processor start.entry 0 0 0
+      ∷ replicate (start.conf.processors - 1) stopped_processor;
   memory = start.bytes;
   board = board_at_boot start.conf.ram start.conf.processors console_at_boot;
   links = replicate 32 None;
@@ -46,16 +48,16 @@ after_outcome o None = None
 after_outcome o (Some r) = Some (o ∷ r.0, r.1)
 
 -- the rest of a run after an event, if the event is accepted
-abbrev pub going_on :
+abbrev pub rest_of_run :
     Result (Outcome × State) Refusal → (State → Option (List Outcome × State)) →
     Option (List Outcome × State)
-going_on (Err refusal) rest = None
-going_on (Ok r) rest = after_outcome r.0 (rest r.1)
+rest_of_run (Err refusal) rest = None
+rest_of_run (Ok r) rest = after_outcome r.0 (rest r.1)
 
 -- the outcomes of a run and its last state, if each event is accepted
 abbrev pub run : State → List Event → Option (List Outcome × State)
 run s [] = Some ([], s)
-run s (e ∷ es) = going_on (next s e) (λ t. run t es)
+run s (e ∷ es) = rest_of_run (next s e) (λ t. run t es)
 
 abbrev pub events_of : List Entry → List Event
 events_of log = map (λ (e : Entry). e.event) log
@@ -134,7 +136,7 @@ pub record Continues (m : History) (events : List Event) (n : History) : Type 0 
   pub log_is : n.log ≡ m.log ++ entries
   pub start_is : n.start ≡ m.start
 
--- why one event was made this many of n times: that is n, or the next one is refused
+-- why an event, asked for n times, was made this many times: that is n, or the next is refused
 abbrev pub Ends : History → Event → ℕ → ℕ → Option Refusal → Type 0
 Ends m e n made None = made ≡ n
 Ends m e n made (Some refusal) = (made < n) × (next m.state e ≡ Err refusal)

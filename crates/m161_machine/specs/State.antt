@@ -7,11 +7,11 @@ use Rattle.m161_bus.specs.Board.{BoardState, board_key, board_done, start_words}
 use Rattle.m161_cop0.specs.Control.{has_bit}
 use Rattle.m161_cpu.specs.declared.processor.Outcome.{Outcome}
 use Rattle.m161_cpu.specs.declared.processor.Outcome.TheVariants.{Taken}
-use Rattle.m161_cpu.specs.Processor.{Processor, stopped, started}
+use Rattle.m161_cpu.specs.Processor.{Processor, stopped_processor, started_processor}
 use Rattle.m161_cpu.specs.Links.{LinkAct, Keep, LinkTo, End}
 use Rattle.m161_cpu.specs.Scene.{around, scene}
 use Rattle.m161_cpu.specs.Step.{Stepped, step_of}
-use Rattle.m161_elf.specs.Image.{first_of}
+use Rattle.m161_elf.specs.Image.{first_answer}
 use Rattle.m161_machine.specs.declared.conf.Conf.{Conf}
 use Rattle.m161_machine.specs.declared.event.Event.{Event}
 use Rattle.m161_machine.specs.declared.event.Event.TheVariants as event
@@ -39,7 +39,7 @@ pub record State : Type 0 where
 
 -- a processor by its number
 abbrev pub processor_at : ℕ → List Processor → Processor
-processor_at p processors = slice_index_or processors p stopped
+processor_at p processors = slice_index_or processors p stopped_processor
 
 -- one of these words is this one
 abbrev pub touches : ℕ → List ℕ → Bool
@@ -55,8 +55,8 @@ abbrev pub live_links : List ℕ → List (Option Link) → List (Option ℕ)
 live_links stores links = map (live stores) links
 
 -- what a Step of processor p gives
-unfoldable pub stepped : ℕ → State → Stepped
-stepped p s =
+unfoldable pub step_result : ℕ → State → Stepped
+step_result p s =
     step_of
     (scene (processor_at p s.processors) (around p s.memory s.board (live_links s.stores s.links)))
 
@@ -66,18 +66,19 @@ stores_after None stores = stores
 stores_after (Some word) stores = stores ++ word ∷ []
 
 -- a processor's link after its Step, after this many stores in all
-abbrev pub relinked : ℕ → LinkAct → ℕ → List (Option Link) → List (Option Link)
-relinked p Keep stores links = links
-relinked p (LinkTo word) stores links =
+abbrev pub with_link_act : ℕ → LinkAct → ℕ → List (Option Link) → List (Option Link)
+with_link_act p Keep stores links = links
+with_link_act p (LinkTo word) stores links =
     slice_set links p (Some (record { word = word; made = stores }))
-relinked p End stores links = slice_set links p None
+with_link_act p End stores links = slice_set links p None
 
 -- processor c is started if its bit of CPUE is new: with the words of its CRAM; the count of its
 -- Steps stays
 abbrev pub started_by : ℕ → BoardState → ℕ → Processor → Processor
 started_by before board c p =
     if has_bit board.started c && not (has_bit before c)
-    then started (start_words c board).pc (start_words c board).r4 (start_words c board).r29 p.count
+    then started_processor (start_words c board).pc (start_words c board).r4
+    (start_words c board).r29 p.count
     else p
 
 -- the processors from number c on
@@ -94,7 +95,7 @@ with_step p x s = record s {
       (slice_set s.processors p x.after.processor);
   memory = x.after.around.memory;
   board = x.after.around.board;
-  links = relinked p x.link (length (stores_after x.stored s.stores)) s.links;
+  links = with_link_act p x.link (length (stores_after x.stored s.stores)) s.links;
   stores = stores_after x.stored s.stores;
   accepted = s.accepted + 1;
 }
@@ -109,10 +110,10 @@ is_full s = nat_le s.conf.log s.accepted
 
 abbrev pub refusal : State → Event → Option Refusal
 refusal s (event.Step p) =
-    first_of ((nat_le (length s.processors) p, BadProcessor) ∷
+    first_answer ((nat_le (length s.processors) p, BadProcessor) ∷
     (s.board.off, Off) ∷ (is_full s, LogFull) ∷ [])
-refusal s (event.Key byte) = first_of ((s.board.off, Off) ∷ (is_full s, LogFull) ∷ [])
-refusal s event.Done = first_of ((s.board.off, Off) ∷ (is_full s, LogFull) ∷ [])
+refusal s (event.Key byte) = first_answer ((s.board.off, Off) ∷ (is_full s, LogFull) ∷ [])
+refusal s event.Done = first_answer ((s.board.off, Off) ∷ (is_full s, LogFull) ∷ [])
 
 -- the result of a device's input
 abbrev pub answered_key : State → Result BoardState KeyFull → Result (Outcome × State) Refusal
@@ -135,7 +136,7 @@ unless (Some r) answer = Err r
 
 -- the result of an event that no test of `refusal` refuses; a device may still refuse it
 abbrev pub answer : State → Event → Result (Outcome × State) Refusal
-answer s (event.Step p) = Ok ((stepped p s).outcome, with_step p (stepped p s) s)
+answer s (event.Step p) = Ok ((step_result p s).outcome, with_step p (step_result p s) s)
 answer s (event.Key byte) = answered_key s (board_key byte s.board)
 answer s event.Done = answered_done s (board_done s.board)
 

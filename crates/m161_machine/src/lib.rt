@@ -14,7 +14,8 @@
 //! ```
 //!
 //! A refused event changes nothing and isn't logged. The room of the log is reserved at boot, so a
-//! Step and a typed byte do not allocate.
+//! Step and a typed byte do not allocate. Events, the order of refusals and the limits are this
+//! project's own.
 #![tactic(auto)]
 
 mod conf;

@@ -2,7 +2,7 @@
 
 ghost use Rattle.std.specs.Prelude.{◌≡◌, ◌⊎◌, ◌+◌, ◌-◌, ◌%◌, ◌<◌, ◌≤◌, ◌^◌, true, false, Ok, List, [], ◌∷◌, ◌++◌, length, replicate, All, IfNone, IfOk};
 ghost use Rattle.m161_elf.specs.Image.{is_in_ram};
-ghost use Rattle.m161_cpu.specs.Processor.{started, stopped};
+ghost use Rattle.m161_cpu.specs.Processor.{started_processor, stopped_processor};
 ghost use Rattle.m161_machine.specs.declared.event.Entry.{Entry};
 ghost use Rattle.m161_machine.specs.declared.event.Event.TheVariants as events;
 ghost use Rattle.m161_machine.specs.Conf.{is_within_limits};
@@ -68,7 +68,8 @@ fn first_processors<T: Tlb>(
 ) -> Result<Vec<Cpu<T>>, AllocError>
     requires { 1 ≤ number }
     ensures { IfOk result (λ processors.
-        processors.items ≡ started entry 0 0 0 ∷ replicate (number - 1) stopped) }
+        processors.items
+        ≡ started_processor entry 0 0 0 ∷ replicate (number - 1) stopped_processor) }
 {
     let mut first = Cpu::new();
     first.start(entry, 0, 0);

@@ -8,7 +8,7 @@ use Rattle.m161_machine.specs.declared.event.Event.{Event}
 use Rattle.m161_machine.specs.declared.event.Entry.{Entry}
 use Rattle.m161_machine.specs.declared.event.Refusal.{Refusal}
 use Rattle.m161_machine.specs.State.{State, next}
-use Rattle.m161_machine.specs.History.{History, run, going_on, after_outcome, events_of, outcomes_of, Boots}
+use Rattle.m161_machine.specs.History.{History, run, rest_of_run, after_outcome, events_of, outcomes_of, Boots}
 use Rattle.m161_machine.proofs.Replay.{run_more}
 use Rattle.m161_steplog.specs.declared.verdict.Verdict.{Verdict}
 use Rattle.m161_steplog.specs.Verdict.{Follows, IsVerdict, Verifies, Repeats}
@@ -22,7 +22,7 @@ answered_first : (first : Outcome) (os : List Outcome) (x : Result (Outcome × S
 answered_first first os (Err refusal) = refl
 answered_first first os (Ok x) = refl
 
-answered_alone : (x : Result (Outcome × State) Refusal) → going_on x (λ t. Some ([], t)) ≡ answered [] x
+answered_alone : (x : Result (Outcome × State) Refusal) → rest_of_run x (λ t. Some ([], t)) ≡ answered [] x
 answered_alone (Err refusal) = refl
 answered_alone (Ok x) = refl
 
@@ -39,7 +39,7 @@ outcome_last (Some r) z u first os e last h =
 
 going_last : (x : Result (Outcome × State) Refusal) (y z : State → Option (List Outcome × State)) (u : State) (os : List Outcome) (e : Event) →
     ((v : State) (rest : List Outcome) → y v ≡ Some (rest, u) → z v ≡ answered rest (next u e)) →
-    going_on x y ≡ Some (os, u) → going_on x z ≡ answered os (next u e)
+    rest_of_run x y ≡ Some (os, u) → rest_of_run x z ≡ answered os (next u e)
 going_last (Err refusal) y z u os e last h = absurd (let bad : ◌≡◌ {A = Option (List Outcome × State)} None (Some (os, u)) = h in cc)
 going_last (Ok r) y z u os e last h = outcome_last (y r.1) (z r.1) u r.0 os e (last r.1) h
 

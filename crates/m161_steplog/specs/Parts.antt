@@ -1,4 +1,4 @@
-use Rattle.std.specs.Prelude.{◌≡◌, ◌≢◌, ℕ, zero, suc, ◌+◌, ◌<◌, ◌^◌, ◌/◌, ◌%◌, List, [], ◌∷◌, ◌++◌, if◌then◌else◌, nat_lt, Option, Some, IfSome, MatchOption, length, slice_index}
+use Rattle.std.specs.Prelude.{◌≡◌, ◌≢◌, ◌⊎◌, ℕ, zero, suc, ◌+◌, ◌<◌, ◌^◌, ◌/◌, ◌%◌, List, [], ◌∷◌, ◌++◌, if◌then◌else◌, nat_lt, Option, Some, IfSome, MatchOption, length, slice_index}
 use Rattle.std.proofs.Common.{Bor}
 
 -- Parts of a line: how they are written, and what reading one means.
@@ -49,3 +49,8 @@ Lacks c text = (i : ℕ) → i < length text → slice_index text i ≢ c
 abbrev pub Cuts : ℕ → List ℕ → Option (Bor (List ℕ) × Bor (List ℕ)) → Type 0
 Cuts c text result =
     MatchOption result (Lacks c text) (λ x. Lacks c x.0.now × (text ≡ x.0.now ++ c ∷ x.1.now))
+
+-- a text's first line, without its end, and the rest, which is empty if the line has no end
+abbrev pub IsFirstLine : List ℕ → List ℕ → List ℕ → Type 0
+IsFirstLine text line rest =
+    Lacks 10 line × ((text ≡ line ++ 10 ∷ rest) ⊎ ((text ≡ line) × (rest ≡ [])))

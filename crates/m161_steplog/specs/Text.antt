@@ -41,7 +41,7 @@ IsEvent events.Done = Unit {0}
 abbrev pub IsCode : Exception → Type 0
 IsCode code = Unit {0}
 
--- an outcome that a Step may have
+-- an outcome of a Step that a line can say, whatever its vector
 abbrev pub IsStepOutcome : Outcome → Type 0
 IsStepOutcome outcomes.Ran = Unit {0}
 IsStepOutcome (outcomes.Trapped code vector) = IsWord vector
@@ -49,13 +49,13 @@ IsStepOutcome outcomes.Idle = Unit {0}
 IsStepOutcome outcomes.PoweredOff = Unit {0}
 IsStepOutcome outcomes.Taken = ⊥
 
--- an outcome that the event may have
+-- an outcome that the event's line can say
 abbrev pub IsOutcomeOf : Event → Outcome → Type 0
 IsOutcomeOf (events.Step p) o = IsStepOutcome o
 IsOutcomeOf (events.Key byte) o = o ≡ outcomes.Taken
 IsOutcomeOf events.Done o = o ≡ outcomes.Taken
 
--- an entry that a log may have
+-- an entry that a log's text can have
 pub record IsProper (e : Entry) : Type 0 where
   pub event : IsEvent e.event
   pub outcome : IsOutcomeOf e.event e.outcome

@@ -2,7 +2,7 @@
 
 ghost use Rattle.std.specs.Prelude.{◌≡◌, ◌<◌, [], ◌∷◌, MatchOption, IfSome, length};
 ghost use Rattle.m161_steplog.specs.Lines.{lines_of};
-ghost use Rattle.m161_steplog.specs.Parts.{Cuts};
+ghost use Rattle.m161_steplog.specs.Parts.{Cuts, IsFirstLine};
 
 /// The text before the first space, and the text after it, which may begin with a space; `None` if
 /// there is no space.
@@ -23,6 +23,7 @@ fn cut_at_line_feed(text: &str) -> Option<(&str, &str)>
 pub fn next_line(text: &str) -> Option<(&str, &str)>
     ensures lines { MatchOption result (text.now ≡ [])
         (λ x. lines_of text.now ≡ x.0.now ∷ lines_of x.1.now) }
+    ensures cut { IfSome result (λ x. IsFirstLine text.now x.0.now x.1.now) }
     ensures shorter { IfSome result (λ x. length x.1.now < length text.now) }
 {
     if text.is_empty() {

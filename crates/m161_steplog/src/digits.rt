@@ -37,7 +37,7 @@ impl fmt::Display for Word {
 
 /// The number of a decimal text below 2^32 without leading zeros; `None` of any other text, also of
 /// one with a sign.
-pub fn decimal_of(text: &str) -> Option<u32>
+pub fn parse_decimal(text: &str) -> Option<u32>
     ensures { Reads IsWord decimal text.now result }
 {
     if text.starts_with('+') {
@@ -50,7 +50,7 @@ pub fn decimal_of(text: &str) -> Option<u32>
 }
 
 // The value of a lower case hexadecimal digit.
-fn nibble_of(byte: u8) -> Option<u8>
+fn parse_digit(byte: u8) -> Option<u8>
     ensures { Reads (λ n. n < 16) hex_digit byte result }
 {
     match byte {
@@ -61,34 +61,34 @@ fn nibble_of(byte: u8) -> Option<u8>
 }
 
 // The number of up to eight lower case hexadecimal digits.
-fn hex_of(text: &[u8]) -> Option<u32>
+fn parse_hex(text: &[u8]) -> Option<u32>
     requires { length text.now ≤ 8 }
     ensures { Reads (λ n. n < 16 ^ length text.now) (hex_text (length text.now)) text.now result }
 {
     let mut number = 0u32;
     for byte in text {
-        let nibble = nibble_of(*byte)?;
-        number = number * 16 + u32::from(nibble);
+        let digit = parse_digit(*byte)?;
+        number = number * 16 + u32::from(digit);
     }
     Some(number)
 }
 
 /// The word of eight lower case hexadecimal digits; `None` of any other text.
-pub fn word_of(text: &str) -> Option<u32>
+pub fn parse_word(text: &str) -> Option<u32>
     ensures { Reads IsWord (hex_text 8) text.now result }
 {
     if text.len() != 8 {
         return None;
     }
-    hex_of(text.as_bytes())
+    parse_hex(text.as_bytes())
 }
 
 /// The byte of two lower case hexadecimal digits; `None` of any other text.
-pub fn byte_of(text: &str) -> Option<u8>
+pub fn parse_byte(text: &str) -> Option<u8>
     ensures { Reads IsByte (hex_text 2) text.now result }
 {
     if text.len() != 2 {
         return None;
     }
-    u8::try_from(hex_of(text.as_bytes())?).ok()
+    u8::try_from(parse_hex(text.as_bytes())?).ok()
 }

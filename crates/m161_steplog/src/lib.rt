@@ -35,7 +35,7 @@ mod shown;
 mod verdict;
 
 pub use cut::{cut_at_space, next_line};
-pub use digits::{Byte, Word, byte_of, decimal_of, word_of};
+pub use digits::{Byte, Word, parse_byte, parse_decimal, parse_word};
 pub use fault::Fault;
 pub use log::{entry_line, read_log, write_log};
 pub use m161_machine::{BootError, Conf, Entry, Event, Exception, Outcome};

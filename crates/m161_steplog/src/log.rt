@@ -10,7 +10,7 @@ ghost use Rattle.m161_steplog.specs.Log.{log_text, log_lines, IsLog, IsDistinct,
 
 use crate::cut::next_line;
 use crate::fault::Fault;
-use crate::line::entry_of;
+use crate::line::parse_entry;
 use crate::shown::ShownEntry;
 use m161_machine::Entry;
 use std::alloc::{AllocError, Global};
@@ -42,7 +42,7 @@ pub fn write_log(alloc: Global, entries: &[Entry]) -> Result<String, AllocError>
 }
 
 // The entries of a log's text, line by line.
-fn entries_of(alloc: Global, text: &str) -> Result<Vec<Entry>, Fault>
+fn parse_entries(alloc: Global, text: &str) -> Result<Vec<Entry>, Fault>
     ensures found { IfOk result (λ v.
         AllByRecursion IsDistinct v.items × (lines_of text.now ≡ log_lines v.items)) }
     ensures line { (n : ℕ) → IsErrOf result (faults.Line n) → FirstBad AreLogLines text.now n }
@@ -58,7 +58,7 @@ fn entries_of(alloc: Global, text: &str) -> Result<Vec<Entry>, Fault>
     let mut rest = after;
     while let Some((line, more)) = next_line(rest) {
         number += 1;
-        let Some(entry) = entry_of(line) else {
+        let Some(entry) = parse_entry(line) else {
             return Err(Fault::Line(number));
         };
         entries.push(entry)?;
@@ -78,5 +78,5 @@ pub fn read_log(alloc: Global, text: &str) -> Result<Vec<Entry>, Fault>
     ensures only { (es : List Entry) → IsLog text.now es → IsRead es result }
     ensures line { (n : ℕ) → IsErrOf result (faults.Line n) → FirstBad AreLogLines text.now n }
 {
-    entries_of(alloc, text)
+    parse_entries(alloc, text)
 }

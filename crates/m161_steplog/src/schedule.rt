@@ -10,7 +10,7 @@ ghost use Rattle.m161_steplog.specs.Text.{event_text, IsEvent};
 ghost use Rattle.m161_steplog.specs.Schedule.{item_events, AddsEvents, IsCount, ReadsLine, IsSchedule, AreScheduleLines};
 
 use crate::cut::{cut_at_space, next_line};
-use crate::digits::{byte_of, decimal_of};
+use crate::digits::{parse_byte, parse_decimal};
 use crate::fault::Fault;
 use m161_machine::Event;
 use std::alloc::{AllocError, Global};
@@ -28,7 +28,7 @@ pub(crate) enum Item {
 }
 
 // The event of a text.
-fn event_of(text: &str) -> Option<Event>
+fn parse_event(text: &str) -> Option<Event>
     ensures { Reads IsEvent event_text text.now result }
 {
     match text {
@@ -36,8 +36,8 @@ fn event_of(text: &str) -> Option<Event>
         _ => {
             let (kind, rest) = cut_at_space(text)?;
             match kind {
-                "s" => Some(Event::Step(decimal_of(rest)?)),
-                "k" => Some(Event::Key(byte_of(rest)?)),
+                "s" => Some(Event::Step(parse_decimal(rest)?)),
+                "k" => Some(Event::Key(parse_byte(rest)?)),
                 _ => None,
             }
         }
@@ -45,10 +45,10 @@ fn event_of(text: &str) -> Option<Event>
 }
 
 // How many Steps a line asks for.
-fn count_of(text: &str) -> Option<u32>
+fn parse_count(text: &str) -> Option<u32>
     ensures { Reads IsCount decimal text.now result }
 {
-    let count = decimal_of(text)?;
+    let count = parse_decimal(text)?;
     if count == 0 || count > 1_000_000 {
         return None;
     }
@@ -56,28 +56,28 @@ fn count_of(text: &str) -> Option<u32>
 }
 
 // A processor, and how many Steps of it.
-fn times_of(text: &str) -> Option<(u32, u32)>
+fn parse_times(text: &str) -> Option<(u32, u32)>
     ensures { ReadsBoth IsWord IsCount decimal decimal text.now result }
 {
     let (p, count) = cut_at_space(text)?;
-    let p = decimal_of(p)?;
-    let count = count_of(count)?;
+    let p = parse_decimal(p)?;
+    let count = parse_count(count)?;
     Some((p, count))
 }
 
 // The same, after the event's name.
-fn steps_of(text: &str) -> Option<(u32, u32)>
+fn parse_steps(text: &str) -> Option<(u32, u32)>
     ensures { ReadsBoth IsWord IsCount (λ p. event_text (events.Step p)) decimal text.now result }
 {
     let (kind, rest) = cut_at_space(text)?;
     match kind {
-        "s" => times_of(rest),
+        "s" => parse_times(rest),
         _ => None,
     }
 }
 
 // What a line asks for.
-fn item_of(line: &str) -> Option<Item>
+fn parse_item(line: &str) -> Option<Item>
     ensures { ReadsLine line.now result }
 {
     if line.is_empty() {
@@ -86,9 +86,9 @@ fn item_of(line: &str) -> Option<Item>
     if line.starts_with('#') {
         return Some(Item::Nothing);
     }
-    match event_of(line) {
+    match parse_event(line) {
         Some(event) => Some(Item::Repeated(event, 1)),
-        None => match steps_of(line) {
+        None => match parse_steps(line) {
             Some((p, count)) => Some(Item::Repeated(Event::Step(p), count)),
             None => None,
         },
@@ -140,7 +140,7 @@ pub fn read_schedule(alloc: Global, text: &str) -> Result<Vec<Event>, Fault>
     let mut rest = text;
     while let Some((line, more)) = next_line(rest) {
         number += 1;
-        let Some(item) = item_of(line) else {
+        let Some(item) = parse_item(line) else {
             return Err(Fault::Line(number));
         };
         push_item(&mut events, item, number)?;

@@ -13,7 +13,7 @@ use Rattle.m161_machine.specs.declared.event.Refusal.TheVariants.{BadProcessor, 
 use Rattle.m161_machine.specs.declared.conf.Conf.{Conf}
 use Rattle.m161_machine.specs.Conf.{is_within_limits}
 use Rattle.m161_machine.specs.Parts.{CountUpTo}
-use Rattle.m161_elf.specs.Image.{first_of}
+use Rattle.m161_elf.specs.Image.{first_answer}
 use Rattle.m161_machine.specs.State.{State, answer, counts, counts_after, is_full, next, refusal, unless}
 use Rattle.m161_machine.specs.History.{History, Answers, Refuses}
 use Rattle.m161_machine.proofs.Counting.{counts_law}
@@ -30,11 +30,11 @@ no_refusal : (s t : State) (e : Event) (o : Outcome) → next s e ≡ Ok (o, t) 
 unfolding next
 no_refusal s t e o h = none_of (refusal s e) (answer s e) (o, t) h
 
-first_false : (test : Bool) (r : Refusal) (rest : List (Bool × Refusal)) → first_of ((test, r) ∷ rest) ≡ None → test ≡ false
+first_false : (test : Bool) (r : Refusal) (rest : List (Bool × Refusal)) → first_answer ((test, r) ∷ rest) ≡ None → test ≡ false
 first_false true r rest h = absurd (let bad : ◌≡◌ {A = Option Refusal} (Some r) None = h in cc)
 first_false false r rest h = refl
 
-second_false : (test : Bool) (r : Refusal) (rest : List (Bool × Refusal)) → first_of ((test, r) ∷ rest) ≡ None → first_of rest ≡ None
+second_false : (test : Bool) (r : Refusal) (rest : List (Bool × Refusal)) → first_answer ((test, r) ∷ rest) ≡ None → first_answer rest ≡ None
 second_false true r rest h = absurd (let bad : ◌≡◌ {A = Option Refusal} (Some r) None = h in cc)
 second_false false r rest h = h
 
@@ -53,7 +53,7 @@ was_there s t p o h =
     grind (arith, nat_tests, inside)
 
 -- a Step is refused as Off where the machine is off
-off_of : (bad off full : Bool) → first_of ((bad, BadProcessor) ∷ (off, Off) ∷ (full, LogFull) ∷ []) ≡ Some Off → off ≡ true
+off_of : (bad off full : Bool) → first_answer ((bad, BadProcessor) ∷ (off, Off) ∷ (full, LogFull) ∷ []) ≡ Some Off → off ≡ true
 off_of true off full h = absurd (let bad : ◌≡◌ {A = Option Refusal} (Some BadProcessor) (Some Off) = h in cc)
 off_of false true full h = refl
 off_of false false true h = absurd (let bad : ◌≡◌ {A = Option Refusal} (Some LogFull) (Some Off) = h in cc)

@@ -8,21 +8,21 @@ use Rattle.m161_machine.specs.State.{counts}
 use Rattle.m161_machine.specs.History.{History, Continues, IsReplay, events_of, outcomes_of, steps_of}
 use Rattle.m161_machine.proofs.Resuming.{resumes}
 use Rattle.m161_threads.specs.Runs.{Interleaves, IsChecked, is_step_below}
-use Rattle.m161_threads.specs.Shares.{Place, place, places_from}
+use Rattle.m161_threads.specs.Shares.{SeatState, new_seat, seats_from}
 use Rattle.m161_threads.specs.Work.{HasWorked}
 use Rattle.m161_machine.proofs.Counted.{count_through, counts_run, counts_through, length_through}
 use Rattle.m161_threads.proofs.Interleaving.{all_pass, sum_through}
 
 -- What the workers say and what was compared make one interleaving.
 
-pub length_places : (k : ℕ) (cs : List ℕ) → length (places_from k cs) ≡ length cs
+pub length_places : (k : ℕ) (cs : List ℕ) → length (seats_from k cs) ≡ length cs
 length_places k [] = refl
 length_places k (c ∷ cs) = ap (λ n. suc n) (length_places (k + 1) cs)
 
-place_at : (k : ℕ) (cs : List ℕ) (i at : ℕ) (d : Place) → i < length cs → at ≡ k + i →
-    get_or (places_from k cs) i d ≡ place at (get_or cs i 0)
+place_at : (k : ℕ) (cs : List ℕ) (i at : ℕ) (d : SeatState) → i < length cs → at ≡ k + i →
+    get_or (seats_from k cs) i d ≡ new_seat at (get_or cs i 0)
 place_at k [] i at d inside at_is = absurd (let bad : ⊥ = omega (arith, inside) in bad)
-place_at k (c ∷ cs) zero at d inside at_is = let here : k ≡ at = omega (arith, at_is) in ap (λ n. place n c) here
+place_at k (c ∷ cs) zero at d inside at_is = let here : k ≡ at = omega (arith, at_is) in ap (λ n. new_seat n c) here
 place_at k (c ∷ cs) (suc i) at d inside at_is = place_at (k + 1) cs i at d (omega (arith, inside)) (omega (arith, at_is))
 
 -- lists that add up, place by place
@@ -55,12 +55,12 @@ not_noted : (noted off : Bool) → (noted ≡ true → off ≡ true) → off ≡
 not_noted true off h on = absurd (let bad : true ≡ false = sym (h refl) ∙ on in cc)
 not_noted false off h on = refl
 
-pub interleaves : (before after : History) (quotas : List ℕ) (seats : List Place) (made : List ℕ) (off : Bool) →
+pub interleaves : (before after : History) (quotas : List ℕ) (seats : List SeatState) (made : List ℕ) (off : Bool) →
     IsReplay before → length quotas ≡ length before.state.processors →
-    HasWorked (places_from 0 (counts before.state)) quotas seats made →
+    HasWorked (seats_from 0 (counts before.state)) quotas seats made →
     IsChecked before.start before.log seats made off after → Interleaves before quotas made off after
 interleaves before after quotas seats made off replays number worked checked =
-    let d = place 0 0 in
+    let d = new_seat 0 0 in
     let cs = counts before.state in
     let size : length cs ≡ length quotas = length-map before.state.processors (λ (p : Processor). p.count) ∙ sym number in
     let entries = drop (length before.log) after.log in
@@ -74,10 +74,10 @@ interleaves before after quotas seats made off replays number worked checked =
     let works = worked.each p d d inside in
     let there : p < length seats = omega (arith, inside, worked.seats_number) in
     let here = place_at 0 cs p p d (omega (arith, inside, size)) (omega arith) in
-    let its : (get_or seats p d).processor ≡ p = works.processor_is ∙ ap (λ (s : Place). s.processor) here in
+    let its : (get_or seats p d).processor ≡ p = works.processor_is ∙ ap (λ (s : SeatState). s.processor) here in
     let fits = (checked.seats_are p d there).1 in
     ap (λ n. get_or (counts after.state) n 0) (sym its) ∙ fits ∙ works.counted
-    ∙ ap (λ (s : Place). s.count + get_or made p 0) here in
+    ∙ ap (λ (s : SeatState). s.count + get_or made p 0) here in
     let each : (p : ℕ) → p < length made → steps_of p (events_of entries) ≡ get_or made p 0 = λ p inside.
     let there : p < length quotas = omega (arith, inside, worked.made_number) in
     let steps = count_through (events_of entries) p cs (omega (arith, there, size)) in

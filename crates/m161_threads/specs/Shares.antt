@@ -5,7 +5,7 @@ use Rattle.m161_machine.specs.History.{History}
 -- A machine behind a lock, and the seats of the threads.
 
 -- the model of a book in contracts: its machine, and how many seats have noted that it is off
-pub record Told : Type 0 where
+pub record BookState : Type 0 where
   pub machine : History
   pub offs : ℕ
 
@@ -17,41 +17,41 @@ IsKept machine steps offs =
 
 -- the model of a seat in contracts: its processor, how many Steps that processor has made, and
 -- whether the seat has noted that the machine is off
-pub record Place : Type 0 where
+pub record SeatState : Type 0 where
   pub processor : ℕ
   pub count : ℕ
   pub noted : Bool
 
-abbrev pub place : ℕ → ℕ → Place
-place processor count = record { processor = processor; count = count; noted = false }
+abbrev pub new_seat : ℕ → ℕ → SeatState
+new_seat processor count = record { processor = processor; count = count; noted = false }
 
 -- a seat for each processor from number p on, with its count
-abbrev pub places_from : ℕ → List ℕ → List Place
-places_from p [] = []
-places_from p (count ∷ counts) = place p count ∷ places_from (p + 1) counts
+abbrev pub seats_from : ℕ → List ℕ → List SeatState
+seats_from p [] = []
+seats_from p (count ∷ counts) = new_seat p count ∷ seats_from (p + 1) counts
 
 -- a seat has the count of its processor
-abbrev pub Matches : State → Place → Type 0
-Matches s seat =
+abbrev pub HasCount : State → SeatState → Type 0
+HasCount s seat =
     (seat.processor < length s.processors)
     × (slice_index_or (counts s) seat.processor 0 ≡ seat.count)
 
 -- no seat has noted that the machine is off unless it is
-abbrev pub NotedOnlyOff : State → List Place → Type 0
-NotedOnlyOff s seats = All (λ (seat : Place). seat.noted ≡ true → s.board.off ≡ true) seats
+abbrev pub NotedOnlyOff : State → List SeatState → Type 0
+NotedOnlyOff s seats = All (λ (seat : SeatState). seat.noted ≡ true → s.board.off ≡ true) seats
 
 -- a seat of this processor differs from it in the count, and this is the least such processor
-pub record IsLeastMiscount (s : State) (seats : List Place) (p : ℕ) : Type 0 where
-  pub seat : Place
+pub record IsLeastMiscount (s : State) (seats : List SeatState) (p : ℕ) : Type 0 where
+  pub seat : SeatState
   pub at : ℕ
   pub there : slice_get seats at ≡ Some seat
   pub its : seat.processor ≡ p
-  pub wrong : Matches s seat → ⊥
-  pub least : All (λ (other : Place). (Matches s other → ⊥) → p ≤ other.processor) seats
+  pub wrong : HasCount s seat → ⊥
+  pub least : All (λ (other : SeatState). (HasCount s other → ⊥) → p ≤ other.processor) seats
 
 -- each seat has its processor's count; or else the least processor whose seat differs
-abbrev pub Miscounts : State → List Place → Option ℕ → Type 0
-Miscounts s seats None = All (Matches s) seats
+abbrev pub Miscounts : State → List SeatState → Option ℕ → Type 0
+Miscounts s seats None = All (HasCount s) seats
 Miscounts s seats (Some p) = IsLeastMiscount s seats p
 
 -- the lesser of two numbers, if there is a first

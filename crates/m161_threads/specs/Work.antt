@@ -3,29 +3,29 @@ use Rattle.m161_threads.specs.declared.worker.Stop.{Stop}
 use Rattle.m161_threads.specs.declared.worker.Task.{Task}
 use Rattle.m161_threads.specs.declared.worker.Turn.{Turn}
 use Rattle.m161_threads.specs.declared.worker.Turn.TheVariants.{Made, Off, Full}
-use Rattle.m161_threads.specs.Shares.{Place}
+use Rattle.m161_threads.specs.Shares.{SeatState}
 
 -- The work of a worker with its seat.
 
 -- a worker with a processor's seat, which has this many Steps, and a quota: the seat that it
 -- returns, how many Steps it made, and why it stopped early, if it did
 pub record Works
-    (processor before quota : ℕ) (new : Place) (made : ℕ) (stop : Option Stop) : Type 0 where
+    (processor before quota : ℕ) (new : SeatState) (made : ℕ) (stop : Option Stop) : Type 0 where
   pub processor_is : new.processor ≡ processor
   pub counted : new.count ≡ before + made
   pub within : made ≤ quota
   -- it stops early for a reason that it gives, or because the machine is off
   pub whole : stop ≡ None → new.noted ≡ false → made ≡ quota
 
-abbrev pub task_of : Place → ℕ → Task
+abbrev pub task_of : SeatState → ℕ → Task
 task_of seat quota = record { processor = seat.processor; before = seat.count; quota = quota }
 
 -- the result of a worker with a task
-abbrev pub KeepsTask : Task → Place → ℕ → Option Stop → Type 0
+abbrev pub KeepsTask : Task → SeatState → ℕ → Option Stop → Type 0
 KeepsTask t new made stop = Works t.processor t.before t.quota new made stop
 
 -- a seat after the lock was taken for one Step
-abbrev pub after_turn : Turn → Place → Place
+abbrev pub after_turn : Turn → SeatState → SeatState
 after_turn Made seat = record seat { count = seat.count + 1 }
 after_turn Off seat = record seat { noted = true }
 after_turn Full seat = seat
@@ -33,9 +33,10 @@ after_turn Full seat = seat
 -- workers with these seats and quotas, none with a reason to stop: the seats that they return, and
 -- how many Steps each made
 pub record HasWorked
-    (seats : List Place) (quotas : List ℕ) (after : List Place) (made : List ℕ) : Type 0 where
+    (seats : List SeatState) (quotas : List ℕ) (after : List SeatState) (made : List ℕ)
+    : Type 0 where
   pub seats_number : length after ≡ length quotas
   pub made_number : length made ≡ length quotas
-  pub each : (k : ℕ) (d e : Place) → k < length quotas →
+  pub each : (k : ℕ) (d e : SeatState) → k < length quotas →
       Works (slice_index_or seats k e).processor (slice_index_or seats k e).count
       (slice_index quotas k) (slice_index_or after k d) (slice_index made k) None

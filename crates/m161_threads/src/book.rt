@@ -24,9 +24,9 @@ pub struct Book<L: Ledger, M: Ledger, T: Tlb, D: Console> {
 }
 
 impl<L: Ledger, M: Ledger, T: Tlb, D: Console> Model for Book<L, M, T, D> {
-    ghost use Rattle.m161_threads.specs.Shares.{Told, IsKept};
+    ghost use Rattle.m161_threads.specs.Shares.{BookState, IsKept};
 
-    ghost Value = { Told };
+    ghost Value = { BookState };
 
     ghost view = { λ b. record { machine = b.machine; offs = b.offs.total } };
 
@@ -46,9 +46,9 @@ pub struct Seat<L: Ledger, M: Ledger> {
 
 impl<L: Ledger, M: Ledger> Model for Seat<L, M> {
     ghost use Rattle.std.specs.Prelude.{◌≡◌, if◌then◌else◌};
-    ghost use Rattle.m161_threads.specs.Shares.{Place};
+    ghost use Rattle.m161_threads.specs.Shares.{SeatState};
 
-    ghost Value = { Place };
+    ghost Value = { SeatState };
 
     ghost view = { λ s. record { processor = s.processor; count = s.count; noted = s.noted } };
 

@@ -12,7 +12,7 @@ pub enum Cause {
     #[error("there isn't one quota for each processor")]
     BadQuotas,
     /// The machine doesn't have two processors. Returned before any Step.
-    #[error("the machine hasn't two processors")]
+    #[error("the machine doesn't have two processors")]
     NotYet,
     /// Memory was refused.
     #[error("out of memory")]
@@ -35,7 +35,7 @@ pub enum Cause {
     #[error("a processor's count isn't its seat's")]
     Miscount,
     /// The machine isn't the one that was passed in, or another event was made of it.
-    #[error("the machine isn't the one that was handed in")]
+    #[error("the machine isn't the one that was passed in")]
     Swapped,
 }
 

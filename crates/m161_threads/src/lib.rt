@@ -14,6 +14,7 @@
 //!
 //! The ledgers count across threads that don't see each other's data. One counts the Steps: the
 //! seats' counts add up to the machine's. The other counts the seats that found the machine off.
+//! All of this is this project's own.
 #![tactic(auto)]
 
 mod before;

@@ -3,7 +3,7 @@
 ghost use Rattle.std.specs.Prelude.{◌≡◌, ◌+◌, All, IfErr, IfOk, MatchResult, length, sum, sum_by, vec_len, true, false};
 ghost use Rattle.m161_machine.specs.History.{IsReplay};
 ghost use Rattle.m161_machine.specs.State.{counts};
-ghost use Rattle.m161_threads.specs.Shares.{IsLeastMiscount, Matches, Miscounts, NotedOnlyOff, Place, least_of, places_from};
+ghost use Rattle.m161_threads.specs.Shares.{IsLeastMiscount, HasCount, Miscounts, NotedOnlyOff, SeatState, least_of, seats_from};
 
 use crate::book::{Book, Seat};
 use m161_bus::Console;
@@ -48,7 +48,7 @@ impl<L: Ledger, M: Ledger, T: Tlb, D: Console> Locked<L, M, T, D> {
             × (L.parts ≡ length machine.state.processors) }
         requires offs { (offs.name ≡ M.name) × (offs.parts ≡ M.parts)
             × (M.parts ≡ length machine.state.processors) }
-        ensures seats { IfOk result (λ r. r.1.items ≡ places_from 0 (counts machine.state)) }
+        ensures seats { IfOk result (λ r. r.1.items ≡ seats_from 0 (counts machine.state)) }
         ensures err { IfErr result (λ r. r.0 ≡ machine) }
     {
         let (mut step_book, mut steps) = steps.open::<L>();
@@ -105,12 +105,12 @@ impl<L: Ledger, M: Ledger, T: Tlb, D: Console> Locked<L, M, T, D> {
     #[inline(never)]
     pub fn finish(self, seats: Vec<Seat<L, M>>) -> Result<Machine<T, D>, Miscount<T, D>>
         ensures replay { MatchResult result (λ m. IsReplay m) (λ e. IsReplay e.machine) }
-        ensures ok { IfOk result (λ m. All (Matches m.state) seats.items) }
+        ensures ok { IfOk result (λ m. All (HasCount m.state) seats.items) }
         ensures err { IfErr result (λ e.
             IsLeastMiscount e.machine.state seats.items e.processor) }
         ensures sums { vec_len seats ≡ L.parts → MatchResult result
-            (λ m. sum (counts m.state) ≡ sum_by (λ (s : Place). s.count) seats.items)
-            (λ e. sum (counts e.machine.state) ≡ sum_by (λ (s : Place). s.count) seats.items) }
+            (λ m. sum (counts m.state) ≡ sum_by (λ (s : SeatState). s.count) seats.items)
+            (λ e. sum (counts e.machine.state) ≡ sum_by (λ (s : SeatState). s.count) seats.items) }
         ensures noted { MatchResult result
             (λ m. NotedOnlyOff m.state seats.items)
             (λ e. NotedOnlyOff e.machine.state seats.items) }
@@ -138,7 +138,8 @@ impl<L: Ledger, M: Ledger, T: Tlb, D: Console> Book<L, M, T, D> {
         requires { spare.parts ≡ 0 }
         ensures machine { self.new.machine ≡ self.old.machine }
         ensures sums { vec_len seats ≡ L.parts
-            → sum (counts self.old.machine.state) ≡ sum_by (λ (s : Place). s.count) seats.items }
+            → sum (counts self.old.machine.state)
+            ≡ sum_by (λ (s : SeatState). s.count) seats.items }
         ensures noted { NotedOnlyOff self.old.machine.state seats.items }
     {
         let mut all = spare;
@@ -172,8 +173,8 @@ fn matches<L: Ledger, M: Ledger, T: Tlb, D: Console>(
     book: &Book<L, M, T, D>,
     seat: &Seat<L, M>,
 ) -> bool
-    ensures yes { result ≡ true → Matches book.now.machine.state seat.now }
-    ensures no { result ≡ false → Matches book.now.machine.state seat.now → ⊥ }
+    ensures yes { result ≡ true → HasCount book.now.machine.state seat.now }
+    ensures no { result ≡ false → HasCount book.now.machine.state seat.now → ⊥ }
 {
     seat.processor < book.machine.processors() && book.machine.count(seat.processor) == seat.count
 }

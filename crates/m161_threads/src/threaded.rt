@@ -4,7 +4,7 @@ ghost use Rattle.std.specs.Prelude.{◌≡◌, ◌+◌, ◌<◌, ◌≤◌, ℕ,
 ghost use Rattle.m161_machine.specs.History.{IsReplay};
 ghost use Rattle.m161_machine.specs.State.{counts};
 ghost use Rattle.m161_threads.specs.Runs.{FailsRun, Interleaves, IsChecked, IsOfRun, bad_call};
-ghost use Rattle.m161_threads.specs.Shares.{Place, places_from};
+ghost use Rattle.m161_threads.specs.Shares.{SeatState, seats_from};
 ghost use Rattle.m161_threads.specs.Work.{HasWorked};
 
 use crate::before::Before;

@@ -2,7 +2,7 @@
 
 ghost use Rattle.std.specs.Prelude.{◌≡◌, ◌+◌, ◌<◌, ℕ, length, vec_len, slice_index, slice_index_or, IfErr, IfOk};
 ghost use Rattle.m161_threads.specs.Runs.{IsOfRun};
-ghost use Rattle.m161_threads.specs.Shares.{Place};
+ghost use Rattle.m161_threads.specs.Shares.{SeatState};
 ghost use Rattle.m161_threads.specs.Work.{KeepsTask, Works, after_turn, task_of};
 
 use crate::book::{Book, Seat};
@@ -155,7 +155,7 @@ where
     requires { vec_len seats ≡ length quotas.now }
     ensures err { IfErr result (λ cause. IsOfRun cause) }
     ensures len { IfOk result (λ v. vec_len v ≡ length quotas.now) }
-    ensures each { IfOk result (λ v. (k : ℕ) (d : _) (e : Place) → k < length quotas.now
+    ensures each { IfOk result (λ v. (k : ℕ) (d : _) (e : SeatState) → k < length quotas.now
         → (slice_index_or v.items k d).promise
         ≡ task_of (slice_index_or seats.items k e) (slice_index quotas.now k)) }
 {
@@ -219,7 +219,7 @@ where
     requires { vec_len seats ≡ length quotas.now }
     ensures err { IfErr result (λ cause. IsOfRun cause) }
     ensures len { IfOk result (λ v. vec_len v ≡ length quotas.now) }
-    ensures each { IfOk result (λ v. (k : ℕ) (d : _) (e : Place) → k < length quotas.now
+    ensures each { IfOk result (λ v. (k : ℕ) (d : _) (e : SeatState) → k < length quotas.now
         → KeepsTask (task_of (slice_index_or seats.items k e) (slice_index quotas.now k))
         (slice_index_or v.items k d).seat (slice_index_or v.items k d).made
         (slice_index_or v.items k d).stop) }
@@ -231,7 +231,7 @@ where
             requires { vec_len seats ≡ length quotas.now }
             ensures err { IfErr result (λ cause. IsOfRun cause) }
             ensures all { IfOk result (λ v. (vec_len v ≡ length quotas.entry.now)
-                × ((k : ℕ) (d : _) (e : Place) → k < length quotas.entry.now
+                × ((k : ℕ) (d : _) (e : SeatState) → k < length quotas.entry.now
                 → KeepsTask
                 (task_of (slice_index_or seats.items k e) (slice_index quotas.entry.now k))
                 (slice_index_or v.items k d).seat (slice_index_or v.items k d).made

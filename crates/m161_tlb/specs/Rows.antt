@@ -3,7 +3,8 @@ use Rattle.std.specs.List.{position, range_with_len}
 use Rattle.m161_tlb.specs.declared.row.Row.{Row}
 use Rattle.m161_tlb.specs.Row.{matches}
 
--- The TLB as a list of 64 rows.
+-- The TLB as a list of 64 rows. Kane, MIPS RISC Architecture, "Memory management"; the rows at the
+-- start, and that the lowest matching row is used, are this project's own.
 
 -- the lowest row that translates a page of an address space
 unfoldable pub find_row : List Row → ℕ → ℕ → Option ℕ

@@ -18,6 +18,10 @@ pub accepted : (app : App) (words : List Text) → app ≡ command_line → (is_
 unfolding IsAccepted
 accepted app words same none = ap (λ a. fault_of a words) (sym same) ∙ none (is_exact app same)
 
+pub of_kind : (app : App) (words : List Text) (e : Error) → app ≡ command_line → (is_simple_and_free app ≡ true → HasKind (fault_of app words) e)
+    → HasKind (fault_of command_line words) e
+of_kind app words e same some = subst (λ a. HasKind (fault_of a words) e) same (some (is_exact app same))
+
 pub rejected : (app : App) (words : List Text) (e : Error) → app ≡ command_line → (is_simple_and_free app ≡ true → HasKind (fault_of app words) e)
     → kind_of e ≢ OutOfMemory → ¬ IsAccepted words
 unfolding IsAccepted

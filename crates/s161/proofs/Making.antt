@@ -7,12 +7,10 @@ use Rattle.m161_machine.specs.declared.event.Event.{Event}
 use Rattle.m161_machine.specs.declared.event.Event.TheVariants.{Step, Key, Done}
 use Rattle.m161_machine.specs.declared.event.Entry.{Entry}
 use Rattle.m161_machine.specs.declared.event.Refusal.{Refusal}
-use Rattle.m161_elf.specs.Image.{first_of}
+use Rattle.m161_elf.specs.Image.{first_answer}
 use Rattle.m161_machine.specs.State.{State, is_full, next, unless, answer}
-use Rattle.m161_machine.specs.History.{History, run, going_on, after_outcome, events_of, outcomes_of, Boots, Continues, Ends, IsBooted, Refuses}
+use Rattle.m161_machine.specs.History.{History, run, rest_of_run, after_outcome, events_of, outcomes_of, Boots, Continues, Ends, IsBooted, Refuses}
 use Rattle.m161_machine.proofs.Continuing.{refused_as}
-use Rattle.m161_steplog.specs.declared.verdict.Verdict.{Verdict}
-use Rattle.m161_steplog.specs.Verdict.{IsVerdict, Verifies}
 use Rattle.s161.specs.Runs.{IsRefusedAt}
 
 -- Runs of events, one after the other.
@@ -30,7 +28,7 @@ outcome_then (Some r) z t u first os ps more h =
 
 going_then : (x : Result (Outcome × State) Refusal) (y z : State → Option (List Outcome × State)) (t u : State) (os ps : List Outcome) →
     ((v : State) (rest : List Outcome) → y v ≡ Some (rest, t) → z v ≡ Some (rest ++ ps, u)) →
-    going_on x y ≡ Some (os, t) → going_on x z ≡ Some (os ++ ps, u)
+    rest_of_run x y ≡ Some (os, t) → rest_of_run x z ≡ Some (os ++ ps, u)
 going_then (Err refusal) y z t u os ps more h = absurd (let bad : ◌≡◌ {A = Option (List Outcome × State)} None (Some (os, t)) = h in cc)
 going_then (Ok r) y z t u os ps more h = outcome_then (y r.1) (z r.1) t u r.0 os ps (more r.1) h
 
@@ -57,14 +55,14 @@ continues_then m n k xs ys c d = record {
 
 -- a machine that is off refuses every event
 refused_first : (b : Bool) (a : Refusal) (rest : List (Bool × Refusal)) (x : Result (Outcome × State) Refusal) →
-    (r : Refusal) × (unless (first_of ((b, a) ∷ (true, Refusal.Off) ∷ rest)) x ≡ Err r)
+    (r : Refusal) × (unless (first_answer ((b, a) ∷ (true, Refusal.Off) ∷ rest)) x ≡ Err r)
 refused_first true a rest x = (a, refl)
 refused_first false a rest x = (Refusal.Off, refl)
 
 abbrev with_off : Bool → State → Event → Result (Outcome × State) Refusal
-with_off off s (Step p) = unless (first_of ((nat_le (length s.processors) p, Refusal.BadProcessor) ∷ (off, Refusal.Off) ∷ (is_full s, Refusal.LogFull) ∷ [])) (answer s (Step p))
-with_off off s (Key byte) = unless (first_of ((off, Refusal.Off) ∷ (is_full s, Refusal.LogFull) ∷ [])) (answer s (Key byte))
-with_off off s Done = unless (first_of ((off, Refusal.Off) ∷ (is_full s, Refusal.LogFull) ∷ [])) (answer s Done)
+with_off off s (Step p) = unless (first_answer ((nat_le (length s.processors) p, Refusal.BadProcessor) ∷ (off, Refusal.Off) ∷ (is_full s, Refusal.LogFull) ∷ [])) (answer s (Step p))
+with_off off s (Key byte) = unless (first_answer ((off, Refusal.Off) ∷ (is_full s, Refusal.LogFull) ∷ [])) (answer s (Key byte))
+with_off off s Done = unless (first_answer ((off, Refusal.Off) ∷ (is_full s, Refusal.LogFull) ∷ [])) (answer s Done)
 
 next_with : (s : State) (e : Event) → next s e ≡ with_off s.board.off s e
 unfolding next
@@ -82,7 +80,7 @@ on_before false s e es x off r = off
 on_before true s e es x off r =
     let refused = refused_off s e in
     let first_is : next s e ≡ Err refused.0 = next_with s e ∙ ap (λ b. with_off b s e) off ∙ refused.1 in
-    let bad : ◌≡◌ {A = Option (List Outcome × State)} None (Some x) = ap (λ y. going_on y (λ t. run t es)) (sym first_is) ∙ r in
+    let bad : ◌≡◌ {A = Option (List Outcome × State)} None (Some x) = ap (λ y. rest_of_run y (λ t. run t es)) (sym first_is) ∙ r in
     absurd (cc)
 
 -- a machine of which an event is made was on
@@ -159,9 +157,3 @@ switched b0 m n (e ∷ es) is other c =
 pub booted_ok : (file : List ℕ) (conf : Conf) (fault : Option BootError) (m : History) → Boots file conf fault (Ok m) → IsBooted file conf m
 booted_ok file conf (Some first) m h = absurd h
 booted_ok file conf None m h = h
-
--- a log that was verified
-pub verified_ok : (file : List ℕ) (conf : Conf) (fault : Option BootError) (log : List Entry) (verdict : Verdict) →
-    Verifies file conf fault log (Ok verdict) → (m : History) × IsBooted file conf m × IsVerdict m.state log verdict
-verified_ok file conf (Some first) log verdict h = absurd h
-verified_ok file conf None log verdict h = h

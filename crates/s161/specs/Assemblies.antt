@@ -6,7 +6,7 @@ use Rattle.m161_asm.specs.Text.{Program, text}
 use Rattle.m161_elf.specs.Written.{elf_bytes}
 use Rattle.s161.specs.declared.fault.Fault.{Fault}
 use Rattle.s161.specs.declared.fault.Fault.TheVariants.{Input, Memory, Source}
-use Rattle.s161.specs.Known.{OfKnown}
+use Rattle.s161.specs.Known.{IsText, OfText}
 
 -- The file of an assembly text.
 
@@ -20,6 +20,7 @@ pub record IsAssembly (source file : List ℕ) : Type 0 where
 pub record IsAssembled (input : Option (List ℕ)) (file : List ℕ) : Type 0 where
   pub source : List ℕ
   pub is_input : IfSome input (λ bytes. source ≡ bytes)
+  pub is_text : IsText source
   pub is_assembly : IsAssembly source file
 
 -- why a text isn't assembled, as a fault of the command
@@ -40,6 +41,6 @@ IsUnassembled source _ = ⊥
 abbrev pub IsAssemblyFault : Option (List ℕ) → Fault → Type 0
 IsAssemblyFault input Input = Unit {0}
 IsAssemblyFault input (Source e) =
-    OfKnown input (λ source. text source ≡ Err (e.line, (e.kind, e.column)))
+    OfText input (λ source. text source ≡ Err (e.line, (e.kind, e.column)))
 IsAssemblyFault input Memory = Unit {0}
 IsAssemblyFault input _ = ⊥

@@ -6,6 +6,8 @@ use Rattle.clap.specs.declared.builder.command.Command.{Command}
 use Rattle.clap.specs.declared.builder.command.Command.TheViews.{out-Command}
 use Rattle.clap.specs.declared.builder.action.ArgAction.TheVariants.{SetTrue}
 use Rattle.clap.specs.declared.builder.value_parser.ValueParser.TheVariants.{Signed}
+use Rattle.clap.specs.declared.error.kind.ErrorKind.{ErrorKind}
+use Rattle.clap.specs.declared.error.kind.ErrorKind.TheVariants.{DisplayHelp, DisplayVersion}
 use Rattle.m161_machine.specs.declared.conf.Conf.{Conf}
 use Rattle.s161.specs.declared.command.FilesTask.{FilesTask}
 use Rattle.s161.specs.declared.command.RunTask.{RunTask}
@@ -39,8 +41,8 @@ threads_rule =
     }
 
 -- a command, with the options of a machine's size added
-abbrev pub sized : App → App
-sized command =
+abbrev pub with_size_rules : App → App
+with_size_rules command =
     with_rule (with_rule (with_rule command
     (number_rule (codes "ram") (codes "1048576")))
     (number_rule (codes "cpus") (codes "1")))
@@ -52,15 +54,16 @@ on_image name = with_rule (new_app name) (file_rule (codes "image"))
 
 -- the arguments of `run`: an image and options
 abbrev pub run_line : App
-run_line = with_rule (with_rule (sized (on_image (codes "run"))) show_log_rule) threads_rule
+run_line =
+    with_rule (with_rule (with_size_rules (on_image (codes "run"))) show_log_rule) threads_rule
 
 -- the arguments of `replay`: an image, a log and options
 abbrev pub replay_line : App
-replay_line = sized (with_rule (on_image (codes "replay")) (file_rule (codes "entries")))
+replay_line = with_size_rules (with_rule (on_image (codes "replay")) (file_rule (codes "entries")))
 
 -- the arguments of `debug`: an image, a schedule and options
 abbrev pub debug_line : App
-debug_line = sized (with_rule (on_image (codes "debug")) (file_rule (codes "schedule")))
+debug_line = with_size_rules (with_rule (on_image (codes "debug")) (file_rule (codes "schedule")))
 
 -- `as` has no arguments
 abbrev pub as_line : App
@@ -86,6 +89,10 @@ command_line =
 -- clap finds no fault in these words of a command line; the first is the program's name
 unfoldable pub IsAccepted : List Text → Type 0
 IsAccepted words = fault_of command_line words ≡ []
+
+-- a call for help or for the version, which clap answers by an error of its own kind
+abbrev pub IsHelp : ErrorKind → Type 0
+IsHelp kind = (kind ≡ DisplayHelp) ⊎ (kind ≡ DisplayVersion)
 
 -- a number of 32 bits in decimal digits, optionally after a plus
 abbrev pub IsNumber : Text → Type 0

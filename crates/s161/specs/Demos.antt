@@ -3,8 +3,9 @@ use Rattle.m161_elf.specs.Written.{elf_bytes}
 use Rattle.m161_machine.specs.declared.conf.Conf.{Conf}
 use Rattle.m161_machine.specs.declared.event.Event.TheVariants.{Step}
 use Rattle.m161_machine.specs.declared.event.Refusal.{Refusal}
-use Rattle.m161_machine.specs.History.{Continues, Ends, History, IsBooted}
+use Rattle.m161_machine.specs.History.{Continues, Ends, History}
 use Rattle.m161_debug.specs.Shows.{show_regs_text}
+use Rattle.s161.specs.Faults.{BootsTo}
 
 -- The Steps and the output of `demo`.
 
@@ -26,7 +27,7 @@ demo_conf = record { ram = 1_048_576; processors = 1; log = 7 }
 -- and the text is its registers
 pub record IsDemo (text : List ℕ) : Type 0 where
   pub booted : History
-  pub is_booted : IsBooted demo_image demo_conf booted
+  pub boots : BootsTo demo_image demo_conf booted
   pub made : ℕ
   pub refusal : Option Refusal
   pub machine : History

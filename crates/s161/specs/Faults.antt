@@ -1,11 +1,18 @@
+use Rattle.std.specs.Prelude.{ℕ, List, Ok}
+use Rattle.m161_machine.specs.declared.conf.Conf.{Conf as Size}
 use Rattle.m161_machine.specs.declared.conf.BootError.{BootError}
 use Rattle.m161_machine.specs.declared.conf.BootError.TheVariants.{BadConf, Load, NoMemory}
 use Rattle.m161_steplog.specs.declared.fault.Fault.{Fault as TextFault}
 use Rattle.m161_steplog.specs.declared.fault.Fault.TheVariants as text
+use Rattle.m161_machine.specs.History.{History, Boots, boot_fault}
 use Rattle.s161.specs.declared.fault.Fault.{Fault}
 use Rattle.s161.specs.declared.fault.Fault.TheVariants.{Conf, Image, Log, Memory, Schedule}
 
--- Why a command ends early.
+-- How a command boots a file, and why it ends early.
+
+-- there is no reason not to boot this file, and booted is the machine
+abbrev pub BootsTo : List ℕ → Size → History → Type 0
+BootsTo file conf booted = Boots file conf (boot_fault file conf) (Ok booted)
 
 -- why a machine isn't booted, as a fault of the command
 abbrev pub fault_of_boot : BootError → Fault

@@ -10,6 +10,7 @@ use Rattle.m161_debug.specs.Shows.{code_line, numbered_lines, text_of}
 use Rattle.s161.specs.declared.fault.Fault.{Fault}
 use Rattle.s161.specs.declared.fault.Fault.TheVariants.{File, Image, Memory}
 use Rattle.s161.specs.Known.{OfKnown}
+use Rattle.s161.specs.Samples.{IsFileName}
 
 -- The listing of a file: the instructions that its segments leave in memory.
 
@@ -64,7 +65,7 @@ IsUnlisted file _ = ⊥
 
 -- a listing is ended by this fault: of the image's file, or of the image; or memory was refused
 abbrev pub IsListingFault : List ℕ → Option (List ℕ) → Fault → Type 0
-IsListingFault name image (File failed) = failed.now ≡ name
+IsListingFault name image (File failed) = (failed.now ≡ name) × IsFileName name
 IsListingFault name image (Image e) =
     OfKnown image (λ file. first_fault file dis_ram ≡ Some e)
 IsListingFault name image Memory = Unit {0}

@@ -1,19 +1,20 @@
-use Rattle.std.specs.Prelude.{◌≡◌, ◌⊎◌, ℕ, false, List, Option, Some, IfSome, codes, decimal}
+use Rattle.std.specs.Prelude.{◌≡◌, ◌⊎◌, ℕ, false, List, Option, Some, Ok, IfSome, codes, decimal}
 use Rattle.m161_machine.specs.declared.conf.BootError.TheVariants.{Load}
 use Rattle.m161_machine.specs.declared.event.Entry.{Entry}
 use Rattle.m161_machine.specs.Conf.{is_within_limits}
-use Rattle.m161_machine.specs.History.{History, IsBooted, boot_fault}
+use Rattle.m161_machine.specs.History.{boot_fault}
 use Rattle.m161_steplog.specs.declared.verdict.Verdict.{Verdict}
 use Rattle.m161_steplog.specs.declared.verdict.Verdict.TheVariants.{Agrees, Differs}
 use Rattle.m161_steplog.specs.Lines.{FirstBad}
 use Rattle.m161_steplog.specs.Log.{AreLogLines, IsLog}
 use Rattle.m161_steplog.specs.Parts.{◌␣◌}
-use Rattle.m161_steplog.specs.Verdict.{IsVerdict}
+use Rattle.m161_steplog.specs.Verdict.{Verifies}
 use Rattle.m161_debug.specs.Shows.{with_line_end}
 use Rattle.s161.specs.declared.command.FilesTask.{FilesTask}
 use Rattle.s161.specs.declared.fault.Fault.{Fault}
 use Rattle.s161.specs.declared.fault.Fault.TheVariants.{Conf, File, Image, Input, Log, Memory, Output, Schedule, Source, Threads}
-use Rattle.s161.specs.Known.{OfKnown}
+use Rattle.s161.specs.Known.{IsText, OfKnown, OfText}
+use Rattle.s161.specs.Samples.{IsFileName}
 
 -- The output and the exit status of `replay`.
 
@@ -32,14 +33,13 @@ pub record IsReplayed
     (text : List ℕ) (status : ℕ) : Type 0 where
   pub file : List ℕ
   pub is_file : IfSome image (λ bytes. file ≡ bytes)
-  pub booted : History
-  pub is_booted : IsBooted file task.conf booted
   pub entries_text : List ℕ
-  pub is_text : IfSome log (λ bytes. entries_text ≡ bytes)
+  pub is_file_of_entries : IfSome log (λ bytes. entries_text ≡ bytes)
+  pub is_text : IsText entries_text
   pub entries : List Entry
   pub is_log : IsLog entries_text entries
   pub verdict : Verdict
-  pub is_verdict : IsVerdict booted.state entries verdict
+  pub verifies : Verifies file task.conf (boot_fault file task.conf) entries (Ok verdict)
   pub text_is : text ≡ with_line_end (verdict_text verdict)
   pub status_is : status ≡ status_of_verdict verdict
 
@@ -51,15 +51,15 @@ IsLogFault text _ = ⊥
 
 -- a file has a log
 abbrev pub HasLog : Option (List ℕ) → Type 0
-HasLog log = OfKnown log (λ text. (entries : List Entry) × IsLog text entries)
+HasLog log = OfText log (λ text. (entries : List Entry) × IsLog text entries)
 
 -- a replay is ended by this fault, and there was no fault before it in this order: of the image's
 -- file, the log's file, the log, the configuration, the image; or memory was refused
 abbrev pub IsReplayFault : FilesTask → Option (List ℕ) → Option (List ℕ) → Fault → Type 0
 IsReplayFault task image log (File name) =
-    (name.now ≡ task.image.now) ⊎ (name.now ≡ task.text.now)
+    ((name.now ≡ task.image.now) × IsFileName task.image.now) ⊎ (name.now ≡ task.text.now)
 IsReplayFault task image log (Log n) =
-    OfKnown log (λ text. FirstBad AreLogLines text n)
+    OfText log (λ text. FirstBad AreLogLines text n)
 IsReplayFault task image log Conf = HasLog log × (is_within_limits task.conf ≡ false)
 IsReplayFault task image log (Image e) =
     HasLog log × OfKnown image (λ file. boot_fault file task.conf ≡ Some (Load e))

@@ -8,7 +8,7 @@ use Rattle.m161_machine.specs.declared.event.Refusal.{Refusal}
 use Rattle.m161_machine.specs.Conf.{is_within_limits}
 use Rattle.m161_machine.specs.Refusal.{name_of_refusal, number_of_refusal}
 use Rattle.m161_machine.specs.State.{State, next, processor_at}
-use Rattle.m161_machine.specs.History.{History, Continues, IsBooted, Refuses, boot_fault}
+use Rattle.m161_machine.specs.History.{History, Continues, Refuses, boot_fault}
 use Rattle.m161_debug.specs.Shows.{with_line_end, show_regs_text}
 use Rattle.m161_steplog.specs.Lines.{FirstBad, lines_of}
 use Rattle.m161_steplog.specs.Log.{log_text}
@@ -19,7 +19,9 @@ use Rattle.s161.specs.declared.events.Stop.{Stop}
 use Rattle.s161.specs.declared.events.Stop.TheVariants.{Off, End, Refused}
 use Rattle.s161.specs.declared.fault.Fault.{Fault}
 use Rattle.s161.specs.declared.fault.Fault.TheVariants.{Conf, File, Image, Input, Log, Memory, Output, Schedule, Source, Threads}
-use Rattle.s161.specs.Known.{OfKnown}
+use Rattle.s161.specs.Faults.{BootsTo}
+use Rattle.s161.specs.Known.{IsText, OfKnown, OfText}
+use Rattle.s161.specs.Samples.{IsFileName}
 
 -- The events, the output and the exit status of `run`.
 
@@ -48,13 +50,13 @@ pub record MakesEvents
   pub why : StopsAfter m events made stop n
 
 -- the line end that a text with this last byte lacks
-abbrev pub lacking_end : Option ℕ → List ℕ
-lacking_end None = []
-lacking_end (Some last) = if last == 10 then [] else 10 ∷ []
+abbrev pub missing_line_end : Option ℕ → List ℕ
+missing_line_end None = []
+missing_line_end (Some last) = if last == 10 then [] else 10 ∷ []
 
 -- the bytes that the console has sent, with a line end if they aren't empty and lack one
 abbrev pub output_text : List ℕ → List ℕ
-output_text output = output ++ lacking_end (slice_get output (length output - 1))
+output_text output = output ++ missing_line_end (slice_get output (length output - 1))
 
 -- a text of a processor that is started
 abbrev pub if_started : ProcessorState → List ℕ → List ℕ
@@ -97,9 +99,10 @@ pub record IsRun
   pub file : List ℕ
   pub is_file : IfSome known (λ bytes. file ≡ bytes)
   pub booted : History
-  pub is_booted : IsBooted file task.conf booted
+  pub boots : BootsTo file task.conf booted
   pub schedule : List ℕ
   pub is_input : IfSome input (λ bytes. schedule ≡ bytes)
+  pub is_text : IsText schedule
   pub events : List Event
   pub is_schedule : IsSchedule (lines_of schedule) events
   pub machine : History
@@ -116,15 +119,16 @@ IsScheduleFault text _ = ⊥
 
 -- an input or a file has a schedule
 abbrev pub HasSchedule : Option (List ℕ) → Type 0
-HasSchedule input = OfKnown input (λ text. AreScheduleLines (lines_of text))
+HasSchedule input = OfText input (λ text. AreScheduleLines (lines_of text))
 
 -- a run is ended by this fault, and there was no fault before it in this order: of the image's
 -- file, standard input, the schedule, the configuration, the image; or memory was refused
 abbrev pub IsFaultOf : RunTask → Option (List ℕ) → Option (List ℕ) → Fault → Type 0
-IsFaultOf task known input (File name) = name.now ≡ task.image.now
+IsFaultOf task known input (File name) =
+    (name.now ≡ task.image.now) × IsFileName task.image.now
 IsFaultOf task known input Input = Unit {0}
 IsFaultOf task known input (Schedule n) =
-    OfKnown input (λ text. FirstBad AreScheduleLines text n)
+    OfText input (λ text. FirstBad AreScheduleLines text n)
 IsFaultOf task known input (Log n) = ⊥
 IsFaultOf task known input Conf = HasSchedule input × (is_within_limits task.conf ≡ false)
 IsFaultOf task known input (Image e) =

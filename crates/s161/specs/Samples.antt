@@ -1,4 +1,4 @@
-use Rattle.std.specs.Prelude.{◌≡◌, ℕ, if◌then◌else◌, bytes_eq, codes, List, [], ◌∷◌, Option, Some, Result, Ok, Err}
+use Rattle.std.specs.Prelude.{◌≡◌, ℕ, if◌then◌else◌, bytes_eq, codes, false, List, [], ◌∷◌, Option, Some, Result, Ok, Err}
 use Rattle.m161_asm.specs.declared.error.AsmError.{AsmError}
 use Rattle.m161_asm.specs.declared.error.ErrorKind.TheVariants.{NoMemory}
 use Rattle.m161_asm.specs.declared.program.Program.{Program}
@@ -60,3 +60,7 @@ sample_file = elf_bytes sample_entry sample_segments
 -- the source of files
 unfoldable pub image_file : (List ℕ → Option (List ℕ)) → List ℕ → Option (List ℕ)
 image_file known name = if bytes_eq name (codes "@sample") then Some sample_file else known name
+
+-- the name is that of a file, and not the sample's
+unfoldable pub IsFileName : List ℕ → Type 0
+IsFileName name = bytes_eq name (codes "@sample") ≡ false

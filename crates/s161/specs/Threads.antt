@@ -1,7 +1,7 @@
-use Rattle.std.specs.Prelude.{◌≡◌, ℕ, Bool, false, if◌then◌else◌, List, Option, None, Some, IfSome, length, replicate}
+use Rattle.std.specs.Prelude.{◌≡◌, ℕ, Bool, false, if◌then◌else◌, List, Option, None, Some, IfSome, replicate}
 use Rattle.m161_machine.specs.declared.conf.BootError.TheVariants.{Load}
 use Rattle.m161_machine.specs.Conf.{is_within_limits}
-use Rattle.m161_machine.specs.History.{History, IsBooted, boot_fault}
+use Rattle.m161_machine.specs.History.{History, boot_fault}
 use Rattle.m161_threads.specs.declared.cause.Cause.{Cause}
 use Rattle.m161_threads.specs.Runs.{Interleaves, IsOfRun, bad_call}
 use Rattle.s161.specs.declared.command.RunTask.{RunTask}
@@ -10,7 +10,9 @@ use Rattle.s161.specs.declared.events.Stop.TheVariants.{End, Off}
 use Rattle.s161.specs.declared.fault.Fault.{Fault}
 use Rattle.s161.specs.declared.fault.Fault.TheVariants.{Conf, File, Image, Input, Log, Memory, Output, Schedule, Source, Threads}
 use Rattle.s161.specs.Runs.{status_of, summary_text}
+use Rattle.s161.specs.Faults.{BootsTo}
 use Rattle.s161.specs.Known.{OfKnown}
+use Rattle.s161.specs.Samples.{IsFileName}
 
 -- The Steps, the output and the exit status of `run --threads`.
 
@@ -26,7 +28,8 @@ pub record IsRunInThreads
   pub file : List ℕ
   pub is_file : IfSome known (λ bytes. file ≡ bytes)
   pub booted : History
-  pub is_booted : IsBooted file task.conf booted
+  pub boots : BootsTo file task.conf booted
+  pub begins : bad_call task.conf.processors task.conf.processors ≡ None
   pub made : List ℕ
   pub off : Bool
   pub machine : History
@@ -43,7 +46,8 @@ IsCause None cause = IsOfRun cause
 -- image's file, the configuration, the image, the threads of a machine that was booted; or memory
 -- was refused
 abbrev pub IsThreadsFault : RunTask → Option (List ℕ) → Fault → Type 0
-IsThreadsFault task known (File name) = name.now ≡ task.image.now
+IsThreadsFault task known (File name) =
+    (name.now ≡ task.image.now) × IsFileName task.image.now
 IsThreadsFault task known Conf = is_within_limits task.conf ≡ false
 IsThreadsFault task known (Image e) =
     OfKnown known (λ file. boot_fault file task.conf ≡ Some (Load e))

@@ -17,33 +17,37 @@ use Rattle.s161.specs.Threads.{IsRunInThreads, IsThreadsFault}
 
 -- The effect of a command line.
 
--- such a text was written to an output, which had the first bytes and has the second
-abbrev pub Prints : (List ℕ → Type 0) → Option (List ℕ) → Option (List ℕ) → Type 0
-Prints IsText before after = (text : List ℕ) × IsText text × Appends before after text
+-- there is such a text with this exit status, and it was written to an output, which had the first
+-- bytes and has the second
+abbrev pub Prints :
+    (List ℕ → ℕ → Type 0) → Option (List ℕ) → Option (List ℕ) → ℕ → Type 0
+Prints IsResult before after status =
+    (text : List ℕ) × IsResult text status × Appends before after text
+
+-- the same of commands whose only exit status is 0
+abbrev pub WithZero : (List ℕ → Type 0) → List ℕ → ℕ → Type 0
+WithZero IsResult text status = (status ≡ 0) × IsResult text
+
+-- a finished task's text and exit status, over files and a standard input with these bytes
+abbrev pub IsResultOf :
+    Task → (Text → Option (List ℕ)) → Option (List ℕ) → List ℕ → ℕ → Type 0
+IsResultOf Demo files input = WithZero IsDemo
+IsResultOf (Run task) files input = IsRun task (image_file files task.image.now) input
+IsResultOf (RunInThreads task quota) files input =
+    IsRunInThreads task quota (image_file files task.image.now)
+IsResultOf (Replay task) files input =
+    IsReplayed task (image_file files task.image.now) (files task.text.now)
+IsResultOf (Debug task) files input =
+    WithZero (IsDebug task (image_file files task.image.now) (files task.text.now) input)
+IsResultOf Assemble files input = WithZero (IsAssembled input)
+IsResultOf (Disassemble image) files input = WithZero (IsDisassembled (image_file files image.now))
 
 -- a task was finished with this exit status, and printed its text
 abbrev pub Finishes :
     Task → (Text → Option (List ℕ)) → Option (List ℕ) → Option (List ℕ) → Option (List ℕ) → ℕ →
     Type 0
-Finishes Demo files input before after status = (status ≡ 0) × Prints IsDemo before after
-Finishes (Run task) files input before after status =
-    Prints (λ text. IsRun task (image_file files task.image.now) input text status) before after
-Finishes (RunInThreads task quota) files input before after status =
-    Prints (λ text. IsRunInThreads task quota (image_file files task.image.now) text status)
-    before after
-Finishes (Replay task) files input before after status =
-    Prints (λ text.
-    IsReplayed task (image_file files task.image.now) (files task.text.now) text status)
-    before after
-Finishes (Debug task) files input before after status =
-    (status ≡ 0)
-    × Prints (λ text.
-    IsDebug task (image_file files task.image.now) (files task.text.now) input text)
-    before after
-Finishes Assemble files input before after status =
-    (status ≡ 0) × Prints (IsAssembled input) before after
-Finishes (Disassemble image) files input before after status =
-    (status ≡ 0) × Prints (IsDisassembled (image_file files image.now)) before after
+Finishes task files input before after status =
+    Prints (IsResultOf task files input) before after status
 
 -- a task's work is ended by this fault, before anything is printed
 abbrev pub IsTaskFault : Task → (Text → Option (List ℕ)) → Option (List ℕ) → Fault → Type 0
@@ -60,9 +64,16 @@ IsTaskFault Assemble files input fault = IsAssemblyFault input fault
 IsTaskFault (Disassemble image) files input fault =
     IsListingFault image.now (image_file files image.now) fault
 
--- this fault, before anything is printed, leaves the output unchanged; or else the output failed
-abbrev pub Fails : (Fault → Type 0) → Option (List ℕ) → Option (List ℕ) → Fault → Type 0
-Fails IsFault before after fault = (fault ≡ Output) ⊎ (IsFault fault × (after ≡ before))
+-- there is such a text and exit status
+abbrev pub Exists : (List ℕ → ℕ → Type 0) → Type 0
+Exists IsResult = (text : List ℕ) × (status : ℕ) × IsResult text status
+
+-- there was such a text, and the output failed; or there was this fault before, and the output is
+-- unchanged
+abbrev pub Fails :
+    (List ℕ → ℕ → Type 0) → (Fault → Type 0) → Option (List ℕ) → Option (List ℕ) → Fault → Type 0
+Fails IsResult IsFault before after fault =
+    ((fault ≡ Output) × Exists IsResult) ⊎ (IsFault fault × (after ≡ before))
 
 -- a command line's task was finished, over files and a standard input with these bytes, and a
 -- standard output that had the first bytes and has the second

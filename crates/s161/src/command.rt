@@ -1,9 +1,9 @@
 //! The command line.
 
 ghost use Rattle.std.specs.Prelude.{◌≡◌, ◌≢◌, [], IfErr, IfOk, codes, false, map, unwrap_or};
-ghost use Rattle.clap.specs.Words.{app_of, first_of, found_of, kind_of, one_of, rows_of, rule_of, subcommand_of, subcommand_rows_of};
+ghost use Rattle.clap.specs.Words.{HasKind, app_of, fault_of, first_of, found_of, kind_of, one_of, rows_of, rule_of, subcommand_of, subcommand_rows_of};
 ghost use Rattle.clap.specs.declared.error.kind.ErrorKind.TheVariants.{OutOfMemory};
-ghost use Rattle.s161.specs.Commands.{AsksFiles, AsksRun, IsAccepted, IsFlag, IsLocal, IsNumberOf, IsRunTask, IsSize, IsTask, as_line, command_line, debug_line, dis_line, file_rule, number_rule, replay_line, run_line, show_log_rule, sized, threads_rule};
+ghost use Rattle.s161.specs.Commands.{AsksFiles, AsksRun, IsAccepted, IsFlag, IsLocal, IsNumberOf, IsRunTask, IsSize, IsTask, as_line, command_line, debug_line, dis_line, file_rule, number_rule, replay_line, run_line, show_log_rule, with_size_rules, threads_rule};
 
 use clap::{Arg, ArgAction, ArgMatches, Command, Error, value_parser};
 use m161_machine::Conf;
@@ -176,7 +176,7 @@ fn threads_option<'a>(alloc: Global) -> Arg<'a>
 // A command, with the options of a machine's size added.
 fn with_size<'a>(alloc: Global, command: Command<'a>) -> Result<Command<'a>, AllocError>
     ensures shape { IsLocal command.entry
-        → IfOk result (λ more. app_of more ≡ sized (app_of command.entry)) }
+        → IfOk result (λ more. app_of more ≡ with_size_rules (app_of command.entry)) }
     ensures local { IsLocal command.entry → IfOk result IsLocal }
 {
     let ram_help = "Bytes of RAM, 4096 to 16777216 in pages of 4096";
@@ -356,6 +356,7 @@ pub fn parse<'a, S: AsStr>(alloc: Global, words: &'a [S]) -> Result<Task<'a>, Er
     ensures accepted { IfOk result (λ _. IsAccepted (map S.text words.now)) }
     ensures rejected { IfErr result (λ error. kind_of error ≢ OutOfMemory
         → ¬ IsAccepted (map S.text words.now)) }
+    ensures kind { IfErr result (HasKind (fault_of command_line (map S.text words.now))) }
     ensures task { IfOk result (IsTask (subcommand_of command_line (map S.text words.now))) }
 {
     let command = definition(alloc)?;

@@ -16,24 +16,34 @@ use thiserror::Error;
 /// Why a command ends early; its text is the line on standard error.
 #[derive(Clone, Copy, Debug, Error)]
 pub enum Fault<'a> {
+    /// The file of this name can't be read, or its text isn't UTF-8.
     #[error("s161: file {0}")]
     File(&'a str),
+    /// This line of a schedule, from 1, is bad.
     #[error("s161: schedule line {0}")]
     Schedule(u64),
+    /// This line of a log, from 1, is bad.
     #[error("s161: log line {0}")]
     Log(u64),
+    /// The machine's size is outside the limits.
     #[error("s161: conf")]
     Conf,
+    /// The image can't be loaded.
     #[error("s161: image {} {}", .0.number(), .0.name())]
     Image(LoadError),
+    /// The text can't be assembled.
     #[error("s161: source {}:{} {} {}", .0.line, .0.column, .0.kind.number(), .0.kind.name())]
     Source(AsmError),
+    /// A run in threads has no report.
     #[error("s161: threads {}", .0.name())]
     Threads(Cause),
+    /// Memory was refused.
     #[error("s161: memory")]
     Memory,
+    /// Standard input or a word of the command line can't be read, or isn't UTF-8.
     #[error("s161: input")]
     Input,
+    /// Standard output failed.
     #[error("s161: output")]
     Output,
 }

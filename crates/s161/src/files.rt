@@ -27,6 +27,7 @@ pub struct HostFiles<'a, R: Files + AllocGlobal> {
 }
 
 impl<'a, R: Files + AllocGlobal> HostFiles<'a, R> {
+    /// The files of this host.
     pub fn new(rt: &'a R) -> HostFiles<'a, R> {
         HostFiles { rt }
     }

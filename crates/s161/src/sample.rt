@@ -1,7 +1,7 @@
 //! The built-in sample kernel.
 
 ghost use Rattle.std.specs.Prelude.{◌≡◌, ◌⊎◌, ℕ, List, IfErr, IfOk, IfSome};
-ghost use Rattle.s161.specs.Samples.{image_file, sample_file, IsSample};
+ghost use Rattle.s161.specs.Samples.{image_file, sample_file, IsFileName, IsSample};
 
 use crate::fault::Fault;
 use crate::files::FileSource;
@@ -15,7 +15,7 @@ const NAME: &str = "@sample";
 
 /// A kernel of two processors. Processor 0 moves page 0x00400 of identifier 5 from frame 0x00005 to
 /// frame 0x00006, which processor 1 reads, and interrupts processor 1 so that it drops its row of
-/// the page.
+/// the page: a TLB shootdown as in Black and others, 1989; the code is this project's own.
 const SOURCE: &str = "\
 # words that the processors share
 #   0x3000  the page's row, in EntryLo's form
@@ -140,7 +140,7 @@ pub fn sample_image<'a>(alloc: Global) -> Result<Vec<u8>, Fault<'a>>
 ///
 /// # Errors
 /// The file can't be read; or memory was refused.
-#[tactic(auto, unfolding(crate::specs::Samples::image_file))]
+#[tactic(auto, unfolding(crate::specs::Samples::image_file, crate::specs::Samples::IsFileName))]
 pub fn read_image<'a, F: FileSource>(
     alloc: Global,
     files: &mut F,
@@ -149,7 +149,8 @@ pub fn read_image<'a, F: FileSource>(
     ensures whole { IfOk result (λ file. IfSome (image_file (F.known files.old) name.entry.now)
         (λ known. file.items ≡ known)) }
     ensures still { (other : List ℕ) → F.known files.new other ≡ F.known files.old other }
-    ensures err { IfErr result (λ fault. (fault ≡ Fault.File name.entry) ⊎ (fault ≡ Fault.Memory)) }
+    ensures err { IfErr result (λ fault. (fault ≡ Fault.Memory)
+        ⊎ ((fault ≡ Fault.File name.entry) × IsFileName name.entry.now)) }
 {
     if name == NAME {
         sample_image(alloc)

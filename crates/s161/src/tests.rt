@@ -2,15 +2,17 @@
 //! for the crate that it tests; `instructions` and `programs` run words on a machine. A worked row
 //! goes into `programs`, or with other events into `traps`, `cop0`, `tlb`, `fetches`, `bus` or
 //! `processors`, in the form that `listing` says. `sample` runs a whole small kernel of two
-//! processors. `program`, `run` and `over_files` try the program's commands over the streams of
-//! `streams`.
+//! processors. `program`, `run`, `over_files` and `texts` try the program's commands, over the
+//! streams of `streams`.
 
 mod alu;
+mod asm;
 mod bus;
 mod cop0;
 mod cpu;
 mod debug;
 mod decode;
+mod dis;
 mod elf;
 mod fetches;
 mod instructions;

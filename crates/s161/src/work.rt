@@ -4,7 +4,7 @@ ghost use Rattle.std.specs.Prelude.{◌≡◌, ◌≢◌, ◌⊎◌, ◌≤◌, 
 ghost use Rattle.std.specs.Io.KnownBytes.{Appends};
 ghost use Rattle.clap.specs.Words.{kind_of};
 ghost use Rattle.s161.specs.Assemblies.{IsAssembled, IsAssemblyFault};
-ghost use Rattle.s161.specs.Commands.{IsAccepted};
+ghost use Rattle.s161.specs.Commands.{IsAccepted, IsHelp};
 ghost use Rattle.s161.specs.Debugs.{IsDebug, IsDebugFault};
 ghost use Rattle.s161.specs.Demos.{IsDemo};
 ghost use Rattle.s161.specs.Listings.{IsDisassembled, IsListingFault};
@@ -12,7 +12,7 @@ ghost use Rattle.s161.specs.Replays.{IsReplayed, IsReplayFault};
 ghost use Rattle.s161.specs.Runs.{IsFaultOf, IsRun};
 ghost use Rattle.s161.specs.Samples.{image_file};
 ghost use Rattle.s161.specs.Threads.{IsRunInThreads, IsThreadsFault};
-ghost use Rattle.s161.specs.Works.{Does, Fails, Finishes, IsDone, IsTaskFault, Prints};
+ghost use Rattle.s161.specs.Works.{Does, Fails, Finishes, IsDone, IsTaskFault, IsResultOf, Prints, WithZero};
 
 use crate::assembly::assembly;
 use crate::command::{FilesTask, RunTask, Task, parse};
@@ -57,6 +57,7 @@ where
     ensures finished { IsDone result → IfOk words.entry (λ ws. Does (map string_bytes ws.items)
         (F.known files.old) (I.remaining input.old) (O.contents output.old)
         (O.contents output.new) result) }
+    ensures errors { IsDone result → E.contents errors.new ≡ E.contents errors.old }
     ensures unread { IfErr words.entry (λ _. result ≡ 1) }
     ensures within { result ≤ 4 }
 {
@@ -89,6 +90,7 @@ where
     ensures rejected { result ≡ 2 → ¬ IsAccepted (map S.text words.now) }
     ensures finished { IsDone result → Does (map S.text words.now) (F.known files.old)
         (I.remaining input.old) (O.contents output.old) (O.contents output.new) result }
+    ensures errors { IsDone result → E.contents errors.new ≡ E.contents errors.old }
     ensures within { result ≤ 4 }
 {
     let alloc = rt.alloc();
@@ -114,6 +116,7 @@ fn do_task<'a, R: Threads + Wait + Sync, F: FileSource, I: Read, O: Write>(
     ensures finished { IfOk result (Finishes task.entry (F.known files.old)
         (I.remaining input.old) (O.contents output.old) (O.contents output.new)) }
     ensures fault { IfErr result (Fails
+        (IsResultOf task.entry (F.known files.old) (I.remaining input.old))
         (IsTaskFault task.entry (F.known files.old) (I.remaining input.old))
         (O.contents output.old) (O.contents output.new)) }
     ensures within { IfOk result (λ status. (status ≤ 4) × (status ≢ 2)) }
@@ -131,10 +134,10 @@ fn do_task<'a, R: Threads + Wait + Sync, F: FileSource, I: Read, O: Write>(
 
 // Prints the demo. Returns the exit status.
 fn do_demo<'a, O: Write>(alloc: Global, output: &mut O) -> Result<u8, Fault<'a>>
-    ensures printed { IfOk result (λ _. Prints IsDemo
+    ensures printed { IfOk result (Prints (WithZero IsDemo)
         (O.contents output.old) (O.contents output.new)) }
     ensures status { IfOk result (λ status. status ≡ 0) }
-    ensures fault { IfErr result (Fails (λ fault. fault ≡ Fault.Memory)
+    ensures fault { IfErr result (Fails (WithZero IsDemo) (λ fault. fault ≡ Fault.Memory)
         (O.contents output.old) (O.contents output.new)) }
 {
     let text = demo(alloc)?;
@@ -150,11 +153,14 @@ fn do_run<'a, F: FileSource, I: Read, O: Write>(
     input: &mut I,
     output: &mut O,
 ) -> Result<u8, Fault<'a>>
-    ensures printed { IfOk result (λ status. Prints (λ text. IsRun task.entry
-        (image_file (F.known files.old) task.entry.image.now) (I.remaining input.old) text status)
+    ensures printed { IfOk result (Prints (IsRun task.entry
+        (image_file (F.known files.old) task.entry.image.now) (I.remaining input.old))
         (O.contents output.old) (O.contents output.new)) }
     ensures within { IfOk result (λ status. (status ≤ 3) × (status ≢ 2)) }
-    ensures fault { IfErr result (Fails (IsFaultOf task.entry
+    ensures fault { IfErr result (Fails
+        (IsRun task.entry
+        (image_file (F.known files.old) task.entry.image.now) (I.remaining input.old))
+        (IsFaultOf task.entry
         (image_file (F.known files.old) task.entry.image.now) (I.remaining input.old))
         (O.contents output.old) (O.contents output.new)) }
 {
@@ -170,12 +176,13 @@ fn do_threads<'a, R: Threads + Wait + Sync, F: FileSource, O: Write>(
     files: &mut F,
     output: &mut O,
 ) -> Result<u8, Fault<'a>>
-    ensures printed { IfOk result (λ status. Prints (λ text. IsRunInThreads task.entry quota
-        (image_file (F.known files.old) task.entry.image.now) text status)
+    ensures printed { IfOk result (Prints (IsRunInThreads task.entry quota
+        (image_file (F.known files.old) task.entry.image.now))
         (O.contents output.old) (O.contents output.new)) }
     ensures within { IfOk result (λ status. (status ≡ 0) ⊎ (status ≡ 3)) }
-    ensures fault { IfErr result (Fails (IsThreadsFault task.entry
-        (image_file (F.known files.old) task.entry.image.now))
+    ensures fault { IfErr result (Fails
+        (IsRunInThreads task.entry quota (image_file (F.known files.old) task.entry.image.now))
+        (IsThreadsFault task.entry (image_file (F.known files.old) task.entry.image.now))
         (O.contents output.old) (O.contents output.new)) }
 {
     print(output, run_in_threads(rt, alloc, files, task, quota)?)
@@ -188,13 +195,15 @@ fn do_replay<'a, F: FileSource, O: Write>(
     files: &mut F,
     output: &mut O,
 ) -> Result<u8, Fault<'a>>
-    ensures printed { IfOk result (λ status. Prints (λ text. IsReplayed task.entry
+    ensures printed { IfOk result (Prints (IsReplayed task.entry
         (image_file (F.known files.old) task.entry.image.now)
-        (F.known files.old task.entry.text.now) text status)
+        (F.known files.old task.entry.text.now))
         (O.contents output.old) (O.contents output.new)) }
     ensures within { IfOk result (λ status. (status ≡ 0) ⊎ (status ≡ 4)) }
-    ensures fault { IfErr result (Fails (IsReplayFault task.entry
-        (image_file (F.known files.old) task.entry.image.now)
+    ensures fault { IfErr result (Fails
+        (IsReplayed task.entry (image_file (F.known files.old) task.entry.image.now)
+        (F.known files.old task.entry.text.now))
+        (IsReplayFault task.entry (image_file (F.known files.old) task.entry.image.now)
         (F.known files.old task.entry.text.now))
         (O.contents output.old) (O.contents output.new)) }
 {
@@ -209,13 +218,15 @@ fn do_debug<'a, F: FileSource, I: Read, O: Write>(
     input: &mut I,
     output: &mut O,
 ) -> Result<u8, Fault<'a>>
-    ensures printed { IfOk result (λ _. Prints (λ text. IsDebug task.entry
+    ensures printed { IfOk result (Prints (WithZero (IsDebug task.entry
         (image_file (F.known files.old) task.entry.image.now)
-        (F.known files.old task.entry.text.now) (I.remaining input.old) text)
+        (F.known files.old task.entry.text.now) (I.remaining input.old)))
         (O.contents output.old) (O.contents output.new)) }
     ensures status { IfOk result (λ status. status ≡ 0) }
-    ensures fault { IfErr result (Fails (IsDebugFault task.entry
-        (image_file (F.known files.old) task.entry.image.now)
+    ensures fault { IfErr result (Fails
+        (WithZero (IsDebug task.entry (image_file (F.known files.old) task.entry.image.now)
+        (F.known files.old task.entry.text.now) (I.remaining input.old)))
+        (IsDebugFault task.entry (image_file (F.known files.old) task.entry.image.now)
         (F.known files.old task.entry.text.now))
         (O.contents output.old) (O.contents output.new)) }
 {
@@ -228,10 +239,11 @@ fn do_as<'a, I: Read, O: Write>(
     input: &mut I,
     output: &mut O,
 ) -> Result<u8, Fault<'a>>
-    ensures printed { IfOk result (λ _. Prints (IsAssembled (I.remaining input.old))
+    ensures printed { IfOk result (Prints (WithZero (IsAssembled (I.remaining input.old)))
         (O.contents output.old) (O.contents output.new)) }
     ensures status { IfOk result (λ status. status ≡ 0) }
-    ensures fault { IfErr result (Fails (IsAssemblyFault (I.remaining input.old))
+    ensures fault { IfErr result (Fails (WithZero (IsAssembled (I.remaining input.old)))
+        (IsAssemblyFault (I.remaining input.old))
         (O.contents output.old) (O.contents output.new)) }
 {
     let source = read_input(alloc, input)?;
@@ -247,11 +259,12 @@ fn do_dis<'a, F: FileSource, O: Write>(
     files: &mut F,
     output: &mut O,
 ) -> Result<u8, Fault<'a>>
-    ensures printed { IfOk result (λ _. Prints
-        (IsDisassembled (image_file (F.known files.old) image.entry.now))
+    ensures printed { IfOk result (Prints
+        (WithZero (IsDisassembled (image_file (F.known files.old) image.entry.now)))
         (O.contents output.old) (O.contents output.new)) }
     ensures status { IfOk result (λ status. status ≡ 0) }
     ensures fault { IfErr result (Fails
+        (WithZero (IsDisassembled (image_file (F.known files.old) image.entry.now)))
         (IsListingFault image.entry.now (image_file (F.known files.old) image.entry.now))
         (O.contents output.old) (O.contents output.new)) }
 {
@@ -294,6 +307,10 @@ pub fn report<E: Write>(fault: Fault<'_>, errors: &mut E) -> u8
 // Writes clap's text of a rejected command line. Returns the exit status.
 fn reject<O: Write, E: Write>(alloc: Global, error: &Error, output: &mut O, errors: &mut E) -> u8
     ensures rejected { result ≡ 2 → kind_of error.now ≢ ErrorKind.OutOfMemory }
+    ensures help { result ≡ 2 → IsHelp (kind_of error.now)
+        → E.contents errors.new ≡ E.contents errors.old }
+    ensures usage { result ≡ 2 → ¬ IsHelp (kind_of error.now)
+        → O.contents output.new ≡ O.contents output.old }
     ensures within { (1 ≤ result) × (result ≤ 2) }
 {
     if error.kind() == ErrorKind::OutOfMemory {
@@ -314,9 +331,11 @@ fn write_rejection<O: Write, E: Write>(
     errors: &mut E,
 ) -> u8
     ensures help { result ≡ 2 → is_help ≡ true
-        → Appends (O.contents output.old) (O.contents output.new) text.now }
+        → Appends (O.contents output.old) (O.contents output.new) text.now
+        × (E.contents errors.new ≡ E.contents errors.old) }
     ensures usage { result ≡ 2 → is_help ≡ false
-        → Appends (E.contents errors.old) (E.contents errors.new) text.now }
+        → Appends (E.contents errors.old) (E.contents errors.new) text.now
+        × (O.contents output.new ≡ O.contents output.old) }
     ensures within { (1 ≤ result) × (result ≤ 2) }
 {
     let written = if is_help {

@@ -1,18 +1,18 @@
 //! Random, Count and the timer, computed from the number of ticks, without work at each tick.
 
 ghost use Rattle.std.specs.Prelude.{◌≡◌, ◌+◌, ◌-◌, ◌^◌, ◌<◌, true};
-ghost use Rattle.m161_cop0.specs.Clock.{is_due, ticked, IsFire};
+ghost use Rattle.m161_cop0.specs.Clock.{is_due, after_tick, IsFire};
 
 use crate::control::{Cop0, internal_ip};
 
 impl Cop0 {
     /// The end of a Step: Random falls by one, from 8 back to 63. Count rises by one; if it then
     /// equals a Compare that isn't zero, it becomes 0 and the timer's bit is set.
-    #[tactic(auto, unfolding(crate::specs::Clock::ticked))]
+    #[tactic(auto, unfolding(crate::specs::Clock::after_tick))]
     #[inline(always)]
     pub fn tick(&mut self)
         requires { self.old.age < 2 ^ 64 - 1 }
-        ensures registers { self.new ≡ ticked self.old }
+        ensures registers { self.new ≡ after_tick self.old }
         ensures age { self.new.age ≡ self.old.age + 1 }
     {
         let age = self.age + 1;
@@ -24,13 +24,13 @@ impl Cop0 {
     }
 
     // The tick that brings Count to Compare.
-    #[tactic(auto, unfolding(crate::specs::Clock::ticked))]
+    #[tactic(auto, unfolding(crate::specs::Clock::after_tick))]
     #[cold]
     #[inline(never)]
     fn raise_timer(&mut self)
         requires age { self.old.age < 2 ^ 64 - 1 }
         requires due { is_due self.old ≡ true }
-        ensures { self.new ≡ ticked self.old }
+        ensures { self.new ≡ after_tick self.old }
     {
         self.age += 1;
         self.offset = 0u32.wrapping_sub((self.age % (1 << 32)) as u32);

@@ -1,7 +1,7 @@
 //! The entry of a trap and the return from it.
 
 ghost use Rattle.std.specs.Prelude.{◌≡◌};
-ghost use Rattle.m161_cop0.specs.Trap.{entered, epc_of, is_user_miss, restored, unit_of, vector_of, with_address, with_bad_address, with_bad_page, IsVector};
+ghost use Rattle.m161_cop0.specs.Trap.{after_trap, epc_of, is_user_miss, after_rfe, unit_of, vector_of, with_address, with_bad_address, with_bad_page, IsVector};
 
 use crate::control::Cop0;
 use crate::exception::Exception;
@@ -11,11 +11,11 @@ impl Cop0 {
     /// Enters a trap: the current pair of Status goes to the previous one and the previous to the
     /// old, EPC and Cause get the place and the reason, and BadVAddr, EntryHi and Context the
     /// address, if the exception has one. Returns the address of the next instruction.
-    #[tactic(auto, unfolding(crate::specs::Trap::entered))]
+    #[tactic(auto, unfolding(crate::specs::Trap::after_trap))]
     #[cold]
     #[inline(never)]
     pub fn enter(&mut self, trap: Trap) -> u32
-        ensures registers { self.new ≡ entered trap self.old }
+        ensures registers { self.new ≡ after_trap trap self.old }
         ensures vector { result ≡ vector_of trap self.old }
         ensures place { IsVector result }
         ensures age { self.new.age ≡ self.old.age }
@@ -51,7 +51,7 @@ impl Cop0 {
     #[cold]
     #[inline(never)]
     pub fn rfe(&mut self)
-        ensures { self.new ≡ restored self.old }
+        ensures { self.new ≡ after_rfe self.old }
     {
         let status = self.status;
         self.set_status(status / (1 << 4) * (1 << 4) + (status >> 2) % (1 << 4));

@@ -2,7 +2,7 @@
 
 ghost use Rattle.std.specs.Prelude.{◌≡◌, ◌++◌, ◌<◌, length, slice_get, string_bytes, IfOk, OnOk, Some};
 ghost use Rattle.m161_cop0.specs.Registers.{all_registers};
-ghost use Rattle.m161_debug.specs.Shows.{cop0_line, with_line_end, named, show_cop0_text};
+ghost use Rattle.m161_debug.specs.Shows.{cop0_line, with_line_end, name_and_word, show_cop0_text};
 
 use m161_bus::Console;
 use m161_cop0::{REGISTERS, registers_in_order};
@@ -53,10 +53,10 @@ fn write_register<T: Tlb, D: Console>(
 }
 
 // A line of a name and a word.
-#[tactic(auto, unfolding(crate::specs::Shows::named))]
+#[tactic(auto, unfolding(crate::specs::Shows::name_and_word))]
 fn write_named(text: &mut String, name: &str, word: u32) -> Result<(), AllocError>
     ensures { OnOk result (string_bytes text.new ≡ string_bytes text.old
-        ++ with_line_end (named name.now word)) }
+        ++ with_line_end (name_and_word name.now word)) }
 {
     writeln!(text, "{name} {}", Word(word))
 }

@@ -2,7 +2,7 @@
 
 ghost use Rattle.std.specs.Prelude.{◌≡◌, ◌++◌, ◌<◌, length, codes, decimal, string_bytes, IfOk, OnOk, Some};
 ghost use Rattle.m161_machine.specs.State.{processor_at};
-ghost use Rattle.m161_debug.specs.Shows.{with_line_end, hi_lo_line, named, place_line, place_text, register_and_word, registers_line, show_regs_text, state_text};
+ghost use Rattle.m161_debug.specs.Shows.{with_line_end, hi_lo_line, name_and_word, place_line, place_text, register_and_word, registers_line, show_regs_text, state_text};
 
 use m161_bus::Console;
 use m161_isa::Reg;
@@ -61,9 +61,9 @@ struct ShownRegister {
 impl fmt::Display for ShownRegister {
     ghost use Rattle.std.specs.Prelude.{codes, decimal, ◌++◌};
 
-    ghost output = { λ r. Some (named (codes "r" ++ decimal r.number) r.word) };
+    ghost output = { λ r. Some (name_and_word (codes "r" ++ decimal r.number) r.word) };
 
-    #[tactic(auto, unfolding(crate::specs::Shows::named))]
+    #[tactic(auto, unfolding(crate::specs::Shows::name_and_word))]
     fn fmt<W: fmt::Write>(&self, f: &mut fmt::Formatter<W>) -> fmt::Result {
         let number = self.number;
         write!(f, "r{number} {}", Word(self.word))
@@ -132,7 +132,7 @@ fn write_registers<T: Tlb, D: Console>(
 fn shown_register<T: Tlb, D: Console>(machine: &Machine<T, D>, p: u32, number: u8) -> ShownRegister
     requires processor { p < length machine.now.state.processors }
     requires register { number < 32 }
-    ensures { named (codes "r" ++ decimal result.number) result.word
+    ensures { name_and_word (codes "r" ++ decimal result.number) result.word
         ≡ register_and_word (processor_at p machine.now.state.processors) number }
 {
     ShownRegister {
@@ -141,7 +141,7 @@ fn shown_register<T: Tlb, D: Console>(machine: &Machine<T, D>, p: u32, number: u
     }
 }
 
-#[tactic(auto, unfolding(crate::specs::Shows::named))]
+#[tactic(auto, unfolding(crate::specs::Shows::name_and_word))]
 fn write_hi_lo<T: Tlb, D: Console>(
     text: &mut String,
     machine: &Machine<T, D>,

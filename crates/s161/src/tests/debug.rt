@@ -244,6 +244,8 @@ static SCENES: [Scene; 15] = [
             Line("o", &[], 0, "o taken\n"),
             Line("o", &[], 0, "refused 5 NothingSent\n"),
             Make(Done, Err(Refusal::NothingSent)),
+            Go(&[Key(2), Done], Stop::Refused(1, Refusal::NothingSent)),
+            Line("g", &[Done], 1, "refused 0 5 NothingSent\n"),
             Line("k 4a", &[], 0, "k 4a taken\n"),
             Make(Key(1), TAKEN),
             Line("s 4294967295", &[], 0, "refused 1 BadProcessor\n"),

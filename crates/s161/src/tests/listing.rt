@@ -10,7 +10,8 @@
 //! same file.
 //!
 //! The words of `programs` are those of GNU as 2.40 for mips-linux-gnu, the others were assembled
-//! from their texts without it. What they leave is worked out by hand from Kane's descriptions and
+//! from their texts without it. A text is for the reader: no test compares it with its word. What
+//! they leave is worked out by hand from Kane's descriptions and
 //! this project's own rules.
 
 use super::elf::{file_at, file_from};
@@ -349,7 +350,7 @@ fn leaves_values(answer: Answer) -> bool {
     }
 }
 
-/// The first place where two lists differ, with what stands there in each; their lengths where one
+/// The first place where two lists differ, with the item there in each; their lengths where one
 /// is longer.
 fn change<T: PartialEq + Copy>(before: &[T], after: &[T]) -> Option<(usize, Option<T>, Option<T>)> {
     for (i, (old, new)) in before.iter().zip(after).enumerate() {
@@ -449,7 +450,10 @@ pub(crate) fn compare(rt: &impl Abort, name: &str, machine: &Machine, left: &[(u
 pub(crate) fn part_of(rt: &impl Abort, machine: &Machine, p: u32, part: Left) -> Left {
     assert!(rt; p < machine.processors());
     match part {
-        Left::Register(r, _) => Left::Register(r, machine.reg(p, Reg::new(r % 32))),
+        Left::Register(r, _) => {
+            assert!(rt; r < 32);
+            Left::Register(r, machine.reg(p, Reg::new(r)))
+        }
         Left::Hi(_) => Left::Hi(machine.hi(p)),
         Left::Lo(_) => Left::Lo(machine.lo(p)),
         Left::Pc(_) => Left::Pc(machine.pc(p)),
@@ -460,7 +464,8 @@ pub(crate) fn part_of(rt: &impl Abort, machine: &Machine, p: u32, part: Left) ->
         },
         Left::Cop(register, _) => Left::Cop(register, machine.cop(p, register)),
         Left::TlbRow(i, _, _) => {
-            let row = machine.row(p, i % 64);
+            assert!(rt; i < 64);
+            let row = machine.row(p, i);
             Left::TlbRow(i, row.entry_hi(), row.entry_lo())
         }
         Left::State(_) => Left::State(machine.state(p)),

@@ -17,7 +17,7 @@ fn words_and_bytes(rt: HostRuntime) -> Result<(), AllocError> {
     Ok(())
 }
 
-/// The size of so much RAM, and its last word before its last byte is set and after it.
+/// The size of RAM of this many bytes, and its last word before its last byte is set and after it.
 fn end_of(alloc: Global, size: u32) -> Result<[u32; 3], AllocError> {
     let mut ram = Ram::new(alloc, size)?;
     if size < 4 {

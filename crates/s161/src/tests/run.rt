@@ -70,7 +70,7 @@ const SEND_H: [u32; 3] = [0x3c08_bfe0, 0x3409_0048, 0xad09_0000];
 
 const SEND_LINE_END: [u32; 3] = [0x3c08_bfe0, 0x3409_000a, 0xad09_0000];
 
-/// Processor 1 is started at 80000220, where `ori $12, $0, 7` stands.
+/// Processor 1 is started at 80000220, where `ori $12, $0, 7` is.
 pub(crate) const START_OTHER: [u32; 9] = [
     0x3c08_bfff,
     0x3c09_8000,

@@ -6,8 +6,8 @@ use super::same;
 use m161_console::PlainConsole;
 use m161_machine::{Conf, Entry, Event, Outcome};
 use m161_steplog::{
-    Byte, Fault, Verdict, Word, byte_of, cut_at_space, decimal_of, entry_line, next_line, read_log,
-    read_schedule, verify, word_of, write_log,
+    Byte, Fault, Verdict, Word, cut_at_space, entry_line, next_line, parse_byte, parse_decimal,
+    parse_word, read_log, read_schedule, verify, write_log,
 };
 use m161_tlb_scan::Scan;
 use std::alloc::Global;
@@ -75,7 +75,7 @@ fn numbers(rt: HostRuntime) -> Result<(), Fail> {
         ("1 ", None),
         ("", None),
     ] {
-        same(&rt, (text, decimal_of(text)), (text, number));
+        same(&rt, (text, parse_decimal(text)), (text, number));
     }
     for (text, number) in [
         ("80000200", Some(0x8000_0200)),
@@ -85,10 +85,10 @@ fn numbers(rt: HostRuntime) -> Result<(), Fail> {
         ("8000020A", None),
         ("+8000020", None),
     ] {
-        same(&rt, (text, word_of(text)), (text, number));
+        same(&rt, (text, parse_word(text)), (text, number));
     }
     for (text, number) in [("0a", Some(10)), ("a", None), ("00a", None), ("0A", None)] {
-        same(&rt, (text, byte_of(text)), (text, number));
+        same(&rt, (text, parse_byte(text)), (text, number));
     }
     let shown = format!(in rt.alloc(); "{} {}", Byte(0x0a), Word(0x200))?;
     same(&rt, shown.as_str(), "0a 00000200");

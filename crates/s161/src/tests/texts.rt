@@ -1,34 +1,21 @@
-//! Texts of programs: a word's, the listing of a file, the file of a text, and the built-in sample.
+//! The listing of a file, and the built-in sample.
 
 use super::elf::file_from;
-use super::listing::{ENTRY, RAN, RESERVED, last_step};
+use super::listing::ENTRY;
 use super::same;
 use super::sample::KERNEL;
 use super::streams::{NoFiles, OneFile};
 use crate::Machine;
-use crate::assembly::assembly;
 use crate::demo::IMAGE;
 use crate::disassembly::disassembly;
 use crate::events::{Stop, make_events};
 use crate::fault::Fault;
 use crate::files::FileSource;
 use crate::sample::{read_image, sample_image};
-use m161_asm::assemble;
-use m161_dis::line;
 use m161_machine::Conf;
 use m161_steplog::read_schedule;
 use std::alloc::{AllocError, Global};
 use std::test::Fail;
-
-/// The demo's text.
-const DEMO: &str = "lui $8, 0x1234
-ori $8, $8, 0x5678
-addiu $9, $0, -1
-addu $10, $8, $9
-lui $11, 0x8000
-sw $10, 1024($11)
-lw $12, 1024($11)
-";
 
 /// The demo's listing.
 const LISTED_DEMO: &str = "80000200 3c081234 lui $8, 0x1234
@@ -41,7 +28,7 @@ const LISTED_DEMO: &str = "80000200 3c081234 lui $8, 0x1234
 ";
 
 /// The line of a fault.
-fn line_of(alloc: Global, fault: Fault<'_>) -> Result<String, AllocError> {
+pub(crate) fn line_of(alloc: Global, fault: Fault<'_>) -> Result<String, AllocError> {
     format!(in alloc; "{fault}")
 }
 
@@ -53,28 +40,6 @@ fn list(alloc: Global, file: &[u8]) -> Result<String, AllocError> {
     }
 }
 
-/// Words, the address of each, and its text.
-static LINES: [(u32, u32, &str); 5] = [
-    (0x0000_0000, 0x8000_0200, "nop"),
-    (0x0000_0060, 0x8000_0200, ".word 0x00000060"),
-    (0x4200_0008, 0x8000_0200, "tlbp"),
-    (0xffff_ffff, 0x8000_0200, ".word 0xffffffff"),
-    (0x11e0_fffe, 0x8000_0248, "beq $15, $0, 0x80000244"),
-];
-
-#[test]
-fn disassembled_words(rt: HostRuntime) -> Result<(), Fail> {
-    for &(word, at, expected) in &LINES {
-        let text = line(rt.alloc(), word, at)?;
-        same(&rt, (word, text.as_str()), (word, expected));
-    }
-    // the second is executed as `add`, and the fourth traps
-    for &(word, answer) in &[(0x0000_0060, RAN), (0xffff_ffff, RESERVED)] {
-        last_step(&rt, "disassembled-words", ENTRY, &[word], 1, answer)?;
-    }
-    Ok(())
-}
-
 #[test]
 fn dis_demo(rt: HostRuntime) -> Result<(), Fail> {
     let text = list(rt.alloc(), &IMAGE)?;
@@ -82,7 +47,7 @@ fn dis_demo(rt: HostRuntime) -> Result<(), Fail> {
     Ok(())
 }
 
-/// Only the part of a segment that stands in the file is listed.
+/// Only the part of a segment that is in the file is listed.
 #[test]
 fn words_of_the_file(rt: HostRuntime) -> Result<(), Fail> {
     let mut file = IMAGE;
@@ -125,54 +90,6 @@ fn image_without_listing(rt: HostRuntime) -> Result<(), Fail> {
     file[60] = 0;
     let text = list(rt.alloc(), &file)?;
     same(&rt, text.as_str(), "s161: image 7 SegmentOutsideRam");
-    Ok(())
-}
-
-/// The length of a text's file and whether it has these bytes.
-fn assemble_text(alloc: Global, source: &str, expected: &[u8]) -> (usize, bool) {
-    match assembly(alloc, source) {
-        Ok(file) => (file.len(), file.as_slice() == expected),
-        Err(_) => (0, false),
-    }
-}
-
-#[test]
-fn as_demo(rt: HostRuntime) -> Result<(), Fail> {
-    same(&rt, assemble_text(rt.alloc(), DEMO, &IMAGE), (112, true));
-    Ok(())
-}
-
-/// Texts, each with the line of its fault.
-static FAULTS: [(&str, &str); 8] = [
-    ("addi $1, $2, 0x", "s161: source 1:14 1 BadToken"),
-    ("foo $1", "s161: source 1:1 2 UnknownWord"),
-    ("jr 5", "s161: source 1:4 3 BadOperand"),
-    ("addi $1, $2, 40000", "s161: source 1:14 4 OutOfRange"),
-    ("beq $0, $0, nowhere", "s161: source 1:13 5 UnknownLabel"),
-    ("a:\na:", "s161: source 2:1 6 DoubleLabel"),
-    (
-        ".org 0x80000200\nj 0x90000000",
-        "s161: source 2:3 7 BranchTooFar",
-    ),
-    (
-        ".org 0x80000200\nnop\n.org 0x80000200\nnop\n",
-        "s161: source 4:1 8 Overlap",
-    ),
-];
-
-#[test]
-fn assembler_errors(rt: HostRuntime) -> Result<(), Fail> {
-    for (source, expected) in &FAULTS {
-        match assembly(rt.alloc(), source) {
-            Ok(_) => same(&rt, *source, "accepted"),
-            Err(fault) => {
-                let line = line_of(rt.alloc(), fault)?;
-                same(&rt, (*source, line.as_str()), (*source, *expected));
-            }
-        }
-    }
-    let empty = assemble(rt.alloc(), "")?;
-    same(&rt, (empty.segments.len(), empty.entry), (0, 0x8000_0200));
     Ok(())
 }
 

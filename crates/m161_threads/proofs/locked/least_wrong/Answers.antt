@@ -1,6 +1,6 @@
 use Rattle.std.proofs.Common.{◌≡◌, ◌∙◌, ap, sym, subst, ◌+◌, ◌++◌, ◌∷◌, [], take, Some, length, ◌<◌, arith}
 use Rattle.std.proofs.lemmas.List.{take_more}
-use Rattle.m161_threads.specs.Shares.{Miscounts, Place, least_of}
+use Rattle.m161_threads.specs.Shares.{Miscounts, SeatState, least_of}
 use Rattle.m161_threads.proofs.Seating.{matched_more, wrong_more}
 use Rattle.m161_threads.proofs.locked.least_wrong.Goals.{then-not-matches, else-not-matches}
 use Rattle.m161_threads.proofs.locked.least_wrong.Goals as goal
@@ -18,7 +18,7 @@ loop-i-preserved g c =
           (let last : c.if-not-matches.least ≡ Some (least_of c.loop-i.least seat.processor) =
           w.least-is
           ∙ ap (λ n. Some n)
-          (w.least_of.ensures ∙ ap (λ (p : Place). least_of c.loop-i.least p.processor) c.seat.view_is) in
+          (w.least_of.ensures ∙ ap (λ (p : SeatState). least_of c.loop-i.least p.processor) c.seat.view_is) in
           subst (λ least. Miscounts s (take (c.loop-i.i + 1) seats) least) (sym last)
           (subst (λ xs. Miscounts s xs (Some (least_of c.loop-i.least seat.processor))) (sym more)
           (wrong_more s (take c.loop-i.i seats) c.loop-i.least seat c.loop-i.invariant

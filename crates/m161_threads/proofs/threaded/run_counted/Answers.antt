@@ -5,7 +5,7 @@ use Rattle.m161_machine.specs.declared.event.Entry.{Entry}
 use Rattle.m161_machine.specs.State.{counts}
 use Rattle.m161_machine.specs.History.{IsReplay, Start}
 use Rattle.m161_threads.specs.Runs.{IsChecked, Interleaves}
-use Rattle.m161_threads.specs.Shares.{Place}
+use Rattle.m161_threads.specs.Shares.{SeatState}
 use Rattle.m161_threads.specs.Work.{HasWorked}
 use Rattle.m161_threads.proofs.Outcomes.{interleaves, length_places}
 use Rattle.m161_threads.proofs.threaded.run_counted.Goals as goal
@@ -29,7 +29,7 @@ returns-in-Ok-run_seats-clause-ok g c =
     let made = tally.counts.items in
     let report = c.in_ok-report-in-Ok-run_seats.report in
     let said = c.in_ok-report-in-Ok-run_seats.ensures in
-    let worked = subst (λ (places : List Place). HasWorked places quotas seats made) c.in-Ok-new.ensures.seats c.in-Ok-run_seats.ensures.worked in
+    let worked = subst (λ (places : List SeatState). HasWorked places quotas seats made) c.in-Ok-new.ensures.seats c.in-Ok-run_seats.ensures.worked in
     let checked = subst (λ (log : List Entry). IsChecked machine.start log seats made report.off report.machine) c.in-Ok.ensures.log
     (subst (λ (start : Start). IsChecked start c.in-Ok.before.log.items seats made report.off report.machine) c.in-Ok.ensures.start said.ok) in
     subst (λ (counts : List ℕ). Interleaves machine quotas counts report.off report.machine) (sym said.counts)

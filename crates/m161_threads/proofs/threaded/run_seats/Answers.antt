@@ -1,7 +1,7 @@
 use Rattle.std.proofs.Common.{◌≡◌, ◌∙◌, ap, sym, subst, ℕ, ◌<◌, Option, None, length, get_or, arith}
 use Rattle.std.proofs.lemmas.List.{get_or-map, length-map}
 use Rattle.m161_threads.specs.declared.worker.Stop.{Stop}
-use Rattle.m161_threads.specs.Shares.{Place}
+use Rattle.m161_threads.specs.Shares.{SeatState}
 use Rattle.m161_threads.specs.Work.{Works}
 use Rattle.m161_threads.proofs.Working.{with_some}
 use Rattle.m161_threads.proofs.threaded.run_seats.Goals as goal
@@ -29,7 +29,7 @@ returns-clause-worked g c =
           let made_is : get_or made k 0 ≡ (get_or all k x).made =
           ap (λ xs. get_or xs k 0) made_are ∙ get_or-map (λ w. w.made) all k x 0 there in
           let none = c.in_ok-tally.ensures.none k x (omega (arith, there, ok)) in
-          subst (λ (s : Place). Works p b q s (get_or made k 0) None) (sym seat_is)
+          subst (λ (s : SeatState). Works p b q s (get_or made k 0) None) (sym seat_is)
           (subst (λ (m : ℕ). Works p b q (get_or all k x).seat m None) (sym made_is)
           (subst (λ (o : Option Stop). Works p b q (get_or all k x).seat (get_or all k x).made o) none
           (c.in_ok-worked.ensures.each k x e inside))));

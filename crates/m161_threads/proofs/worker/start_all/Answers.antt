@@ -1,6 +1,6 @@
 use Rattle.std.proofs.Common.{rules, ◌≡◌, ◌∙◌, ap, sym, ◌+◌, ◌<◌, false, length, get_or, drop, arith}
 use Rattle.std.proofs.lemmas.List.{drop_more, get_or-drop, get_or_default}
-use Rattle.m161_threads.specs.Shares.{Place}
+use Rattle.m161_threads.specs.Shares.{SeatState}
 use Rattle.m161_threads.specs.Work.{task_of}
 use Rattle.m161_threads.proofs.Working.{each_more}
 use Rattle.m161_threads.proofs.worker.start_all.Goals as goal
@@ -12,7 +12,7 @@ loop-i-preserved g c =
     let quotas = c.args.quotas.now in
     let inside : c.loop-i.i < length seats = omega (arith, c.loop-i-test.true, c.requires) in
     let none : c.loop-i.i + 0 ≡ c.loop-i.i = omega arith in
-    let seat_is : (e : Place) → c.remove-seat.result ≡ get_or seats c.loop-i.i e = λ e.
+    let seat_is : (e : SeatState) → c.remove-seat.result ≡ get_or seats c.loop-i.i e = λ e.
     c.remove-seat.ensures.value
     ∙ ap (λ xs. get_or xs 0 c.remove-seat.result) i.rest
     ∙ get_or-drop c.loop-i.i seats 0 c.remove-seat.result
@@ -27,8 +27,8 @@ loop-i-preserved g c =
       promised = λ k d e before.
           let last = c.in-Ok-spawn_with.ensures.ok
           ∙ (λ j. task_of (record {
-            processor = (c.processor.ensures ∙ ap (λ (p : Place). p.processor) (seat_is e)) j;
-            count = (c.count.ensures ∙ ap (λ (p : Place). p.count) (seat_is e)) j;
+            processor = (c.processor.ensures ∙ ap (λ (p : SeatState). p.processor) (seat_is e)) j;
+            count = (c.count.ensures ∙ ap (λ (p : SeatState). p.count) (seat_is e)) j;
             noted = false;
           }) (get_or quotas c.loop-i.i 0)) in
           ap (λ hs. (get_or hs k d).promise) c.push_reserved.ensures.items

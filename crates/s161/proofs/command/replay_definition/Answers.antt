@@ -3,7 +3,7 @@ use Rattle.std.proofs.lemmas.Result.{IfOk-weaker}
 use Rattle.clap.specs.Words.{app_of, new_app, with_rule}
 use Rattle.clap.specs.declared.builder.command.Command.TheViews.{out-Command}
 use Rattle.clap.specs.Simple.{app_of_fields}
-use Rattle.s161.specs.Commands.{sized}
+use Rattle.s161.specs.Commands.{with_size_rules}
 use Rattle.s161.proofs.Defining.{local_more}
 use Rattle.s161.proofs.command.replay_definition.Goals as goal
 
@@ -15,7 +15,7 @@ returns-clause-shape c =
     let one_local = local_more c.in_ok-arg.ensures base_local c.file_argument.ensures.local in
     let two = c.in_ok-replay.ensures.shape c.file_argument-2.ensures.local ∙ ap₂ with_rule one c.file_argument-2.ensures.rule in
     let two_local = local_more c.in_ok-replay.ensures one_local c.file_argument-2.ensures.local in
-    IfOk-weaker c.with_size.result _ _ (λ command h. h ∙ ap sized two) (c.with_size.ensures.shape two_local)
+    IfOk-weaker c.with_size.result _ _ (λ command h. h ∙ ap with_size_rules two) (c.with_size.ensures.shape two_local)
 
 pub returns-clause-local : goal.returns-clause-local
 returns-clause-local c =

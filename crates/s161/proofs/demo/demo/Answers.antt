@@ -1,12 +1,10 @@
 use Rattle.std.proofs.Common.{rules, ◌≡◌, ◌∙◌, ap}
-use Rattle.m161_debug.specs.Breakpoints.{Debugged}
+use Rattle.m161_debug.specs.Breakpoints.{SessionState}
 use Rattle.m161_debug.specs.Shows.{show_regs_text}
 use Rattle.m161_elf.specs.Image.{first_fault}
 use Rattle.m161_machine.specs.declared.conf.BootError.TheVariants.{NoMemory}
-use Rattle.m161_machine.specs.History.{boot_fault}
-use Rattle.s161.specs.Demos.{demo_conf, demo_image}
+use Rattle.s161.specs.Demos.{demo_image}
 use Rattle.s161.specs.Faults.{fault_of_boot}
-use Rattle.s161.proofs.Making.{booted_ok}
 use Rattle.s161.proofs.demo.demo.Goals as goal
 
 -- the image has no fault, so a boot fails only for want of memory
@@ -22,11 +20,11 @@ pub returns-clause-ok : goal.returns-clause-ok
 unfolding demo_image
 returns-clause-ok c = record {
   booted = c.in_ok-machine.machine;
-  is_booted = booted_ok demo_image demo_conf (boot_fault demo_image demo_conf) c.in_ok-machine.machine c.in_ok-machine.ensures.answer;
+  boots = c.in_ok-machine.ensures.answer;
   made = c.steps.result.0;
   refusal = c.steps.result.1;
   machine = c.steps.new.self;
   makes = c.steps.ensures.run;
   ends = c.steps.ensures.end;
-  text_is = c.in_ok-show_regs.ensures ∙ ap (λ (s : Debugged). show_regs_text 0 s.machine.state) c.new-session.ensures;
+  text_is = c.in_ok-show_regs.ensures ∙ ap (λ (s : SessionState). show_regs_text 0 s.machine.state) c.new-session.ensures;
 }

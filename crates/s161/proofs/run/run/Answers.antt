@@ -1,13 +1,12 @@
 use Rattle.std.proofs.Common.{◌≡◌, ◌∙◌, List, ℕ, IfSome, ap, rules, subst, sym}
 use Rattle.std.proofs.lemmas.Result.{err_from_is_err_and}
 use Rattle.m161_machine.specs.declared.event.Event.{Event}
-use Rattle.m161_machine.specs.History.{boot_fault}
 use Rattle.m161_steplog.specs.Lines.{lines_of}
 use Rattle.m161_steplog.specs.Schedule.{IsSchedule}
-use Rattle.m161_debug.specs.Breakpoints.{Debugged}
+use Rattle.m161_debug.specs.Breakpoints.{SessionState}
 use Rattle.s161.specs.Runs.{HasSchedule, IsFaultOf, summary_text}
 use Rattle.s161.proofs.Failing.{boot_failed, schedule_failed}
-use Rattle.s161.proofs.Making.{booted_ok}
+use Rattle.s161.specs.Known.{IsText}
 use Rattle.s161.specs.Samples.{image_file}
 use Rattle.s161.proofs.run.run.Goals as goal
 
@@ -22,15 +21,16 @@ returns-clause-ok g c =
       file = c.deref.result.now;
       is_file = subst R (sym c.deref.ensures.value) c.in_ok-file.ensures.whole;
       booted = c.in_ok-machine.machine;
-      is_booted = booted_ok c.deref.result.now c.args.task.conf (boot_fault c.deref.result.now c.args.task.conf) c.in_ok-machine.machine c.in_ok-machine.ensures.answer;
+      boots = c.in_ok-machine.ensures.answer;
       schedule = c.as_str.result.now;
       is_input = subst P (sym c.as_str.ensures.value) c.in_ok-schedule.ensures.whole;
+      is_text = subst IsText (sym c.as_str.ensures.value) c.in_ok-schedule.schedule.ok;
       events = c.deref-2.result.now;
       is_schedule = subst Q (sym c.deref-2.ensures.value) c.in_ok-events.ensures.found;
       machine = c.make_events-stop.new.machine;
       stop = c.make_events-stop.result;
       makes = c.make_events-stop.ensures;
-      text_is = c.in_ok-summary.ensures ∙ ap (λ (s : Debugged). summary_text s.machine c.make_events-stop.result c.args.task.show_log) c.new-session.ensures;
+      text_is = c.in_ok-summary.ensures ∙ ap (λ (s : SessionState). summary_text s.machine c.make_events-stop.result c.args.task.show_log) c.new-session.ensures;
       status_is = c.status.ensures;
     }
 
@@ -40,8 +40,9 @@ returns-in_err-events-clause-fault g c =
     let input = g.I.Read.remaining c.args.input.now in
     let P : List ℕ → Type 0 = λ schedule. IfSome input (λ bytes. schedule ≡ bytes) in
     let is = subst P (sym c.as_str.ensures.value) c.in_ok-schedule.ensures.whole in
+    let utf8 = subst IsText (sym c.as_str.ensures.value) c.in_ok-schedule.schedule.ok in
     let failed = schedule_failed (IsFaultOf c.args.task known input) c.as_str.result.now c.in_err-events.field-0.0
-    (λ n bad. (c.as_str.result.now, is, bad)) tt c.in_err-events.ensures.fault in
+    (λ n bad. (c.as_str.result.now, is, (utf8, bad))) tt c.in_err-events.ensures.fault in
     search (rules, failed)
 
 -- standard input has a schedule, and the boot's answer says the rest
@@ -52,7 +53,8 @@ returns-in_err-machine-clause-fault g c =
     let P : List ℕ → Type 0 = λ schedule. IfSome input (λ bytes. schedule ≡ bytes) in
     let R : List ℕ → Type 0 = λ file. IfSome known (λ bytes. file ≡ bytes) in
     let made = err_from_is_err_and c.from_residual-in_err-machine.result c.from_residual-in_err-machine.ensures.1 in
-    let schedule : HasSchedule input = (c.as_str.result.now, subst P (sym c.as_str.ensures.value) c.in_ok-schedule.ensures.whole, (c.in_ok-events.events.items, c.in_ok-events.ensures.found)) in
+    let utf8 = subst IsText (sym c.as_str.ensures.value) c.in_ok-schedule.schedule.ok in
+    let schedule : HasSchedule input = (c.as_str.result.now, subst P (sym c.as_str.ensures.value) c.in_ok-schedule.ensures.whole, (utf8, (c.in_ok-events.events.items, c.in_ok-events.ensures.found))) in
     let failed = boot_failed (IsFaultOf c.args.task known input) known c.args.task.conf c.deref.result.now c.in_err-machine.field-0.0
     (subst R (sym c.deref.ensures.value) c.in_ok-file.ensures.whole) (λ outside. (schedule, outside)) (λ e has. (schedule, has)) tt c.in_err-machine.ensures.answer in
     rw (made.1, made.2) failed

@@ -1,5 +1,5 @@
 use Rattle.std.proofs.Common.{◌∙◌, ap}
-use Rattle.m161_debug.specs.Breakpoints.{Debugged}
+use Rattle.m161_debug.specs.Breakpoints.{SessionState}
 use Rattle.s161.specs.declared.events.Stop.{Stop}
 use Rattle.s161.specs.Runs.{summary_text}
 use Rattle.s161.proofs.threaded.finish.Goals as goal
@@ -7,5 +7,5 @@ use Rattle.s161.proofs.threaded.finish.Goals as goal
 pub returns-clause-text : goal.returns-clause-text
 returns-clause-text c =
     c.in_ok-summary.ensures
-    ∙ ap (λ (s : Debugged). summary_text s.machine c.stop_of-stop.result c.args.show_log) c.new-session.ensures
+    ∙ ap (λ (s : SessionState). summary_text s.machine c.stop_of-stop.result c.args.show_log) c.new-session.ensures
     ∙ ap (λ (stop : Stop). summary_text c.args.report.machine stop c.args.show_log) c.stop_of-stop.ensures

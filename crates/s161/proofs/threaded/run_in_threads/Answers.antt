@@ -1,7 +1,7 @@
-use Rattle.std.proofs.Common.{◌≡◌, ◌∙◌, ap, sym, subst, ℕ, List, Option, None, length, replicate, IfSome}
+use Rattle.std.proofs.Common.{◌≡◌, ◌∙◌, ap, sym, subst, ℕ, List, None, length, replicate, IfSome}
 use Rattle.std.proofs.lemmas.List.{length-replicate}
 use Rattle.m161_machine.specs.declared.conf.Conf.{Conf}
-use Rattle.m161_machine.specs.History.{IsBooted, boot_fault}
+use Rattle.m161_machine.specs.History.{boot_fault}
 use Rattle.m161_threads.specs.Runs.{Interleaves, bad_call}
 use Rattle.s161.specs.Samples.{image_file}
 use Rattle.s161.specs.Threads.{IsCause}
@@ -20,12 +20,17 @@ returns-clause-ok g c =
     c.processors.ensures ∙ c.replay.ensures.processors ∙ ap (λ (x : Conf). x.processors) is_booted.conf_is in
     let quotas : c.as_slice.result.now ≡ replicate conf.processors c.args.quota =
     c.as_slice.ensures.value ∙ c.in_ok-quotas.ensures ∙ ap (λ n. replicate n c.args.quota) number in
+    let there : length booted.state.processors ≡ conf.processors =
+    c.replay.ensures.processors ∙ ap (λ (x : Conf). x.processors) is_booted.conf_is in
+    let given : length c.as_slice.result.now ≡ conf.processors = ap length quotas ∙ length-replicate conf.processors c.args.quota in
     let report = c.in-Ok.report in
     record {
       file = c.deref.result.now;
       is_file = subst R (sym c.deref.ensures.value) c.in_ok-file.ensures.whole;
       booted = booted;
-      is_booted = is_booted;
+      boots = c.in_ok-machine.ensures.answer;
+      begins = subst (λ (n : ℕ). bad_call n conf.processors ≡ None) given
+          (subst (λ (n : ℕ). bad_call (length c.as_slice.result.now) n ≡ None) there c.in-Ok.ensures.begun);
       made = report.counts.items;
       off = report.off;
       machine = report.machine;

@@ -4,7 +4,7 @@ use Rattle.std.proofs.lemmas.List.Sums.{sum_by_more}
 use Rattle.m161_cpu.specs.Processor.{Processor}
 use Rattle.m161_machine.specs.State.{counts}
 use Rattle.m161_machine.proofs.Counting.{count_at}
-use Rattle.m161_threads.specs.Shares.{Place, place}
+use Rattle.m161_threads.specs.Shares.{SeatState, new_seat}
 use Rattle.m161_threads.proofs.Seating.{places_more}
 use Rattle.m161_threads.proofs.locked.Locked.new.Goals as goal
 
@@ -40,6 +40,6 @@ loop-processor-preserved g c =
       room = search rules;
       len = search rules;
       seats = c.push_reserved.ensures.items
-          ∙ ap (λ (xs : List Place). xs ++ place p c.count-count.result ∷ []) i.seats
+          ∙ ap (λ (xs : List SeatState). xs ++ new_seat p c.count-count.result ∷ []) i.seats
           ∙ sym (places_more cs p c.count-count.result inside count_is);
     }

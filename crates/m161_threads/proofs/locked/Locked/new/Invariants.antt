@@ -1,7 +1,7 @@
 use Rattle.std.proofs.Common.{◌≡◌, ◌+◌, ◌≤◌, length, take}
 use Rattle.std.specs.Prelude.{sum, vec_capacity, vec_len}
 use Rattle.m161_machine.specs.State.{counts}
-use Rattle.m161_threads.specs.Shares.{places_from}
+use Rattle.m161_threads.specs.Shares.{seats_from}
 use Rattle.m161_threads.proofs.locked.Locked.new.Given as goal
 
 abbrev pub invariant-loop-processor : goal.invariant-loop-processor
@@ -16,5 +16,5 @@ invariant-loop-processor g l = record {
   off_total : l.off_book.total ≡ 0;
   room : length l.machine.state.processors ≤ vec_capacity l.seats;
   len : vec_len l.seats ≡ l.processor;
-  seats : l.seats.items ≡ places_from 0 (take l.processor (counts l.machine.state));
+  seats : l.seats.items ≡ seats_from 0 (take l.processor (counts l.machine.state));
 }

@@ -1,0 +1,21 @@
+use Rattle.std.proofs.Common.{arith, ℕ, decimal}
+use Rattle.m161_steplog.specs.Parts.{Lacks, IsWord}
+use Rattle.m161_steplog.specs.Text.{outcome_text, IsStepOutcome}
+use Rattle.m161_steplog.proofs.Decimal.{decimal_lacks_space}
+use Rattle.m161_steplog.proofs.Parts.{no_cut, no_first, no_second, both}
+use Rattle.m161_steplog.proofs.line.parse_step.Goals as goal
+
+one_part : (n : ℕ) → IsWord n → Lacks 32 (decimal n)
+one_part n small = decimal_lacks_space n (omega arith)
+
+pub returns-in_err-p : goal.returns-in_err-p
+returns-in_err-p c = rw c.from_residual.ensures (no_cut IsWord IsStepOutcome decimal outcome_text c.args.text.now c.in_err-p.ensures)
+
+pub returns-in_err-p-2 : goal.returns-in_err-p-2
+returns-in_err-p-2 c = rw c.from_residual-in_err-p-2.ensures (no_first IsWord IsStepOutcome decimal outcome_text _ _ c.args.text.now one_part c.in_ok-p.ensures c.in_err-p-2.ensures)
+
+pub returns-in_err-outcome : goal.returns-in_err-outcome
+returns-in_err-outcome c = rw c.from_residual-in_err-outcome.ensures (no_second IsWord IsStepOutcome decimal outcome_text _ _ c.args.text.now one_part c.in_ok-p.ensures c.in_err-outcome.ensures)
+
+pub returns : goal.returns
+returns c = both IsWord IsStepOutcome decimal outcome_text _ _ c.args.text.now _ _ one_part c.in_ok-p.ensures c.in_ok-p-2.ensures c.in_ok-outcome.ensures

@@ -1,0 +1,24 @@
+use Rattle.std.proofs.Common.{◌≡◌, eqb, get_or, arith}
+use Rattle.std.proofs.lemmas.Bool.Decides.{nat_tests}
+use Rattle.m161_steplog.proofs.ScheduleLines.{comment, once, steps, no_item}
+use Rattle.m161_steplog.proofs.schedule.parse_item.Goals as goal
+
+pub returns-then-starts_with : goal.returns-then-starts_with
+returns-then-starts_with c =
+    let e : c.starts_with.result ≡ eqb (get_or c.args.line.now 0 0) 35 = c.starts_with.ensures.byte (omega arith) (omega arith) (λ _ _ h. h) in
+    comment c.args.line.now (grind (arith, nat_tests)) (grind (arith, nat_tests))
+
+pub returns-in-Some : goal.returns-in-Some
+returns-in-Some c =
+    let e : c.starts_with.result ≡ eqb (get_or c.args.line.now 0 0) 35 = c.starts_with.ensures.byte (omega arith) (omega arith) (λ _ _ h. h) in
+    once c.args.line.now _ (grind (arith, nat_tests)) (grind (arith, nat_tests)) c.in-Some.ensures
+
+pub returns-in-Some-parse_steps : goal.returns-in-Some-parse_steps
+returns-in-Some-parse_steps c =
+    let e : c.starts_with.result ≡ eqb (get_or c.args.line.now 0 0) 35 = c.starts_with.ensures.byte (omega arith) (omega arith) (λ _ _ h. h) in
+    steps c.args.line.now _ _ (grind (arith, nat_tests)) (grind (arith, nat_tests)) c.in-None.ensures c.in-Some-parse_steps.ensures
+
+pub returns-in-None-parse_steps : goal.returns-in-None-parse_steps
+returns-in-None-parse_steps c =
+    let e : c.starts_with.result ≡ eqb (get_or c.args.line.now 0 0) 35 = c.starts_with.ensures.byte (omega arith) (omega arith) (λ _ _ h. h) in
+    no_item c.args.line.now (grind (arith, nat_tests)) (grind (arith, nat_tests)) c.in-None.ensures c.in-None-parse_steps.ensures

@@ -1,5 +1,0 @@
-use Rattle.m161_steplog.proofs.ScheduleLines.{no_steps}
-use Rattle.m161_steplog.proofs.schedule.steps_of.Goals as goal
-
-pub returns-in_default : goal.returns-in_default
-returns-in_default c = no_steps _ _ c.args.text.now c.in_ok-kind.ensures c.in_default.not-s
