@@ -11,8 +11,7 @@
 //!
 //! The words of `programs` are those of GNU as 2.40 for mips-linux-gnu, the others were assembled
 //! from their texts without it. A text is for the reader: no test compares it with its word. What
-//! they leave is worked out by hand from Kane's descriptions and
-//! this project's own rules.
+//! they leave is worked out by hand from Kane's descriptions and this project's own rules.
 
 use super::elf::{file_at, file_from};
 use super::same;
