@@ -1,7 +1,7 @@
 //! The program that both processors run.
 
 use m161_asm::assemble;
-use m161_elf::write;
+use m161_elf_writer::write;
 use std::alloc::Global;
 
 /// Processor 0 starts processor 1; then both are at `both`. The loop is that of `m161_bench`.

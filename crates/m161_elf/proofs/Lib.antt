@@ -1,8 +1,3 @@
 pub mod Copied
-pub mod ReadBack
 pub mod OneMore
-mod Rows
 pub mod Sound
-pub mod Views
-mod WrittenFaults
-pub mod WrittenLaw

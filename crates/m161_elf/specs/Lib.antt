@@ -4,5 +4,3 @@ pub mod Image
 pub mod LoadError
 pub mod Sound
 pub mod Span
-pub mod Written
-pub mod WrittenLaw

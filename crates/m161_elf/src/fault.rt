@@ -12,13 +12,13 @@ use crate::image::LoadError;
 use crate::segments::segment_faults;
 
 /// How a big-endian ELF32 file of version 1 begins.
-pub(crate) const IDENTIFICATION: [u8; 7] = [0x7f, b'E', b'L', b'F', 1, 2, 1];
+pub const IDENTIFICATION: [u8; 7] = [0x7f, b'E', b'L', b'F', 1, 2, 1];
 
 /// e_type of an executable.
-pub(crate) const EXECUTABLE: u16 = 2;
+pub const EXECUTABLE: u16 = 2;
 
 /// e_machine of MIPS.
-pub(crate) const MIPS: u16 = 8;
+pub const MIPS: u16 = 8;
 
 /// The first fault that holds.
 #[tactic(auto, unfolding(crate::specs::Image::first_fault))]

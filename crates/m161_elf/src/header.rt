@@ -6,7 +6,7 @@ ghost use Rattle.m161_elf.specs.Header.{e_phnum, e_phoff, header_at, segment_at}
 ghost use Rattle.m161_elf.specs.Image.{has_bad_header_table};
 
 /// The size of the ELF header.
-pub(crate) const HEADER_SIZE: usize = 52;
+pub const HEADER_SIZE: usize = 52;
 
 /// The offset of e_type.
 pub(crate) const E_TYPE: usize = 16;
@@ -27,10 +27,10 @@ pub(crate) const E_PHENTSIZE: usize = 42;
 pub(crate) const E_PHNUM: usize = 44;
 
 /// The size of a program header.
-pub(crate) const PROGRAM_HEADER_SIZE: u16 = 32;
+pub const PROGRAM_HEADER_SIZE: u16 = 32;
 
 /// p_type of a segment to load.
-pub(crate) const PT_LOAD: u32 = 1;
+pub const PT_LOAD: u32 = 1;
 
 /// The fields of a program header that are used.
 #[derive(Clone, Copy)]

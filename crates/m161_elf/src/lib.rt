@@ -25,16 +25,13 @@ mod address;
 mod fault;
 mod header;
 mod image;
-mod laws;
 mod loader;
 mod segments;
 mod span;
-mod writer;
 
 pub use address::is_in_ram;
-pub use header::ProgramHeader;
+pub use fault::{EXECUTABLE, IDENTIFICATION, MIPS};
+pub use header::{HEADER_SIZE, PROGRAM_HEADER_SIZE, PT_LOAD, ProgramHeader};
 pub use image::{Image, LoadError};
-pub use laws::{written_has_few_faults, written_is_loaded};
 pub use loader::{load, loads};
 pub use span::Span;
-pub use writer::write;

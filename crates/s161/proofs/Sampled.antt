@@ -4,7 +4,7 @@ use Rattle.m161_asm.specs.declared.program.Program.{Program as CodeProgram}
 use Rattle.m161_asm.specs.Answer.{Tells, program_seen}
 use Rattle.m161_asm.specs.Lines.{Fault}
 use Rattle.m161_asm.specs.Text.{Program, Segment}
-use Rattle.m161_elf.specs.Written.{elf_bytes}
+use Rattle.m161_elf_writer.specs.Written.{elf_bytes}
 use Rattle.s161.specs.Samples.{IsSample, sample_entry, sample_file, sample_segments}
 
 -- The sample, assembled.

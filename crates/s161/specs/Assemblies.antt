@@ -3,7 +3,7 @@ use Rattle.m161_asm.specs.declared.error.AsmError.{AsmError}
 use Rattle.m161_asm.specs.declared.error.ErrorKind.{ErrorKind}
 use Rattle.m161_asm.specs.declared.error.ErrorKind.TheVariants.{NoMemory}
 use Rattle.m161_asm.specs.Text.{Program, text}
-use Rattle.m161_elf.specs.Written.{elf_bytes}
+use Rattle.m161_elf_writer.specs.Written.{elf_bytes}
 use Rattle.s161.specs.declared.fault.Fault.{Fault}
 use Rattle.s161.specs.declared.fault.Fault.TheVariants.{Input, Memory, Source}
 use Rattle.s161.specs.Known.{IsText, OfText}

@@ -1,5 +1,5 @@
 use Rattle.std.specs.Prelude.{◌≡◌, ℕ, List, [], ◌∷◌, Option, replicate}
-use Rattle.m161_elf.specs.Written.{elf_bytes}
+use Rattle.m161_elf_writer.specs.Written.{elf_bytes}
 use Rattle.m161_machine.specs.declared.conf.Conf.{Conf}
 use Rattle.m161_machine.specs.declared.event.Event.TheVariants.{Step}
 use Rattle.m161_machine.specs.declared.event.Refusal.{Refusal}

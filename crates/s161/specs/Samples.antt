@@ -4,7 +4,7 @@ use Rattle.m161_asm.specs.declared.error.ErrorKind.TheVariants.{NoMemory}
 use Rattle.m161_asm.specs.declared.program.Program.{Program}
 use Rattle.m161_asm.specs.Segments.{segments_seen}
 use Rattle.m161_asm.specs.Text.{Segment}
-use Rattle.m161_elf.specs.Written.{elf_bytes}
+use Rattle.m161_elf_writer.specs.Written.{elf_bytes}
 
 -- The image whose name is `@sample`: a kernel of two processors.
 

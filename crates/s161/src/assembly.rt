@@ -5,7 +5,7 @@ ghost use Rattle.s161.specs.Assemblies.{IsAssembly, IsUnassembled};
 
 use crate::fault::Fault;
 use m161_asm::assemble;
-use m161_elf::write;
+use m161_elf_writer::write;
 use std::alloc::Global;
 
 /// The ELF file of an assembly text's program.

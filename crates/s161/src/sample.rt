@@ -7,7 +7,7 @@ use crate::fault::Fault;
 use crate::files::FileSource;
 use crate::input::read_file;
 use m161_asm::{AsmError, Program, assemble};
-use m161_elf::write;
+use m161_elf_writer::write;
 use std::alloc::Global;
 
 /// The name of the sample's image.

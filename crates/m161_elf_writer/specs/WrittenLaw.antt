@@ -6,7 +6,7 @@ use Rattle.m161_asm.specs.Segments.{segments_seen}
 use Rattle.m161_asm.specs.Text.{Segment}
 use Rattle.m161_elf.specs.Image.{first_fault, first_answer, is_in_ram, place_in_ram, IsImage}
 use Rattle.m161_elf.specs.declared.image.LoadError.TheVariants as fault
-use Rattle.m161_elf.specs.Written.{elf_bytes, size, words_bytes}
+use Rattle.m161_elf_writer.specs.Written.{elf_bytes, size, words_bytes}
 
 -- A program's file, loaded.
 

@@ -11,8 +11,8 @@ use Rattle.m161_elf.specs.declared.header.ProgramHeader.{ProgramHeader}
 use Rattle.m161_ram.specs.Word.{half_at, word_at}
 use Rattle.m161_elf.specs.Header.{e_entry, e_phnum, header_at, is_load, segments}
 use Rattle.m161_elf.specs.Image.{byte_left, covers, place_in_ram, segment_byte}
-use Rattle.m161_elf.specs.Written.{elf_bytes, file_header, segment_bytes, segment_header, segment_headers, size, words_bytes}
-use Rattle.m161_elf.specs.WrittenLaw.{byte_left_by, byte_of, has_byte}
+use Rattle.m161_elf_writer.specs.Written.{elf_bytes, file_header, segment_bytes, segment_header, segment_headers, size, words_bytes}
+use Rattle.m161_elf_writer.specs.WrittenLaw.{byte_left_by, byte_of, has_byte}
 
 -- What the loader reads of a file that was written.
 

@@ -1,6 +1,6 @@
 //! The laws of written files.
 
-ghost use Rattle.m161_elf.specs.WrittenLaw.{WrittenHasFewFaults, WrittenIsLoaded};
+ghost use Rattle.m161_elf_writer.specs.WrittenLaw.{WrittenHasFewFaults, WrittenIsLoaded};
 
 /// If a program's file loads, its image has the program's entry and words.
 pub fn written_is_loaded()

@@ -1,6 +1,6 @@
 use Rattle.std.specs.Prelude.{◌≡◌, ℕ, List, [], ◌∷◌}
 use Rattle.std.proofs.Common.{refl}
-use Rattle.m161_elf.specs.Written.{elf_bytes}
+use Rattle.m161_elf_writer.specs.Written.{elf_bytes}
 
 -- Worked rows of a program's file.
 

@@ -7,11 +7,11 @@ use Rattle.std.proofs.lemmas.List.{length-map}
 use Rattle.m161_asm.specs.Segments.{segment_seen, segments_seen, ArePlaced, AreApart}
 use Rattle.m161_asm.specs.Text.{Segment}
 use Rattle.m161_elf.specs.Image.{is_outside_ram}
-use Rattle.m161_elf.specs.Written.{elf_bytes, segment_bytes, segment_headers}
-use Rattle.m161_elf.specs.WrittenLaw.{byte_left_by, AreLoaded, WrittenIsLoaded}
-use Rattle.m161_elf.proofs.ReadBack.{entry_read, load_headers, memory_read, segments_read}
+use Rattle.m161_elf_writer.specs.Written.{elf_bytes, segment_bytes, segment_headers}
+use Rattle.m161_elf_writer.specs.WrittenLaw.{byte_left_by, AreLoaded, WrittenIsLoaded}
+use Rattle.m161_elf_writer.proofs.ReadBack.{entry_read, load_headers, memory_read, segments_read}
 use Rattle.m161_elf.proofs.Sound.{in_ram}
-use Rattle.m161_elf.proofs.Views.{in_ram_from, loaded_from, low_from, IsInRam}
+use Rattle.m161_elf_writer.proofs.Views.{in_ram_from, loaded_from, low_from, IsInRam}
 
 -- A program's file, loaded.
 

@@ -2,8 +2,8 @@ use Rattle.std.proofs.Common.{◌≡◌, ℕ, ◌+◌, List, ◌∷◌, ◌++◌
 use Rattle.std.proofs.lemmas.List.{at_drop_more}
 use Rattle.m161_asm.specs.Segments.{segment_seen, segments_seen}
 use Rattle.m161_asm.specs.Text.{Segment}
-use Rattle.m161_elf.specs.Written.{segment_header, segment_headers, size}
-use Rattle.m161_elf.proofs.writer.push_segment_headers.Goals as goal
+use Rattle.m161_elf_writer.specs.Written.{segment_header, segment_headers, size}
+use Rattle.m161_elf_writer.proofs.writer.push_segment_headers.Goals as goal
 
 -- One header more before the headers that are left.
 header_more : (before after : List ℕ) (offset next : ℕ) (s : Segment) (left : List Segment)

@@ -5,10 +5,10 @@ use Rattle.std.proofs.lemmas.Bool.Decides.{nat_tests}
 use Rattle.m161_asm.specs.Segments.{ArePlaced, AreApart, IsApart}
 use Rattle.m161_asm.specs.Text.{Segment, overlap}
 use Rattle.m161_elf.specs.Image.{is_in_ram, is_outside_ram, place_in_ram}
-use Rattle.m161_elf.specs.Written.{size}
-use Rattle.m161_elf.specs.WrittenLaw.{are_in_both, byte_of, has_byte, hides, AreLoaded}
+use Rattle.m161_elf_writer.specs.Written.{size}
+use Rattle.m161_elf_writer.specs.WrittenLaw.{are_in_both, byte_of, has_byte, hides, AreLoaded}
 use Rattle.m161_elf.proofs.Sound.{neither}
-use Rattle.m161_elf.proofs.ReadBack.{last_value, last_value-cons, load_header, load_headers}
+use Rattle.m161_elf_writer.proofs.ReadBack.{last_value, last_value-cons, load_header, load_headers}
 
 -- The two views of RAM, and the segments that share no address.
 

@@ -2,11 +2,10 @@
 
 ghost use Rattle.std.specs.Prelude.{◌≡◌, ◌+◌, ◌*◌, ◌<◌, ◌≤◌, ◌^◌, ◌++◌, length, IfOk, OnOk};
 ghost use Rattle.m161_asm.specs.Segments.{segment_seen, segments_seen, word_count};
-ghost use Rattle.m161_elf.specs.Written.{elf_bytes, file_header, halves_bytes, segment_bytes, segment_header, segment_headers, size, words_bytes};
+ghost use Rattle.m161_elf_writer.specs.Written.{elf_bytes, file_header, halves_bytes, segment_bytes, segment_header, segment_headers, size, words_bytes};
 
-use crate::fault::{EXECUTABLE, IDENTIFICATION, MIPS};
-use crate::header::{HEADER_SIZE, PROGRAM_HEADER_SIZE, PT_LOAD};
 use m161_asm::{Program, Segment};
+use m161_elf::{EXECUTABLE, HEADER_SIZE, IDENTIFICATION, MIPS, PROGRAM_HEADER_SIZE, PT_LOAD};
 use std::alloc::{AllocError, Global};
 
 /// e_version.

@@ -1,7 +1,7 @@
 use Rattle.std.proofs.Common.{◌≡◌, ◌+◌, ◌*◌, ◌++◌, length, drop}
 use Rattle.m161_asm.specs.Segments.{segments_seen, word_count}
-use Rattle.m161_elf.specs.Written.{segment_headers}
-use Rattle.m161_elf.proofs.writer.push_segment_headers.Given as goal
+use Rattle.m161_elf_writer.specs.Written.{segment_headers}
+use Rattle.m161_elf_writer.proofs.writer.push_segment_headers.Given as goal
 
 -- the headers that are left, and the words that are left
 abbrev pub invariant-loop-segment : goal.invariant-loop-segment

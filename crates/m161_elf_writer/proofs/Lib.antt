@@ -1,0 +1,5 @@
+pub mod ReadBack
+mod Rows
+pub mod Views
+mod WrittenFaults
+pub mod WrittenLaw
