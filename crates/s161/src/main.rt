@@ -30,39 +30,12 @@
 ghost use Rattle.std.specs.Prelude.{◌≡◌, ◌≢◌, ◌⊎◌, IfErr};
 ghost use Rattle.std.specs.IoError.{error_kind};
 
-mod assembly;
-mod command;
-mod debug;
-mod demo;
-mod disassembly;
-mod events;
-mod fault;
-mod files;
-mod input;
-mod replay;
-mod run;
-mod sample;
-mod summary;
-#[cfg(test)]
-mod tests;
-mod texts;
-mod threaded;
-mod work;
-
-use crate::fault::Fault;
-use crate::files::HostFiles;
-use crate::work::start;
-use m161_console::PlainConsole;
-use m161_tlb_scan::Scan;
+use s161_work::fault::Fault;
+use s161_work::files::HostFiles;
+use s161_work::work::start;
 use std::io::ErrorKind;
 use std::process::ExitCode;
 use std::{env, io};
-
-/// The machine that the program runs.
-pub(crate) type Machine = m161_machine::Machine<Scan, PlainConsole>;
-
-/// The session that shows it.
-pub(crate) type Session = m161_debug::Session<Scan, PlainConsole>;
 
 fn main(rt: HostRuntime) -> ExitCode {
     ExitCode::from(start(

@@ -1,9 +1,0 @@
-pub mod Accepting
-pub mod Asked
-pub mod Defining
-pub mod Failing
-pub mod Listed
-pub mod Making
-pub mod Sampled
-pub mod Shown
-mod Threading

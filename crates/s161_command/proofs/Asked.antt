@@ -1,0 +1,24 @@
+use Rattle.std.proofs.Common.{◌≡◌, ◌∙◌, ℕ, List, Bool, true, false, Option, None, Some, Result, Ok, Err, ap, codes, refl}
+use Rattle.std.specs.Prelude.{unwrap_or}
+use Rattle.std.specs.Str.Parse.{ParsesUnsigned}
+use Rattle.clap.specs.Words.{ReadsOne}
+use Rattle.s161_command.specs.Commands.{IsFlag, IsNumberOf}
+
+-- What clap's getters answer, said of what is asked for.
+
+-- a number that is read as an unsigned one of 32 bits, and else the default
+pub number_of : (E : Type 0) (G : List ℕ → Result ℕ E → Type 0) (text : Option (List ℕ)) (read : Option ℕ) (default n : ℕ) →
+    (text ≡ None → read ≡ None) → ((t : List ℕ) → text ≡ Some t → ReadsOne G t read) →
+    ((t : List ℕ) (x : Result ℕ E) → G t x → ParsesUnsigned 32 10 t x) → n ≡ unwrap_or read default → IsNumberOf default text n
+number_of E G None read default n none value parses is = is ∙ ap (λ r. unwrap_or r default) (none refl)
+number_of E G (Some t) (Some v) default n none value parses is =
+    let parsed = parses t (Ok v) (value t refl) in
+    record { number = λ fits. is ∙ parsed.1; other = λ not. absurd (not parsed.0) }
+number_of E G (Some t) None default n none value parses is =
+    let error = value t refl in
+    record { number = λ fits. absurd (parses t (Err error.0) error.1 fits); other = λ not. is }
+
+pub flag_of : (text : Option (List ℕ)) (flag : Bool) → (text ≡ None → flag ≡ false) → (text ≡ Some (codes "true") → flag ≡ true) →
+    (text ≡ Some (codes "false") → flag ≡ false) → IsFlag text flag
+flag_of None flag none on off = none refl
+flag_of (Some t) flag none on off = (λ is. on (ap (λ x. Some x) is), λ is. off (ap (λ x. Some x) is))

@@ -1,0 +1,3 @@
+mod Accepting
+mod Asked
+mod Defining

@@ -1,0 +1,437 @@
+//! Files, and what they load as in 4,096 bytes of RAM.
+
+use super::listing::Left::{Count, Entries, Memory, Pc, Register};
+use super::listing::{ENTRY as START, Left, OFF, RAN, SMALLEST, Times, compare, make};
+use super::same;
+use m161_asm::assemble;
+use m161_elf::{LoadError, load};
+use m161_elf_writer::write;
+use m161_machine::Event::Step;
+use m161_machine::Refusal;
+use m161_ram::Ram;
+use s161_work::Machine;
+use s161_work::demo::IMAGE;
+use std::alloc::{AllocError, Global};
+use std::test::Fail;
+
+/// The header of a file with one segment, and that segment's program header, as words.
+const HEADERS: [u32; 21] = [
+    0x7f45_4c46,
+    0x0102_0100,
+    0,
+    0,
+    0x0002_0008,
+    1,
+    0x8000_0200,
+    0x34,
+    0,
+    0,
+    0x0034_0020,
+    0x0001_0000,
+    0,
+    1,
+    0x54,
+    0x8000_0200,
+    0x8000_0200,
+    0x1c,
+    0x1c,
+    7,
+    4,
+];
+
+/// The segment's words.
+const PROGRAM: [u32; 7] = [
+    0x3c08_1234,
+    0x3508_5678,
+    0x2409_ffff,
+    0x0109_5021,
+    0x3c0b_8000,
+    0xad6a_0400,
+    0x8d6c_0400,
+];
+
+/// The places of some words of the headers.
+const CLASS: usize = 1;
+
+const TYPE: usize = 4;
+
+const ENTRY: usize = 6;
+
+const HEADER_COUNT: usize = 11;
+
+const OFFSET: usize = 14;
+
+const ADDRESS: usize = 15;
+
+const FILE_SIZE: usize = 17;
+
+const MEMORY_SIZE: usize = 18;
+
+/// A file of these headers, with some of their words changed, and of these words.
+fn file_of(alloc: Global, edits: &[(usize, u32)], words: &[u32]) -> Result<Vec<u8>, AllocError> {
+    let mut headers = HEADERS;
+    for (place, word) in edits {
+        if let Some(place) = headers.get_mut(*place) {
+            *place = *word;
+        }
+    }
+    let mut file = Vec::new(alloc);
+    for word in headers.iter().chain(words) {
+        file.extend_from_slice(&word.to_be_bytes())?;
+    }
+    Ok(file)
+}
+
+/// A file with these words at an address, where it begins.
+pub(crate) fn file_at(alloc: Global, entry: u32, words: &[u32]) -> Result<Vec<u8>, Fail> {
+    file_from(alloc, entry, entry, words)
+}
+
+/// A file with these words at an address, which begins at another.
+pub(crate) fn file_from(
+    alloc: Global,
+    entry: u32,
+    address: u32,
+    words: &[u32],
+) -> Result<Vec<u8>, Fail> {
+    let size = u32::try_from(words.len())?.wrapping_mul(4);
+    let edits = [
+        (ENTRY, entry),
+        (ADDRESS, address),
+        (FILE_SIZE, size),
+        (MEMORY_SIZE, size),
+    ];
+    Ok(file_of(alloc, &edits, words)?)
+}
+
+/// A program header, and the bytes that it has in the file.
+struct Part {
+    kind: u32,
+    address: u32,
+    memory_size: u32,
+    bytes: &'static [u8],
+}
+
+/// The types of program headers: a segment, and a note.
+const SEGMENT: u32 = 1;
+
+const NOTE: u32 = 4;
+
+/// A file that begins at `START`, with these program headers, and after them their bytes.
+fn file_of_parts(alloc: Global, parts: &[Part]) -> Result<Vec<u8>, Fail> {
+    let count = u32::try_from(parts.len())?;
+    let mut file = Vec::new(alloc);
+    for (place, word) in HEADERS.iter().take(13).enumerate() {
+        let word = match place {
+            ENTRY => START,
+            HEADER_COUNT => count << 16,
+            _ => *word,
+        };
+        file.extend_from_slice(&word.to_be_bytes())?;
+    }
+    let mut offset = count.wrapping_mul(32).wrapping_add(52);
+    for part in parts {
+        let size = u32::try_from(part.bytes.len())?;
+        for word in [
+            part.kind,
+            offset,
+            part.address,
+            part.address,
+            size,
+            part.memory_size,
+            7,
+            4,
+        ] {
+            file.extend_from_slice(&word.to_be_bytes())?;
+        }
+        offset = offset.wrapping_add(size);
+    }
+    for part in parts {
+        file.extend_from_slice(part.bytes)?;
+    }
+    Ok(file)
+}
+
+/// Where the first bytes of the demo's file begin, with some words of its headers changed.
+fn entry_of(
+    alloc: Global,
+    edits: &[(usize, u32)],
+    length: usize,
+) -> Result<Result<u32, LoadError>, AllocError> {
+    let mut file = file_of(alloc, edits, &PROGRAM)?;
+    file.truncate(length);
+    Ok(load(alloc, &file, 4096).map(|image| image.entry))
+}
+
+/// Whether the first `length` bytes of the demo's segment are at 0x200 when its file is loaded with
+/// some words of its headers changed, and how many bytes of memory aren't zero.
+fn load_edited(
+    alloc: Global,
+    edits: &[(usize, u32)],
+    length: usize,
+) -> Result<(bool, usize), Fail> {
+    let file = file_of(alloc, edits, &PROGRAM)?;
+    let memory = load(alloc, &file, 4096)?.bytes;
+    let stands = memory
+        .iter()
+        .skip(0x200)
+        .zip(file.iter().skip(84).take(length))
+        .all(|(a, b)| a == b);
+    Ok((stands, memory.iter().filter(|byte| **byte != 0).count()))
+}
+
+#[test]
+fn image_refusals(rt: HostRuntime) -> Result<(), Fail> {
+    type Loaded = Result<u32, (u8, &'static str)>;
+    let loaded: Loaded = Ok(0x8000_0200);
+    let cases: [(&[(usize, u32)], usize, Loaded); 14] = [
+        (&[], 112, loaded),
+        (&[(FILE_SIZE, 8), (MEMORY_SIZE, 8)], 92, loaded),
+        (
+            &[(FILE_SIZE, 8), (MEMORY_SIZE, 8)],
+            51,
+            Err((1, "Truncated")),
+        ),
+        (&[(CLASS, 0x0202_0100)], 112, Err((2, "NotElf32Big"))),
+        (&[(TYPE, 0x0001_0008)], 112, Err((3, "NotExecutable"))),
+        (&[(TYPE, 0x0002_0003)], 112, Err((4, "NotMips"))),
+        (
+            &[(HEADER_COUNT, 0xffff_0000)],
+            112,
+            Err((5, "BadHeaderTable")),
+        ),
+        (
+            &[(OFFSET, 0xffff_fff0), (FILE_SIZE, 0x20)],
+            112,
+            Err((6, "SegmentOutsideFile")),
+        ),
+        (
+            &[(ADDRESS, 0x8000_0ffd), (FILE_SIZE, 0), (MEMORY_SIZE, 4)],
+            112,
+            Err((7, "SegmentOutsideRam")),
+        ),
+        (
+            &[(ADDRESS, 0x9fff_fffc), (FILE_SIZE, 0), (MEMORY_SIZE, 8)],
+            112,
+            Err((7, "SegmentOutsideRam")),
+        ),
+        (
+            &[(FILE_SIZE, 8), (MEMORY_SIZE, 4)],
+            112,
+            Err((8, "FileLargerThanMemory")),
+        ),
+        (&[(ENTRY, 0x8000_0202)], 112, Err((9, "BadEntry"))),
+        (
+            &[(ADDRESS, 0xffff_ffff), (FILE_SIZE, 0), (MEMORY_SIZE, 0)],
+            112,
+            loaded,
+        ),
+        (&[(ADDRESS, 0xa000_0200)], 112, loaded),
+    ];
+    for &(edits, length, expected) in &cases {
+        let found = entry_of(rt.alloc(), edits, length)?;
+        let found = found.map_err(|error| (error.number(), error.name()));
+        same(&rt, (edits, length, found), (edits, length, expected));
+    }
+    Ok(())
+}
+
+/// A file with several program headers that is accepted, what is done then, and what is left.
+struct Accepted {
+    name: &'static str,
+    parts: &'static [Part],
+    /// The word at 0x200 after boot.
+    word: u32,
+    events: &'static [Times],
+    left: &'static [(u32, Left)],
+}
+
+/// `lui $8, 0xbfff`; `sw $0, 32264($8)`.
+const POWER_OFF: Part = Part {
+    kind: SEGMENT,
+    address: START,
+    memory_size: 8,
+    bytes: &[0x3c, 0x08, 0xbf, 0xff, 0xad, 0x00, 0x7e, 0x08],
+};
+
+/// The events of `power-off`.
+const TWO_STEPS: &[Times] = &[
+    (Step(0), 1, RAN),
+    (Step(0), 1, OFF),
+    (Step(0), 1, Err(Refusal::Off)),
+];
+
+const SWITCHED_OFF: &[(u32, Left)] = &[
+    (0, Count(2)),
+    (0, Entries(2)),
+    (0, Pc(0x8000_0208)),
+    (0, Register(8, 0xbfff_0000)),
+];
+
+static ACCEPTED: [Accepted; 4] = [
+    Accepted {
+        name: "image-refusals: the later of two segments",
+        parts: &[
+            Part {
+                kind: SEGMENT,
+                address: START,
+                memory_size: 4,
+                bytes: &[0x11, 0x22, 0x33, 0x44],
+            },
+            Part {
+                kind: SEGMENT,
+                address: 0xa000_0202,
+                memory_size: 2,
+                bytes: &[0x55],
+            },
+        ],
+        word: 0x1122_5500,
+        events: &[],
+        left: &[(0, Memory(0x204, 0)), (0, Pc(START)), (0, Entries(0))],
+    },
+    Accepted {
+        name: "image-refusals: a note before a segment",
+        parts: &[
+            Part {
+                kind: NOTE,
+                address: 0,
+                memory_size: 4,
+                bytes: &[0x6e, 0x6f, 0x74, 0x65],
+            },
+            POWER_OFF,
+        ],
+        word: 0x3c08_bfff,
+        events: TWO_STEPS,
+        left: SWITCHED_OFF,
+    },
+    Accepted {
+        name: "image-refusals: a note after a segment, at its address",
+        parts: &[
+            POWER_OFF,
+            Part {
+                kind: NOTE,
+                address: START,
+                memory_size: 0,
+                bytes: &[0x6e, 0x6f, 0x74, 0x65],
+            },
+        ],
+        word: 0x3c08_bfff,
+        events: TWO_STEPS,
+        left: SWITCHED_OFF,
+    },
+    Accepted {
+        name: "no program header",
+        parts: &[],
+        word: 0,
+        events: &[(Step(0), 1, RAN)],
+        left: &[(0, Memory(0, 0)), (0, Pc(0x8000_0204))],
+    },
+];
+
+#[test]
+fn image_refusals_accepted(rt: HostRuntime) -> Result<(), Fail> {
+    for row in &ACCEPTED {
+        let file = file_of_parts(rt.alloc(), row.parts)?;
+        let mut machine = Machine::boot(rt.alloc(), &file, SMALLEST)?;
+        let word = machine.word(0x200);
+        same(&rt, (row.name, word), (row.name, Some(row.word)));
+        make(&rt, row.name, &mut machine, row.events)?;
+        compare(&rt, row.name, &machine, row.left);
+    }
+    Ok(())
+}
+
+#[test]
+fn load_errors(rt: HostRuntime) {
+    for &(error, number, name) in &[
+        (LoadError::Truncated, 1, "Truncated"),
+        (LoadError::NotElf32Big, 2, "NotElf32Big"),
+        (LoadError::NotExecutable, 3, "NotExecutable"),
+        (LoadError::NotMips, 4, "NotMips"),
+        (LoadError::BadHeaderTable, 5, "BadHeaderTable"),
+        (LoadError::SegmentOutsideFile, 6, "SegmentOutsideFile"),
+        (LoadError::SegmentOutsideRam, 7, "SegmentOutsideRam"),
+        (LoadError::FileLargerThanMemory, 8, "FileLargerThanMemory"),
+        (LoadError::BadEntry, 9, "BadEntry"),
+        (LoadError::NoMemory, 10, "NoMemory"),
+    ] {
+        same(&rt, (error.number(), error.name()), (number, name));
+    }
+}
+
+#[test]
+fn truncated_image(rt: HostRuntime) -> Result<(), Fail> {
+    for length in 0..112 {
+        let fault = if length < 52 {
+            LoadError::Truncated
+        } else if length < 84 {
+            LoadError::BadHeaderTable
+        } else {
+            LoadError::SegmentOutsideFile
+        };
+        let found = entry_of(rt.alloc(), &[], length)?;
+        same(&rt, (length, found), (length, Err(fault)));
+    }
+    Ok(())
+}
+
+#[test]
+fn segment_in_memory(rt: HostRuntime) -> Result<(), Fail> {
+    let cases: [(&[(usize, u32)], usize, usize); 3] = [
+        (&[], 28, 25),
+        (&[(ADDRESS, 0xa000_0200)], 28, 25),
+        (&[(FILE_SIZE, 4)], 4, 4),
+    ];
+    for (edits, length, written) in cases {
+        let found = load_edited(rt.alloc(), edits, length)?;
+        same(&rt, (edits, found), (edits, (true, written)));
+    }
+    Ok(())
+}
+
+#[test]
+fn largest_memory(rt: HostRuntime) -> Result<(), Fail> {
+    let file = file_of(rt.alloc(), &[], &PROGRAM)?;
+    let memory = load(rt.alloc(), &file, 16_777_216)?.bytes;
+    let ends = (memory.get(0x200).copied(), memory.get(0x00ff_ffff).copied());
+    same(
+        &rt,
+        (memory.len(), ends),
+        (16_777_216, (Some(0x3c), Some(0))),
+    );
+    Ok(())
+}
+
+/// The program of the built-in image.
+const DEMO: &str = "lui $8, 0x1234\nori $8, $8, 0x5678\naddiu $9, $0, -1\naddu $10, $8, $9\n\
+lui $11, 0x8000\nsw $10, 1024($11)\nlw $12, 1024($11)\n";
+
+/// One physical word by kseg0 and by kseg1.
+const TWO_VIEWS: &str = ".org 0x80000200\n.word 0x11111111\n.org 0xa0000200\n.word 0x22222222\n";
+
+#[test]
+fn written_image(rt: HostRuntime) -> Result<(), Fail> {
+    let file = write(rt.alloc(), &assemble(rt.alloc(), DEMO)?)?;
+    let expected = file_of(rt.alloc(), &[], &PROGRAM)?;
+    same(&rt, file.as_slice(), expected.as_slice());
+    same(&rt, file.as_slice(), &IMAGE[..]);
+    same(&rt, load(rt.alloc(), &file, 4096)?.entry, 0x8000_0200);
+    Ok(())
+}
+
+#[test]
+fn two_views(rt: HostRuntime) -> Result<(), Fail> {
+    let file = write(rt.alloc(), &assemble(rt.alloc(), TWO_VIEWS)?)?;
+    let image = load(rt.alloc(), &file, 4096)?;
+    same(&rt, image.entry, 0x8000_0200);
+    same(&rt, Ram::from_bytes(image.bytes).word(0x200), 0x2222_2222);
+    Ok(())
+}
+
+#[test]
+fn empty_program(rt: HostRuntime) -> Result<(), Fail> {
+    let file = write(rt.alloc(), &assemble(rt.alloc(), "# nothing\n")?)?;
+    same(&rt, file.len(), 52);
+    same(&rt, load(rt.alloc(), &file, 4096)?.entry, 0x8000_0200);
+    Ok(())
+}

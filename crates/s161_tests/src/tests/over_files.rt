@@ -1,0 +1,420 @@
+//! `replay` and `debug`: an image with a log or a schedule, and what is printed.
+
+use super::elf::file_at;
+use super::listing::ENTRY;
+use super::run::{POWER_OFF, REST, START_OTHER, ZEROS, join, work_over};
+use super::same;
+use super::streams::{Failing, Memory, TwoFiles, all};
+use s161_work::work::work;
+use std::io::ErrorKind;
+use std::process::Abort;
+use std::sync::Wait;
+use std::test::Fail;
+use std::thread::Threads;
+
+/// A loop: `addiu $8, $8, 1`, `beq $0, $0, 0x80000200`, `nop`.
+const LOOP: [u32; 3] = [0x2508_0001, 0x1000_fffe, 0x0000_0000];
+
+/// A log of `power-off`'s run.
+const LOG: &str = "m161 log 1\ns 0 ran\ns 0 off\n";
+
+/// A run of two processors.
+const TWO: &str = "m161 log 1
+s 0 ran
+s 0 ran
+s 0 ran
+s 0 ran
+s 0 ran
+s 1 idle
+s 0 ran
+";
+
+/// A command over the files `image` and `text`, and what it leaves.
+struct Case {
+    words: &'static [&'static str],
+    program: &'static [u32],
+    text: &'static str,
+    input: &'static str,
+    status: u8,
+    output: &'static [&'static str],
+    errors: &'static str,
+}
+
+/// Runs the cases, and fails the test at the first that leaves something else.
+fn check(
+    rt: &(impl Abort + AllocGlobal + Threads + Wait + Sync),
+    cases: &[Case],
+) -> Result<(), Fail> {
+    for case in cases {
+        let image = file_at(rt.alloc(), ENTRY, case.program)?;
+        let mut files = TwoFiles {
+            image: &image,
+            text: case.text.as_bytes(),
+        };
+        let output = join(rt, &[case.output])?;
+        let texts = [output.as_str(), case.errors];
+        let mut input = case.input.as_bytes();
+        let found = work_over(rt, case.words, &mut files, &mut input, texts);
+        let expected = (case.status, all(texts[0]), all(texts[1]));
+        same(rt, (case.text, found), (case.text, expected));
+    }
+    Ok(())
+}
+
+static VERDICTS: [Case; 8] = [
+    Case {
+        words: &["s161", "replay", "image", "text"],
+        program: &POWER_OFF,
+        text: LOG,
+        input: "",
+        status: 0,
+        output: &["agrees\n"],
+        errors: "",
+    },
+    Case {
+        words: &["s161", "replay", "image", "text"],
+        program: &POWER_OFF,
+        text: "m161 log 1\ns 0 ran\ns 0 ran\n",
+        input: "",
+        status: 4,
+        output: &["differs 1\n"],
+        errors: "",
+    },
+    Case {
+        words: &["s161", "replay", "image", "text"],
+        program: &POWER_OFF,
+        text: "m161 log 1\ns 0 ran\ns 0 off\ns 0 ran",
+        input: "",
+        status: 4,
+        output: &["differs 2\n"],
+        errors: "",
+    },
+    // the logs of runs
+    Case {
+        words: &["s161", "replay", "image", "text"],
+        program: &POWER_OFF,
+        text: "m161 log 1",
+        input: "not read",
+        status: 0,
+        output: &["agrees\n"],
+        errors: "",
+    },
+    Case {
+        words: &["s161", "replay", "image", "text"],
+        program: &POWER_OFF,
+        text: "m161 log 1\nk 41 taken\ns 0 ran\ns 0 off\n",
+        input: "",
+        status: 0,
+        output: &["agrees\n"],
+        errors: "",
+    },
+    Case {
+        words: &["s161", "replay", "image", "text", "--cpus=2"],
+        program: &START_OTHER,
+        text: TWO,
+        input: "",
+        status: 0,
+        output: &["agrees\n"],
+        errors: "",
+    },
+    // one processor, and no room for a second entry
+    Case {
+        words: &["s161", "replay", "image", "text"],
+        program: &START_OTHER,
+        text: TWO,
+        input: "",
+        status: 4,
+        output: &["differs 5\n"],
+        errors: "",
+    },
+    Case {
+        words: &["s161", "replay", "--log", "1", "image", "text"],
+        program: &POWER_OFF,
+        text: LOG,
+        input: "",
+        status: 4,
+        output: &["differs 1\n"],
+        errors: "",
+    },
+];
+
+static REPLAY_FAULTS: [Case; 7] = [
+    Case {
+        words: &["s161", "replay", "other", "none"],
+        program: &POWER_OFF,
+        text: "",
+        input: "",
+        status: 1,
+        output: &[],
+        errors: "s161: file other\n",
+    },
+    Case {
+        words: &["s161", "replay", "image", "none"],
+        program: &POWER_OFF,
+        text: "",
+        input: "",
+        status: 1,
+        output: &[],
+        errors: "s161: file none\n",
+    },
+    // no UTF-8
+    Case {
+        words: &["s161", "replay", "image", "image"],
+        program: &POWER_OFF,
+        text: "",
+        input: "",
+        status: 1,
+        output: &[],
+        errors: "s161: file image\n",
+    },
+    Case {
+        words: &["s161", "replay", "image", "text"],
+        program: &POWER_OFF,
+        text: "",
+        input: "",
+        status: 1,
+        output: &[],
+        errors: "s161: log line 1\n",
+    },
+    // a log's fault comes before the machine's
+    Case {
+        words: &["s161", "replay", "image", "text", "--ram", "4097"],
+        program: &POWER_OFF,
+        text: "m161 log 1\ns 0 ran\n\n",
+        input: "",
+        status: 1,
+        output: &[],
+        errors: "s161: log line 3\n",
+    },
+    Case {
+        words: &["s161", "replay", "image", "text", "--ram", "4097"],
+        program: &POWER_OFF,
+        text: LOG,
+        input: "",
+        status: 1,
+        output: &[],
+        errors: "s161: conf\n",
+    },
+    Case {
+        words: &["s161", "replay", "text", "text"],
+        program: &POWER_OFF,
+        text: LOG,
+        input: "",
+        status: 1,
+        output: &[],
+        errors: "s161: image 1 Truncated\n",
+    },
+];
+
+static COMMANDS: [Case; 6] = [
+    // breakpoints, debugger-commands
+    Case {
+        words: &["s161", "debug", "image", "text", "--cpus", "2"],
+        program: &LOOP,
+        text: "s 0 7\n",
+        input: "b 0 80000200\ng\ng 2\ng\ng\ng\nr 0\n",
+        status: 0,
+        output: &[
+            "break 0 80000200\nbreak 3\nend 2\nbreak 1\nend 1\nend 0\n",
+            "cpu 0 running pc 80000204\n",
+            ZEROS,
+            "r8 00000003 r9 00000000 r10 00000000 r11 00000000\n",
+            REST,
+        ],
+        errors: "",
+    },
+    Case {
+        words: &["s161", "debug", "image", "text", "--cpus", "2"],
+        program: &LOOP,
+        text: "s 0 7\n",
+        input: "b 1 80000200\ng\nd 1 80000200\nd 1 80000200",
+        status: 0,
+        output: &["break 1 80000200\nend 7\ndeleted\nnone\n"],
+        errors: "",
+    },
+    // events that aren't the schedule's leave it as it is
+    Case {
+        words: &["s161", "debug", "image", "text"],
+        program: &LOOP,
+        text: "s 0\nk 41\n",
+        input: "s 0\ng 1\nx 80000204 1\nm 00000200 1\ng\nk 42\no\n",
+        status: 0,
+        output: &[
+            "s 0 ran\nend 1\n80000204 1000fffe beq $0, $0, 0x80000200\n",
+            "00000200 25080001\nend 1\nk 42 taken\nrefused 5 NothingSent\n",
+        ],
+        errors: "",
+    },
+    // errors, and a refused event, leave the status at 0
+    Case {
+        words: &["s161", "debug", "image", "text"],
+        program: &POWER_OFF,
+        text: "s 0 3\n",
+        input: "\nz\nr  0\nr 1\ng 2\ng\ng\n",
+        status: 0,
+        output: &[
+            "? Unknown\n? Unknown\n? BadArgument\n? BadProcessor\n",
+            "off 1\nrefused 0 2 Off\nend 0\n",
+        ],
+        errors: "",
+    },
+    Case {
+        words: &["s161", "debug", "image", "text", "--log", "1"],
+        program: &POWER_OFF,
+        text: "s 0 3\n",
+        input: "g\r\ng\ng\n",
+        status: 0,
+        output: &["? Unknown\nrefused 1 3 LogFull\nrefused 0 3 LogFull\n"],
+        errors: "",
+    },
+    Case {
+        words: &["s161", "debug", "image", "text"],
+        program: &POWER_OFF,
+        text: "",
+        input: "",
+        status: 0,
+        output: &[],
+        errors: "",
+    },
+];
+
+static DEBUG_FAULTS: [Case; 5] = [
+    Case {
+        words: &["s161", "debug", "other", "none"],
+        program: &POWER_OFF,
+        text: "",
+        input: "",
+        status: 1,
+        output: &[],
+        errors: "s161: file other\n",
+    },
+    Case {
+        words: &["s161", "debug", "image", "none"],
+        program: &POWER_OFF,
+        text: "",
+        input: "",
+        status: 1,
+        output: &[],
+        errors: "s161: file none\n",
+    },
+    // nothing is printed of the commands before a fault
+    Case {
+        words: &["s161", "debug", "image", "text", "--cpus", "0"],
+        program: &POWER_OFF,
+        text: "s 0\ns 0 0\n",
+        input: "g\n",
+        status: 1,
+        output: &[],
+        errors: "s161: schedule line 2\n",
+    },
+    Case {
+        words: &["s161", "debug", "image", "text", "--cpus", "0"],
+        program: &POWER_OFF,
+        text: "s 0\n",
+        input: "g\n",
+        status: 1,
+        output: &[],
+        errors: "s161: conf\n",
+    },
+    Case {
+        words: &["s161", "debug", "text", "text"],
+        program: &POWER_OFF,
+        text: "s 0\n",
+        input: "g\n",
+        status: 1,
+        output: &[],
+        errors: "s161: image 1 Truncated\n",
+    },
+];
+
+#[test]
+fn verify_by_replay(rt: HostRuntime) -> Result<(), Fail> {
+    check(&rt, &VERDICTS)
+}
+
+#[test]
+fn replay_faults(rt: HostRuntime) -> Result<(), Fail> {
+    check(&rt, &REPLAY_FAULTS)
+}
+
+#[test]
+fn commands(rt: HostRuntime) -> Result<(), Fail> {
+    check(&rt, &COMMANDS)
+}
+
+#[test]
+fn debug_faults(rt: HostRuntime) -> Result<(), Fail> {
+    check(&rt, &DEBUG_FAULTS)
+}
+
+#[test]
+fn commands_that_are_not_read(rt: HostRuntime) -> Result<(), Fail> {
+    let image = file_at(rt.alloc(), ENTRY, &POWER_OFF)?;
+    let words = ["s161", "debug", "image", "text"];
+    let line = "s161: input\n";
+    // the commands are read before the schedule's text
+    let mut files = TwoFiles {
+        image: &image,
+        text: b"bad\n",
+    };
+    let mut input: &[u8] = b"g\n\xff\n";
+    let found = work_over(&rt, &words, &mut files, &mut input, ["", line]);
+    same(&rt, found, (1, all(""), all(line)));
+    let mut input = Failing(ErrorKind::BrokenPipe);
+    let found = work_over(&rt, &words, &mut files, &mut input, ["", line]);
+    same(&rt, found, (1, all(""), all(line)));
+    Ok(())
+}
+
+#[test]
+fn rejected_words(rt: HostRuntime) -> Result<(), Fail> {
+    let image = file_at(rt.alloc(), ENTRY, &POWER_OFF)?;
+    let cases: [&[&str]; 6] = [
+        &["s161", "replay", "image"],
+        &["s161", "replay", "image", "text", "text"],
+        &["s161", "replay", "image", "text", "--show-log"],
+        &["s161", "debug"],
+        &["s161", "debug", "image"],
+        &["s161", "debug", "image", "text", "--ram", "x"],
+    ];
+    for words in cases {
+        let mut files = TwoFiles {
+            image: &image,
+            text: LOG.as_bytes(),
+        };
+        let mut input: &[u8] = &[];
+        let (status, output, _) = work_over(&rt, words, &mut files, &mut input, ["", ""]);
+        same(&rt, (words, status, output), (words, 2, all("")));
+    }
+    Ok(())
+}
+
+#[test]
+fn failing_output_of_a_verdict(rt: HostRuntime) -> Result<(), Fail> {
+    let image = file_at(rt.alloc(), ENTRY, &POWER_OFF)?;
+    let failed = "s161: output\n";
+    for room in [0, 6] {
+        let mut files = TwoFiles {
+            image: &image,
+            text: LOG.as_bytes(),
+        };
+        let mut input: &[u8] = &[];
+        let mut output = Memory::new(rt.alloc(), room, true);
+        let mut errors = Memory::new(rt.alloc(), usize::MAX, true);
+        let status = work(
+            &rt,
+            &["s161", "replay", "image", "text"],
+            &mut files,
+            &mut input,
+            &mut output,
+            &mut errors,
+        );
+        let found = (
+            status,
+            output.match_text("agrees\n"),
+            errors.match_text(failed),
+        );
+        same(&rt, found, (1, (room, true), all(failed)));
+    }
+    Ok(())
+}

@@ -1,0 +1,211 @@
+//! Command lines, and what the program writes.
+
+use super::same;
+use super::streams::{FREE, Left, Memory, NoFiles, all};
+use m161_elf::LoadError;
+use m161_machine::BootError;
+use s161_work::fault::Fault;
+use s161_work::work::{start, work};
+use std::sync::Wait;
+use std::test::Fail;
+use std::thread::Threads;
+
+/// What the demo prints.
+const DEMO: &str = "cpu 0 running pc 8000021c
+r0 00000000 r1 00000000 r2 00000000 r3 00000000
+r4 00000000 r5 00000000 r6 00000000 r7 00000000
+r8 12345678 r9 ffffffff r10 12345677 r11 80000000
+r12 12345677 r13 00000000 r14 00000000 r15 00000000
+r16 00000000 r17 00000000 r18 00000000 r19 00000000
+r20 00000000 r21 00000000 r22 00000000 r23 00000000
+r24 00000000 r25 00000000 r26 00000000 r27 00000000
+r28 00000000 r29 00000000 r30 00000000 r31 00000000
+hi 00000000 lo 00000000
+";
+
+/// What clap writes on standard output for `--help`.
+const HELP: &str = "A proved emulator of System/161
+
+Usage: s161 <COMMAND>
+
+Commands:
+  demo    Makes seven Steps of the built-in image
+  run     Runs an image under a schedule of events
+  replay  Makes a log's events once more, and compares their outcomes
+  debug   Does a debugger's commands on an image under a schedule
+  as      Assembles a text to an ELF file
+  dis     Prints the instructions of an image
+  help    Print this message or the help of the given subcommand(s)
+
+Options:
+  -h, --help  Print help
+
+Exit status:
+  0  a finished demo, debug, as or dis, a machine that switched itself off, or
+     a log that agrees
+  1  a fault, named on standard error, or a refused event of run
+  2  a rejected command line, or a call for help
+  3  the schedule or the Steps of the threads ended
+  4  a log that differs
+";
+
+/// What clap writes on standard error for the word `foo`.
+const USAGE: &str = "error: unrecognized subcommand 'foo'
+
+Usage: s161 <COMMAND>
+
+For more information, try '--help'.
+";
+
+/// The line of an output that fails.
+const FAILED: &str = "s161: output\n";
+
+/// Does what a command line says, over streams with room for some bytes, against the texts that
+/// they should begin.
+fn run(
+    rt: &(impl AllocGlobal + Threads + Wait + Sync),
+    words: &[&str],
+    texts: [&str; 2],
+    room: [usize; 2],
+    fails: bool,
+) -> Left {
+    let mut input: &[u8] = &[];
+    let mut output = Memory::new(rt.alloc(), room[0], fails);
+    let mut errors = Memory::new(rt.alloc(), room[1], fails);
+    let status = work(
+        rt,
+        words,
+        &mut NoFiles,
+        &mut input,
+        &mut output,
+        &mut errors,
+    );
+    (
+        status,
+        output.match_text(texts[0]),
+        errors.match_text(texts[1]),
+    )
+}
+
+#[test]
+fn demo(rt: HostRuntime) {
+    let found = run(&rt, &["s161", "demo"], [DEMO, ""], FREE, true);
+    same(&rt, found, (0, all(DEMO), all("")));
+}
+
+#[test]
+fn failing_output(rt: HostRuntime) {
+    // after each number of bytes an error, or no byte without an error
+    for fails in [true, false] {
+        for room in 0..DEMO.len() {
+            let rooms = [room, usize::MAX];
+            let found = run(&rt, &["s161", "demo"], [DEMO, FAILED], rooms, fails);
+            same(&rt, found, (1, (room, true), all(FAILED)));
+        }
+    }
+}
+
+#[test]
+fn both_outputs_fail(rt: HostRuntime) {
+    for (fails, room) in [(true, 0), (false, 0), (true, 3), (false, 3)] {
+        let found = run(&rt, &["s161", "demo"], [DEMO, FAILED], [26, room], fails);
+        same(&rt, (fails, found), (fails, (1, (26, true), (room, true))));
+    }
+}
+
+#[test]
+fn rejected_command_lines(rt: HostRuntime) {
+    let found = run(&rt, &["s161", "--help"], [HELP, ""], FREE, true);
+    same(&rt, found, (2, all(HELP), all("")));
+    let found = run(&rt, &["s161", "foo"], ["", USAGE], FREE, true);
+    same(&rt, found, (2, all(""), all(USAGE)));
+    let cases: [&[&str]; 2] = [&["s161"], &["s161", "demo", "x"]];
+    for words in cases {
+        let (status, output, _) = run(&rt, words, ["", ""], FREE, true);
+        same(&rt, (words, status, output), (words, 2, all("")));
+    }
+}
+
+#[test]
+fn failing_rejections(rt: HostRuntime) {
+    for fails in [true, false] {
+        for room in 0..HELP.len() {
+            let rooms = [room, usize::MAX];
+            let found = run(&rt, &["s161", "--help"], [HELP, FAILED], rooms, fails);
+            same(&rt, found, (1, (room, true), all(FAILED)));
+        }
+        for room in 0..USAGE.len() {
+            let rooms = [usize::MAX, room];
+            let found = run(&rt, &["s161", "foo"], ["", USAGE], rooms, fails);
+            same(&rt, found, (1, all(""), (room, true)));
+        }
+    }
+}
+
+/// Starts the program on words that were read, or weren't.
+fn start_on(
+    rt: &(impl AllocGlobal + Threads + Wait + Sync),
+    words: Result<Vec<String>, Fault<'static>>,
+    texts: [&str; 2],
+) -> Left {
+    let mut input: &[u8] = &[];
+    let mut output = Memory::new(rt.alloc(), usize::MAX, true);
+    let mut errors = Memory::new(rt.alloc(), usize::MAX, true);
+    let status = start(
+        rt,
+        words,
+        &mut NoFiles,
+        &mut input,
+        &mut output,
+        &mut errors,
+    );
+    (
+        status,
+        output.match_text(texts[0]),
+        errors.match_text(texts[1]),
+    )
+}
+
+#[test]
+fn starts(rt: HostRuntime) -> Result<(), Fail> {
+    let mut words = Vec::new(rt.alloc());
+    words.push(String::from_str(rt.alloc(), "s161")?)?;
+    words.push(String::from_str(rt.alloc(), "demo")?)?;
+    let found = start_on(&rt, Ok(words), [DEMO, ""]);
+    same(&rt, found, (0, all(DEMO), all("")));
+    for &(fault, line) in &[
+        (Fault::Input, "s161: input\n"),
+        (Fault::Memory, "s161: memory\n"),
+    ] {
+        let found = start_on(&rt, Err(fault), ["", line]);
+        same(&rt, found, (1, all(""), all(line)));
+    }
+    Ok(())
+}
+
+#[test]
+fn fault_texts(rt: HostRuntime) -> Result<(), Fail> {
+    for (fault, text) in [
+        (Fault::File("a.elf"), "s161: file a.elf"),
+        (Fault::Schedule(12), "s161: schedule line 12"),
+        (Fault::Log(3), "s161: log line 3"),
+        (Fault::Conf, "s161: conf"),
+        (
+            Fault::Image(LoadError::Truncated),
+            "s161: image 1 Truncated",
+        ),
+        (Fault::Memory, "s161: memory"),
+        (Fault::Input, "s161: input"),
+        (Fault::Output, "s161: output"),
+        (Fault::from(BootError::BadConf), "s161: conf"),
+        (
+            Fault::from(BootError::Load(LoadError::BadEntry)),
+            "s161: image 9 BadEntry",
+        ),
+        (Fault::from(BootError::NoMemory), "s161: memory"),
+    ] {
+        let found = format!(in rt.alloc(); "{fault}")?;
+        same(&rt, found.as_str(), text);
+    }
+    Ok(())
+}

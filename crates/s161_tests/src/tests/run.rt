@@ -1,0 +1,655 @@
+//! `run`: an image under a schedule or in threads, and what is printed. A case is one of
+//! `power-off`'s image or of a small program; what it leaves is worked out by hand.
+
+use super::elf::file_at;
+use super::listing::{ENTRY, Times};
+use super::same;
+use super::sample::SCHEDULE;
+use super::streams::{Endless, Failing, Left, Memory, NoFiles, OneFile, Slow, all};
+use m161_machine::Entry;
+use m161_steplog::entry_line;
+use s161_work::files::FileSource;
+use s161_work::work::work;
+use std::alloc::Global;
+use std::io::{ErrorKind, Read};
+use std::process::Abort;
+use std::sync::Wait;
+use std::test::Fail;
+use std::thread::Threads;
+
+/// Processor 0 at an image's first instruction.
+const AT_ENTRY: &str = "cpu 0 running pc 80000200
+r0 00000000 r1 00000000 r2 00000000 r3 00000000
+r4 00000000 r5 00000000 r6 00000000 r7 00000000
+r8 00000000 r9 00000000 r10 00000000 r11 00000000
+r12 00000000 r13 00000000 r14 00000000 r15 00000000
+r16 00000000 r17 00000000 r18 00000000 r19 00000000
+r20 00000000 r21 00000000 r22 00000000 r23 00000000
+r24 00000000 r25 00000000 r26 00000000 r27 00000000
+r28 00000000 r29 00000000 r30 00000000 r31 00000000
+hi 00000000 lo 00000000
+";
+
+/// Its registers from 12 on, where all are zero.
+pub(crate) const REST: &str = "r12 00000000 r13 00000000 r14 00000000 r15 00000000
+r16 00000000 r17 00000000 r18 00000000 r19 00000000
+r20 00000000 r21 00000000 r22 00000000 r23 00000000
+r24 00000000 r25 00000000 r26 00000000 r27 00000000
+r28 00000000 r29 00000000 r30 00000000 r31 00000000
+hi 00000000 lo 00000000
+";
+
+pub(crate) const ZEROS: &str = "r0 00000000 r1 00000000 r2 00000000 r3 00000000
+r4 00000000 r5 00000000 r6 00000000 r7 00000000
+";
+
+/// `lui $8, 0xbfff`, and a store that switches the machine off.
+pub(crate) const POWER_OFF: [u32; 2] = [0x3c08_bfff, 0xad00_7e08];
+
+/// After it.
+const POWERED_OFF: [&str; 4] = [
+    "cpu 0 running pc 80000208\n",
+    ZEROS,
+    "r8 bfff0000 r9 00000000 r10 00000000 r11 00000000\n",
+    REST,
+];
+
+/// After its first instruction.
+const HALF_WAY: [&str; 4] = [
+    "cpu 0 running pc 80000204\n",
+    ZEROS,
+    "r8 bfff0000 r9 00000000 r10 00000000 r11 00000000\n",
+    REST,
+];
+
+/// A loop that leaves the registers alone: `beq $0, $0, 0x80000200`, `nop`.
+const STAND_STILL: [u32; 2] = [0x1000_ffff, 0x0000_0000];
+
+/// A byte for the console: `lui $8, 0xbfe0`, `ori $9, $0, BYTE`, `sw $9, 0($8)`.
+const SEND_H: [u32; 3] = [0x3c08_bfe0, 0x3409_0048, 0xad09_0000];
+
+const SEND_LINE_END: [u32; 3] = [0x3c08_bfe0, 0x3409_000a, 0xad09_0000];
+
+/// Processor 1 is started at 80000220, where `ori $12, $0, 7` is.
+pub(crate) const START_OTHER: [u32; 9] = [
+    0x3c08_bfff,
+    0x3c09_8000,
+    0x3529_0220,
+    0x350a_8700,
+    0xad49_0000,
+    0x340b_0002,
+    0xad0b_7e14,
+    0,
+    0x340c_0007,
+];
+
+/// Both processors after eight Steps.
+const TWO: [&str; 7] = [
+    "cpu 0 running pc 8000021c\n",
+    ZEROS,
+    "r8 bfff0000 r9 80000220 r10 bfff8700 r11 00000002\n",
+    REST,
+    "cpu 1 running pc 80000224\n",
+    ZEROS,
+    "r8 00000000 r9 00000000 r10 00000000 r11 00000000
+r12 00000007 r13 00000000 r14 00000000 r15 00000000
+r16 00000000 r17 00000000 r18 00000000 r19 00000000
+r20 00000000 r21 00000000 r22 00000000 r23 00000000
+r24 00000000 r25 00000000 r26 00000000 r27 00000000
+r28 00000000 r29 bfff8800 r30 00000000 r31 00000000
+hi 00000000 lo 00000000
+",
+];
+
+/// The other one isn't started yet.
+const ONE: [&str; 4] = [
+    "cpu 0 running pc 80000218\n",
+    ZEROS,
+    "r8 bfff0000 r9 80000220 r10 bfff8700 r11 00000002\n",
+    REST,
+];
+
+/// A run, and what it leaves.
+struct Case {
+    words: &'static [&'static str],
+    program: &'static [u32],
+    schedule: &'static str,
+    status: u8,
+    output: &'static [&'static [&'static str]],
+    errors: &'static str,
+}
+
+/// One text of several.
+pub(crate) fn join(rt: &impl AllocGlobal, parts: &[&[&str]]) -> Result<String, Fail> {
+    let mut text = String::new(rt.alloc());
+    for part in parts {
+        for piece in *part {
+            text.push_str(piece)?;
+        }
+    }
+    Ok(text)
+}
+
+/// Runs a program over these streams, against the texts that it should write.
+pub(crate) fn work_over<F: FileSource, I: Read>(
+    rt: &(impl AllocGlobal + Threads + Wait + Sync),
+    words: &[&str],
+    files: &mut F,
+    input: &mut I,
+    texts: [&str; 2],
+) -> Left {
+    let mut output = Memory::new(rt.alloc(), usize::MAX, true);
+    let mut errors = Memory::new(rt.alloc(), usize::MAX, true);
+    let status = work(rt, words, files, input, &mut output, &mut errors);
+    (
+        status,
+        output.match_text(texts[0]),
+        errors.match_text(texts[1]),
+    )
+}
+
+/// Runs the cases, and fails the test at the first that leaves something else.
+fn check(
+    rt: &(impl Abort + AllocGlobal + Threads + Wait + Sync),
+    cases: &[Case],
+) -> Result<(), Fail> {
+    for case in cases {
+        let file = file_at(rt.alloc(), ENTRY, case.program)?;
+        let mut files = OneFile {
+            name: "image",
+            bytes: &file,
+        };
+        let output = join(rt, case.output)?;
+        let texts = [output.as_str(), case.errors];
+        let mut input = case.schedule.as_bytes();
+        let found = work_over(rt, case.words, &mut files, &mut input, texts);
+        let expected = (case.status, all(texts[0]), all(texts[1]));
+        same(rt, (case.schedule, found), (case.schedule, expected));
+    }
+    Ok(())
+}
+
+static STOPS: [Case; 7] = [
+    // power-off
+    Case {
+        words: &["s161", "run", "image"],
+        program: &POWER_OFF,
+        schedule: "s 0 2\n",
+        status: 0,
+        output: &[&POWERED_OFF, &["stop: off\n"]],
+        errors: "",
+    },
+    // no event is made after the one that switches off
+    Case {
+        words: &["s161", "run", "image"],
+        program: &POWER_OFF,
+        schedule: "s 0 3\ns 9\no",
+        status: 0,
+        output: &[&POWERED_OFF, &["stop: off\n"]],
+        errors: "",
+    },
+    Case {
+        words: &["s161", "run", "image"],
+        program: &POWER_OFF,
+        schedule: "# one Step\n\ns 0",
+        status: 3,
+        output: &[&HALF_WAY, &["stop: end\n"]],
+        errors: "",
+    },
+    // log-text
+    Case {
+        words: &["s161", "run", "--show-log", "image"],
+        program: &POWER_OFF,
+        schedule: "k 41\ns 0\ns 0\n",
+        status: 0,
+        output: &[
+            &POWERED_OFF,
+            &["m161 log 1\nk 41 taken\ns 0 ran\ns 0 off\n"],
+            &["stop: off\n"],
+        ],
+        errors: "",
+    },
+    Case {
+        words: &["s161", "run", "image"],
+        program: &POWER_OFF,
+        schedule: "s 0\no\ns 0\n",
+        status: 1,
+        output: &[&HALF_WAY, &["stop: refused 1 5 NothingSent\n"]],
+        errors: "",
+    },
+    Case {
+        words: &["s161", "run", "image"],
+        program: &POWER_OFF,
+        schedule: "s 1 2\n",
+        status: 1,
+        output: &[&[AT_ENTRY, "stop: refused 0 1 BadProcessor\n"]],
+        errors: "",
+    },
+    Case {
+        words: &["s161", "run", "--log", "1", "image"],
+        program: &POWER_OFF,
+        schedule: "s 0 2\n",
+        status: 1,
+        output: &[&HALF_WAY, &["stop: refused 1 3 LogFull\n"]],
+        errors: "",
+    },
+];
+
+static EMPTY_SCHEDULES: [Case; 2] = [
+    Case {
+        words: &["s161", "run", "image"],
+        program: &POWER_OFF,
+        schedule: "",
+        status: 3,
+        output: &[&[AT_ENTRY, "stop: end\n"]],
+        errors: "",
+    },
+    Case {
+        words: &["s161", "run", "image", "--show-log"],
+        program: &POWER_OFF,
+        schedule: "",
+        status: 3,
+        output: &[&[AT_ENTRY, "m161 log 1\n", "stop: end\n"]],
+        errors: "",
+    },
+];
+
+static OUTPUTS: [Case; 5] = [
+    // a line end is added where one lacks
+    Case {
+        words: &["s161", "run", "image"],
+        program: &SEND_H,
+        schedule: "s 0 3\no\n",
+        status: 3,
+        output: &[
+            &["H\n", "cpu 0 running pc 8000020c\n", ZEROS],
+            &["r8 bfe00000 r9 00000048 r10 00000000 r11 00000000\n", REST],
+            &["stop: end\n"],
+        ],
+        errors: "",
+    },
+    Case {
+        words: &["s161", "run", "image"],
+        program: &SEND_LINE_END,
+        schedule: "s 0 3\no\n",
+        status: 3,
+        output: &[
+            &["\n", "cpu 0 running pc 8000020c\n", ZEROS],
+            &["r8 bfe00000 r9 0000000a r10 00000000 r11 00000000\n", REST],
+            &["stop: end\n"],
+        ],
+        errors: "",
+    },
+    // two processors, and one that isn't started yet
+    Case {
+        words: &["s161", "run", "image", "--cpus", "2"],
+        program: &START_OTHER,
+        schedule: "s 0 7\ns 1\n",
+        status: 3,
+        output: &[&TWO, &["stop: end\n"]],
+        errors: "",
+    },
+    Case {
+        words: &["s161", "run", "image", "--cpus=2", "--show-log"],
+        program: &START_OTHER,
+        schedule: "s 0 5\ns 1\ns 0\n",
+        status: 3,
+        output: &[
+            &ONE,
+            &["m161 log 1\ns 0 ran\ns 0 ran\ns 0 ran\ns 0 ran\ns 0 ran\n"],
+            &["s 1 idle\ns 0 ran\nstop: end\n"],
+        ],
+        errors: "",
+    },
+    // numbers as clap reads them
+    Case {
+        words: &["s161", "run", "image", "--ram", "+0004096"],
+        program: &POWER_OFF,
+        schedule: "",
+        status: 3,
+        output: &[&[AT_ENTRY, "stop: end\n"]],
+        errors: "",
+    },
+];
+
+static FAULTS: [Case; 8] = [
+    Case {
+        words: &["s161", "run", "other"],
+        program: &POWER_OFF,
+        schedule: "bad\n",
+        status: 1,
+        output: &[],
+        errors: "s161: file other\n",
+    },
+    // a schedule's fault comes before the machine's
+    Case {
+        words: &["s161", "run", "image", "--ram", "4097"],
+        program: &POWER_OFF,
+        schedule: "s 0\n\ns 0 0\n",
+        status: 1,
+        output: &[],
+        errors: "s161: schedule line 3\n",
+    },
+    Case {
+        words: &["s161", "run", "image", "--ram", "4097"],
+        program: &POWER_OFF,
+        schedule: "s 0 2\n",
+        status: 1,
+        output: &[],
+        errors: "s161: conf\n",
+    },
+    Case {
+        words: &["s161", "run", "image", "--cpus", "33"],
+        program: &POWER_OFF,
+        schedule: "",
+        status: 1,
+        output: &[],
+        errors: "s161: conf\n",
+    },
+    Case {
+        words: &["s161", "run", "image", "--log", "0"],
+        program: &POWER_OFF,
+        schedule: "",
+        status: 1,
+        output: &[],
+        errors: "s161: conf\n",
+    },
+    // no segment fits so little RAM
+    Case {
+        words: &["s161", "run", "image", "--ram", "4096"],
+        program: &[0; 1000],
+        schedule: "",
+        status: 1,
+        output: &[],
+        errors: "s161: image 7 SegmentOutsideRam\n",
+    },
+    Case {
+        words: &["s161", "run", "image", "--ram", "0"],
+        program: &POWER_OFF,
+        schedule: "",
+        status: 1,
+        output: &[],
+        errors: "s161: conf\n",
+    },
+    Case {
+        words: &["s161", "run", "image"],
+        program: &POWER_OFF,
+        schedule: "s 0 2\r\n",
+        status: 1,
+        output: &[],
+        errors: "s161: schedule line 1\n",
+    },
+];
+
+#[test]
+fn stops(rt: HostRuntime) -> Result<(), Fail> {
+    check(&rt, &STOPS)
+}
+
+#[test]
+fn empty_schedule(rt: HostRuntime) -> Result<(), Fail> {
+    check(&rt, &EMPTY_SCHEDULES)
+}
+
+#[test]
+fn outputs(rt: HostRuntime) -> Result<(), Fail> {
+    check(&rt, &OUTPUTS)
+}
+
+#[test]
+fn faults(rt: HostRuntime) -> Result<(), Fail> {
+    check(&rt, &FAULTS)
+}
+
+/// The words of a run of the one file.
+const WORDS: [&str; 3] = ["s161", "run", "image"];
+
+/// Runs `power-off`'s image over a reader, against the texts that it should write.
+fn over<I: Read>(
+    rt: &(impl AllocGlobal + Threads + Wait + Sync),
+    input: &mut I,
+    texts: [&str; 2],
+) -> Result<Left, Fail> {
+    let file = file_at(rt.alloc(), ENTRY, &POWER_OFF)?;
+    let mut files = OneFile {
+        name: "image",
+        bytes: &file,
+    };
+    Ok(work_over(rt, &WORDS, &mut files, input, texts))
+}
+
+static THREADED: [Case; 6] = [
+    // threads-command
+    Case {
+        words: &["s161", "run", "image", "--cpus", "2", "--threads", "5"],
+        program: &POWER_OFF,
+        schedule: "",
+        status: 0,
+        output: &[&POWERED_OFF, &["stop: off\n"]],
+        errors: "",
+    },
+    Case {
+        words: &["s161", "run", "image", "--cpus", "2", "--threads", "100"],
+        program: &STAND_STILL,
+        schedule: "",
+        status: 3,
+        output: &[&[AT_ENTRY, "stop: end\n"]],
+        errors: "",
+    },
+    // a schedule isn't read
+    Case {
+        words: &["s161", "run", "--threads=2", "image", "--cpus=2"],
+        program: &STAND_STILL,
+        schedule: "no schedule",
+        status: 3,
+        output: &[&[AT_ENTRY, "stop: end\n"]],
+        errors: "",
+    },
+    Case {
+        words: &["s161", "run", "image", "--threads", "0"],
+        program: &POWER_OFF,
+        schedule: "s 0 2",
+        status: 0,
+        output: &[&POWERED_OFF, &["stop: off\n"]],
+        errors: "",
+    },
+    Case {
+        words: &["s161", "run", "image", "--threads", "5"],
+        program: &POWER_OFF,
+        schedule: "",
+        status: 1,
+        output: &[],
+        errors: "s161: threads NotYet\n",
+    },
+    Case {
+        words: &["s161", "run", "image", "--cpus=2", "--threads=5", "--log=9"],
+        program: &STAND_STILL,
+        schedule: "",
+        status: 1,
+        output: &[],
+        errors: "s161: threads LogFull\n",
+    },
+];
+
+#[test]
+fn threads_command(rt: HostRuntime) -> Result<(), Fail> {
+    check(&rt, &THREADED)
+}
+
+/// The built-in sample's schedule.
+const SAMPLE_SCHEDULE: &str = "s 0 11\ns 1 16\ns 0 6\ns 1 23\ns 0 4\ns 1 17\ns 0 4\n";
+
+/// Both processors after it.
+const SAMPLE_LEFT: &str = "cpu 0 running pc 80000264
+r0 00000000 r1 00000000 r2 00000000 r3 00000000
+r4 00000000 r5 00000000 r6 00000000 r7 00000000
+r8 80000000 r9 00006600 r10 bfff0000 r11 bfff8400
+r12 80000280 r13 00000002 r14 bfff7c00 r15 00000007
+r16 00000000 r17 00000000 r18 00000000 r19 00000000
+r20 00000000 r21 00000000 r22 00000000 r23 00000000
+r24 00000000 r25 00000000 r26 00000000 r27 00000000
+r28 00000000 r29 00000000 r30 00000000 r31 00000000
+hi 00000000 lo 00000000
+cpu 1 running pc 800002b8
+r0 00000000 r1 00000000 r2 00000000 r3 00000000
+r4 00000000 r5 00000000 r6 00000000 r7 00000000
+r8 00000801 r9 00400000 r10 80000000 r11 00000007
+r12 00000001 r13 00000000 r14 00000000 r15 00000000
+r16 00000000 r17 00000000 r18 00000000 r19 00000000
+r20 00000000 r21 00000000 r22 00000000 r23 00000000
+r24 80035000 r25 00400140 r26 00006600 r27 800002a0
+r28 00000000 r29 bfff8800 r30 00000000 r31 00000000
+hi 00000000 lo 00000000
+";
+
+/// The text of a log of these events.
+fn log_of(alloc: Global, events: &[Times]) -> Result<String, Fail> {
+    let mut text = String::from_str(alloc, "m161 log 1\n")?;
+    for (event, times, answer) in events {
+        let Ok(outcome) = *answer else {
+            continue;
+        };
+        let entry = Entry {
+            event: *event,
+            outcome,
+        };
+        let line = entry_line(alloc, &entry)?;
+        for _ in 0..*times {
+            text.push_str(line.as_str())?;
+            text.push_str("\n")?;
+        }
+    }
+    Ok(text)
+}
+
+#[test]
+fn run_sample(rt: HostRuntime) -> Result<(), Fail> {
+    let log = log_of(rt.alloc(), &SCHEDULE)?;
+    for (words, log) in [
+        (&["s161", "run", "@sample", "--cpus", "2"][..], ""),
+        (
+            &["s161", "run", "@sample", "--cpus", "2", "--show-log"],
+            log.as_str(),
+        ),
+    ] {
+        let text = join(&rt, &[&[SAMPLE_LEFT, log, "stop: off\n"]])?;
+        let mut input = SAMPLE_SCHEDULE.as_bytes();
+        let texts = [text.as_str(), ""];
+        let found = work_over(&rt, words, &mut NoFiles, &mut input, texts);
+        same(&rt, (words, found), (words, (0, all(texts[0]), all(""))));
+    }
+    Ok(())
+}
+
+#[test]
+fn slow_reader(rt: HostRuntime) -> Result<(), Fail> {
+    let output = join(&rt, &[&POWERED_OFF, &["stop: off\n"]])?;
+    let mut slow = Slow::new(b"s 0 2\n");
+    let found = over(&rt, &mut slow, [output.as_str(), ""])?;
+    same(&rt, found, (0, all(output.as_str()), all("")));
+    Ok(())
+}
+
+#[test]
+fn failing_readers(rt: HostRuntime) -> Result<(), Fail> {
+    for &(kind, line) in &[
+        (ErrorKind::BrokenPipe, "s161: input\n"),
+        (ErrorKind::OutOfMemory, "s161: memory\n"),
+    ] {
+        let found = over(&rt, &mut Failing(kind), ["", line])?;
+        same(&rt, found, (1, all(""), all(line)));
+    }
+    Ok(())
+}
+
+#[test]
+fn inputs_that_are_no_text(rt: HostRuntime) -> Result<(), Fail> {
+    let line = "s161: input\n";
+    let mut input: &[u8] = b"s 0 2\n# \xff\n";
+    let found = over(&rt, &mut input, ["", line])?;
+    same(&rt, found, (1, all(""), all(line)));
+    let found = over(&rt, &mut Endless, ["", line])?;
+    same(&rt, found, (1, all(""), all(line)));
+    Ok(())
+}
+
+#[test]
+fn failing_files(rt: HostRuntime) {
+    for &(kind, line) in &[
+        (ErrorKind::PermissionDenied, "s161: file image\n"),
+        (ErrorKind::OutOfMemory, "s161: memory\n"),
+    ] {
+        let mut input: &[u8] = b"bad\n";
+        let found = work_over(&rt, &WORDS, &mut Failing(kind), &mut input, ["", line]);
+        same(&rt, found, (1, all(""), all(line)));
+    }
+}
+
+#[test]
+fn truncated_image(rt: HostRuntime) -> Result<(), Fail> {
+    let file = file_at(rt.alloc(), ENTRY, &POWER_OFF)?;
+    let mut files = OneFile {
+        name: "image",
+        bytes: file.get(..51).unwrap_or(&[]),
+    };
+    let mut input: &[u8] = b"s 0 2\n";
+    let line = "s161: image 1 Truncated\n";
+    let found = work_over(&rt, &WORDS, &mut files, &mut input, ["", line]);
+    same(&rt, found, (1, all(""), all(line)));
+    Ok(())
+}
+
+#[test]
+fn failing_output_of_a_run(rt: HostRuntime) -> Result<(), Fail> {
+    let file = file_at(rt.alloc(), ENTRY, &POWER_OFF)?;
+    let text = join(&rt, &[&POWERED_OFF, &["stop: off\n"]])?;
+    let failed = "s161: output\n";
+    for room in [0, 26, 300] {
+        let mut files = OneFile {
+            name: "image",
+            bytes: &file,
+        };
+        let mut input: &[u8] = b"s 0 2\n";
+        let mut output = Memory::new(rt.alloc(), room, true);
+        let mut errors = Memory::new(rt.alloc(), usize::MAX, true);
+        let status = work(
+            &rt,
+            &WORDS,
+            &mut files,
+            &mut input,
+            &mut output,
+            &mut errors,
+        );
+        let found = (
+            status,
+            output.match_text(text.as_str()),
+            errors.match_text(failed),
+        );
+        same(&rt, found, (1, (room, true), all(failed)));
+    }
+    Ok(())
+}
+
+#[test]
+fn rejected_runs(rt: HostRuntime) -> Result<(), Fail> {
+    let file = file_at(rt.alloc(), ENTRY, &POWER_OFF)?;
+    let cases: [&[&str]; 7] = [
+        &["s161", "run"],
+        &["s161", "run", "image", "image"],
+        &["s161", "run", "image", "--ram", "x"],
+        &["s161", "run", "image", "--ram", "4294967296"],
+        &["s161", "run", "image", "--log", "1", "--log", "1"],
+        &["s161", "run", "image", "--show-log", "--show-log"],
+        &["s161", "run", "image", "--threads", "1000001"],
+    ];
+    for words in cases {
+        let mut files = OneFile {
+            name: "image",
+            bytes: &file,
+        };
+        let mut input: &[u8] = &[];
+        let (status, output, _) = work_over(&rt, words, &mut files, &mut input, ["", ""]);
+        same(&rt, (words, status, output), (words, 2, all("")));
+    }
+    Ok(())
+}

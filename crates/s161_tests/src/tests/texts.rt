@@ -1,0 +1,175 @@
+//! The listing of a file, and the built-in sample.
+
+use super::elf::file_from;
+use super::listing::ENTRY;
+use super::same;
+use super::sample::KERNEL;
+use super::streams::{NoFiles, OneFile};
+use m161_machine::Conf;
+use m161_steplog::read_schedule;
+use s161_work::Machine;
+use s161_work::demo::IMAGE;
+use s161_work::disassembly::disassembly;
+use s161_work::events::{Stop, make_events};
+use s161_work::fault::Fault;
+use s161_work::files::FileSource;
+use s161_work::sample::{read_image, sample_image};
+use std::alloc::{AllocError, Global};
+use std::test::Fail;
+
+/// The demo's listing.
+const LISTED_DEMO: &str = "80000200 3c081234 lui $8, 0x1234
+80000204 35085678 ori $8, $8, 0x5678
+80000208 2409ffff addiu $9, $0, -1
+8000020c 01095021 addu $10, $8, $9
+80000210 3c0b8000 lui $11, 0x8000
+80000214 ad6a0400 sw $10, 1024($11)
+80000218 8d6c0400 lw $12, 1024($11)
+";
+
+/// The line of a fault.
+pub(crate) fn line_of(alloc: Global, fault: Fault<'_>) -> Result<String, AllocError> {
+    format!(in alloc; "{fault}")
+}
+
+/// The listing of a file, or the line of its fault.
+fn list(alloc: Global, file: &[u8]) -> Result<String, AllocError> {
+    match disassembly(alloc, file) {
+        Ok(text) => Ok(text),
+        Err(fault) => line_of(alloc, fault),
+    }
+}
+
+#[test]
+fn dis_demo(rt: HostRuntime) -> Result<(), Fail> {
+    let text = list(rt.alloc(), &IMAGE)?;
+    same(&rt, text.as_str() == LISTED_DEMO, true);
+    Ok(())
+}
+
+/// Only the part of a segment that is in the file is listed.
+#[test]
+fn words_of_the_file(rt: HostRuntime) -> Result<(), Fail> {
+    let mut file = IMAGE;
+    file[71] = 7;
+    let text = list(rt.alloc(), &file)?;
+    same(&rt, text.as_str(), "80000200 3c081234 lui $8, 0x1234\n");
+    Ok(())
+}
+
+/// A segment from 80000202 to 8000020a has one whole word at a multiple of 4.
+#[test]
+fn misaligned_span(rt: HostRuntime) -> Result<(), Fail> {
+    let words = [0x1122_3344, 0x5566_7788];
+    let file = file_from(rt.alloc(), ENTRY, 0x8000_0202, &words)?;
+    let text = list(rt.alloc(), &file)?;
+    same(
+        &rt,
+        text.as_str(),
+        "80000204 33445566 andi $4, $26, 0x5566\n",
+    );
+    Ok(())
+}
+
+/// A segment from 80000201 to 80000203 has none.
+#[test]
+fn no_whole_word(rt: HostRuntime) -> Result<(), Fail> {
+    let mut file = IMAGE;
+    file[63] = 1;
+    file[71] = 2;
+    let text = list(rt.alloc(), &file)?;
+    same(&rt, text.as_str(), "");
+    Ok(())
+}
+
+#[test]
+fn image_without_listing(rt: HostRuntime) -> Result<(), Fail> {
+    let text = list(rt.alloc(), &IMAGE[..51])?;
+    same(&rt, text.as_str(), "s161: image 1 Truncated");
+    let mut file = IMAGE;
+    file[60] = 0;
+    let text = list(rt.alloc(), &file)?;
+    same(&rt, text.as_str(), "s161: image 7 SegmentOutsideRam");
+    Ok(())
+}
+
+/// The sample's machine, once a schedule is made, and why it ended; `None` where it has none.
+fn sample_machine(alloc: Global, schedule: &str) -> Result<Option<(Machine, Stop)>, Fail> {
+    let conf = Conf {
+        ram: 1_048_576,
+        processors: 2,
+        log: 100,
+    };
+    let Ok(file) = sample_image(alloc) else {
+        return Ok(None);
+    };
+    let mut machine = Machine::boot(alloc, &file, conf)?;
+    let events = read_schedule(alloc, schedule)?;
+    let stop = make_events(&mut machine, &events);
+    Ok(Some((machine, stop)))
+}
+
+/// How many Steps the first two processors have made.
+fn counts(machine: &Machine) -> Option<(u64, u64)> {
+    if machine.processors() < 2 {
+        return None;
+    }
+    Some((machine.count(0), machine.count(1)))
+}
+
+#[test]
+fn run_sample_counts(rt: HostRuntime) -> Result<(), Fail> {
+    let schedule = "s 0 11\ns 1 16\ns 0 6\ns 1 23\ns 0 4\ns 1 17\ns 0 4\n";
+    match sample_machine(rt.alloc(), schedule)? {
+        Some((machine, stop)) => {
+            same(&rt, stop, Stop::Off);
+            same(&rt, counts(&machine), Some((25, 56)));
+            same(&rt, machine.log_len(), 81);
+        }
+        None => same(&rt, "no sample", ""),
+    }
+    Ok(())
+}
+
+/// The sample's memory has the kernel's words.
+#[test]
+fn sample_words(rt: HostRuntime) -> Result<(), Fail> {
+    let Some((machine, _)) = sample_machine(rt.alloc(), "")? else {
+        same(&rt, "no sample", "");
+        return Ok(());
+    };
+    for (at, word, _) in &KERNEL {
+        same(&rt, (*at, machine.word(*at)), (*at, Some(*word)));
+    }
+    Ok(())
+}
+
+/// The length of an image's file, or the line of its fault.
+fn image_of<F: FileSource>(alloc: Global, files: &mut F, name: &str) -> Result<String, AllocError> {
+    match read_image(alloc, files, name) {
+        Ok(file) => format!(in alloc; "{}", file.len()),
+        Err(fault) => line_of(alloc, fault),
+    }
+}
+
+/// The sample has five segments of 70 words: 52 + 5 * 32 + 70 * 4 bytes.
+#[test]
+fn images_by_name(rt: HostRuntime) -> Result<(), Fail> {
+    let text = image_of(rt.alloc(), &mut NoFiles, "@sample")?;
+    same(&rt, text.as_str(), "492");
+    let text = image_of(rt.alloc(), &mut NoFiles, "sample")?;
+    same(&rt, text.as_str(), "s161: file sample");
+    let mut files = OneFile {
+        name: "@sample",
+        bytes: &[1, 2, 3],
+    };
+    let text = image_of(rt.alloc(), &mut files, "@sample")?;
+    same(&rt, text.as_str(), "492");
+    let mut files = OneFile {
+        name: "image",
+        bytes: &[1, 2, 3],
+    };
+    let text = image_of(rt.alloc(), &mut files, "image")?;
+    same(&rt, text.as_str(), "3");
+    Ok(())
+}

@@ -1,0 +1,12 @@
+pub mod Assemblies
+pub mod Debugs
+pub mod Demos
+pub mod Faults
+pub mod Known
+pub mod Listings
+pub mod Replays
+pub mod Runs
+pub mod Samples
+pub mod Sizes
+pub mod Works
+pub mod Threads

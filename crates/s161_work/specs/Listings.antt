@@ -1,0 +1,72 @@
+use Rattle.std.specs.Prelude.{◌≡◌, ℕ, ◌+◌, ◌-◌, ◌*◌, ◌/◌, true, List, flat_map, Option, None, Some, IfSome}
+use Rattle.std.specs.List.{AllByRecursion}
+use Rattle.m161_elf.specs.declared.span.Span.{Span}
+use Rattle.m161_elf.specs.declared.image.LoadError.{LoadError}
+use Rattle.m161_elf.specs.declared.image.LoadError.TheVariants as fault
+use Rattle.m161_elf.specs.Header.{e_entry}
+use Rattle.m161_elf.specs.Image.{IsImage, first_fault, is_in_ram}
+use Rattle.m161_elf.specs.Span.{spans}
+use Rattle.m161_debug.specs.Shows.{code_line, numbered_lines, text_of}
+use Rattle.s161_work.specs.declared.fault.Fault.{Fault}
+use Rattle.s161_work.specs.declared.fault.Fault.TheVariants.{File, Image, Memory}
+use Rattle.s161_work.specs.Known.{OfKnown}
+use Rattle.s161_work.specs.Samples.{IsFileName}
+
+-- The listing of a file: the instructions that its segments leave in memory.
+
+-- the first multiple of 4 from an address on
+abbrev pub aligned_up : ℕ → ℕ
+aligned_up address = (address + 3) / 4 * 4
+
+-- how many whole words a span has from there on
+abbrev pub whole_words : Span → ℕ
+whole_words span = (span.address + span.size - aligned_up span.address) / 4
+
+-- a line for each of them, as memory has it
+abbrev pub span_text : List ℕ → Span → List ℕ
+span_text memory span =
+    text_of
+    (numbered_lines (whole_words span) (λ i. code_line memory (aligned_up span.address + 4 * i)))
+
+abbrev pub dis_text : List ℕ → List Span → List ℕ
+dis_text memory = flat_map (span_text memory)
+
+-- all the bytes of spans are in RAM, by kseg0 or by kseg1
+abbrev pub AreInRam : ℕ → List Span → Type 0
+AreInRam ram = AllByRecursion (λ span. is_in_ram ram span.address span.size ≡ true)
+
+-- the largest RAM, into which a file is loaded for its listing
+abbrev pub dis_ram : ℕ
+dis_ram = 16777216
+
+-- the text is the listing of a file without a fault
+pub record IsListing (file text : List ℕ) : Type 0 where
+  pub loads : first_fault file dis_ram ≡ None
+  pub memory : List ℕ
+  pub is_image : IsImage file dis_ram (e_entry file) memory
+  pub text_is : text ≡ dis_text memory (spans file)
+
+-- an image, which has these bytes, as far as they are known, has this listing
+pub record IsDisassembled (image : Option (List ℕ)) (text : List ℕ) : Type 0 where
+  pub file : List ℕ
+  pub is_file : IfSome image (λ bytes. file ≡ bytes)
+  pub is_listing : IsListing file text
+
+-- why a file isn't loaded, as a fault of the command
+abbrev pub fault_of_load : LoadError → Fault
+fault_of_load fault.NoMemory = Memory
+fault_of_load e = Image e
+
+-- a file has no listing: it has this first fault; or it has no fault, and memory was refused
+abbrev pub IsUnlisted : List ℕ → Fault → Type 0
+IsUnlisted file (Image e) = first_fault file dis_ram ≡ Some e
+IsUnlisted file Memory = first_fault file dis_ram ≡ None
+IsUnlisted file _ = ⊥
+
+-- a listing is ended by this fault: of the image's file, or of the image; or memory was refused
+abbrev pub IsListingFault : List ℕ → Option (List ℕ) → Fault → Type 0
+IsListingFault name image (File failed) = (failed.now ≡ name) × IsFileName name
+IsListingFault name image (Image e) =
+    OfKnown image (λ file. first_fault file dis_ram ≡ Some e)
+IsListingFault name image Memory = Unit {0}
+IsListingFault name image _ = ⊥

@@ -1,0 +1,63 @@
+use Rattle.std.specs.Prelude.{◌≡◌, ℕ, Bool, false, if◌then◌else◌, List, Option, None, Some, IfSome, replicate}
+use Rattle.m161_machine.specs.declared.conf.BootError.TheVariants.{Load}
+use Rattle.m161_machine.specs.Conf.{is_within_limits}
+use Rattle.m161_machine.specs.History.{History, boot_fault}
+use Rattle.m161_threads.specs.declared.cause.Cause.{Cause}
+use Rattle.m161_threads.specs.Runs.{Interleaves, IsOfRun, bad_call}
+use Rattle.s161_command.specs.declared.command.RunTask.{RunTask}
+use Rattle.s161_work.specs.declared.events.Stop.{Stop}
+use Rattle.s161_work.specs.declared.events.Stop.TheVariants.{End, Off}
+use Rattle.s161_work.specs.declared.fault.Fault.{Fault}
+use Rattle.s161_work.specs.declared.fault.Fault.TheVariants.{Conf, File, Image, Input, Log, Memory, Output, Schedule, Source, Threads}
+use Rattle.s161_work.specs.Runs.{status_of, summary_text}
+use Rattle.s161_work.specs.Faults.{BootsTo}
+use Rattle.s161_work.specs.Known.{OfKnown}
+use Rattle.s161_work.specs.Samples.{IsFileName}
+use Rattle.s161_work.specs.Sizes.{conf_of}
+
+-- The Steps, the output and the exit status of `run --threads`.
+
+-- how a run in threads stopped, by whether the machine is off
+abbrev pub stop_of : Bool → Stop
+stop_of off = if off then Off else End
+
+-- a finished run in threads, with this quota of Steps for each processor: what it prints and its
+-- exit status; the image's file has these bytes, as far as they are known
+pub record IsRunInThreads
+    (task : RunTask) (quota : ℕ) (known : Option (List ℕ))
+    (text : List ℕ) (status : ℕ) : Type 0 where
+  pub file : List ℕ
+  pub is_file : IfSome known (λ bytes. file ≡ bytes)
+  pub booted : History
+  pub boots : BootsTo file (conf_of task.size) booted
+  pub begins : bad_call task.size.processors task.size.processors ≡ None
+  pub made : List ℕ
+  pub off : Bool
+  pub machine : History
+  pub interleaves : Interleaves booted (replicate task.size.processors quota) made off machine
+  pub text_is : text ≡ summary_text machine (stop_of off) task.show_log
+  pub status_is : status ≡ status_of (stop_of off)
+
+-- the cause of a run that doesn't begin for this reason; or of one that began
+abbrev pub IsCause : Option Cause → Cause → Type 0
+IsCause (Some first) cause = cause ≡ first
+IsCause None cause = IsOfRun cause
+
+-- a run in threads is ended by this fault, and there was no fault before it in this order: of the
+-- image's file, the configuration, the image, the threads of a machine that was booted; or memory
+-- was refused
+abbrev pub IsThreadsFault : RunTask → Option (List ℕ) → Fault → Type 0
+IsThreadsFault task known (File name) =
+    (name.now ≡ task.image.now) × IsFileName task.image.now
+IsThreadsFault task known Conf = is_within_limits (conf_of task.size) ≡ false
+IsThreadsFault task known (Image e) =
+    OfKnown known (λ file. boot_fault file (conf_of task.size) ≡ Some (Load e))
+IsThreadsFault task known (Threads cause) =
+    OfKnown known (λ file. boot_fault file (conf_of task.size) ≡ None)
+    × IsCause (bad_call task.size.processors task.size.processors) cause
+IsThreadsFault task known Memory = Unit {0}
+IsThreadsFault task known (Schedule n) = ⊥
+IsThreadsFault task known (Log n) = ⊥
+IsThreadsFault task known Input = ⊥
+IsThreadsFault task known (Source e) = ⊥
+IsThreadsFault task known Output = ⊥

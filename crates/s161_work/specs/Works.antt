@@ -1,0 +1,89 @@
+use Rattle.std.specs.Prelude.{◌≡◌, ◌⊎◌, ℕ, List, Option}
+use Rattle.std.specs.Io.KnownBytes.{Appends}
+use Rattle.clap.specs.Words.{Text, subcommand_of}
+use Rattle.s161_command.specs.declared.command.Task.{Task}
+use Rattle.s161_command.specs.declared.command.Task.TheVariants.{Assemble, Debug, Demo, Disassemble, Replay, Run, RunInThreads}
+use Rattle.s161_work.specs.declared.fault.Fault.{Fault}
+use Rattle.s161_work.specs.declared.fault.Fault.TheVariants.{Memory, Output}
+use Rattle.s161_work.specs.Assemblies.{IsAssembled, IsAssemblyFault}
+use Rattle.s161_command.specs.Commands.{IsTask, command_line}
+use Rattle.s161_work.specs.Debugs.{IsDebug, IsDebugFault}
+use Rattle.s161_work.specs.Demos.{IsDemo}
+use Rattle.s161_work.specs.Listings.{IsDisassembled, IsListingFault}
+use Rattle.s161_work.specs.Replays.{IsReplayed, IsReplayFault}
+use Rattle.s161_work.specs.Runs.{IsFaultOf, IsRun}
+use Rattle.s161_work.specs.Samples.{image_file}
+use Rattle.s161_work.specs.Threads.{IsRunInThreads, IsThreadsFault}
+
+-- The effect of a command line.
+
+-- there is such a text with this exit status, and it was written to an output, which had the first
+-- bytes and has the second
+abbrev pub Prints :
+    (List ℕ → ℕ → Type 0) → Option (List ℕ) → Option (List ℕ) → ℕ → Type 0
+Prints IsResult before after status =
+    (text : List ℕ) × IsResult text status × Appends before after text
+
+-- the same of commands whose only exit status is 0
+abbrev pub WithZero : (List ℕ → Type 0) → List ℕ → ℕ → Type 0
+WithZero IsResult text status = (status ≡ 0) × IsResult text
+
+-- a finished task's text and exit status, over files and a standard input with these bytes
+abbrev pub IsResultOf :
+    Task → (Text → Option (List ℕ)) → Option (List ℕ) → List ℕ → ℕ → Type 0
+IsResultOf Demo files input = WithZero IsDemo
+IsResultOf (Run task) files input = IsRun task (image_file files task.image.now) input
+IsResultOf (RunInThreads task quota) files input =
+    IsRunInThreads task quota (image_file files task.image.now)
+IsResultOf (Replay task) files input =
+    IsReplayed task (image_file files task.image.now) (files task.text.now)
+IsResultOf (Debug task) files input =
+    WithZero (IsDebug task (image_file files task.image.now) (files task.text.now) input)
+IsResultOf Assemble files input = WithZero (IsAssembled input)
+IsResultOf (Disassemble image) files input = WithZero (IsDisassembled (image_file files image.now))
+
+-- a task was finished with this exit status, and printed its text
+abbrev pub Finishes :
+    Task → (Text → Option (List ℕ)) → Option (List ℕ) → Option (List ℕ) → Option (List ℕ) → ℕ →
+    Type 0
+Finishes task files input before after status =
+    Prints (IsResultOf task files input) before after status
+
+-- a task's work is ended by this fault, before anything is printed
+abbrev pub IsTaskFault : Task → (Text → Option (List ℕ)) → Option (List ℕ) → Fault → Type 0
+IsTaskFault Demo files input fault = fault ≡ Memory
+IsTaskFault (Run task) files input fault =
+    IsFaultOf task (image_file files task.image.now) input fault
+IsTaskFault (RunInThreads task quota) files input fault =
+    IsThreadsFault task (image_file files task.image.now) fault
+IsTaskFault (Replay task) files input fault =
+    IsReplayFault task (image_file files task.image.now) (files task.text.now) fault
+IsTaskFault (Debug task) files input fault =
+    IsDebugFault task (image_file files task.image.now) (files task.text.now) fault
+IsTaskFault Assemble files input fault = IsAssemblyFault input fault
+IsTaskFault (Disassemble image) files input fault =
+    IsListingFault image.now (image_file files image.now) fault
+
+-- there is such a text and exit status
+abbrev pub Exists : (List ℕ → ℕ → Type 0) → Type 0
+Exists IsResult = (text : List ℕ) × (status : ℕ) × IsResult text status
+
+-- there was such a text, and the output failed; or there was this fault before, and the output is
+-- unchanged
+abbrev pub Fails :
+    (List ℕ → ℕ → Type 0) → (Fault → Type 0) → Option (List ℕ) → Option (List ℕ) → Fault → Type 0
+Fails IsResult IsFault before after fault =
+    ((fault ≡ Output) × Exists IsResult) ⊎ (IsFault fault × (after ≡ before))
+
+-- a command line's task was finished, over files and a standard input with these bytes, and a
+-- standard output that had the first bytes and has the second
+abbrev pub Does :
+    List Text → (Text → Option (List ℕ)) → Option (List ℕ) → Option (List ℕ) → Option (List ℕ) →
+    ℕ → Type 0
+Does words files input before after status =
+    (task : Task) × IsTask (subcommand_of command_line words) task
+    × Finishes task files input before after status
+
+-- the exit status of a command that finished without a fault and without a refused event
+abbrev pub IsDone : ℕ → Type 0
+IsDone status = (status ≡ 0) ⊎ (status ≡ 3) ⊎ (status ≡ 4)

@@ -1,0 +1,71 @@
+//! The text that `run` prints.
+
+ghost use Rattle.std.specs.Prelude.{◌≡◌, ◌++◌, ◌<◌, length, IfOk, OnOk};
+ghost use Rattle.m161_steplog.specs.Log.{log_text};
+ghost use Rattle.s161_work.specs.Runs.{output_text, started_text, summary_text};
+
+use crate::events::Stop;
+use crate::{Machine, Session};
+use m161_machine::ProcessorState;
+use m161_steplog::write_log;
+use std::alloc::{AllocError, Global};
+
+/// The console's output, each started processor, the log if it was asked for, and why the events
+/// ended.
+pub fn summary(
+    alloc: Global,
+    session: &Session,
+    stop: Stop,
+    show_log: bool,
+) -> Result<Vec<u8>, AllocError>
+    ensures { IfOk result (λ text. text.items ≡ summary_text session.now.machine stop show_log) }
+{
+    let machine = session.machine();
+    let mut text = Vec::new(alloc);
+    push_output(&mut text, machine.output())?;
+    for p in 0..machine.processors() {
+        push_processor(&mut text, session, p)?;
+    }
+    if show_log {
+        push_log(alloc, &mut text, machine)?;
+    }
+    let line = format!(in alloc; "{stop}\n")?;
+    text.extend_from_slice(line.as_bytes())?;
+    Ok(text)
+}
+
+// The bytes that the console has sent, with a line end if they lack one.
+fn push_output(text: &mut Vec<u8>, output: &[u8]) -> Result<(), AllocError>
+    ensures { OnOk result (text.new.items ≡ text.old.items ++ output_text output.now) }
+{
+    text.extend_from_slice(output)?;
+    if let Some(last) = output.last() {
+        if *last != b'\n' {
+            text.push(b'\n')?;
+        }
+    }
+    Ok(())
+}
+
+// A processor, if it was started.
+fn push_processor(text: &mut Vec<u8>, session: &Session, p: u32) -> Result<(), AllocError>
+    requires { p < length session.now.machine.state.processors }
+    ensures { OnOk result (text.new.items
+        ≡ text.old.items ++ started_text session.now.machine.state p) }
+{
+    match session.machine().state(p) {
+        ProcessorState::Stopped => Ok(()),
+        ProcessorState::Running | ProcessorState::Waiting => {
+            let shown = session.show_regs(p)?;
+            text.extend_from_slice(shown.as_bytes())
+        }
+    }
+}
+
+fn push_log(alloc: Global, text: &mut Vec<u8>, machine: &Machine) -> Result<(), AllocError>
+    ensures { OnOk result (text.new.items ≡ text.old.items ++ log_text machine.now.log) }
+{
+    let entries = machine.copy_log(alloc)?;
+    let log = write_log(alloc, &entries)?;
+    text.extend_from_slice(log.as_bytes())
+}

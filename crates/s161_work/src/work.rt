@@ -1,0 +1,350 @@
+//! The work of a command line.
+
+ghost use Rattle.std.specs.Prelude.{◌≡◌, ◌≢◌, ◌⊎◌, ◌≤◌, true, false, IfErr, IfOk, OnOk, map, string_bytes};
+ghost use Rattle.std.specs.Io.KnownBytes.{Appends};
+ghost use Rattle.clap.specs.Words.{kind_of};
+ghost use Rattle.s161_work.specs.Assemblies.{IsAssembled, IsAssemblyFault};
+ghost use Rattle.s161_command.specs.Commands.{IsAccepted, IsHelp};
+ghost use Rattle.s161_work.specs.Debugs.{IsDebug, IsDebugFault};
+ghost use Rattle.s161_work.specs.Demos.{IsDemo};
+ghost use Rattle.s161_work.specs.Listings.{IsDisassembled, IsListingFault};
+ghost use Rattle.s161_work.specs.Replays.{IsReplayed, IsReplayFault};
+ghost use Rattle.s161_work.specs.Runs.{IsFaultOf, IsRun};
+ghost use Rattle.s161_work.specs.Samples.{image_file};
+ghost use Rattle.s161_work.specs.Threads.{IsRunInThreads, IsThreadsFault};
+ghost use Rattle.s161_work.specs.Works.{Does, Fails, Finishes, IsDone, IsTaskFault, IsResultOf, Prints, WithZero};
+
+use crate::assembly::assembly;
+use crate::debug::debug;
+use crate::demo::demo;
+use crate::disassembly::disassembly;
+use crate::fault::Fault;
+use crate::files::FileSource;
+use crate::input::read_input;
+use crate::replay::replay;
+use crate::run::{Finished, run};
+use crate::sample::read_image;
+use crate::threaded::run_in_threads;
+use clap::Error;
+use clap::error::ErrorKind;
+use s161_command::{FilesTask, RunTask, Task, parse};
+use std::alloc::Global;
+use std::convert::AsStr;
+use std::io::{Read, Write};
+use std::sync::Wait;
+use std::thread::Threads;
+
+/// The whole program: does the work of a command line, or reports the fault of reading its words.
+/// Returns the exit status.
+pub fn start<A, F, I, O, E>(
+    rt: &A,
+    words: Result<Vec<String>, Fault<'static>>,
+    files: &mut F,
+    input: &mut I,
+    output: &mut O,
+    errors: &mut E,
+) -> u8
+where
+    A: AllocGlobal + Threads + Wait + Sync,
+    F: FileSource,
+    I: Read,
+    O: Write,
+    E: Write,
+    ensures accepted { IsDone result
+        → IfOk words.entry (λ ws. IsAccepted (map string_bytes ws.items)) }
+    ensures rejected { result ≡ 2
+        → IfOk words.entry (λ ws. ¬ IsAccepted (map string_bytes ws.items)) }
+    ensures finished { IsDone result → IfOk words.entry (λ ws. Does (map string_bytes ws.items)
+        (F.known files.old) (I.remaining input.old) (O.contents output.old)
+        (O.contents output.new) result) }
+    ensures errors { IsDone result → E.contents errors.new ≡ E.contents errors.old }
+    ensures unread { IfErr words.entry (λ _. result ≡ 1) }
+    ensures within { result ≤ 4 }
+{
+    match words {
+        Ok(words) => work(rt, words.as_slice(), files, input, output, errors),
+        Err(unread) => report(unread, errors),
+    }
+}
+
+/// Does the work of a command line. Returns the exit status: 0 for a finished demo, debug, as or
+/// dis, a machine that switched itself off, or a log that agrees; 1 for a fault, or a refused event
+/// of a run; 2 for a rejected command line; 3 if the schedule or the Steps of the threads ended; 4
+/// for a log that differs. The output is complete in memory before it is written.
+pub fn work<A, S, F, I, O, E>(
+    rt: &A,
+    words: &[S],
+    files: &mut F,
+    input: &mut I,
+    output: &mut O,
+    errors: &mut E,
+) -> u8
+where
+    A: AllocGlobal + Threads + Wait + Sync,
+    S: AsStr,
+    F: FileSource,
+    I: Read,
+    O: Write,
+    E: Write,
+    ensures accepted { IsDone result → IsAccepted (map S.text words.now) }
+    ensures rejected { result ≡ 2 → ¬ IsAccepted (map S.text words.now) }
+    ensures finished { IsDone result → Does (map S.text words.now) (F.known files.old)
+        (I.remaining input.old) (O.contents output.old) (O.contents output.new) result }
+    ensures errors { IsDone result → E.contents errors.new ≡ E.contents errors.old }
+    ensures within { result ≤ 4 }
+{
+    let alloc = rt.alloc();
+    let task = match parse(alloc, words) {
+        Ok(task) => task,
+        Err(error) => return reject(alloc, &error, output, errors),
+    };
+    match do_task(rt, alloc, task, files, input, output) {
+        Ok(status) => status,
+        Err(fault) => report(fault, errors),
+    }
+}
+
+// Does a task. Returns the exit status.
+fn do_task<'a, R: Threads + Wait + Sync, F: FileSource, I: Read, O: Write>(
+    rt: &R,
+    alloc: Global,
+    task: Task<'a>,
+    files: &mut F,
+    input: &mut I,
+    output: &mut O,
+) -> Result<u8, Fault<'a>>
+    ensures finished { IfOk result (Finishes task.entry (F.known files.old)
+        (I.remaining input.old) (O.contents output.old) (O.contents output.new)) }
+    ensures fault { IfErr result (Fails
+        (IsResultOf task.entry (F.known files.old) (I.remaining input.old))
+        (IsTaskFault task.entry (F.known files.old) (I.remaining input.old))
+        (O.contents output.old) (O.contents output.new)) }
+    ensures within { IfOk result (λ status. (status ≤ 4) × (status ≢ 2)) }
+{
+    match task {
+        Task::Demo => do_demo(alloc, output),
+        Task::Run(task) => do_run(alloc, task, files, input, output),
+        Task::RunInThreads(task, quota) => do_threads(rt, alloc, task, quota, files, output),
+        Task::Replay(task) => do_replay(alloc, task, files, output),
+        Task::Debug(task) => do_debug(alloc, task, files, input, output),
+        Task::Assemble => do_as(alloc, input, output),
+        Task::Disassemble(image) => do_dis(alloc, image, files, output),
+    }
+}
+
+// Prints the demo. Returns the exit status.
+fn do_demo<'a, O: Write>(alloc: Global, output: &mut O) -> Result<u8, Fault<'a>>
+    ensures printed { IfOk result (Prints (WithZero IsDemo)
+        (O.contents output.old) (O.contents output.new)) }
+    ensures status { IfOk result (λ status. status ≡ 0) }
+    ensures fault { IfErr result (Fails (WithZero IsDemo) (λ fault. fault ≡ Fault.Memory)
+        (O.contents output.old) (O.contents output.new)) }
+{
+    let text = demo(alloc)?;
+    put(output, text.as_bytes())?;
+    Ok(0)
+}
+
+// Runs an image, and prints the result. Returns the exit status.
+fn do_run<'a, F: FileSource, I: Read, O: Write>(
+    alloc: Global,
+    task: RunTask<'a>,
+    files: &mut F,
+    input: &mut I,
+    output: &mut O,
+) -> Result<u8, Fault<'a>>
+    ensures printed { IfOk result (Prints (IsRun task.entry
+        (image_file (F.known files.old) task.entry.image.now) (I.remaining input.old))
+        (O.contents output.old) (O.contents output.new)) }
+    ensures within { IfOk result (λ status. (status ≤ 3) × (status ≢ 2)) }
+    ensures fault { IfErr result (Fails
+        (IsRun task.entry
+        (image_file (F.known files.old) task.entry.image.now) (I.remaining input.old))
+        (IsFaultOf task.entry
+        (image_file (F.known files.old) task.entry.image.now) (I.remaining input.old))
+        (O.contents output.old) (O.contents output.new)) }
+{
+    print(output, run(alloc, files, input, task)?)
+}
+
+// Runs an image in threads, and prints the result. Returns the exit status.
+fn do_threads<'a, R: Threads + Wait + Sync, F: FileSource, O: Write>(
+    rt: &R,
+    alloc: Global,
+    task: RunTask<'a>,
+    quota: u32,
+    files: &mut F,
+    output: &mut O,
+) -> Result<u8, Fault<'a>>
+    ensures printed { IfOk result (Prints (IsRunInThreads task.entry quota
+        (image_file (F.known files.old) task.entry.image.now))
+        (O.contents output.old) (O.contents output.new)) }
+    ensures within { IfOk result (λ status. (status ≡ 0) ⊎ (status ≡ 3)) }
+    ensures fault { IfErr result (Fails
+        (IsRunInThreads task.entry quota (image_file (F.known files.old) task.entry.image.now))
+        (IsThreadsFault task.entry (image_file (F.known files.old) task.entry.image.now))
+        (O.contents output.old) (O.contents output.new)) }
+{
+    print(output, run_in_threads(rt, alloc, files, task, quota)?)
+}
+
+// Replays a log, and prints the verdict. Returns the exit status.
+fn do_replay<'a, F: FileSource, O: Write>(
+    alloc: Global,
+    task: FilesTask<'a>,
+    files: &mut F,
+    output: &mut O,
+) -> Result<u8, Fault<'a>>
+    ensures printed { IfOk result (Prints (IsReplayed task.entry
+        (image_file (F.known files.old) task.entry.image.now)
+        (F.known files.old task.entry.text.now))
+        (O.contents output.old) (O.contents output.new)) }
+    ensures within { IfOk result (λ status. (status ≡ 0) ⊎ (status ≡ 4)) }
+    ensures fault { IfErr result (Fails
+        (IsReplayed task.entry (image_file (F.known files.old) task.entry.image.now)
+        (F.known files.old task.entry.text.now))
+        (IsReplayFault task.entry (image_file (F.known files.old) task.entry.image.now)
+        (F.known files.old task.entry.text.now))
+        (O.contents output.old) (O.contents output.new)) }
+{
+    print(output, replay(alloc, files, task)?)
+}
+
+// Executes a debugger's commands, and prints what they show. Returns the exit status.
+fn do_debug<'a, F: FileSource, I: Read, O: Write>(
+    alloc: Global,
+    task: FilesTask<'a>,
+    files: &mut F,
+    input: &mut I,
+    output: &mut O,
+) -> Result<u8, Fault<'a>>
+    ensures printed { IfOk result (Prints (WithZero (IsDebug task.entry
+        (image_file (F.known files.old) task.entry.image.now)
+        (F.known files.old task.entry.text.now) (I.remaining input.old)))
+        (O.contents output.old) (O.contents output.new)) }
+    ensures status { IfOk result (λ status. status ≡ 0) }
+    ensures fault { IfErr result (Fails
+        (WithZero (IsDebug task.entry (image_file (F.known files.old) task.entry.image.now)
+        (F.known files.old task.entry.text.now) (I.remaining input.old)))
+        (IsDebugFault task.entry (image_file (F.known files.old) task.entry.image.now)
+        (F.known files.old task.entry.text.now))
+        (O.contents output.old) (O.contents output.new)) }
+{
+    print(output, debug(alloc, files, input, task)?)
+}
+
+// Assembles the text of standard input, and writes its file. Returns the exit status.
+fn do_as<'a, I: Read, O: Write>(
+    alloc: Global,
+    input: &mut I,
+    output: &mut O,
+) -> Result<u8, Fault<'a>>
+    ensures printed { IfOk result (Prints (WithZero (IsAssembled (I.remaining input.old)))
+        (O.contents output.old) (O.contents output.new)) }
+    ensures status { IfOk result (λ status. status ≡ 0) }
+    ensures fault { IfErr result (Fails (WithZero (IsAssembled (I.remaining input.old)))
+        (IsAssemblyFault (I.remaining input.old))
+        (O.contents output.old) (O.contents output.new)) }
+{
+    let source = read_input(alloc, input)?;
+    let file = assembly(alloc, source.as_str())?;
+    put(output, &file)?;
+    Ok(0)
+}
+
+// Prints the listing of an image. Returns the exit status.
+fn do_dis<'a, F: FileSource, O: Write>(
+    alloc: Global,
+    image: &'a str,
+    files: &mut F,
+    output: &mut O,
+) -> Result<u8, Fault<'a>>
+    ensures printed { IfOk result (Prints
+        (WithZero (IsDisassembled (image_file (F.known files.old) image.entry.now)))
+        (O.contents output.old) (O.contents output.new)) }
+    ensures status { IfOk result (λ status. status ≡ 0) }
+    ensures fault { IfErr result (Fails
+        (WithZero (IsDisassembled (image_file (F.known files.old) image.entry.now)))
+        (IsListingFault image.entry.now (image_file (F.known files.old) image.entry.now))
+        (O.contents output.old) (O.contents output.new)) }
+{
+    let file = read_image(alloc, files, image)?;
+    let text = disassembly(alloc, &file)?;
+    put(output, text.as_bytes())?;
+    Ok(0)
+}
+
+// Prints the text of a finished command. Returns its exit status.
+fn print<'a, O: Write>(output: &mut O, finished: Finished) -> Result<u8, Fault<'a>>
+    ensures status { IfOk result (λ status. status ≡ finished.status) }
+    ensures printed { OnOk result (Appends (O.contents output.old) (O.contents output.new)
+        finished.text.items) }
+    ensures fault { IfErr result (λ fault. fault ≡ Fault.Output) }
+{
+    put(output, finished.text.as_slice())?;
+    Ok(finished.status)
+}
+
+// Writes all of an output.
+fn put<'a, O: Write>(output: &mut O, bytes: &[u8]) -> Result<(), Fault<'a>>
+    ensures ok { OnOk result (Appends (O.contents output.old) (O.contents output.new) bytes.now) }
+    ensures err { IfErr result (λ fault. fault ≡ Fault.Output) }
+{
+    match output.write_all(bytes) {
+        Ok(()) => Ok(()),
+        Err(_) => Err(Fault::Output),
+    }
+}
+
+/// Writes a fault's line to standard error. Returns the exit status.
+pub fn report<E: Write>(fault: Fault<'_>, errors: &mut E) -> u8
+    ensures { result ≡ 1 }
+{
+    let _ = writeln!(errors, "{fault}");
+    1
+}
+
+// Writes clap's text of a rejected command line. Returns the exit status.
+fn reject<O: Write, E: Write>(alloc: Global, error: &Error, output: &mut O, errors: &mut E) -> u8
+    ensures rejected { result ≡ 2 → kind_of error.now ≢ ErrorKind.OutOfMemory }
+    ensures help { result ≡ 2 → IsHelp (kind_of error.now)
+        → E.contents errors.new ≡ E.contents errors.old }
+    ensures usage { result ≡ 2 → ¬ IsHelp (kind_of error.now)
+        → O.contents output.new ≡ O.contents output.old }
+    ensures within { (1 ≤ result) × (result ≤ 2) }
+{
+    if error.kind() == ErrorKind::OutOfMemory {
+        return report(Fault::Memory, errors);
+    }
+    let Ok(text) = error.to_string(alloc) else {
+        return report(Fault::Memory, errors);
+    };
+    write_rejection(text.as_bytes(), !error.use_stderr(), output, errors)
+}
+
+// Writes a text to standard output if it is help, else to standard error. Returns the exit status:
+// 2 if all of it was written.
+fn write_rejection<O: Write, E: Write>(
+    text: &[u8],
+    is_help: bool,
+    output: &mut O,
+    errors: &mut E,
+) -> u8
+    ensures help { result ≡ 2 → is_help ≡ true
+        → Appends (O.contents output.old) (O.contents output.new) text.now
+        × (E.contents errors.new ≡ E.contents errors.old) }
+    ensures usage { result ≡ 2 → is_help ≡ false
+        → Appends (E.contents errors.old) (E.contents errors.new) text.now
+        × (O.contents output.new ≡ O.contents output.old) }
+    ensures within { (1 ≤ result) × (result ≤ 2) }
+{
+    let written = if is_help {
+        put(output, text)
+    } else {
+        put(errors, text)
+    };
+    match written {
+        Ok(()) => 2,
+        Err(fault) => report(fault, errors),
+    }
+}
