@@ -1,6 +1,6 @@
 //! The board.
 
-ghost use Rattle.std.specs.Prelude.{◌≡◌, ◌-◌, ◌%◌, ◌^◌, ◌<◌, ◌≤◌, length};
+ghost use Rattle.std.specs.Prelude.{◌≡◌, ◌-◌, ◌%◌, ◌^◌, ◌<◌, ◌≤◌, length, IfOk};
 ghost use Rattle.m161_bus.specs.Board.{KeepsLines, KeepsSize, ReadsSlot, after_read, board_at_boot, board_read, board_written, irqs_through, irqs_with, with_slot_word, slot_word};
 ghost use Rattle.m161_bus.specs.Outcome.{LeavesUnlessRefused};
 ghost use Rattle.m161_bus.specs.Registers.{IsThere};
@@ -11,6 +11,7 @@ use crate::console::Console;
 use crate::lines::{PLACES, lines_of_all};
 use crate::place::Place;
 use crate::register::{Register, register_of};
+use std::alloc::{AllocError, Global};
 use std::marker::Model;
 use thiserror::Error;
 
@@ -113,6 +114,24 @@ impl<D: Console> Board<D> {
             places,
             console,
         }
+    }
+
+    /// A board in the same state. Allocates its console's room.
+    #[inline(never)]
+    pub fn copy(&self, alloc: Global) -> Result<Board<D>, AllocError>
+        ensures { IfOk result (λ board. board ≡ self.now) }
+    {
+        let console = self.console.copy(alloc)?;
+        Ok(Board {
+            lines: self.lines,
+            ram: self.ram,
+            processors: self.processors,
+            irqe: self.irqe,
+            started: self.started,
+            off: self.off,
+            places: self.places,
+            console,
+        })
     }
 
     /// The word that processor `c` reads at a physical address; reading CHAR removes a byte. A bus

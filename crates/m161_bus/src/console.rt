@@ -43,6 +43,10 @@ pub trait Console: Drop {
     fn fresh(alloc: Global) -> Result<Self, AllocError>
         ensures { IfOk result (λ console. content console ≡ console_at_boot) };
 
+    /// A console in the same state. Allocates its room.
+    fn copy(&self, alloc: Global) -> Result<Self, AllocError>
+        ensures { IfOk result (λ console. content console ≡ content self.now) };
+
     /// Reads a register; reading CHAR removes the byte. Does not allocate.
     fn read(&mut self, register: ConsoleRegister) -> u32
         ensures word { result ≡ console_read register (content self.old) }

@@ -77,6 +77,19 @@ impl Console for PlainConsole {
         })
     }
 
+    fn copy(&self, alloc: Global) -> Result<PlainConsole, AllocError> {
+        let mut waiting = Vec::with_capacity(alloc, ROOM)?;
+        waiting.extend_from_slice(self.waiting.as_slice())?;
+        Ok(PlainConsole {
+            waiting,
+            latch: self.latch,
+            sent: Vec::from_slice(alloc, self.sent.as_slice())?,
+            write_irq: self.write_irq,
+            read_enable: self.read_enable,
+            read_force: self.read_force,
+        })
+    }
+
     fn read(&mut self, register: ConsoleRegister) -> u32 {
         match register {
             ConsoleRegister::Char => self.take_byte(),

@@ -116,6 +116,32 @@ impl Cop0 {
         }
     }
 
+    /// The same registers again.
+    pub fn copy(&self) -> Cop0
+        ensures { result ≡ self.now }
+    {
+        Cop0 {
+            index: self.index,
+            entry_lo: self.entry_lo,
+            context: self.context,
+            bad_vaddr: self.bad_vaddr,
+            entry_hi: self.entry_hi,
+            compare: self.compare,
+            status: self.status,
+            epc: self.epc,
+            branch_delay: self.branch_delay,
+            unit: self.unit,
+            code: self.code,
+            timer: self.timer,
+            software: self.software,
+            ip: self.ip,
+            mask: self.mask,
+            age: self.age,
+            offset: self.offset,
+            fire: self.fire,
+        }
+    }
+
     /// The word of a register, as `mfc0` reads it. `lines` has the board's lines of this processor
     /// in Cause's places: 00000400 the bus, 00000800 the interprocessor interrupt.
     #[tactic(auto, unfolding(crate::specs::Control::read_of))]

@@ -41,6 +41,16 @@ impl Links {
         }
     }
 
+    /// The same links again.
+    pub fn copy(&self) -> Links
+        ensures { result ≡ self.now }
+    {
+        Links {
+            words: self.words,
+            any: self.any,
+        }
+    }
+
     /// Whether a processor's link is live and to this word.
     pub(crate) fn names(&self, c: u32, word: u32) -> bool
         requires { c < 32 }

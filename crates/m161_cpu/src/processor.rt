@@ -120,6 +120,25 @@ impl<T: Tlb> Cpu<T> {
         }
     }
 
+    /// A processor in the same state.
+    #[inline(never)]
+    pub fn copy(&self) -> Cpu<T>
+        ensures { result ≡ self.now }
+    {
+        Cpu {
+            registers: self.registers,
+            hi: self.hi,
+            lo: self.lo,
+            pc: self.pc,
+            following: self.following,
+            slot: self.slot,
+            state: self.state,
+            unticked: self.unticked,
+            control: self.control.copy(),
+            tlb: self.tlb.copy(),
+        }
+    }
+
     /// Starts it at an address, with these words in registers 4 and 29. The count of its Steps
     /// stays.
     pub fn start(&mut self, pc: u32, r4: u32, r29: u32)

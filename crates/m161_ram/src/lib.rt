@@ -50,6 +50,14 @@ impl Ram {
         Ram { bytes }
     }
 
+    /// A copy of it.
+    pub fn copy(&self, alloc: Global) -> Result<Ram, AllocError>
+        ensures { IfOk result (λ ram. ram ≡ self.now) }
+    {
+        let bytes = Vec::from_slice(alloc, self.bytes.as_slice())?;
+        Ok(Ram { bytes })
+    }
+
     /// The number of bytes.
     #[inline(always)]
     pub fn size(&self) -> u32

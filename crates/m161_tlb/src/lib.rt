@@ -39,6 +39,10 @@ pub trait Tlb: Drop {
     fn empty() -> Self
         ensures { rows result ≡ start_rows };
 
+    /// A table with the same rows.
+    fn copy(&self) -> Self
+        ensures { rows result ≡ rows self.now };
+
     /// Row `i`.
     fn read(&self, i: u8) -> Row
         requires { i < 64 }

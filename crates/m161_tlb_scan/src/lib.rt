@@ -57,6 +57,16 @@ impl Tlb for Scan {
         scan
     }
 
+    fn copy(&self) -> Scan {
+        // So that the proof knows how many rows there are.
+        let _pages = &self.pages;
+        let mut scan = Scan::empty();
+        for i in 0..64u8 {
+            scan.write(i, self.read(i));
+        }
+        scan
+    }
+
     fn read(&self, i: u8) -> Row {
         self.rows[i as usize]
     }
