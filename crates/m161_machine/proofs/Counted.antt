@@ -5,11 +5,12 @@ use Rattle.std.proofs.lemmas.List.{get_or-set_same, get_or-set_other, length-map
 use Rattle.std.proofs.lemmas.List.Sums.{sum_by-cons}
 use Rattle.m161_cpu.specs.declared.processor.Outcome.{Outcome}
 use Rattle.m161_cpu.specs.Processor.{Processor, stopped_processor}
+use Rattle.m161_machine.specs.declared.event.Entry.{Entry}
 use Rattle.m161_machine.specs.declared.event.Event.{Event}
 use Rattle.m161_machine.specs.declared.event.Event.TheVariants.{Step, Key, Done}
 use Rattle.m161_machine.specs.declared.event.Refusal.{Refusal}
 use Rattle.m161_machine.specs.State.{State, counts, counts_after, next}
-use Rattle.m161_machine.specs.History.{History, Start, CountsSteps, IsReplay, after_outcome, boot_state, events_of, rest_of_run, is_step_of, outcomes_of, run, steps_of}
+use Rattle.m161_machine.specs.History.{History, Start, CountsSteps, IsReplay, Leads, boot_state, events_of, is_step_of, steps_of}
 use Rattle.m161_machine.proofs.Counting.{counts_law}
 
 -- What the counts of a run say of its events.
@@ -19,29 +20,10 @@ abbrev pub counts_through : List Event → List ℕ → List ℕ
 counts_through [] cs = cs
 counts_through (e ∷ es) cs = counts_through es (counts_after e cs)
 
--- what comes after the first event of a run
-rest_of : (y : Option (List Outcome × State)) (first : Outcome) (os : List Outcome) (t : State) →
-    after_outcome first y ≡ Some (os, t) → (rest : List Outcome) × (y ≡ Some (rest, t))
-rest_of None first os t h = absurd (let bad : ◌≡◌ {A = Option (List Outcome × State)} None (Some (os, t)) = h in cc)
-rest_of (Some r) first os t h =
-    let pair : ◌≡◌ {A = List Outcome × State} (first ∷ r.0, r.1) (os, t) = cc in
-    let last_is : r.1 ≡ t = ap (λ x. x.1) pair in
-    (r.0, ap (λ u. Some (r.0, u)) last_is)
-
-counts_going : (x : Result (Outcome × State) Refusal) (e : Event) (es : List Event) (s t : State) (os : List Outcome) →
-    next s e ≡ x → ((u : State) (rest : List Outcome) → run u es ≡ Some (rest, t) → counts t ≡ counts_through es (counts u)) →
-    rest_of_run x (λ u. run u es) ≡ Some (os, t) → counts t ≡ counts_through es (counts_after e (counts s))
-counts_going (Err refusal) e es s t os is rest h = absurd (let bad : ◌≡◌ {A = Option (List Outcome × State)} None (Some (os, t)) = h in cc)
-counts_going (Ok r) e es s t os is rest h =
-    let after = rest_of (run r.1 es) r.0 os t h in
-    rest r.1 after.0 after.1 ∙ ap (counts_through es) (counts_law s r.1 e r.0 is)
-
-pub counts_run : (es : List Event) (s t : State) (os : List Outcome) → run s es ≡ Some (os, t) → counts t ≡ counts_through es (counts s)
-counts_run [] s t os h =
-    let pair : ◌≡◌ {A = List Outcome × State} ([], s) (os, t) = cc in
-    let same : s ≡ t = ap (λ x. x.1) pair in ap counts (sym same)
-counts_run (e ∷ es) s t os h =
-    counts_going (next s e) e es s t os refl (λ u rest k. counts_run es u t rest k) h
+pub counts_run : (es : List Entry) (s t : State) → Leads s es t → counts t ≡ counts_through (events_of es) (counts s)
+counts_run [] s t h = ap counts h
+counts_run (e ∷ es) s t h =
+    counts_run es h.0 t h.2 ∙ ap (counts_through (events_of es)) (counts_law s h.0 e.event e.outcome h.1)
 
 pub same_length : (e : Event) (cs : List ℕ) → length (counts_after e cs) ≡ length cs
 same_length (Step q) cs = length-set cs q (get_or cs q 0 + 1)
@@ -94,7 +76,7 @@ counts_steps h replay p inside =
     let es = events_of h.log in
     let cs = counts (boot_state h.start) in
     let through : counts h.state ≡ counts_through es cs =
-    counts_run es (boot_state h.start) h.state (outcomes_of h.log) replay in
+    counts_run h.log (boot_state h.start) h.state replay in
     let number : length (counts h.state) ≡ length h.state.processors =
     length-map h.state.processors (λ (q : Processor). q.count) in
     let there : p < length cs =

@@ -17,7 +17,7 @@ use Rattle.m161_machine.specs.declared.event.Event.{Event}
 use Rattle.m161_machine.specs.declared.event.Event.TheVariants.{Step, Key, Done}
 use Rattle.m161_machine.specs.declared.event.Refusal.{Refusal}
 use Rattle.m161_machine.specs.declared.event.Refusal.TheVariants.{KeyFull as KeyFullRefusal}
-use Rattle.m161_machine.specs.State.{State, answer, answered_done, answered_key, counts, counts_after, live_links, next, processor_at, refusal, refusal_of_done, step_result, unless, with_board, with_starts, with_step}
+use Rattle.m161_machine.specs.State.{State, answer, answered_done, answered_key, counts, counts_after, next, processor_at, refusal, refusal_of_done, step_result, unless, with_board, with_starts, with_step}
 use Rattle.m161_machine.proofs.Starting.{count_kept}
 use Rattle.m161_tlb.specs.declared.row.Row.{Row}
 
@@ -90,7 +90,7 @@ counts_stepped p s =
     starts_count s.board.started x.after.around.board 0 (set s.processors p x.after.processor)
     ∙ map-set (λ (q : Processor). q.count) s.processors p x.after.processor
     ∙ ap (λ n. set (counts s) p n)
-    (step_count (scene (processor_at p s.processors) (around p s.memory s.board (live_links s.stores s.links)))
+    (step_count (scene (processor_at p s.processors) (around p s.memory s.board s.links))
     ∙ ap (λ n. n + 1) (sym (count_at s.processors p)))
 
 -- an answer that is given isn't refused
@@ -99,7 +99,7 @@ pub given : (r : Option Refusal) (x : Result (Outcome × State) Refusal) (y : Ou
 given None x y h = h
 given (Some r) x y h = absurd (let bad : ◌≡◌ {A = Result (Outcome × State) Refusal} (Err r) (Ok y) = h in cc)
 
-state_of : (x y : Outcome × State) → ◌≡◌ {A = Result (Outcome × State) Refusal} (Ok x) (Ok y) → x.1 ≡ y.1
+pub state_of : (x y : Outcome × State) → ◌≡◌ {A = Result (Outcome × State) Refusal} (Ok x) (Ok y) → x.1 ≡ y.1
 state_of x y h = let pair : x ≡ y = cc in ap (λ z. z.1) pair
 
 counts_keyed : (s t : State) (o : Outcome) (r : Result BoardState KeyFull) →

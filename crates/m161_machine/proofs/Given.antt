@@ -20,8 +20,8 @@ use Rattle.m161_machine.specs.declared.event.Event.{Event}
 use Rattle.m161_machine.specs.declared.event.Event.TheVariants.{Step, Key, Done}
 use Rattle.m161_machine.specs.declared.event.Refusal.{Refusal}
 use Rattle.m161_machine.specs.declared.event.Refusal.TheVariants.{KeyFull as KeyFullRefusal}
-use Rattle.m161_machine.specs.State.{State, answer, answered_done, answered_key, live_links, next, processor_at, refusal, refusal_of_done, step_result, with_board, with_step}
-use Rattle.m161_machine.specs.History.{CanGive, after_outcome, events_of, rest_of_run, outcomes_of, run}
+use Rattle.m161_machine.specs.State.{State, answer, answered_done, answered_key, next, processor_at, refusal, refusal_of_done, step_result, with_board, with_step}
+use Rattle.m161_machine.specs.History.{CanGive, Leads}
 use Rattle.m161_machine.proofs.Counting.{given}
 
 -- Each entry of a run has an outcome that its event can have.
@@ -64,7 +64,7 @@ step_proper s = proper_in s.processor.state s
 stepped_proper : (p : ℕ) (s : State) → IsOfStep (step_result p s).outcome
 unfolding step_result
 stepped_proper p s =
-    step_proper (scene (processor_at p s.processors) (around p s.memory s.board (live_links s.stores s.links)))
+    step_proper (scene (processor_at p s.processors) (around p s.memory s.board s.links))
 
 -- the outcome of an answer
 outcome_of : (x y : Outcome × State) → ◌≡◌ {A = Result (Outcome × State) Refusal} (Ok x) (Ok y) → x.0 ≡ y.0
@@ -86,33 +86,12 @@ answer_gives (Step p) s t o h =
 answer_gives (Key byte) s t o h = key_gives s t o (board_key byte s.board) h
 answer_gives Done s t o h = done_gives s t o (board_done s.board) h
 
-gives : (e : Event) (s t : State) (o : Outcome) → next s e ≡ Ok (o, t) → CanGive e o
+pub gives : (e : Event) (s t : State) (o : Outcome) → next s e ≡ Ok (o, t) → CanGive e o
 unfolding next
 gives e s t o h = answer_gives e s t o (given (refusal s e) (answer s e) (o, t) h)
 
--- the first outcome of a run, and the rest
-after_first : (y : Option (List Outcome × State)) (o first : Outcome) (os : List Outcome) (t : State) →
-    after_outcome o y ≡ Some (first ∷ os, t) → (o ≡ first) × (y ≡ Some (os, t))
-after_first None o first os t h = absurd (let bad : ◌≡◌ {A = Option (List Outcome × State)} None (Some (first ∷ os, t)) = h in cc)
-after_first (Some q) o first os t h =
-    let pair : ◌≡◌ {A = List Outcome × State} (o ∷ q.0, q.1) (first ∷ os, t) = cc in
-    let list : ◌≡◌ {A = List Outcome} (o ∷ q.0) (first ∷ os) = ap (λ x. x.0) pair in
-    let first_is : o ≡ first = cc in
-    let rest_is : q.0 ≡ os = cc in
-    let last_is : q.1 ≡ t = ap (λ x. x.1) pair in
-    (first_is, λ i. Some (rest_is i, last_is i))
-
-going_first : (x : Result (Outcome × State) Refusal) (y : State → Option (List Outcome × State)) (first : Outcome) (os : List Outcome) (t : State) →
-    rest_of_run x y ≡ Some (first ∷ os, t) → (u : State) × (x ≡ Ok (first, u)) × (y u ≡ Some (os, t))
-going_first (Err refusal) y first os t h = absurd (let bad : ◌≡◌ {A = Option (List Outcome × State)} None (Some (first ∷ os, t)) = h in cc)
-going_first (Ok r) y first os t h =
-    let parts = after_first (y r.1) r.0 first os t h in
-    (r.1, ap (λ o. Ok (o, r.1)) parts.0, parts.1)
-
-pub run_gives : (log : List Entry) (s t : State) → run s (events_of log) ≡ Some (outcomes_of log, t) →
-    All (λ (e : Entry). CanGive e.event e.outcome) log
+pub run_gives : (log : List Entry) (s t : State) → Leads s log t → All (λ (e : Entry). CanGive e.event e.outcome) log
 run_gives [] s t h = All-nil (λ (e : Entry). CanGive e.event e.outcome)
 run_gives (e ∷ log) s t h =
-    let parts = going_first (next s e.event) (λ u. run u (events_of log)) e.outcome (outcomes_of log) t h in
     All-cons (λ (e : Entry). CanGive e.event e.outcome) e log
-    (gives e.event s parts.0 e.outcome parts.1) (run_gives log parts.0 t parts.2)
+    (gives e.event s h.0 e.outcome h.1) (run_gives log h.0 t h.2)

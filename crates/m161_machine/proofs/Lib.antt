@@ -1,12 +1,16 @@
-pub mod Replay
+pub mod Leading
 pub mod Continuing
 pub mod Counting
 pub mod Resuming
 pub mod Counted
+mod Accepting
 mod Given
 mod Linking
+mod Storing
 mod Starting
 mod Places
-mod Inputs
+mod Stepping
 mod Made
+mod Advancing
+mod Writing
 mod Booted

@@ -3,10 +3,14 @@ use Rattle.std.specs.Prelude.{◌==◌, ◌||◌, if◌then◌else◌, slice_set
 use Rattle.std.proofs.lemmas.List.{drop_all, drop-append-le, length-append, map-set}
 use Rattle.std.proofs.lemmas.List.Elements.{All-set, All-weaker, All-head, All-tail}
 use Rattle.m161_cpu.specs.Links.{LinkAct, Keep, LinkTo, End, unless_to, after_store, after_act, links_after}
-use Rattle.m161_machine.specs.State.{Link, live, live_links, touches, with_link_act, stores_after}
-use Rattle.m161_machine.specs.History.{IsMade}
+use Rattle.m161_machine.specs.StoreHistory.{Link, live, live_links, touches, with_link_act, stores_after}
 
--- The code keeps the words of the live links. They are those of the links that the meaning keeps, with all stores.
+-- A machine's state has the words of the live links. They are those of the links with all stores.
+
+-- a link was made when there were at most as many stores as now
+abbrev pub IsMade : List ℕ → Option Link → Type 0
+IsMade stores None = Unit {0}
+IsMade stores (Some link) = link.made ≤ length stores
 
 or_assoc : (a b c : Bool) → (a || b) || c ≡ a || (b || c)
 or_assoc true b c = refl

@@ -1,4 +1,4 @@
-use Rattle.std.specs.Prelude.{◌≡◌, ℕ, ◌-◌, ◌<◌, ◌≤◌, Bool, true, false, ◌==◌, List, [], ◌∷◌, ◌++◌, map, length, replicate, slice_index_or, Option, None, Some, Result, Ok, Err, All, if◌then◌else◌}
+use Rattle.std.specs.Prelude.{◌≡◌, ℕ, ◌+◌, ◌-◌, ◌<◌, Bool, false, ◌==◌, List, [], ◌∷◌, ◌++◌, map, length, replicate, slice_index_or, Option, None, Some, Result, Ok, Err, All, if◌then◌else◌}
 use Rattle.std.specs.List.{count_by}
 use Rattle.m161_elf.specs.declared.image.LoadError.{LoadError}
 use Rattle.m161_elf.specs.Image.{first_fault, IsImage}
@@ -17,8 +17,8 @@ use Rattle.m161_bus.specs.Console.{console_at_boot}
 use Rattle.m161_bus.specs.Board.{board_at_boot}
 use Rattle.m161_machine.specs.declared.event.Event.TheVariants.{Step, Key, Done}
 use Rattle.m161_machine.specs.declared.event.Refusal.TheVariants.{NoMemory as NoMemoryRefusal}
-use Rattle.m161_machine.specs.State.{Link, State, counts, next}
-use Rattle.m161_machine.specs.Parts.{CountUpTo, Parts, parts_of}
+use Rattle.m161_cpu.specs.Links.{no_links}
+use Rattle.m161_machine.specs.State.{State, counts, next}
 
 -- The history of a machine: it is the replay of its log.
 
@@ -27,6 +27,9 @@ pub record Start : Type 0 where
   pub bytes : List ℕ
   pub entry : ℕ
   pub conf : Conf
+
+abbrev pub start_of : List ℕ → ℕ → Conf → Start
+start_of bytes entry conf = record { bytes = bytes; entry = entry; conf = conf }
 
 -- the state at boot: processor 0 is started at the entry, and the others are stopped
 abbrev pub boot_state : Start → State
@@ -37,43 +40,29 @@ boot_state start = record {
       ∷ replicate (start.conf.processors - 1) stopped_processor;
   memory = start.bytes;
   board = board_at_boot start.conf.ram start.conf.processors console_at_boot;
-  links = replicate 32 None;
-  stores = [];
-  accepted = 0;
+  links = no_links;
+  made = 0;
 }
-
--- one more outcome, in front
-abbrev pub after_outcome : Outcome → Option (List Outcome × State) → Option (List Outcome × State)
-after_outcome o None = None
-after_outcome o (Some r) = Some (o ∷ r.0, r.1)
-
--- the rest of a run after an event, if the event is accepted
-abbrev pub rest_of_run :
-    Result (Outcome × State) Refusal → (State → Option (List Outcome × State)) →
-    Option (List Outcome × State)
-rest_of_run (Err refusal) rest = None
-rest_of_run (Ok r) rest = after_outcome r.0 (rest r.1)
-
--- the outcomes of a run and its last state, if each event is accepted
-abbrev pub run : State → List Event → Option (List Outcome × State)
-run s [] = Some ([], s)
-run s (e ∷ es) = rest_of_run (next s e) (λ t. run t es)
 
 abbrev pub events_of : List Entry → List Event
 events_of log = map (λ (e : Entry). e.event) log
 
-abbrev pub outcomes_of : List Entry → List Outcome
-outcomes_of log = map (λ (e : Entry). e.outcome) log
-
--- the model of a machine in contracts
+-- the model of a machine in contracts: what it was booted from, the entries of the events since
+-- then, and the state that they lead to
 pub record History : Type 0 where
   pub start : Start
   pub log : List Entry
   pub state : State
 
--- from its start, the events of the log are accepted with the log's outcomes, and end in the state
+-- from one state, the events of these entries are accepted one after the other, each with its
+-- entry's outcome, and end in another
+abbrev pub Leads : State → List Entry → State → Type 0
+Leads s [] t = t ≡ s
+Leads s (e ∷ es) t = (u : State) × (next s e.event ≡ Ok (e.outcome, u)) × Leads u es t
+
+-- the log leads from the state at boot to the machine's
 abbrev pub IsReplay : History → Type 0
-IsReplay h = run (boot_state h.start) (events_of h.log) ≡ Some (outcomes_of h.log, h.state)
+IsReplay h = Leads (boot_state h.start) h.log h.state
 
 -- an event is a Step of this processor
 abbrev pub is_step_of : ℕ → Event → Bool
@@ -98,19 +87,6 @@ CanGive (Step p) o = IsOfStep o
 CanGive (Key byte) o = o ≡ Taken
 CanGive Done o = o ≡ Taken
 
--- the last state of a run from s
-abbrev pub last_state : State → Option (List Outcome × State) → State
-last_state s None = s
-last_state s (Some r) = r.1
-
--- the history of a start and a log
-abbrev pub history : Start → List Entry → History
-history start log = record {
-  start = start;
-  log = log;
-  state = last_state (boot_state start) (run (boot_state start) (events_of log));
-}
-
 abbrev pub entry : Event → Outcome → Entry
 entry e o = record { event = e; outcome = o }
 
@@ -119,6 +95,11 @@ entry e o = record { event = e; outcome = o }
 abbrev pub Refuses : Result (Outcome × State) Refusal → Event → Refusal → Type 0
 Refuses (Err first) e refusal = refusal ≡ first
 Refuses (Ok given) e refusal = (refusal ≡ NoMemoryRefusal) × (e ≡ Done)
+
+-- the result of an event and the state after it
+abbrev pub Makes : State → Event → Result Outcome Refusal → State → Type 0
+Makes s e (Ok o) t = next s e ≡ Ok (o, t)
+Makes s e (Err refusal) t = Refuses (next s e) e refusal × (t ≡ s)
 
 -- the result of an event and the machine after it: those of `next`, with the entry appended to the
 -- log; or the refusal, and nothing is changed
@@ -132,7 +113,7 @@ Answers m e (Err refusal) n = Refuses (next m.state e) e refusal × (n ≡ m)
 pub record Continues (m : History) (events : List Event) (n : History) : Type 0 where
   pub entries : List Entry
   pub events_are : events_of entries ≡ events
-  pub run_is : run m.state events ≡ Some (outcomes_of entries, n.state)
+  pub run_is : Leads m.state entries n.state
   pub log_is : n.log ≡ m.log ++ entries
   pub start_is : n.start ≡ m.start
 
@@ -171,30 +152,3 @@ abbrev pub IsLoaded : Start → Type 0
 IsLoaded start =
     (file : List ℕ) × (first_fault file start.conf.ram ≡ None)
     × IsImage file start.conf.ram start.entry start.bytes
-
--- a link was made when there were at most as many stores as now
-abbrev pub IsMade : List ℕ → Option Link → Type 0
-IsMade stores None = Unit {0}
-IsMade stores (Some link) = link.made ≤ length stores
-
--- the invariant of a machine's state that was booted with this configuration and has accepted n
--- events
-pub record IsSound (conf : Conf) (n : ℕ) (s : State) : Type 0 where
-  pub conf_is : s.conf ≡ conf
-  pub ram_is : length s.memory ≡ conf.ram
-  pub size_is : length s.processors ≡ conf.processors
-  pub board_is : s.board.processors ≡ conf.processors
-  pub links_are : length s.links ≡ 32
-  pub made : All (IsMade s.stores) s.links
-  pub accepted_is : s.accepted ≡ n
-  -- so no count of Steps overflows
-  pub counts : CountUpTo n s.processors
-
--- how the parts of a machine relate to its history
-pub record Agrees (h : History) (parts : Parts) : Type 0 where
-  pub replay : IsReplay h
-  pub parts_are : parts ≡ parts_of h.state
-  pub sound : IsSound h.start.conf (length h.log) h.state
-  pub is_loaded : IsLoaded h.start
-  pub limits_hold : is_within_limits h.start.conf ≡ true
-  pub log_fits : length h.log ≤ h.start.conf.log

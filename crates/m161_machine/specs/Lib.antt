@@ -3,4 +3,5 @@ pub mod Conf
 pub mod State
 pub mod History
 pub mod Kept
-pub mod Parts
+pub mod StoreHistory
+pub mod Sound

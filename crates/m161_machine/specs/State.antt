@@ -1,4 +1,4 @@
-use Rattle.std.specs.Prelude.{ℕ, ◌+◌, ◌%◌, Bool, false, not, nat_le, ◌==◌, ◌&&◌, ◌||◌, if◌then◌else◌, List, [], ◌∷◌, ◌++◌, drop, length, map, slice_index_or, slice_set, Option, None, Some, Result, Ok, Err}
+use Rattle.std.specs.Prelude.{◌≡◌, ℕ, ◌+◌, ◌≤◌, ◌%◌, Bool, false, not, nat_le, ◌==◌, ◌&&◌, ◌||◌, if◌then◌else◌, List, [], ◌∷◌, length, map, slice_index_or, slice_set, Option, None, Some, Result, Ok, Err, All}
 use Rattle.m161_ram.specs.Word.{word_at}
 use Rattle.m161_bus.specs.declared.console.DoneError.{DoneError}
 use Rattle.m161_bus.specs.declared.console.DoneError.TheVariants as done
@@ -8,7 +8,6 @@ use Rattle.m161_cop0.specs.Control.{has_bit}
 use Rattle.m161_cpu.specs.declared.processor.Outcome.{Outcome}
 use Rattle.m161_cpu.specs.declared.processor.Outcome.TheVariants.{Taken}
 use Rattle.m161_cpu.specs.Processor.{Processor, stopped_processor, started_processor}
-use Rattle.m161_cpu.specs.Links.{LinkAct, Keep, LinkTo, End}
 use Rattle.m161_cpu.specs.Scene.{around, scene}
 use Rattle.m161_cpu.specs.Step.{Stepped, step_of}
 use Rattle.m161_elf.specs.Image.{first_answer}
@@ -20,57 +19,38 @@ use Rattle.m161_machine.specs.declared.event.Refusal.TheVariants.{BadProcessor, 
 
 -- The state of a machine, and what an event does to it.
 
--- a link of `ll`: the physical word, and how many stores there had been when it was made
-pub record Link : Type 0 where
-  pub word : ℕ
-  pub made : ℕ
-
+-- what a machine holds; of a link of `ll` only its word, if it is live
 pub record State : Type 0 where
   pub conf : Conf
   pub processors : List Processor
   pub memory : List ℕ
   pub board : BoardState
-  -- a link, or none, for each of 32 processors
-  pub links : List (Option Link)
-  -- the physical words of RAM that stores have touched, the oldest first
-  pub stores : List ℕ
-  -- how many events were accepted
-  pub accepted : ℕ
+  -- the physical word of a live link, or none, for each of 32 processors
+  pub links : List (Option ℕ)
+  -- how many events were accepted since boot
+  pub made : ℕ
 
 -- a processor by its number
 abbrev pub processor_at : ℕ → List Processor → Processor
 processor_at p processors = slice_index_or processors p stopped_processor
 
--- one of these words is this one
-abbrev pub touches : ℕ → List ℕ → Bool
-touches word [] = false
-touches word (w ∷ ws) = (word == w) || touches word ws
-
--- the word of a link that is live: no store since it was made has touched the word
-abbrev pub live : List ℕ → Option Link → Option ℕ
-live stores None = None
-live stores (Some link) = if touches link.word (drop link.made stores) then None else Some link.word
-
-abbrev pub live_links : List ℕ → List (Option Link) → List (Option ℕ)
-live_links stores links = map (live stores) links
+abbrev pub state_of :
+    Conf → List Processor → List ℕ → BoardState → List (Option ℕ) → ℕ → State
+state_of conf processors memory board links made = record {
+  conf = conf;
+  processors = processors;
+  memory = memory;
+  board = board;
+  links = links;
+  made = made;
+}
 
 -- what a Step of processor p gives
+abbrev pub step_on : ℕ → State → Stepped
+step_on p s = step_of (scene (processor_at p s.processors) (around p s.memory s.board s.links))
+
 unfoldable pub step_result : ℕ → State → Stepped
-step_result p s =
-    step_of
-    (scene (processor_at p s.processors) (around p s.memory s.board (live_links s.stores s.links)))
-
--- the stores with one more, if there was one
-abbrev pub stores_after : Option ℕ → List ℕ → List ℕ
-stores_after None stores = stores
-stores_after (Some word) stores = stores ++ word ∷ []
-
--- a processor's link after its Step, after this many stores in all
-abbrev pub with_link_act : ℕ → LinkAct → ℕ → List (Option Link) → List (Option Link)
-with_link_act p Keep stores links = links
-with_link_act p (LinkTo word) stores links =
-    slice_set links p (Some (record { word = word; made = stores }))
-with_link_act p End stores links = slice_set links p None
+step_result p s = step_on p s
 
 -- processor c is started if its bit of CPUE is new: with the words of its CRAM; the count of its
 -- Steps stays
@@ -95,19 +75,19 @@ with_step p x s = record s {
       (slice_set s.processors p x.after.processor);
   memory = x.after.around.memory;
   board = x.after.around.board;
-  links = with_link_act p x.link (length (stores_after x.stored s.stores)) s.links;
-  stores = stores_after x.stored s.stores;
-  accepted = s.accepted + 1;
+  links = x.after.around.links;
+  made = s.made + 1;
 }
 
 -- the state after an input of a device
 abbrev pub with_board : BoardState → State → State
-with_board board s = record s { board = board; accepted = s.accepted + 1 }
+with_board board s = record s { board = board; made = s.made + 1 }
+
+-- whether the log has no room for one more event
+abbrev pub is_full : State → Bool
+is_full s = nat_le s.conf.log s.made
 
 -- why an event is refused, whatever it would do
-abbrev pub is_full : State → Bool
-is_full s = nat_le s.conf.log s.accepted
-
 abbrev pub refusal : State → Event → Option Refusal
 refusal s (event.Step p) =
     first_answer ((nat_le (length s.processors) p, BadProcessor) ∷
@@ -158,3 +138,13 @@ counts_after event.Done counts = counts
 abbrev pub word_in : List ℕ → ℕ → Option ℕ
 word_in memory at =
     if (at % 4 == 0) && nat_le (at + 4) (length memory) then Some (word_at memory at) else None
+
+-- each of these processors has made at most n Steps
+abbrev pub CountUpTo : ℕ → List Processor → Type 0
+CountUpTo n processors = All (λ (p : Processor). p.count ≤ n) processors
+
+-- the configuration and the sizes of a state stay
+abbrev pub KeepsSizes : State → State → Type 0
+KeepsSizes old new =
+    (new.conf ≡ old.conf)
+    × (length new.processors ≡ length old.processors) × (length new.memory ≡ length old.memory)

@@ -1,6 +1,6 @@
 //! The log's entries as they are stored: four bytes each, since every Step writes one.
 
-ghost use Rattle.std.specs.Prelude.{◌≡◌, ◌+◌, ◌*◌, ◌/◌, ◌%◌, ◌<◌, ◌≤◌, ◌^◌};
+ghost use Rattle.std.specs.Prelude.{◌≡◌, ◌+◌, ◌*◌, ◌/◌, ◌%◌, ◌<◌, ◌≤◌, ◌^◌, IfOk, length, vec_capacity};
 ghost use Rattle.m161_cop0.specs.Trap.{IsVector};
 ghost use Rattle.m161_cpu.specs.declared.processor.Outcome.TheVariants as outcomes;
 ghost use Rattle.m161_cpu.specs.Step.{IsOfStep};
@@ -11,6 +11,7 @@ ghost use Rattle.m161_machine.specs.Kept.{vector_with, outcome_with};
 use crate::event::{Entry, Event};
 use m161_cop0::Exception;
 use m161_cpu::Outcome;
+use std::alloc::{AllocError, Global};
 use std::marker::Model;
 
 /// The code of a typed byte.
@@ -170,4 +171,28 @@ impl Kept {
             },
         }
     }
+
+    /// The same entry again.
+    pub(crate) fn copy(&self) -> Kept
+        ensures { result ≡ self.now }
+    {
+        Kept { word: self.word }
+    }
+}
+
+/// A copy of stored entries, with room for this many.
+pub(crate) fn copy_kept(
+    alloc: Global,
+    entries: &Vec<Kept>,
+    room: usize,
+) -> Result<Vec<Kept>, AllocError>
+    requires { length entries.now.items ≤ room }
+    ensures items { IfOk result (λ copies. copies.items ≡ entries.now.items) }
+    ensures room { IfOk result (λ copies. room ≤ vec_capacity copies) }
+{
+    let mut copies = Vec::with_capacity(alloc, room)?;
+    for kept in entries.iter() {
+        copies.push_reserved(kept.copy());
+    }
+    Ok(copies)
 }

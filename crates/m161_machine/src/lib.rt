@@ -3,9 +3,8 @@
 //! ```text
 //! event    one whole Step of one processor, a typed byte, or the end of a console transfer
 //! next     the result of an event: its outcome and the state after it, or the first refusal
-//! run      next along a list of events
-//! history  what a machine is: what it was booted from, its log, and the state that the run of
-//!          the log's events ends in
+//! leads    next along a list of entries, from one state to another
+//! history  what a machine is: what it was booted from, its log, and the state that the log leads to
 //!
 //! refusals, in order   1 no such processor   2 off   3 log full   4 256 typed bytes wait
 //!                      5 the console isn't sending   6 no memory, only of `done`
@@ -21,12 +20,15 @@
 mod conf;
 mod event;
 mod kept;
+mod laws;
 mod machine;
 mod start;
+mod state;
 mod step;
 
 pub use conf::{BootError, Conf};
 pub use event::{Entry, Event, Refusal};
+pub use laws::stores_agree;
 pub use m161_bus::Console;
 pub use m161_cop0::{Exception, Register};
 pub use m161_cpu::{Outcome, ProcessorState};
@@ -35,3 +37,4 @@ pub use m161_isa::Reg;
 pub use m161_tlb::{Frame, Identifier, Page, Row, Tlb};
 pub use machine::Machine;
 pub use start::Start;
+pub use state::Core;

@@ -1,25 +1,23 @@
 //! The machine.
 
-ghost use Rattle.std.specs.Prelude.{◌≡◌, ◌⊎◌, ◌+◌, ◌-◌, ◌%◌, ◌<◌, ◌≤◌, ◌^◌, true, false, Ok, List, [], ◌∷◌, ◌++◌, length, replicate, All, IfNone, IfOk};
+ghost use Rattle.std.specs.Prelude.{◌≡◌, ◌⊎◌, ◌+◌, ◌-◌, ◌%◌, ◌<◌, ◌≤◌, ◌^◌, true, false, take, Ok, List, [], ◌∷◌, ◌++◌, length, replicate, vec_capacity, All, IfOk};
 ghost use Rattle.m161_elf.specs.Image.{is_in_ram};
-ghost use Rattle.m161_cpu.specs.Processor.{started_processor, stopped_processor};
 ghost use Rattle.m161_machine.specs.declared.event.Entry.{Entry};
 ghost use Rattle.m161_machine.specs.declared.event.Event.TheVariants as events;
 ghost use Rattle.m161_machine.specs.Conf.{is_within_limits};
-ghost use Rattle.m161_machine.specs.Parts.{CountUpTo};
-ghost use Rattle.m161_machine.specs.State.{refusal};
+ghost use Rattle.m161_machine.specs.State.{CountUpTo};
 ghost use Rattle.m161_machine.specs.History.{boot_fault, Boots, Answers, CanGive, Continues, CountsSteps, Ends, IsLoaded, IsReplay};
+ghost use Rattle.m161_machine.specs.StoreHistory.{StoresReplay};
 
 mod views;
 
 use crate::conf::{BootError, Conf};
 use crate::event::{Event, Refusal};
-use crate::kept::Kept;
-use crate::step::step_parts;
-use m161_bus::{Board, Console, DoneError};
-use m161_cpu::{Cpu, Links, Outcome};
+use crate::kept::{Kept, copy_kept};
+use crate::state::Core;
+use m161_bus::Console;
+use m161_cpu::Outcome;
 use m161_elf::{Image, load};
-use m161_ram::Ram;
 use m161_tlb::Tlb;
 use std::alloc::{AllocError, Global};
 use std::marker::Model;
@@ -28,10 +26,7 @@ use std::marker::Model;
 /// from, its log, and the state that the log's events lead to.
 #[derive(Drop)]
 pub struct Machine<T: Tlb, D: Console> {
-    processors: Vec<Cpu<T>>,
-    ram: Ram,
-    board: Board<D>,
-    links: Links,
+    core: Core<T, D>,
     log: Vec<Kept>,
     image: Image,
     conf: Conf,
@@ -39,46 +34,40 @@ pub struct Machine<T: Tlb, D: Console> {
 
 impl<T: Tlb, D: Console> Model for Machine<T, D> {
     ghost use Rattle.std.specs.Prelude.{◌≡◌, ◌≤◌, vec_capacity};
-    ghost use Rattle.m161_machine.specs.History.{History, history, Agrees};
+    ghost use Rattle.m161_machine.specs.History.{History};
+    ghost use Rattle.m161_machine.specs.Sound.{IsLawful};
 
     ghost Value = { History };
 
-    ghost view = { λ m. history
-        (record { bytes = m.image.bytes.items; entry = m.image.entry; conf = m.conf })
-        m.log.items };
+    ghost view = { λ m. record {
+      start = record { bytes = m.image.bytes.items; entry = m.image.entry; conf = m.conf };
+      log = m.log.items;
+      state = m.core;
+    } };
 
     ghost invariant = { λ m.
-        Agrees (history
-        (record { bytes = m.image.bytes.items; entry = m.image.entry; conf = m.conf })
-        m.log.items)
-        (record {
-          processors = m.processors.items;
-          memory = m.ram;
-          board = m.board;
-          links = m.links;
+        IsLawful (record {
+          start = record { bytes = m.image.bytes.items; entry = m.image.entry; conf = m.conf };
+          log = m.log.items;
+          state = m.core;
         })
         × (m.conf.log ≤ vec_capacity m.log) };
 }
 
-// The processors at boot: the first, started at the entry, and the others, stopped.
-fn first_processors<T: Tlb>(
-    alloc: Global,
-    number: u32,
-    entry: u32,
-) -> Result<Vec<Cpu<T>>, AllocError>
-    requires { 1 ≤ number }
-    ensures { IfOk result (λ processors.
-        processors.items
-        ≡ started_processor entry 0 0 0 ∷ replicate (number - 1) stopped_processor) }
+/// How many Steps are made at once: the room of their entries is in the processor's nearest cache.
+const AT_ONCE: u32 = 1024;
+
+// Appends entries that are to be written over.
+#[inline(always)]
+fn push_blanks(log: &mut Vec<Kept>, number: u32)
+    requires room { length log.old.items + number ≤ vec_capacity log.old }
+    ensures first { take (length log.old.items) log.new.items ≡ log.old.items }
+    ensures number { length log.new.items ≡ length log.old.items + number }
+    ensures capacity { vec_capacity log.new ≡ vec_capacity log.old }
 {
-    let mut first = Cpu::new();
-    first.start(entry, 0, 0);
-    let mut processors = Vec::with_capacity(alloc, number as usize)?;
-    processors.push_reserved(first);
-    for made in 1..number {
-        processors.push_reserved(Cpu::new());
+    for _blank in 0..number {
+        log.push_reserved(Kept::of_step(0, Outcome::Ran));
     }
-    Ok(processors)
 }
 
 impl<T: Tlb, D: Console> Machine<T, D> {
@@ -98,17 +87,32 @@ impl<T: Tlb, D: Console> Machine<T, D> {
         }
         let image = load(alloc, file, conf.ram)?;
         let bytes = Vec::from_slice(alloc, image.bytes.as_slice())?;
-        let processors = first_processors(alloc, conf.processors, image.entry)?;
+        let core = Core::at_boot(alloc, bytes, image.entry, conf)?;
         let log = Vec::with_capacity(alloc, conf.log as usize)?;
-        let console = D::fresh(alloc)?;
         Ok(Machine {
-            processors,
-            ram: Ram::from_bytes(bytes),
-            board: Board::new(console, conf.ram, conf.processors),
-            links: Links::new(),
+            core,
             log,
             image,
             conf,
+        })
+    }
+
+    /// The same machine again. Allocates as much memory as it has.
+    #[inline(never)]
+    pub fn copy(&self, alloc: Global) -> Result<Machine<T, D>, AllocError>
+        ensures { IfOk result (λ machine. machine ≡ self.now) }
+    {
+        let core = self.core.copy(alloc)?;
+        let log = copy_kept(alloc, &self.log, self.conf.log as usize)?;
+        let image = Image {
+            entry: self.image.entry,
+            bytes: Vec::from_slice(alloc, self.image.bytes.as_slice())?,
+        };
+        Ok(Machine {
+            core,
+            log,
+            image,
+            conf: self.conf,
         })
     }
 
@@ -116,25 +120,13 @@ impl<T: Tlb, D: Console> Machine<T, D> {
     ///
     /// # Errors
     /// The first refusal that holds. Nothing is changed then, and nothing logged.
-    #[inline(never)]
     pub fn step(&mut self, p: u32) -> Result<Outcome, Refusal>
         ensures answers { Answers self.old (events.Step p) result self.new }
         ensures processors { length self.new.state.processors ≡ length self.old.state.processors }
     {
-        let (_, refusal) = self.steps(p, 1);
-        match refusal {
-            Some(refusal) => Err(refusal),
-            None => Ok(self.last_outcome()),
-        }
-    }
-
-    // The outcome of the last entry.
-    fn last_outcome(&self) -> Outcome
-        requires { 0 < length self.now.log }
-        ensures { (before : List Entry) (e : Entry) → self.now.log ≡ before ++ e ∷ []
-            → result ≡ e.outcome }
-    {
-        self.log[self.log.len() - 1].entry().outcome
+        let outcome = self.core.step(p)?;
+        self.log.push_reserved(Kept::of_step(p, outcome));
+        Ok(outcome)
     }
 
     /// Makes Steps of a processor, one after the other, until `n` are made or one is refused.
@@ -149,7 +141,7 @@ impl<T: Tlb, D: Console> Machine<T, D> {
         if n == 0 {
             return (0, None);
         }
-        if let Some(refusal) = self.refusal(p) {
+        if let Some(refusal) = self.core.refusal(p) {
             return (0, Some(refusal));
         }
         let most = n.min(self.room());
@@ -173,7 +165,6 @@ impl<T: Tlb, D: Console> Machine<T, D> {
 
     // Makes Steps until `most` are made or one of them switches the machine off. Returns how many
     // were made. No other refusal can come between, so the loop doesn't test for any.
-    #[inline(always)]
     fn steps_in_room(&mut self, p: u32, most: u32) -> u32
         requires place { p < length self.old.state.processors }
         requires on { self.old.state.board.off ≡ false }
@@ -185,82 +176,38 @@ impl<T: Tlb, D: Console> Machine<T, D> {
     {
         let mut made = 0;
         while made < most {
-            made += 1;
-            let outcome = self.one_step(p);
-            if self.went_off(outcome) {
+            let now = (most - made).min(AT_ONCE);
+            made += self.steps_at_once(p, now);
+            if self.is_off() {
                 return made;
             }
         }
         made
     }
 
-    // Whether a Step with this outcome switched the machine off; after Ran there is no need to
-    // look.
-    #[inline(always)]
-    fn went_off(&self, outcome: Outcome) -> bool
-        requires { outcome ≡ Outcome.Ran → self.now.state.board.off ≡ false }
-        ensures { result ≡ self.now.state.board.off }
-    {
-        match outcome {
-            Outcome::Ran => false,
-            _ => self.is_off(),
-        }
-    }
-
-    // Makes one Step. It is inlined into its one caller, the only place in a program with the code
-    // of a Step.
-    #[inline(always)]
-    fn one_step(&mut self, p: u32) -> Outcome
+    // Makes Steps until `most` are made or one of them switches the machine off: the room of their
+    // entries is appended to the log, and what wasn't written is taken back.
+    fn steps_at_once(&mut self, p: u32, most: u32) -> u32
         requires place { p < length self.old.state.processors }
         requires on { self.old.state.board.off ≡ false }
-        requires room { length self.old.log < self.old.start.conf.log }
-        ensures answers { Answers self.old (events.Step p) (Ok result) self.new }
-        ensures ran { result ≡ Outcome.Ran → self.new.state.board.off ≡ false }
+        requires room { length self.old.log + most ≤ self.old.start.conf.log }
+        ensures run { Continues self.old (replicate result (events.Step p)) self.new }
+        ensures end { result ≡ most ⊎ (result < most) × (self.new.state.board.off ≡ true) }
+        ensures log { length self.new.log ≡ length self.old.log + result }
         ensures processors { length self.new.state.processors ≡ length self.old.state.processors }
     {
         let Machine {
-            processors,
-            ram,
-            board,
-            links,
+            core,
             log,
             image: _,
             conf: _,
         } = self;
-        let outcome = step_parts(processors, p, ram, board, links);
-        log.push_reserved(Kept::of_step(p, outcome));
-        outcome
-    }
-
-    // The first refusal that holds of a Step.
-    #[inline(always)]
-    fn refusal(&self, p: u32) -> Option<Refusal>
-        ensures value { result ≡ refusal self.now.state (events.Step p) }
-        ensures within { IfNone result ((p < length self.now.state.processors)
-            × (length self.now.log < self.now.start.conf.log)) }
-        ensures on { IfNone result (self.now.state.board.off ≡ false) }
-    {
-        if p as usize >= self.processors.len() {
-            Some(Refusal::BadProcessor)
-        } else {
-            self.refusal_of_input()
-        }
-    }
-
-    // The first refusal that holds of any event.
-    #[inline(always)]
-    fn refusal_of_input(&self) -> Option<Refusal>
-        ensures value { result ≡ refusal self.now.state events.Done }
-        ensures room { IfNone result (length self.now.log < self.now.start.conf.log) }
-        ensures on { IfNone result (self.now.state.board.off ≡ false) }
-    {
-        if self.board.is_off() {
-            Some(Refusal::Off)
-        } else if self.log.len() >= self.conf.log as usize {
-            Some(Refusal::LogFull)
-        } else {
-            None
-        }
+        let before = log.len();
+        push_blanks(log, most);
+        let (_, blanks) = log.as_mut_slice().split_at_mut(before);
+        let made = core.advance(p, blanks);
+        log.truncate(before + made);
+        made as u32
     }
 
     /// Types a byte at the console. Does not allocate.
@@ -270,15 +217,9 @@ impl<T: Tlb, D: Console> Machine<T, D> {
     pub fn key(&mut self, byte: u8) -> Result<Outcome, Refusal>
         ensures { Answers self.old (events.Key byte) result self.new }
     {
-        if let Some(refusal) = self.refusal_of_input() {
-            return Err(refusal);
-        }
-        match self.board.key(byte) {
-            Ok(()) => {}
-            Err(_) => return Err(Refusal::KeyFull),
-        }
+        let outcome = self.core.key(byte)?;
         self.log.push_reserved(Kept::of_key(byte));
-        Ok(Outcome::Taken)
+        Ok(outcome)
     }
 
     /// The console has sent the byte in its latch.
@@ -289,16 +230,9 @@ impl<T: Tlb, D: Console> Machine<T, D> {
     pub fn done(&mut self) -> Result<Outcome, Refusal>
         ensures { Answers self.old events.Done result self.new }
     {
-        if let Some(refusal) = self.refusal_of_input() {
-            return Err(refusal);
-        }
-        match self.board.done() {
-            Ok(()) => {}
-            Err(DoneError::NothingSent) => return Err(Refusal::NothingSent),
-            Err(DoneError::NoMemory) => return Err(Refusal::NoMemory),
-        }
+        let outcome = self.core.done()?;
         self.log.push_reserved(Kept::of_done());
-        Ok(Outcome::Taken)
+        Ok(outcome)
     }
 
     /// Makes an event, by its kind.
@@ -315,9 +249,9 @@ impl<T: Tlb, D: Console> Machine<T, D> {
         }
     }
 
-    /// The law of every machine: it is the replay of its log. Starting from what the machine was
-    /// booted from, the log's events are accepted one after the other with the log's outcomes, and
-    /// end in the machine's state. The configuration is within the limits and never changes. Each
+    /// The law of every machine: it is the replay of its log. From the state at boot, the log's
+    /// events are accepted one after the other with the log's outcomes, and lead to the machine's
+    /// state. The configuration is within the limits and never changes. Each
     /// processor has counted exactly its Steps in the log, and each entry's outcome is one that its
     /// event can have.
     pub fn replay(&self)
@@ -327,13 +261,23 @@ impl<T: Tlb, D: Console> Machine<T, D> {
         ensures conf { self.now.state.conf ≡ self.now.start.conf }
         ensures ram { length self.now.state.memory ≡ self.now.start.conf.ram }
         ensures processors { length self.now.state.processors ≡ self.now.start.conf.processors }
-        ensures accepted { self.now.state.accepted ≡ length self.now.log }
+        ensures made { self.now.state.made ≡ length self.now.log }
         ensures room { length self.now.log ≤ self.now.start.conf.log }
         ensures counts { CountUpTo (length self.now.log) self.now.state.processors }
         ensures steps { CountsSteps self.now }
         ensures outcomes { All (λ e. CanGive e.event e.outcome) self.now.log }
     {
         let _log = &self.log;
+        self.core.law();
+    }
+
+    /// The law of the stores: the machine's live links are those of the history of its stores. From
+    /// boot, with no stores, the log's events lead to all stores to RAM and to links that have the
+    /// number of stores when they were made; and the state is the image of these.
+    pub fn stores_replay(&self)
+        ensures { StoresReplay self.now }
+    {
+        self.replay();
     }
 
     /// The law that a machine's start and log determine its state: two machines, over any TLBs and

@@ -1,10 +1,10 @@
-//! A Step on the parts of a machine.
+//! A Step on the parts of a state.
 
 ghost use Rattle.std.specs.Prelude.{◌≡◌, ◌+◌, ◌-◌, ◌^◌, ◌<◌, ◌≤◌, length, ℕ};
 ghost use Rattle.m161_bus.specs.Board.{KeepsSize};
 ghost use Rattle.m161_cpu.specs.Step.{IsOfStep};
-ghost use Rattle.m161_machine.specs.State.{started_by, with_starts};
-ghost use Rattle.m161_machine.specs.Parts.{CountUpTo, parts, step_on, stepped_parts};
+ghost use Rattle.m161_machine.specs.declared.conf.Conf.{Conf};
+ghost use Rattle.m161_machine.specs.State.{CountUpTo, started_by, state_of, step_on, with_starts, with_step};
 
 use m161_bus::{Board, Console};
 use m161_cpu::{Cpu, Links, Outcome};
@@ -25,10 +25,14 @@ pub(crate) fn step_parts<T: Tlb, D: Console>(
         × (board.old.processors ≤ 32) }
     requires ram { length ram.old ≤ 2 ^ 29 }
     requires room { (n : ℕ) × (n < 2 ^ 64 - 1) × CountUpTo n processors.old.items }
-    ensures outcome { result ≡
-        (step_on p (parts processors.old.items ram.old board.old links.old)).outcome }
-    ensures parts { parts processors.new.items ram.new board.new links.new ≡
-        stepped_parts p (parts processors.old.items ram.old board.old links.old) }
+    ensures outcome { (conf : Conf) (n : ℕ) → result ≡
+        (step_on p
+        (state_of conf processors.old.items ram.old board.old links.old n)).outcome }
+    ensures state { (conf : Conf) (n : ℕ) →
+        state_of conf processors.new.items ram.new board.new links.new (n + 1) ≡
+        with_step p
+        (step_on p (state_of conf processors.old.items ram.old board.old links.old n))
+        (state_of conf processors.old.items ram.old board.old links.old n) }
     ensures counts { (n : ℕ)
         → CountUpTo n processors.old.items → CountUpTo (n + 1) processors.new.items }
     ensures number { length processors.new.items ≡ length processors.old.items }

@@ -10,6 +10,7 @@ use crate::conf::Conf;
 use crate::event::Entry;
 use crate::machine::Machine;
 use crate::start::Start;
+use crate::state::Core;
 use m161_bus::Console;
 use m161_cop0::Register;
 use m161_cpu::ProcessorState;
@@ -25,7 +26,7 @@ impl<T: Tlb, D: Console> Machine<T, D> {
             (processor_at p self.now.state.processors).registers register }
         ensures zero { register ≡ 0 → result ≡ 0 }
     {
-        self.processors[p as usize].reg(register)
+        self.core.reg(p, register)
     }
 
     /// HI of a processor.
@@ -33,7 +34,7 @@ impl<T: Tlb, D: Console> Machine<T, D> {
         requires { p < length self.now.state.processors }
         ensures { result ≡ (processor_at p self.now.state.processors).hi }
     {
-        self.processors[p as usize].hi()
+        self.core.hi(p)
     }
 
     /// LO of a processor.
@@ -41,7 +42,7 @@ impl<T: Tlb, D: Console> Machine<T, D> {
         requires { p < length self.now.state.processors }
         ensures { result ≡ (processor_at p self.now.state.processors).lo }
     {
-        self.processors[p as usize].lo()
+        self.core.lo(p)
     }
 
     /// The address of a processor's current instruction.
@@ -49,7 +50,7 @@ impl<T: Tlb, D: Console> Machine<T, D> {
         requires { p < length self.now.state.processors }
         ensures { result ≡ (processor_at p self.now.state.processors).pc }
     {
-        self.processors[p as usize].pc()
+        self.core.pc(p)
     }
 
     /// Whether a processor's current instruction is in a delay slot.
@@ -57,7 +58,7 @@ impl<T: Tlb, D: Console> Machine<T, D> {
         requires { p < length self.now.state.processors }
         ensures { result ≡ (processor_at p self.now.state.processors).slot }
     {
-        self.processors[p as usize].in_slot()
+        self.core.in_slot(p)
     }
 
     /// What a processor is doing.
@@ -65,7 +66,7 @@ impl<T: Tlb, D: Console> Machine<T, D> {
         requires { p < length self.now.state.processors }
         ensures { result ≡ (processor_at p self.now.state.processors).state }
     {
-        self.processors[p as usize].state()
+        self.core.state(p)
     }
 
     /// How many Steps a processor has made, idle ones included.
@@ -73,18 +74,21 @@ impl<T: Tlb, D: Console> Machine<T, D> {
         requires { p < length self.now.state.processors }
         ensures { result ≡ (processor_at p self.now.state.processors).count }
     {
-        self.processors[p as usize].count()
+        self.core.count(p)
     }
 
     /// The word at a physical address; `None` if it is misaligned or outside RAM.
     pub fn word(&self, address: u32) -> Option<u32>
         ensures { result ≡ word_in self.now.state.memory address }
     {
-        if address % 4 == 0 && u64::from(address) + 4 <= u64::from(self.ram.size()) {
-            Some(self.ram.word(address))
-        } else {
-            None
-        }
+        self.core.word(address)
+    }
+
+    /// The state without the log: the same views, and what an event would do to it, by a copy.
+    pub fn core(&self) -> &Core<T, D>
+        ensures { result.now ≡ self.now.state }
+    {
+        &self.core
     }
 
     /// How many events were accepted.
@@ -149,7 +153,7 @@ impl<T: Tlb, D: Console> Machine<T, D> {
             (interrupt_lines p self.now.state.board)
             (processor_at p self.now.state.processors).control }
     {
-        self.processors[p as usize].cop(register, self.board.lines(p))
+        self.core.cop(p, register)
     }
 
     /// A row of a processor's TLB.
@@ -158,21 +162,21 @@ impl<T: Tlb, D: Console> Machine<T, D> {
         requires row { i < 64 }
         ensures { slice_get (processor_at p self.now.state.processors).rows i ≡ Some result }
     {
-        self.processors[p as usize].row(i)
+        self.core.row(p, i)
     }
 
     /// The bytes that the console has sent, the first one first.
     pub fn output(&self) -> &[u8]
         ensures { result.now ≡ self.now.state.board.console.output }
     {
-        self.board.output()
+        self.core.output()
     }
 
     /// RAM, from physical address 0 on.
     pub fn memory(&self) -> &[u8]
         ensures { result.now ≡ self.now.state.memory }
     {
-        self.ram.as_bytes()
+        self.core.memory()
     }
 
     /// How many processors it has.
@@ -186,6 +190,6 @@ impl<T: Tlb, D: Console> Machine<T, D> {
     pub fn is_off(&self) -> bool
         ensures { result ≡ self.now.state.board.off }
     {
-        self.board.is_off()
+        self.core.is_off()
     }
 }

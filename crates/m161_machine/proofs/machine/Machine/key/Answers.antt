@@ -1,37 +1,42 @@
-use Rattle.std.proofs.Common.{◌∙◌, refl, sym, arith}
+use Rattle.std.proofs.Common.{◌≡◌, ◌∙◌, refl, ap, sym, subst, ◌++◌, ◌∷◌, [], length, Ok, arith}
 use Rattle.m161_machine.specs.declared.event.Event.TheVariants.{Key}
-use Rattle.m161_cpu.specs.declared.processor.Outcome.TheVariants.{Taken}
-use Rattle.m161_machine.proofs.Inputs.{key_accepted, key_refused}
-use Rattle.m161_machine.proofs.Made.{refused, input_made, input_refused, Made}
+use Rattle.m161_machine.specs.declared.event.Entry.{Entry}
+use Rattle.m161_machine.specs.History.{Answers, History, entry}
+use Rattle.m161_machine.proofs.Given.{gives}
+use Rattle.m161_machine.proofs.Made.{lawful_more, room_for}
 use Rattle.m161_machine.proofs.machine.Machine.key.Given.{Over}
 use Rattle.m161_machine.proofs.machine.Machine.key.Goals as goal
 
-pub returns-in-Some : goal.returns-in-Some
-returns-in-Some g c = (refused c.args.self.now.state (Key c.args.byte) c.in-Some.refusal (sym c.in-Some.ensures.value), refl)
+pub push_reserved-requires : goal.push_reserved-requires
+push_reserved-requires g c =
+    let room = room_for _ (Key c.args.byte) c.in_ok-outcome.outcome c.key.new.self c.self.invariant.0 c.in_ok-outcome.ensures.makes in
+    omega (arith, room, c.self.invariant.1)
 
-pub returns-in-Err : goal.returns-in-Err
-returns-in-Err g c = (
-  input_refused c.args.self.now _ c.self.inside.log.items (Key c.args.byte) _ _ c.self.view_is c.self.invariant.0
-      (sym c.refusal_of_input.ensures.value ∙ c.in_default.is)
-      (key_refused c.args.byte c.self.inside.board c.key.new.self c.in-Err.field-0 c.in-Err.ensures.key),
-  c.self.view_is,
-)
-
-made : (g : Over) (c : goal.After-push_reserved g) → Made c.args.self.now
-    (record { bytes = c.self.inside.image.bytes.items; entry = c.self.inside.image.entry; conf = c.self.inside.conf })
-    c.self.inside.log.items (Key c.args.byte) Taken
-    (record { processors = c.self.inside.processors.items; memory = c.self.inside.ram; board = c.key.new.self; links = c.self.inside.links })
-made g c =
-    input_made c.args.self.now _ c.self.inside.log.items (Key c.args.byte)
-    (record { processors = c.self.inside.processors.items; memory = c.self.inside.ram; board = c.self.inside.board; links = c.self.inside.links })
-    c.key.new.self c.self.view_is c.self.invariant.0
-    (sym c.refusal_of_input.ensures.value ∙ c.in_default.is) c.in_default.ensures.room
-    (key_accepted c.args.byte c.self.inside.board c.key.new.self c.in-Ok.field-0 c.in-Ok.ensures.key) c.in-Ok.ensures.size.1
+entry_is : (g : Over) (c : goal.After-push_reserved g) → c.of_key.result ≡ entry (Key c.args.byte) c.in_ok-outcome.outcome
+entry_is g c =
+    c.of_key.ensures
+    ∙ ap (entry (Key c.args.byte)) (sym (gives (Key c.args.byte) c.self.inside.core c.key.new.self c.in_ok-outcome.outcome c.in_ok-outcome.ensures.makes))
 
 pub invariant_of-self-2 : goal.invariant_of-self-2
 invariant_of-self-2 g c =
-    let m = made g c in
-    rw (c.push_reserved.ensures.items, c.of_key.ensures) (m.agrees, omega (arith, c.self.invariant.1, c.push_reserved.ensures.capacity))
+    rw (c.push_reserved.ensures.items, entry_is g c) (
+      lawful_more (record {
+        start = record { bytes = c.self.inside.image.bytes.items; entry = c.self.inside.image.entry; conf = c.self.inside.conf };
+        log = c.self.inside.log.items;
+        state = c.self.inside.core;
+      }) (Key c.args.byte) c.in_ok-outcome.outcome c.key.new.self c.self.invariant.0 c.in_ok-outcome.ensures.makes c.in_ok-outcome.ensures.sizes,
+      omega (arith, c.self.invariant.1, c.push_reserved.ensures.capacity),
+    )
 
 pub returns : goal.returns
-returns g c = let m = made g c in rw (c.push_reserved.ensures.items, c.of_key.ensures) m.answers
+returns g c =
+    let after : History = record {
+      start = record { bytes = c.self.inside.image.bytes.items; entry = c.self.inside.image.entry; conf = c.self.inside.conf };
+      log = c.push_reserved.new.self.items;
+      state = c.key.new.self;
+    } in
+    subst (λ (m : History). Answers m (Key c.args.byte) (Ok c.in_ok-outcome.outcome) after) c.self.view_is (
+      c.in_ok-outcome.ensures.makes,
+      c.push_reserved.ensures.items ∙ ap (λ (x : Entry). c.self.inside.log.items ++ x ∷ []) (entry_is g c),
+      refl,
+    )

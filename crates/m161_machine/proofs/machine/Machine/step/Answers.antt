@@ -1,18 +1,40 @@
-use Rattle.std.proofs.Common.{subst, Option}
+use Rattle.std.proofs.Common.{◌≡◌, ◌∙◌, refl, ap, sym, subst, ◌++◌, ◌∷◌, [], length, Ok, arith}
 use Rattle.m161_machine.specs.declared.event.Event.TheVariants.{Step}
-use Rattle.m161_machine.specs.declared.event.Refusal.{Refusal}
-use Rattle.m161_machine.specs.History.{Ends}
-use Rattle.m161_machine.proofs.Continuing.{made_once, refused_once}
+use Rattle.m161_machine.specs.declared.event.Entry.{Entry}
+use Rattle.m161_machine.specs.History.{Answers, History, entry}
+use Rattle.m161_machine.proofs.Given.{gives}
+use Rattle.m161_machine.proofs.Made.{lawful_more, room_for}
+use Rattle.m161_machine.proofs.machine.Machine.step.Given.{Over}
 use Rattle.m161_machine.proofs.machine.Machine.step.Goals as goal
 
-pub returns-in-Some-clause-answers : goal.returns-in-Some-clause-answers
-returns-in-Some-clause-answers g c =
-    let P : Option Refusal → Type 0 = λ refusal. Ends c.steps-refusal.new.self (Step c.args.p) 1 c.steps-refusal.result.0 refusal in
-    refused_once c.args.self.now c.steps-refusal.new.self c.steps-refusal.result.0 c.args.p c.in-Some.refusal
-    c.steps-refusal.ensures.run (subst P c.in-Some.is c.steps-refusal.ensures.end)
+pub push_reserved-requires : goal.push_reserved-requires
+push_reserved-requires g c =
+    let room = room_for _ (Step c.args.p) c.in_ok-outcome.outcome c.step.new.self c.self.invariant.0 c.in_ok-outcome.ensures.makes in
+    omega (arith, room, c.self.invariant.1)
 
-pub returns-in-None-clause-answers : goal.returns-in-None-clause-answers
-returns-in-None-clause-answers g c =
-    let P : Option Refusal → Type 0 = λ refusal. Ends c.steps-refusal.new.self (Step c.args.p) 1 c.steps-refusal.result.0 refusal in
-    made_once c.args.self.now c.steps-refusal.new.self c.steps-refusal.result.0 (Step c.args.p) c.last_outcome.result
-    c.steps-refusal.ensures.run (subst P c.in-None.is c.steps-refusal.ensures.end) c.last_outcome.ensures
+entry_is : (g : Over) (c : goal.After-push_reserved g) → c.of_step.result ≡ entry (Step c.args.p) c.in_ok-outcome.outcome
+entry_is g c = c.of_step.ensures
+
+pub invariant_of-self-2 : goal.invariant_of-self-2
+invariant_of-self-2 g c =
+    rw (c.push_reserved.ensures.items, entry_is g c) (
+      lawful_more (record {
+        start = record { bytes = c.self.inside.image.bytes.items; entry = c.self.inside.image.entry; conf = c.self.inside.conf };
+        log = c.self.inside.log.items;
+        state = c.self.inside.core;
+      }) (Step c.args.p) c.in_ok-outcome.outcome c.step.new.self c.self.invariant.0 c.in_ok-outcome.ensures.makes c.in_ok-outcome.ensures.sizes,
+      omega (arith, c.self.invariant.1, c.push_reserved.ensures.capacity),
+    )
+
+pub returns-clause-answers : goal.returns-clause-answers
+returns-clause-answers g c =
+    let after : History = record {
+      start = record { bytes = c.self.inside.image.bytes.items; entry = c.self.inside.image.entry; conf = c.self.inside.conf };
+      log = c.push_reserved.new.self.items;
+      state = c.step.new.self;
+    } in
+    subst (λ (m : History). Answers m (Step c.args.p) (Ok c.in_ok-outcome.outcome) after) c.self.view_is (
+      c.in_ok-outcome.ensures.makes,
+      c.push_reserved.ensures.items ∙ ap (λ (x : Entry). c.self.inside.log.items ++ x ∷ []) (entry_is g c),
+      refl,
+    )

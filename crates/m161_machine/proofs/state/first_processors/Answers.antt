@@ -1,7 +1,7 @@
 use Rattle.std.proofs.Common.{◌≡◌, ◌∙◌, ap, ◌+◌, ◌-◌, [], ◌∷◌, ◌++◌, replicate, arith}
 use Rattle.std.proofs.lemmas.List.{replicate-append-replicate}
 use Rattle.m161_cpu.specs.Processor.{started_processor, stopped_processor}
-use Rattle.m161_machine.proofs.machine.first_processors.Goals as goal
+use Rattle.m161_machine.proofs.state.first_processors.Goals as goal
 
 pub loop-made-preserved : goal.loop-made-preserved
 loop-made-preserved g c =

@@ -1,6 +1,6 @@
 use Rattle.std.proofs.Common.{◌≡◌, ◌-◌, ◌≤◌, ◌∷◌, replicate, vec_capacity}
 use Rattle.m161_cpu.specs.Processor.{started_processor, stopped_processor}
-use Rattle.m161_machine.proofs.machine.first_processors.Given as goal
+use Rattle.m161_machine.proofs.state.first_processors.Given as goal
 
 -- the first processor, and the others so far
 abbrev pub invariant-loop-made : goal.invariant-loop-made

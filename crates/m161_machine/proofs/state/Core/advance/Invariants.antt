@@ -1,0 +1,16 @@
+use Rattle.std.proofs.Common.{◌≡◌, ◌+◌, ◌-◌, ◌≤◌, false, length, take}
+use Rattle.m161_machine.specs.State.{KeepsSizes}
+use Rattle.m161_machine.specs.Sound.{Advances}
+use Rattle.m161_machine.proofs.state.Core.advance.Given as goal
+
+-- the entries so far are those of the Steps so far
+abbrev pub invariant-loop-made : goal.invariant-loop-made
+invariant-loop-made g l = Advances l.p l.fn.self (take l.made l.kept) l.self
+    × KeepsSizes l.fn.self l.self
+    × (length l.kept ≡ length l.fn.kept)
+    × (l.self.made ≡ l.fn.self.made + l.made)
+    × (l.self.board.off ≡ false)
+    × (l.made ≤ length l.kept)
+
+abbrev pub decreases-loop-made : goal.decreases-loop-made
+decreases-loop-made g l = length l.kept - l.made

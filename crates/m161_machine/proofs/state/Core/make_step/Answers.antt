@@ -1,0 +1,38 @@
+use Rattle.std.proofs.Common.{◌∙◌, ap, sym, arith}
+use Rattle.m161_machine.specs.declared.conf.Conf.{Conf}
+use Rattle.m161_machine.specs.State.{State, step_on, with_step}
+use Rattle.m161_machine.proofs.Accepting.{stays_on}
+use Rattle.m161_machine.proofs.Stepping.{step_is}
+use Rattle.m161_machine.proofs.state.Core.make_step.Goals as goal
+
+pub step_parts-outcome-requires-clause-room : goal.step_parts-outcome-requires-clause-room
+step_parts-outcome-requires-clause-room g c =
+    let made_is = ap (λ (s : State). s.made) c.self.view_is in
+    let conf_is = ap (λ (s : State). s.conf.log) c.self.view_is in
+    (c.self.inside.made, omega (arith, c.requires.room, made_is, conf_is, c.self.ranges), c.self.invariant.counts)
+
+pub invariant_of-self : goal.invariant_of-self
+invariant_of-self g c = record {
+  size_is = c.step_parts-outcome.ensures.number ∙ c.self.invariant.size_is ∙ sym c.step_parts-outcome.ensures.board.1;
+  few = omega (arith, c.self.invariant.few, c.step_parts-outcome.ensures.board.1);
+  small = omega (arith, c.self.invariant.small, c.step_parts-outcome.ensures.size);
+  limits_hold = c.self.invariant.limits_hold;
+  counts = c.step_parts-outcome.ensures.counts c.self.inside.made c.self.invariant.counts;
+}
+
+pub returns-clause-outcome : goal.returns-clause-outcome
+returns-clause-outcome g c =
+    c.step_parts-outcome.ensures.outcome c.self.inside.conf c.self.inside.made
+    ∙ ap (λ (s : State). (step_on c.args.p s).outcome) c.self.view_is
+    ∙ ap (λ x. x.outcome) (sym (step_is c.args.p c.args.self.now))
+
+pub returns-clause-state : goal.returns-clause-state
+returns-clause-state g c =
+    c.step_parts-outcome.ensures.state c.self.inside.conf c.self.inside.made
+    ∙ ap (λ (s : State). with_step c.args.p (step_on c.args.p s) s) c.self.view_is
+    ∙ ap (λ x. with_step c.args.p x c.args.self.now) (sym (step_is c.args.p c.args.self.now))
+
+pub returns-clause-ran : goal.returns-clause-ran
+returns-clause-ran g c = λ ran.
+    ap (λ (s : State). s.board.off) (returns-clause-state g c)
+    ∙ stays_on c.args.p c.args.self.now (sym (returns-clause-outcome g c) ∙ ran)

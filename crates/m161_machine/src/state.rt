@@ -1,0 +1,312 @@
+//! The state of a machine, without its log.
+
+ghost use Rattle.std.specs.Prelude.{◌≡◌, ◌⊎◌, ◌+◌, ◌-◌, ◌<◌, ◌≤◌, ◌∷◌, replicate, length, take, IfNone, IfOk, true, false};
+ghost use Rattle.m161_cpu.specs.Processor.{started_processor, stopped_processor};
+ghost use Rattle.m161_cpu.specs.Step.{IsOfStep};
+ghost use Rattle.m161_cpu.specs.declared.processor.Outcome.{Outcome};
+ghost use Rattle.m161_machine.specs.declared.event.Event.TheVariants as events;
+ghost use Rattle.m161_machine.specs.State.{CountUpTo, KeepsSizes, refusal, step_result, with_step};
+ghost use Rattle.m161_machine.specs.Conf.{is_within_limits};
+ghost use Rattle.m161_machine.specs.History.{Makes, boot_state, start_of};
+ghost use Rattle.m161_machine.specs.Sound.{Advances};
+
+mod views;
+
+use crate::conf::Conf;
+use crate::event::{Event, Refusal};
+use crate::kept::Kept;
+use crate::step::step_parts;
+use m161_bus::{Board, Console, DoneError};
+use m161_cpu::{Cpu, Links, Outcome};
+use m161_ram::Ram;
+use m161_tlb::Tlb;
+use std::alloc::{AllocError, Global};
+use std::marker::Model;
+
+/// A state of a machine: processors, memory, board and links, without the log. Contracts see it as
+/// the state itself.
+#[derive(Drop)]
+pub struct Core<T: Tlb, D: Console> {
+    processors: Vec<Cpu<T>>,
+    ram: Ram,
+    board: Board<D>,
+    links: Links,
+    // How many events were accepted since boot.
+    made: u64,
+    conf: Conf,
+}
+
+impl<T: Tlb, D: Console> Model for Core<T, D> {
+    ghost use Rattle.m161_machine.specs.State.{State, state_of};
+    ghost use Rattle.m161_machine.specs.Sound.{IsSound};
+
+    ghost Value = { State };
+
+    ghost view = { λ c. state_of c.conf c.processors.items c.ram c.board c.links c.made };
+
+    ghost invariant = { λ c. IsSound (state_of c.conf c.processors.items c.ram c.board c.links c.made) };
+}
+
+// The processors at boot: the first, started at the entry, and the others, stopped.
+fn first_processors<T: Tlb>(
+    alloc: Global,
+    number: u32,
+    entry: u32,
+) -> Result<Vec<Cpu<T>>, AllocError>
+    requires { 1 ≤ number }
+    ensures { IfOk result (λ processors.
+        processors.items
+        ≡ started_processor entry 0 0 0 ∷ replicate (number - 1) stopped_processor) }
+{
+    let mut first = Cpu::new();
+    first.start(entry, 0, 0);
+    let mut processors = Vec::with_capacity(alloc, number as usize)?;
+    processors.push_reserved(first);
+    for made in 1..number {
+        processors.push_reserved(Cpu::new());
+    }
+    Ok(processors)
+}
+
+// Copies of these processors.
+fn copy_processors<T: Tlb>(
+    alloc: Global,
+    processors: &Vec<Cpu<T>>,
+) -> Result<Vec<Cpu<T>>, AllocError>
+    ensures { IfOk result (λ copies. copies.items ≡ processors.now.items) }
+{
+    let mut copies = Vec::with_capacity(alloc, processors.len())?;
+    for processor in processors.iter() {
+        copies.push_reserved(processor.copy());
+    }
+    Ok(copies)
+}
+
+impl<T: Tlb, D: Console> Core<T, D> {
+    /// The state at boot: processor 0 is started at the entry, the others are stopped, and RAM has
+    /// these bytes. Allocates the processors and the console's room.
+    #[inline(never)]
+    pub(crate) fn at_boot(
+        alloc: Global,
+        bytes: Vec<u8>,
+        entry: u32,
+        conf: Conf,
+    ) -> Result<Core<T, D>, AllocError>
+        requires limits { is_within_limits conf ≡ true }
+        requires ram { length bytes.items ≡ conf.ram }
+        ensures { IfOk result (λ core. core ≡ boot_state (start_of bytes.items entry conf)) }
+    {
+        let processors = first_processors(alloc, conf.processors, entry)?;
+        let console = D::fresh(alloc)?;
+        Ok(Core {
+            processors,
+            ram: Ram::from_bytes(bytes),
+            board: Board::new(console, conf.ram, conf.processors),
+            links: Links::new(),
+            made: 0,
+            conf,
+        })
+    }
+
+    /// The same state again. Allocates as much memory as it has.
+    #[inline(never)]
+    pub fn copy(&self, alloc: Global) -> Result<Core<T, D>, AllocError>
+        ensures { IfOk result (λ core. core ≡ self.now) }
+    {
+        let processors = copy_processors(alloc, &self.processors)?;
+        let ram = self.ram.copy(alloc)?;
+        let board = self.board.copy(alloc)?;
+        Ok(Core {
+            processors,
+            ram,
+            board,
+            links: self.links.copy(),
+            made: self.made,
+            conf: self.conf,
+        })
+    }
+
+    /// Makes one Step of a processor. Does not allocate.
+    ///
+    /// # Errors
+    /// The first refusal that holds. Nothing is changed then.
+    pub fn step(&mut self, p: u32) -> Result<Outcome, Refusal>
+        ensures makes { Makes self.old (events.Step p) result self.new }
+        ensures sizes { KeepsSizes self.old self.new }
+        ensures proper { IfOk result (λ outcome. (p < 32) × IsOfStep outcome) }
+    {
+        if let Some(refusal) = self.refusal(p) {
+            return Err(refusal);
+        }
+        let mut kept = [Kept::of_step(0, Outcome::Ran)];
+        let _made = self.advance(p, &mut kept);
+        Ok(kept[0].entry().outcome)
+    }
+
+    /// Makes a Step of processor `p` for each place of `kept`, until one of them switches the
+    /// machine off, and writes each one's entry into its place. Returns how many were made. Its
+    /// loop is the only place in a program with the code of a Step.
+    #[inline(never)]
+    pub(crate) fn advance(&mut self, p: u32, kept: &mut [Kept]) -> usize
+        requires place { p < length self.old.processors }
+        requires on { self.old.board.off ≡ false }
+        requires room { self.old.made + length kept.old ≤ self.old.conf.log }
+        ensures advances { Advances p self.old (take result kept.new) self.new }
+        ensures length { length kept.new ≡ length kept.old }
+        ensures within { result ≤ length kept.old }
+        ensures some { 1 ≤ length kept.old → 1 ≤ result }
+        ensures end { result ≡ length kept.old
+            ⊎ (result < length kept.old) × (self.new.board.off ≡ true) }
+        ensures sizes { KeepsSizes self.old self.new }
+    {
+        let mut made = 0;
+        while made < kept.len() {
+            let outcome = self.make_step(p);
+            kept[made] = Kept::of_step(p, outcome);
+            made += 1;
+            if self.went_off(outcome) {
+                return made;
+            }
+        }
+        made
+    }
+
+    // Makes a Step of processor `p`, and then starts the processors that the Step put into CPUE.
+    // Tests no refusal.
+    #[inline(always)]
+    fn make_step(&mut self, p: u32) -> Outcome
+        requires processor { p < length self.old.processors }
+        requires room { self.old.made < self.old.conf.log }
+        ensures outcome { result ≡ (step_result p self.old).outcome }
+        ensures state { self.new ≡ with_step p (step_result p self.old) self.old }
+        ensures sizes { KeepsSizes self.old self.new }
+        ensures proper { IsOfStep result }
+        ensures few { length self.old.processors ≤ 32 }
+        ensures ran { result ≡ Outcome.Ran → self.new.board.off ≡ false }
+    {
+        let Core {
+            processors,
+            ram,
+            board,
+            links,
+            made,
+            conf: _,
+        } = self;
+        let outcome = step_parts(processors, p, ram, board, links);
+        *made += 1;
+        outcome
+    }
+
+    // Whether a Step with this outcome switched the machine off; after Ran there is no need to
+    // look.
+    #[inline(always)]
+    fn went_off(&self, outcome: Outcome) -> bool
+        requires { outcome ≡ Outcome.Ran → self.now.board.off ≡ false }
+        ensures { result ≡ self.now.board.off }
+    {
+        match outcome {
+            Outcome::Ran => false,
+            _ => self.is_off(),
+        }
+    }
+
+    /// The first refusal that holds of a Step.
+    #[inline(always)]
+    pub(crate) fn refusal(&self, p: u32) -> Option<Refusal>
+        ensures value { result ≡ refusal self.now (events.Step p) }
+        ensures within { IfNone result ((p < length self.now.processors) × (p < 32)) }
+        ensures on { IfNone result (self.now.board.off ≡ false) }
+        ensures room { IfNone result (self.now.made < self.now.conf.log) }
+    {
+        self.law();
+        if p >= self.processors() {
+            Some(Refusal::BadProcessor)
+        } else {
+            self.refusal_of_input()
+        }
+    }
+
+    /// The first refusal that holds of any event.
+    #[inline(always)]
+    pub(crate) fn refusal_of_input(&self) -> Option<Refusal>
+        ensures value { result ≡ refusal self.now events.Done }
+        ensures on { IfNone result (self.now.board.off ≡ false) }
+        ensures room { IfNone result (self.now.made < self.now.conf.log) }
+    {
+        if self.board.is_off() {
+            Some(Refusal::Off)
+        } else if self.made >= u64::from(self.conf.log) {
+            Some(Refusal::LogFull)
+        } else {
+            None
+        }
+    }
+
+    /// Types a byte at the console. Does not allocate.
+    ///
+    /// # Errors
+    /// The first refusal that holds. Nothing is changed then.
+    #[tactic(auto, unfolding(crate::specs::State::next))]
+    pub fn key(&mut self, byte: u8) -> Result<Outcome, Refusal>
+        ensures makes { Makes self.old (events.Key byte) result self.new }
+        ensures sizes { KeepsSizes self.old self.new }
+    {
+        if let Some(refusal) = self.refusal_of_input() {
+            return Err(refusal);
+        }
+        match self.board.key(byte) {
+            Ok(()) => {}
+            Err(_) => return Err(Refusal::KeyFull),
+        }
+        self.made += 1;
+        Ok(Outcome::Taken)
+    }
+
+    /// The console has sent the byte in its latch.
+    ///
+    /// # Errors
+    /// The first refusal that holds, or else `NoMemory`. Nothing is changed then.
+    #[tactic(auto, unfolding(crate::specs::State::next))]
+    pub fn done(&mut self) -> Result<Outcome, Refusal>
+        ensures makes { Makes self.old events.Done result self.new }
+        ensures sizes { KeepsSizes self.old self.new }
+    {
+        if let Some(refusal) = self.refusal_of_input() {
+            return Err(refusal);
+        }
+        match self.board.done() {
+            Ok(()) => {}
+            Err(DoneError::NothingSent) => return Err(Refusal::NothingSent),
+            Err(DoneError::NoMemory) => return Err(Refusal::NoMemory),
+        }
+        self.made += 1;
+        Ok(Outcome::Taken)
+    }
+
+    /// The law of every state: there are as many processors as the board says, at most 32; the
+    /// configuration is within the limits; and no processor has made more Steps than events were
+    /// accepted.
+    pub fn law(&self)
+        ensures number { length self.now.processors ≡ self.now.board.processors }
+        ensures few { length self.now.processors ≤ 32 }
+        ensures limits { is_within_limits self.now.conf ≡ true }
+        ensures counts { CountUpTo self.now.made self.now.processors }
+    {
+        let _processors = &self.processors;
+    }
+
+    /// Makes an event, by its kind.
+    ///
+    /// # Errors
+    /// Those of `step`, `key` or `done`.
+    pub fn event(&mut self, event: Event) -> Result<Outcome, Refusal>
+        ensures makes { Makes self.old event result self.new }
+        ensures sizes { KeepsSizes self.old self.new }
+    {
+        match event {
+            Event::Step(p) => self.step(p),
+            Event::Key(byte) => self.key(byte),
+            Event::Done => self.done(),
+        }
+    }
+}

@@ -1,0 +1,147 @@
+//! What a state shows.
+
+ghost use Rattle.std.specs.Prelude.{◌≡◌, ◌<◌, Some, slice_get, slice_index, length};
+ghost use Rattle.m161_bus.specs.Board.{interrupt_lines};
+ghost use Rattle.m161_cop0.specs.Control.{read_of};
+ghost use Rattle.m161_cop0.specs.Registers.{number_of_register};
+ghost use Rattle.m161_machine.specs.State.{processor_at, word_in};
+
+use crate::conf::Conf;
+use crate::state::Core;
+use m161_bus::Console;
+use m161_cop0::Register;
+use m161_cpu::ProcessorState;
+use m161_isa::Reg;
+use m161_tlb::{Row, Tlb};
+
+impl<T: Tlb, D: Console> Core<T, D> {
+    /// A general register of a processor.
+    pub fn reg(&self, p: u32, register: Reg) -> u32
+        requires { p < length self.now.processors }
+        ensures value { result ≡ slice_index
+            (processor_at p self.now.processors).registers register }
+        ensures zero { register ≡ 0 → result ≡ 0 }
+    {
+        self.processors[p as usize].reg(register)
+    }
+
+    /// HI of a processor.
+    pub fn hi(&self, p: u32) -> u32
+        requires { p < length self.now.processors }
+        ensures { result ≡ (processor_at p self.now.processors).hi }
+    {
+        self.processors[p as usize].hi()
+    }
+
+    /// LO of a processor.
+    pub fn lo(&self, p: u32) -> u32
+        requires { p < length self.now.processors }
+        ensures { result ≡ (processor_at p self.now.processors).lo }
+    {
+        self.processors[p as usize].lo()
+    }
+
+    /// The address of a processor's current instruction.
+    pub fn pc(&self, p: u32) -> u32
+        requires { p < length self.now.processors }
+        ensures { result ≡ (processor_at p self.now.processors).pc }
+    {
+        self.processors[p as usize].pc()
+    }
+
+    /// Whether a processor's current instruction is in a delay slot.
+    pub fn in_slot(&self, p: u32) -> bool
+        requires { p < length self.now.processors }
+        ensures { result ≡ (processor_at p self.now.processors).slot }
+    {
+        self.processors[p as usize].in_slot()
+    }
+
+    /// What a processor is doing.
+    pub fn state(&self, p: u32) -> ProcessorState
+        requires { p < length self.now.processors }
+        ensures { result ≡ (processor_at p self.now.processors).state }
+    {
+        self.processors[p as usize].state()
+    }
+
+    /// How many Steps a processor has made, idle ones included.
+    pub fn count(&self, p: u32) -> u64
+        requires { p < length self.now.processors }
+        ensures { result ≡ (processor_at p self.now.processors).count }
+    {
+        self.processors[p as usize].count()
+    }
+
+    /// The word at a physical address; `None` if it is misaligned or outside RAM.
+    pub fn word(&self, address: u32) -> Option<u32>
+        ensures { result ≡ word_in self.now.memory address }
+    {
+        if address % 4 == 0 && u64::from(address) + 4 <= u64::from(self.ram.size()) {
+            Some(self.ram.word(address))
+        } else {
+            None
+        }
+    }
+
+    /// A register of coprocessor 0 of a processor. Cause shows the board's lines as they are now.
+    pub fn cop(&self, p: u32, register: Register) -> u32
+        requires { p < length self.now.processors }
+        ensures { result ≡ read_of (number_of_register register)
+            (interrupt_lines p self.now.board)
+            (processor_at p self.now.processors).control }
+    {
+        self.processors[p as usize].cop(register, self.board.lines(p))
+    }
+
+    /// A row of a processor's TLB.
+    pub fn row(&self, p: u32, i: u8) -> Row
+        requires processor { p < length self.now.processors }
+        requires row { i < 64 }
+        ensures { slice_get (processor_at p self.now.processors).rows i ≡ Some result }
+    {
+        self.processors[p as usize].row(i)
+    }
+
+    /// The bytes that the console has sent, the first one first.
+    pub fn output(&self) -> &[u8]
+        ensures { result.now ≡ self.now.board.console.output }
+    {
+        self.board.output()
+    }
+
+    /// RAM, from physical address 0 on.
+    pub fn memory(&self) -> &[u8]
+        ensures { result.now ≡ self.now.memory }
+    {
+        self.ram.as_bytes()
+    }
+
+    /// How many events were accepted since boot.
+    pub fn made(&self) -> u64
+        ensures { result ≡ self.now.made }
+    {
+        self.made
+    }
+
+    /// The configuration of its machine.
+    pub fn conf(&self) -> Conf
+        ensures { result ≡ self.now.conf }
+    {
+        self.conf
+    }
+
+    /// How many processors it has.
+    pub fn processors(&self) -> u32
+        ensures { result ≡ length self.now.processors }
+    {
+        self.board.processors()
+    }
+
+    /// Whether it was switched off.
+    pub fn is_off(&self) -> bool
+        ensures { result ≡ self.now.board.off }
+    {
+        self.board.is_off()
+    }
+}
