@@ -9,7 +9,7 @@ use Rattle.m161_asm.specs.declared.statement.ReadError.TheVariants as errors
 use Rattle.m161_asm.specs.Tokens.{lines, split, tokens}
 use Rattle.m161_asm.specs.Lines.{Fault, SourceLine}
 use Rattle.m161_asm.specs.Text.{line_of, read_lines}
-use Rattle.m161_asm.specs.Seen.{line_seen, above_of, fault_seen, IsTold, Yields, GoesOn}
+use Rattle.m161_asm.specs.helpers.Seen.{line_seen, above_of, fault_seen, IsTold, Yields, GoesOn}
 use Rattle.m161_asm.specs.Answer.{Tells}
 use Rattle.m161_asm.specs.declared.first.FirstPass.{FirstPass}
 

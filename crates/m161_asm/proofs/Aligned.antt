@@ -3,7 +3,7 @@ use Rattle.std.proofs.Common.{◌≡◌, refl, subst, arith}
 use Rattle.std.proofs.lemmas.Bool.Decides.{Decides-eqb}
 use Rattle.m161_asm.specs.Lines.{Fault, Value, Statement, Nothing, Origin, Space, Entry, Words, Code, Label, SourceLine, is_within, size_of}
 use Rattle.m161_asm.specs.Text.{Segment, address_below, address_from, origin_of, symbol, symbols_in, number_of_value, word_address, first_address, or_address, entry_by, entry_of}
-use Rattle.m161_asm.specs.Lawful.{IsStatement, Lawful}
+use Rattle.m161_asm.specs.helpers.Lawful.{IsStatement, Lawful}
 use Rattle.m161_asm.specs.Segments.{AreAligned, ArePlaced}
 use Rattle.m161_asm.proofs.Lawfuls.{bound, same}
 use Rattle.m161_asm.proofs.Made.{origin_multiple}

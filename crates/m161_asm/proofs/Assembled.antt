@@ -8,11 +8,12 @@ use Rattle.m161_asm.specs.Tokens.{lines}
 use Rattle.m161_asm.specs.Lines.{◌>>=◌, Fault, SourceLine}
 use Rattle.m161_asm.specs.Text.{Segment, text, read_lines, symbols_in, segments_of, program_of, full, first_address, entry_of}
 use Rattle.m161_asm.specs.declared.statement.Line.{Line as CodeLine}
-use Rattle.m161_asm.specs.Seen.{above_of}
+use Rattle.m161_asm.specs.helpers.Seen.{above_of}
 use Rattle.m161_asm.specs.Answer.{program_seen, Tells}
-use Rattle.m161_asm.specs.SecondPass.{IsFilled, Passes, segment_seen, segments_seen}
-use Rattle.m161_asm.specs.Lawful.{Lawful}
-use Rattle.m161_asm.specs.Segments.{AreSegments}
+use Rattle.m161_asm.specs.Segments.{segment_seen, segments_seen}
+use Rattle.m161_asm.specs.helpers.SecondPass.{IsFilled, Passes}
+use Rattle.m161_asm.specs.helpers.Lawful.{Lawful}
+use Rattle.m161_asm.specs.helpers.Segments.{AreSegments}
 use Rattle.m161_asm.proofs.Filled.{full_more}
 use Rattle.m161_asm.proofs.Above.{above_len}
 use Rattle.m161_asm.proofs.Lawfuls.{read_count}

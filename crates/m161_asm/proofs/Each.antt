@@ -4,7 +4,7 @@ use Rattle.std.proofs.Common.{◌≡◌, refl, ap, sym, ◌∙◌, arith}
 use mathlib.Core.List.{append-nil}
 use Rattle.m161_asm.specs.Lines.{◌>>=◌, Fault}
 use Rattle.m161_asm.specs.Text.{each}
-use Rattle.m161_asm.specs.Seen.{with_front}
+use Rattle.m161_asm.specs.helpers.Seen.{with_front}
 use Rattle.m161_asm.proofs.Fronts.{fronted}
 
 -- A list of numbers, one after the other.

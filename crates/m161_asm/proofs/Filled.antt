@@ -2,12 +2,13 @@ use Rattle.std.specs.Prelude.{ℕ, zero, suc, ◌+◌, ◌-◌, List, [], ◌∷
 use Rattle.m161_asm.specs.declared.second.SecondPass.{SecondPass}
 use Rattle.m161_asm.specs.Lines.{Fault, SourceLine, Statement, size_of}
 use Rattle.m161_asm.specs.Text.{Segment, segments_of, opened_at, words_of_statement, address_below, address_from, entry_of, entry_by, origin_of, full}
-use Rattle.m161_asm.specs.Seen.{with_front, fault_seen, AddsNumbers}
+use Rattle.m161_asm.specs.helpers.Seen.{with_front, fault_seen, AddsNumbers}
 use Rattle.m161_asm.specs.declared.statement.ReadError.{ReadError}
 use Rattle.m161_asm.specs.declared.statement.ReadError.TheVariants as errors
 use Rattle.std.proofs.lemmas.List.{reverse-append}
 use mathlib.Core.List.{append-nil}
-use Rattle.m161_asm.specs.SecondPass.{IsFilled, FillsLine, AdvancesPass, segment_seen, segments_seen}
+use Rattle.m161_asm.specs.Segments.{segment_seen, segments_seen}
+use Rattle.m161_asm.specs.helpers.SecondPass.{IsFilled, FillsLine, AdvancesPass}
 use Rattle.std.proofs.Common.{◌≡◌, refl, ap, sym, ◌∙◌, arith}
 
 -- The segments of the second pass.

@@ -4,7 +4,7 @@ use Rattle.std.proofs.Common.{◌≡◌, inl, inr, refl, ap, sym, ◌∙◌, ari
 use Rattle.std.proofs.lemmas.Bool.Decides.{nat_tests}
 use Rattle.m161_asm.specs.declared.ground.Run.{Run}
 use Rattle.m161_asm.specs.declared.ground.Ground.{Ground}
-use Rattle.m161_asm.specs.Ground.{meet, meets, InOrder, Splits, limit_of, IsOrdered, HasFilled}
+use Rattle.m161_asm.specs.helpers.Ground.{meet, meets, InOrder, Splits, limit_of, IsOrdered, HasFilled}
 use Rattle.m161_asm.specs.Text.{overlap}
 
 -- Runs of filled addresses.

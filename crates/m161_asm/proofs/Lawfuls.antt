@@ -8,7 +8,7 @@ use Rattle.m161_isa.specs.Table.{table, width_of, AreOperands}
 use Rattle.m161_asm.specs.Tokens.{Placed, Name, Directive, Register, tokens}
 use Rattle.m161_asm.specs.Lines.{◌>>=◌, Fault, Whole, Value, Part, Field, BranchTo, JumpTo, Parsed, Statement, Nothing, Origin, Space, Entry, Words, Code, SourceLine, register, wrong, whole, is_within, bits_of_whole, part, immediate, register_part, base, target, mark, value, comma, comma_and_part, end_of_line, operand_parts, plain_number, multiple, origin_statement, space_statement, entry_statement, words_statement, unknown, values, directive_statement, row_named, instruction, name_statement, statement, label_of, sound, past_of, line_column, size_of}
 use Rattle.m161_asm.specs.Text.{count_words, segments_in, address_below, line_in_place, is_outside, is_filled, new_label, line_of, on_line, read_lines, word_address, distance, field_of, each}
-use Rattle.m161_asm.specs.Lawful.{IsPart, AreParts, IsStatement, HasPlace, Lawful}
+use Rattle.m161_asm.specs.helpers.Lawful.{IsPart, AreParts, IsStatement, HasPlace, Lawful}
 
 -- Lines that were read are lawful.
 

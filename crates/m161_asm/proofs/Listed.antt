@@ -5,7 +5,7 @@ use Rattle.std.proofs.lemmas.List.{map-append}
 use Rattle.m161_asm.specs.declared.statement.Value.{Value as CodeValue}
 use Rattle.m161_asm.specs.Tokens.{Placed}
 use Rattle.m161_asm.specs.Lines.{◌>>=◌, Fault, Value, value, values, further, mark, wrong}
-use Rattle.m161_asm.specs.Seen.{with_front, value_seen, all_seen}
+use Rattle.m161_asm.specs.helpers.Seen.{with_front, value_seen, all_seen}
 use Rattle.m161_asm.specs.declared.token.Placed.{Placed as CodePlaced}
 use Rattle.m161_asm.proofs.Fronts.{fronted}
 

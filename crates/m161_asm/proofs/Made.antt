@@ -5,9 +5,10 @@ use Rattle.std.proofs.lemmas.Bool.Decides.{nat_tests}
 use Rattle.std.proofs.lemmas.List.{length-append}
 use Rattle.m161_asm.specs.Lines.{Fault, Statement, Nothing, Origin, Space, Entry, Words, Code, SourceLine, size_of}
 use Rattle.m161_asm.specs.Text.{Segment, overlap, address_below, count_words, has_words, segments_in, new_segments, is_filled, origin_of, opened_at, onto_last, on_line, each, word_of_value, field_of, word_address, words_of_statement, segments_of, full}
-use Rattle.m161_asm.specs.Lawful.{IsStatement, HasPlace, Lawful}
+use Rattle.m161_asm.specs.helpers.Lawful.{IsStatement, HasPlace, Lawful}
 use Rattle.m161_asm.specs.Segments as segments
-use Rattle.m161_asm.specs.Segments.{IsPlaced, ArePlaced, IsApart, AreApart, AreSegments}
+use Rattle.m161_asm.specs.Segments.{IsPlaced, ArePlaced, IsApart, AreApart}
+use Rattle.m161_asm.specs.helpers.Segments.{AreSegments}
 use Rattle.m161_asm.proofs.Filled.{full_more}
 use Rattle.m161_asm.proofs.Lawfuls.{bound, same}
 

@@ -3,10 +3,10 @@ use Rattle.std.proofs.Common.{◌≡◌, inl, inr, refl, ap, sym, ◌∙◌, ari
 use Rattle.m161_asm.specs.declared.place.Position.{Position}
 use Rattle.m161_asm.specs.Lines.{SourceLine, size_of}
 use Rattle.m161_asm.specs.Text.{address_below, address_from, has_words_from, new_segments, is_filled, overlap, origin_of}
-use Rattle.m161_asm.specs.Ground.{IsOrdered, meet, meets}
+use Rattle.m161_asm.specs.helpers.Ground.{IsOrdered, meet, meets}
 use Rattle.m161_asm.specs.declared.ground.Ground.{Ground}
 use Rattle.m161_asm.proofs.Grounds.{grown}
-use Rattle.m161_asm.specs.Passes.{IsPosition, IsBehind, HasRoom, Advances, Moves}
+use Rattle.m161_asm.specs.helpers.Passes.{IsPosition, IsBehind, HasRoom, Advances, Moves}
 
 -- Positions, from line to line.
 

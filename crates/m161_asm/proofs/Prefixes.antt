@@ -10,9 +10,9 @@ use Rattle.m161_asm.specs.declared.error.ErrorKind.TheVariants as faults
 use Rattle.m161_asm.specs.declared.second.SecondPass.{SecondPass}
 use Rattle.m161_asm.specs.Lines.{Fault, SourceLine}
 use Rattle.m161_asm.specs.Text.{segments_of}
-use Rattle.m161_asm.specs.Lawful.{Lawful}
-use Rattle.m161_asm.specs.Seen.{line_seen, above_of, IsTold}
-use Rattle.m161_asm.specs.SecondPass.{FillsLine}
+use Rattle.m161_asm.specs.helpers.Lawful.{Lawful}
+use Rattle.m161_asm.specs.helpers.Seen.{line_seen, above_of, IsTold}
+use Rattle.m161_asm.specs.helpers.SecondPass.{FillsLine}
 use Rattle.m161_asm.proofs.Above.{took, above_len}
 
 -- The first lines of a text, while the second pass goes over them.

@@ -34,10 +34,3 @@ AreApart (s ∷ ss) = AllByRecursion (IsApart s) ss × AreApart ss
 -- each symbol's address is a multiple of 4
 abbrev pub AreAligned : List (List ℕ × ℕ) → Type 0
 AreAligned symbols = AllByRecursion (λ symbol. symbol.1 % 4 ≡ 0) symbols
-
--- the limits of a program
-pub record AreSegments (ss : List Segment) : Type 0 where
-  pub words : word_count ss ≤ 4194304
-  pub count : length ss ≤ 1024
-  pub placed : ArePlaced ss
-  pub apart : AreApart ss

@@ -6,8 +6,9 @@ ghost use Rattle.m161_asm.specs.Lines as lines;
 ghost use Rattle.m161_asm.specs.Text.{text, first_address, full, symbols_in, program_of};
 ghost use Rattle.m161_asm.specs.Seen.{symbols_seen};
 ghost use Rattle.m161_asm.specs.Answer.{program_seen, Tells, IsWithinLines};
-ghost use Rattle.m161_asm.specs.SecondPass.{IsFilled};
-ghost use Rattle.m161_asm.specs.Segments.{segment_seen, segments_seen, AreAligned, AreSegments};
+ghost use Rattle.m161_asm.specs.helpers.SecondPass.{IsFilled};
+ghost use Rattle.m161_asm.specs.Segments.{segment_seen, segments_seen, AreAligned};
+ghost use Rattle.m161_asm.specs.helpers.Segments.{AreSegments};
 
 use crate::error::AsmError;
 use crate::first::{FirstPass, at_line, first_pass};

@@ -5,10 +5,11 @@ ghost use Rattle.std.specs.List.{position_or_len};
 ghost use Rattle.m161_asm.specs.Tokens.{tokens, lines};
 ghost use Rattle.m161_asm.specs.Lines.{size_of, line_column};
 ghost use Rattle.m161_asm.specs.Text.{line_of, read_lines};
-ghost use Rattle.m161_asm.specs.Seen.{Yields, IsTold, GoesOn, statement_seen, label_seen, line_seen, above_of, all_seen, symbols_seen};
+ghost use Rattle.m161_asm.specs.Seen.{symbols_seen};
+ghost use Rattle.m161_asm.specs.helpers.Seen.{Yields, IsTold, GoesOn, statement_seen, label_seen, line_seen, above_of, all_seen};
 ghost use Rattle.m161_asm.specs.Answer.{Tells, IsWithinLines};
-ghost use Rattle.m161_asm.specs.Passes.{HasRoom, IsNew};
-ghost use Rattle.m161_asm.specs.FirstPass.{IsPass};
+ghost use Rattle.m161_asm.specs.helpers.Passes.{HasRoom, IsNew};
+ghost use Rattle.m161_asm.specs.helpers.FirstPass.{IsPass};
 
 use crate::error::{AsmError, ErrorKind};
 use crate::line::{label_of, past_of, sound, statement};

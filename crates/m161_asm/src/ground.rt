@@ -1,7 +1,7 @@
 //! Which addresses are filled.
 
 ghost use Rattle.std.specs.Prelude.{◌≡◌, ◌≤◌, ◌<◌, ◌+◌, ◌*◌, ◌^◌, ℕ, Bool, OnOk, length, drop, false, List, ◌||◌, ◌⊎◌};
-ghost use Rattle.m161_asm.specs.Ground.{InOrder, Splits, IsOrdered, HasFilled, limit_of, meet, meets};
+ghost use Rattle.m161_asm.specs.helpers.Ground.{InOrder, Splits, IsOrdered, HasFilled, limit_of, meet, meets};
 
 use crate::statement::ReadError;
 use std::alloc::Global;

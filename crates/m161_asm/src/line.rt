@@ -2,7 +2,7 @@
 
 ghost use Rattle.std.specs.Prelude.{◌≡◌, length};
 ghost use Rattle.m161_asm.specs.Lines.{next_column, multiple, origin_statement, space_statement, entry_statement, words_statement, values, end_of_line, unknown, directive_statement, instruction, name_statement, statement, label_of, sound, past_of, line_column};
-ghost use Rattle.m161_asm.specs.Seen.{placed_seen, all_seen, Gives, Yields, number_seen, value_seen, part_seen, statement_seen, label_read};
+ghost use Rattle.m161_asm.specs.helpers.Seen.{placed_seen, all_seen, Gives, Yields, number_seen, value_seen, part_seen, statement_seen, label_read};
 ghost use Rattle.std.specs.Prelude.{map, bytes_eq, codes};
 ghost use Rattle.m161_asm.specs.declared.error.ErrorKind.TheVariants as faults;
 

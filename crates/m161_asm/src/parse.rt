@@ -5,7 +5,7 @@ ghost use Rattle.m161_asm.specs.declared.error.ErrorKind.TheVariants as faults;
 ghost use Rattle.m161_asm.specs.Lines.{next_column, mark, register, plain_number, negative_number, positive_number, whole, addend, value, immediate, register_part, base, target, part, is_within, bits_of_whole, Field, BranchTo, JumpTo, comma, operand_parts, comma_and_part};
 ghost use Rattle.m161_isa.specs.Table.{table};
 ghost use Rattle.m161_asm.specs.Lines.{row_named};
-ghost use Rattle.m161_asm.specs.Seen.{placed_seen, all_seen, Gives, rest_seen, number_seen, whole_seen, whole_read, value_read, value_seen, part_read, part_seen, Adds};
+ghost use Rattle.m161_asm.specs.helpers.Seen.{placed_seen, all_seen, Gives, rest_seen, number_seen, whole_seen, whole_read, value_read, value_seen, part_read, part_seen, Adds};
 
 use crate::error::ErrorKind;
 use crate::statement::{Fault, Part, ReadError, Value, Whole};

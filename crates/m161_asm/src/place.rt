@@ -4,8 +4,8 @@ ghost use Rattle.std.specs.Prelude.{◌≡◌, ◌≤◌, ◌<◌, ◌+◌, ◌*
 ghost use Rattle.m161_asm.specs.Lines.{size_of};
 ghost use Rattle.m161_asm.specs.Lines as lines;
 ghost use Rattle.m161_asm.specs.Text.{exceeds, new_segments, origin_of, address_from, has_words_from, line_in_place};
-ghost use Rattle.m161_asm.specs.Seen.{statement_seen, line_seen, Gives};
-ghost use Rattle.m161_asm.specs.Passes.{IsPosition, IsBehind, HasRoom, Advances, Moves};
+ghost use Rattle.m161_asm.specs.helpers.Seen.{statement_seen, line_seen, Gives};
+ghost use Rattle.m161_asm.specs.helpers.Passes.{IsPosition, IsBehind, HasRoom, Advances, Moves};
 
 use crate::error::ErrorKind;
 use crate::ground::Ground;

@@ -5,10 +5,12 @@ ghost use Rattle.m161_asm.specs.Lines.{size_of};
 ghost use Rattle.m161_asm.specs.Lines as lines;
 ghost use Rattle.m161_asm.specs.Text.{words_of_statement, word_of_value, each, origin_of, address_from, segments_of, entry_by, full};
 ghost use Rattle.m161_isa.specs.Table.{table};
-ghost use Rattle.m161_asm.specs.Lawful.{AreParts, IsStatement, Lawful};
-ghost use Rattle.m161_asm.specs.Seen.{AddsNumbers, part_seen, value_seen, statement_seen, line_seen, above_of, symbols_seen};
+ghost use Rattle.m161_asm.specs.helpers.Lawful.{AreParts, IsStatement, Lawful};
+ghost use Rattle.m161_asm.specs.Seen.{symbols_seen};
+ghost use Rattle.m161_asm.specs.helpers.Seen.{AddsNumbers, part_seen, value_seen, statement_seen, line_seen, above_of};
 ghost use Rattle.m161_asm.specs.Answer.{IsWithinLines};
-ghost use Rattle.m161_asm.specs.SecondPass.{IsFilled, segment_seen, segments_seen, FillsLine, AdvancesPass, Passes};
+ghost use Rattle.m161_asm.specs.Segments.{segment_seen, segments_seen};
+ghost use Rattle.m161_asm.specs.helpers.SecondPass.{IsFilled, FillsLine, AdvancesPass, Passes};
 
 use crate::error::AsmError;
 use crate::first::at_line;

@@ -3,8 +3,9 @@
 ghost use Rattle.std.specs.Prelude.{◌≡◌, ◌<◌, ◌^◌, ◌++◌, OnOk, is_some, true, List, None, ◌∷◌, []};
 ghost use Rattle.m161_asm.specs.Lines as lines;
 ghost use Rattle.m161_asm.specs.Text.{label_address, symbol, new_label, symbols_in};
-ghost use Rattle.m161_asm.specs.Seen.{Gives, label_seen, symbols_seen};
-ghost use Rattle.m161_asm.specs.Passes.{IsNew};
+ghost use Rattle.m161_asm.specs.Seen.{symbols_seen};
+ghost use Rattle.m161_asm.specs.helpers.Seen.{Gives, label_seen};
+ghost use Rattle.m161_asm.specs.helpers.Passes.{IsNew};
 
 use crate::error::ErrorKind;
 use crate::statement::{Fault, Label, ReadError};

@@ -3,7 +3,8 @@
 ghost use Rattle.std.specs.Prelude.{◌≡◌, ◌≤◌, ◌<◌, ◌+◌, ◌^◌, ℕ, IfOk, map, unwrap_or, List};
 ghost use Rattle.m161_asm.specs.declared.error.ErrorKind.TheVariants as faults;
 ghost use Rattle.m161_asm.specs.Text.{number_of_value, word_of_value, word_address, branch_field, jump_field, field_of, each, entry_by};
-ghost use Rattle.m161_asm.specs.Seen.{Gives, Yields, value_seen, part_seen, statement_seen, symbols_seen};
+ghost use Rattle.m161_asm.specs.Seen.{symbols_seen};
+ghost use Rattle.m161_asm.specs.helpers.Seen.{Gives, Yields, value_seen, part_seen, statement_seen};
 
 use crate::error::ErrorKind;
 use crate::statement::{Fault, Part, ReadError, Statement, Value};

@@ -2,3 +2,4 @@ pub mod Console
 pub mod Outcome
 pub mod Registers
 pub mod Board
+pub mod helpers

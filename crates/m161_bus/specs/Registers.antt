@@ -1,4 +1,4 @@
-use Rattle.std.specs.Prelude.{ℕ, ◌-◌, ◌/◌, ◌%◌, ◌<◌, Bool, nat_lt, nat_le, ◌==◌, ◌&&◌, if◌then◌else◌, List, [], ◌∷◌, Option, None, Some}
+use Rattle.std.specs.Prelude.{ℕ, ◌-◌, ◌/◌, ◌%◌, Bool, nat_lt, nat_le, ◌==◌, ◌&&◌, if◌then◌else◌, List, [], ◌∷◌, Option, None, Some}
 use Rattle.m161_bus.specs.declared.console.ConsoleRegister.TheVariants.{Char, WriteIrq, ReadIrq}
 use Rattle.m161_bus.specs.declared.register.Register.{Register}
 use Rattle.m161_bus.specs.declared.register.Register.TheVariants.{Constant, Console, RamSize, Irqs, Power, Irqe, Cpus, Cpue, SelfBit, Cirqe, Cipi, Cram}
@@ -83,10 +83,3 @@ register_of processors address =
     if is_word_of_slots address
     then Some (register_in processors (place / 0x10000) (place % 0x10000))
     else None
-
--- the processor of a register exists, and so does the word of its CRAM
-abbrev pub IsThere : ℕ → Register → Type 0
-IsThere processors (Cirqe p) = p < processors
-IsThere processors (Cipi p) = p < processors
-IsThere processors (Cram p i) = (p < processors) × (i < 64)
-IsThere processors other = Unit {0}

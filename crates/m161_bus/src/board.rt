@@ -3,7 +3,7 @@
 ghost use Rattle.std.specs.Prelude.{◌≡◌, ◌-◌, ◌%◌, ◌^◌, ◌<◌, ◌≤◌, length, IfOk};
 ghost use Rattle.m161_bus.specs.Board.{KeepsLines, KeepsSize, ReadsSlot, after_read, board_at_boot, board_read, board_written, irqs_through, irqs_with, with_slot_word, slot_word};
 ghost use Rattle.m161_bus.specs.Outcome.{LeavesUnlessRefused};
-ghost use Rattle.m161_bus.specs.Registers.{IsThere};
+ghost use Rattle.m161_bus.specs.helpers.Registers.{IsThere};
 
 mod views;
 

@@ -1,7 +1,8 @@
 //! The register at an address.
 
 ghost use Rattle.std.specs.Prelude.{ℕ, ◌≡◌, ◌<◌, ◌≤◌, IfSome};
-ghost use Rattle.m161_bus.specs.Registers.{IsThere, console_table, console_configuration, controller_configuration, controller_register, in_table, place_register, register_of};
+ghost use Rattle.m161_bus.specs.Registers.{console_table, console_configuration, controller_configuration, controller_register, in_table, place_register, register_of};
+ghost use Rattle.m161_bus.specs.helpers.Registers.{IsThere};
 
 use crate::console::ConsoleRegister;
 

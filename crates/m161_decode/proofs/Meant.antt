@@ -6,7 +6,7 @@ use Rattle.m161_isa.specs.Table.{row_that_fits, numbers_of}
 use Rattle.m161_isa.specs.Instr.{row_of_instr, numbers_of_instr, instr_by, instr_of}
 use Rattle.m161_isa.proofs.OneRow.{row_that_fits-is, row_that_fits-None}
 use Rattle.m161_isa.proofs.InstrBy.{row_of_instr-instr_by, numbers_of_instr-instr_by}
-use Rattle.m161_decode.specs.Decoded.{IsInstrOf, IsInstrOfRow}
+use Rattle.m161_decode.specs.helpers.Decoded.{IsInstrOf, IsInstrOfRow}
 
 -- An instruction that stands for a word is the word's own.
 

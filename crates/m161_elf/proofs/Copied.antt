@@ -3,7 +3,7 @@ use Rattle.std.proofs.Common.{◌≡◌, ℕ, ◌+◌, ◌<◌, ◌≤◌, List,
 use Rattle.std.proofs.lemmas.List.{places}
 use Rattle.std.proofs.lemmas.Bool.Decides.{nat_tests}
 use Rattle.m161_elf.specs.declared.header.ProgramHeader.{ProgramHeader}
-use Rattle.m161_elf.specs.Copied.{cleared_byte, copied_byte}
+use Rattle.m161_elf.specs.helpers.Copied.{cleared_byte, copied_byte}
 use Rattle.m161_elf.specs.Image.{place_in_ram}
 use borrow.Rule.Slice.PartMut.{put_mid}
 

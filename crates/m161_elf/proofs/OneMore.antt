@@ -8,11 +8,13 @@ use Rattle.std.proofs.lemmas.List.Folds.{list_any-append}
 use Rattle.std.proofs.lemmas.List.FromFn.{filter_of_map_range_with_len_more}
 use Rattle.m161_elf.specs.declared.header.ProgramHeader.{ProgramHeader}
 use Rattle.m161_elf.specs.declared.span.Span.{Span}
-use Rattle.m161_elf.specs.Copied.{put_byte}
-use Rattle.m161_elf.specs.Header.{header, is_load, segment_at, segments_among}
+use Rattle.m161_elf.specs.helpers.Copied.{put_byte}
+use Rattle.m161_elf.specs.Header.{header, is_load, segments_among}
+use Rattle.m161_elf.specs.helpers.Header.{segment_at}
 use Rattle.m161_elf.specs.Image.{byte_left, covers, is_larger_in_file, is_outside_file, is_outside_ram, segment_byte}
-use Rattle.m161_elf.specs.Sound.{faults_among}
-use Rattle.m161_elf.specs.Span.{has_bytes, span_at, span_of, spans_among}
+use Rattle.m161_elf.specs.helpers.Sound.{faults_among}
+use Rattle.m161_elf.specs.Span.{has_bytes, span_of, spans_among}
+use Rattle.m161_elf.specs.helpers.Span.{span_at}
 
 -- What one program header more adds.
 

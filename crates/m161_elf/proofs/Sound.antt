@@ -6,9 +6,10 @@ use Rattle.std.proofs.lemmas.Bool.Decides.{nat_tests}
 use Rattle.m161_elf.specs.declared.header.ProgramHeader.{ProgramHeader}
 use Rattle.m161_elf.specs.declared.image.Image.{Image}
 use Rattle.m161_elf.specs.declared.image.LoadError.{LoadError}
-use Rattle.m161_elf.specs.Header.{e_phnum, header, is_load, segment_at, segments}
+use Rattle.m161_elf.specs.Header.{e_phnum, header, is_load, segments}
+use Rattle.m161_elf.specs.helpers.Header.{segment_at}
 use Rattle.m161_elf.specs.Image.{first_fault, IsImage, Loads, has_bad_header_table, is_larger_in_file, is_not_elf32_big, is_not_executable, is_not_mips, is_outside_file, is_outside_ram, is_truncated}
-use Rattle.m161_elf.specs.Sound.{IsSoundFile, IsSoundSegment}
+use Rattle.m161_elf.specs.helpers.Sound.{IsSoundFile, IsSoundSegment}
 
 -- where no fault is found, the first test fails, and the rest finds none
 later : {E : Type 0} (test : Bool) (e : E) (rest : Option E)

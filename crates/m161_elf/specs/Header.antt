@@ -1,4 +1,4 @@
-use Rattle.std.specs.Prelude.{ℕ, ◌+◌, ◌*◌, Bool, ◌==◌, if◌then◌else◌, List, map, filter, Option, None, Some}
+use Rattle.std.specs.Prelude.{ℕ, ◌+◌, ◌*◌, Bool, ◌==◌, List, map, filter}
 use Rattle.std.specs.List.{range_with_len}
 use Rattle.m161_ram.specs.Word.{half_at, word_at}
 use Rattle.m161_elf.specs.declared.header.ProgramHeader.{ProgramHeader}
@@ -46,10 +46,6 @@ headers file count = map (header file) (range_with_len 0 count)
 -- PT_LOAD
 abbrev pub is_load : ProgramHeader → Bool
 is_load h = h.p_type == 1
-
--- program header i, if it is that of a segment to load
-abbrev pub segment_at : List ℕ → ℕ → Option ProgramHeader
-segment_at file i = if is_load (header file i) then Some (header file i) else None
 
 -- the segments to load among the first program headers, in the table's order
 abbrev pub segments_among : List ℕ → ℕ → List ProgramHeader

@@ -1,6 +1,5 @@
-pub mod Copied
 pub mod Header
 pub mod Image
 pub mod LoadError
-pub mod Sound
 pub mod Span
+pub mod helpers

@@ -1,10 +1,10 @@
-use Rattle.std.specs.Prelude.{◌≡◌, ℕ, Bool, not, ◌==◌, ◌&&◌, if◌then◌else◌, List, map, filter, Option, None, Some, Result, Ok, Err, Vec}
+use Rattle.std.specs.Prelude.{◌≡◌, ℕ, Bool, not, ◌==◌, List, map, filter, Option, None, Some, Result, Ok, Err, Vec}
 use Rattle.std.specs.declared.alloc.Global.{Global}
 use Rattle.m161_elf.specs.declared.header.ProgramHeader.{ProgramHeader}
 use Rattle.m161_elf.specs.declared.image.LoadError.{LoadError}
 use Rattle.m161_elf.specs.declared.image.LoadError.TheVariants.{NoMemory}
 use Rattle.m161_elf.specs.declared.span.Span.{Span}
-use Rattle.m161_elf.specs.Header.{e_phnum, header, is_load, segments_among}
+use Rattle.m161_elf.specs.Header.{e_phnum, segments_among}
 
 -- The addresses at which a file has bytes.
 
@@ -23,12 +23,6 @@ spans_among file count = map span_of (filter has_bytes (segments_among file coun
 -- the spans, in the table's order
 abbrev pub spans : List ℕ → List Span
 spans file = spans_among file (e_phnum file)
-
--- what program header i adds to the spans
-abbrev pub span_at : List ℕ → ℕ → Option Span
-span_at file i =
-    if is_load (header file i) && has_bytes (header file i) then Some (span_of (header file i))
-    else None
 
 -- the result of `loads`, by the first fault: that fault; or without a fault the spans, or that
 -- memory was refused

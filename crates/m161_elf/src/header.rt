@@ -2,7 +2,8 @@
 
 ghost use Rattle.std.specs.Prelude.{◌≡◌, ◌+◌, ◌*◌, ◌<◌, ◌≤◌, false, length};
 ghost use Rattle.m161_ram.specs.Word.{half_at, word_at};
-ghost use Rattle.m161_elf.specs.Header.{e_phnum, e_phoff, header_at, segment_at};
+ghost use Rattle.m161_elf.specs.Header.{e_phnum, e_phoff, header_at};
+ghost use Rattle.m161_elf.specs.helpers.Header.{segment_at};
 ghost use Rattle.m161_elf.specs.Image.{has_bad_header_table};
 
 /// The size of the ELF header.

@@ -1,11 +1,12 @@
 //! File bytes to memory.
 
 ghost use Rattle.std.specs.Prelude.{◌≡◌, ◌%◌, ◌<◌, ◌≤◌, Err, None, false, true, length, replicate, slice_index, EachIndex, IfOk};
-ghost use Rattle.m161_elf.specs.Copied.{cleared_byte, copied_byte, put_byte};
+ghost use Rattle.m161_elf.specs.helpers.Copied.{cleared_byte, copied_byte, put_byte};
 ghost use Rattle.m161_elf.specs.Header.{e_phnum, segments};
 ghost use Rattle.m161_elf.specs.Image.{byte_left, first_fault, has_bad_header_table, is_in_ram, is_larger_in_file, is_outside_ram, Loads};
-ghost use Rattle.m161_elf.specs.Sound.{IsSoundFile, IsSoundSegment};
-ghost use Rattle.m161_elf.specs.Span.{span_at, Lists};
+ghost use Rattle.m161_elf.specs.helpers.Sound.{IsSoundFile, IsSoundSegment};
+ghost use Rattle.m161_elf.specs.Span.{Lists};
+ghost use Rattle.m161_elf.specs.helpers.Span.{span_at};
 
 use crate::address::place_in_ram;
 use crate::fault::fault;

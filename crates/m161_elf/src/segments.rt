@@ -3,7 +3,7 @@
 ghost use Rattle.std.specs.Prelude.{◌≡◌, ◌≤◌, false, length};
 ghost use Rattle.m161_elf.specs.Header.{e_phnum};
 ghost use Rattle.m161_elf.specs.Image.{has_bad_header_table, is_larger_in_file, is_outside_file, is_outside_ram};
-ghost use Rattle.m161_elf.specs.Sound.{faults_among};
+ghost use Rattle.m161_elf.specs.helpers.Sound.{faults_among};
 
 use crate::address::is_in_ram;
 use crate::header::{ProgramHeader, e_phnum, segment};

@@ -1,4 +1,4 @@
-use Rattle.std.specs.Prelude.{ℕ, ◌*◌, ◌^◌, Bool, true, false, List, [], ◌∷◌, Option, None, Some}
+use Rattle.std.specs.Prelude.{ℕ, ◌*◌, ◌^◌, List, [], ◌∷◌, Option, None, Some}
 use Rattle.m161_isa.specs.declared.table.Row.{Row}
 use Rattle.m161_isa.specs.declared.table.Row.TheVariants as rows
 use Rattle.m161_isa.specs.declared.operand.Operand.TheVariants as operand
@@ -95,12 +95,6 @@ row_of_instr (Plain plain.Rfe) = Some rows.Rfe
 row_of_instr (Plain plain.Wait) = Some rows.Wait
 row_of_instr (Absent _) = None
 row_of_instr (Reserved _) = None
-
--- the instruction has no row
-abbrev pub is_misfit : Instr → Bool
-is_misfit (Absent _) = true
-is_misfit (Reserved _) = true
-is_misfit _ = false
 
 -- the numbers of its operands, in the row's order
 abbrev pub numbers_of_instr : Instr → List ℕ

@@ -2,3 +2,4 @@ pub mod Table
 pub mod Instr
 pub mod Laws
 pub mod Address
+pub mod helpers

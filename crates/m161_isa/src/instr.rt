@@ -4,7 +4,8 @@
 //! one: they group the rows by their operands, so that decoding and executing match on few shapes.
 
 ghost use Rattle.std.specs.Prelude.{◌≡◌, ◌↔◌, ℕ, Some, IsSome, IsTrue};
-ghost use Rattle.m161_isa.specs.Instr.{row_of_instr, is_misfit};
+ghost use Rattle.m161_isa.specs.Instr.{row_of_instr};
+ghost use Rattle.m161_isa.specs.helpers.Instr.{is_misfit};
 
 use crate::amount::Amount;
 use crate::immediate::Immediate;

@@ -14,7 +14,7 @@
 ghost use Rattle.std.specs.Prelude.{◌≡◌, ◌*◌, ◌+◌, ◌<◌, false, List, Some, length, get_or, slice_get, slice_set, IfSome};
 ghost use Rattle.m161_tlb.specs.Row.{matches};
 ghost use Rattle.m161_tlb.specs.Rows.{blank_row, find_row, start_row, start_rows};
-ghost use Rattle.m161_tlb_scan.specs.Blocks.{LacksPage};
+ghost use Rattle.m161_tlb_scan.specs.helpers.Blocks.{LacksPage};
 
 use m161_tlb::{Frame, Identifier, Page, Row, Tlb};
 use std::marker::Model;

@@ -13,7 +13,7 @@ use Rattle.m161_elf.specs.declared.image.LoadError.TheVariants as fault
 use Rattle.m161_elf.specs.declared.span.Span.{Span}
 use Rattle.m161_elf.specs.Header.{e_phnum, header, is_load}
 use Rattle.m161_elf.specs.Image.{IsImage, Loads, first_fault, is_in_ram}
-use Rattle.m161_elf.specs.Sound.{IsSoundSegment}
+use Rattle.m161_elf.specs.helpers.Sound.{IsSoundSegment}
 use Rattle.m161_elf.specs.Span.{Lists, has_bytes, span_of, spans}
 use Rattle.m161_elf.proofs.Sound.{is_sound}
 use Rattle.s161_work.specs.Listings.{AreInRam, IsListing, IsUnlisted, dis_ram, dis_text, fault_of_load}

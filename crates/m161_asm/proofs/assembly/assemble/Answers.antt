@@ -3,9 +3,10 @@ use Rattle.std.proofs.Common.{ap, sym, ◌∙◌, subst, arith}
 use Rattle.m161_asm.specs.declared.statement.Line.{Line as CodeLine}
 use Rattle.m161_asm.specs.Tokens.{lines}
 use Rattle.m161_asm.specs.Answer.{IsWithinLines}
-use Rattle.m161_asm.specs.Lawful.{Lawful}
-use Rattle.m161_asm.specs.Seen.{above_of, symbols_seen}
-use Rattle.m161_asm.specs.SecondPass.{Passes, IsFilled}
+use Rattle.m161_asm.specs.helpers.Lawful.{Lawful}
+use Rattle.m161_asm.specs.Seen.{symbols_seen}
+use Rattle.m161_asm.specs.helpers.Seen.{above_of}
+use Rattle.m161_asm.specs.helpers.SecondPass.{Passes, IsFilled}
 use Rattle.m161_asm.specs.Segments.{AreAligned}
 use Rattle.m161_asm.proofs.Above.{above_len}
 use Rattle.m161_asm.proofs.Aligned.{symbols_are_multiples}

@@ -1,7 +1,7 @@
 use Rattle.std.specs.Prelude.{Ok, [], drop, ◌+◌}
 use Rattle.std.proofs.Common.{arith}
 use Rattle.m161_asm.specs.Tokens.{lines}
-use Rattle.m161_asm.specs.Seen.{above_of}
+use Rattle.m161_asm.specs.helpers.Seen.{above_of}
 use Rattle.m161_asm.proofs.Above.{shorter, step_on, step_off, at_end, dropped_within}
 use Rattle.m161_asm.proofs.first.first_pass.Goals as goal
 

@@ -2,8 +2,8 @@ use Rattle.std.specs.Prelude.{[]}
 use Rattle.std.proofs.Common.{◌≡◌, ◌≤◌, ◌+◌, length}
 use Rattle.m161_asm.specs.Tokens.{lines}
 use Rattle.m161_asm.specs.Text.{read_lines}
-use Rattle.m161_asm.specs.Seen.{above_of}
-use Rattle.m161_asm.specs.FirstPass.{IsPass}
+use Rattle.m161_asm.specs.helpers.Seen.{above_of}
+use Rattle.m161_asm.specs.helpers.FirstPass.{IsPass}
 use Rattle.m161_asm.proofs.first.first_pass.Given as goal
 
 abbrev pub invariant-loop-rest : goal.invariant-loop-rest

@@ -1,6 +1,6 @@
 use Rattle.std.specs.Prelude.{Ok}
 use Rattle.std.proofs.Common.{ap, sym, ◌∙◌, refl, arith}
-use Rattle.m161_asm.specs.Seen.{value_seen}
+use Rattle.m161_asm.specs.helpers.Seen.{value_seen}
 use Rattle.m161_asm.proofs.Listed.{one_more, last_one, bad_value, bad_comma, none_left, pushed, none_seen, some_seen}
 use Rattle.m161_asm.proofs.line.values.Goals as goal
 

@@ -1,7 +1,7 @@
 use Rattle.std.proofs.Common.{◌≡◌, ◌-◌, length}
 use Rattle.std.specs.Prelude.{map}
 use Rattle.m161_asm.specs.Lines.{values}
-use Rattle.m161_asm.specs.Seen.{all_seen, value_seen, with_front}
+use Rattle.m161_asm.specs.helpers.Seen.{all_seen, value_seen, with_front}
 use Rattle.m161_asm.proofs.line.values.Given as goal
 
 abbrev pub invariant-loop-i : goal.invariant-loop-i

@@ -1,6 +1,6 @@
 use Rattle.std.proofs.Common.{arith}
 use Rattle.m161_isa.specs.declared.operand.Operand.TheVariants as operand
-use Rattle.m161_asm.specs.Seen.{all_seen}
+use Rattle.m161_asm.specs.helpers.Seen.{all_seen}
 use Rattle.m161_asm.proofs.Fronts.{parts_on, split_first}
 use Rattle.m161_asm.proofs.parse.+operand_parts.Goals as goal
 

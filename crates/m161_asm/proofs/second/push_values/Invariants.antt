@@ -1,7 +1,8 @@
 use Rattle.std.specs.Prelude.{drop, map}
 use Rattle.std.proofs.Common.{◌≡◌}
 use Rattle.m161_asm.specs.Text.{each, word_of_value}
-use Rattle.m161_asm.specs.Seen.{with_front, value_seen, symbols_seen}
+use Rattle.m161_asm.specs.Seen.{symbols_seen}
+use Rattle.m161_asm.specs.helpers.Seen.{with_front, value_seen}
 use Rattle.m161_asm.proofs.second.push_values.Given as goal
 
 abbrev pub invariant-loop-v : goal.invariant-loop-v

@@ -1,6 +1,7 @@
 use Rattle.std.specs.Prelude.{take}
 use Rattle.std.proofs.Common.{refl}
-use Rattle.m161_asm.specs.Seen.{above_of, symbols_seen, line_seen}
+use Rattle.m161_asm.specs.Seen.{symbols_seen}
+use Rattle.m161_asm.specs.helpers.Seen.{above_of, line_seen}
 use Rattle.m161_asm.proofs.Prefixes.{lawful_here, told_here}
 use Rattle.m161_asm.proofs.second.second_pass.Goals as goal
 

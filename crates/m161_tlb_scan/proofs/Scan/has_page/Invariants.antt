@@ -1,5 +1,5 @@
 use Rattle.std.proofs.Common.{◌≡◌, ◌*◌, ◌+◌, false}
-use Rattle.m161_tlb_scan.specs.Blocks.{LacksPage}
+use Rattle.m161_tlb_scan.specs.helpers.Blocks.{LacksPage}
 use Rattle.m161_tlb_scan.proofs.Scan.has_page.Given as goal
 
 abbrev pub invariant-loop-i : goal.invariant-loop-i

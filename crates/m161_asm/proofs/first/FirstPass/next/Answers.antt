@@ -1,6 +1,6 @@
 use Rattle.std.specs.Prelude.{Ok, []}
 use Rattle.std.proofs.Common.{arith}
-use Rattle.m161_asm.specs.Seen.{above_of}
+use Rattle.m161_asm.specs.helpers.Seen.{above_of}
 use Rattle.m161_asm.proofs.Above.{told, gone, took, above_len}
 use Rattle.m161_asm.proofs.first.FirstPass.next.Goals as goal
 

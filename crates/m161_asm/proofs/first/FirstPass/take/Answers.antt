@@ -1,6 +1,6 @@
 use Rattle.std.proofs.Common.{refl, ◌∙◌}
 use Rattle.m161_asm.specs.Text.{symbols_in}
-use Rattle.m161_asm.specs.Seen.{line_seen, above_of}
+use Rattle.m161_asm.specs.helpers.Seen.{line_seen, above_of}
 use Rattle.m161_asm.proofs.Above.{took}
 use Rattle.m161_asm.proofs.Positions.{behind_line}
 use Rattle.m161_asm.proofs.first.FirstPass.take.Goals as goal

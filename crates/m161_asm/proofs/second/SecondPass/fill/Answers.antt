@@ -1,6 +1,7 @@
 use Rattle.std.proofs.Common.{refl}
 use Rattle.m161_asm.specs.declared.second.SecondPass.{SecondPass}
-use Rattle.m161_asm.specs.Seen.{symbols_seen, statement_seen}
+use Rattle.m161_asm.specs.Seen.{symbols_seen}
+use Rattle.m161_asm.specs.helpers.Seen.{statement_seen}
 use Rattle.m161_asm.proofs.Filled.{stop_fill, fill_on}
 use Rattle.m161_asm.proofs.second.SecondPass.fill.Goals as goal
 

@@ -1,7 +1,7 @@
 use Rattle.std.specs.Prelude.{[], ◌∷◌, map, Ok}
 use Rattle.std.proofs.Common.{refl, ap, sym}
 use Rattle.m161_asm.specs.Text.{segments_of, address_below, entry_of}
-use Rattle.m161_asm.specs.SecondPass.{segment_seen}
+use Rattle.m161_asm.specs.Segments.{segment_seen}
 use Rattle.m161_asm.proofs.second.SecondPass.new.Goals as goal
 
 pub returns : goal.returns

@@ -1,5 +1,5 @@
 use Rattle.std.specs.Prelude.{◌≡◌, ◌⊎◌, ℕ, ◌+◌, ◌*◌, Option, List, ◌∷◌, length, unwrap_or, Result, Ok, Err}
-pub use Rattle.m161_asm.specs.Segments.{segment_seen, segments_seen}
+use Rattle.m161_asm.specs.Segments.{segment_seen, segments_seen}
 use Rattle.m161_asm.specs.declared.second.SecondPass.{SecondPass}
 use Rattle.m161_asm.specs.declared.statement.ReadError.{ReadError}
 use Rattle.m161_asm.specs.declared.statement.ReadError.TheVariants as errors
@@ -7,7 +7,7 @@ use Rattle.m161_asm.specs.declared.error.AsmError.{AsmError}
 use Rattle.m161_asm.specs.declared.error.ErrorKind.TheVariants as faults
 use Rattle.m161_asm.specs.Lines.{SourceLine}
 use Rattle.m161_asm.specs.Text.{Segment, segments_of, full, opened_at, address_below, address_from, entry_of}
-use Rattle.m161_asm.specs.Seen.{fault_seen}
+use Rattle.m161_asm.specs.helpers.Seen.{fault_seen}
 
 -- What the second pass keeps of the lines above.
 

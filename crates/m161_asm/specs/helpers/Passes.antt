@@ -1,6 +1,6 @@
 use Rattle.std.specs.Prelude.{◌≡◌, ◌⊎◌, ℕ, ◌+◌, ◌*◌, ◌^◌, ◌≤◌, Bool, false, ◌||◌, nat_lt, List, Option, None, Some}
 use Rattle.m161_asm.specs.declared.place.Position.{Position}
-use Rattle.m161_asm.specs.Ground.{IsOrdered, HasFilled}
+use Rattle.m161_asm.specs.helpers.Ground.{IsOrdered, HasFilled}
 use Rattle.m161_asm.specs.Lines.{Label, SourceLine}
 use Rattle.m161_asm.specs.Text.{address_below, address_from, count_words, has_words, has_words_from, segments_in, new_segments, is_filled, overlap, label_address}
 

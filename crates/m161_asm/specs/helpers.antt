@@ -1,0 +1,8 @@
+-- Definitions that only contracts of private functions, or proofs, use.
+pub mod FirstPass
+pub mod Ground
+pub mod Lawful
+pub mod Passes
+pub mod SecondPass
+pub mod Segments
+pub mod Seen

@@ -1,0 +1,5 @@
+-- Definitions that only contracts of private functions, or proofs, use.
+pub mod Copied
+pub mod Sound
+pub mod Header
+pub mod Span
