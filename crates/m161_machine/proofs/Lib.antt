@@ -10,3 +10,4 @@ mod Places
 mod Inputs
 mod Made
 mod Booted
+mod Unfolding

@@ -4,3 +4,4 @@ pub mod State
 pub mod History
 pub mod Kept
 pub mod Parts
+pub mod Events

@@ -20,6 +20,7 @@
 
 mod conf;
 mod event;
+mod events;
 mod kept;
 mod machine;
 mod start;
@@ -27,6 +28,7 @@ mod step;
 
 pub use conf::{BootError, Conf};
 pub use event::{Entry, Event, Refusal};
+pub use events::{Events, Runs};
 pub use m161_bus::Console;
 pub use m161_cop0::{Exception, Register};
 pub use m161_cpu::{Outcome, ProcessorState};
