@@ -223,8 +223,10 @@ impl Events {
 
     /// The runs of the events, in order.
     pub fn runs(&self) -> Runs<'_>
-        ensures { result ≡ self.now }
+        ensures all { result ≡ self.now }
+        ensures fits { length self.now < 2 ^ 64 }
     {
+        let _number = self.len();
         Runs {
             runs: self.runs.as_slice(),
         }
