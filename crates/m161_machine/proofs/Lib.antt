@@ -14,3 +14,4 @@ mod Made
 mod Advancing
 mod Writing
 mod Booted
+mod Unfolding

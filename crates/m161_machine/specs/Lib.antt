@@ -5,3 +5,4 @@ pub mod History
 pub mod Kept
 pub mod StoreHistory
 pub mod Sound
+pub mod Events

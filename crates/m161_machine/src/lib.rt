@@ -19,6 +19,7 @@
 
 mod conf;
 mod event;
+mod events;
 mod kept;
 mod laws;
 mod machine;
@@ -28,6 +29,7 @@ mod step;
 
 pub use conf::{BootError, Conf};
 pub use event::{Entry, Event, Refusal};
+pub use events::{Events, Runs};
 pub use laws::stores_agree;
 pub use m161_bus::Console;
 pub use m161_cop0::{Exception, Register};

@@ -1,5 +1,5 @@
 -- A schedule, read line by line.
-use Rattle.std.proofs.Common.{◌≡◌, ℕ, zero, suc, ◌+◌, ◌<◌, ◌≤◌, List, [], ◌∷◌, ◌++◌, length, take, map, flat_map, refl, sym, ap, ap₂, subst, ◌∙◌, arith, Some, None, Result, Ok, Err, IfOk, IsErrOf, MatchResult, Vec, Global, length-append, append_assoc, append-nil}
+use Rattle.std.proofs.Common.{◌≡◌, ℕ, zero, suc, ◌+◌, ◌<◌, ◌≤◌, List, [], ◌∷◌, ◌++◌, length, take, map, flat_map, refl, sym, ap, ap₂, subst, ◌∙◌, arith, Some, None, Result, Ok, Err, IfOk, IsErrOf, MatchResult, length-append, append_assoc, append-nil}
 use Rattle.std.proofs.lemmas.List.{map_push, length_push, flat_map_more, take-append-le, take-map, length-map}
 use Rattle.std.proofs.lemmas.Option.{none-some, same_Some}
 use Rattle.std.specs.List.{AllByRecursion}
@@ -141,17 +141,17 @@ full text rest line after es n item so lines read over = bad_next text rest line
     let added : es ++ item_events item ≡ flat_map line_events (so.content ++ here ∷ []) = ap₂ (λ (s t : List Event). s ++ t) so.events (sym read.found.3) ∙ flat_map_more line_events [] so.content here in
     omega (arith, ap length (added ∙ same_events), length-append es (item_events item)))
 
-pub only_read : (text : List ℕ) (r : Result (Vec Event Global) Fault) → ((fs : List Event) → IsSchedule (lines_of text) fs → IfOk r (λ v. v.items ≡ fs)) → ((n : ℕ) → IsErrOf r (faults.Line n) → FirstBad AreScheduleLines text n)
-    → (fs : List Event) → IsSchedule (lines_of text) fs → MatchResult r (λ v. v.items ≡ fs) (λ f. f ≡ faults.NoMemory)
+pub only_read : (text : List ℕ) (r : Result (List Event) Fault) → ((fs : List Event) → IsSchedule (lines_of text) fs → IfOk r (λ v. v ≡ fs)) → ((n : ℕ) → IsErrOf r (faults.Line n) → FirstBad AreScheduleLines text n)
+    → (fs : List Event) → IsSchedule (lines_of text) fs → MatchResult r (λ v. v ≡ fs) (λ f. f ≡ faults.NoMemory)
 only_read text (Ok v) same line fs other = same fs other
 only_read text (Err faults.NoMemory) same line fs other = refl
 only_read text (Err (faults.Line n)) same line fs other = absurd (no_bad text fs n other (line n refl))
 
-pub err_only : (text : List ℕ) (r : Result (Vec Event Global) Fault) (f : Fault) → r ≡ Err f → ((n : ℕ) → IsErrOf r (faults.Line n) → FirstBad AreScheduleLines text n)
-    → (fs : List Event) → IsSchedule (lines_of text) fs → MatchResult r (λ v. v.items ≡ fs) (λ g. g ≡ faults.NoMemory)
+pub err_only : (text : List ℕ) (r : Result (List Event) Fault) (f : Fault) → r ≡ Err f → ((n : ℕ) → IsErrOf r (faults.Line n) → FirstBad AreScheduleLines text n)
+    → (fs : List Event) → IsSchedule (lines_of text) fs → MatchResult r (λ v. v ≡ fs) (λ g. g ≡ faults.NoMemory)
 err_only text r f e line fs other = only_read text r (λ gs same. rw e tt) line fs other
 
-pub overfull : (text rest line after : List ℕ) (es : List Event) (n : ℕ) (item : Item) (r : Result (Vec Event Global) Fault) (f g : Fault) → SoFar text rest es n → lines_of rest ≡ line ∷ lines_of after → ReadsLine line (Some item) → r ≡ Err g → g ≡ f
+pub overfull : (text rest line after : List ℕ) (es : List Event) (n : ℕ) (item : Item) (r : Result (List Event) Fault) (f g : Fault) → SoFar text rest es n → lines_of rest ≡ line ∷ lines_of after → ReadsLine line (Some item) → r ≡ Err g → g ≡ f
     → ((m : ℕ) → IsErrOf {T = Unit {0}} {E = Fault} (Err f) (faults.Line m) → (m ≡ n + 1) × (16_777_216 < length es + length (item_events item))) → (m : ℕ) → IsErrOf r (faults.Line m) → FirstBad AreScheduleLines text m
 overfull text rest line after es n item r f g so lines read e same over m is =
     let line_m : f ≡ faults.Line m = cc in

@@ -21,3 +21,7 @@ pub record FirstBad (Fits : List (List ℕ) → Type 0) (text : List ℕ) (n : �
 -- a text was read as these items, or memory was refused
 abbrev pub IsRead : {A : Type 0} → List A → Result (Vec A Global) Fault → Type 0
 IsRead items result = MatchResult result (λ v. v.items ≡ items) (λ f. f ≡ faults.NoMemory)
+
+-- the same, where what was read is seen as its value
+abbrev pub IsReadAs : {V : Type 0} → V → Result V Fault → Type 0
+IsReadAs value result = MatchResult result (λ v. v ≡ value) (λ f. f ≡ faults.NoMemory)

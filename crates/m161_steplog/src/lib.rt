@@ -38,6 +38,6 @@ pub use cut::{cut_at_space, next_line};
 pub use digits::{Byte, Word, parse_byte, parse_decimal, parse_word};
 pub use fault::Fault;
 pub use log::{entry_line, read_log, write_log};
-pub use m161_machine::{BootError, Conf, Entry, Event, Exception, Outcome};
+pub use m161_machine::{BootError, Conf, Entry, Event, Events, Exception, Outcome};
 pub use schedule::read_schedule;
 pub use verdict::{Verdict, verify};

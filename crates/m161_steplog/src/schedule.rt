@@ -1,10 +1,10 @@
 //! The text of a schedule.
 
-ghost use Rattle.std.specs.Prelude.{◌≡◌, ℕ, ◌+◌, ◌<◌, ◌≤◌, List, ◌++◌, length, decimal, replicate, IfOk, OnOk, IsErrOf};
+ghost use Rattle.std.specs.Prelude.{◌≡◌, ℕ, ◌+◌, ◌<◌, ◌≤◌, List, length, decimal, IfOk, OnOk, IsErrOf};
 ghost use Rattle.m161_machine.specs.declared.event.Event.{Event};
 ghost use Rattle.m161_machine.specs.declared.event.Event.TheVariants as events;
 ghost use Rattle.m161_steplog.specs.declared.fault.Fault.TheVariants as faults;
-ghost use Rattle.m161_steplog.specs.Lines.{lines_of, FirstBad, IsRead};
+ghost use Rattle.m161_steplog.specs.Lines.{lines_of, FirstBad, IsReadAs};
 ghost use Rattle.m161_steplog.specs.Parts.{Reads, ReadsBoth, IsWord};
 ghost use Rattle.m161_steplog.specs.Text.{event_text, IsEvent};
 ghost use Rattle.m161_steplog.specs.Schedule.{item_events, AddsEvents, IsCount, ReadsLine, IsSchedule, AreScheduleLines};
@@ -12,8 +12,8 @@ ghost use Rattle.m161_steplog.specs.Schedule.{item_events, AddsEvents, IsCount, 
 use crate::cut::{cut_at_space, next_line};
 use crate::digits::{parse_byte, parse_decimal};
 use crate::fault::Fault;
-use m161_machine::Event;
-use std::alloc::{AllocError, Global};
+use m161_machine::{Event, Events};
+use std::alloc::Global;
 
 /// The most events of a schedule.
 const MOST_EVENTS: usize = 16_777_216;
@@ -95,22 +95,12 @@ fn parse_item(line: &str) -> Option<Item>
     }
 }
 
-// Appends an event `count` times.
-fn push_times(events: &mut Vec<Event>, event: Event, count: u32) -> Result<(), AllocError>
-    ensures { OnOk result (events.new.items ≡ events.old.items ++ replicate count event) }
-{
-    for _i in 0..count {
-        events.push(event)?;
-    }
-    Ok(())
-}
-
 // Appends the events of line `number`, unless they exceed the limit.
-fn push_item(events: &mut Vec<Event>, item: Item, number: u64) -> Result<(), Fault>
-    requires { length events.old.items ≤ 16_777_216 }
-    ensures ok { OnOk result (AddsEvents events.old.items (item_events item) events.new.items) }
+fn push_item(events: &mut Events, item: Item, number: u64) -> Result<(), Fault>
+    requires { length events.old ≤ 16_777_216 }
+    ensures ok { OnOk result (AddsEvents events.old (item_events item) events.new) }
     ensures full { (n : ℕ) → IsErrOf result (faults.Line n)
-        → (n ≡ number) × (16_777_216 < length events.old.items + length (item_events item)) }
+        → (n ≡ number) × (16_777_216 < length events.old + length (item_events item)) }
 {
     match item {
         Item::Nothing => Ok(()),
@@ -118,7 +108,7 @@ fn push_item(events: &mut Vec<Event>, item: Item, number: u64) -> Result<(), Fau
             if events.len() + count as usize > MOST_EVENTS {
                 return Err(Fault::Line(number));
             }
-            push_times(events, event, count)?;
+            events.push_times(event, count)?;
             Ok(())
         }
     }
@@ -128,14 +118,14 @@ fn push_item(events: &mut Vec<Event>, item: Item, number: u64) -> Result<(), Fau
 ///
 /// # Errors
 /// The first bad line; or memory was refused.
-pub fn read_schedule(alloc: Global, text: &str) -> Result<Vec<Event>, Fault>
+pub fn read_schedule(alloc: Global, text: &str) -> Result<Events, Fault>
     // The result is the schedule of this text.
-    ensures found { IfOk result (λ events. IsSchedule (lines_of text.now) events.items) }
+    ensures found { IfOk result (λ events. IsSchedule (lines_of text.now) events) }
     // If the text is a schedule, it is read, unless memory is refused.
-    ensures only { (es : List Event) → IsSchedule (lines_of text.now) es → IsRead es result }
+    ensures only { (es : List Event) → IsSchedule (lines_of text.now) es → IsReadAs es result }
     ensures line { (n : ℕ) → IsErrOf result (faults.Line n) → FirstBad AreScheduleLines text.now n }
 {
-    let mut events = Vec::new(alloc);
+    let mut events = Events::new(alloc);
     let mut number = 0u64;
     let mut rest = text;
     while let Some((line, more)) = next_line(rest) {

@@ -1,5 +1,6 @@
 use Rattle.std.proofs.Common.{◌≡◌, ◌∙◌, refl, sym, ap, subst, ℕ, zero, suc, ◌+◌, ◌<◌, ◌≤◌, List, [], ◌∷◌, ◌++◌, length, take, drop, replicate, slice_get, Bool, true, false, nat_le, Option, None, Some, IsSomeAnd, MatchOption, Result, Ok, Err, arith}
-use Rattle.std.proofs.lemmas.List.{append_assoc, map-append, drop-take, take-append-drop, take-replicate, take-take}
+use Rattle.std.proofs.Math.Seq.{drop-append_seam}
+use Rattle.std.proofs.lemmas.List.{append_assoc, map-append, drop-drop, drop-take, length-append, length-drop, length-replicate, take-append-drop, take-append-le, take-replicate, take-take}
 use Rattle.m161_cpu.specs.declared.processor.Outcome.{Outcome}
 use Rattle.m161_machine.specs.declared.conf.BootError.{BootError}
 use Rattle.m161_machine.specs.declared.conf.Conf.{Conf}
@@ -119,27 +120,55 @@ refused_after events rest made k s refusal is h =
     let P : Option Event → Type 0 = λ x. IsSomeAnd x (λ e. Refuses (next s e) e refusal) in
     subst P (ap (λ es. slice_get es k) is ∙ got_after events made k) h
 
--- the first events of equal ones
-pub alike_taken : (events : List Event) (e : Event) (n made : ℕ) → made ≤ n → take n events ≡ replicate n e → take made events ≡ replicate made e
-alike_taken events e n made le h = sym (take-take made n events le) ∙ ap (take made) h ∙ take-replicate made n e le
+-- the next events are the same one, this many times, and then others
 
-pub ends_within : (m : History) (e : Event) (n made : ℕ) (refusal : Option Refusal) → Ends m e n made refusal → made ≤ n
-ends_within m e n made None h = omega (arith, h)
-ends_within m e n made (Some refusal) h = omega (arith, h.0)
+run_taken : (rest after : List Event) (e : Event) (n more : ℕ) → rest ≡ replicate n e ++ after → more ≤ n → take more rest ≡ replicate more e
+run_taken rest after e n more run le =
+    let long : more ≤ length (replicate n e) = omega (arith, length-replicate n e, le) in
+    ap (take more) run ∙ take-append-le more (replicate n e) after long ∙ take-replicate more n e le
 
-got_alike : (events : List Event) (e : Event) (n made : ℕ) → made < n → n ≤ length events → take n events ≡ replicate n e → slice_get events made ≡ Some e
-got_alike [] e n made lt le h = absurd (omega (arith, lt, le))
-got_alike (x ∷ events) e zero made lt le h = absurd (omega (arith, lt))
-got_alike (x ∷ events) e (suc n) zero lt le h = let same : x ≡ e = cc in ap (λ y. Some y) same
-got_alike (x ∷ events) e (suc n) (suc made) lt le h = got_alike events e n made (omega (arith, lt)) (omega (arith, le)) (ap (drop 1) h)
+-- some of them are made
+pub run_made : (m n k : History) (events rest after : List Event) (made more times : ℕ) (e : Event) → rest ≡ drop made events → rest ≡ replicate times e ++ after → more ≤ times →
+    Continues m (take made events) n → Continues n (replicate more e) k → Continues m (take (made + more) events) k
+run_made m n k events rest after made more times e is run le c d =
+    let P : List Event → Type 0 = λ es. Continues n es k in
+    made_more m n k events rest made more is c (subst P (sym (run_taken rest after e times more run le)) d)
 
--- why no more of equal events were made
-pub alike_ended : (m : History) (events : List Event) (e : Event) (n made : ℕ) (refusal : Option Refusal) → 1 ≤ n → n ≤ length events →
-    take n events ≡ replicate n e → Ends m e n made refusal → MatchOption refusal (1 ≤ made) (IsRefusedAt events made m.state)
-alike_ended m events e n made None some le h ends = omega (arith, ends, some)
-alike_ended m events e n made (Some refusal) some le h ends =
-    let P : Option Event → Type 0 = λ x. IsSomeAnd x (λ f. Refuses (next m.state f) f refusal) in
-    subst P (sym (got_alike events e n made ends.0 le h)) (refused_as (next m.state e) e refusal ends.1)
+-- they are within the list
+pub run_within : (events rest after : List Event) (made times : ℕ) (e : Event) → made ≤ length events → rest ≡ drop made events → rest ≡ replicate times e ++ after → made + times ≤ length events
+run_within events rest after made times e le is run =
+    omega (arith, le, length-drop made events, ap length is, ap length run, length-append (replicate times e) after, length-replicate times e)
+
+-- and the others come after them
+pub run_passed : (events rest after : List Event) (made times : ℕ) (e : Event) → rest ≡ drop made events → rest ≡ replicate times e ++ after → after ≡ drop (made + times) events
+run_passed events rest after made times e is run =
+    let seam : drop times (replicate times e ++ after) ≡ after =
+    ap (λ k. drop k (replicate times e ++ after)) (sym (length-replicate times e)) ∙ drop-append_seam (replicate times e) after in
+    sym seam ∙ ap (drop times) (sym run ∙ is) ∙ drop-drop times made events
+
+got_of_run : (after : List Event) (e : Event) (n k : ℕ) → k < n → slice_get (replicate n e ++ after) k ≡ Some e
+got_of_run after e zero k lt = absurd (omega (arith, lt))
+got_of_run after e (suc n) zero lt = refl
+got_of_run after e (suc n) (suc k) lt = got_of_run after e n k (omega (arith, lt))
+
+-- one of them is refused
+pub run_refused : (events rest after : List Event) (made more times : ℕ) (e : Event) (s : State) (refusal : Refusal) → rest ≡ drop made events → rest ≡ replicate times e ++ after → more < times →
+    Refuses (next s e) e refusal → IsRefusedAt events (made + more) s refusal
+run_refused events rest after made more times e s refusal is run lt refused =
+    let P : Option Event → Type 0 = λ x. IsSomeAnd x (λ f. Refuses (next s f) f refusal) in
+    refused_after events rest made more s refusal is
+    (subst P (sym (ap (λ es. slice_get es more) run ∙ got_of_run after e times more lt)) refused)
+
+-- an event's Steps were made as often as was asked for, or one was refused
+pub ended : (m : History) (e : Event) (n made : ℕ) (refusal : Option Refusal) → Ends m e n made refusal →
+    MatchOption refusal (made ≡ n) (λ r. (made < n) × Refuses (next m.state e) e r)
+ended m e n made None h = h
+ended m e n made (Some refusal) h = (h.0, refused_as (next m.state e) e refusal h.1)
+
+-- no more of them were made than there are
+pub at_most_all : (n made : ℕ) (refusal : Option Refusal) (P : Refusal → Type 0) → MatchOption refusal (made ≡ n) (λ r. (made < n) × P r) → made ≤ n
+at_most_all n made None P h = omega (arith, h)
+at_most_all n made (Some refusal) P h = omega (arith, h.0)
 
 -- a machine that events switch off was on
 pub switched : (b0 : Bool) (m n : History) (events : List Event) → m.state.board.off ≡ b0 → ¬ (n.state.board.off ≡ b0) → Continues m events n →

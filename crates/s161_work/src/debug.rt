@@ -42,6 +42,7 @@ pub fn debug<'a, F: FileSource, I: Read>(
     let schedule = read_text(alloc, files, task.text)?;
     let commands = read_input(alloc, input)?;
     let events = events_of(alloc, schedule.as_str())?;
+    let events = events.to_vec(alloc)?;
     let machine = Machine::boot(
         alloc,
         &file,

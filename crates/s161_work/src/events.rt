@@ -1,12 +1,12 @@
 //! Making the events of a schedule on a machine.
 
-ghost use Rattle.std.specs.Prelude.{◌≡◌, ◌<◌, ◌≤◌, MatchOption, Some, length, replicate, slice_get, take};
-ghost use Rattle.m161_machine.specs.declared.event.Event.TheVariants.{Step};
-ghost use Rattle.m161_machine.specs.History.{Continues};
-ghost use Rattle.s161_work.specs.Runs.{IsRefusedAt, MakesEvents, stop_line};
+ghost use Rattle.std.specs.Prelude.{◌≡◌, ◌<◌, MatchOption, Some, replicate};
+ghost use Rattle.m161_machine.specs.History.{Continues, Refuses};
+ghost use Rattle.m161_machine.specs.State.{next};
+ghost use Rattle.s161_work.specs.Runs.{MakesEvents, stop_line};
 
 use crate::Machine;
-use m161_machine::{Event, Refusal};
+use m161_machine::{Event, Events, Refusal};
 use std::fmt;
 
 /// Why no more events were made.
@@ -36,14 +36,15 @@ impl fmt::Display for Stop {
 }
 
 /// Makes events in order, until one switches the machine off or is refused.
-pub fn make_events(machine: &mut Machine, events: &[Event]) -> Stop
+pub fn make_events(machine: &mut Machine, events: &Events) -> Stop
     ensures { MakesEvents machine.old events.now result machine.new }
 {
     let was_off = machine.is_off();
     let mut made = 0;
-    while made < events.len() {
-        let (more, refusal) = make_alike(machine, &events[made..]);
-        made += more;
+    let mut left = events.runs();
+    while let Some((event, times)) = left.next() {
+        let (more, refusal) = make_alike(machine, event, times);
+        made += more as usize;
         if machine.is_off() != was_off {
             return Stop::Off;
         }
@@ -54,39 +55,28 @@ pub fn make_events(machine: &mut Machine, events: &[Event]) -> Stop
     Stop::End
 }
 
-// Makes the first event and the Steps of the same processor that follow it. Returns how many were
-// made, and why the next one wasn't.
-fn make_alike(machine: &mut Machine, events: &[Event]) -> (usize, Option<Refusal>)
-    requires { 0 < length events.now }
-    ensures made { Continues machine.old (take result.0 events.now) machine.new }
-    ensures within { result.0 ≤ length events.now }
-    ensures why { MatchOption result.1 (1 ≤ result.0)
-        (IsRefusedAt events.now result.0 machine.new.state) }
+// Makes an event this many times. Returns how many were made, and why the next one wasn't.
+fn make_alike(machine: &mut Machine, event: Event, times: u32) -> (u32, Option<Refusal>)
+    ensures made { Continues machine.old (replicate result.0 event) machine.new }
+    ensures why { MatchOption result.1 (result.0 ≡ times)
+        (λ refusal. (result.0 < times) × Refuses (next machine.new.state event) event refusal) }
 {
-    match events[0] {
-        Event::Step(p) => {
-            let (made, refusal) = machine.steps(p, steps_ahead(events, p));
-            (made as usize, refusal)
-        }
-        event => match machine.event(event) {
-            Ok(_) => (1, None),
-            Err(refusal) => (0, Some(refusal)),
-        },
+    match event {
+        Event::Step(p) => machine.steps(p, times),
+        event => make_inputs(machine, event, times),
     }
 }
 
-// How many of the first events are Steps of a processor, up to the limit of a `u32`.
-fn steps_ahead(events: &[Event], p: u32) -> u32
-    requires { slice_get events.now 0 ≡ Some (Step p) }
-    ensures alike { take result events.now ≡ replicate result (Step p) }
-    ensures within { result ≤ length events.now }
-    ensures some { 1 ≤ result }
+// The same, one event at a time.
+fn make_inputs(machine: &mut Machine, event: Event, times: u32) -> (u32, Option<Refusal>)
+    ensures made { Continues machine.old (replicate result.0 event) machine.new }
+    ensures why { MatchOption result.1 (result.0 ≡ times)
+        (λ refusal. (result.0 < times) × Refuses (next machine.new.state event) event refusal) }
 {
-    let most = u32::try_from(events.len()).unwrap_or(u32::MAX);
-    for n in 0..most {
-        if events[n as usize] != Event::Step(p) {
-            return n;
+    for made in 0..times {
+        if let Err(refusal) = machine.event(event) {
+            return (made, Some(refusal));
         }
     }
-    most
+    (times, None)
 }

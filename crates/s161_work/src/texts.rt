@@ -8,7 +8,7 @@ ghost use Rattle.s161_work.specs.Replays.{IsLogFault};
 ghost use Rattle.s161_work.specs.Runs.{IsScheduleFault};
 
 use crate::fault::{Fault, fault_of_log, fault_of_schedule};
-use m161_machine::{Entry, Event};
+use m161_machine::{Entry, Events};
 use m161_steplog::{read_log, read_schedule};
 use std::alloc::Global;
 
@@ -16,8 +16,8 @@ use std::alloc::Global;
 ///
 /// # Errors
 /// Its first bad line; or memory was refused.
-pub fn events_of<'a>(alloc: Global, text: &str) -> Result<Vec<Event>, Fault<'a>>
-    ensures found { IfOk result (λ events. IsSchedule (lines_of text.now) events.items) }
+pub fn events_of<'a>(alloc: Global, text: &str) -> Result<Events, Fault<'a>>
+    ensures found { IfOk result (λ events. IsSchedule (lines_of text.now) events) }
     ensures fault { IfErr result (IsScheduleFault text.now) }
 {
     match read_schedule(alloc, text) {

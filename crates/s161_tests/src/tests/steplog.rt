@@ -32,7 +32,7 @@ fn log_text(rt: HostRuntime) -> Result<(), Fail> {
     same(&rt, entries.as_slice(), [RAN, OFF].as_slice());
     let line = entry_line(alloc, &OFF)?;
     same(&rt, line.as_str(), "s 0 off");
-    let events = read_schedule(alloc, "s 0 2\nk 41\no\n")?;
+    let events = read_schedule(alloc, "s 0 2\nk 41\no\n")?.to_vec(alloc)?;
     let expected = [
         Event::Step(0),
         Event::Step(0),

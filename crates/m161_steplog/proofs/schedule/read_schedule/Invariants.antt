@@ -4,7 +4,7 @@ use Rattle.m161_steplog.proofs.schedule.read_schedule.Given as goal
 
 abbrev pub invariant-loop-line : goal.invariant-loop-line
 invariant-loop-line l = record {
-  so_far : SoFar l.text l.rest l.events.items l.number;
+  so_far : SoFar l.text l.rest l.events l.number;
   utf8 : IsUtf8 l.rest;
   short : l.number + length l.rest ≤ length l.text;
 }

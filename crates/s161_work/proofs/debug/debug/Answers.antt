@@ -1,4 +1,4 @@
-use Rattle.std.proofs.Common.{◌≡◌, List, ℕ, [], Option, IfSome, rules, subst, sym}
+use Rattle.std.proofs.Common.{◌≡◌, ◌∙◌, List, ℕ, [], Option, IfSome, rules, subst, sym}
 use Rattle.std.proofs.lemmas.Result.{err_from_is_err_and}
 use Rattle.m161_machine.specs.declared.event.Event.{Event}
 use Rattle.m161_steplog.specs.Lines.{lines_of}
@@ -35,7 +35,7 @@ returns-clause-printed g c =
       is_file_of_events = subst Q (c.in_ok-file.ensures.still c.args.task.text.now) (subst R (sym c.as_str.ensures.value) c.in_ok-schedule.ensures.whole);
       is_text = subst IsText (sym c.as_str.ensures.value) c.in_ok-schedule.schedule.ok;
       events = c.deref-2.result.now;
-      is_schedule = subst S (sym c.deref-2.ensures.value) c.in_ok-events.ensures.found;
+      is_schedule = subst S (sym (c.deref-2.ensures.value ∙ c.in_ok-events-2.ensures)) c.in_ok-events.ensures.found;
       commands = c.as_str-2.result.now;
       is_input = subst T (sym c.as_str-2.ensures.value) c.in_ok-commands.ensures.whole;
       is_text_of_commands = subst IsText (sym c.as_str-2.ensures.value) c.in_ok-commands.commands.ok;
@@ -66,7 +66,7 @@ returns-in_err-machine-clause-fault g c =
     let R : List ℕ → Type 0 = λ schedule. IfSome (g.F.FileSource.known c.read_image.new.files c.args.task.text.now) (λ bytes. schedule ≡ bytes) in
     let is = subst Q (c.in_ok-file.ensures.still c.args.task.text.now) (subst R (sym c.as_str.ensures.value) c.in_ok-schedule.ensures.whole) in
     let utf8 = subst IsText (sym c.as_str.ensures.value) c.in_ok-schedule.schedule.ok in
-    let schedule : HasSchedule text = (c.as_str.result.now, is, (utf8, (c.in_ok-events.events.items, c.in_ok-events.ensures.found))) in
+    let schedule : HasSchedule text = (c.as_str.result.now, is, (utf8, (c.in_ok-events.events, c.in_ok-events.ensures.found))) in
     let made = err_from_is_err_and c.from_residual-in_err-machine.result c.from_residual-in_err-machine.ensures.1 in
     let failed = boot_failed (IsDebugFault c.args.task image text) image (conf_of c.args.task.size) c.deref.result.now c.in_err-machine.field-0.0
     (subst P (sym c.deref.ensures.value) c.in_ok-file.ensures.whole) (λ outside. (schedule, outside)) (λ e has. (schedule, has)) tt c.in_err-machine.ensures.answer in

@@ -1,8 +1,5 @@
 use Rattle.std.proofs.Common.{◌≡◌, ◌∙◌, List, ℕ, IfSome, ap, rules, subst, sym}
 use Rattle.std.proofs.lemmas.Result.{err_from_is_err_and}
-use Rattle.m161_machine.specs.declared.event.Event.{Event}
-use Rattle.m161_steplog.specs.Lines.{lines_of}
-use Rattle.m161_steplog.specs.Schedule.{IsSchedule}
 use Rattle.m161_debug.specs.Breakpoints.{SessionState}
 use Rattle.s161_work.specs.Runs.{HasSchedule, IsFaultOf, summary_text}
 use Rattle.s161_work.proofs.Failing.{boot_failed, schedule_failed}
@@ -15,7 +12,6 @@ pub returns-clause-ok : goal.returns-clause-ok
 returns-clause-ok g c =
     let known = g.I.Read.remaining c.args.input.now in
     let P : List ℕ → Type 0 = λ schedule. IfSome known (λ bytes. schedule ≡ bytes) in
-    let Q : List Event → Type 0 = λ events. IsSchedule (lines_of c.as_str.result.now) events in
     let file_known = image_file (g.F.FileSource.known c.args.files.now) c.args.task.image.now in
     let R : List ℕ → Type 0 = λ file. IfSome file_known (λ bytes. file ≡ bytes) in
     record {
@@ -26,8 +22,8 @@ returns-clause-ok g c =
       schedule = c.as_str.result.now;
       is_input = subst P (sym c.as_str.ensures.value) c.in_ok-schedule.ensures.whole;
       is_text = subst IsText (sym c.as_str.ensures.value) c.in_ok-schedule.schedule.ok;
-      events = c.deref-2.result.now;
-      is_schedule = subst Q (sym c.deref-2.ensures.value) c.in_ok-events.ensures.found;
+      events = c.in_ok-events.events;
+      is_schedule = c.in_ok-events.ensures.found;
       machine = c.make_events-stop.new.machine;
       stop = c.make_events-stop.result;
       makes = c.make_events-stop.ensures;
@@ -55,7 +51,7 @@ returns-in_err-machine-clause-fault g c =
     let R : List ℕ → Type 0 = λ file. IfSome known (λ bytes. file ≡ bytes) in
     let made = err_from_is_err_and c.from_residual-in_err-machine.result c.from_residual-in_err-machine.ensures.1 in
     let utf8 = subst IsText (sym c.as_str.ensures.value) c.in_ok-schedule.schedule.ok in
-    let schedule : HasSchedule input = (c.as_str.result.now, subst P (sym c.as_str.ensures.value) c.in_ok-schedule.ensures.whole, (utf8, (c.in_ok-events.events.items, c.in_ok-events.ensures.found))) in
+    let schedule : HasSchedule input = (c.as_str.result.now, subst P (sym c.as_str.ensures.value) c.in_ok-schedule.ensures.whole, (utf8, (c.in_ok-events.events, c.in_ok-events.ensures.found))) in
     let failed = boot_failed (IsFaultOf c.args.task known input) known (conf_of c.args.task.size) c.deref.result.now c.in_err-machine.field-0.0
     (subst R (sym c.deref.ensures.value) c.in_ok-file.ensures.whole) (λ outside. (schedule, outside)) (λ e has. (schedule, has)) tt c.in_err-machine.ensures.answer in
     rw (made.1, made.2) failed

@@ -1,0 +1,6 @@
+use Rattle.m161_machine.proofs.Continuing.{repeats_more}
+use Rattle.s161_work.proofs.events.make_inputs.Goals as goal
+
+pub loop-made-preserved : goal.loop-made-preserved
+loop-made-preserved c =
+    repeats_more c.args.machine.now c.loop-made.machine c.event.new.self c.loop-made.made c.args.event c.in_default.field-0 c.loop-made.invariant c.in_default.ensures
