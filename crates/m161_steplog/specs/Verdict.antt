@@ -4,7 +4,7 @@ use Rattle.m161_machine.specs.declared.conf.BootError.{BootError}
 use Rattle.m161_machine.specs.declared.conf.BootError.TheVariants.{NoMemory}
 use Rattle.m161_machine.specs.declared.event.Entry.{Entry}
 use Rattle.m161_machine.specs.State.{State, next}
-use Rattle.m161_machine.specs.History.{History, run, events_of, outcomes_of, Answers, IsBooted}
+use Rattle.m161_machine.specs.History.{History, Leads, Answers, IsBooted}
 use Rattle.m161_steplog.specs.declared.verdict.Verdict.{Verdict}
 use Rattle.m161_steplog.specs.declared.verdict.Verdict.TheVariants.{Agrees, Differs}
 
@@ -12,7 +12,7 @@ use Rattle.m161_steplog.specs.declared.verdict.Verdict.TheVariants.{Agrees, Diff
 
 -- from s, the entries' events are accepted one after the other, each with its entry's outcome
 abbrev pub Follows : State → List Entry → Type 0
-Follows s log = (t : State) × (run s (events_of log) ≡ Some (outcomes_of log, t))
+Follows s log = (t : State) × Leads s log t
 
 -- the whole log follows, or k entries do and k + 1 don't
 abbrev pub IsVerdict : State → List Entry → Verdict → Type 0

@@ -5,7 +5,7 @@ use Rattle.std.proofs.lemmas.List.Sums.{sum_by-cons}
 use Rattle.m161_cpu.specs.Processor.{Processor}
 use Rattle.m161_machine.specs.declared.event.Entry.{Entry}
 use Rattle.m161_machine.specs.State.{counts}
-use Rattle.m161_machine.specs.History.{History, Continues, IsReplay, events_of, outcomes_of, steps_of}
+use Rattle.m161_machine.specs.History.{History, Continues, IsReplay, events_of, steps_of}
 use Rattle.m161_machine.proofs.Resuming.{resumes}
 use Rattle.m161_threads.specs.Runs.{Interleaves, IsChecked, is_step_below}
 use Rattle.m161_threads.specs.Shares.{SeatState, new_seat, seats_from}
@@ -69,7 +69,7 @@ interleaves before after quotas seats made off replays number worked checked =
     let goes_on : Continues before (events_of entries) after =
     resumes before after entries replays checked.replay checked.start_is log_is in
     let through : counts after.state ≡ counts_through (events_of entries) cs =
-    counts_run (events_of entries) before.state after.state (outcomes_of goes_on.entries) goes_on.run_is in
+    counts_run entries before.state after.state goes_on.run_is in
     let counted : (p : ℕ) → p < length quotas → get_or (counts after.state) p 0 ≡ get_or cs p 0 + get_or made p 0 = λ p inside.
     let works = worked.each p d d inside in
     let there : p < length seats = omega (arith, inside, worked.seats_number) in

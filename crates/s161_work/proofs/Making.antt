@@ -1,6 +1,6 @@
 use Rattle.std.proofs.Common.{◌≡◌, ◌∙◌, refl, sym, ap, subst, ℕ, zero, suc, ◌+◌, ◌<◌, ◌≤◌, List, [], ◌∷◌, ◌++◌, length, take, drop, replicate, slice_get, Bool, true, false, nat_le, Option, None, Some, IsSomeAnd, MatchOption, Result, Ok, Err, arith}
 use Rattle.std.proofs.Math.Seq.{drop-append_seam}
-use Rattle.std.proofs.lemmas.List.{append_assoc, map-append, drop-drop, drop-take, length-append, length-drop, length-replicate, take-append-drop, take-append-le, take-replicate, take-take}
+use Rattle.std.proofs.lemmas.List.{drop-drop, drop-take, length-append, length-drop, length-replicate, take-append-drop, take-append-le, take-replicate, take-take}
 use Rattle.m161_cpu.specs.declared.processor.Outcome.{Outcome}
 use Rattle.m161_machine.specs.declared.conf.BootError.{BootError}
 use Rattle.m161_machine.specs.declared.conf.Conf.{Conf}
@@ -10,49 +10,11 @@ use Rattle.m161_machine.specs.declared.event.Entry.{Entry}
 use Rattle.m161_machine.specs.declared.event.Refusal.{Refusal}
 use Rattle.m161_elf.specs.Image.{first_answer}
 use Rattle.m161_machine.specs.State.{State, is_full, next, unless, answer}
-use Rattle.m161_machine.specs.History.{History, run, rest_of_run, after_outcome, events_of, outcomes_of, Boots, Continues, Ends, IsBooted, Refuses}
-use Rattle.m161_machine.proofs.Continuing.{refused_as}
+use Rattle.m161_machine.specs.History.{History, events_of, Boots, Continues, Ends, IsBooted, Leads, Refuses}
+use Rattle.m161_machine.proofs.Continuing.{continues_on, refused_as}
 use Rattle.s161_work.specs.Runs.{IsRefusedAt}
 
 -- Runs of events, one after the other.
-
--- what comes after the first outcome of a run, with more events after it
-outcome_then : (y z : Option (List Outcome × State)) (t u : State) (first : Outcome) (os ps : List Outcome) →
-    ((rest : List Outcome) → y ≡ Some (rest, t) → z ≡ Some (rest ++ ps, u)) →
-    after_outcome first y ≡ Some (os, t) → after_outcome first z ≡ Some (os ++ ps, u)
-outcome_then None z t u first os ps more h = absurd (let bad : ◌≡◌ {A = Option (List Outcome × State)} None (Some (os, t)) = h in cc)
-outcome_then (Some r) z t u first os ps more h =
-    let pair : ◌≡◌ {A = List Outcome × State} (first ∷ r.0, r.1) (os, t) = cc in
-    let rest_is : first ∷ r.0 ≡ os = ap (λ x. x.0) pair in
-    let last_is : r.1 ≡ t = ap (λ x. x.1) pair in
-    rw (more r.0 (ap (λ (v : State). Some (r.0, v)) last_is)) (ap (λ (l : List Outcome). Some (l ++ ps, u)) rest_is)
-
-going_then : (x : Result (Outcome × State) Refusal) (y z : State → Option (List Outcome × State)) (t u : State) (os ps : List Outcome) →
-    ((v : State) (rest : List Outcome) → y v ≡ Some (rest, t) → z v ≡ Some (rest ++ ps, u)) →
-    rest_of_run x y ≡ Some (os, t) → rest_of_run x z ≡ Some (os ++ ps, u)
-going_then (Err refusal) y z t u os ps more h = absurd (let bad : ◌≡◌ {A = Option (List Outcome × State)} None (Some (os, t)) = h in cc)
-going_then (Ok r) y z t u os ps more h = outcome_then (y r.1) (z r.1) t u r.0 os ps (more r.1) h
-
-run_then : (xs ys : List Event) (s t u : State) (os ps : List Outcome) →
-    run s xs ≡ Some (os, t) → run t ys ≡ Some (ps, u) → run s (xs ++ ys) ≡ Some (os ++ ps, u)
-run_then [] ys s t u os ps r h =
-    let pair : ◌≡◌ {A = List Outcome × State} ([], s) (os, t) = cc in
-    let none_is : ◌≡◌ {A = List Outcome} [] os = ap (λ x. x.0) pair in
-    let last_is : s ≡ t = ap (λ x. x.1) pair in
-    rw (last_is, ← none_is) h
-run_then (first ∷ xs) ys s t u os ps r h =
-    going_then (next s first) (λ v. run v xs) (λ v. run v (xs ++ ys)) t u os ps
-    (λ v rest k. run_then xs ys v t u rest ps k h) r
-
-pub continues_then : (m n k : History) (xs ys : List Event) → Continues m xs n → Continues n ys k → Continues m (xs ++ ys) k
-continues_then m n k xs ys c d = record {
-  entries = c.entries ++ d.entries;
-  events_are = map-append (λ (x : Entry). x.event) c.entries d.entries ∙ ap (λ es. es ++ events_of d.entries) c.events_are ∙ ap (λ es. xs ++ es) d.events_are;
-  run_is = run_then xs ys m.state n.state k.state (outcomes_of c.entries) (outcomes_of d.entries) c.run_is d.run_is
-      ∙ ap (λ os. Some (os, k.state)) (sym (map-append (λ (x : Entry). x.outcome) c.entries d.entries));
-  log_is = d.log_is ∙ ap (λ log. log ++ d.entries) c.log_is ∙ append_assoc m.log c.entries d.entries;
-  start_is = d.start_is ∙ c.start_is;
-}
 
 -- a machine that is off refuses every event
 refused_first : (b : Bool) (a : Refusal) (rest : List (Bool × Refusal)) (x : Result (Outcome × State) Refusal) →
@@ -76,25 +38,30 @@ refused_off s (Step p) = refused_first (nat_le (length s.processors) p) Refusal.
 refused_off s (Key byte) = (Refusal.Off, refl)
 refused_off s Done = (Refusal.Off, refl)
 
-on_before : (b : Bool) (s : State) (e : Event) (es : List Event) (x : List Outcome × State) → s.board.off ≡ b → run s (e ∷ es) ≡ Some x → s.board.off ≡ false
-on_before false s e es x off r = off
-on_before true s e es x off r =
+on_before : (b : Bool) (s : State) (e : Event) (x : Outcome × State) → s.board.off ≡ b → next s e ≡ Ok x → s.board.off ≡ false
+on_before false s e x off r = off
+on_before true s e x off r =
     let refused = refused_off s e in
     let first_is : next s e ≡ Err refused.0 = next_with s e ∙ ap (λ b. with_off b s e) off ∙ refused.1 in
-    let bad : ◌≡◌ {A = Option (List Outcome × State)} None (Some x) = ap (λ y. rest_of_run y (λ t. run t es)) (sym first_is) ∙ r in
+    let bad : ◌≡◌ {A = Result (Outcome × State) Refusal} (Err refused.0) (Ok x) = sym first_is ∙ r in
     absurd (cc)
 
 -- a machine of which an event is made was on
+first_on : (s t : State) (entries : List Entry) (events : List Event) → 0 < length events → events_of entries ≡ events → Leads s entries t →
+    s.board.off ≡ false
+first_on s t [] events some are leads = absurd (let none = ap length are in let bad : ⊥ = omega (arith, some, none) in bad)
+first_on s t (e ∷ es) events some are leads = on_before s.board.off s e.event (e.outcome, leads.0) refl leads.1
+
 pub on_where_made : (m n : History) (events : List Event) → 0 < length events → Continues m events n → m.state.board.off ≡ false
-on_where_made m n [] some c = absurd (omega arith)
-on_where_made m n (e ∷ es) some c = on_before m.state.board.off m.state e es (outcomes_of c.entries, n.state) refl c.run_is
+on_where_made m n events some c = first_on m.state n.state c.entries events some c.events_are c.run_is
 
 -- where no event is made, the state stays
+stays : (s t : State) (entries : List Entry) (events : List Event) → length events ≡ 0 → events_of entries ≡ events → Leads s entries t → t ≡ s
+stays s t [] events none are leads = leads
+stays s t (e ∷ es) events none are leads = absurd (let some = ap length are in let bad : ⊥ = omega (arith, none, some) in bad)
+
 pub same_where_none : (m n : History) (events : List Event) → length events ≡ 0 → Continues m events n → n.state ≡ m.state
-same_where_none m n (e ∷ es) none c = absurd (omega (arith, none))
-same_where_none m n [] none c =
-    let pair : ◌≡◌ {A = List Outcome × State} ([], m.state) (outcomes_of c.entries, n.state) = cc in
-    sym (ap (λ x. x.1) pair)
+same_where_none m n events none c = stays m.state n.state c.entries events none c.events_are c.run_is
 
 -- more of a list's events
 pub made_more : (m n k : History) (events rest : List Event) (made more : ℕ) → rest ≡ drop made events →
@@ -105,7 +72,7 @@ made_more m n k events rest made more is c d =
     ∙ ap (λ es. es ++ drop made (take (made + more) events)) (sym (take-take made (made + more) events (omega arith)))
     ∙ take-append-drop made (take (made + more) events) in
     let P : List Event → Type 0 = λ es. Continues m es k in
-    subst P (ap (λ es. take made events ++ take more es) is ∙ whole) (continues_then m n k (take made events) (take more rest) c d)
+    subst P (ap (λ es. take made events ++ take more es) is ∙ whole) (continues_on m n k (take made events) (take more rest) c d)
 
 got_after : (events : List Event) (made k : ℕ) → slice_get (drop made events) k ≡ slice_get events (made + k)
 got_after events zero k = let same : k ≡ 0 + k = omega arith in ap (slice_get events) same
