@@ -189,7 +189,7 @@ impl Events {
     pub fn is_empty(&self) -> bool
         ensures { result ≡ (length self.now == 0) }
     {
-        self.number == 0
+        self.len() == 0
     }
 
     /// Appends an event.
@@ -212,7 +212,7 @@ impl Events {
         ensures appended { OnOk result (self.new ≡ self.old ++ replicate n event) }
         ensures refused { OnErr result (self.new ≡ self.old) }
     {
-        let Some(number) = self.number.checked_add(n as usize) else {
+        let Some(number) = self.len().checked_add(n as usize) else {
             return Err(AllocError);
         };
         self.runs.reserve(MOST_RUNS)?;
@@ -239,7 +239,7 @@ impl Events {
     pub fn to_vec(&self, alloc: Global) -> Result<Vec<Event>, AllocError>
         ensures { IfOk result (λ events. events.items ≡ self.now) }
     {
-        let mut events = Vec::with_capacity(alloc, self.number)?;
+        let mut events = Vec::with_capacity(alloc, self.len())?;
         let mut runs = self.runs();
         while let Some((event, times)) = runs.next() {
             push_copies(&mut events, event, times);
