@@ -9,7 +9,7 @@ use Rattle.m161_isa.specs.Instr.{row_of_instr, numbers_of_instr, instr_by, instr
 use Rattle.m161_cpu.specs.Scene.{Scene}
 use Rattle.m161_cpu.specs.Fault.{fault}
 use Rattle.m161_cpu.specs.Step.{change_of_row, change_by_row, misfit_kind}
-use Rattle.m161_cpu.specs.Execute.{change_by, change_by_some, unit_in}
+use Rattle.m161_cpu.specs.helpers.Execute.{change_by, change_by_some, unit_in}
 
 -- The instruction of a word does what the word's row does.
 

@@ -5,4 +5,4 @@ pub mod Fault
 pub mod Translation
 pub mod Effect
 pub mod Step
-pub mod Execute
+pub mod helpers

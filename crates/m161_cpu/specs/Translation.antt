@@ -1,4 +1,4 @@
-use Rattle.std.specs.Prelude.{◌≡◌, ◌⊎◌, ℕ, ◌+◌, ◌*◌, ◌/◌, ◌%◌, ◌^◌, Bool, true, false, not, nat_lt, nat_le, ◌==◌, ◌&&◌, ◌||◌, if◌then◌else◌, List, slice_get, length, Option, None, Some, Result, Ok, Err}
+use Rattle.std.specs.Prelude.{ℕ, ◌+◌, ◌*◌, ◌/◌, ◌%◌, ◌^◌, Bool, true, false, not, nat_lt, nat_le, ◌==◌, ◌&&◌, ◌||◌, if◌then◌else◌, List, slice_get, length, Option, None, Some, Result, Ok, Err}
 use Rattle.m161_isa.specs.Address.{unmapped}
 use Rattle.m161_ram.specs.Word.{word_at}
 use Rattle.m161_tlb.specs.declared.row.Row.{Row}
@@ -15,10 +15,6 @@ use Rattle.m161_cpu.specs.Scene.{result_map, and_then}
 
 -- Translation of addresses to physical ones, and accesses to RAM and the slots. Kane, MIPS RISC
 -- Architecture, "Memory management".
-
--- the width of an access in bytes
-abbrev pub IsWidth : ℕ → Type 0
-IsWidth width = (width ≡ 1) ⊎ (width ≡ 2) ⊎ (width ≡ 4)
 
 abbrev pub is_store : Access → Bool
 is_store Fetch = false

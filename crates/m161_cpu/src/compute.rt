@@ -4,7 +4,7 @@ ghost use Rattle.std.specs.Prelude.{◌≡◌, ◌+◌, ◌*◌, ◌/◌, ◌%�
 ghost use Rattle.m161_isa.specs.declared.instr.Instr.TheVariants.{Arith, Immediate as ByImmediate, LoadUpper, Shift, ShiftVariable};
 ghost use Rattle.m161_cpu.specs.Effect.{write};
 ghost use Rattle.m161_cpu.specs.Scene.{Around, result_map, scene};
-ghost use Rattle.m161_cpu.specs.Execute.{change_by, or_fault, ExecutesInProcessor, Executes, Writes, WritesFrom};
+ghost use Rattle.m161_cpu.specs.helpers.Execute.{change_by, or_fault, ExecutesInProcessor, Executes, Writes, WritesFrom};
 
 use crate::fault::FaultKind;
 use crate::processor::Cpu;
@@ -14,7 +14,7 @@ use m161_tlb::Tlb;
 
 // What a row on two registers writes to a third.
 #[inline(always)]
-#[tactic(auto, unfolding(crate::specs::Execute::change_by))]
+#[tactic(auto, unfolding(crate::specs::helpers::Execute::change_by))]
 fn arithmetic(op: ArithOp, s: u32, t: u32) -> Result<u32, FaultKind>
     ensures { Writes (Arith op) s t result }
 {
@@ -34,7 +34,7 @@ fn arithmetic(op: ArithOp, s: u32, t: u32) -> Result<u32, FaultKind>
 
 // What a row on a register and an immediate writes.
 #[inline(always)]
-#[tactic(auto, unfolding(crate::specs::Execute::change_by))]
+#[tactic(auto, unfolding(crate::specs::helpers::Execute::change_by))]
 fn with_immediate(op: ImmediateOp, s: u32, immediate: Immediate) -> Result<u32, FaultKind>
     ensures { WritesFrom (λ d a. ByImmediate op d a immediate) s result }
 {
@@ -54,7 +54,7 @@ fn with_immediate(op: ImmediateOp, s: u32, immediate: Immediate) -> Result<u32, 
 impl<T: Tlb> Cpu<T> {
     /// A shift by an amount.
     #[inline(always)]
-    #[tactic(auto, unfolding(crate::specs::Execute::change_by))]
+    #[tactic(auto, unfolding(crate::specs::helpers::Execute::change_by))]
     pub(crate) fn shift(
         &mut self,
         op: ShiftOp,
@@ -71,7 +71,7 @@ impl<T: Tlb> Cpu<T> {
 
     /// A shift by the last five bits of a register.
     #[inline(always)]
-    #[tactic(auto, unfolding(crate::specs::Execute::change_by))]
+    #[tactic(auto, unfolding(crate::specs::helpers::Execute::change_by))]
     pub(crate) fn shift_variable(
         &mut self,
         op: ShiftOp,
@@ -111,7 +111,7 @@ impl<T: Tlb> Cpu<T> {
 
     /// `lui`.
     #[inline(always)]
-    #[tactic(auto, unfolding(crate::specs::Execute::change_by))]
+    #[tactic(auto, unfolding(crate::specs::helpers::Execute::change_by))]
     pub(crate) fn load_upper(&mut self, rt: Reg, immediate: Immediate) -> Result<(), FaultKind>
         ensures { ExecutesInProcessor (LoadUpper rt immediate) self.old result self.new }
     {

@@ -5,7 +5,7 @@ ghost use Rattle.m161_isa.specs.declared.instr.Instr.TheVariants.{MoveFromCop0, 
 ghost use Rattle.m161_bus.specs.Board.{BoardState, interrupt_lines};
 ghost use Rattle.m161_cpu.specs.Effect.{entry_row, after_probe, row_indexed};
 ghost use Rattle.m161_cpu.specs.Processor.{with_control, with_row};
-ghost use Rattle.m161_cpu.specs.Execute.{change_by, ExecutesInProcessor, Executes};
+ghost use Rattle.m161_cpu.specs.helpers.Execute.{change_by, ExecutesInProcessor, Executes};
 ghost use Rattle.m161_cpu.specs.Scene.{Around, scene_of, scene};
 
 use crate::fault::FaultKind;
@@ -18,7 +18,7 @@ impl<T: Tlb> Cpu<T> {
     /// `mfc0`. `lines` are the board's lines of this processor.
     #[cold]
     #[inline(never)]
-    #[tactic(auto, unfolding(crate::specs::Execute::change_by))]
+    #[tactic(auto, unfolding(crate::specs::helpers::Execute::change_by))]
     pub(crate) fn read_cop0(&mut self, rt: Reg, register: Reg, lines: u32) -> Result<(), FaultKind>
         ensures { (a : Around) → interrupt_lines a.number a.board ≡ lines
             → Executes (change_by (scene self.old a) (MoveFromCop0 rt register))
@@ -33,7 +33,7 @@ impl<T: Tlb> Cpu<T> {
     /// `mtc0`.
     #[cold]
     #[inline(never)]
-    #[tactic(auto, unfolding(crate::specs::Execute::change_by))]
+    #[tactic(auto, unfolding(crate::specs::helpers::Execute::change_by))]
     pub(crate) fn write_cop0(&mut self, rt: Reg, register: Reg) -> Result<(), FaultKind>
         ensures { ExecutesInProcessor (MoveToCop0 rt register) self.old result self.new }
     {
@@ -45,7 +45,7 @@ impl<T: Tlb> Cpu<T> {
 
     /// A row without operands.
     #[inline(always)]
-    #[tactic(auto, unfolding(crate::specs::Execute::change_by))]
+    #[tactic(auto, unfolding(crate::specs::helpers::Execute::change_by))]
     pub(crate) fn plain(&mut self, op: PlainOp, c: u32, links: &mut Links) -> Result<(), FaultKind>
         requires { c < 32 }
         ensures { (m : List ℕ) (b : BoardState)

@@ -4,7 +4,7 @@ ghost use Rattle.std.specs.Prelude.{Some, ◌≡◌, ◌^◌, ◌<◌, ◌≤◌
 ghost use Rattle.m161_bus.specs.Board.{KeepsSize};
 ghost use Rattle.m161_cpu.specs.Scene.{scene_of};
 ghost use Rattle.m161_cpu.specs.Step.{change_in, misfit_kind};
-ghost use Rattle.m161_cpu.specs.Execute.{change_by, Executes};
+ghost use Rattle.m161_cpu.specs.helpers.Execute.{change_by, Executes};
 
 use crate::fault::FaultKind;
 use crate::links::Links;

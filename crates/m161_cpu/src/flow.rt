@@ -5,7 +5,7 @@ ghost use Rattle.m161_isa.specs.declared.instr.Instr.TheVariants.{BranchEqual, B
 ghost use Rattle.m161_alu.specs.Word.{sign_extended_half};
 ghost use Rattle.m161_cpu.specs.Effect.{branch_flow, return_address};
 ghost use Rattle.m161_cpu.specs.Processor.{with_register};
-ghost use Rattle.m161_cpu.specs.Execute.{ExecutesInProcessor};
+ghost use Rattle.m161_cpu.specs.helpers.Execute.{ExecutesInProcessor};
 
 use crate::fault::FaultKind;
 use crate::processor::{Cpu, Flow};
@@ -55,7 +55,7 @@ impl<T: Tlb> Cpu<T> {
 
     /// `jr`.
     #[inline(always)]
-    #[tactic(auto, unfolding(crate::specs::Execute::change_by))]
+    #[tactic(auto, unfolding(crate::specs::helpers::Execute::change_by))]
     pub(crate) fn jump_register(&mut self, rs: Reg) -> Result<(), FaultKind>
         ensures { ExecutesInProcessor (JumpRegister rs) self.old result self.new }
     {
@@ -69,7 +69,7 @@ impl<T: Tlb> Cpu<T> {
 
     /// `jalr`: the target is read before the return address is written.
     #[inline(always)]
-    #[tactic(auto, unfolding(crate::specs::Execute::change_by))]
+    #[tactic(auto, unfolding(crate::specs::helpers::Execute::change_by))]
     pub(crate) fn jump_and_link_register(&mut self, rd: Reg, rs: Reg) -> Result<(), FaultKind>
         ensures { ExecutesInProcessor (JumpAndLinkRegister rd rs) self.old result self.new }
     {
@@ -84,7 +84,7 @@ impl<T: Tlb> Cpu<T> {
 
     /// `j` and `jal`.
     #[inline(always)]
-    #[tactic(auto, unfolding(crate::specs::Execute::change_by))]
+    #[tactic(auto, unfolding(crate::specs::helpers::Execute::change_by))]
     pub(crate) fn jump(&mut self, op: JumpOp, target: Target) -> Result<(), FaultKind>
         ensures { ExecutesInProcessor (Jump op target) self.old result self.new }
     {
@@ -102,7 +102,7 @@ impl<T: Tlb> Cpu<T> {
 
     /// `beq` and `bne`.
     #[inline(always)]
-    #[tactic(auto, unfolding(crate::specs::Execute::change_by))]
+    #[tactic(auto, unfolding(crate::specs::helpers::Execute::change_by))]
     pub(crate) fn branch_equal(
         &mut self,
         test: EqualTest,
@@ -126,7 +126,7 @@ impl<T: Tlb> Cpu<T> {
 
     /// Branches on a test against zero; the register is read before a return address is written.
     #[inline(always)]
-    #[tactic(auto, unfolding(crate::specs::Execute::change_by))]
+    #[tactic(auto, unfolding(crate::specs::helpers::Execute::change_by))]
     pub(crate) fn branch_zero(
         &mut self,
         test: ZeroTest,

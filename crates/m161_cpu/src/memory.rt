@@ -5,7 +5,7 @@ ghost use Rattle.m161_isa.specs.declared.instr.Instr.TheVariants.{Load, Store};
 ghost use Rattle.m161_bus.specs.Board.{BoardState, KeepsSize};
 ghost use Rattle.m161_alu.specs.Word.{sign_extended_half};
 ghost use Rattle.m161_cpu.specs.Effect.{store_conditional, store_word_at};
-ghost use Rattle.m161_cpu.specs.Execute.{change_by, Executes, FindsWord};
+ghost use Rattle.m161_cpu.specs.helpers.Execute.{change_by, Executes, FindsWord};
 ghost use Rattle.m161_cpu.specs.Links.{after_store};
 ghost use Rattle.m161_cpu.specs.Processor.{with_flow};
 ghost use Rattle.m161_cpu.specs.Scene.{scene_of};
@@ -33,7 +33,7 @@ impl<T: Tlb> Cpu<T> {
 
     /// Loads.
     #[inline(always)]
-    #[tactic(auto, unfolding(crate::specs::Execute::change_by))]
+    #[tactic(auto, unfolding(crate::specs::helpers::Execute::change_by))]
     pub(crate) fn load<D: Console>(
         &mut self,
         op: LoadOp,
@@ -158,7 +158,7 @@ impl<T: Tlb> Cpu<T> {
 
     /// Stores.
     #[inline(always)]
-    #[tactic(auto, unfolding(crate::specs::Execute::change_by))]
+    #[tactic(auto, unfolding(crate::specs::helpers::Execute::change_by))]
     pub(crate) fn store<D: Console>(
         &mut self,
         op: StoreOp,

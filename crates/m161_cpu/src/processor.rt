@@ -7,7 +7,7 @@ ghost use Rattle.m161_cpu.specs.Processor.{stopped_processor, started_processor,
 ghost use Rattle.m161_cpu.specs.Scene.{Around, scene};
 ghost use Rattle.m161_cpu.specs.Fault.{vector, with_trap};
 ghost use Rattle.m161_cpu.specs.Step.{step_of, tick};
-ghost use Rattle.m161_cpu.specs.Execute.{idle_or_running};
+ghost use Rattle.m161_cpu.specs.helpers.Execute.{idle_or_running};
 
 mod views;
 

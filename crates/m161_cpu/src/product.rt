@@ -2,7 +2,7 @@
 
 ghost use Rattle.std.specs.Prelude.{◌≡◌, ℕ, List};
 ghost use Rattle.m161_isa.specs.declared.instr.Instr.TheVariants.{MoveFrom, MoveTo, Multiply};
-ghost use Rattle.m161_cpu.specs.Execute.{ExecutesInProcessor};
+ghost use Rattle.m161_cpu.specs.helpers.Execute.{ExecutesInProcessor};
 
 use crate::fault::FaultKind;
 use crate::processor::{Cpu, Flow};
@@ -13,7 +13,7 @@ use m161_tlb::Tlb;
 impl<T: Tlb> Cpu<T> {
     /// `mult`, `multu`, `div`, `divu`.
     #[inline(always)]
-    #[tactic(auto, unfolding(crate::specs::Execute::change_by))]
+    #[tactic(auto, unfolding(crate::specs::helpers::Execute::change_by))]
     pub(crate) fn multiply(&mut self, op: MultiplyOp, rs: Reg, rt: Reg) -> Result<(), FaultKind>
         ensures { ExecutesInProcessor (Multiply op rs rt) self.old result self.new }
     {
@@ -32,7 +32,7 @@ impl<T: Tlb> Cpu<T> {
 
     /// `mfhi` and `mflo`.
     #[inline(always)]
-    #[tactic(auto, unfolding(crate::specs::Execute::change_by))]
+    #[tactic(auto, unfolding(crate::specs::helpers::Execute::change_by))]
     pub(crate) fn move_from(&mut self, from: HiLo, rd: Reg) -> Result<(), FaultKind>
         ensures { ExecutesInProcessor (MoveFrom from rd) self.old result self.new }
     {
@@ -46,7 +46,7 @@ impl<T: Tlb> Cpu<T> {
 
     /// `mthi` and `mtlo`.
     #[inline(always)]
-    #[tactic(auto, unfolding(crate::specs::Execute::change_by))]
+    #[tactic(auto, unfolding(crate::specs::helpers::Execute::change_by))]
     pub(crate) fn move_to(&mut self, to: HiLo, rs: Reg) -> Result<(), FaultKind>
         ensures { ExecutesInProcessor (MoveTo to rs) self.old result self.new }
     {

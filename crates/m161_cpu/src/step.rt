@@ -6,7 +6,7 @@ ghost use Rattle.m161_cpu.specs.Links.{End, links_after};
 ghost use Rattle.m161_cpu.specs.Scene.{scene_of};
 ghost use Rattle.m161_cop0.specs.Trap.{IsVector};
 ghost use Rattle.m161_cpu.specs.Fault.{vector, with_trap};
-ghost use Rattle.m161_cpu.specs.Execute.{Executes, Finds};
+ghost use Rattle.m161_cpu.specs.helpers.Execute.{Executes, Finds};
 ghost use Rattle.m161_cpu.specs.Step.{change_of_step, executable_word, is_unusable, running_step, step_of, tick, IsOfStep, Leaves};
 
 use crate::fault::{Access, FaultKind};

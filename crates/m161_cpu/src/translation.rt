@@ -1,10 +1,11 @@
 //! Translation of addresses to physical ones.
 
 ghost use Rattle.std.specs.Prelude.{◌≡◌, ◌+◌, ◌≤◌, ◌<◌, ◌/◌, ◌^◌, false, Ok, Some, IfOk, IfSome};
-ghost use Rattle.m161_cpu.specs.Execute.{Finds};
+ghost use Rattle.m161_cpu.specs.helpers.Execute.{Finds};
 ghost use Rattle.m161_cpu.specs.Fault.{with_fault_address};
 ghost use Rattle.m161_cpu.specs.Scene.{result_map};
-ghost use Rattle.m161_cpu.specs.Translation.{IsWidth, Physical, address_error, bus_error, by_page, invalid, is_misaddressed, miss, physical_at, reach, reach_word_of};
+ghost use Rattle.m161_cpu.specs.Translation.{Physical, address_error, bus_error, by_page, invalid, is_misaddressed, miss, physical_at, reach, reach_word_of};
+ghost use Rattle.m161_cpu.specs.helpers.Translation.{IsWidth};
 ghost use Rattle.m161_tlb.specs.Rows.{find_row};
 ghost use Rattle.m161_cop0.specs.Control.{identifier_of, is_user};
 

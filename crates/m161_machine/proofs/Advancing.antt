@@ -7,7 +7,7 @@ use Rattle.m161_machine.specs.declared.event.Event.{Event}
 use Rattle.m161_machine.specs.declared.event.Event.TheVariants.{Step}
 use Rattle.m161_machine.specs.State.{KeepsSizes, State, next, step_result, with_step}
 use Rattle.m161_machine.specs.History.{entry, events_of}
-use Rattle.m161_machine.specs.Sound.{Advances}
+use Rattle.m161_machine.specs.helpers.Sound.{Advances}
 use Rattle.m161_machine.proofs.Accepting.{step_made}
 use Rattle.m161_machine.proofs.Leading.{leads_more}
 

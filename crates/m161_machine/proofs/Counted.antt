@@ -9,7 +9,8 @@ use Rattle.m161_machine.specs.declared.event.Entry.{Entry}
 use Rattle.m161_machine.specs.declared.event.Event.{Event}
 use Rattle.m161_machine.specs.declared.event.Event.TheVariants.{Step, Key, Done}
 use Rattle.m161_machine.specs.declared.event.Refusal.{Refusal}
-use Rattle.m161_machine.specs.State.{State, counts, counts_after, next}
+use Rattle.m161_machine.specs.State.{State, counts, next}
+use Rattle.m161_machine.specs.helpers.State.{counts_after}
 use Rattle.m161_machine.specs.History.{History, Start, CountsSteps, IsReplay, Leads, boot_state, events_of, is_step_of, steps_of}
 use Rattle.m161_machine.proofs.Counting.{counts_law}
 

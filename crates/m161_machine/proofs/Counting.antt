@@ -17,7 +17,8 @@ use Rattle.m161_machine.specs.declared.event.Event.{Event}
 use Rattle.m161_machine.specs.declared.event.Event.TheVariants.{Step, Key, Done}
 use Rattle.m161_machine.specs.declared.event.Refusal.{Refusal}
 use Rattle.m161_machine.specs.declared.event.Refusal.TheVariants.{KeyFull as KeyFullRefusal}
-use Rattle.m161_machine.specs.State.{State, answer, answered_done, answered_key, counts, counts_after, next, processor_at, refusal, refusal_of_done, step_result, unless, with_board, with_starts, with_step}
+use Rattle.m161_machine.specs.State.{State, answer, answered_done, answered_key, counts, next, processor_at, refusal, refusal_of_done, step_result, unless, with_board, with_starts, with_step}
+use Rattle.m161_machine.specs.helpers.State.{counts_after}
 use Rattle.m161_machine.proofs.Starting.{count_kept}
 use Rattle.m161_tlb.specs.declared.row.Row.{Row}
 

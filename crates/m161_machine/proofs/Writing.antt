@@ -5,7 +5,7 @@ use Rattle.m161_machine.specs.declared.event.Entry.{Entry}
 use Rattle.m161_machine.specs.declared.event.Event.TheVariants.{Step}
 use Rattle.m161_machine.specs.State.{State}
 use Rattle.m161_machine.specs.History.{Continues, History, Start, events_of}
-use Rattle.m161_machine.specs.Sound.{Advances}
+use Rattle.m161_machine.specs.helpers.Sound.{Advances}
 
 -- Entries that were written into the room behind a log.
 

@@ -1,6 +1,5 @@
-use Rattle.std.specs.Prelude.{◌≡◌, ℕ, ◌==◌, ◌≤◌, List, [], ◌++◌, Option, MatchOption, flat_map, replicate, if◌then◌else◌}
+use Rattle.std.specs.Prelude.{◌≡◌, ℕ, ◌≤◌, List, [], ◌++◌, Option, MatchOption, flat_map, replicate}
 use Rattle.m161_machine.specs.declared.event.Event.{Event}
-use Rattle.m161_machine.specs.declared.event.Event.TheVariants.{Step, Key, Done}
 
 -- A list of events that is kept as runs: an event, and how many times it stands there.
 
@@ -14,7 +13,3 @@ abbrev pub TakesRun : List Event → Option (Event × ℕ) → List Event → Ty
 TakesRun left result after =
     MatchOption result ((left ≡ []) × (after ≡ []))
     (λ run. (left ≡ replicate run.1 run.0 ++ after) × (1 ≤ run.1))
-
--- the event of a kind, with its processor or its byte
-abbrev pub event_of : ℕ → ℕ → Event
-event_of kind number = if kind == 0 then Step number else if kind == 1 then Key number else Done

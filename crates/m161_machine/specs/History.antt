@@ -1,4 +1,4 @@
-use Rattle.std.specs.Prelude.{◌≡◌, ℕ, ◌+◌, ◌-◌, ◌<◌, Bool, false, ◌==◌, List, [], ◌∷◌, ◌++◌, map, length, replicate, slice_index_or, Option, None, Some, Result, Ok, Err, All, if◌then◌else◌}
+use Rattle.std.specs.Prelude.{◌≡◌, ℕ, ◌+◌, ◌-◌, ◌<◌, Bool, false, ◌==◌, List, [], ◌∷◌, ◌++◌, map, length, replicate, slice_index_or, Option, None, Some, Result, Ok, Err, if◌then◌else◌}
 use Rattle.std.specs.List.{count_by}
 use Rattle.m161_elf.specs.declared.image.LoadError.{LoadError}
 use Rattle.m161_elf.specs.Image.{first_fault, IsImage}
@@ -27,9 +27,6 @@ pub record Start : Type 0 where
   pub bytes : List ℕ
   pub entry : ℕ
   pub conf : Conf
-
-abbrev pub start_of : List ℕ → ℕ → Conf → Start
-start_of bytes entry conf = record { bytes = bytes; entry = entry; conf = conf }
 
 -- the state at boot: processor 0 is started at the entry, and the others are stopped
 abbrev pub boot_state : Start → State

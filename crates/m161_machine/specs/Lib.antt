@@ -2,7 +2,7 @@ pub mod Refusal
 pub mod Conf
 pub mod State
 pub mod History
-pub mod Kept
 pub mod StoreHistory
 pub mod Sound
 pub mod Events
+pub mod helpers

@@ -1,13 +1,11 @@
-use Rattle.std.specs.Prelude.{◌≡◌, ℕ, ◌≤◌, ◌^◌, true, List, length, replicate}
-use Rattle.m161_machine.specs.declared.event.Entry.{Entry}
-use Rattle.m161_machine.specs.declared.event.Event.TheVariants.{Step}
+use Rattle.std.specs.Prelude.{◌≡◌, ◌≤◌, ◌^◌, true, length}
 use Rattle.m161_machine.specs.Conf.{is_within_limits}
 use Rattle.m161_machine.specs.State.{State, CountUpTo}
-use Rattle.m161_machine.specs.History.{History, IsLoaded, IsReplay, Leads, events_of}
+use Rattle.m161_machine.specs.History.{History, IsLoaded, IsReplay}
 
--- What holds of every state that a machine stores, and several Steps of one processor; definitions
--- that contracts of private functions share.
+-- What the types of states and of machines keep.
 
+-- what holds of every state that the code stores
 pub record IsSound (s : State) : Type 0 where
   pub size_is : length s.processors ≡ s.board.processors
   pub few : s.board.processors ≤ 32
@@ -16,12 +14,7 @@ pub record IsSound (s : State) : Type 0 where
   -- so no count of Steps overflows
   pub counts : CountUpTo s.made s.processors
 
--- Steps of one processor lead from one state to another, with these entries
-abbrev pub Advances : ℕ → State → List Entry → State → Type 0
-Advances p s entries t =
-    Leads s entries t × (events_of entries ≡ replicate (length entries) (Step p))
-
--- what holds of every history of a machine
+-- what holds of every machine's history
 pub record IsLawful (h : History) : Type 0 where
   pub replay : IsReplay h
   pub is_loaded : IsLoaded h.start

@@ -1,4 +1,4 @@
-use Rattle.std.specs.Prelude.{◌≡◌, ℕ, ◌+◌, ◌≤◌, ◌%◌, Bool, false, not, nat_le, ◌==◌, ◌&&◌, ◌||◌, if◌then◌else◌, List, [], ◌∷◌, length, map, slice_index_or, slice_set, Option, None, Some, Result, Ok, Err, All}
+use Rattle.std.specs.Prelude.{◌≡◌, ℕ, ◌+◌, ◌≤◌, ◌%◌, Bool, not, nat_le, ◌==◌, ◌&&◌, if◌then◌else◌, List, [], ◌∷◌, length, map, slice_index_or, slice_set, Option, None, Some, Result, Ok, Err, All}
 use Rattle.m161_ram.specs.Word.{word_at}
 use Rattle.m161_bus.specs.declared.console.DoneError.{DoneError}
 use Rattle.m161_bus.specs.declared.console.DoneError.TheVariants as done
@@ -127,12 +127,6 @@ next s e = unless (refusal s e) (answer s e)
 -- how many Steps each processor has made
 abbrev pub counts : State → List ℕ
 counts s = map (λ (p : Processor). p.count) s.processors
-
--- the counts after an event: a Step counts once, of its processor
-abbrev pub counts_after : Event → List ℕ → List ℕ
-counts_after (event.Step p) counts = slice_set counts p (slice_index_or counts p 0 + 1)
-counts_after (event.Key byte) counts = counts
-counts_after event.Done counts = counts
 
 -- the word at a physical address, if it is aligned and within RAM
 abbrev pub word_in : List ℕ → ℕ → Option ℕ

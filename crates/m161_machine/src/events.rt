@@ -35,7 +35,7 @@ struct Run {
 impl Model for Run {
     ghost use Rattle.std.specs.Prelude.{◌≡◌, ℕ, ◌/◌, ◌%◌, ◌<◌, ◌≤◌};
     ghost use Rattle.m161_machine.specs.declared.event.Event.{Event};
-    ghost use Rattle.m161_machine.specs.Events.{event_of};
+    ghost use Rattle.m161_machine.specs.helpers.Events.{event_of};
 
     ghost Value = { Event × ℕ };
 

@@ -6,7 +6,7 @@ ghost use Rattle.m161_cpu.specs.declared.processor.Outcome.TheVariants as outcom
 ghost use Rattle.m161_cpu.specs.Step.{IsOfStep};
 ghost use Rattle.m161_machine.specs.declared.event.Event.TheVariants as events;
 ghost use Rattle.m161_machine.specs.History.{entry};
-ghost use Rattle.m161_machine.specs.Kept.{vector_with, outcome_with};
+ghost use Rattle.m161_machine.specs.helpers.Kept.{vector_with, outcome_with};
 
 use crate::event::{Entry, Event};
 use m161_cop0::Exception;
@@ -29,7 +29,7 @@ pub(crate) struct Kept {
 impl Model for Kept {
     ghost use Rattle.std.specs.Prelude.{◌≡◌, ◌/◌, ◌%◌, ◌<◌};
     ghost use Rattle.m161_machine.specs.declared.event.Entry.{Entry};
-    ghost use Rattle.m161_machine.specs.Kept.{entry_in_word};
+    ghost use Rattle.m161_machine.specs.helpers.Kept.{entry_in_word};
 
     ghost Value = { Entry };
 

@@ -7,8 +7,9 @@ ghost use Rattle.m161_cpu.specs.declared.processor.Outcome.{Outcome};
 ghost use Rattle.m161_machine.specs.declared.event.Event.TheVariants as events;
 ghost use Rattle.m161_machine.specs.State.{CountUpTo, KeepsSizes, refusal, step_result, with_step};
 ghost use Rattle.m161_machine.specs.Conf.{is_within_limits};
-ghost use Rattle.m161_machine.specs.History.{Makes, boot_state, start_of};
-ghost use Rattle.m161_machine.specs.Sound.{Advances};
+ghost use Rattle.m161_machine.specs.History.{Makes, boot_state};
+ghost use Rattle.m161_machine.specs.helpers.History.{start_of};
+ghost use Rattle.m161_machine.specs.helpers.Sound.{Advances};
 
 mod views;
 

@@ -5,7 +5,8 @@ use Rattle.m161_cop0.specs.declared.exception.Exception.{Exception}
 use Rattle.m161_cop0.specs.declared.exception.Exception.TheVariants as exception
 use Rattle.m161_cop0.specs.Registers.{number_of_exception, exception_with}
 use Rattle.m161_steplog.specs.Parts.{Reads, IsWord}
-use Rattle.m161_steplog.specs.Text.{code_text, IsCode}
+use Rattle.m161_steplog.specs.Text.{code_text}
+use Rattle.m161_steplog.specs.helpers.Text.{IsCode}
 
 pub code_small : (code : Exception) → number_of_exception code < 13
 code_small exception.Interrupt = omega arith

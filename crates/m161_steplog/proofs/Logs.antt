@@ -9,7 +9,8 @@ use Rattle.m161_steplog.specs.declared.fault.Fault.TheVariants as faults
 use Rattle.m161_steplog.specs.Parts.{Reads, Lacks}
 use Rattle.m161_steplog.specs.Text.{entry_text, IsProper}
 use Rattle.m161_steplog.specs.Lines.{lines_of, FirstBad, IsRead}
-use Rattle.m161_steplog.specs.Log.{log_text, log_lines, IsLogText, IsLog, IsDistinct, AreLogLines}
+use Rattle.m161_steplog.specs.Log.{log_text, log_lines, IsLogText, IsLog, AreLogLines}
+use Rattle.m161_steplog.specs.helpers.Log.{IsDistinct}
 use Rattle.m161_steplog.proofs.Feeds.{ended, IsSome, lines_of-ended, ended-lines_of, unended}
 use Rattle.m161_steplog.proofs.LogLines.{entry_some, entry_lacks_feed, header_lacks_feed}
 

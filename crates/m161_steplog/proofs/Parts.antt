@@ -3,7 +3,8 @@ use Rattle.std.proofs.lemmas.List.{get_or_at}
 use Rattle.std.proofs.Common.{length-append, ap₂, subst, ◌≡◌, ◌≢◌, ℕ, zero, suc, ◌<◌, List, [], ◌∷◌, ◌++◌, length, refl, sym, ◌∙◌, arith, Option, Some, None, Bor}
 use Rattle.std.proofs.lemmas.Str.Pattern.{IsSplitOnceResult, split_parts}
 use Rattle.std.proofs.lemmas.Option.{none-some, same_Some}
-use Rattle.m161_steplog.specs.Parts.{◌␣◌, Reads, ReadsBoth, Lacks, Cuts}
+use Rattle.m161_steplog.specs.Parts.{◌␣◌, Reads, Lacks, Cuts}
+use Rattle.m161_steplog.specs.helpers.Parts.{ReadsBoth}
 use Rattle.m161_steplog.proofs.Reading.{nothing}
 
 -- `split_once` cuts

@@ -8,7 +8,8 @@ use Rattle.m161_steplog.specs.declared.schedule.Item.{Item}
 use Rattle.m161_steplog.specs.declared.fault.Fault.{Fault}
 use Rattle.m161_steplog.specs.declared.fault.Fault.TheVariants as faults
 use Rattle.m161_steplog.specs.Lines.{lines_of, FirstBad}
-use Rattle.m161_steplog.specs.Schedule.{ScheduleLine, line_text, line_events, item_events, IsLine, ReadsLine, IsSchedule, AreScheduleLines}
+use Rattle.m161_steplog.specs.Schedule.{ScheduleLine, line_text, line_events, IsLine, IsSchedule, AreScheduleLines}
+use Rattle.m161_steplog.specs.helpers.Schedule.{item_events, ReadsLine}
 
 -- a line; every line with its text has its events
 pub record IsSure (line : ScheduleLine) : Type 0 where

@@ -8,7 +8,8 @@ use Rattle.m161_machine.specs.State.{State, next}
 use Rattle.m161_machine.specs.History.{History, Leads, Boots}
 use Rattle.m161_machine.proofs.Leading.{leads_more, leads_rest}
 use Rattle.m161_steplog.specs.declared.verdict.Verdict.{Verdict}
-use Rattle.m161_steplog.specs.Verdict.{Follows, IsVerdict, Verifies, Repeats}
+use Rattle.m161_steplog.specs.Verdict.{Follows, IsVerdict, Verifies}
+use Rattle.m161_steplog.specs.helpers.Verdict.{Repeats}
 
 made_next : (log : List Entry) (k : ℕ) (d : Entry) → k < length log → take (k + 1) log ≡ take k log ++ get_or log k d ∷ []
 made_next log k d lt = take_more log k d lt

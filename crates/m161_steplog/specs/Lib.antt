@@ -4,3 +4,4 @@ pub mod Lines
 pub mod Log
 pub mod Schedule
 pub mod Verdict
+pub mod helpers

@@ -23,8 +23,3 @@ log_lines es = codes "m161 log 1" ∷ map entry_text es
 
 abbrev pub AreLogLines : List (List ℕ) → Type 0
 AreLogLines lines = (es : List Entry) × AllByRecursion IsProper es × (lines ≡ log_lines es)
-
--- How the code sees an entry: no other entry has its line.
-pub record IsDistinct (e : Entry) : Type 0 where
-  pub proper : IsProper e
-  pub alone : (x : Entry) → IsProper x → entry_text e ≡ entry_text x → e ≡ x

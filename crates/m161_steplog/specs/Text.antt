@@ -37,10 +37,6 @@ IsEvent (events.Step p) = IsWord p
 IsEvent (events.Key byte) = IsByte byte
 IsEvent events.Done = Unit {0}
 
--- every exception has a code
-abbrev pub IsCode : Exception → Type 0
-IsCode code = Unit {0}
-
 -- an outcome of a Step that a line can say, whatever its vector
 abbrev pub IsStepOutcome : Outcome → Type 0
 IsStepOutcome outcomes.Ran = Unit {0}

@@ -1,10 +1,10 @@
-use Rattle.std.specs.Prelude.{◌≡◌, ℕ, ◌+◌, ◌<◌, List, length, take, Bool, true, false, Option, None, Some, Result, Ok, Err}
+use Rattle.std.specs.Prelude.{◌≡◌, ℕ, ◌+◌, ◌<◌, List, length, take, Option, None, Some, Result, Ok, Err}
 use Rattle.m161_machine.specs.declared.conf.Conf.{Conf}
 use Rattle.m161_machine.specs.declared.conf.BootError.{BootError}
 use Rattle.m161_machine.specs.declared.conf.BootError.TheVariants.{NoMemory}
 use Rattle.m161_machine.specs.declared.event.Entry.{Entry}
-use Rattle.m161_machine.specs.State.{State, next}
-use Rattle.m161_machine.specs.History.{History, Leads, Answers, IsBooted}
+use Rattle.m161_machine.specs.State.{State}
+use Rattle.m161_machine.specs.History.{History, Leads, IsBooted}
 use Rattle.m161_steplog.specs.declared.verdict.Verdict.{Verdict}
 use Rattle.m161_steplog.specs.declared.verdict.Verdict.TheVariants.{Agrees, Differs}
 
@@ -29,10 +29,3 @@ Verifies file conf (Some first) log (Err e) = e ≡ first
 Verifies file conf None log (Ok verdict) =
     (m : History) × IsBooted file conf m × IsVerdict m.state log verdict
 Verifies file conf None log (Err e) = e ≡ NoMemory
-
--- How the code checks one entry on a machine: its event is accepted with its outcome; or not; or
--- memory was refused.
-abbrev pub Repeats : History → Entry → History → Result Bool BootError → Type 0
-Repeats m entry n (Ok true) = Answers m entry.event (Ok entry.outcome) n
-Repeats m entry n (Ok false) = (t : State) → next m.state entry.event ≡ Ok (entry.outcome, t) → ⊥
-Repeats m entry n (Err e) = e ≡ NoMemory

@@ -1,8 +1,10 @@
 //! A line of a log.
 
 ghost use Rattle.std.specs.Prelude.{decimal, codes};
-ghost use Rattle.m161_steplog.specs.Parts.{◌␣◌, hex_text, Reads, ReadsBoth, IsByte, IsWord};
-ghost use Rattle.m161_steplog.specs.Text.{code_text, outcome_text, entry_text, IsCode, IsStepOutcome, IsProper};
+ghost use Rattle.m161_steplog.specs.Parts.{◌␣◌, hex_text, Reads, IsByte, IsWord};
+ghost use Rattle.m161_steplog.specs.helpers.Parts.{ReadsBoth};
+ghost use Rattle.m161_steplog.specs.Text.{code_text, outcome_text, entry_text, IsStepOutcome, IsProper};
+ghost use Rattle.m161_steplog.specs.helpers.Text.{IsCode};
 
 use crate::cut::cut_at_space;
 use crate::digits::{parse_byte, parse_decimal, parse_word};

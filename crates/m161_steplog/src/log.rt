@@ -6,7 +6,8 @@ ghost use Rattle.m161_machine.specs.declared.event.Entry.{Entry};
 ghost use Rattle.m161_steplog.specs.declared.fault.Fault.TheVariants as faults;
 ghost use Rattle.m161_steplog.specs.Text.{entry_text};
 ghost use Rattle.m161_steplog.specs.Lines.{lines_of, FirstBad, IsRead};
-ghost use Rattle.m161_steplog.specs.Log.{log_text, log_lines, IsLog, IsDistinct, AreLogLines};
+ghost use Rattle.m161_steplog.specs.Log.{log_text, log_lines, IsLog, AreLogLines};
+ghost use Rattle.m161_steplog.specs.helpers.Log.{IsDistinct};
 
 use crate::cut::next_line;
 use crate::fault::Fault;

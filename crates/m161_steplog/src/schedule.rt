@@ -5,9 +5,11 @@ ghost use Rattle.m161_machine.specs.declared.event.Event.{Event};
 ghost use Rattle.m161_machine.specs.declared.event.Event.TheVariants as events;
 ghost use Rattle.m161_steplog.specs.declared.fault.Fault.TheVariants as faults;
 ghost use Rattle.m161_steplog.specs.Lines.{lines_of, FirstBad, IsReadAs};
-ghost use Rattle.m161_steplog.specs.Parts.{Reads, ReadsBoth, IsWord};
+ghost use Rattle.m161_steplog.specs.Parts.{Reads, IsWord};
+ghost use Rattle.m161_steplog.specs.helpers.Parts.{ReadsBoth};
 ghost use Rattle.m161_steplog.specs.Text.{event_text, IsEvent};
-ghost use Rattle.m161_steplog.specs.Schedule.{item_events, AddsEvents, IsCount, ReadsLine, IsSchedule, AreScheduleLines};
+ghost use Rattle.m161_steplog.specs.Schedule.{IsCount, IsSchedule, AreScheduleLines};
+ghost use Rattle.m161_steplog.specs.helpers.Schedule.{item_events, AddsEvents, ReadsLine};
 
 use crate::cut::{cut_at_space, next_line};
 use crate::digits::{parse_byte, parse_decimal};

@@ -1,7 +1,8 @@
 //! The replay of a log on a machine.
 
 ghost use Rattle.m161_machine.specs.History.{boot_fault};
-ghost use Rattle.m161_steplog.specs.Verdict.{Verifies, Repeats};
+ghost use Rattle.m161_steplog.specs.Verdict.{Verifies};
+ghost use Rattle.m161_steplog.specs.helpers.Verdict.{Repeats};
 
 use m161_bus::Console;
 use m161_machine::{BootError, Conf, Entry, Machine, Refusal};

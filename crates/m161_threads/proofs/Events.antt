@@ -13,7 +13,8 @@ use Rattle.m161_machine.specs.declared.event.Refusal.TheVariants.{BadProcessor, 
 use Rattle.m161_machine.specs.declared.conf.Conf.{Conf}
 use Rattle.m161_machine.specs.Conf.{is_within_limits}
 use Rattle.m161_elf.specs.Image.{first_answer}
-use Rattle.m161_machine.specs.State.{State, CountUpTo, answer, counts, counts_after, is_full, next, refusal, unless}
+use Rattle.m161_machine.specs.State.{State, CountUpTo, answer, counts, is_full, next, refusal, unless}
+use Rattle.m161_machine.specs.helpers.State.{counts_after}
 use Rattle.m161_machine.specs.History.{History, Answers, Refuses}
 use Rattle.m161_machine.proofs.Counting.{counts_law}
 use Rattle.m161_threads.specs.Shares.{IsKept}

@@ -6,7 +6,7 @@ use Rattle.std.proofs.lemmas.List.{set_past}
 use Rattle.std.proofs.lemmas.List.Sums.{count_by-le-length, sum_by-cons, sum_by-set}
 use Rattle.m161_machine.specs.declared.event.Event.{Event}
 use Rattle.m161_machine.specs.declared.event.Event.TheVariants.{Step, Key, Done}
-use Rattle.m161_machine.specs.State.{counts_after}
+use Rattle.m161_machine.specs.helpers.State.{counts_after}
 use Rattle.m161_machine.proofs.Counted.{counts_through, same_length}
 use Rattle.m161_threads.specs.Runs.{is_step_below}
 

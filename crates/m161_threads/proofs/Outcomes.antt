@@ -7,9 +7,10 @@ use Rattle.m161_machine.specs.declared.event.Entry.{Entry}
 use Rattle.m161_machine.specs.State.{counts}
 use Rattle.m161_machine.specs.History.{History, Continues, IsReplay, events_of, steps_of}
 use Rattle.m161_machine.proofs.Resuming.{resumes}
-use Rattle.m161_threads.specs.Runs.{Interleaves, IsChecked, is_step_below}
+use Rattle.m161_threads.specs.Runs.{Interleaves, is_step_below}
+use Rattle.m161_threads.specs.helpers.Runs.{IsChecked}
 use Rattle.m161_threads.specs.Shares.{SeatState, new_seat, seats_from}
-use Rattle.m161_threads.specs.Work.{HasWorked}
+use Rattle.m161_threads.specs.helpers.Work.{HasWorked}
 use Rattle.m161_machine.proofs.Counted.{count_through, counts_run, counts_through, length_through}
 use Rattle.m161_threads.proofs.Interleaving.{all_pass, sum_through}
 

@@ -4,7 +4,8 @@ use Rattle.std.proofs.lemmas.Bool.Decides.{nat_tests}
 use Rattle.std.proofs.lemmas.List.{length-take-le, take_more}
 use Rattle.std.proofs.lemmas.List.Elements.{All-push}
 use Rattle.m161_machine.specs.State.{State}
-use Rattle.m161_threads.specs.Shares.{IsLeastMiscount, HasCount, Miscounts, SeatState, least_of, new_seat, seats_from}
+use Rattle.m161_threads.specs.Shares.{IsLeastMiscount, HasCount, SeatState, new_seat, seats_from}
+use Rattle.m161_threads.specs.helpers.Shares.{Miscounts, least_of}
 
 -- The seats of a lock.
 

@@ -1,4 +1,4 @@
 pub mod Shares
 pub mod Cause
-pub mod Work
 pub mod Runs
+pub mod helpers

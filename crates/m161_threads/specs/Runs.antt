@@ -1,13 +1,11 @@
-use Rattle.std.specs.Prelude.{◌≡◌, ◌≢◌, ℕ, ◌+◌, ◌<◌, ◌≤◌, Bool, true, false, nat_lt, ◌==◌, if◌then◌else◌, List, length, slice_index_or, sum, take, All, Option, None, Some}
+use Rattle.std.specs.Prelude.{◌≡◌, ◌≢◌, ℕ, ◌+◌, ◌<◌, ◌≤◌, Bool, true, false, nat_lt, ◌==◌, if◌then◌else◌, List, length, slice_index_or, sum, Option, None, Some}
 use Rattle.std.specs.List.{list_all}
-use Rattle.m161_machine.specs.declared.event.Entry.{Entry}
 use Rattle.m161_machine.specs.declared.event.Event.{Event}
 use Rattle.m161_machine.specs.declared.event.Event.TheVariants as event
 use Rattle.m161_machine.specs.State.{counts}
-use Rattle.m161_machine.specs.History.{History, Start, Continues, IsReplay, steps_of}
+use Rattle.m161_machine.specs.History.{History, Continues, IsReplay, steps_of}
 use Rattle.m161_threads.specs.declared.cause.Cause.{Cause}
 use Rattle.m161_threads.specs.declared.cause.Cause.TheVariants.{BadQuotas, NotYet}
-use Rattle.m161_threads.specs.Shares.{HasCount, NotedOnlyOff, SeatState}
 
 -- The result of a run in threads: one interleaving of Steps.
 
@@ -53,16 +51,3 @@ IsOfRun cause = (cause ≢ BadQuotas) × (cause ≢ NotYet)
 abbrev pub FailsRun : Option Cause → History → Cause → History → Type 0
 FailsRun (Some first) before cause after = (cause ≡ first) × (after ≡ before)
 FailsRun None before cause after = IsOfRun cause × IsReplay after
-
--- the comparison after a run with the copy made before it; contracts of private functions share
--- this definition
-pub record IsChecked
-    (start : Start) (log : List Entry) (seats : List SeatState) (made : List ℕ) (off : Bool)
-    (after : History) : Type 0 where
-  pub replay : IsReplay after
-  pub start_is : after.start ≡ start
-  pub number : length after.log ≡ length log + sum made
-  pub log_is : take (length log) after.log ≡ log
-  pub seats_are : All (HasCount after.state) seats
-  pub noted : NotedOnlyOff after.state seats
-  pub off_is : off ≡ after.state.board.off

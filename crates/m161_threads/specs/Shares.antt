@@ -1,4 +1,4 @@
-use Rattle.std.specs.Prelude.{◌≡◌, ℕ, ◌+◌, ◌<◌, ◌≤◌, Bool, true, false, List, [], ◌∷◌, length, slice_get, slice_index_or, sum, All, Option, None, Some, nat_le, if◌then◌else◌}
+use Rattle.std.specs.Prelude.{◌≡◌, ℕ, ◌+◌, ◌<◌, ◌≤◌, Bool, true, false, List, [], ◌∷◌, length, slice_get, slice_index_or, sum, All, Some, if◌then◌else◌}
 use Rattle.m161_machine.specs.State.{State, counts}
 use Rattle.m161_machine.specs.History.{History}
 
@@ -48,13 +48,3 @@ pub record IsLeastMiscount (s : State) (seats : List SeatState) (p : ℕ) : Type
   pub its : seat.processor ≡ p
   pub wrong : HasCount s seat → ⊥
   pub least : All (λ (other : SeatState). (HasCount s other → ⊥) → p ≤ other.processor) seats
-
--- each seat has its processor's count; or else the least processor whose seat differs
-abbrev pub Miscounts : State → List SeatState → Option ℕ → Type 0
-Miscounts s seats None = All (HasCount s) seats
-Miscounts s seats (Some p) = IsLeastMiscount s seats p
-
--- the lesser of two numbers, if there is a first
-abbrev pub least_of : Option ℕ → ℕ → ℕ
-least_of None number = number
-least_of (Some least) number = if nat_le least number then least else number

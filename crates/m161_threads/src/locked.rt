@@ -3,7 +3,8 @@
 ghost use Rattle.std.specs.Prelude.{◌≡◌, ◌+◌, All, IfErr, IfOk, MatchResult, length, sum, sum_by, vec_len, true, false};
 ghost use Rattle.m161_machine.specs.History.{IsReplay};
 ghost use Rattle.m161_machine.specs.State.{counts};
-ghost use Rattle.m161_threads.specs.Shares.{IsLeastMiscount, HasCount, Miscounts, NotedOnlyOff, SeatState, least_of, seats_from};
+ghost use Rattle.m161_threads.specs.Shares.{IsLeastMiscount, HasCount, NotedOnlyOff, SeatState, seats_from};
+ghost use Rattle.m161_threads.specs.helpers.Shares.{Miscounts, least_of};
 
 use crate::book::{Book, Seat};
 use m161_bus::Console;

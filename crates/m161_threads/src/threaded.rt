@@ -3,9 +3,10 @@
 ghost use Rattle.std.specs.Prelude.{◌≡◌, ◌+◌, ◌<◌, ◌≤◌, ℕ, All, IfErr, IfOk, MatchResult, None, length, map, slice_index_or, sum, take, true, vec_len};
 ghost use Rattle.m161_machine.specs.History.{IsReplay};
 ghost use Rattle.m161_machine.specs.State.{counts};
-ghost use Rattle.m161_threads.specs.Runs.{FailsRun, Interleaves, IsChecked, IsOfRun, bad_call};
+ghost use Rattle.m161_threads.specs.Runs.{FailsRun, Interleaves, IsOfRun, bad_call};
+ghost use Rattle.m161_threads.specs.helpers.Runs.{IsChecked};
 ghost use Rattle.m161_threads.specs.Shares.{SeatState, seats_from};
-ghost use Rattle.m161_threads.specs.Work.{HasWorked};
+ghost use Rattle.m161_threads.specs.helpers.Work.{HasWorked};
 
 use crate::before::Before;
 use crate::book::Seat;

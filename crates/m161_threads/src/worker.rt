@@ -3,7 +3,7 @@
 ghost use Rattle.std.specs.Prelude.{◌≡◌, ◌+◌, ◌<◌, ℕ, length, vec_len, slice_index, slice_index_or, IfErr, IfOk};
 ghost use Rattle.m161_threads.specs.Runs.{IsOfRun};
 ghost use Rattle.m161_threads.specs.Shares.{SeatState};
-ghost use Rattle.m161_threads.specs.Work.{KeepsTask, Works, after_turn, task_of};
+ghost use Rattle.m161_threads.specs.helpers.Work.{KeepsTask, Works, after_turn, task_of};
 
 use crate::book::{Book, Seat};
 use crate::cause::Cause;
@@ -36,7 +36,7 @@ pub(crate) struct Task {
 }
 
 impl<L: Ledger, M: Ledger> Promise<Worked<L, M>> for Task {
-    ghost use Rattle.m161_threads.specs.Work.{KeepsTask};
+    ghost use Rattle.m161_threads.specs.helpers.Work.{KeepsTask};
 
     ghost kept_by = { λ t worked. KeepsTask t worked.seat worked.made worked.stop };
 }

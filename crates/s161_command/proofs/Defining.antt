@@ -2,7 +2,7 @@ use Rattle.std.proofs.Common.{◌≡◌, ◌∙◌, ◌||◌, false, ap}
 use Rattle.clap.specs.Words.{AddsArg}
 use Rattle.clap.specs.declared.builder.arg.Arg.{Arg}
 use Rattle.clap.specs.declared.builder.command.Command.{Command}
-use Rattle.s161_command.specs.Commands.{IsLocal}
+use Rattle.s161_command.specs.helpers.Commands.{IsLocal}
 
 -- Definitions of commands.
 

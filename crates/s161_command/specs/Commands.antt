@@ -2,12 +2,8 @@ use Rattle.std.specs.Prelude.{◌≡◌, ◌⊎◌, ℕ, ◌<◌, ◌^◌, Bool,
 use Rattle.std.specs.Str.Parse.{IsNumeral, digits_value, without_leading_plus}
 use Rattle.clap.specs.Words.{App, Row, Rule, Text, fault_of, first_of, new_app, new_rule, one_of, with_rule, with_subcommand}
 use Rattle.clap.specs.Simple.{new_shape, on_top}
-use Rattle.clap.specs.declared.builder.command.Command.{Command}
-use Rattle.clap.specs.declared.builder.command.Command.TheViews.{out-Command}
 use Rattle.clap.specs.declared.builder.action.ArgAction.TheVariants.{SetTrue}
 use Rattle.clap.specs.declared.builder.value_parser.ValueParser.TheVariants.{Signed}
-use Rattle.clap.specs.declared.error.kind.ErrorKind.{ErrorKind}
-use Rattle.clap.specs.declared.error.kind.ErrorKind.TheVariants.{DisplayHelp, DisplayVersion}
 use Rattle.s161_command.specs.declared.command.FilesTask.{FilesTask}
 use Rattle.s161_command.specs.declared.command.RunTask.{RunTask}
 use Rattle.s161_command.specs.declared.command.Size.{Size}
@@ -95,10 +91,6 @@ command_line =
 unfoldable pub IsAccepted : List Text → Type 0
 IsAccepted words = fault_of command_line words ≡ []
 
--- a call for help or for the version, which clap answers by an error of its own kind
-abbrev pub IsHelp : ErrorKind → Type 0
-IsHelp kind = (kind ≡ DisplayHelp) ⊎ (kind ≡ DisplayVersion)
-
 -- a number of 32 bits in decimal digits, optionally after a plus
 abbrev pub IsNumber : Text → Type 0
 IsNumber text =
@@ -172,7 +164,3 @@ IsTask command Assemble = IsSomeAnd command (λ given. given.0 ≡ codes "as")
 IsTask command (Disassemble image) =
     IsSomeAnd command
     (λ given. (given.0 ≡ codes "dis") × (image.now ≡ given_of (codes "image") given.1))
-
--- no argument of the command is also one of its subcommands
-abbrev pub IsLocal : Command → Type 0
-IsLocal command = (out-Command command).has_globals ≡ false

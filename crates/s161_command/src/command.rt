@@ -3,7 +3,8 @@
 ghost use Rattle.std.specs.Prelude.{◌≡◌, ◌≢◌, [], IfErr, IfOk, codes, false, map, unwrap_or};
 ghost use Rattle.clap.specs.Words.{HasKind, app_of, fault_of, first_of, found_of, kind_of, one_of, rows_of, rule_of, subcommand_of, subcommand_rows_of, with_subcommand};
 ghost use Rattle.clap.specs.declared.error.kind.ErrorKind.TheVariants.{OutOfMemory};
-ghost use Rattle.s161_command.specs.Commands.{AsksFiles, AsksRun, IsAccepted, IsFlag, IsLocal, IsNumberOf, IsRunTask, IsSize, IsTask, as_line, command_line, debug_line, dis_line, file_rule, number_rule, program_line, replay_line, run_line, show_log_rule, with_size_rules, threads_rule};
+ghost use Rattle.s161_command.specs.Commands.{AsksFiles, AsksRun, IsAccepted, IsFlag, IsNumberOf, IsRunTask, IsSize, IsTask, as_line, command_line, debug_line, dis_line, file_rule, number_rule, program_line, replay_line, run_line, show_log_rule, with_size_rules, threads_rule};
+ghost use Rattle.s161_command.specs.helpers.Commands.{IsLocal};
 
 use clap::{Arg, ArgAction, ArgMatches, Command, Error, value_parser};
 use std::alloc::{AllocError, Global};

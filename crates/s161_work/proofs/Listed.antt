@@ -16,7 +16,8 @@ use Rattle.m161_elf.specs.Image.{IsImage, Loads, first_fault, is_in_ram}
 use Rattle.m161_elf.specs.helpers.Sound.{IsSoundSegment}
 use Rattle.m161_elf.specs.Span.{Lists, has_bytes, span_of, spans}
 use Rattle.m161_elf.proofs.Sound.{is_sound}
-use Rattle.s161_work.specs.Listings.{AreInRam, IsListing, IsUnlisted, dis_ram, dis_text, fault_of_load}
+use Rattle.s161_work.specs.Listings.{IsListing, IsUnlisted, dis_ram, dis_text, fault_of_load}
+use Rattle.s161_work.specs.helpers.Listings.{AreInRam}
 
 -- The listing of a file.
 

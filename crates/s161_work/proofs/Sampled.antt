@@ -5,7 +5,8 @@ use Rattle.m161_asm.specs.Answer.{Tells, program_seen}
 use Rattle.m161_asm.specs.Lines.{Fault}
 use Rattle.m161_asm.specs.Text.{Program, Segment}
 use Rattle.m161_elf_writer.specs.Written.{elf_bytes}
-use Rattle.s161_work.specs.Samples.{IsSample, sample_entry, sample_file, sample_segments}
+use Rattle.s161_work.specs.Samples.{sample_entry, sample_file, sample_segments}
+use Rattle.s161_work.specs.helpers.Samples.{IsSample}
 
 -- The sample, assembled.
 

@@ -5,8 +5,8 @@ use Rattle.m161_asm.specs.declared.error.ErrorKind.TheVariants.{NoMemory}
 use Rattle.m161_asm.specs.Text.{Program, text}
 use Rattle.m161_elf_writer.specs.Written.{elf_bytes}
 use Rattle.s161_work.specs.declared.fault.Fault.{Fault}
-use Rattle.s161_work.specs.declared.fault.Fault.TheVariants.{Input, Memory, Source}
-use Rattle.s161_work.specs.Known.{IsText, OfText}
+use Rattle.s161_work.specs.declared.fault.Fault.TheVariants.{Memory, Source}
+use Rattle.s161_work.specs.Known.{IsText}
 
 -- The file of an assembly text.
 
@@ -36,11 +36,3 @@ abbrev pub IsUnassembled : List ℕ → Fault → Type 0
 IsUnassembled source (Source e) = text source ≡ Err (e.line, (e.kind, e.column))
 IsUnassembled source Memory = Unit {0}
 IsUnassembled source _ = ⊥
-
--- an assembly is ended by this fault: of standard input, or of its text; or memory was refused
-abbrev pub IsAssemblyFault : Option (List ℕ) → Fault → Type 0
-IsAssemblyFault input Input = Unit {0}
-IsAssemblyFault input (Source e) =
-    OfText input (λ source. text source ≡ Err (e.line, (e.kind, e.column)))
-IsAssemblyFault input Memory = Unit {0}
-IsAssemblyFault input _ = ⊥

@@ -10,3 +10,4 @@ pub mod Samples
 pub mod Sizes
 pub mod Works
 pub mod Threads
+pub mod helpers

@@ -1,16 +1,13 @@
-use Rattle.std.specs.Prelude.{◌≡◌, ℕ, ◌+◌, ◌-◌, ◌*◌, ◌/◌, true, List, flat_map, Option, None, Some, IfSome}
-use Rattle.std.specs.List.{AllByRecursion}
+use Rattle.std.specs.Prelude.{◌≡◌, ℕ, ◌+◌, ◌-◌, ◌*◌, ◌/◌, List, flat_map, Option, None, Some, IfSome}
 use Rattle.m161_elf.specs.declared.span.Span.{Span}
 use Rattle.m161_elf.specs.declared.image.LoadError.{LoadError}
 use Rattle.m161_elf.specs.declared.image.LoadError.TheVariants as fault
 use Rattle.m161_elf.specs.Header.{e_entry}
-use Rattle.m161_elf.specs.Image.{IsImage, first_fault, is_in_ram}
+use Rattle.m161_elf.specs.Image.{IsImage, first_fault}
 use Rattle.m161_elf.specs.Span.{spans}
 use Rattle.m161_debug.specs.Shows.{code_line, numbered_lines, text_of}
 use Rattle.s161_work.specs.declared.fault.Fault.{Fault}
-use Rattle.s161_work.specs.declared.fault.Fault.TheVariants.{File, Image, Memory}
-use Rattle.s161_work.specs.Known.{OfKnown}
-use Rattle.s161_work.specs.Samples.{IsFileName}
+use Rattle.s161_work.specs.declared.fault.Fault.TheVariants.{Image, Memory}
 
 -- The listing of a file: the instructions that its segments leave in memory.
 
@@ -30,10 +27,6 @@ span_text memory span =
 
 abbrev pub dis_text : List ℕ → List Span → List ℕ
 dis_text memory = flat_map (span_text memory)
-
--- all the bytes of spans are in RAM, by kseg0 or by kseg1
-abbrev pub AreInRam : ℕ → List Span → Type 0
-AreInRam ram = AllByRecursion (λ span. is_in_ram ram span.address span.size ≡ true)
 
 -- the largest RAM, into which a file is loaded for its listing
 abbrev pub dis_ram : ℕ
@@ -62,11 +55,3 @@ abbrev pub IsUnlisted : List ℕ → Fault → Type 0
 IsUnlisted file (Image e) = first_fault file dis_ram ≡ Some e
 IsUnlisted file Memory = first_fault file dis_ram ≡ None
 IsUnlisted file _ = ⊥
-
--- a listing is ended by this fault: of the image's file, or of the image; or memory was refused
-abbrev pub IsListingFault : List ℕ → Option (List ℕ) → Fault → Type 0
-IsListingFault name image (File failed) = (failed.now ≡ name) × IsFileName name
-IsListingFault name image (Image e) =
-    OfKnown image (λ file. first_fault file dis_ram ≡ Some e)
-IsListingFault name image Memory = Unit {0}
-IsListingFault name image _ = ⊥

@@ -1,8 +1,4 @@
-use Rattle.std.specs.Prelude.{◌≡◌, ℕ, if◌then◌else◌, bytes_eq, codes, false, List, [], ◌∷◌, Option, Some, Result, Ok, Err}
-use Rattle.m161_asm.specs.declared.error.AsmError.{AsmError}
-use Rattle.m161_asm.specs.declared.error.ErrorKind.TheVariants.{NoMemory}
-use Rattle.m161_asm.specs.declared.program.Program.{Program}
-use Rattle.m161_asm.specs.Segments.{segments_seen}
+use Rattle.std.specs.Prelude.{◌≡◌, ℕ, if◌then◌else◌, bytes_eq, codes, false, List, [], ◌∷◌, Option, Some}
 use Rattle.m161_asm.specs.Text.{Segment}
 use Rattle.m161_elf_writer.specs.Written.{elf_bytes}
 
@@ -47,11 +43,6 @@ abbrev pub sample_segments : List Segment
 sample_segments =
     (0x80000000, miss_words) ∷ (0x80000080, trap_words) ∷ (0x80000200, first_words)
     ∷ (0x80000280, second_words) ∷ (0x80006000, frame_words) ∷ []
-
--- the sample is assembled, or memory was refused
-abbrev pub IsSample : Result Program AsmError → Type 0
-IsSample (Ok p) = (p.entry ≡ sample_entry) × (segments_seen p.segments.items ≡ sample_segments)
-IsSample (Err e) = e.kind ≡ NoMemory
 
 unfoldable pub sample_file : List ℕ
 sample_file = elf_bytes sample_entry sample_segments

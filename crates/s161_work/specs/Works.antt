@@ -3,17 +3,15 @@ use Rattle.std.specs.Io.KnownBytes.{Appends}
 use Rattle.clap.specs.Words.{Text, subcommand_of}
 use Rattle.s161_command.specs.declared.command.Task.{Task}
 use Rattle.s161_command.specs.declared.command.Task.TheVariants.{Assemble, Debug, Demo, Disassemble, Replay, Run, RunInThreads}
-use Rattle.s161_work.specs.declared.fault.Fault.{Fault}
-use Rattle.s161_work.specs.declared.fault.Fault.TheVariants.{Memory, Output}
-use Rattle.s161_work.specs.Assemblies.{IsAssembled, IsAssemblyFault}
+use Rattle.s161_work.specs.Assemblies.{IsAssembled}
 use Rattle.s161_command.specs.Commands.{IsTask, command_line}
-use Rattle.s161_work.specs.Debugs.{IsDebug, IsDebugFault}
+use Rattle.s161_work.specs.Debugs.{IsDebug}
 use Rattle.s161_work.specs.Demos.{IsDemo}
-use Rattle.s161_work.specs.Listings.{IsDisassembled, IsListingFault}
-use Rattle.s161_work.specs.Replays.{IsReplayed, IsReplayFault}
-use Rattle.s161_work.specs.Runs.{IsFaultOf, IsRun}
+use Rattle.s161_work.specs.Listings.{IsDisassembled}
+use Rattle.s161_work.specs.Replays.{IsReplayed}
+use Rattle.s161_work.specs.Runs.{IsRun}
 use Rattle.s161_work.specs.Samples.{image_file}
-use Rattle.s161_work.specs.Threads.{IsRunInThreads, IsThreadsFault}
+use Rattle.s161_work.specs.Threads.{IsRunInThreads}
 
 -- The effect of a command line.
 
@@ -48,32 +46,6 @@ abbrev pub Finishes :
     Type 0
 Finishes task files input before after status =
     Prints (IsResultOf task files input) before after status
-
--- a task's work is ended by this fault, before anything is printed
-abbrev pub IsTaskFault : Task → (Text → Option (List ℕ)) → Option (List ℕ) → Fault → Type 0
-IsTaskFault Demo files input fault = fault ≡ Memory
-IsTaskFault (Run task) files input fault =
-    IsFaultOf task (image_file files task.image.now) input fault
-IsTaskFault (RunInThreads task quota) files input fault =
-    IsThreadsFault task (image_file files task.image.now) fault
-IsTaskFault (Replay task) files input fault =
-    IsReplayFault task (image_file files task.image.now) (files task.text.now) fault
-IsTaskFault (Debug task) files input fault =
-    IsDebugFault task (image_file files task.image.now) (files task.text.now) fault
-IsTaskFault Assemble files input fault = IsAssemblyFault input fault
-IsTaskFault (Disassemble image) files input fault =
-    IsListingFault image.now (image_file files image.now) fault
-
--- there is such a text and exit status
-abbrev pub Exists : (List ℕ → ℕ → Type 0) → Type 0
-Exists IsResult = (text : List ℕ) × (status : ℕ) × IsResult text status
-
--- there was such a text, and the output failed; or there was this fault before, and the output is
--- unchanged
-abbrev pub Fails :
-    (List ℕ → ℕ → Type 0) → (Fault → Type 0) → Option (List ℕ) → Option (List ℕ) → Fault → Type 0
-Fails IsResult IsFault before after fault =
-    ((fault ≡ Output) × Exists IsResult) ⊎ (IsFault fault × (after ≡ before))
 
 -- a command line's task was finished, over files and a standard input with these bytes, and a
 -- standard output that had the first bytes and has the second

@@ -1,7 +1,8 @@
 //! The built-in sample kernel.
 
 ghost use Rattle.std.specs.Prelude.{◌≡◌, ◌⊎◌, ℕ, List, IfErr, IfOk, IfSome};
-ghost use Rattle.s161_work.specs.Samples.{image_file, sample_file, IsFileName, IsSample};
+ghost use Rattle.s161_work.specs.Samples.{image_file, sample_file, IsFileName};
+ghost use Rattle.s161_work.specs.helpers.Samples.{IsSample};
 
 use crate::fault::Fault;
 use crate::files::FileSource;

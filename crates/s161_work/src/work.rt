@@ -3,16 +3,20 @@
 ghost use Rattle.std.specs.Prelude.{◌≡◌, ◌≢◌, ◌⊎◌, ◌≤◌, true, false, IfErr, IfOk, OnOk, map, string_bytes};
 ghost use Rattle.std.specs.Io.KnownBytes.{Appends};
 ghost use Rattle.clap.specs.Words.{kind_of};
-ghost use Rattle.s161_work.specs.Assemblies.{IsAssembled, IsAssemblyFault};
-ghost use Rattle.s161_command.specs.Commands.{IsAccepted, IsHelp};
+ghost use Rattle.s161_work.specs.Assemblies.{IsAssembled};
+ghost use Rattle.s161_work.specs.helpers.Assemblies.{IsAssemblyFault};
+ghost use Rattle.s161_command.specs.Commands.{IsAccepted};
+ghost use Rattle.s161_command.specs.helpers.Commands.{IsHelp};
 ghost use Rattle.s161_work.specs.Debugs.{IsDebug, IsDebugFault};
 ghost use Rattle.s161_work.specs.Demos.{IsDemo};
-ghost use Rattle.s161_work.specs.Listings.{IsDisassembled, IsListingFault};
+ghost use Rattle.s161_work.specs.Listings.{IsDisassembled};
+ghost use Rattle.s161_work.specs.helpers.Listings.{IsListingFault};
 ghost use Rattle.s161_work.specs.Replays.{IsReplayed, IsReplayFault};
 ghost use Rattle.s161_work.specs.Runs.{IsFaultOf, IsRun};
 ghost use Rattle.s161_work.specs.Samples.{image_file};
 ghost use Rattle.s161_work.specs.Threads.{IsRunInThreads, IsThreadsFault};
-ghost use Rattle.s161_work.specs.Works.{Does, Fails, Finishes, IsDone, IsTaskFault, IsResultOf, Prints, WithZero};
+ghost use Rattle.s161_work.specs.Works.{Does, Finishes, IsDone, IsResultOf, Prints, WithZero};
+ghost use Rattle.s161_work.specs.helpers.Works.{Fails, IsTaskFault};
 
 use crate::assembly::assembly;
 use crate::debug::debug;

@@ -1,6 +1,6 @@
 use Rattle.std.proofs.Common.{◌∙◌, ap}
 use Rattle.m161_cpu.specs.declared.processor.Outcome.TheVariants.{Trapped}
-use Rattle.m161_machine.specs.Kept.{or_interrupt, vector_with}
+use Rattle.m161_machine.specs.helpers.Kept.{or_interrupt, vector_with}
 use Rattle.m161_machine.proofs.Places.{trap_place}
 use Rattle.m161_machine.proofs.kept.place_of_trap.Goals as goal
 

@@ -1,6 +1,7 @@
 use Rattle.std.proofs.Common.{arith}
 use Rattle.m161_steplog.specs.Parts.{hex_text, Lacks, IsWord}
-use Rattle.m161_steplog.specs.Text.{code_text, IsCode}
+use Rattle.m161_steplog.specs.Text.{code_text}
+use Rattle.m161_steplog.specs.helpers.Text.{IsCode}
 use Rattle.m161_cop0.specs.declared.exception.Exception.{Exception}
 use Rattle.m161_cop0.specs.Registers.{number_of_exception}
 use Rattle.m161_steplog.proofs.Decimal.{decimal_lacks_space}

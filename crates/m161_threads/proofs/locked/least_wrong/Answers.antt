@@ -1,6 +1,7 @@
 use Rattle.std.proofs.Common.{◌≡◌, ◌∙◌, ap, sym, subst, ◌+◌, ◌++◌, ◌∷◌, [], take, Some, length, ◌<◌, arith}
 use Rattle.std.proofs.lemmas.List.{take_more}
-use Rattle.m161_threads.specs.Shares.{Miscounts, SeatState, least_of}
+use Rattle.m161_threads.specs.Shares.{SeatState}
+use Rattle.m161_threads.specs.helpers.Shares.{Miscounts, least_of}
 use Rattle.m161_threads.proofs.Seating.{matched_more, wrong_more}
 use Rattle.m161_threads.proofs.locked.least_wrong.Goals.{then-not-matches, else-not-matches}
 use Rattle.m161_threads.proofs.locked.least_wrong.Goals as goal

@@ -1,5 +1,5 @@
 use Rattle.std.proofs.Common.{take}
-use Rattle.m161_threads.specs.Shares.{Miscounts}
+use Rattle.m161_threads.specs.helpers.Shares.{Miscounts}
 use Rattle.m161_threads.proofs.locked.least_wrong.Given as goal
 
 abbrev pub invariant-loop-i : goal.invariant-loop-i

@@ -4,9 +4,10 @@ use Rattle.m161_cpu.specs.Processor.{Processor}
 use Rattle.m161_machine.specs.declared.event.Entry.{Entry}
 use Rattle.m161_machine.specs.State.{counts}
 use Rattle.m161_machine.specs.History.{IsReplay, Start}
-use Rattle.m161_threads.specs.Runs.{IsChecked, Interleaves}
+use Rattle.m161_threads.specs.Runs.{Interleaves}
+use Rattle.m161_threads.specs.helpers.Runs.{IsChecked}
 use Rattle.m161_threads.specs.Shares.{SeatState}
-use Rattle.m161_threads.specs.Work.{HasWorked}
+use Rattle.m161_threads.specs.helpers.Work.{HasWorked}
 use Rattle.m161_threads.proofs.Outcomes.{interleaves, length_places}
 use Rattle.m161_threads.proofs.threaded.run_counted.Goals as goal
 

@@ -2,7 +2,7 @@ use Rattle.std.proofs.Common.{◌≡◌, ◌∙◌, ap, sym, subst, ℕ, ◌<◌
 use Rattle.std.proofs.lemmas.List.{get_or-map, length-map}
 use Rattle.m161_threads.specs.declared.worker.Stop.{Stop}
 use Rattle.m161_threads.specs.Shares.{SeatState}
-use Rattle.m161_threads.specs.Work.{Works}
+use Rattle.m161_threads.specs.helpers.Work.{Works}
 use Rattle.m161_threads.proofs.Working.{with_some}
 use Rattle.m161_threads.proofs.threaded.run_seats.Goals as goal
 

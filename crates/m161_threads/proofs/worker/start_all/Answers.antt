@@ -1,7 +1,7 @@
 use Rattle.std.proofs.Common.{rules, ◌≡◌, ◌∙◌, ap, sym, ◌+◌, ◌<◌, false, length, get_or, drop, arith}
 use Rattle.std.proofs.lemmas.List.{drop_more, get_or-drop, get_or_default}
 use Rattle.m161_threads.specs.Shares.{SeatState}
-use Rattle.m161_threads.specs.Work.{task_of}
+use Rattle.m161_threads.specs.helpers.Work.{task_of}
 use Rattle.m161_threads.proofs.Working.{each_more}
 use Rattle.m161_threads.proofs.worker.start_all.Goals as goal
 

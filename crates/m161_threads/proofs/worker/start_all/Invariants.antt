@@ -1,7 +1,7 @@
 use Rattle.std.proofs.Common.{◌≡◌, ◌<◌, ◌≤◌, ℕ, length, drop, get_or}
 use Rattle.std.specs.Prelude.{vec_len, vec_capacity}
 use Rattle.m161_threads.specs.Shares.{SeatState}
-use Rattle.m161_threads.specs.Work.{task_of}
+use Rattle.m161_threads.specs.helpers.Work.{task_of}
 use Rattle.m161_threads.proofs.worker.start_all.Given as goal
 
 abbrev pub invariant-loop-i : goal.invariant-loop-i

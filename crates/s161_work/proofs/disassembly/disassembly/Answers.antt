@@ -2,7 +2,8 @@ use Rattle.std.proofs.Common.{List, ℕ, Err, ap, length, refl, subst, sym}
 use Rattle.std.proofs.lemmas.Result.{err_from_is_err_and}
 use Rattle.m161_elf.specs.Image.{first_fault}
 use Rattle.m161_elf.specs.declared.span.Span.{Span}
-use Rattle.s161_work.specs.Listings.{AreInRam, dis_ram}
+use Rattle.s161_work.specs.Listings.{dis_ram}
+use Rattle.s161_work.specs.helpers.Listings.{AreInRam}
 use Rattle.s161_work.proofs.Listed.{found_in_ram, is_listing, unlisted, unloaded}
 use Rattle.s161_work.proofs.disassembly.disassembly.Goals as goal
 

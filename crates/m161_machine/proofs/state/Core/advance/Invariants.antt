@@ -1,6 +1,6 @@
 use Rattle.std.proofs.Common.{◌≡◌, ◌+◌, ◌-◌, ◌≤◌, false, length, take}
 use Rattle.m161_machine.specs.State.{KeepsSizes}
-use Rattle.m161_machine.specs.Sound.{Advances}
+use Rattle.m161_machine.specs.helpers.Sound.{Advances}
 use Rattle.m161_machine.proofs.state.Core.advance.Given as goal
 
 -- the entries so far are those of the Steps so far

@@ -2,7 +2,8 @@ use Rattle.std.proofs.Common.{◌≡◌, ◌∙◌, ap, sym, subst, None}
 use Rattle.std.specs.Prelude.{sum}
 use Rattle.m161_machine.specs.State.{counts}
 use Rattle.m161_machine.specs.History.{History}
-use Rattle.m161_threads.specs.Shares.{Miscounts, NotedOnlyOff, BookState}
+use Rattle.m161_threads.specs.Shares.{NotedOnlyOff, BookState}
+use Rattle.m161_threads.specs.helpers.Shares.{Miscounts}
 use Rattle.m161_threads.proofs.locked.Locked.finish.Goals as goal
 
 pub returns-in-None-clause-ok : goal.returns-in-None-clause-ok

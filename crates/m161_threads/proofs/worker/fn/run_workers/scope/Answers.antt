@@ -2,7 +2,7 @@ use Rattle.std.proofs.Common.{rules, ◌∙◌, subst, ◌<◌, length, get_or, 
 use Rattle.std.specs.Prelude.{vec_len}
 use Rattle.m161_threads.proofs.Working.{with_some}
 use Rattle.m161_threads.specs.declared.worker.Task.{Task}
-use Rattle.m161_threads.specs.Work.{KeepsTask}
+use Rattle.m161_threads.specs.helpers.Work.{KeepsTask}
 use Rattle.m161_threads.proofs.worker.fn.run_workers.scope.Goals as goal
 
 pub returns : goal.returns

@@ -14,8 +14,7 @@ use Rattle.m161_cpu.specs.Fault.{Fault, fault, with_fault_address}
 use Rattle.m161_cpu.specs.Effect.{write}
 use Rattle.m161_cpu.specs.Step.{Stepped, change_of_row, misfit_kind, running_step}
 
--- Definitions that the clauses of the code's helpers share: a Step in two parts, and effects on the
--- code's instructions.
+-- A Step in two parts, and effects on the code's instructions.
 
 -- the same Step in two parts: a processor that rests is idle, and one that doesn't is running
 abbrev pub idle_after : Scene → Stepped

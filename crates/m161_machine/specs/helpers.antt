@@ -1,0 +1,6 @@
+-- Definitions that only contracts of private functions, or proofs, use.
+pub mod Events
+pub mod History
+pub mod Kept
+pub mod Sound
+pub mod State

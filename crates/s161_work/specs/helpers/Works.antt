@@ -1,0 +1,39 @@
+use Rattle.std.specs.Prelude.{◌≡◌, ◌⊎◌, ℕ, List, Option}
+use Rattle.clap.specs.Words.{Text}
+use Rattle.s161_command.specs.declared.command.Task.{Task}
+use Rattle.s161_command.specs.declared.command.Task.TheVariants.{Assemble, Debug, Demo, Disassemble, Replay, Run, RunInThreads}
+use Rattle.s161_work.specs.declared.fault.Fault.{Fault}
+use Rattle.s161_work.specs.declared.fault.Fault.TheVariants.{Memory, Output}
+use Rattle.s161_work.specs.helpers.Assemblies.{IsAssemblyFault}
+use Rattle.s161_work.specs.Debugs.{IsDebugFault}
+use Rattle.s161_work.specs.helpers.Listings.{IsListingFault}
+use Rattle.s161_work.specs.Replays.{IsReplayFault}
+use Rattle.s161_work.specs.Runs.{IsFaultOf}
+use Rattle.s161_work.specs.Samples.{image_file}
+use Rattle.s161_work.specs.Threads.{IsThreadsFault}
+
+-- a task's work is ended by this fault, before anything is printed
+abbrev pub IsTaskFault : Task → (Text → Option (List ℕ)) → Option (List ℕ) → Fault → Type 0
+IsTaskFault Demo files input fault = fault ≡ Memory
+IsTaskFault (Run task) files input fault =
+    IsFaultOf task (image_file files task.image.now) input fault
+IsTaskFault (RunInThreads task quota) files input fault =
+    IsThreadsFault task (image_file files task.image.now) fault
+IsTaskFault (Replay task) files input fault =
+    IsReplayFault task (image_file files task.image.now) (files task.text.now) fault
+IsTaskFault (Debug task) files input fault =
+    IsDebugFault task (image_file files task.image.now) (files task.text.now) fault
+IsTaskFault Assemble files input fault = IsAssemblyFault input fault
+IsTaskFault (Disassemble image) files input fault =
+    IsListingFault image.now (image_file files image.now) fault
+
+-- there is such a text and exit status
+abbrev pub Exists : (List ℕ → ℕ → Type 0) → Type 0
+Exists IsResult = (text : List ℕ) × (status : ℕ) × IsResult text status
+
+-- there was such a text, and the output failed; or there was this fault before, and the output is
+-- unchanged
+abbrev pub Fails :
+    (List ℕ → ℕ → Type 0) → (Fault → Type 0) → Option (List ℕ) → Option (List ℕ) → Fault → Type 0
+Fails IsResult IsFault before after fault =
+    ((fault ≡ Output) × Exists IsResult) ⊎ (IsFault fault × (after ≡ before))
