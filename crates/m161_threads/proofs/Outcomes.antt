@@ -70,7 +70,7 @@ interleaves before after quotas seats made off replays number worked checked =
     let goes_on : Continues before (events_of entries) after =
     resumes before after entries replays checked.replay checked.start_is log_is in
     let through : counts after.state ≡ counts_through (events_of entries) cs =
-    counts_run entries before.state after.state goes_on.run_is in
+    counts_run goes_on.entries before.state after.state goes_on.run_is ∙ ap (λ es. counts_through es cs) goes_on.events_are in
     let counted : (p : ℕ) → p < length quotas → get_or (counts after.state) p 0 ≡ get_or cs p 0 + get_or made p 0 = λ p inside.
     let works = worked.each p d d inside in
     let there : p < length seats = omega (arith, inside, worked.seats_number) in
