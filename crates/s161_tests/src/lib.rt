@@ -1,4 +1,4 @@
-//! The tests of all crates.
+//! Tests of the program's commands, of the assembler and of the debugger. `program`, `run`,
 #![tactic(auto)]
 
 #[cfg(test)]

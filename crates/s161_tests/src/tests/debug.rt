@@ -1,8 +1,6 @@
 //! The debugger: sessions as tables of what is done, with stops and texts that were worked out by
 //! hand from the machine's rules.
 
-use super::elf::file_from;
-use super::listing::{Answer, ENTRY, RAN, TAKEN};
 use super::same;
 use m161_console::PlainConsole;
 use m161_debug::{BreakError, CommandError, Stop};
@@ -10,6 +8,8 @@ use m161_elf::is_in_ram;
 use m161_isa::Reg;
 use m161_machine::Event::{Done, Key, Step};
 use m161_machine::{Conf, Event, Refusal};
+use m161_test_support::files::file_from;
+use m161_test_support::outcomes::{Answer, ENTRY, RAN, TAKEN};
 use m161_tlb_scan::Scan;
 use s161_work::Machine;
 use s161_work::sample::sample_image;

@@ -1,10 +1,10 @@
 //! `replay` and `debug`: an image with a log or a schedule, and what is printed.
 
-use super::elf::file_at;
-use super::listing::ENTRY;
 use super::run::{POWER_OFF, REST, START_OTHER, ZEROS, join, work_over};
 use super::same;
 use super::streams::{Failing, Memory, TwoFiles, all};
+use m161_test_support::files::file_at;
+use m161_test_support::outcomes::ENTRY;
 use s161_work::work::work;
 use std::io::ErrorKind;
 use std::process::Abort;

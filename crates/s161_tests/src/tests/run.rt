@@ -1,13 +1,13 @@
 //! `run`: an image under a schedule or in threads, and what is printed. A case is one of
 //! `power-off`'s image or of a small program; what it leaves is worked out by hand.
 
-use super::elf::file_at;
-use super::listing::{ENTRY, Times};
 use super::same;
-use super::sample::SCHEDULE;
 use super::streams::{Endless, Failing, Left, Memory, NoFiles, OneFile, Slow, all};
 use m161_machine::Entry;
 use m161_steplog::entry_line;
+use m161_test_support::files::file_at;
+use m161_test_support::kernel::SCHEDULE;
+use m161_test_support::outcomes::{ENTRY, Times};
 use s161_work::files::FileSource;
 use s161_work::work::work;
 use std::alloc::Global;

@@ -1,12 +1,12 @@
 //! The listing of a file, and the built-in sample.
 
-use super::elf::file_from;
-use super::listing::ENTRY;
 use super::same;
-use super::sample::KERNEL;
 use super::streams::{NoFiles, OneFile};
 use m161_machine::Conf;
 use m161_steplog::read_schedule;
+use m161_test_support::files::file_from;
+use m161_test_support::kernel::KERNEL;
+use m161_test_support::outcomes::ENTRY;
 use s161_work::Machine;
 use s161_work::demo::IMAGE;
 use s161_work::disassembly::disassembly;

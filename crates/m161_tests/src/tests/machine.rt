@@ -1,15 +1,15 @@
 //! Machines by their public calls.
 
-use super::elf::file_at;
-use super::listing::{ENTRY, Left, RAN, part_of, run_steps};
+use super::listing::{Left, part_of, run_steps};
 use super::same;
 use m161_console::PlainConsole;
 use m161_elf::LoadError;
 use m161_isa::Reg;
 use m161_machine::{BootError, Conf, Entry, Event, Outcome, ProcessorState, Refusal, Register};
+use m161_test_support::files::{IMAGE, file_at};
+use m161_test_support::outcomes::{ENTRY, RAN};
+use m161_test_support::{DEMO_CONF as CONF, Machine};
 use m161_tlb_scan::Scan;
-use s161_work::Machine;
-use s161_work::demo::{CONF, IMAGE};
 use std::alloc::Global;
 use std::process::Abort;
 use std::test::Fail;

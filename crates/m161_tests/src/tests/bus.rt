@@ -1,12 +1,10 @@
 //! The bus, the mainboard and the console.
 
 use super::listing::Left::{Cop, Count, Entries, Output, Pc, Register};
-use super::listing::{
-    Answer, BUS_DATA, BUS_FETCH, ENTRY, INTERRUPT, OFF, RAN, Run, Stage, TAKEN, check_runs,
-    check_with,
-};
+use super::listing::{Run, Stage, check_runs, check_with};
 use m161_machine::Event::{Done, Key, Step};
 use m161_machine::{Refusal, Register as R};
+use m161_test_support::outcomes::{Answer, BUS_DATA, BUS_FETCH, ENTRY, INTERRUPT, OFF, RAN, TAKEN};
 use std::test::Fail;
 
 const IS_OFF: Answer = Err(Refusal::Off);

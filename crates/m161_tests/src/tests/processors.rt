@@ -1,11 +1,10 @@
 //! Several processors, their interrupts, and links.
 
 use super::listing::Left::{Cop, Count, Entries, Memory, Pc, Register, State};
-use super::listing::{
-    ADDRESS_STORE, ENTRY, IDLE, RAN, Run, SYSCALL, Stage, check_runs, check_with,
-};
+use super::listing::{Run, Stage, check_runs, check_with};
 use m161_machine::Event::Step;
 use m161_machine::{ProcessorState, Register as R};
+use m161_test_support::outcomes::{ADDRESS_STORE, ENTRY, IDLE, RAN, SYSCALL};
 use std::test::Fail;
 
 static PROCESSORS: [Run; 13] = [

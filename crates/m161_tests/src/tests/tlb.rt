@@ -1,13 +1,14 @@
 //! Translation: rows, misses, and what user mode may do.
 
 use super::listing::Left::{Cop, Memory, Pc, Register, Slot, TlbRow};
-use super::listing::{
-    ADDRESS_LOAD, ADDRESS_STORE, Answer, BUS_DATA, ENTRY, LOAD_MISS, MODIFIED, RAN, RESERVED, Run,
-    STORE_MISS, SYSCALL, Stage, TLB_LOAD, TLB_STORE, UNUSABLE, check_runs, check_with,
-};
+use super::listing::{Run, Stage, check_runs, check_with};
 use super::same;
 use m161_machine::Event::Step;
 use m161_machine::Register as R;
+use m161_test_support::outcomes::{
+    ADDRESS_LOAD, ADDRESS_STORE, Answer, BUS_DATA, ENTRY, LOAD_MISS, MODIFIED, RAN, RESERVED,
+    STORE_MISS, SYSCALL, TLB_LOAD, TLB_STORE, UNUSABLE,
+};
 use m161_tlb::{Row, Tlb};
 use m161_tlb_scan::Scan;
 use std::test::Fail;

@@ -1,13 +1,13 @@
 //! Traps: their codes, vectors and what they leave in coprocessor 0.
 
 use super::listing::Left::{Cop, Pc, Register, Slot};
-use super::listing::{
-    ADDRESS_LOAD, ADDRESS_STORE, Answer, BREAKPOINT, BUS_DATA, BUS_FETCH, ENTRY, INTERRUPT,
-    LOAD_MISS, OVERFLOW, RAN, RESERVED, Run, STORE_MISS, SYSCALL, Stage, UNUSABLE, check_runs,
-    check_with,
-};
+use super::listing::{Run, Stage, check_runs, check_with};
 use m161_machine::Event::Step;
 use m161_machine::{Exception, Outcome, Register as R};
+use m161_test_support::outcomes::{
+    ADDRESS_LOAD, ADDRESS_STORE, Answer, BREAKPOINT, BUS_DATA, BUS_FETCH, ENTRY, INTERRUPT,
+    LOAD_MISS, OVERFLOW, RAN, RESERVED, STORE_MISS, SYSCALL, UNUSABLE,
+};
 use std::test::Fail;
 
 const BOOT_SYSCALL: Answer = Ok(Outcome::Trapped {

@@ -1,9 +1,10 @@
 //! Coprocessor 0: its registers, the clock, interrupts and `wait`.
 
 use super::listing::Left::{Cop, Count, Pc, Register, State};
-use super::listing::{ENTRY, IDLE, INTERRUPT, RAN, Run, Stage, check_runs, check_with};
+use super::listing::{Run, Stage, check_runs, check_with};
 use m161_machine::Event::Step;
 use m161_machine::{ProcessorState, Register as R};
+use m161_test_support::outcomes::{ENTRY, IDLE, INTERRUPT, RAN};
 use std::test::Fail;
 
 static CLOCK: [Run; 9] = [

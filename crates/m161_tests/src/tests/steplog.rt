@@ -1,7 +1,5 @@
 //! Texts of logs and schedules, and the check of a log.
 
-use super::elf::file_at;
-use super::listing::ENTRY;
 use super::same;
 use m161_console::PlainConsole;
 use m161_machine::{Conf, Entry, Event, Outcome};
@@ -9,6 +7,8 @@ use m161_steplog::{
     Byte, Fault, Verdict, Word, cut_at_space, entry_line, next_line, parse_byte, parse_decimal,
     parse_word, read_log, read_schedule, verify, write_log,
 };
+use m161_test_support::files::file_at;
+use m161_test_support::outcomes::ENTRY;
 use m161_tlb_scan::Scan;
 use std::alloc::Global;
 use std::test::Fail;

@@ -3,17 +3,18 @@
 
 ghost use Rattle.std.specs.Prelude.{◌≡◌, length};
 
-use super::elf::file_at;
 use super::listing::Left::{Count, Entries, Memory, Output};
-use super::listing::{Answer, ENTRY, IDLE, Left, RAN, TAKEN, Times, check_log, compare, make};
+use super::listing::{Left, check_log, compare, make};
 use super::same;
 use m161_console::PlainConsole;
 use m161_machine::Event::{Done, Key, Step};
 use m161_machine::{Conf, Entry, Event, Outcome, Refusal, Start};
+use m161_test_support::Machine;
+use m161_test_support::files::file_at;
+use m161_test_support::kernel::kernel_file;
+use m161_test_support::outcomes::{Answer, ENTRY, IDLE, RAN, TAKEN, Times};
 use m161_threads::{Cause, Gate, Report, RunFault, Seat, run};
 use m161_tlb_scan::Scan;
-use s161_work::Machine;
-use s161_work::sample::sample_image;
 use std::alloc::Global;
 use std::marker::Brand;
 use std::process::Abort;
@@ -255,7 +256,7 @@ static SAMPLE_LEFT: [(u32, Left); 1] = [(0, Memory(0x3010, 7))];
 #[test]
 fn sample_in_threads(rt: HostRuntime) -> Result<(), Fail> {
     let name = "the sample in threads";
-    let file = sample_image(rt.alloc())?;
+    let file = kernel_file(rt.alloc())?;
     let conf = Conf {
         ram: 1_048_576,
         processors: 2,

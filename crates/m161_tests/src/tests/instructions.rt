@@ -3,11 +3,12 @@
 //! hand; what they leave is worked out from Kane's descriptions.
 
 use super::listing::Left::{Hi, Lo, Memory, Pc, Register};
-use super::listing::{
-    ADDRESS_LOAD, ADDRESS_STORE, Answer, BREAKPOINT, BUS_DATA, ENTRY, LOAD_MISS, Left, OVERFLOW,
-    RAN, RESERVED, STORE_MISS, SYSCALL, UNUSABLE, last_step, part_of,
-};
+use super::listing::{Left, last_step, part_of};
 use super::same;
+use m161_test_support::outcomes::{
+    ADDRESS_LOAD, ADDRESS_STORE, Answer, BREAKPOINT, BUS_DATA, ENTRY, LOAD_MISS, OVERFLOW, RAN,
+    RESERVED, STORE_MISS, SYSCALL, UNUSABLE,
+};
 use std::process::Abort;
 use std::test::Fail;
 

@@ -8,9 +8,9 @@
 //! table, and run `rt test` in `crates/s161`: it proves the tests and runs them.
 
 use super::listing::Left::{Hi, Lo, Memory, Pc, Register, Slot};
-use super::listing::{
+use super::listing::{Worked, check};
+use m161_test_support::outcomes::{
     ADDRESS_LOAD, BREAKPOINT, BUS_FETCH, ENTRY, LOAD_MISS, OVERFLOW, RAN, RESERVED, SYSCALL,
-    Worked, check,
 };
 use std::test::Fail;
 

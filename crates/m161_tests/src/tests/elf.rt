@@ -1,7 +1,7 @@
 //! Files, and what they load as in 4,096 bytes of RAM.
 
 use super::listing::Left::{Count, Entries, Memory, Pc, Register};
-use super::listing::{ENTRY as START, Left, OFF, RAN, SMALLEST, Times, compare, make};
+use super::listing::{Left, compare, make};
 use super::same;
 use m161_asm::assemble;
 use m161_elf::{LoadError, load};
@@ -9,100 +9,14 @@ use m161_elf_writer::write;
 use m161_machine::Event::Step;
 use m161_machine::Refusal;
 use m161_ram::Ram;
-use s161_work::Machine;
-use s161_work::demo::IMAGE;
+use m161_test_support::Machine;
+use m161_test_support::files::{
+    ADDRESS, CLASS, ENTRY, FILE_SIZE, HEADER_COUNT, HEADERS, IMAGE, MEMORY_SIZE, OFFSET, PROGRAM,
+    TYPE, file_of,
+};
+use m161_test_support::outcomes::{ENTRY as START, OFF, RAN, SMALLEST, Times};
 use std::alloc::{AllocError, Global};
 use std::test::Fail;
-
-/// The header of a file with one segment, and that segment's program header, as words.
-const HEADERS: [u32; 21] = [
-    0x7f45_4c46,
-    0x0102_0100,
-    0,
-    0,
-    0x0002_0008,
-    1,
-    0x8000_0200,
-    0x34,
-    0,
-    0,
-    0x0034_0020,
-    0x0001_0000,
-    0,
-    1,
-    0x54,
-    0x8000_0200,
-    0x8000_0200,
-    0x1c,
-    0x1c,
-    7,
-    4,
-];
-
-/// The segment's words.
-const PROGRAM: [u32; 7] = [
-    0x3c08_1234,
-    0x3508_5678,
-    0x2409_ffff,
-    0x0109_5021,
-    0x3c0b_8000,
-    0xad6a_0400,
-    0x8d6c_0400,
-];
-
-/// The places of some words of the headers.
-const CLASS: usize = 1;
-
-const TYPE: usize = 4;
-
-const ENTRY: usize = 6;
-
-const HEADER_COUNT: usize = 11;
-
-const OFFSET: usize = 14;
-
-const ADDRESS: usize = 15;
-
-const FILE_SIZE: usize = 17;
-
-const MEMORY_SIZE: usize = 18;
-
-/// A file of these headers, with some of their words changed, and of these words.
-fn file_of(alloc: Global, edits: &[(usize, u32)], words: &[u32]) -> Result<Vec<u8>, AllocError> {
-    let mut headers = HEADERS;
-    for (place, word) in edits {
-        if let Some(place) = headers.get_mut(*place) {
-            *place = *word;
-        }
-    }
-    let mut file = Vec::new(alloc);
-    for word in headers.iter().chain(words) {
-        file.extend_from_slice(&word.to_be_bytes())?;
-    }
-    Ok(file)
-}
-
-/// A file with these words at an address, where it begins.
-pub(crate) fn file_at(alloc: Global, entry: u32, words: &[u32]) -> Result<Vec<u8>, Fail> {
-    file_from(alloc, entry, entry, words)
-}
-
-/// A file with these words at an address, which begins at another.
-pub(crate) fn file_from(
-    alloc: Global,
-    entry: u32,
-    address: u32,
-    words: &[u32],
-) -> Result<Vec<u8>, Fail> {
-    let size = u32::try_from(words.len())?.wrapping_mul(4);
-    let edits = [
-        (ENTRY, entry),
-        (ADDRESS, address),
-        (FILE_SIZE, size),
-        (MEMORY_SIZE, size),
-    ];
-    Ok(file_of(alloc, &edits, words)?)
-}
 
 /// A program header, and the bytes that it has in the file.
 struct Part {

@@ -1,19 +1,14 @@
-//! A small kernel of two processors that moves a page.
+//! A small kernel of two processors that moves a page, and a schedule.
 
-use super::elf::file_from;
-use super::listing::Left::{Count, Entries, Memory, TlbRow};
-use super::listing::{
-    ENTRY, INTERRUPT, LOAD_MISS, Left, OFF, RAN, Times, check_log, compare, make,
-};
-use m161_machine::Conf;
+use crate::files::file_from;
+use crate::outcomes::{ENTRY, INTERRUPT, LOAD_MISS, OFF, RAN, Times};
 use m161_machine::Event::Step;
-use s161_work::Machine;
-use std::test::Fail;
+use std::alloc::{AllocError, Global};
 
 /// The kernel: the physical address of each word, the word and its text. Processor 0 moves a page
 /// that processor 1 reads, makes it drop the stale row by an interrupt, and switches off once it
 /// has read the new frame.
-pub(crate) static KERNEL: [(u32, u32, &str); 70] = [
+pub static KERNEL: [(u32, u32, &str); 70] = [
     (0, 0x3c1a_8000, "lui $26, 0x8000"),
     (4, 0x8f5a_3000, "lw $26, 12288($26)"),
     (8, 0x409a_1000, "mtc0 $26, $2"),
@@ -87,7 +82,7 @@ pub(crate) static KERNEL: [(u32, u32, &str); 70] = [
 ];
 
 /// A schedule on which it ends.
-pub(crate) static SCHEDULE: [Times; 14] = [
+pub static SCHEDULE: [Times; 14] = [
     (Step(0), 11, RAN),
     (Step(1), 6, RAN),
     (Step(1), 1, LOAD_MISS),
@@ -104,22 +99,10 @@ pub(crate) static SCHEDULE: [Times; 14] = [
     (Step(0), 1, OFF),
 ];
 
-/// What it leaves.
-static LEFT: [(u32, Left); 8] = [
-    (0, Count(25)),
-    (1, Count(56)),
-    (0, Entries(81)),
-    (0, Memory(0x3010, 7)),
-    (0, Memory(0x3000, 0x6600)),
-    (1, TlbRow(17, 0x0040_0140, 0x6600)),
-    (1, TlbRow(53, 0x8003_5000, 0)),
-    (1, TlbRow(18, 0x8001_2000, 0)),
-];
-
-#[test]
-fn shootdown(rt: HostRuntime) -> Result<(), Fail> {
-    let mut words = Vec::new(rt.alloc());
-    for _ in 0..6145 {
+/// The kernel's file: one segment from physical address 0 on.
+pub fn kernel_file(alloc: Global) -> Result<Vec<u8>, AllocError> {
+    let mut words = Vec::new(alloc);
+    for _place in 0..6145 {
         words.push(0)?;
     }
     for (at, word, _) in &KERNEL {
@@ -127,14 +110,5 @@ fn shootdown(rt: HostRuntime) -> Result<(), Fail> {
             *place = *word;
         }
     }
-    let file = file_from(rt.alloc(), ENTRY, 0x8000_0000, &words)?;
-    let conf = Conf {
-        ram: 1_048_576,
-        processors: 2,
-        log: 1000,
-    };
-    let mut machine = Machine::boot(rt.alloc(), &file, conf)?;
-    make(&rt, "shootdown", &mut machine, &SCHEDULE)?;
-    compare(&rt, "shootdown", &machine, &LEFT);
-    check_log(&rt, "shootdown", &file, &machine)
+    file_from(alloc, ENTRY, 0x8000_0000, &words)
 }

@@ -1,8 +1,9 @@
 //! The text of a word.
 
-use super::listing::{ENTRY, RAN, RESERVED, last_step};
+use super::listing::last_step;
 use super::same;
 use m161_dis::line;
+use m161_test_support::outcomes::{ENTRY, RAN, RESERVED};
 use std::test::Fail;
 
 /// Words, the address of each, and its text.

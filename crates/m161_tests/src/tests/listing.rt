@@ -13,7 +13,6 @@
 //! from their texts without it. A text is for the reader: no test compares it with its word. What
 //! they leave is worked out by hand from Kane's descriptions and this project's own rules.
 
-use super::elf::{file_at, file_from};
 use super::same;
 use m161_console::PlainConsole;
 use m161_cop0::REGISTERS;
@@ -22,108 +21,13 @@ use m161_machine::{
     Conf, Event, Exception, Outcome, ProcessorState, Refusal, Register as CopRegister,
 };
 use m161_steplog::{Verdict, verify};
+use m161_test_support::Machine;
+use m161_test_support::files::{file_at, file_from};
+use m161_test_support::outcomes::{Answer, ENTRY, RAN, SMALLEST, Times};
 use m161_tlb_scan::Scan;
-use s161_work::Machine;
 use std::alloc::Global;
 use std::process::Abort;
 use std::test::Fail;
-
-/// Where programs begin.
-pub(crate) const ENTRY: u32 = 0x8000_0200;
-
-/// The smallest machine.
-pub(crate) const SMALLEST: Conf = Conf {
-    ram: 4096,
-    processors: 1,
-    log: 100,
-};
-
-/// What a Step answers.
-pub(crate) type Answer = Result<Outcome, Refusal>;
-
-pub(crate) const RAN: Answer = Ok(Outcome::Ran);
-
-pub(crate) const IDLE: Answer = Ok(Outcome::Idle);
-
-pub(crate) const OFF: Answer = Ok(Outcome::PoweredOff);
-
-pub(crate) const TAKEN: Answer = Ok(Outcome::Taken);
-
-pub(crate) const INTERRUPT: Answer = Ok(Outcome::Trapped {
-    code: Exception::Interrupt,
-    vector: 0x8000_0080,
-});
-
-pub(crate) const MODIFIED: Answer = Ok(Outcome::Trapped {
-    code: Exception::TlbModified,
-    vector: 0x8000_0080,
-});
-
-/// No row of a page below 80000000 matches.
-pub(crate) const LOAD_MISS: Answer = Ok(Outcome::Trapped {
-    code: Exception::TlbLoad,
-    vector: 0x8000_0000,
-});
-
-pub(crate) const STORE_MISS: Answer = Ok(Outcome::Trapped {
-    code: Exception::TlbStore,
-    vector: 0x8000_0000,
-});
-
-pub(crate) const TLB_LOAD: Answer = Ok(Outcome::Trapped {
-    code: Exception::TlbLoad,
-    vector: 0x8000_0080,
-});
-
-pub(crate) const TLB_STORE: Answer = Ok(Outcome::Trapped {
-    code: Exception::TlbStore,
-    vector: 0x8000_0080,
-});
-
-pub(crate) const ADDRESS_LOAD: Answer = Ok(Outcome::Trapped {
-    code: Exception::AddressErrorLoad,
-    vector: 0x8000_0080,
-});
-
-pub(crate) const ADDRESS_STORE: Answer = Ok(Outcome::Trapped {
-    code: Exception::AddressErrorStore,
-    vector: 0x8000_0080,
-});
-
-pub(crate) const BUS_FETCH: Answer = Ok(Outcome::Trapped {
-    code: Exception::BusErrorFetch,
-    vector: 0x8000_0080,
-});
-
-pub(crate) const BUS_DATA: Answer = Ok(Outcome::Trapped {
-    code: Exception::BusErrorData,
-    vector: 0x8000_0080,
-});
-
-pub(crate) const SYSCALL: Answer = Ok(Outcome::Trapped {
-    code: Exception::SystemCall,
-    vector: 0x8000_0080,
-});
-
-pub(crate) const BREAKPOINT: Answer = Ok(Outcome::Trapped {
-    code: Exception::Breakpoint,
-    vector: 0x8000_0080,
-});
-
-pub(crate) const RESERVED: Answer = Ok(Outcome::Trapped {
-    code: Exception::ReservedInstruction,
-    vector: 0x8000_0080,
-});
-
-pub(crate) const UNUSABLE: Answer = Ok(Outcome::Trapped {
-    code: Exception::CoprocessorUnusable,
-    vector: 0x8000_0080,
-});
-
-pub(crate) const OVERFLOW: Answer = Ok(Outcome::Trapped {
-    code: Exception::Overflow,
-    vector: 0x8000_0080,
-});
 
 /// A worked row of Steps of one processor.
 pub(crate) struct Worked {
@@ -162,9 +66,6 @@ pub(crate) struct Stage {
     /// Each of a processor; memory and the console are the same for all.
     pub left: &'static [(u32, Left)],
 }
-
-/// An event, how many times it is made, and what is answered every time.
-pub(crate) type Times = (Event, u32, Answer);
 
 /// A part of a machine and what is left there.
 #[derive(Clone, Copy, Debug, PartialEq)]

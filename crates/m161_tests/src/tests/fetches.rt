@@ -4,9 +4,10 @@
 //! address; the branch's slot is the first word of the next page.
 
 use super::listing::Left::{Cop, Pc, Register, Slot};
-use super::listing::{ADDRESS_LOAD, ENTRY, LOAD_MISS, RAN, Run, Stage, TLB_LOAD, check_runs};
+use super::listing::{Run, Stage, check_runs};
 use m161_machine::Event::Step;
 use m161_machine::Register as R;
+use m161_test_support::outcomes::{ADDRESS_LOAD, ENTRY, LOAD_MISS, RAN, TLB_LOAD};
 use std::test::Fail;
 
 static FETCHES: [Run; 5] = [

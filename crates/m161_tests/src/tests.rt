@@ -1,0 +1,29 @@
+//! Tests of the machine and of the crates over it, with words and registers from outside. A file is
+//! named for the crate that it tests; `instructions` and `programs` run words on a machine. A worked
+//! row goes into `programs`, or with other events into `traps`, `cop0`, `tlb`, `fetches`, `bus` or
+//! `processors`, in the form that `listing` says. `sample` runs a whole small kernel of two
+//! processors.
+
+mod bus;
+mod cop0;
+mod dis;
+mod elf;
+mod fetches;
+mod instructions;
+mod listing;
+mod machine;
+mod processors;
+mod programs;
+mod sample;
+mod steplog;
+mod threads;
+mod tlb;
+mod traps;
+
+use std::fmt::Debug;
+use std::process::Abort;
+
+/// Fails the test where a value isn't the expected one.
+pub(crate) fn same<T: PartialEq + Debug + Copy>(rt: &impl Abort, found: T, expected: T) {
+    assert_eq!(rt; found, expected);
+}
