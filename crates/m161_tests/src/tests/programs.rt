@@ -5,7 +5,7 @@
 //! texts. Then say how many Steps are made, what the last one answers (`RAN`, or a trap's name in
 //! `listing`; the others have to be `RAN`), and what is left: registers, HI, LO, words of memory,
 //! the address where it goes on, and whether that is in a delay slot. Raise the length of the
-//! table, and run `rt test` in `crates/s161`: it proves the tests and runs them.
+//! table, and run `rt test` in `crates/m161_tests`: it proves the tests and runs them.
 
 use super::listing::Left::{Hi, Lo, Memory, Pc, Register, Slot};
 use super::listing::{Worked, check};
