@@ -7,7 +7,7 @@ use Rattle.m161_cpu.specs.declared.processor.Outcome.TheVariants.{Ran, PoweredOf
 use Rattle.m161_cpu.specs.Processor.{with_state}
 use Rattle.m161_cpu.specs.Links.{links_after}
 use Rattle.m161_cpu.specs.Scene.{Around, Scene, Change, scene_after}
-use Rattle.m161_cpu.specs.Fault.{Fault}
+use Rattle.m161_cpu.specs.declared.fault.Fault.{Fault}
 use Rattle.m161_cpu.specs.Step.{Stepped, step_of_result, change_of_step, idle, lines_in, running_step, step_by_state, step_of, tick, with_processor}
 
 -- What a Step leaves of the links is told by what it does to its own, and by its store.

@@ -1,5 +1,6 @@
-use Rattle.std.proofs.Common.{◌≡◌, refl, ℕ, true, false, List, Some, Err}
+use Rattle.std.proofs.Common.{◌≡◌, refl, ℕ, true, false, List, None, Some, Err}
 use Rattle.std.specs.Prelude.{slice_get}
+use Rattle.m161_isa.specs.Address.{unmapped}
 use Rattle.m161_tlb.specs.declared.row.Row.{Row}
 use Rattle.m161_tlb.specs.Rows.{find_row}
 use Rattle.m161_cpu.specs.declared.fault.Access.{Access}
@@ -7,7 +8,7 @@ use Rattle.m161_cpu.specs.declared.fault.FaultKind.TheVariants as kind
 use Rattle.m161_cpu.specs.Processor.{Processor}
 use Rattle.m161_cpu.specs.Fault.{fault_at}
 use Rattle.m161_cpu.specs.Scene.{result_map}
-use Rattle.m161_cpu.specs.Translation.{Physical, address_error, by_row, invalid, is_misaddressed, is_store, physical_at}
+use Rattle.m161_cpu.specs.Translation.{Physical, address_error, by_page, by_row, invalid, is_misaddressed, is_store, physical_at}
 
 -- The faults of a mapped address.
 
@@ -33,3 +34,11 @@ pub misaddressed : (access : Access) (width address : ℕ) (p : Processor)
     physical_at access width address p ≡ Err (address_error access address)
 unfolding physical_at
 misaddressed access width address p wrong = rw wrong refl
+
+-- no fault of the address, and no kseg0 or kseg1
+pub mapped : (access : Access) (width address : ℕ) (p : Processor)
+    → is_misaddressed width address p ≡ false → unmapped address ≡ None →
+    physical_at access width address p
+    ≡ result_map (λ (to : Physical). to.at) (by_page access address p)
+unfolding physical_at
+mapped access width address p right elsewhere = rw (right, elsewhere) refl

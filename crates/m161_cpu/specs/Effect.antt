@@ -25,7 +25,8 @@ use Rattle.m161_cpu.specs.declared.processor.ProcessorState.TheVariants.{Waiting
 use Rattle.m161_cpu.specs.Processor.{Processor}
 use Rattle.m161_cpu.specs.Links.{LinkTo, End, is_to}
 use Rattle.m161_cpu.specs.Scene.{Scene, Change, byte_to, half_to, word_to, nothing, result_map, and_then}
-use Rattle.m161_cpu.specs.Fault.{Fault, fault}
+use Rattle.m161_cpu.specs.declared.fault.Fault.{Fault}
+use Rattle.m161_cpu.specs.Fault.{fault}
 use Rattle.m161_cpu.specs.Translation.{physical_at, reach, reach_word_of, read_word, or_bus_error}
 
 -- What the rows of the instruction table do. Kane, MIPS RISC Architecture, instruction

@@ -1,8 +1,9 @@
-use Rattle.std.specs.Prelude.{ℕ, ◌+◌, Bool, true, false, Option, None, Some}
+use Rattle.std.specs.Prelude.{ℕ, ◌+◌, Bool, true, false, None, Some, unwrap_or}
 use Rattle.m161_cop0.specs.declared.exception.Exception.{Exception}
 use Rattle.m161_cop0.specs.declared.exception.Exception.TheVariants as exception
 use Rattle.m161_cop0.specs.declared.trap.Trap.{Trap}
-use Rattle.m161_cop0.specs.Trap.{after_trap, vector_of, with_bad_address}
+use Rattle.m161_cop0.specs.Trap.{after_trap, vector_of}
+use Rattle.m161_cpu.specs.declared.fault.Fault.{Fault}
 use Rattle.m161_cpu.specs.declared.fault.FaultKind.{FaultKind}
 use Rattle.m161_cpu.specs.declared.fault.FaultKind.TheVariants as kind
 use Rattle.m161_cpu.specs.Processor.{Processor}
@@ -10,10 +11,7 @@ use Rattle.m161_cpu.specs.Processor.{Processor}
 -- Why an instruction isn't executed, and its trap. Kane, MIPS RISC Architecture, "Exception
 -- processing".
 
--- the kind, and the address that BadVAddr gets, if any
-pub record Fault : Type 0 where
-  pub kind : FaultKind
-  pub address : Option ℕ
+-- a fault has a kind, and an address at fault or none
 
 abbrev pub fault : FaultKind → Fault
 fault kind = record { kind = kind; address = None }
@@ -55,31 +53,26 @@ is_user_miss_kind kind.UserMissLoad = true
 is_user_miss_kind kind.UserMissStore = true
 is_user_miss_kind _ = false
 
--- the address at fault is put into BadVAddr
-abbrev pub with_fault_address : Option ℕ → Processor → Processor
-with_fault_address None p = p
-with_fault_address (Some address) p = record p { control = with_bad_address address p.control }
-
--- the trap of a fault at the current instruction; the address at fault is in BadVAddr
-abbrev pub trap_of : FaultKind → Processor → Trap
-trap_of kind p = record {
-  code = exception_of kind;
-  unit = unit_of_kind kind;
-  user_miss = is_user_miss_kind kind;
+-- the trap of a fault at the current instruction; that of a fault without an address uses none
+abbrev pub trap_of : Fault → Processor → Trap
+trap_of f p = record {
+  code = exception_of f.kind;
+  unit = unit_of_kind f.kind;
+  user_miss = is_user_miss_kind f.kind;
   pc = p.pc;
   slot = p.slot;
-  address = p.control.bad_vaddr;
+  address = unwrap_or f.address 0;
 }
 
 -- the address at which the processor continues
-abbrev pub vector : FaultKind → Processor → ℕ
-vector kind p = vector_of (trap_of kind p) p.control
+abbrev pub vector : Fault → Processor → ℕ
+vector f p = vector_of (trap_of f p) p.control
 
 -- a processor that has entered the trap
-abbrev pub with_trap : FaultKind → Processor → Processor
-with_trap kind p = record p {
-  control = after_trap (trap_of kind p) p.control;
-  pc = vector kind p;
-  following = vector kind p + 4;
+abbrev pub with_trap : Fault → Processor → Processor
+with_trap f p = record p {
+  control = after_trap (trap_of f p) p.control;
+  pc = vector f p;
+  following = vector f p + 4;
   slot = false;
 }

@@ -18,7 +18,8 @@ use Rattle.m161_cpu.specs.declared.processor.Outcome.TheVariants.{Ran, Trapped, 
 use Rattle.m161_cpu.specs.Processor.{Processor, with_state}
 use Rattle.m161_cpu.specs.Links.{LinkAct, Keep, End, links_after}
 use Rattle.m161_cpu.specs.Scene.{Around, Scene, Change, scene, result_map, and_then, scene_after, stored_by}
-use Rattle.m161_cpu.specs.Fault.{Fault, fault, exception_of, with_fault_address, vector, with_trap}
+use Rattle.m161_cpu.specs.declared.fault.Fault.{Fault}
+use Rattle.m161_cpu.specs.Fault.{fault, exception_of, vector, with_trap}
 use Rattle.m161_cpu.specs.Translation.{reach}
 use Rattle.m161_cpu.specs.Effect.{arguments, with_three, effect_of}
 
@@ -65,11 +66,8 @@ without_link a = record a { links = links_after a.number End None a.links }
 -- are as they were
 abbrev pub step_of_fault : Scene → Fault → Stepped
 step_of_fault s f = record {
-  outcome =
-      Trapped (exception_of f.kind) (vector f.kind (with_fault_address f.address s.processor));
-  after =
-      scene (tick (with_trap f.kind (with_fault_address f.address s.processor)))
-      (without_link s.around);
+  outcome = Trapped (exception_of f.kind) (vector f s.processor);
+  after = scene (tick (with_trap f s.processor)) (without_link s.around);
   link = End;
   stored = None;
 }

@@ -10,7 +10,8 @@ use Rattle.m161_cpu.specs.declared.fault.Access.{Access}
 use Rattle.m161_cpu.specs.declared.fault.Access.TheVariants.{Fetch, Load, Store}
 use Rattle.m161_cpu.specs.declared.fault.FaultKind.TheVariants as kind
 use Rattle.m161_cpu.specs.Processor.{Processor}
-use Rattle.m161_cpu.specs.Fault.{Fault, fault, fault_at}
+use Rattle.m161_cpu.specs.declared.fault.Fault.{Fault}
+use Rattle.m161_cpu.specs.Fault.{fault, fault_at}
 use Rattle.m161_cpu.specs.Scene.{result_map, and_then}
 
 -- Translation of addresses to physical ones, and accesses to RAM and the slots. Kane, MIPS RISC

@@ -8,7 +8,7 @@ ghost use Rattle.m161_cpu.specs.Processor.{with_control, with_row};
 ghost use Rattle.m161_cpu.specs.helpers.Execute.{change_by, ExecutesInProcessor, Executes};
 ghost use Rattle.m161_cpu.specs.Scene.{Around, scene_of, scene};
 
-use crate::fault::FaultKind;
+use crate::fault::{Fault, FaultKind};
 use crate::links::Links;
 use crate::processor::{Cpu, Flow};
 use m161_isa::{PlainOp, Reg};
@@ -19,7 +19,7 @@ impl<T: Tlb> Cpu<T> {
     #[cold]
     #[inline(never)]
     #[tactic(auto, unfolding(crate::specs::helpers::Execute::change_by))]
-    pub(crate) fn read_cop0(&mut self, rt: Reg, register: Reg, lines: u32) -> Result<(), FaultKind>
+    pub(crate) fn read_cop0(&mut self, rt: Reg, register: Reg, lines: u32) -> Result<(), Fault>
         ensures { (a : Around) → interrupt_lines a.number a.board ≡ lines
             → Executes (change_by (scene self.old a) (MoveFromCop0 rt register))
             (scene self.old a) result
@@ -34,7 +34,7 @@ impl<T: Tlb> Cpu<T> {
     #[cold]
     #[inline(never)]
     #[tactic(auto, unfolding(crate::specs::helpers::Execute::change_by))]
-    pub(crate) fn write_cop0(&mut self, rt: Reg, register: Reg) -> Result<(), FaultKind>
+    pub(crate) fn write_cop0(&mut self, rt: Reg, register: Reg) -> Result<(), Fault>
         ensures { ExecutesInProcessor (MoveToCop0 rt register) self.old result self.new }
     {
         let word = self.reg(rt);
@@ -46,7 +46,7 @@ impl<T: Tlb> Cpu<T> {
     /// A row without operands.
     #[inline(always)]
     #[tactic(auto, unfolding(crate::specs::helpers::Execute::change_by))]
-    pub(crate) fn plain(&mut self, op: PlainOp, c: u32, links: &mut Links) -> Result<(), FaultKind>
+    pub(crate) fn plain(&mut self, op: PlainOp, c: u32, links: &mut Links) -> Result<(), Fault>
         requires { c < 32 }
         ensures { (m : List ℕ) (b : BoardState)
             → Executes (change_by (scene_of self.old c m b links.old) (Plain op))
@@ -55,8 +55,8 @@ impl<T: Tlb> Cpu<T> {
     {
         match op {
             PlainOp::Sync => {}
-            PlainOp::Syscall => return Err(FaultKind::SystemCall),
-            PlainOp::Break => return Err(FaultKind::Breakpoint),
+            PlainOp::Syscall => return Err(Fault::of(FaultKind::SystemCall)),
+            PlainOp::Break => return Err(Fault::of(FaultKind::Breakpoint)),
             PlainOp::Tlbr => self.read_row(),
             PlainOp::Tlbwi => {
                 let i = self.control.index_row();

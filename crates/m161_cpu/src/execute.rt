@@ -6,7 +6,7 @@ ghost use Rattle.m161_cpu.specs.Scene.{scene_of};
 ghost use Rattle.m161_cpu.specs.Step.{change_in, misfit_kind};
 ghost use Rattle.m161_cpu.specs.helpers.Execute.{change_by, Executes};
 
-use crate::fault::FaultKind;
+use crate::fault::{Fault, FaultKind};
 use crate::links::Links;
 use crate::processor::Cpu;
 use m161_bus::{Board, Console};
@@ -37,7 +37,7 @@ impl<T: Tlb> Cpu<T> {
         ram: &mut Ram,
         board: &mut Board<D>,
         links: &mut Links,
-    ) -> Result<(), FaultKind>
+    ) -> Result<(), Fault>
         requires processor { (c < board.old.processors) × (board.old.processors ≤ 32) }
         requires ram { length ram.old ≤ 2 ^ 29 }
         ensures change { Executes (change_in (scene_of self.old c ram.old board.old links.old) word)
@@ -59,7 +59,7 @@ impl<T: Tlb> Cpu<T> {
         ram: &mut Ram,
         board: &mut Board<D>,
         links: &mut Links,
-    ) -> Result<(), FaultKind>
+    ) -> Result<(), Fault>
         requires processor { (c < board.old.processors) × (board.old.processors ≤ 32) }
         requires ram { length ram.old ≤ 2 ^ 29 }
         ensures change { Executes (change_by
@@ -108,8 +108,8 @@ impl<T: Tlb> Cpu<T> {
             Instr::Plain(op) => self.plain(op, c, links),
             Instr::MoveFromCop0 { rt, register } => self.read_cop0(rt, register, board.lines(c)),
             Instr::MoveToCop0 { rt, register } => self.write_cop0(rt, register),
-            Instr::Absent(unit) => Err(misfit_kind(unit)),
-            Instr::Reserved(_) => Err(FaultKind::ReservedInstruction),
+            Instr::Absent(unit) => Err(Fault::of(misfit_kind(unit))),
+            Instr::Reserved(_) => Err(Fault::of(FaultKind::ReservedInstruction)),
         }
     }
 }

@@ -1,7 +1,7 @@
 //! Why an instruction isn't executed.
 
 ghost use Rattle.std.specs.Prelude.{◌≡◌, ◌<◌};
-ghost use Rattle.m161_cpu.specs.Fault.{exception_of, unit_of_kind, is_user_miss_kind};
+ghost use Rattle.m161_cpu.specs.Fault.{exception_of, fault, fault_at, unit_of_kind, is_user_miss_kind};
 
 use m161_cop0::Exception;
 
@@ -14,7 +14,7 @@ pub(crate) enum Access {
 }
 
 /// Why an instruction isn't executed: the exception and everything else that its trap depends on,
-/// except the address. It has no fields, so that an instruction's result stays in a register.
+/// except the address.
 #[derive(Clone, Copy, Debug, PartialEq, Eq)]
 pub(crate) enum FaultKind {
     Interrupt,
@@ -83,6 +83,39 @@ impl FaultKind {
         match self {
             FaultKind::UserMissLoad | FaultKind::UserMissStore => true,
             _ => false,
+        }
+    }
+}
+
+/// A fault, of which only the entry of its trap changes the processor.
+#[derive(Clone, Copy, Debug, PartialEq, Eq)]
+pub(crate) struct Fault {
+    pub(crate) kind: FaultKind,
+    /// The address that was to be fetched, loaded or stored, which BadVAddr gets; `None` if it gets
+    /// none.
+    pub(crate) address: Option<u32>,
+}
+
+impl Fault {
+    /// A fault without an address.
+    #[inline(always)]
+    pub(crate) fn of(kind: FaultKind) -> Fault
+        ensures { result ≡ fault kind }
+    {
+        Fault {
+            kind,
+            address: None,
+        }
+    }
+
+    /// A fault of an address.
+    #[inline(always)]
+    pub(crate) fn at(kind: FaultKind, address: u32) -> Fault
+        ensures { result ≡ fault_at kind address }
+    {
+        Fault {
+            kind,
+            address: Some(address),
         }
     }
 }

@@ -11,7 +11,7 @@ ghost use Rattle.m161_cpu.specs.Processor.{with_flow};
 ghost use Rattle.m161_cpu.specs.Scene.{scene_of};
 ghost use Rattle.m161_cpu.specs.Translation.{read_word};
 
-use crate::fault::{Access, FaultKind};
+use crate::fault::{Access, Fault};
 use crate::links::Links;
 use crate::processor::{Cpu, Flow};
 use crate::translation::bus_error;
@@ -44,7 +44,7 @@ impl<T: Tlb> Cpu<T> {
         ram: &Ram,
         board: &mut Board<D>,
         links: &mut Links,
-    ) -> Result<(), FaultKind>
+    ) -> Result<(), Fault>
         requires processor { (c < board.old.processors) × (board.old.processors ≤ 32) }
         requires ram { length ram.now ≤ 2 ^ 29 }
         ensures load { Executes (change_by (scene_of self.old c ram.now board.old links.old)
@@ -96,16 +96,16 @@ impl<T: Tlb> Cpu<T> {
     /// A word of RAM or of the slots.
     #[inline(always)]
     fn read_word<D: Console>(
-        &mut self,
+        &self,
         address: u32,
         c: u32,
         ram: &Ram,
         board: &mut Board<D>,
-    ) -> Result<u32, FaultKind>
+    ) -> Result<u32, Fault>
         requires processor { c < board.old.processors }
         requires ram { length ram.now ≤ 2 ^ 29 }
-        ensures word { FindsWord (read_word address self.old c ram.now board.old)
-            self.old board.old result self.new board.new }
+        ensures word { FindsWord (read_word address self.now c ram.now board.old)
+            board.old result board.new }
         ensures board { KeepsSize board.old board.new }
     {
         match self.direct(4, address, ram.size()) {
@@ -117,15 +117,15 @@ impl<T: Tlb> Cpu<T> {
     // A call of `read_word_elsewhere`, so that only this function has a stack slot for the result.
     #[inline(always)]
     fn read_word_aside<D: Console>(
-        &mut self,
+        &self,
         address: u32,
         c: u32,
         ram: &Ram,
         board: &mut Board<D>,
-    ) -> Result<u32, FaultKind>
+    ) -> Result<u32, Fault>
         requires processor { c < board.old.processors }
-        ensures word { FindsWord (read_word address self.old c ram.now board.old)
-            self.old board.old result self.new board.new }
+        ensures word { FindsWord (read_word address self.now c ram.now board.old)
+            board.old result board.new }
         ensures board { KeepsSize board.old board.new }
     {
         let word = self.read_word_elsewhere(address, c, ram, board)?;
@@ -135,15 +135,15 @@ impl<T: Tlb> Cpu<T> {
     #[cold]
     #[inline(never)]
     fn read_word_elsewhere<D: Console>(
-        &mut self,
+        &self,
         address: u32,
         c: u32,
         ram: &Ram,
         board: &mut Board<D>,
-    ) -> Result<u32, FaultKind>
+    ) -> Result<u32, Fault>
         requires processor { c < board.old.processors }
-        ensures word { FindsWord (read_word address self.old c ram.now board.old)
-            self.old board.old result self.new board.new }
+        ensures word { FindsWord (read_word address self.now c ram.now board.old)
+            board.old result board.new }
         ensures board { KeepsSize board.old board.new }
     {
         let at = self.translate(Access::Load, 4, address)?;
@@ -169,7 +169,7 @@ impl<T: Tlb> Cpu<T> {
         ram: &mut Ram,
         board: &mut Board<D>,
         links: &mut Links,
-    ) -> Result<(), FaultKind>
+    ) -> Result<(), Fault>
         requires processor { (c < board.old.processors) × (board.old.processors ≤ 32) }
         requires ram { length ram.old ≤ 2 ^ 29 }
         ensures store { Executes (change_by (scene_of self.old c ram.old board.old links.old)
@@ -254,7 +254,7 @@ impl<T: Tlb> Cpu<T> {
         ram: &mut Ram,
         board: &mut Board<D>,
         links: &mut Links,
-    ) -> Result<(), FaultKind>
+    ) -> Result<(), Fault>
         requires processor { c < board.old.processors }
         requires ram { length ram.old ≤ 2 ^ 29 }
         ensures store { Executes
@@ -282,7 +282,7 @@ impl<T: Tlb> Cpu<T> {
         ram: &mut Ram,
         board: &mut Board<D>,
         links: &mut Links,
-    ) -> Result<(), FaultKind>
+    ) -> Result<(), Fault>
         requires processor { c < board.old.processors }
         ensures store { Executes
             (store_word_at address word (scene_of self.old c ram.old board.old links.old))

@@ -11,7 +11,7 @@ ghost use Rattle.m161_cpu.specs.helpers.Execute.{idle_or_running};
 
 mod views;
 
-use crate::fault::FaultKind;
+use crate::fault::Fault;
 use m161_alu::HiLoPair;
 use m161_cop0::{Cop0, Exception, Trap};
 use m161_isa::Reg;
@@ -249,18 +249,18 @@ impl<T: Tlb> Cpu<T> {
     /// Enters a trap. Returns the address at which it continues.
     #[cold]
     #[inline(never)]
-    pub(crate) fn enter(&mut self, kind: FaultKind) -> u32
-        ensures processor { self.new ≡ with_trap kind self.old }
-        ensures vector { result ≡ vector kind self.old }
+    pub(crate) fn enter(&mut self, fault: Fault) -> u32
+        ensures processor { self.new ≡ with_trap fault self.old }
+        ensures vector { result ≡ vector fault self.old }
         ensures place { IsVector result }
     {
         let trap = Trap {
-            code: kind.exception(),
-            unit: kind.unit(),
-            user_miss: kind.is_user_miss(),
+            code: fault.kind.exception(),
+            unit: fault.kind.unit(),
+            user_miss: fault.kind.is_user_miss(),
             pc: self.pc,
             slot: self.slot,
-            address: self.control.bad_vaddr(),
+            address: fault.address.unwrap_or(0),
         };
         let vector = self.control.enter(trap);
         self.pc = vector;

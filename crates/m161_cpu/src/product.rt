@@ -4,7 +4,7 @@ ghost use Rattle.std.specs.Prelude.{◌≡◌, ℕ, List};
 ghost use Rattle.m161_isa.specs.declared.instr.Instr.TheVariants.{MoveFrom, MoveTo, Multiply};
 ghost use Rattle.m161_cpu.specs.helpers.Execute.{ExecutesInProcessor};
 
-use crate::fault::FaultKind;
+use crate::fault::Fault;
 use crate::processor::{Cpu, Flow};
 use m161_alu::{HiLoPair, Signedness, div, mult};
 use m161_isa::{HiLo, MultiplyOp, Reg};
@@ -14,7 +14,7 @@ impl<T: Tlb> Cpu<T> {
     /// `mult`, `multu`, `div`, `divu`.
     #[inline(always)]
     #[tactic(auto, unfolding(crate::specs::helpers::Execute::change_by))]
-    pub(crate) fn multiply(&mut self, op: MultiplyOp, rs: Reg, rt: Reg) -> Result<(), FaultKind>
+    pub(crate) fn multiply(&mut self, op: MultiplyOp, rs: Reg, rt: Reg) -> Result<(), Fault>
         ensures { ExecutesInProcessor (Multiply op rs rt) self.old result self.new }
     {
         let s = self.reg(rs);
@@ -33,7 +33,7 @@ impl<T: Tlb> Cpu<T> {
     /// `mfhi` and `mflo`.
     #[inline(always)]
     #[tactic(auto, unfolding(crate::specs::helpers::Execute::change_by))]
-    pub(crate) fn move_from(&mut self, from: HiLo, rd: Reg) -> Result<(), FaultKind>
+    pub(crate) fn move_from(&mut self, from: HiLo, rd: Reg) -> Result<(), Fault>
         ensures { ExecutesInProcessor (MoveFrom from rd) self.old result self.new }
     {
         let word = match from {
@@ -47,7 +47,7 @@ impl<T: Tlb> Cpu<T> {
     /// `mthi` and `mtlo`.
     #[inline(always)]
     #[tactic(auto, unfolding(crate::specs::helpers::Execute::change_by))]
-    pub(crate) fn move_to(&mut self, to: HiLo, rs: Reg) -> Result<(), FaultKind>
+    pub(crate) fn move_to(&mut self, to: HiLo, rs: Reg) -> Result<(), Fault>
         ensures { ExecutesInProcessor (MoveTo to rs) self.old result self.new }
     {
         let word = self.reg(rs);

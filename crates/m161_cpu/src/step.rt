@@ -6,10 +6,10 @@ ghost use Rattle.m161_cpu.specs.Links.{End, links_after};
 ghost use Rattle.m161_cpu.specs.Scene.{scene_of};
 ghost use Rattle.m161_cop0.specs.Trap.{IsVector};
 ghost use Rattle.m161_cpu.specs.Fault.{vector, with_trap};
-ghost use Rattle.m161_cpu.specs.helpers.Execute.{Executes, Finds};
+ghost use Rattle.m161_cpu.specs.helpers.Execute.{Executes};
 ghost use Rattle.m161_cpu.specs.Step.{change_of_step, executable_word, is_unusable, running_step, step_of, tick, IsOfStep, Leaves};
 
-use crate::fault::{Access, FaultKind};
+use crate::fault::{Access, Fault, FaultKind};
 use crate::links::Links;
 use crate::processor::{Cpu, Outcome};
 use m161_bus::{Board, Console};
@@ -73,10 +73,10 @@ impl<T: Tlb> Cpu<T> {
                     Outcome::Ran
                 }
             }
-            Err(kind) => {
-                let vector = self.trap(kind, c, links);
+            Err(fault) => {
+                let vector = self.trap(fault, c, links);
                 Outcome::Trapped {
-                    code: kind.exception(),
+                    code: fault.kind.exception(),
                     vector,
                 }
             }
@@ -86,17 +86,17 @@ impl<T: Tlb> Cpu<T> {
     // Ends a Step that traps. Returns the address at which the processor continues.
     #[cold]
     #[inline(never)]
-    fn trap(&mut self, kind: FaultKind, c: u32, links: &mut Links) -> u32
+    fn trap(&mut self, fault: Fault, c: u32, links: &mut Links) -> u32
         requires processor { c < 32 }
         requires room { self.old.count < 2 ^ 64 - 1 }
-        ensures vector { result ≡ vector kind self.old }
-        ensures processor { self.new ≡ tick (with_trap kind self.old) }
+        ensures vector { result ≡ vector fault self.old }
+        ensures processor { self.new ≡ tick (with_trap fault self.old) }
         ensures links { links.new ≡ links_after c End None links.old }
         ensures counted { self.new.count ≡ self.old.count + 1 }
         ensures place { IsVector result }
     {
         links.unlink(c);
-        let vector = self.enter(kind);
+        let vector = self.enter(fault);
         self.tick();
         vector
     }
@@ -111,7 +111,7 @@ impl<T: Tlb> Cpu<T> {
         ram: &mut Ram,
         board: &mut Board<D>,
         links: &mut Links,
-    ) -> Result<(), FaultKind>
+    ) -> Result<(), Fault>
         requires processor { (c < board.old.processors) × (board.old.processors ≤ 32) }
         requires lines { lines ≡ interrupt_lines c board.old }
         requires ram { length ram.old ≤ 2 ^ 29 }
@@ -122,7 +122,7 @@ impl<T: Tlb> Cpu<T> {
         ensures size { length ram.new ≡ length ram.old }
     {
         if self.control.interrupts(lines) {
-            return Err(FaultKind::Interrupt);
+            return Err(Fault::of(FaultKind::Interrupt));
         }
         let word = self.fetch(ram)?;
         self.perform(word, c, ram, board, links)
@@ -131,9 +131,9 @@ impl<T: Tlb> Cpu<T> {
     // The word at pc, if the processor may execute it. By kseg0 in kernel mode it may execute any.
     #[inline(always)]
     #[tactic(auto, using(crate::proofs::Fetched::in_kernel_mode))]
-    fn fetch(&mut self, ram: &Ram) -> Result<u32, FaultKind>
+    fn fetch(&self, ram: &Ram) -> Result<u32, Fault>
         requires ram { length ram.now ≤ 2 ^ 29 }
-        ensures { Finds (executable_word ram.now self.old) self.old result self.new }
+        ensures { result ≡ executable_word ram.now self.now }
     {
         match self.direct(4, self.pc(), ram.size()) {
             Some(at) => Ok(ram.word(at)),
@@ -143,8 +143,8 @@ impl<T: Tlb> Cpu<T> {
 
     // A call of `fetch_elsewhere`, so that only this function has a stack slot for the result.
     #[inline(always)]
-    fn fetch_aside(&mut self, ram: &Ram) -> Result<u32, FaultKind>
-        ensures { Finds (executable_word ram.now self.old) self.old result self.new }
+    fn fetch_aside(&self, ram: &Ram) -> Result<u32, Fault>
+        ensures { result ≡ executable_word ram.now self.now }
     {
         let word = self.fetch_elsewhere(ram)?;
         Ok(word)
@@ -152,13 +152,13 @@ impl<T: Tlb> Cpu<T> {
 
     #[cold]
     #[inline(never)]
-    fn fetch_elsewhere(&mut self, ram: &Ram) -> Result<u32, FaultKind>
-        ensures { Finds (executable_word ram.now self.old) self.old result self.new }
+    fn fetch_elsewhere(&self, ram: &Ram) -> Result<u32, Fault>
+        ensures { result ≡ executable_word ram.now self.now }
     {
         let at = self.reach_elsewhere(Access::Fetch, 4, self.pc(), ram.size())?;
         let word = ram.word(at);
         if self.is_unusable(word) {
-            return Err(FaultKind::Coprocessor0Unusable);
+            return Err(Fault::of(FaultKind::Coprocessor0Unusable));
         }
         Ok(word)
     }

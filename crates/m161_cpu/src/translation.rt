@@ -1,26 +1,24 @@
 //! Translation of addresses to physical ones.
 
 ghost use Rattle.std.specs.Prelude.{◌≡◌, ◌+◌, ◌≤◌, ◌<◌, ◌/◌, ◌^◌, false, Ok, Some, IfOk, IfSome};
-ghost use Rattle.m161_cpu.specs.helpers.Execute.{Finds};
-ghost use Rattle.m161_cpu.specs.Fault.{with_fault_address};
 ghost use Rattle.m161_cpu.specs.Scene.{result_map};
 ghost use Rattle.m161_cpu.specs.Translation.{Physical, address_error, bus_error, by_page, invalid, is_misaddressed, miss, physical_at, reach, reach_word_of};
 ghost use Rattle.m161_cpu.specs.helpers.Translation.{IsWidth};
 ghost use Rattle.m161_tlb.specs.Rows.{find_row};
 ghost use Rattle.m161_cop0.specs.Control.{identifier_of, is_user};
 
-use crate::fault::{Access, FaultKind};
+use crate::fault::{Access, Fault, FaultKind};
 use crate::processor::Cpu;
 use m161_isa::unmapped;
 use m161_tlb::Tlb;
 
 /// The fault of an address where nothing is on the bus.
-pub(crate) fn bus_error(access: Access) -> FaultKind
-    ensures { result ≡ (bus_error access).kind }
+pub(crate) fn bus_error(access: Access) -> Fault
+    ensures { result ≡ bus_error access }
 {
     match access {
-        Access::Fetch => FaultKind::BusErrorFetch,
-        Access::Load | Access::Store => FaultKind::BusErrorData,
+        Access::Fetch => Fault::of(FaultKind::BusErrorFetch),
+        Access::Load | Access::Store => Fault::of(FaultKind::BusErrorData),
     }
 }
 
@@ -48,15 +46,15 @@ impl<T: Tlb> Cpu<T> {
     /// The place in RAM of an access that has to be aligned to its width.
     #[inline(always)]
     pub(crate) fn reach(
-        &mut self,
+        &self,
         access: Access,
         width: u32,
         address: u32,
         size: u32,
-    ) -> Result<u32, FaultKind>
+    ) -> Result<u32, Fault>
         requires width { IsWidth width }
         requires size { size ≤ 2 ^ 29 }
-        ensures found { Finds (reach access width address size self.old) self.old result self.new }
+        ensures found { result ≡ reach access width address size self.now }
         ensures within { IfOk result (λ at. at + width ≤ size) }
     {
         match self.direct(width, address, size) {
@@ -68,15 +66,9 @@ impl<T: Tlb> Cpu<T> {
     // A call of `reach_elsewhere`, so that only this function has a stack slot for the result, and
     // not the common path.
     #[inline(always)]
-    fn reach_aside(
-        &mut self,
-        access: Access,
-        width: u32,
-        address: u32,
-        size: u32,
-    ) -> Result<u32, FaultKind>
+    fn reach_aside(&self, access: Access, width: u32, address: u32, size: u32) -> Result<u32, Fault>
         requires width { 0 < width }
-        ensures found { Finds (reach access width address size self.old) self.old result self.new }
+        ensures found { result ≡ reach access width address size self.now }
         ensures within { IfOk result (λ at. at + width ≤ size) }
     {
         let at = self.reach_elsewhere(access, width, address, size)?;
@@ -87,14 +79,14 @@ impl<T: Tlb> Cpu<T> {
     #[cold]
     #[inline(never)]
     pub(crate) fn reach_elsewhere(
-        &mut self,
+        &self,
         access: Access,
         width: u32,
         address: u32,
         size: u32,
-    ) -> Result<u32, FaultKind>
+    ) -> Result<u32, Fault>
         requires width { 0 < width }
-        ensures found { Finds (reach access width address size self.old) self.old result self.new }
+        ensures found { result ≡ reach access width address size self.now }
         ensures within { IfOk result (λ at. at + width ≤ size) }
     {
         let at = self.translate(access, width, address)?;
@@ -107,13 +99,12 @@ impl<T: Tlb> Cpu<T> {
     /// The place in RAM of the word that contains an address, which needn't be aligned.
     #[inline(always)]
     pub(crate) fn reach_word_of(
-        &mut self,
+        &self,
         access: Access,
         address: u32,
         size: u32,
-    ) -> Result<u32, FaultKind>
-        ensures found { Finds (reach_word_of access address size self.old) self.old
-            result self.new }
+    ) -> Result<u32, Fault>
+        ensures found { result ≡ reach_word_of access address size self.now }
         ensures within { IfOk result (λ at. at + 4 ≤ size) }
     {
         let at = self.translate(access, 1, address)? / 4 * 4;
@@ -127,17 +118,12 @@ impl<T: Tlb> Cpu<T> {
     #[cold]
     #[inline(never)]
     #[tactic(auto, unfolding(crate::specs::Translation::physical_at))]
-    pub(crate) fn translate(
-        &mut self,
-        access: Access,
-        width: u32,
-        address: u32,
-    ) -> Result<u32, FaultKind>
+    pub(crate) fn translate(&self, access: Access, width: u32, address: u32) -> Result<u32, Fault>
         requires { 0 < width }
-        ensures { Finds (physical_at access width address self.old) self.old result self.new }
+        ensures { result ≡ physical_at access width address self.now }
     {
         if self.is_misaddressed(width, address) {
-            return Err(self.address_error(access, address));
+            return Err(address_error(access, address));
         }
         if let Some(at) = unmapped(address) {
             return Ok(at);
@@ -155,19 +141,19 @@ impl<T: Tlb> Cpu<T> {
     }
 
     // The physical address of an address in kuseg or kseg2, by the lowest row that matches.
-    fn physical_by_page(&mut self, access: Access, address: u32) -> Result<u32, FaultKind>
-        ensures { Finds (result_map (λ (to : Physical). to.at) (by_page access address self.old))
-            self.old result self.new }
+    fn physical_by_page(&self, access: Access, address: u32) -> Result<u32, Fault>
+        ensures { result ≡ result_map (λ (to : Physical). to.at)
+            (by_page access address self.now) }
     {
         let Some(i) = self.matching_row(address) else {
-            return Err(self.miss(access, address));
+            return Err(miss(access, address));
         };
         let row = self.row(i);
         if !row.v {
-            return Err(self.invalid(access, address));
+            return Err(invalid(access, address));
         }
         if access == Access::Store && !row.d {
-            return Err(self.note(address, FaultKind::TlbModified));
+            return Err(Fault::at(FaultKind::TlbModified, address));
         }
         Ok((row.frame.number() << 12) + address % (1 << 12))
     }
@@ -180,46 +166,37 @@ impl<T: Tlb> Cpu<T> {
     {
         self.tlb.find(address >> 12, self.control.identifier())
     }
+}
 
-    // Puts an address at fault into BadVAddr.
-    fn note(&mut self, address: u32, kind: FaultKind) -> FaultKind
-        ensures kind { result ≡ kind }
-        ensures noted { self.new ≡ with_fault_address (Some address) self.old }
-    {
-        self.control.set_bad_vaddr(address);
-        kind
+// A misaligned address, or a kernel address in user mode.
+fn address_error(access: Access, address: u32) -> Fault
+    ensures { result ≡ address_error access address }
+{
+    match access {
+        Access::Fetch | Access::Load => Fault::at(FaultKind::AddressErrorLoad, address),
+        Access::Store => Fault::at(FaultKind::AddressErrorStore, address),
     }
+}
 
-    fn address_error(&mut self, access: Access, address: u32) -> FaultKind
-        ensures kind { result ≡ (address_error access address).kind }
-        ensures noted { self.new ≡ with_fault_address (Some address) self.old }
-    {
-        match access {
-            Access::Fetch | Access::Load => self.note(address, FaultKind::AddressErrorLoad),
-            Access::Store => self.note(address, FaultKind::AddressErrorStore),
-        }
+// The row that matches isn't valid.
+fn invalid(access: Access, address: u32) -> Fault
+    ensures { result ≡ invalid access address }
+{
+    match access {
+        Access::Fetch | Access::Load => Fault::at(FaultKind::TlbLoad, address),
+        Access::Store => Fault::at(FaultKind::TlbStore, address),
     }
+}
 
-    fn invalid(&mut self, access: Access, address: u32) -> FaultKind
-        ensures kind { result ≡ (invalid access address).kind }
-        ensures noted { self.new ≡ with_fault_address (Some address) self.old }
-    {
-        match access {
-            Access::Fetch | Access::Load => self.note(address, FaultKind::TlbLoad),
-            Access::Store => self.note(address, FaultKind::TlbStore),
-        }
+// No row matches.
+fn miss(access: Access, address: u32) -> Fault
+    ensures { result ≡ miss access address }
+{
+    if address >= 0x8000_0000 {
+        return invalid(access, address);
     }
-
-    fn miss(&mut self, access: Access, address: u32) -> FaultKind
-        ensures kind { result ≡ (miss access address).kind }
-        ensures noted { self.new ≡ with_fault_address (Some address) self.old }
-    {
-        if address >= 0x8000_0000 {
-            return self.invalid(access, address);
-        }
-        match access {
-            Access::Fetch | Access::Load => self.note(address, FaultKind::UserMissLoad),
-            Access::Store => self.note(address, FaultKind::UserMissStore),
-        }
+    match access {
+        Access::Fetch | Access::Load => Fault::at(FaultKind::UserMissLoad, address),
+        Access::Store => Fault::at(FaultKind::UserMissStore, address),
     }
 }

@@ -9,7 +9,6 @@ use Rattle.m161_cpu.specs.declared.processor.Outcome.{Outcome}
 use Rattle.m161_cpu.specs.declared.processor.Outcome.TheVariants.{Taken}
 use Rattle.m161_cpu.specs.declared.processor.ProcessorState.{ProcessorState}
 use Rattle.m161_cpu.specs.declared.processor.ProcessorState.TheVariants.{Stopped, Running, Waiting}
-use Rattle.m161_cpu.specs.Fault.{Fault, with_fault_address}
 use Rattle.m161_cpu.specs.Processor.{Processor, stopped_processor, with_register, with_hi_lo, with_control, with_row, with_state}
 use Rattle.m161_cpu.specs.Scene.{Change, Scene, apply_part, around, processor_after, scene}
 use Rattle.m161_cpu.specs.Step.{step_of_result, change_of_step, idle, lines_in, running_step, step_by_state, step_of, tick, with_processor}
@@ -43,14 +42,10 @@ kept_by_change c p =
     ∙ kept_by_part with_hi_lo (λ _ _. refl) c.hi_lo with_words
     ∙ kept_by_part (λ (x : ℕ × ℕ). with_register x.0 x.1) (λ _ _. refl) c.register p
 
-kept_by_note : (address : Option ℕ) (p : Processor) → (with_fault_address address p).count ≡ p.count
-kept_by_note None p = refl
-kept_by_note (Some address) p = refl
-
-count_ended : (s : Scene) (r : Result Change Fault) →
+count_ended : (s : Scene) (r : Result Change _) →
     (step_of_result s r).after.processor.count ≡ s.processor.count + 1
 count_ended s (Ok change) = ap (λ n. n + 1) (kept_by_change change s.processor)
-count_ended s (Err f) = ap (λ n. n + 1) (kept_by_note f.address s.processor)
+count_ended s (Err f) = refl
 
 count_waiting : (s : Scene) (pending : Bool) →
     (if pending then running_step (with_processor (with_state Running) s) else idle tick s).after.processor.count

@@ -1,4 +1,4 @@
-use Rattle.std.proofs.Common.{◌≡◌, refl, ap, sym, subst, inl, inr, ℕ, Bool, true, false, List, [], ◌∷◌, Option, None, Some, Result, Ok, Err}
+use Rattle.std.proofs.Common.{◌≡◌, refl, ap, sym, subst, inl, inr, ℕ, Bool, true, false, List, [], ◌∷◌, Result, Ok, Err}
 use Rattle.std.specs.Prelude.{All, if◌then◌else◌}
 use Rattle.std.proofs.lemmas.List.Elements.{All-cons, All-nil}
 use Rattle.m161_bus.specs.declared.console.DoneError.{DoneError}
@@ -11,7 +11,7 @@ use Rattle.m161_cpu.specs.declared.processor.Outcome.{Outcome}
 use Rattle.m161_cpu.specs.declared.processor.Outcome.TheVariants.{Ran, PoweredOff, Taken}
 use Rattle.m161_cpu.specs.declared.processor.ProcessorState.{ProcessorState}
 use Rattle.m161_cpu.specs.declared.processor.ProcessorState.TheVariants.{Stopped, Running, Waiting}
-use Rattle.m161_cpu.specs.Fault.{Fault, with_fault_address, trap_of}
+use Rattle.m161_cpu.specs.Fault.{trap_of}
 use Rattle.m161_cpu.specs.Processor.{with_state}
 use Rattle.m161_cpu.specs.Scene.{Change, Scene, around, scene_after, scene}
 use Rattle.m161_cpu.specs.Step.{IsOfStep, step_of_result, change_of_step, idle, lines_in, running_step, step_by_state, step_of, tick, with_processor}
@@ -41,10 +41,9 @@ by_power : (off : Bool) → IsOfStep (if off then PoweredOff else Ran)
 by_power true = tt
 by_power false = tt
 
-ended_proper : (s : Scene) (r : Result Change Fault) → IsOfStep (step_of_result s r).outcome
+ended_proper : (s : Scene) (r : Result Change _) → IsOfStep (step_of_result s r).outcome
 ended_proper s (Ok change) = by_power (scene_after change s).around.board.off
-ended_proper s (Err f) =
-    is_vector (trap_of f.kind (with_fault_address f.address s.processor)) (with_fault_address f.address s.processor).control
+ended_proper s (Err f) = is_vector (trap_of f s.processor) s.processor.control
 
 waiting_proper : (s : Scene) (pending : Bool) →
     IsOfStep (if pending then running_step (with_processor (with_state Running) s) else idle tick s).outcome

@@ -1,6 +1,5 @@
-use Rattle.std.proofs.Common.{◌≡◌, ◌∙◌, refl, sym, subst, List, ◌++◌}
+use Rattle.std.proofs.Common.{◌≡◌, refl, subst, List, ◌++◌}
 use Rattle.m161_machine.specs.declared.event.Entry.{Entry}
-use Rattle.m161_machine.specs.State.{State}
 use Rattle.m161_machine.specs.History.{History, Start, boot_state, events_of, Continues, IsReplay, Leads}
 use Rattle.m161_machine.proofs.Leading.{leads_rest, leads_to_one}
 

@@ -1,5 +1,4 @@
 use Rattle.std.proofs.Common.{◌≡◌, ℕ, refl}
-use Rattle.m161_cpu.specs.Step.{Stepped}
 use Rattle.m161_machine.specs.State.{State, step_on, step_result}
 
 -- A Step of a state, written out.

@@ -9,7 +9,7 @@ use Rattle.m161_machine.specs.declared.event.Event.{Event}
 use Rattle.m161_machine.specs.declared.event.Event.TheVariants as event
 use Rattle.m161_machine.specs.declared.event.Refusal.{Refusal}
 use Rattle.m161_machine.specs.State.{State, next, step_result}
-use Rattle.m161_machine.specs.History.{History, Leads, boot_state}
+use Rattle.m161_machine.specs.History.{History, boot_state}
 
 -- The history of the stores, which says when a link of `ll` is live. A state of it has the list of
 -- all stores to RAM, and each link with the number of stores when it was made. A machine's state

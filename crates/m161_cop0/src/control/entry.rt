@@ -1,7 +1,7 @@
 //! The entry of a trap and the return from it.
 
 ghost use Rattle.std.specs.Prelude.{◌≡◌};
-ghost use Rattle.m161_cop0.specs.Trap.{after_trap, epc_of, is_user_miss, after_rfe, unit_of, vector_of, with_address, with_bad_address, with_bad_page, IsVector};
+ghost use Rattle.m161_cop0.specs.Trap.{after_trap, epc_of, is_user_miss, after_rfe, unit_of, vector_of, with_address, with_bad_page, IsVector};
 
 use crate::control::Cop0;
 use crate::exception::Exception;
@@ -36,14 +36,6 @@ impl Cop0 {
         self.code = trap.code.number();
         self.note_address(trap.code, trap.address);
         vector
-    }
-
-    /// Puts an address at fault into BadVAddr, before the trap is entered.
-    #[inline(always)]
-    pub fn set_bad_vaddr(&mut self, address: u32)
-        ensures { self.new ≡ with_bad_address address self.old }
-    {
-        self.bad_vaddr = address;
     }
 
     /// Returns from a trap, as `rfe` does: the previous pair of Status goes to the current one, the
@@ -82,13 +74,13 @@ impl Cop0 {
     {
         match exception {
             Exception::TlbModified | Exception::TlbLoad | Exception::TlbStore => {
-                self.set_bad_vaddr(address);
+                self.bad_vaddr = address;
                 self.entry_hi = address / (1 << 12) * (1 << 12) + self.entry_hi % (1 << 12);
                 self.context = self.context / (1 << 21) * (1 << 21)
                     + ((address >> 12) % (1 << 19) << 2);
             }
             Exception::AddressErrorLoad | Exception::AddressErrorStore => {
-                self.set_bad_vaddr(address);
+                self.bad_vaddr = address;
             }
             _ => {}
         }

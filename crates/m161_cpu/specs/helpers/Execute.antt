@@ -5,12 +5,12 @@ use Rattle.m161_isa.specs.declared.table.Row.{Row}
 use Rattle.m161_isa.specs.Instr.{row_of_instr, numbers_of_instr}
 use Rattle.m161_isa.specs.declared.instr.Instr.TheVariants.{Absent}
 use Rattle.m161_bus.specs.Board.{BoardState}
-use Rattle.m161_cpu.specs.declared.fault.FaultKind.{FaultKind}
 use Rattle.m161_cpu.specs.declared.processor.Outcome.TheVariants.{Idle}
 use Rattle.m161_cpu.specs.Processor.{Processor}
 use Rattle.m161_cpu.specs.Links.{Keep}
 use Rattle.m161_cpu.specs.Scene.{Around, Scene, Change, scene, result_map, processor_after, around_after}
-use Rattle.m161_cpu.specs.Fault.{Fault, fault, with_fault_address}
+use Rattle.m161_cpu.specs.declared.fault.Fault.{Fault}
+use Rattle.m161_cpu.specs.Fault.{fault}
 use Rattle.m161_cpu.specs.Effect.{write}
 use Rattle.m161_cpu.specs.Step.{Stepped, change_of_row, misfit_kind, running_step}
 
@@ -35,58 +35,43 @@ change_by_some s i None = Err (fault (misfit_kind (unit_in i)))
 unfoldable pub change_by : Scene → Instr → Result Change Fault
 change_by s i = change_by_some s i (row_of_instr i)
 
--- a value was found; or this is the reason why not, and the address at fault is noted
-abbrev pub Finds : {V : Type 0} → Result V Fault → Processor → Result V FaultKind → Processor
+-- a word was read, of RAM or of the slots, which leaves a board; or this is why not
+abbrev pub FindsWord : Result (ℕ × BoardState) Fault → BoardState → Result ℕ Fault → BoardState
     → Type 0
-Finds r before (Ok value) after = (r ≡ Ok value) × (after ≡ before)
-Finds r before (Err kind) after =
-    (f : Fault) × (r ≡ Err f) × (kind ≡ f.kind) × (after ≡ with_fault_address f.address before)
+FindsWord r board (Ok word) left = r ≡ Ok (word, left)
+FindsWord r board (Err f) left = (r ≡ Err f) × (left ≡ board)
 
--- a word was read, of RAM or of the slots, which leaves a board
-abbrev pub FindsWord : Result (ℕ × BoardState) Fault → Processor → BoardState → Result ℕ FaultKind
-    → Processor → BoardState → Type 0
-FindsWord r before board (Ok word) after left = (r ≡ Ok (word, left)) × (after ≡ before)
-FindsWord r before board (Err kind) after left =
-    (f : Fault) × (r ≡ Err f) × (kind ≡ f.kind) × (after ≡ with_fault_address f.address before)
-    × (left ≡ board)
-
--- the processor and what is around it are as after a change; or as before it, with an address at
--- fault noted
+-- the processor and what is around it are these
 pub record IsAfter (p : Processor) (a : Around) (after : Scene) : Type 0 where
   pub processor_is : after.processor ≡ p
   pub memory_is : after.around.memory ≡ a.memory
   pub board_is : after.around.board ≡ a.board
   pub links_are : after.around.links ≡ a.links
 
--- a change was made; or this is why not, the address at fault is noted, and nothing else is changed
-abbrev pub Executes : Result Change Fault → Scene → Result Unit FaultKind → Scene → Type 0
+-- a change was made; or this is why not, and nothing is changed
+abbrev pub Executes : Result Change Fault → Scene → Result Unit Fault → Scene → Type 0
 Executes (Ok c) before (Ok done) after =
     IsAfter (processor_after c before.processor) (around_after c before.around) after
-Executes (Ok c) before (Err kind) after = ⊥
+Executes (Ok c) before (Err f) after = ⊥
 Executes (Err f) before (Ok done) after = ⊥
-Executes (Err f) before (Err kind) after =
-    (kind ≡ f.kind) × IsAfter (with_fault_address f.address before.processor) before.around after
+Executes (Err f) before (Err g) after =
+    (g ≡ f) × IsAfter before.processor before.around after
 
 -- an instruction was executed that changes only the processor
-abbrev pub ExecutesInProcessor : Instr → Processor → Result Unit FaultKind → Processor → Type 0
+abbrev pub ExecutesInProcessor : Instr → Processor → Result Unit Fault → Processor → Type 0
 ExecutesInProcessor i before result after =
     (a : Around) → Executes (change_by (scene before a) i) (scene before a) result (scene after a)
 
--- a value, or why there is none: a fault without an address
-abbrev pub or_fault : Result ℕ FaultKind → Result ℕ Fault
-or_fault (Ok value) = Ok value
-or_fault (Err kind) = Err (fault kind)
-
 -- a row on the words s and t of two registers writes this value, if any, to a third
-abbrev pub Writes : (ℕ → ℕ → ℕ → Instr) → ℕ → ℕ → Result ℕ FaultKind → Type 0
+abbrev pub Writes : (ℕ → ℕ → ℕ → Instr) → ℕ → ℕ → Result ℕ Fault → Type 0
 Writes instr s t value =
     (here : Scene) (d a b : ℕ) →
     slice_index here.processor.registers a ≡ s → slice_index here.processor.registers b ≡ t →
-    change_by here (instr d a b) ≡ result_map (write d) (or_fault value)
+    change_by here (instr d a b) ≡ result_map (write d) value
 
 -- a row on the word s of one register writes this value, if any, to another
-abbrev pub WritesFrom : (ℕ → ℕ → Instr) → ℕ → Result ℕ FaultKind → Type 0
+abbrev pub WritesFrom : (ℕ → ℕ → Instr) → ℕ → Result ℕ Fault → Type 0
 WritesFrom instr s value =
     (here : Scene) (d a : ℕ) →
     slice_index here.processor.registers a ≡ s →
-    change_by here (instr d a) ≡ result_map (write d) (or_fault value)
+    change_by here (instr d a) ≡ result_map (write d) value

@@ -1,6 +1,6 @@
-use Rattle.std.proofs.Common.{◌≡◌, ◌∙◌, ap, true, rules}
+use Rattle.std.proofs.Common.{◌≡◌, true, rules}
 use Rattle.m161_machine.specs.Conf.{is_within_limits}
-use Rattle.m161_machine.specs.History.{Start, boot_state}
+use Rattle.m161_machine.specs.History.{Start}
 use Rattle.m161_machine.specs.helpers.History.{start_of}
 use Rattle.m161_machine.proofs.Booted.{lawful_at_boot, loaded}
 use Rattle.m161_machine.proofs.machine.Machine.boot.Goals as goal

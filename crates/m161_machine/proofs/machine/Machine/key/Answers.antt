@@ -1,4 +1,4 @@
-use Rattle.std.proofs.Common.{◌≡◌, ◌∙◌, refl, ap, sym, subst, ◌++◌, ◌∷◌, [], length, Ok, arith}
+use Rattle.std.proofs.Common.{◌≡◌, ◌∙◌, refl, ap, sym, subst, ◌++◌, ◌∷◌, [], Ok, arith}
 use Rattle.m161_machine.specs.declared.event.Event.TheVariants.{Key}
 use Rattle.m161_machine.specs.declared.event.Entry.{Entry}
 use Rattle.m161_machine.specs.History.{Answers, History, entry}

@@ -1,4 +1,4 @@
-use Rattle.std.proofs.Common.{◌≡◌, ap, subst, sym, length}
+use Rattle.std.proofs.Common.{subst, length}
 use Rattle.m161_machine.specs.State.{CountUpTo}
 use Rattle.m161_machine.specs.History.{History, IsReplay, boot_state}
 use Rattle.m161_machine.proofs.Counted.{counts_steps}

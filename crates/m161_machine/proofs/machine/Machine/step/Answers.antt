@@ -1,8 +1,7 @@
-use Rattle.std.proofs.Common.{◌≡◌, ◌∙◌, refl, ap, sym, subst, ◌++◌, ◌∷◌, [], length, Ok, arith}
+use Rattle.std.proofs.Common.{◌≡◌, ◌∙◌, refl, ap, subst, ◌++◌, ◌∷◌, [], Ok, arith}
 use Rattle.m161_machine.specs.declared.event.Event.TheVariants.{Step}
 use Rattle.m161_machine.specs.declared.event.Entry.{Entry}
 use Rattle.m161_machine.specs.History.{Answers, History, entry}
-use Rattle.m161_machine.proofs.Given.{gives}
 use Rattle.m161_machine.proofs.Made.{lawful_more, room_for}
 use Rattle.m161_machine.proofs.machine.Machine.step.Given.{Over}
 use Rattle.m161_machine.proofs.machine.Machine.step.Goals as goal

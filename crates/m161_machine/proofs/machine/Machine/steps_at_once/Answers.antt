@@ -1,5 +1,4 @@
-use Rattle.std.proofs.Common.{◌≡◌, ◌∙◌, ap, sym, subst, ◌++◌, length, replicate, take, drop, arith, rules}
-use Rattle.m161_machine.specs.declared.event.Entry.{Entry}
+use Rattle.std.proofs.Common.{◌≡◌, ◌∙◌, ap, subst, ◌++◌, length, replicate, take, arith, rules}
 use Rattle.m161_machine.specs.declared.event.Event.TheVariants.{Step}
 use Rattle.m161_machine.specs.History.{Continues, History}
 use Rattle.m161_machine.proofs.Made.{lawful_on}

@@ -1,4 +1,4 @@
-use Rattle.std.proofs.Common.{◌∙◌, ap, sym, length, arith, rules}
+use Rattle.std.proofs.Common.{◌∙◌, ap, sym, length, arith}
 use Rattle.std.proofs.lemmas.List.{length-set}
 use Rattle.m161_machine.specs.State.{State}
 use Rattle.m161_machine.proofs.Advancing.{advances_by_step}

@@ -1,5 +1,4 @@
 use Rattle.std.proofs.Common.{◌∙◌, ap, sym, arith}
-use Rattle.m161_machine.specs.declared.conf.Conf.{Conf}
 use Rattle.m161_machine.specs.State.{State, step_on, with_step}
 use Rattle.m161_machine.proofs.Accepting.{stays_on}
 use Rattle.m161_machine.proofs.Stepping.{step_is}
