@@ -1,6 +1,6 @@
 //! Coprocessor 0 and the TLB.
 
-ghost use Rattle.std.specs.Prelude.{◌≡◌, ◌<◌, ℕ, List};
+ghost use Rattle.std.specs.Prelude.{◌≡◌, ◌<◌, ℕ, List, Ok};
 ghost use Rattle.m161_isa.specs.declared.instr.Instr.TheVariants.{MoveFromCop0, MoveToCop0, Plain};
 ghost use Rattle.m161_bus.specs.Board.{BoardState, interrupt_lines};
 ghost use Rattle.m161_cpu.specs.Effect.{entry_row, after_probe, row_indexed};
@@ -19,28 +19,26 @@ impl<T: Tlb> Cpu<T> {
     #[cold]
     #[inline(never)]
     #[tactic(auto, unfolding(crate::specs::helpers::Execute::change_by))]
-    pub(crate) fn read_cop0(&mut self, rt: Reg, register: Reg, lines: u32) -> Result<(), Fault>
+    pub(crate) fn read_cop0(&mut self, rt: Reg, register: Reg, lines: u32)
         ensures { (a : Around) → interrupt_lines a.number a.board ≡ lines
             → Executes (change_by (scene self.old a) (MoveFromCop0 rt register))
-            (scene self.old a) result
+            (scene self.old a) (Ok result)
             (scene self.new a) }
     {
         let word = self.control.read(register, lines);
         self.set(rt, word);
-        Ok(())
     }
 
     /// `mtc0`.
     #[cold]
     #[inline(never)]
     #[tactic(auto, unfolding(crate::specs::helpers::Execute::change_by))]
-    pub(crate) fn write_cop0(&mut self, rt: Reg, register: Reg) -> Result<(), Fault>
-        ensures { ExecutesInProcessor (MoveToCop0 rt register) self.old result self.new }
+    pub(crate) fn write_cop0(&mut self, rt: Reg, register: Reg)
+        ensures { ExecutesInProcessor (MoveToCop0 rt register) self.old (Ok result) self.new }
     {
         let word = self.reg(rt);
         self.control.write(register, word);
         self.advance(Flow::Next);
-        Ok(())
     }
 
     /// A row without operands.

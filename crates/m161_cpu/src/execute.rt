@@ -106,8 +106,14 @@ impl<T: Tlb> Cpu<T> {
                 base,
             } => self.store(op, rt, offset, base, c, ram, board, links),
             Instr::Plain(op) => self.plain(op, c, links),
-            Instr::MoveFromCop0 { rt, register } => self.read_cop0(rt, register, board.lines(c)),
-            Instr::MoveToCop0 { rt, register } => self.write_cop0(rt, register),
+            Instr::MoveFromCop0 { rt, register } => {
+                self.read_cop0(rt, register, board.lines(c));
+                Ok(())
+            }
+            Instr::MoveToCop0 { rt, register } => {
+                self.write_cop0(rt, register);
+                Ok(())
+            }
             Instr::Absent(unit) => Err(Fault::of(misfit_kind(unit))),
             Instr::Reserved(_) => Err(Fault::of(FaultKind::ReservedInstruction)),
         }

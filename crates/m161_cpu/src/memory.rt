@@ -269,7 +269,9 @@ impl<T: Tlb> Cpu<T> {
             self.end_store(at, links);
             return Ok(());
         }
-        self.store_word_elsewhere(address, word, c, ram, board, links)
+        // (with `?`, so that the common path has no stack slot for the result)
+        self.store_word_elsewhere(address, word, c, ram, board, links)?;
+        Ok(())
     }
 
     #[cold]

@@ -5,7 +5,8 @@ ghost use Rattle.m161_bus.specs.Board.{KeepsSize, interrupt_lines};
 ghost use Rattle.m161_cpu.specs.Links.{End, links_after};
 ghost use Rattle.m161_cpu.specs.Scene.{scene_of};
 ghost use Rattle.m161_cop0.specs.Trap.{IsVector};
-ghost use Rattle.m161_cpu.specs.Fault.{vector, with_trap};
+ghost use Rattle.m161_cpu.specs.Fault.{exception_of, vector, with_trap};
+ghost use Rattle.m161_cpu.specs.declared.processor.Outcome.TheVariants.{Trapped};
 ghost use Rattle.m161_cpu.specs.helpers.Execute.{Executes};
 ghost use Rattle.m161_cpu.specs.Step.{change_of_step, executable_word, is_unusable, running_step, step_of, tick, IsOfStep, Leaves};
 
@@ -73,13 +74,26 @@ impl<T: Tlb> Cpu<T> {
                     Outcome::Ran
                 }
             }
-            Err(fault) => {
-                let vector = self.trap(fault, c, links);
-                Outcome::Trapped {
-                    code: fault.kind.exception(),
-                    vector,
-                }
-            }
+            Err(fault) => self.trap_aside(fault, c, links),
+        }
+    }
+
+    // A call of `trap`, so that only this function has a stack slot for the fault.
+    #[inline(always)]
+    fn trap_aside(&mut self, fault: Fault, c: u32, links: &mut Links) -> Outcome
+        requires processor { c < 32 }
+        requires room { self.old.count < 2 ^ 64 - 1 }
+        ensures outcome { result ≡ Trapped (exception_of fault.kind) (vector fault self.old) }
+        ensures processor { self.new ≡ tick (with_trap fault self.old) }
+        ensures links { links.new ≡ links_after c End None links.old }
+        ensures counted { self.new.count ≡ self.old.count + 1 }
+        ensures proper { IsOfStep result }
+    {
+        let Fault { kind, address } = fault;
+        let vector = self.trap(Fault { kind, address }, c, links);
+        Outcome::Trapped {
+            code: kind.exception(),
+            vector,
         }
     }
 

@@ -6,11 +6,11 @@ pub returns-then-not-row : goal.returns-then-not-row
 returns-then-not-row g c =
     ap Err c.invalid.ensures
     ∙ sym (not_valid c.args.access c.args.address _ _ c.in-Some.i c.row-row.result _
-        (sym c.matching_row.ensures.lowest ∙ c.in-Some.is) c.row-row.ensures (search rules))
+    (sym c.matching_row.ensures.lowest ∙ c.in-Some.is) c.row-row.ensures (search rules))
 
 pub returns-then-not-row-2 : goal.returns-then-not-row-2
 returns-then-not-row-2 g c =
     ap Err c.at.ensures
     ∙ sym (not_dirty c.args.access c.args.address _ _ c.in-Some.i c.row-row.result _
-        (sym c.matching_row.ensures.lowest ∙ c.in-Some.is) c.row-row.ensures (search rules)
-        (search rules) (search rules))
+    (sym c.matching_row.ensures.lowest ∙ c.in-Some.is) c.row-row.ensures (search rules)
+    (search rules) (search rules))
