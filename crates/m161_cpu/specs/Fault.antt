@@ -1,4 +1,4 @@
-use Rattle.std.specs.Prelude.{ℕ, ◌+◌, Bool, true, false, None, Some, unwrap_or}
+use Rattle.std.specs.Prelude.{ℕ, ◌+◌, Bool, true, false}
 use Rattle.m161_cop0.specs.declared.exception.Exception.{Exception}
 use Rattle.m161_cop0.specs.declared.exception.Exception.TheVariants as exception
 use Rattle.m161_cop0.specs.declared.trap.Trap.{Trap}
@@ -11,13 +11,14 @@ use Rattle.m161_cpu.specs.Processor.{Processor}
 -- Why an instruction isn't executed, and its trap. Kane, MIPS RISC Architecture, "Exception
 -- processing".
 
--- a fault has a kind, and an address at fault or none
+-- a fault has a kind and an address at fault; one without an address has 0 there, and its trap uses
+-- none
 
 abbrev pub fault : FaultKind → Fault
-fault kind = record { kind = kind; address = None }
+fault kind = record { kind = kind; address = 0 }
 
 abbrev pub fault_at : FaultKind → ℕ → Fault
-fault_at kind address = record { kind = kind; address = Some address }
+fault_at kind address = record { kind = kind; address = address }
 
 -- the exception of a kind
 abbrev pub exception_of : FaultKind → Exception
@@ -53,7 +54,7 @@ is_user_miss_kind kind.UserMissLoad = true
 is_user_miss_kind kind.UserMissStore = true
 is_user_miss_kind _ = false
 
--- the trap of a fault at the current instruction; that of a fault without an address uses none
+-- the trap of a fault at the current instruction
 abbrev pub trap_of : Fault → Processor → Trap
 trap_of f p = record {
   code = exception_of f.kind;
@@ -61,7 +62,7 @@ trap_of f p = record {
   user_miss = is_user_miss_kind f.kind;
   pc = p.pc;
   slot = p.slot;
-  address = unwrap_or f.address 0;
+  address = f.address;
 }
 
 -- the address at which the processor continues

@@ -91,9 +91,9 @@ impl FaultKind {
 #[derive(Clone, Copy, Debug, PartialEq, Eq)]
 pub(crate) struct Fault {
     pub(crate) kind: FaultKind,
-    /// The address that was to be fetched, loaded or stored, which BadVAddr gets; `None` if it gets
-    /// none.
-    pub(crate) address: Option<u32>,
+    /// The address that was to be fetched, loaded or stored; 0 for a kind without an address, whose
+    /// trap uses none.
+    pub(crate) address: u32,
 }
 
 impl Fault {
@@ -102,10 +102,7 @@ impl Fault {
     pub(crate) fn of(kind: FaultKind) -> Fault
         ensures { result ≡ fault kind }
     {
-        Fault {
-            kind,
-            address: None,
-        }
+        Fault { kind, address: 0 }
     }
 
     /// A fault of an address.
@@ -113,9 +110,6 @@ impl Fault {
     pub(crate) fn at(kind: FaultKind, address: u32) -> Fault
         ensures { result ≡ fault_at kind address }
     {
-        Fault {
-            kind,
-            address: Some(address),
-        }
+        Fault { kind, address }
     }
 }

@@ -260,7 +260,7 @@ impl<T: Tlb> Cpu<T> {
             user_miss: fault.kind.is_user_miss(),
             pc: self.pc,
             slot: self.slot,
-            address: fault.address.unwrap_or(0),
+            address: fault.address,
         };
         let vector = self.control.enter(trap);
         self.pc = vector;
