@@ -1,32 +1,37 @@
-use Rattle.std.proofs.Common.{◌≡◌, ◌∙◌, sym, ap, ℕ, ◌+◌, ◌-◌, List, [], ◌∷◌, ◌++◌, length, get_or, replicate, slice_get, Some, arith, append_assoc, length-append}
-use Rattle.std.proofs.lemmas.List.{flat_map_more, get_or_push, replicate-append-replicate}
-use Rattle.std.proofs.lemmas.Option.{get_or_from_slice_get}
+use Rattle.std.proofs.Common.{◌≡◌, ◌∙◌, sym, ap, ap₂, ℕ, suc, ◌+◌, List, [], ◌∷◌, ◌++◌, length, get_or, take, drop, set, replicate, arith, append_assoc}
+use Rattle.std.proofs.lemmas.List.{drop_all, flat_map_more, set_split, replicate-append-replicate}
+use Rattle.std.proofs.Math.Seq.{split_at}
 use Rattle.m161_machine.specs.declared.event.Event.{Event}
 use Rattle.m161_machine.specs.Events.{unfolded}
 
 -- Events that are kept as runs.
 
--- the event of the last run some more times
-pub joined : (old new : List (Event × ℕ)) (run last : Event × ℕ) (e : Event) (times : ℕ) → old ≡ new ++ run ∷ [] →
-    slice_get old (length old - 1) ≡ Some last → last.0 ≡ e →
-    unfolded old ++ replicate times e ≡ unfolded new ++ replicate (last.1 + times) e
-joined old new run last e times is got same =
-    let place : length new ≡ length old - 1 = omega (arith, ap length is, length-append new (run ∷ [])) in
-    let run_is : run ≡ last =
-    sym (get_or_push new run run (length old - 1) place)
-    ∙ ap (λ (runs : List (Event × ℕ)). get_or runs (length old - 1) run) (sym is)
-    ∙ get_or_from_slice_get old (length old - 1) last run got in
-    ap (λ es. es ++ replicate times e) (ap unfolded is ∙ sym (flat_map_more (λ (r : Event × ℕ). replicate r.1 r.0) [] new run))
-    ∙ append_assoc (unfolded new) (replicate run.1 run.0) (replicate times e)
-    ∙ ap (λ (r : Event × ℕ). unfolded new ++ (replicate r.1 r.0 ++ replicate times e)) run_is
-    ∙ ap (λ f. unfolded new ++ (replicate last.1 f ++ replicate times e)) same
-    ∙ ap (λ es. unfolded new ++ es) (replicate-append-replicate last.1 times e)
+-- one run more
+one_more : (runs : List (Event × ℕ)) (run : Event × ℕ) → unfolded (runs ++ run ∷ []) ≡ unfolded runs ++ replicate run.1 run.0
+one_more runs run = sym (flat_map_more (λ (r : Event × ℕ). replicate r.1 r.0) [] runs run)
 
--- an event some more times, after some times of it
-pub repeated : (before old new : List Event) (e : Event) (done more : ℕ) → old ≡ before ++ replicate done e →
-    new ≡ old ++ replicate more e → new ≡ before ++ replicate (done + more) e
+-- the last run is made longer
+pub lengthened : (runs : List (Event × ℕ)) (i : ℕ) (last more longer : Event × ℕ) → length runs ≡ suc i → last ≡ get_or runs i last →
+    last.0 ≡ more.0 → longer ≡ (last.0, last.1 + more.1) →
+    unfolded (set runs i longer) ≡ unfolded runs ++ replicate more.1 more.0
+lengthened runs i last more longer all at same is =
+    let front = take i runs in
+    let ends : drop (suc i) runs ≡ [] = drop_all (suc i) runs (omega (arith, all)) in
+    let whole : runs ≡ front ++ last ∷ [] =
+    split_at runs i last (omega (arith, all)) ∙ ap₂ (λ x rest. front ++ x ∷ rest) (sym at) ends in
+    ap unfolded (set_split runs i longer (omega (arith, all)) ∙ ap (λ rest. front ++ longer ∷ rest) ends)
+    ∙ one_more front longer
+    ∙ ap (λ (r : Event × ℕ). unfolded front ++ replicate r.1 r.0) is
+    ∙ ap (λ es. unfolded front ++ es) (sym (replicate-append-replicate last.1 more.1 last.0))
+    ∙ sym (append_assoc (unfolded front) (replicate last.1 last.0) (replicate more.1 last.0))
+    ∙ ap₂ (λ es e. es ++ replicate more.1 e) (sym (ap unfolded whole ∙ one_more front last)) same
+
+-- a run with an event some more times, after some times of it
+pub repeated : (before : List Event) (old new : List (Event × ℕ)) (e : Event) (done more : ℕ) → unfolded old ≡ before ++ replicate done e →
+    new ≡ old ++ (e, more) ∷ [] → unfolded new ≡ before ++ replicate (done + more) e
 repeated before old new e done more first second =
-    second
+    ap unfolded second
+    ∙ one_more old (e, more)
     ∙ ap (λ es. es ++ replicate more e) first
     ∙ append_assoc before (replicate done e) (replicate more e)
     ∙ ap (λ es. before ++ es) (replicate-append-replicate done more e)

@@ -1,6 +1,6 @@
 //! Events in order, kept as runs: a schedule may ask for one event a million times.
 
-ghost use Rattle.std.specs.Prelude.{◌≡◌, ◌+◌, ◌<◌, ◌≤◌, ◌^◌, ◌==◌, [], ◌∷◌, ◌++◌, length, replicate, vec_capacity, vec_len, IfOk, OnErr, OnOk};
+ghost use Rattle.std.specs.Prelude.{◌≡◌, ◌+◌, ◌<◌, ◌≤◌, ◌^◌, ◌==◌, true, false, [], ◌∷◌, ◌++◌, length, replicate, vec_capacity, vec_len, IfOk, OnErr, OnOk};
 ghost use Rattle.std.specs.Iterator.{at_most};
 ghost use Rattle.m161_machine.specs.Events.{unfolded, TakesRun};
 
@@ -79,45 +79,49 @@ impl Run {
     {
         self.code / 4
     }
+
+    // Adds the times of another run, if it is of the same event and there is room for them. Returns
+    // whether they were added.
+    fn lengthen(&mut self, more: &Run) -> bool
+        ensures added { result ≡ true
+            → (self.old.0 ≡ more.now.0) × (self.new ≡ (self.old.0, self.old.1 + more.now.1)) }
+        ensures not_added { result ≡ false → self.new ≡ self.old }
+    {
+        if self.number != more.number || self.code % 4 != more.code % 4 {
+            return false;
+        }
+        if self.times() + more.times() > MOST_TIMES {
+            return false;
+        }
+        self.code += more.times() * 4;
+        true
+    }
 }
 
-// Takes the last run away, if it is of this event and has room for these more times. Returns how
-// often the event is still to be appended.
-fn take_alike(runs: &mut Vec<Run>, event: Event, times: u32) -> u32
-    requires some { 1 ≤ times }
-    requires small { times < 2 ^ 30 }
-    ensures events { unfolded runs.old.items ++ replicate times event
-        ≡ unfolded runs.new.items ++ replicate result event }
-    ensures some { 1 ≤ result }
-    ensures small { result < 2 ^ 30 }
-    ensures len { vec_len runs.new ≤ vec_len runs.old }
-    ensures capacity { vec_capacity runs.new ≡ vec_capacity runs.old }
+// Adds these times to the last run, if it is of this event and has room for them. Returns whether
+// they were added.
+fn lengthen_last(runs: &mut Vec<Run>, more: &Run) -> bool
+    ensures added { result ≡ true
+        → unfolded runs.new.items ≡ unfolded runs.old.items ++ replicate more.now.1 more.now.0 }
+    ensures not_added { result ≡ false → runs.new.items ≡ runs.old.items }
 {
-    let Some(last) = runs.last() else {
-        return times;
-    };
-    let before = last.times();
-    if last.event() != event {
-        return times;
+    match runs.last_mut() {
+        Some(last) => last.lengthen(more),
+        None => false,
     }
-    if before + times > MOST_TIMES {
-        return times;
-    }
-    runs.take_last();
-    before + times
 }
 
-// Appends an event some times, into the room of the runs.
-fn append_run(runs: &mut Vec<Run>, event: Event, times: u32)
-    requires some { 1 ≤ times }
-    requires small { times < 2 ^ 30 }
-    requires room { vec_len runs.old < vec_capacity runs.old }
-    ensures events { unfolded runs.new.items ≡ unfolded runs.old.items ++ replicate times event }
-    ensures len { vec_len runs.new ≤ vec_len runs.old + 1 }
-    ensures capacity { vec_capacity runs.new ≡ vec_capacity runs.old }
+// Appends an event some times.
+fn append_run(runs: &mut Vec<Run>, run: Run) -> Result<(), AllocError>
+    ensures appended { OnOk result
+        (unfolded runs.new.items ≡ unfolded runs.old.items ++ replicate run.1 run.0) }
+    ensures refused { OnErr result (runs.new.items ≡ runs.old.items) }
 {
-    let all = take_alike(runs, event, times);
-    runs.push_reserved(Run::new(event, all));
+    if lengthen_last(runs, &run) {
+        return Ok(());
+    }
+    runs.push(run)?;
+    Ok(())
 }
 
 // Appends an event some times, into the room of the runs.
@@ -128,9 +132,23 @@ fn append(runs: &mut Vec<Run>, event: Event, times: u32)
     let mut done = 0;
     while done < times {
         let more = (times - done).min(MOST_TIMES);
-        append_run(runs, event, more);
+        runs.push_reserved(Run::new(event, more));
         done += more;
     }
+}
+
+// Appends an event any number of times.
+fn append_times(runs: &mut Vec<Run>, event: Event, times: u32) -> Result<(), AllocError>
+    ensures appended { OnOk result
+        (unfolded runs.new.items ≡ unfolded runs.old.items ++ replicate times event) }
+    ensures refused { OnErr result (runs.new.items ≡ runs.old.items) }
+{
+    if 0 < times && times <= MOST_TIMES {
+        return append_run(runs, Run::new(event, times));
+    }
+    runs.reserve(MOST_RUNS)?;
+    append(runs, event, times);
+    Ok(())
 }
 
 /// Events in order. Contracts see them as their list. They are kept as runs of equal events, each
@@ -215,8 +233,7 @@ impl Events {
         let Some(number) = self.len().checked_add(n as usize) else {
             return Err(AllocError);
         };
-        self.runs.reserve(MOST_RUNS)?;
-        append(&mut self.runs, event, n);
+        append_times(&mut self.runs, event, n)?;
         self.number = number;
         Ok(())
     }
