@@ -1,5 +1,5 @@
 -- A line of a schedule.
-use Rattle.std.proofs.Common.{◌≡◌, ◌≢◌, ℕ, ◌<◌, List, [], ◌∷◌, length, get_or, replicate, refl, sym, ap, ap₂, ◌∙◌, arith, Option, Some, None, codes, decimal, rules}
+use Rattle.std.proofs.Common.{◌≡◌, ◌≢◌, ℕ, ◌<◌, List, [], ◌∷◌, length, get_or, replicate, refl, sym, subst, ap, ap₂, ◌∙◌, arith, Option, Some, None, codes, decimal, rules}
 use Rattle.std.proofs.lemmas.Option.{none-some, same_Some, some_pair_parts}
 use Rattle.m161_machine.specs.declared.event.Event.{Event}
 use Rattle.m161_machine.specs.declared.event.Event.TheVariants as events
@@ -13,6 +13,11 @@ use Rattle.m161_steplog.specs.helpers.Schedule.{item_events, ReadsLine}
 use Rattle.m161_steplog.proofs.Reading.{nothing}
 use Rattle.m161_steplog.proofs.Parts.{cut_same, has_space, not_spaced, one_lacks}
 use Rattle.m161_steplog.proofs.Decimal.{decimal_lacks_space}
+
+-- a text by its parts
+pub of_parts : {X : Type 0} (Valid : X → Type 0) (f : X → List ℕ) (text kind rest : List ℕ) (r : Option X) → text ≡ kind ␣ rest →
+    Reads Valid f (kind ␣ rest) r → Reads Valid f text r
+of_parts Valid f text kind rest r same it = subst (λ t. Reads Valid f t r) (sym same) it
 
 -- the first part of an event's text decides the event
 abbrev Kind : List ℕ → List ℕ → Event → Type 0

@@ -5,7 +5,7 @@ ghost use Rattle.m161_machine.specs.declared.event.Event.{Event};
 ghost use Rattle.m161_machine.specs.declared.event.Event.TheVariants as events;
 ghost use Rattle.m161_steplog.specs.declared.fault.Fault.TheVariants as faults;
 ghost use Rattle.m161_steplog.specs.Lines.{lines_of, FirstBad, IsReadAs};
-ghost use Rattle.m161_steplog.specs.Parts.{Reads, IsWord};
+ghost use Rattle.m161_steplog.specs.Parts.{◌␣◌, Reads, IsWord, Lacks};
 ghost use Rattle.m161_steplog.specs.helpers.Parts.{ReadsBoth};
 ghost use Rattle.m161_steplog.specs.Text.{event_text, IsEvent};
 ghost use Rattle.m161_steplog.specs.Schedule.{IsCount, IsSchedule, AreScheduleLines};
@@ -29,20 +29,26 @@ pub(crate) enum Item {
     Repeated(Event, u32),
 }
 
-// The event of a text.
-fn parse_event(text: &str) -> Option<Event>
+// The event of a text without a space.
+fn parse_done(text: &str) -> Option<Event>
+    requires { Lacks 32 text.now }
     ensures { Reads IsEvent event_text text.now result }
 {
     match text {
         "o" => Some(Event::Done),
-        _ => {
-            let (kind, rest) = cut_at_space(text)?;
-            match kind {
-                "s" => Some(Event::Step(parse_decimal(rest)?)),
-                "k" => Some(Event::Key(parse_byte(rest)?)),
-                _ => None,
-            }
-        }
+        _ => None,
+    }
+}
+
+// The event of a text whose parts are before and after its first space.
+fn parse_event(kind: &str, rest: &str) -> Option<Event>
+    requires { Lacks 32 kind.now }
+    ensures { Reads IsEvent event_text (kind.now ␣ rest.now) result }
+{
+    match kind {
+        "s" => Some(Event::Step(parse_decimal(rest)?)),
+        "k" => Some(Event::Key(parse_byte(rest)?)),
+        _ => None,
     }
 }
 
@@ -68,10 +74,11 @@ fn parse_times(text: &str) -> Option<(u32, u32)>
 }
 
 // The same, after the event's name.
-fn parse_steps(text: &str) -> Option<(u32, u32)>
-    ensures { ReadsBoth IsWord IsCount (λ p. event_text (events.Step p)) decimal text.now result }
+fn parse_steps(kind: &str, rest: &str) -> Option<(u32, u32)>
+    requires { Lacks 32 kind.now }
+    ensures { ReadsBoth IsWord IsCount (λ p. event_text (events.Step p)) decimal
+        (kind.now ␣ rest.now) result }
 {
-    let (kind, rest) = cut_at_space(text)?;
     match kind {
         "s" => parse_times(rest),
         _ => None,
@@ -88,9 +95,12 @@ fn parse_item(line: &str) -> Option<Item>
     if line.starts_with('#') {
         return Some(Item::Nothing);
     }
-    match parse_event(line) {
+    let Some((kind, rest)) = cut_at_space(line) else {
+        return Some(Item::Repeated(parse_done(line)?, 1));
+    };
+    match parse_event(kind, rest) {
         Some(event) => Some(Item::Repeated(event, 1)),
-        None => match parse_steps(line) {
+        None => match parse_steps(kind, rest) {
             Some((p, count)) => Some(Item::Repeated(Event::Step(p), count)),
             None => None,
         },
