@@ -1,7 +1,7 @@
 -- What commands do.
 use Rattle.std.proofs.Common.{◌≡◌, refl, sym, subst, ℕ, List, ◌++◌, take, Option, None, Some, Result, Ok, Err, codes, decimal}
 use Rattle.m161_machine.specs.declared.event.Event.{Event}
-use Rattle.m161_steplog.specs.Parts.{◌␣◌}
+use Rattle.m161_text.specs.Parts.{◌␣◌}
 use Rattle.std.specs.Option.{option_map}
 use Rattle.m161_debug.specs.declared.breakpoints.BreakError.{BreakError}
 use Rattle.m161_debug.specs.declared.breakpoints.BreakError.TheVariants as breaks

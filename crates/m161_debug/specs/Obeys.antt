@@ -7,7 +7,7 @@ use Rattle.m161_machine.specs.declared.event.Refusal.{Refusal}
 use Rattle.m161_machine.specs.Refusal.{number_of_refusal, name_of_refusal}
 use Rattle.m161_machine.specs.State.{State}
 use Rattle.m161_machine.specs.History.{Answers}
-use Rattle.m161_steplog.specs.Parts.{◌␣◌}
+use Rattle.m161_text.specs.Parts.{◌␣◌}
 use Rattle.m161_steplog.specs.Text.{event_text, outcome_text}
 use Rattle.m161_debug.specs.declared.breakpoints.BreakError.{BreakError}
 use Rattle.m161_debug.specs.declared.breakpoints.BreakError.TheVariants as breaks

@@ -15,7 +15,7 @@ use Rattle.m161_cpu.specs.declared.processor.ProcessorState.{ProcessorState}
 use Rattle.m161_cpu.specs.declared.processor.ProcessorState.TheVariants.{Stopped, Running, Waiting}
 use Rattle.m161_cpu.specs.Processor.{Processor}
 use Rattle.m161_machine.specs.State.{State, processor_at}
-use Rattle.m161_steplog.specs.Parts.{◌␣◌, hex_text}
+use Rattle.m161_text.specs.Parts.{◌␣◌, hex_text}
 
 -- The displays: each is a list of lines, computed from a state.
 

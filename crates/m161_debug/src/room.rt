@@ -2,7 +2,7 @@
 
 ghost use Rattle.std.specs.Prelude.{◌≡◌, ◌+◌, ◌<◌, ◌≤◌, ◌++◌, ◌∷◌, [], length, decimal, string_bytes, string_capacity, string_len};
 ghost use Rattle.m161_machine.specs.Refusal.{name_of_refusal};
-ghost use Rattle.m161_steplog.specs.Parts.{hex_digit, hex_text};
+ghost use Rattle.m161_text.specs.Parts.{hex_digit, hex_text};
 ghost use Rattle.m161_steplog.specs.Text.{event_text, outcome_text};
 ghost use Rattle.m161_debug.specs.Obeys.{refused_text, stop_text};
 

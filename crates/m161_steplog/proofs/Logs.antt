@@ -6,12 +6,13 @@ use Rattle.std.specs.List.{AllByRecursion}
 use Rattle.m161_machine.specs.declared.event.Entry.{Entry}
 use Rattle.m161_steplog.specs.declared.fault.Fault.{Fault}
 use Rattle.m161_steplog.specs.declared.fault.Fault.TheVariants as faults
-use Rattle.m161_steplog.specs.Parts.{Reads, Lacks}
+use Rattle.m161_text.specs.Parts.{Reads, Lacks}
 use Rattle.m161_steplog.specs.Text.{entry_text, IsProper}
-use Rattle.m161_steplog.specs.Lines.{lines_of, FirstBad, IsRead}
+use Rattle.m161_text.specs.Lines.{lines_of, FirstBad}
+use Rattle.m161_steplog.specs.Read.{IsRead}
 use Rattle.m161_steplog.specs.Log.{log_text, log_lines, IsLogText, IsLog, AreLogLines}
 use Rattle.m161_steplog.specs.helpers.Log.{IsDistinct}
-use Rattle.m161_steplog.proofs.Feeds.{ended, IsSome, lines_of-ended, ended-lines_of, unended}
+use Rattle.m161_text.proofs.Feeds.{ended, IsSome, lines_of-ended, ended-lines_of, unended}
 use Rattle.m161_steplog.proofs.LogLines.{entry_some, entry_lacks_feed, header_lacks_feed}
 
 flat_map-map : {A B C : Type 0} (f : B → List C) (g : A → B) (xs : List A) → flat_map f (map g xs) ≡ flat_map (λ x. f (g x)) xs

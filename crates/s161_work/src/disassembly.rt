@@ -11,7 +11,7 @@ use crate::fault::Fault;
 use m161_dis::line;
 use m161_elf::{Span, load, loads};
 use m161_isa::unmapped;
-use m161_steplog::Word;
+use m161_text::Word;
 use std::alloc::{AllocError, Global};
 use std::fmt::Write;
 

@@ -9,7 +9,7 @@ use m161_bus::Console;
 use m161_dis::line;
 use m161_isa::unmapped;
 use m161_machine::Machine;
-use m161_steplog::Word;
+use m161_text::Word;
 use m161_tlb::Tlb;
 use std::alloc::{AllocError, Global};
 use std::fmt::Write;

@@ -7,7 +7,7 @@ ghost use Rattle.m161_debug.specs.Shows.{cop0_line, with_line_end, name_and_word
 use m161_bus::Console;
 use m161_cop0::{REGISTERS, registers_in_order};
 use m161_machine::{Machine, Register};
-use m161_steplog::Word;
+use m161_text::Word;
 use m161_tlb::Tlb;
 use std::alloc::{AllocError, Global};
 use std::fmt::Write;

@@ -7,7 +7,7 @@ ghost use Rattle.m161_debug.specs.Shows.{with_line_end, hi_lo_line, name_and_wor
 use m161_bus::Console;
 use m161_isa::Reg;
 use m161_machine::{Machine, ProcessorState};
-use m161_steplog::Word;
+use m161_text::Word;
 use m161_tlb::Tlb;
 use std::alloc::{AllocError, Global};
 use std::fmt;

@@ -6,7 +6,7 @@ ghost use Rattle.m161_debug.specs.Shows.{with_line_end, row_line, row_text, show
 
 use m161_bus::Console;
 use m161_machine::{Machine, Row};
-use m161_steplog::Word;
+use m161_text::Word;
 use m161_tlb::Tlb;
 use std::alloc::{AllocError, Global};
 use std::fmt;
