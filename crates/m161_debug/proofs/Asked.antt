@@ -1,9 +1,8 @@
 -- What a line asks for.
 use Rattle.std.proofs.Common.{◌≡◌, ℕ, List, [], ◌∷◌, refl, ap, arith, ne_eqb, decimal, drop, get_or, None}
 use Rattle.std.proofs.lemmas.Option.{none-some}
-use Rattle.m161_text.specs.Parts.{◌␣◌, Lacks, IsWord}
+use Rattle.m161_text.specs.Parts.{◌␣◌, Lacks, IsWord, word_text}
 use Rattle.m161_text.specs.helpers.Parts.{ReadsBoth}
-use Rattle.m161_debug.specs.Shows.{word_text}
 use Rattle.m161_machine.specs.declared.event.Event.TheVariants as events
 use Rattle.m161_debug.specs.declared.command.Area.{Area}
 use Rattle.m161_debug.specs.declared.command.Area.TheVariants as areas

@@ -2,9 +2,8 @@
 
 ghost use Rattle.std.specs.Prelude.{◌<◌, ◌≤◌, ◌≡◌, length, decimal, true, false, get_or, IfSome, IfNone};
 ghost use Rattle.std.specs.Str.Parse.{AllDigits};
-ghost use Rattle.m161_text.specs.Parts.{IsWord};
+ghost use Rattle.m161_text.specs.Parts.{IsWord, word_text};
 ghost use Rattle.m161_text.specs.helpers.Parts.{ReadsBoth};
-ghost use Rattle.m161_debug.specs.Shows.{word_text};
 ghost use Rattle.m161_debug.specs.Commands.{count_of, IsDecimal};
 
 use m161_text::{cut_at_space, parse_decimal, parse_word};

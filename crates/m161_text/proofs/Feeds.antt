@@ -2,7 +2,7 @@
 use Rattle.std.proofs.Common.{◌≡◌, ◌≢◌, ◌⊎◌, ℕ, ◌<◌, List, [], ◌∷◌, ◌++◌, Bool, true, false, cond, eqb, eqb-true, ne_eqb, length, drop, refl, sym, ap, ◌∙◌, arith, inl, inr, append_assoc, length-append, flat_map}
 use Rattle.std.specs.List.{onto_first, AllByRecursion}
 use Rattle.m161_text.specs.Parts.{Lacks}
-use Rattle.m161_text.specs.Lines.{lines_of}
+use Rattle.m161_text.specs.Lines.{lines_of, text_of}
 use Rattle.m161_text.proofs.Parts.{rest_lacks}
 
 line_step : (t : Bool) (b : ℕ) (bs : List ℕ) → eqb b 10 ≡ t → lines_of (b ∷ bs) ≡ cond t ([] ∷ lines_of bs) (onto_first b (lines_of bs))
@@ -22,30 +22,26 @@ lines_last [] some lacks = absurd (omega arith)
 lines_last (x ∷ []) some lacks = line_on x [] (lacks 0 (omega arith))
 lines_last (x ∷ y ∷ bs) some lacks = line_on x (y ∷ bs) (lacks 0 (omega arith)) ∙ ap (onto_first x) (lines_last (y ∷ bs) (omega arith) (rest_lacks 10 x (y ∷ bs) lacks))
 
--- each line with its end
-abbrev pub ended : List (List ℕ) → List ℕ
-ended lines = flat_map (λ line. line ++ 10 ∷ []) lines
-
-pub lines_of-ended : (lines : List (List ℕ)) → AllByRecursion (Lacks 10) lines → lines_of (ended lines) ≡ lines
+pub lines_of-ended : (lines : List (List ℕ)) → AllByRecursion (Lacks 10) lines → lines_of (text_of lines) ≡ lines
 lines_of-ended [] each = refl
-lines_of-ended (line ∷ lines) each = ap lines_of (append_assoc line (10 ∷ []) (ended lines)) ∙ lines_cut line (ended lines) each.0 ∙ ap (λ ls. line ∷ ls) (lines_of-ended lines each.1)
+lines_of-ended (line ∷ lines) each = ap lines_of (append_assoc line (10 ∷ []) (text_of lines)) ∙ lines_cut line (text_of lines) each.0 ∙ ap (λ ls. line ∷ ls) (lines_of-ended lines each.1)
 
-by_shape : (b : ℕ) (bs : List ℕ) (lines : List (List ℕ)) → (bs ≡ ended lines) ⊎ (bs ++ 10 ∷ [] ≡ ended lines) → (b ∷ bs ≡ ended (onto_first b lines)) ⊎ (b ∷ bs ++ 10 ∷ [] ≡ ended (onto_first b lines))
+by_shape : (b : ℕ) (bs : List ℕ) (lines : List (List ℕ)) → (bs ≡ text_of lines) ⊎ (bs ++ 10 ∷ [] ≡ text_of lines) → (b ∷ bs ≡ text_of (onto_first b lines)) ⊎ (b ∷ bs ++ 10 ∷ [] ≡ text_of (onto_first b lines))
 by_shape b bs [] (inl e) = inr (ap (λ xs. b ∷ xs ++ 10 ∷ []) e)
 by_shape b bs [] (inr e) = absurd (omega (arith, ap length e, length-append bs (10 ∷ [])))
 by_shape b bs (line ∷ lines) (inl e) = inl (ap (λ xs. b ∷ xs) e)
 by_shape b bs (line ∷ lines) (inr e) = inr (ap (λ xs. b ∷ xs) e)
 
-after_feed : (bs : List ℕ) (lines : List (List ℕ)) → (bs ≡ ended lines) ⊎ (bs ++ 10 ∷ [] ≡ ended lines) → (10 ∷ bs ≡ ended ([] ∷ lines)) ⊎ (10 ∷ bs ++ 10 ∷ [] ≡ ended ([] ∷ lines))
+after_feed : (bs : List ℕ) (lines : List (List ℕ)) → (bs ≡ text_of lines) ⊎ (bs ++ 10 ∷ [] ≡ text_of lines) → (10 ∷ bs ≡ text_of ([] ∷ lines)) ⊎ (10 ∷ bs ++ 10 ∷ [] ≡ text_of ([] ∷ lines))
 after_feed bs lines (inl e) = inl (ap (λ xs. 10 ∷ xs) e)
 after_feed bs lines (inr e) = inr (ap (λ xs. 10 ∷ xs) e)
 
 -- a text is its lines with their ends, up to the last end
-pub ended-lines_of : (bs : List ℕ) → (bs ≡ ended (lines_of bs)) ⊎ (bs ++ 10 ∷ [] ≡ ended (lines_of bs))
+pub ended-lines_of : (bs : List ℕ) → (bs ≡ text_of (lines_of bs)) ⊎ (bs ++ 10 ∷ [] ≡ text_of (lines_of bs))
 ended-lines_of [] = inl refl
 ended-lines_of (b ∷ bs) = by (eqb b 10) refl (ended-lines_of bs)
   where
-    by : (t : Bool) → eqb b 10 ≡ t → (bs ≡ ended (lines_of bs)) ⊎ (bs ++ 10 ∷ [] ≡ ended (lines_of bs)) → (b ∷ bs ≡ ended (lines_of (b ∷ bs))) ⊎ (b ∷ bs ++ 10 ∷ [] ≡ ended (lines_of (b ∷ bs)))
+    by : (t : Bool) → eqb b 10 ≡ t → (bs ≡ text_of (lines_of bs)) ⊎ (bs ++ 10 ∷ [] ≡ text_of (lines_of bs)) → (b ∷ bs ≡ text_of (lines_of (b ∷ bs))) ⊎ (b ∷ bs ++ 10 ∷ [] ≡ text_of (lines_of (b ∷ bs)))
     by true e before = rw (line_step true b bs e, eqb-true b 10 e) (after_feed bs (lines_of bs) before)
     by false e before = rw (line_step false b bs e) (by_shape b bs (lines_of bs) before)
 

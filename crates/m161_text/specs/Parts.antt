@@ -25,6 +25,10 @@ abbrev pub hex_text : ℕ → ℕ → List ℕ
 hex_text zero n = []
 hex_text (suc k) n = hex_text k (n / 16) ++ hex_digit (n % 16) ∷ []
 
+-- a word of 32 bits
+abbrev pub word_text : ℕ → List ℕ
+word_text word = hex_text 8 word
+
 -- a text is read: the result is the valid value that has this text, or None if there is no such
 -- value
 pub record Reads

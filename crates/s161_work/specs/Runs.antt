@@ -9,8 +9,8 @@ use Rattle.m161_machine.specs.Conf.{is_within_limits}
 use Rattle.m161_machine.specs.Refusal.{name_of_refusal, number_of_refusal}
 use Rattle.m161_machine.specs.State.{State, next, processor_at}
 use Rattle.m161_machine.specs.History.{History, Continues, Refuses, boot_fault}
-use Rattle.m161_debug.specs.Shows.{with_line_end, show_regs_text}
-use Rattle.m161_text.specs.Lines.{FirstBad, lines_of}
+use Rattle.m161_debug.specs.Shows.{show_regs_text}
+use Rattle.m161_text.specs.Lines.{with_line_end, FirstBad, lines_of}
 use Rattle.m161_steplog.specs.Log.{log_text}
 use Rattle.m161_text.specs.Parts.{◌␣◌}
 use Rattle.m161_steplog.specs.Schedule.{AreScheduleLines, IsSchedule}

@@ -2,7 +2,8 @@
 
 ghost use Rattle.std.specs.Prelude.{◌≡◌, ◌+◌, ◌*◌, ◌%◌, ◌++◌, true, length, string_bytes, IfOk, OnOk};
 ghost use Rattle.m161_elf.specs.Image.{is_in_ram};
-ghost use Rattle.m161_debug.specs.Shows.{listing_text, code_word, with_line_end, code_line, show_code_text};
+ghost use Rattle.m161_debug.specs.Shows.{listing_text, code_word, code_line, show_code_text};
+ghost use Rattle.m161_text.specs.Lines.{with_line_end};
 
 use crate::display::memory::word;
 use m161_bus::Console;

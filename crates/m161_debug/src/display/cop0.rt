@@ -2,7 +2,8 @@
 
 ghost use Rattle.std.specs.Prelude.{◌≡◌, ◌++◌, ◌<◌, length, slice_get, string_bytes, IfOk, OnOk, Some};
 ghost use Rattle.m161_cop0.specs.Registers.{all_registers};
-ghost use Rattle.m161_debug.specs.Shows.{cop0_line, with_line_end, name_and_word, show_cop0_text};
+ghost use Rattle.m161_debug.specs.Shows.{cop0_line, name_and_word, show_cop0_text};
+ghost use Rattle.m161_text.specs.Lines.{with_line_end};
 
 use m161_bus::Console;
 use m161_cop0::{REGISTERS, registers_in_order};
