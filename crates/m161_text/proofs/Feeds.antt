@@ -1,5 +1,5 @@
 -- A text and its lines.
-use Rattle.std.proofs.Common.{◌≡◌, ◌≢◌, ◌⊎◌, ℕ, ◌<◌, List, [], ◌∷◌, ◌++◌, Bool, true, false, cond, eqb, eqb-true, ne_eqb, length, drop, refl, sym, ap, ◌∙◌, arith, inl, inr, append_assoc, length-append, flat_map}
+use Rattle.std.proofs.Common.{◌≡◌, ◌≢◌, ◌⊎◌, ℕ, ◌<◌, List, [], ◌∷◌, ◌++◌, Bool, true, false, cond, eqb, eqb-true, ne_eqb, length, drop, refl, sym, ap, ◌∙◌, arith, inl, inr, append_assoc, length-append}
 use Rattle.std.specs.List.{onto_first, AllByRecursion}
 use Rattle.m161_text.specs.Parts.{Lacks}
 use Rattle.m161_text.specs.Lines.{lines_of, text_of}

@@ -1,8 +1,9 @@
 //! Numbers in texts.
 
-ghost use Rattle.std.specs.Prelude.{◌^◌, ◌<◌, ◌≤◌, length, decimal, Some};
+ghost use Rattle.std.specs.Prelude.{◌≡◌, ◌+◌, ◌^◌, ◌<◌, ◌≤◌, ◌++◌, IsOk, OnOk, length, decimal, string_bytes, string_capacity, string_len, Some};
 ghost use Rattle.m161_text.specs.Parts.{Reads, IsByte, IsWord, hex_digit, hex_text};
 
+use std::alloc::AllocError;
 use std::fmt;
 
 /// A byte as two lower case hexadecimal digits.
@@ -33,6 +34,37 @@ impl fmt::Display for Word {
         let d = Byte((word % 0x100) as u8);
         write!(f, "{a}{b}{c}{d}")
     }
+}
+
+// A hexadecimal digit, in lower case.
+fn glyph(digit: u32) -> char
+    requires { digit < 16 }
+    ensures value { result ≡ hex_digit digit }
+    ensures ascii { result < 128 }
+{
+    if digit < 10 {
+        (b'0' + digit as u8) as char
+    } else {
+        (b'a' + (digit as u8 - 10)) as char
+    }
+}
+
+/// Appends the last hexadecimal digits of a number, in lower case.
+///
+/// # Errors
+/// Memory was refused; never if the text has room for them.
+pub fn push_hex(text: &mut String, digits: u32, number: u32) -> Result<(), AllocError>
+    ensures bytes { OnOk result (string_bytes text.new
+        ≡ string_bytes text.old ++ hex_text digits number) }
+    ensures len { OnOk result (string_len text.new ≡ string_len text.old + digits) }
+    ensures capacity { string_capacity text.old ≤ string_capacity text.new }
+    ensures room { string_len text.old + digits ≤ string_capacity text.old → IsOk result }
+{
+    if digits == 0 {
+        return Ok(());
+    }
+    push_hex(text, digits - 1, number / 16)?;
+    text.push(glyph(number % 16))
 }
 
 /// The number of a decimal text below 2^32 without leading zeros; `None` of any other text, also of

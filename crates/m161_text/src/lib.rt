@@ -15,4 +15,4 @@ mod cut;
 mod digits;
 
 pub use cut::{cut_at_space, next_line};
-pub use digits::{Byte, Word, parse_byte, parse_decimal, parse_word};
+pub use digits::{Byte, Word, parse_byte, parse_decimal, parse_word, push_hex};
