@@ -15,7 +15,8 @@ use Rattle.m161_cpu.specs.declared.processor.ProcessorState.{ProcessorState}
 use Rattle.m161_cpu.specs.declared.processor.ProcessorState.TheVariants.{Stopped, Running, Waiting}
 use Rattle.m161_cpu.specs.Processor.{Processor}
 use Rattle.m161_machine.specs.State.{State, processor_at}
-use Rattle.m161_text.specs.Parts.{◌␣◌, hex_text}
+use Rattle.m161_text.specs.Lines.{with_line_end, text_of}
+use Rattle.m161_text.specs.Parts.{◌␣◌, word_text}
 
 -- The displays: each is a list of lines, computed from a state.
 
