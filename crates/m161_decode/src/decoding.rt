@@ -25,8 +25,8 @@ pub fn decode(word: u32) -> Instr
     by_opcode::<Elsewhere>(word)
 }
 
-/// The same as `decode`, for the loop of a program: it is inlined into its one caller, even if that
-/// is large and others call `decode`.
+/// The same as `decode`, for the loop of a program. For LLVM: it is inlined into its one caller, even
+/// if that is large and others call `decode`.
 #[inline(always)]
 pub fn decode_in_step(word: u32) -> Instr
     ensures row { row_of_instr result ≡ row_that_fits word }
@@ -36,8 +36,8 @@ pub fn decode_in_step(word: u32) -> Instr
     by_opcode::<InStep>(word)
 }
 
-// The callers of the decoder. The compiler makes a copy of it for each, and so inlines the copy of
-// a Step, which has one caller.
+// The callers of the decoder. For LLVM: there is a copy of it for each, and so the copy of a Step,
+// which has one caller, is inlined.
 struct InStep;
 
 struct Elsewhere;
