@@ -2,7 +2,8 @@ use Rattle.std.specs.Prelude.{◌≡◌, ℕ, ◌+◌, Bool, not, ◌==◌, ◌&
 use Rattle.m161_isa.specs.declared.table.Row.{Row}
 use Rattle.m161_isa.specs.declared.instr.Coprocessor.{Coprocessor}
 use Rattle.m161_isa.specs.declared.instr.Coprocessor.TheVariants as coprocessor
-use Rattle.m161_isa.specs.Table.{bits_of, table, row_that_fits, numbers_of, absent_in}
+use Rattle.m161_isa.specs.Table.{table, row_that_fits, numbers_of, absent_in}
+use Rattle.m161_isa.specs.Bits.{bits_of}
 use Rattle.m161_ram.specs.Word.{word_at}
 use Rattle.m161_cop0.specs.Control.{Control, is_pending, is_interrupted, may_use_cop0}
 use Rattle.m161_cop0.specs.Clock.{after_tick}

@@ -1,7 +1,8 @@
 //! Words to instructions.
 
 ghost use Rattle.std.specs.Prelude.{◌≡◌, ◌≢◌};
-ghost use Rattle.m161_isa.specs.Table.{bits_of, row_that_fits, numbers_of};
+ghost use Rattle.m161_isa.specs.Table.{row_that_fits, numbers_of};
+ghost use Rattle.m161_isa.specs.Bits.{bits_of};
 ghost use Rattle.m161_isa.specs.Instr.{row_of_instr, numbers_of_instr, instr_of, rs_of, rt_of, rd_of, amount_of, immediate_of, target_of};
 ghost use Rattle.m161_decode.specs.helpers.Decoded.{IsInstrOf};
 
