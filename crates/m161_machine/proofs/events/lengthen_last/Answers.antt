@@ -2,7 +2,6 @@ use Rattle.std.proofs.Common.{rules}
 use Rattle.m161_machine.proofs.Unfolding.{lengthened}
 use Rattle.m161_machine.proofs.events.lengthen_last.Goals as goal
 
--- src/events.rt
 pub returns-in-Some-clause-added : goal.returns-in-Some-clause-added
 returns-in-Some-clause-added c = λ added.
     let longer = c.lengthen.ensures.added added in
