@@ -7,7 +7,8 @@
 //! products      two words: the upper one for HI, the lower one for LO
 //! quotients     the remainder for HI, the quotient for LO; toward zero if signed
 //! comparisons   less than, signed or unsigned; a branch's test against zero
-//! merges        the bytes of a register and of a word of memory that `lwl` and `lwr` join
+//! merges        the bytes of a register and of a word of memory that `lwl`, `lwr`, `swl` and `swr`
+//!               join
 //! extensions    a byte or half-word as a signed word
 //! ```
 //!
@@ -22,6 +23,6 @@ mod comparison;
 mod extension;
 
 pub use arithmetic::{HiLoPair, Signedness, add_checked, div, mult, shift, sub_checked};
-pub use bytes::{merge_left, merge_right};
+pub use bytes::{merge_left, merge_right, store_left, store_right};
 pub use comparison::{branch_taken, set_on_less};
 pub use extension::{sign_extend_byte, sign_extend_half};

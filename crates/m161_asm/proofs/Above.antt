@@ -6,7 +6,8 @@ use Rattle.m161_asm.specs.declared.statement.Line.{Line as CodeLine}
 use Rattle.m161_asm.specs.declared.error.AsmError.{AsmError}
 use Rattle.m161_asm.specs.declared.statement.ReadError.{ReadError}
 use Rattle.m161_asm.specs.declared.statement.ReadError.TheVariants as errors
-use Rattle.m161_asm.specs.Tokens.{lines, split, tokens}
+use Rattle.m161_asm.specs.Tokens.{tokens}
+use Rattle.m161_text.specs.Lines.{lines_of}
 use Rattle.m161_asm.specs.Lines.{Fault, SourceLine}
 use Rattle.m161_asm.specs.Text.{line_of, read_lines}
 use Rattle.m161_asm.specs.helpers.Seen.{line_seen, above_of, fault_seen, IsTold, Yields, GoesOn}
@@ -35,25 +36,23 @@ abbrev len : List ℕ → ℕ
 len rest = position_or_len (λ b. b == 10) rest
 
 abbrev Parted : List ℕ → Type 0
-Parted rest = lines rest ≡ take (len rest) rest ∷ lines (drop (len rest + 1) rest)
+Parted rest = lines_of rest ≡ take (len rest) rest ∷ lines_of (drop (len rest + 1) rest)
 
 later : (b : ℕ) (bs : List ℕ) → (0 < length bs → Parted bs)
-    → onto_first b (lines bs) ≡ (b ∷ take (len bs) bs) ∷ lines (drop (len bs + 1) bs)
-unfolding lines
+    → onto_first b (lines_of bs) ≡ (b ∷ take (len bs) bs) ∷ lines_of (drop (len bs + 1) bs)
 later b [] ih = refl
 later b (c ∷ cs) ih = ap (onto_first b) (ih (omega arith))
 
 pub first_line : (rest : List ℕ) → 0 < length rest → Parted rest
-unfolding lines
 first_line [] h = absurd (omega (arith, h))
 first_line (b ∷ bs) h =
     let n : 1 + len bs ≡ suc (len bs) = omega arith in
     let m : 1 + len bs + 1 ≡ suc (len bs + 1) = omega arith in
     let t = b == 10 in
     elim (b == 10) as
-    (λ t. split t b (lines bs)
+    (λ t. cond t ([] ∷ lines_of bs) (onto_first b (lines_of bs))
     ≡ take (cond (not t) (1 + len bs) 0) (b ∷ bs)
-    ∷ lines (drop (cond (not t) (1 + len bs) 0 + 1) (b ∷ bs)))
+    ∷ lines_of (drop (cond (not t) (1 + len bs) 0 + 1) (b ∷ bs)))
     [ true ↦ refl | false ↦ rw (m, n) (later b bs (λ k. first_line bs k)) ]
 
 -- one line further
@@ -80,34 +79,34 @@ told e (errors.Fault f) above n bytes below x t d y =
 
 -- a step of the loop over the lines
 parted_at : (rest : List ℕ) (n : ℕ) → 0 < length rest → n ≡ len rest
-    → lines rest ≡ take n rest ∷ lines (drop (n + 1) rest)
+    → lines_of rest ≡ take n rest ∷ lines_of (drop (n + 1) rest)
 parted_at rest n h e = rw e (first_line rest h)
 
 pub shorter : (rest : List ℕ) (n : ℕ) → 0 < length rest → n ≡ len rest
-    → length (lines rest) ≡ length (lines (drop (n + 1) rest)) + 1
+    → length (lines_of rest) ≡ length (lines_of (drop (n + 1) rest)) + 1
 shorter rest n h e = ap length (parted_at rest n h e) ∙ omega arith
 
 pub step_on : (above new : List SourceLine) (rest : List ℕ) (n : ℕ)
     (whole : Result (List SourceLine) (ℕ × Fault)) → 0 < length rest → n ≡ len rest
-    → read_lines above (take n rest ∷ lines (drop (n + 1) rest))
-    ≡ read_lines new (lines (drop (n + 1) rest)) → read_lines above (lines rest) ≡ whole
-    → read_lines new (lines (drop (n + 1) rest)) ≡ whole
+    → read_lines above (take n rest ∷ lines_of (drop (n + 1) rest))
+    ≡ read_lines new (lines_of (drop (n + 1) rest)) → read_lines above (lines_of rest) ≡ whole
+    → read_lines new (lines_of (drop (n + 1) rest)) ≡ whole
 step_on above new rest n whole h e s k =
     sym s ∙ ap (read_lines above) (sym (parted_at rest n h e)) ∙ k
 
 pub step_off : (view : FirstPass → List SourceLine) (e : AsmError) (above : List SourceLine)
     (rest : List ℕ)
     (n : ℕ) (after whole : Result (List SourceLine) (ℕ × Fault)) → 0 < length rest → n ≡ len rest
-    → GoesOn (Err e) (read_lines above (take n rest ∷ lines (drop (n + 1) rest))) after
-    → read_lines above (lines rest) ≡ whole → Tells view (Err e) whole
+    → GoesOn (Err e) (read_lines above (take n rest ∷ lines_of (drop (n + 1) rest))) after
+    → read_lines above (lines_of rest) ≡ whole → Tells view (Err e) whole
 step_off view e above rest n after whole h d (inl m) k = inl m
 step_off view e above rest n after whole h d (inr f) k =
     inr (sym k ∙ ap (read_lines above) (parted_at rest n h d) ∙ f)
 
 pub at_end : (above : List SourceLine) (rest : List ℕ)
     (whole : Result (List SourceLine) (ℕ × Fault))
-    → length rest ≤ 0 → read_lines above (lines rest) ≡ whole → whole ≡ Ok above
-unfolding lines read_lines
+    → length rest ≤ 0 → read_lines above (lines_of rest) ≡ whole → whole ≡ Ok above
+unfolding read_lines
 at_end above [] whole h k = sym k
 at_end above (b ∷ bs) whole h k = absurd (omega (arith, h))
 

@@ -4,7 +4,7 @@ use Rattle.m161_asm.specs.declared.error.AsmError.{AsmError}
 use Rattle.m161_asm.specs.declared.first.FirstPass.{FirstPass}
 use Rattle.m161_asm.specs.declared.second.SecondPass.{SecondPass}
 use Rattle.m161_asm.specs.declared.program.Program.{Program as CodeProgram}
-use Rattle.m161_asm.specs.Tokens.{lines}
+use Rattle.m161_text.specs.Lines.{lines_of}
 use Rattle.m161_asm.specs.Lines.{◌>>=◌, Fault, SourceLine}
 use Rattle.m161_asm.specs.Text.{Segment, text, read_lines, symbols_in, segments_of, program_of, full, first_address, entry_of}
 use Rattle.m161_asm.specs.declared.statement.Line.{Line as CodeLine}
@@ -66,11 +66,11 @@ entry_aligned second symbols all f h =
 
 -- the first pass reads each line of the text
 pub line_count : (ls : List CodeLine) (b t : List ℕ) → b ≡ t
-    → read_lines [] (lines b) ≡ Ok (above_of ls) → length ls ≡ length (lines t)
+    → read_lines [] (lines_of b) ≡ Ok (above_of ls) → length ls ≡ length (lines_of t)
 line_count ls b t q r =
-    let read = read_count [] (lines b) (above_of ls) r in
-    let all : length ls ≡ length (lines b) = omega (arith, read, above_len ls) in
-    all ∙ ap (λ x. length (lines x)) q
+    let read = read_count [] (lines_of b) (above_of ls) r in
+    let all : length ls ≡ length (lines_of b) = omega (arith, read, above_len ls) in
+    all ∙ ap (λ x. length (lines_of x)) q
 
 -- words come from a line
 abbrev first_len : Result (List Segment) (ℕ × Fault) → ℕ
@@ -87,16 +87,16 @@ has_line second symbols (l ∷ above) f h = omega arith
 
 -- a fault of the first pass
 pub first_told : (e : AsmError) (view : FirstPass → List SourceLine) (b t : List ℕ) → b ≡ t
-    → Tells view (Err e) (read_lines [] (lines b)) → Tells program_seen (Err e) (text t)
+    → Tells view (Err e) (read_lines [] (lines_of b)) → Tells program_seen (Err e) (text t)
 unfolding text
 first_told e view b t q (inl m) = inl m
 first_told e view b t q (inr f) =
-    inr (ap (λ x. read_lines [] (lines x) >>= program_of) (sym q) ∙ ap (λ r. r >>= program_of) f)
+    inr (ap (λ x. read_lines [] (lines_of x) >>= program_of) (sym q) ∙ ap (λ r. r >>= program_of) f)
 
 -- a fault of the second
 pub second_told : (e : AsmError) (b t : List ℕ) (symbols : List (List ℕ × ℕ))
     (all : List SourceLine)
-    → b ≡ t → read_lines [] (lines b) ≡ Ok all → symbols ≡ symbols_in all
+    → b ≡ t → read_lines [] (lines_of b) ≡ Ok all → symbols ≡ symbols_in all
     → Passes (Err e) symbols all → Tells program_seen (Err e) (text t)
 unfolding text program_of
 second_told e b t symbols all q r s (inl m) = inl m
@@ -105,7 +105,7 @@ second_told e b t symbols all q r s (inr f) =
     inr (rw (← q, r, g) refl)
 
 pub told_program : (p : CodeProgram) (b t : List ℕ) (all : List SourceLine) → b ≡ t
-    → read_lines [] (lines b) ≡ Ok all → program_of all ≡ Ok (program_seen p)
+    → read_lines [] (lines_of b) ≡ Ok all → program_of all ≡ Ok (program_seen p)
     → text t ≡ Ok (program_seen p)
 unfolding text
 told_program p b t all q r g = rw (← q, r) g

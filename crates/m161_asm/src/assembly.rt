@@ -1,7 +1,7 @@
 //! A text to a program.
 
 ghost use Rattle.std.specs.Prelude.{◌≡◌, ◌<◌, ◌%◌, ◌∷◌, [], ◌++◌, ℕ, List, length, IfOk, IfErr, Ok, unwrap_or};
-ghost use Rattle.m161_asm.specs.Tokens as tokens;
+ghost use Rattle.m161_text.specs.Lines.{lines_of};
 ghost use Rattle.m161_asm.specs.Lines as lines;
 ghost use Rattle.m161_asm.specs.Text.{text, first_address, full, symbols_in, program_of};
 ghost use Rattle.m161_asm.specs.Seen.{symbols_seen};
@@ -78,7 +78,7 @@ fn program_with(second: SecondPass, symbols: IndexMap<String, u32>) -> Result<Pr
 /// refused.
 pub fn assemble(alloc: Global, source: &str) -> Result<Program, AsmError>
     ensures value { Tells program_seen result (text source.now) }
-    ensures line { IfErr result (IsWithinLines (length (tokens.lines source.now))) }
+    ensures line { IfErr result (IsWithinLines (length (lines_of source.now))) }
 {
     let first = match first_pass(alloc, source.as_bytes()) {
         Ok(first) => first,

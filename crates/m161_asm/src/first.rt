@@ -2,7 +2,8 @@
 
 ghost use Rattle.std.specs.Prelude.{◌≡◌, ◌≤◌, ◌<◌, ◌+◌, ◌^◌, ◌++◌, ◌∷◌, [], length, drop, take, OnOk, IfOk, IfErr, is_some, true, List, ℕ};
 ghost use Rattle.std.specs.List.{position_or_len};
-ghost use Rattle.m161_asm.specs.Tokens.{tokens, lines};
+ghost use Rattle.m161_asm.specs.Tokens.{tokens};
+ghost use Rattle.m161_text.specs.Lines.{lines_of};
 ghost use Rattle.m161_asm.specs.Lines.{size_of, line_column};
 ghost use Rattle.m161_asm.specs.Text.{line_of, read_lines};
 ghost use Rattle.m161_asm.specs.Seen.{symbols_seen};
@@ -157,9 +158,9 @@ fn behind_line(rest: &[u8], len: usize) -> &[u8]
 /// The lines of a text and their symbols.
 pub(crate) fn first_pass<'a>(alloc: Global, text: &'a [u8]) -> Result<FirstPass<'a>, AsmError>
     requires { length text.now < 2 ^ 63 }
-    ensures value { Tells (λ p. above_of p.lines.items) result (read_lines [] (lines text.now)) }
+    ensures value { Tells (λ p. above_of p.lines.items) result (read_lines [] (lines_of text.now)) }
     ensures pass { IfOk result IsPass }
-    ensures line { IfErr result (IsWithinLines (length (lines text.now))) }
+    ensures line { IfErr result (IsWithinLines (length (lines_of text.now))) }
 {
     let mut pass = FirstPass::new(alloc);
     let mut rest = &text[..];

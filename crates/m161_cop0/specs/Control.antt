@@ -1,5 +1,5 @@
 use Rattle.std.specs.Prelude.{ℕ, ◌+◌, ◌*◌, ◌/◌, ◌%◌, ◌^◌, Bool, false, not, ◌==◌, ◌&&◌, ◌||◌, bit_and, bit_or, if◌then◌else◌, Option, None, Some}
-use Rattle.m161_isa.specs.Table.{bits_of}
+use Rattle.m161_isa.specs.Bits.{bits_of, has_bit}
 use Rattle.m161_cop0.specs.declared.register.Register.{Register}
 use Rattle.m161_cop0.specs.declared.register.Register.TheVariants as register
 use Rattle.m161_cop0.specs.Registers.{register_with}
@@ -54,10 +54,6 @@ control_at_start = record {
 -- bit n of a word, if a test holds
 abbrev pub bit : ℕ → Bool → ℕ
 bit n test = if test then 2 ^ n else 0
-
--- bit n of a word is set
-abbrev pub has_bit : ℕ → ℕ → Bool
-has_bit word n = bits_of word n 1 == 1
 
 -- the bits of IP that aren't the board's, in their places of Cause: the timer's and software's two
 abbrev pub internal_ip_of : Bool → ℕ → ℕ

@@ -1,10 +1,10 @@
 use Rattle.std.specs.Prelude.{◌≡◌, ℕ, ◌+◌, ◌-◌, ◌*◌, ◌/◌, ◌%◌, ◌^◌, Bool, ◌==◌, ◌&&◌, ◌||◌, if◌then◌else◌, ◌⊎◌}
-use Rattle.m161_isa.specs.Table.{bits_of}
+use Rattle.m161_isa.specs.Bits.{bits_of, has_bit}
 use Rattle.m161_cop0.specs.declared.exception.Exception.{Exception}
 use Rattle.m161_cop0.specs.declared.exception.Exception.TheVariants as exception
 use Rattle.m161_cop0.specs.declared.trap.Trap.{Trap}
 use Rattle.m161_cop0.specs.Registers.{number_of_exception}
-use Rattle.m161_cop0.specs.Control.{Control, has_bit}
+use Rattle.m161_cop0.specs.Control.{Control}
 
 -- The entry of a trap and the return from it. Kane, MIPS RISC Architecture, "Exception processing".
 

@@ -1,6 +1,6 @@
 use Rattle.std.proofs.Common.{◌≡◌, refl, ℕ, Bool, true, false, List, length, Ok, Err}
 use Rattle.std.specs.Prelude.{◌&&◌, ◌==◌}
-use Rattle.m161_isa.specs.Table.{bits_of}
+use Rattle.m161_isa.specs.Bits.{bits_of}
 use Rattle.m161_ram.specs.Word.{word_at}
 use Rattle.m161_cop0.specs.Control.{Control, is_user, may_use_cop0}
 use Rattle.m161_cpu.specs.declared.fault.Access.TheVariants.{Fetch}

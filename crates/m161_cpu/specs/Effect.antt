@@ -9,7 +9,7 @@ use Rattle.m161_alu.specs.declared.arithmetic.Signedness.TheVariants.{Signed, Un
 use Rattle.m161_alu.specs.declared.arithmetic.HiLoPair.{HiLoPair}
 use Rattle.m161_alu.specs.Word.{signed, word_of_signed, sign_extended_byte, sign_extended_half}
 use Rattle.m161_alu.specs.Results.{shifted_word, product, quotient, is_less, is_taken}
-use Rattle.m161_alu.specs.Merge.{merged_left, merged_right}
+use Rattle.m161_alu.specs.Merge.{merged_left, merged_right, stored_left, stored_right}
 use Rattle.m161_ram.specs.Word.{word_at, half_at}
 use Rattle.m161_tlb.specs.declared.row.Row.{Row as TlbRow}
 use Rattle.m161_tlb.specs.Row.{hi_word, lo_word, row_of_words}
@@ -274,16 +274,16 @@ effect_of s effect.LoadWordLeft d o b =
 effect_of s effect.LoadWordRight d o b =
     load_within s o b (λ at. write d.number
     (merged_right (word_at s.around.memory at) d.value (place_in_word o b)))
--- stores; a merge of a register into memory is one of memory into a register from the other end
+-- stores
 effect_of s effect.StoreByte t o b = store s 1 o b (store_byte (t.value % 2 ^ 8))
 effect_of s effect.StoreHalf t o b = store s 2 o b (store_half (t.value % 2 ^ 16))
 effect_of s effect.StoreWord t o b = store_word_at (effective_address o b) t.value s
 effect_of s effect.StoreWordLeft t o b =
     store_within s o b (λ at. store_word
-    (merged_right t.value (word_at s.around.memory at) (3 - place_in_word o b)) at)
+    (stored_left (word_at s.around.memory at) t.value (place_in_word o b)) at)
 effect_of s effect.StoreWordRight t o b =
     store_within s o b (λ at. store_word
-    (merged_left t.value (word_at s.around.memory at) (3 - place_in_word o b)) at)
+    (stored_right (word_at s.around.memory at) t.value (place_in_word o b)) at)
 -- links
 effect_of s effect.LoadLinked d o b = load s 4 o b (load_linked s d.number)
 effect_of s effect.StoreConditional t o b = store s 4 o b (store_conditional s t.number t.value)

@@ -2,12 +2,13 @@ use Rattle.std.specs.Prelude.{◌≡◌, ℕ, ◌+◌, Bool, not, ◌==◌, ◌&
 use Rattle.m161_isa.specs.declared.table.Row.{Row}
 use Rattle.m161_isa.specs.declared.instr.Coprocessor.{Coprocessor}
 use Rattle.m161_isa.specs.declared.instr.Coprocessor.TheVariants as coprocessor
-use Rattle.m161_isa.specs.Table.{bits_of, table, row_that_fits, numbers_of, absent_in}
+use Rattle.m161_isa.specs.Table.{table, row_that_fits, numbers_of, absent_in}
+use Rattle.m161_isa.specs.Bits.{bits_of}
 use Rattle.m161_ram.specs.Word.{word_at}
 use Rattle.m161_cop0.specs.Control.{Control, is_pending, is_interrupted, may_use_cop0}
 use Rattle.m161_cop0.specs.Clock.{after_tick}
 use Rattle.m161_cop0.specs.Trap.{IsVector}
-use Rattle.m161_bus.specs.Board.{interrupt_lines}
+use Rattle.m161_bus.specs.Board.{BoardState, interrupt_lines}
 use Rattle.m161_cpu.specs.declared.fault.Access.TheVariants.{Fetch}
 use Rattle.m161_cpu.specs.declared.fault.FaultKind.{FaultKind}
 use Rattle.m161_cpu.specs.declared.fault.FaultKind.TheVariants as kind
@@ -49,10 +50,14 @@ with_processor f s = scene (f s.processor) s.around
 abbrev pub idle : (Processor → Processor) → Scene → Stepped
 idle f s = record { outcome = Idle; after = with_processor f s; link = Keep; stored = None }
 
+-- the board was on before, and is off after
+abbrev pub switches_off : BoardState → BoardState → Bool
+switches_off before after = after.off && not before.off
+
 -- what an instruction leaves
 abbrev pub step_of_change : Scene → Change → Stepped
 step_of_change s change = record {
-  outcome = if (scene_after change s).around.board.off then PoweredOff else Ran;
+  outcome = if switches_off s.around.board (scene_after change s).around.board then PoweredOff else Ran;
   after = with_processor tick (scene_after change s);
   link = change.link;
   stored = stored_by change.store;

@@ -88,7 +88,8 @@ unfoldable pub physical_at : Access → ℕ → ℕ → Processor → Result ℕ
 physical_at access width address p =
     result_map (λ (to : Physical). to.at) (translate access width address p)
 
--- nothing on the bus has this address
+-- nothing on the bus has this address; or it is in the slots, and the access isn't that of an aligned
+-- word
 abbrev pub bus_error : Access → Fault
 bus_error Fetch = fault kind.BusErrorFetch
 bus_error Load = fault kind.BusErrorData

@@ -15,7 +15,9 @@ use crate::fault::{Access, Fault};
 use crate::links::Links;
 use crate::processor::{Cpu, Flow};
 use crate::translation::bus_error;
-use m161_alu::{merge_left, merge_right, sign_extend_byte, sign_extend_half};
+use m161_alu::{
+    merge_left, merge_right, sign_extend_byte, sign_extend_half, store_left, store_right,
+};
 use m161_bus::{Board, Console};
 use m161_isa::{Immediate, LoadOp, Reg, StoreOp};
 use m161_ram::Ram;
@@ -114,7 +116,8 @@ impl<T: Tlb> Cpu<T> {
         }
     }
 
-    // A call of `read_word_elsewhere`, so that only this function has a stack slot for the result.
+    // For LLVM: a call of `read_word_elsewhere`, so that only this function has a stack slot for
+    // the result.
     #[inline(always)]
     fn read_word_aside<D: Console>(
         &self,
@@ -196,12 +199,12 @@ impl<T: Tlb> Cpu<T> {
             StoreOp::Word => self.store_word(address, word, c, ram, board, links)?,
             StoreOp::WordLeft => {
                 let at = self.reach_word_of(Access::Store, address, size)?;
-                ram.set_word(at, merge_right(word, ram.word(at), 3 - address % 4));
+                ram.set_word(at, store_left(ram.word(at), word, address));
                 self.end_store(at, links);
             }
             StoreOp::WordRight => {
                 let at = self.reach_word_of(Access::Store, address, size)?;
-                ram.set_word(at, merge_left(word, ram.word(at), 3 - address % 4));
+                ram.set_word(at, store_right(ram.word(at), word, address));
                 self.end_store(at, links);
             }
             StoreOp::Conditional => {
@@ -269,7 +272,7 @@ impl<T: Tlb> Cpu<T> {
             self.end_store(at, links);
             return Ok(());
         }
-        // (with `?`, so that the common path has no stack slot for the result)
+        // For LLVM: with `?`, so that the common path has no stack slot for the result.
         self.store_word_elsewhere(address, word, c, ram, board, links)?;
         Ok(())
     }

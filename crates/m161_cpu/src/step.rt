@@ -27,7 +27,7 @@ impl<T: Tlb> Cpu<T> {
         board: &mut Board<D>,
         links: &mut Links,
     ) -> Outcome
-        requires processor { (c < board.old.processors) × (board.old.processors ≤ 32) }
+        requires processor { c < board.old.processors }
         requires ram { length ram.old ≤ 2 ^ 29 }
         requires room { self.old.count < 2 ^ 64 - 1 }
         ensures step { Leaves (step_of (scene_of self.old c ram.old board.old links.old)) result
@@ -65,10 +65,11 @@ impl<T: Tlb> Cpu<T> {
         ensures board { KeepsSize board.old board.new }
         ensures proper { IsOfStep result }
     {
+        let was_off = board.is_off();
         match self.execute_next(c, lines, ram, board, links) {
             Ok(()) => {
                 self.tick();
-                if board.is_off() {
+                if board.is_off() && !was_off {
                     Outcome::PoweredOff
                 } else {
                     Outcome::Ran
@@ -78,7 +79,7 @@ impl<T: Tlb> Cpu<T> {
         }
     }
 
-    // A call of `trap`, so that only this function has a stack slot for the fault.
+    // For LLVM: a call of `trap`, so that only this function has a stack slot for the fault.
     #[inline(always)]
     fn trap_aside(&mut self, fault: Fault, c: u32, links: &mut Links) -> Outcome
         requires processor { c < 32 }
@@ -155,7 +156,8 @@ impl<T: Tlb> Cpu<T> {
         }
     }
 
-    // A call of `fetch_elsewhere`, so that only this function has a stack slot for the result.
+    // For LLVM: a call of `fetch_elsewhere`, so that only this function has a stack slot for the
+    // result.
     #[inline(always)]
     fn fetch_aside(&self, ram: &Ram) -> Result<u32, Fault>
         ensures { result ≡ executable_word ram.now self.now }

@@ -63,8 +63,8 @@ impl<T: Tlb> Cpu<T> {
         }
     }
 
-    // A call of `reach_elsewhere`, so that only this function has a stack slot for the result, and
-    // not the common path.
+    // For LLVM: a call of `reach_elsewhere`, so that only this function has a stack slot for the
+    // result, and not the common path.
     #[inline(always)]
     fn reach_aside(&self, access: Access, width: u32, address: u32, size: u32) -> Result<u32, Fault>
         requires width { 0 < width }

@@ -1,9 +1,8 @@
 -- What a line asks for.
 use Rattle.std.proofs.Common.{◌≡◌, ℕ, List, [], ◌∷◌, refl, ap, arith, ne_eqb, decimal, drop, get_or, None}
 use Rattle.std.proofs.lemmas.Option.{none-some}
-use Rattle.m161_steplog.specs.Parts.{◌␣◌, Lacks, IsWord}
-use Rattle.m161_steplog.specs.helpers.Parts.{ReadsBoth}
-use Rattle.m161_debug.specs.Shows.{word_text}
+use Rattle.m161_text.specs.Parts.{◌␣◌, Lacks, IsWord, word_text}
+use Rattle.m161_text.specs.helpers.Parts.{ReadsBoth}
 use Rattle.m161_machine.specs.declared.event.Event.TheVariants as events
 use Rattle.m161_debug.specs.declared.command.Area.{Area}
 use Rattle.m161_debug.specs.declared.command.Area.TheVariants as areas
@@ -12,7 +11,7 @@ use Rattle.m161_debug.specs.declared.command.Command.{Command}
 use Rattle.m161_debug.specs.declared.command.Command.TheVariants as commands
 use Rattle.m161_debug.specs.declared.command.Display.TheVariants as displays
 use Rattle.m161_debug.specs.Commands.{area_word, first_word, IsCommandLine, IsUnknown}
-use Rattle.m161_steplog.proofs.Parts.{rest_lacks}
+use Rattle.m161_text.proofs.Parts.{rest_lacks}
 
 pub first_word_alone : (line : List ℕ) → Lacks 32 line → first_word line ≡ line
 first_word_alone [] lacks = refl

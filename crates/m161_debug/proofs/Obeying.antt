@@ -1,7 +1,7 @@
 -- What commands do.
 use Rattle.std.proofs.Common.{◌≡◌, refl, sym, subst, ℕ, List, ◌++◌, take, Option, None, Some, Result, Ok, Err, codes, decimal}
 use Rattle.m161_machine.specs.declared.event.Event.{Event}
-use Rattle.m161_steplog.specs.Parts.{◌␣◌}
+use Rattle.m161_text.specs.Parts.{◌␣◌, word_text}
 use Rattle.std.specs.Option.{option_map}
 use Rattle.m161_debug.specs.declared.breakpoints.BreakError.{BreakError}
 use Rattle.m161_debug.specs.declared.breakpoints.BreakError.TheVariants as breaks
@@ -9,7 +9,7 @@ use Rattle.m161_debug.specs.declared.command.Change.TheVariants.{Set}
 use Rattle.m161_debug.specs.declared.command.Command.TheVariants.{Breakpoint, Go, GoFirst}
 use Rattle.m161_debug.specs.declared.command.CommandError.{CommandError}
 use Rattle.m161_debug.specs.Breakpoints.{SessionState, breakpoint, break_leaves}
-use Rattle.m161_debug.specs.Shows.{with_line_end, word_text}
+use Rattle.m161_text.specs.Lines.{with_line_end}
 use Rattle.m161_debug.specs.Obeys.{error_of_break, HasEffectUnless, Goes}
 
 -- the first events are all of them

@@ -1,7 +1,8 @@
 use Rattle.std.proofs.Common.{◌≡◌, ◌∙◌, ◌+◌, ◌<◌, ℕ, List, [], ◌∷◌, ◌++◌, length, take, get_or, ap, map, sym, arith}
 use Rattle.std.proofs.lemmas.List.{flat_map_more, map-append, take_more}
 use Rattle.std.proofs.lemmas.List.FromFn.{map-range_with_len_more}
-use Rattle.m161_debug.specs.Shows.{numbered_lines, with_line_end, text_of}
+use Rattle.m161_debug.specs.Shows.{numbered_lines}
+use Rattle.m161_text.specs.Lines.{with_line_end, text_of}
 
 -- Texts of lines.
 

@@ -1,7 +1,7 @@
 use Rattle.std.specs.Prelude.{◌≡◌, ◌≢◌, ℕ, ◌-◌, ◌^◌, ◌==◌, if◌then◌else◌, List, [], ◌∷◌, Result, Ok, Err, codes, decimal, length, min, get_or}
 use Rattle.std.specs.List.{AllByRecursion}
 use Rattle.std.specs.Str.Parse.{IsNumeral, digits_value}
-use Rattle.m161_steplog.specs.Parts.{◌␣◌, IsWord}
+use Rattle.m161_text.specs.Parts.{◌␣◌, IsWord, word_text}
 use Rattle.m161_steplog.specs.Text.{event_text, IsEvent}
 use Rattle.m161_debug.specs.declared.command.Area.{Area}
 use Rattle.m161_debug.specs.declared.command.Area.TheVariants.{Memory, Code}
@@ -13,7 +13,6 @@ use Rattle.m161_debug.specs.declared.command.CommandError.{CommandError}
 use Rattle.m161_debug.specs.declared.command.CommandError.TheVariants.{Unknown, BadArgument, BadProcessor, TooMany, NoMemory}
 use Rattle.m161_debug.specs.declared.command.Display.{Display}
 use Rattle.m161_debug.specs.declared.command.Display.TheVariants.{Regs, Cop0, Tlb}
-use Rattle.m161_debug.specs.Shows.{word_text}
 
 -- The lines of commands.
 

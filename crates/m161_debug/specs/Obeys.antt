@@ -7,7 +7,7 @@ use Rattle.m161_machine.specs.declared.event.Refusal.{Refusal}
 use Rattle.m161_machine.specs.Refusal.{number_of_refusal, name_of_refusal}
 use Rattle.m161_machine.specs.State.{State}
 use Rattle.m161_machine.specs.History.{Answers}
-use Rattle.m161_steplog.specs.Parts.{◌␣◌}
+use Rattle.m161_text.specs.Parts.{◌␣◌, word_text}
 use Rattle.m161_steplog.specs.Text.{event_text, outcome_text}
 use Rattle.m161_debug.specs.declared.breakpoints.BreakError.{BreakError}
 use Rattle.m161_debug.specs.declared.breakpoints.BreakError.TheVariants as breaks
@@ -24,7 +24,8 @@ use Rattle.m161_debug.specs.declared.stop.Stop.{Stop}
 use Rattle.m161_debug.specs.declared.stop.Stop.TheVariants.{Break, Refused, Off, End}
 use Rattle.m161_debug.specs.Breakpoints.{SessionState, breakpoint, break_fault, has, with_breakpoint, without_breakpoint}
 use Rattle.m161_debug.specs.Stops.{Stops}
-use Rattle.m161_debug.specs.Shows.{with_line_end, word_text, show_regs_text, show_cop0_text, show_tlb_text, show_mem_text, show_code_text}
+use Rattle.m161_debug.specs.Shows.{show_regs_text, show_cop0_text, show_tlb_text, show_mem_text, show_code_text}
+use Rattle.m161_text.specs.Lines.{with_line_end}
 use Rattle.m161_debug.specs.Commands.{IsAsked}
 
 -- The effects of commands.

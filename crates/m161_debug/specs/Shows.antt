@@ -15,23 +15,14 @@ use Rattle.m161_cpu.specs.declared.processor.ProcessorState.{ProcessorState}
 use Rattle.m161_cpu.specs.declared.processor.ProcessorState.TheVariants.{Stopped, Running, Waiting}
 use Rattle.m161_cpu.specs.Processor.{Processor}
 use Rattle.m161_machine.specs.State.{State, processor_at}
-use Rattle.m161_steplog.specs.Parts.{◌␣◌, hex_text}
+use Rattle.m161_text.specs.Lines.{with_line_end, text_of}
+use Rattle.m161_text.specs.Parts.{◌␣◌, word_text}
 
 -- The displays: each is a list of lines, computed from a state.
-
--- a line with its end
-abbrev pub with_line_end : List ℕ → List ℕ
-with_line_end line = line ++ 10 ∷ []
-
-abbrev pub text_of : List (List ℕ) → List ℕ
-text_of lines = flat_map with_line_end lines
 
 -- n lines, counted from 0
 abbrev pub numbered_lines : ℕ → (ℕ → List ℕ) → List (List ℕ)
 numbered_lines n line = map line (range_with_len 0 n)
-
-abbrev pub word_text : ℕ → List ℕ
-word_text word = hex_text 8 word
 
 -- a name and a word
 unfoldable pub name_and_word : List ℕ → ℕ → List ℕ

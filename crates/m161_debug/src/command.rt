@@ -1,13 +1,13 @@
 //! The commands of a debugger.
 
 ghost use Rattle.std.specs.Prelude.{◌≡◌, codes};
-ghost use Rattle.m161_steplog.specs.Parts.{◌␣◌, Lacks};
+ghost use Rattle.m161_text.specs.Parts.{◌␣◌, Lacks};
 ghost use Rattle.m161_debug.specs.Commands.{change_word, display_word, area_word, name_of_error, IsAsked};
 
 use crate::breakpoints::BreakError;
 use crate::reading::{address_and_count, count_of, processor_and_address};
 use m161_machine::Event;
-use m161_steplog::{cut_at_space, parse_byte, parse_decimal};
+use m161_text::{cut_at_space, parse_byte, parse_decimal};
 use std::alloc::AllocError;
 use thiserror::Error;
 

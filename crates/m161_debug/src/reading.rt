@@ -2,12 +2,11 @@
 
 ghost use Rattle.std.specs.Prelude.{◌<◌, ◌≤◌, ◌≡◌, length, decimal, true, false, get_or, IfSome, IfNone};
 ghost use Rattle.std.specs.Str.Parse.{AllDigits};
-ghost use Rattle.m161_steplog.specs.Parts.{IsWord};
-ghost use Rattle.m161_steplog.specs.helpers.Parts.{ReadsBoth};
-ghost use Rattle.m161_debug.specs.Shows.{word_text};
+ghost use Rattle.m161_text.specs.Parts.{IsWord, word_text};
+ghost use Rattle.m161_text.specs.helpers.Parts.{ReadsBoth};
 ghost use Rattle.m161_debug.specs.Commands.{count_of, IsDecimal};
 
-use m161_steplog::{cut_at_space, parse_decimal, parse_word};
+use m161_text::{cut_at_space, parse_decimal, parse_word};
 
 /// A processor and an address.
 pub(crate) fn processor_and_address(text: &str) -> Option<(u32, u32)>

@@ -2,12 +2,13 @@
 
 ghost use Rattle.std.specs.Prelude.{◌≡◌, ◌+◌, ◌<◌, ◌≤◌, ◌++◌, ◌∷◌, [], length, decimal, string_bytes, string_capacity, string_len};
 ghost use Rattle.m161_machine.specs.Refusal.{name_of_refusal};
-ghost use Rattle.m161_steplog.specs.Parts.{hex_digit, hex_text};
+ghost use Rattle.m161_text.specs.Parts.{hex_text};
 ghost use Rattle.m161_steplog.specs.Text.{event_text, outcome_text};
 ghost use Rattle.m161_debug.specs.Obeys.{refused_text, stop_text};
 
 use crate::stop::Stop;
 use m161_machine::{Event, Outcome, Refusal};
+use m161_text::push_hex;
 
 /// Appends a part.
 pub(crate) fn put(text: &mut String, part: &str)
@@ -57,19 +58,6 @@ fn put_decimal(text: &mut String, number: u64)
     put_digits(text, number);
 }
 
-// The glyph of a hexadecimal digit.
-fn glyph(digit: u32) -> u8
-    requires { digit < 16 }
-    ensures value { result ≡ hex_digit digit }
-    ensures ascii { result < 128 }
-{
-    if digit < 10 {
-        b'0' + digit as u8
-    } else {
-        b'a' + (digit as u8 - 10)
-    }
-}
-
 // Appends the last `digits` hexadecimal digits of a number.
 fn put_hex(text: &mut String, digits: u32, number: u32)
     requires { string_len text.old + digits ≤ string_capacity text.old }
@@ -77,10 +65,7 @@ fn put_hex(text: &mut String, digits: u32, number: u32)
     ensures len { string_len text.new ≡ string_len text.old + digits }
     ensures capacity { string_capacity text.old ≤ string_capacity text.new }
 {
-    if digits > 0 {
-        put_hex(text, digits - 1, number / 16);
-        put_glyph(text, glyph(number % 16));
-    }
+    let _done = push_hex(text, digits, number);
 }
 
 /// Appends an event, as a log shows it: 22 bytes at most.

@@ -1,7 +1,8 @@
 //! Words to instructions.
 
 ghost use Rattle.std.specs.Prelude.{◌≡◌, ◌≢◌};
-ghost use Rattle.m161_isa.specs.Table.{bits_of, row_that_fits, numbers_of};
+ghost use Rattle.m161_isa.specs.Table.{row_that_fits, numbers_of};
+ghost use Rattle.m161_isa.specs.Bits.{bits_of};
 ghost use Rattle.m161_isa.specs.Instr.{row_of_instr, numbers_of_instr, instr_of, rs_of, rt_of, rd_of, amount_of, immediate_of, target_of};
 ghost use Rattle.m161_decode.specs.helpers.Decoded.{IsInstrOf};
 
@@ -25,8 +26,8 @@ pub fn decode(word: u32) -> Instr
     by_opcode::<Elsewhere>(word)
 }
 
-/// The same as `decode`, for the loop of a program: it is inlined into its one caller, even if that
-/// is large and others call `decode`.
+/// The same as `decode`, for the loop of a program. For LLVM: it is inlined into its one caller, even
+/// if that is large and others call `decode`.
 #[inline(always)]
 pub fn decode_in_step(word: u32) -> Instr
     ensures row { row_of_instr result ≡ row_that_fits word }
@@ -36,8 +37,8 @@ pub fn decode_in_step(word: u32) -> Instr
     by_opcode::<InStep>(word)
 }
 
-// The callers of the decoder. The compiler makes a copy of it for each, and so inlines the copy of
-// a Step, which has one caller.
+// The callers of the decoder. For LLVM: there is a copy of it for each, and so the copy of a Step,
+// which has one caller, is inlined.
 struct InStep;
 
 struct Elsewhere;

@@ -1,7 +1,7 @@
 //! The fields of a word. Their places are written out, so that a Step looks none up in a table.
 
 ghost use Rattle.std.specs.Prelude.{◌≡◌, ◌≤◌, ◌<◌, ◌^◌};
-ghost use Rattle.m161_isa.specs.Table.{bits_of};
+ghost use Rattle.m161_isa.specs.Bits.{bits_of};
 ghost use Rattle.m161_isa.specs.Instr.{rs_of, rt_of, rd_of, amount_of, immediate_of, target_of};
 
 use m161_isa::{Amount, Immediate, Reg, Target};

@@ -1,19 +1,15 @@
-use Rattle.std.specs.Prelude.{ℕ, zero, suc, ◌+◌, ◌-◌, ◌*◌, ◌/◌, ◌%◌, ◌^◌, false, ◌==◌, nat_lt, if◌then◌else◌, List, [], ◌∷◌, ◌++◌, Option, None, Some, codes, decimal}
-use Rattle.std.specs.Fmt.{digit_glyph}
+use Rattle.std.specs.Prelude.{ℕ, ◌+◌, ◌-◌, ◌*◌, ◌/◌, ◌%◌, ◌^◌, ◌==◌, nat_lt, if◌then◌else◌, List, [], ◌∷◌, ◌++◌, Option, None, Some, codes, decimal}
 use Rattle.m161_isa.specs.declared.table.Row.{Row}
 use Rattle.m161_isa.specs.declared.operand.Operand.{Operand}
 use Rattle.m161_isa.specs.declared.operand.Operand.TheVariants as operand
+use Rattle.m161_text.specs.Parts.{hex_text}
 use Rattle.m161_isa.specs.Table.{table, row_that_fits, number_of, numbers_of, word_with}
 
 -- The one text of a word at an address, by the instruction table.
 
--- the last k hexadecimal digits of a number, in lower case
-abbrev pub hex : ℕ → ℕ → List ℕ
-hex zero n = []
-hex (suc k) n = digit_glyph false (n / 2 ^ (4 * k) % 16) ∷ hex k n
-
+-- a number in its last k hexadecimal digits
 abbrev pub hex_number : ℕ → ℕ → List ℕ
-hex_number k n = codes "0x" ++ hex k n
+hex_number k n = codes "0x" ++ hex_text k n
 
 -- a general register, or one of coprocessor 0
 abbrev pub register_text : ℕ → List ℕ

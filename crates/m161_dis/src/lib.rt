@@ -15,7 +15,6 @@
 #![tactic(auto)]
 
 ghost use Rattle.std.specs.Prelude.{◌≡◌, ◌≤◌, ◌<◌, ◌^◌, ◌++◌, IfOk, OnOk, false, string_bytes};
-ghost use Rattle.std.specs.Fmt.{digit_glyph};
 ghost use Rattle.m161_isa.specs.Table.{width_of};
 ghost use Rattle.m161_dis.specs.Canon.{canon, canon_by, canonical_row, operands_text, operand_text, lead_of, hex_number, signed_text, branch_target, jump_target};
 
@@ -24,6 +23,7 @@ mod laws;
 pub use laws::survives_disassembling;
 use m161_decode::{is_canonical, row_that_fits};
 use m161_isa::{Operand, Row};
+use m161_text::push_hex;
 use std::alloc::{AllocError, Global};
 use std::fmt::Write;
 
@@ -142,30 +142,11 @@ fn write_signed(text: &mut String, number: u32) -> Result<(), AllocError>
 
 // `0x` and the last digits of a number.
 fn write_hex_number(text: &mut String, digits: u32, number: u32) -> Result<(), AllocError>
-    requires { digits ≤ 8 }
     ensures { OnOk result (string_bytes text.new
         ≡ string_bytes text.old ++ hex_number digits number) }
 {
     text.push_str("0x")?;
-    let mut left = digits;
-    while left > 0 {
-        left -= 1;
-        text.push(glyph((number >> (4 * left)) % 16))?;
-    }
-    Ok(())
-}
-
-// A hexadecimal digit.
-fn glyph(digit: u32) -> char
-    requires { digit < 16 }
-    ensures value { result ≡ digit_glyph false digit }
-    ensures ascii { result < 128 }
-{
-    if digit < 10 {
-        (b'0' + digit as u8) as char
-    } else {
-        (b'a' + (digit as u8 - 10)) as char
-    }
+    push_hex(text, digits, number)
 }
 
 // The target of a branch.

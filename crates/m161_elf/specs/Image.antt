@@ -1,6 +1,7 @@
 use Rattle.std.specs.Prelude.{◌≡◌, ℕ, ◌+◌, ◌-◌, ◌*◌, ◌%◌, ◌^◌, ◌<◌, Bool, false, not, ◌==◌, nat_lt, nat_le, nat_eq, ◌&&◌, ◌||◌, if◌then◌else◌, min, List, [], ◌∷◌, length, find, reverse, slice_index, Option, None, Some, Result, Ok, Err}
 use Rattle.std.specs.List.{list_any, starts_with}
 use Rattle.std.specs.Option.{option_map_or}
+use Rattle.m161_isa.specs.Choice.{first_answer}
 use Rattle.m161_isa.specs.Address.{unmapped}
 use Rattle.m161_elf.specs.declared.header.ProgramHeader.{ProgramHeader}
 use Rattle.m161_elf.specs.declared.image.Image.{Image}
@@ -54,11 +55,6 @@ is_larger_in_file s = nat_lt s.p_memsz s.p_filesz
 
 abbrev pub has_bad_entry : List ℕ → ℕ → Bool
 has_bad_entry file ram = not (e_entry file % 4 == 0) || not (is_in_ram ram (e_entry file) 1)
-
--- the answer of the first test that holds
-abbrev pub first_answer : {E : Type 0} → List (Bool × E) → Option E
-first_answer [] = None
-first_answer ((test, answer) ∷ rest) = if test then Some answer else first_answer rest
 
 -- the first fault that holds, each tested over all segments before the next fault
 unfoldable pub first_fault : List ℕ → ℕ → Option LoadError

@@ -9,7 +9,8 @@ use Rattle.m161_asm.specs.Segments.{segment_seen, segments_seen, word_count, Are
 use Rattle.m161_asm.specs.Text.{Segment}
 use Rattle.m161_elf.specs.declared.image.LoadError.TheVariants as fault
 use Rattle.m161_elf.specs.Header.{segments}
-use Rattle.m161_elf.specs.Image.{first_fault, first_answer, has_bad_entry, has_bad_header_table, is_larger_in_file, is_not_elf32_big, is_not_executable, is_not_mips, is_outside_file, is_outside_ram, is_truncated}
+use Rattle.m161_elf.specs.Image.{first_fault, has_bad_entry, has_bad_header_table, is_larger_in_file, is_not_elf32_big, is_not_executable, is_not_mips, is_outside_file, is_outside_ram, is_truncated}
+use Rattle.m161_isa.specs.Choice.{first_answer}
 use Rattle.m161_elf_writer.specs.Written.{elf_bytes, file_header, segment_bytes, segment_headers, size, words_bytes}
 use Rattle.m161_elf_writer.specs.WrittenLaw.{is_entry_outside, lies_outside, WrittenHasFewFaults}
 use Rattle.m161_elf_writer.proofs.ReadBack.{count_read, entry_read, length-segment_headers, length-words_bytes, load_headers, segments_read}

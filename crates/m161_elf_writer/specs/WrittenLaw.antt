@@ -4,7 +4,8 @@ use Rattle.std.specs.Option.{option_map_or}
 use Rattle.m161_asm.specs.declared.program.Program.{Program}
 use Rattle.m161_asm.specs.Segments.{segments_seen}
 use Rattle.m161_asm.specs.Text.{Segment}
-use Rattle.m161_elf.specs.Image.{first_fault, first_answer, is_in_ram, place_in_ram, IsImage}
+use Rattle.m161_elf.specs.Image.{first_fault, is_in_ram, place_in_ram, IsImage}
+use Rattle.m161_isa.specs.Choice.{first_answer}
 use Rattle.m161_elf.specs.declared.image.LoadError.TheVariants as fault
 use Rattle.m161_elf_writer.specs.Written.{elf_bytes, size, words_bytes}
 

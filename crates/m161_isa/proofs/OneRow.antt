@@ -6,7 +6,8 @@ use Rattle.std.proofs.lemmas.Bool.Decides.{Decides-eqb, Decides-and, nat_tests}
 use Rattle.std.proofs.lemmas.Bool.{or_cases}
 use Rattle.m161_isa.specs.declared.table.Row.{Row}
 use Rattle.m161_isa.specs.declared.table.Row.TheVariants as rows
-use Rattle.m161_isa.specs.Table.{Field, bits_of, table, all_rows, code_of, HasFields, Fits, FitsNone, has_fields, fits, row_that_fits}
+use Rattle.m161_isa.specs.Table.{Field, table, all_rows, code_of, HasFields, Fits, FitsNone, has_fields, fits, row_that_fits}
+use Rattle.m161_isa.specs.Bits.{bits_of}
 use Rattle.m161_isa.specs.Laws.{OneRow, FindsTheRow}
 
 -- A word fits one row at most: a test over the table's pairs of rows, which computes, and what

@@ -1,3 +1,5 @@
+pub mod Bits
+pub mod Choice
 pub mod Table
 pub mod Instr
 pub mod Laws

@@ -1,4 +1,5 @@
 use Rattle.std.specs.Prelude.{◌≡◌, ℕ, ◌+◌, ◌*◌, ◌/◌, ◌%◌, ◌^◌, ◌<◌, Bool, true, ◌==◌, ◌&&◌, ◌||◌, if◌then◌else◌, List, [], ◌∷◌, map, find, Option, None, Some, codes}
+use Rattle.m161_isa.specs.Bits.{bits_of}
 use Rattle.m161_isa.specs.declared.table.Row.{Row}
 use Rattle.m161_isa.specs.declared.table.Row.TheVariants as rows
 use Rattle.m161_isa.specs.declared.operand.Operand.{Operand}
@@ -10,10 +11,6 @@ use Rattle.m161_isa.specs.declared.instr.Coprocessor.TheVariants as coprocessor
 
 -- The instruction table. Kane, MIPS RISC Architecture, "Opcode bit encoding"; `sync`, `ll` and `sc`
 -- are MIPS II's, `wait` is System/161's.
-
--- the field of a word from bit `at` on, `width` bits wide
-abbrev pub bits_of : ℕ → ℕ → ℕ → ℕ
-bits_of word at width = word / 2 ^ at % 2 ^ width
 
 -- the value that the field from bit `position` on, `width` bits wide, must have in the words of a
 -- row

@@ -102,7 +102,7 @@ pub enum Effect {
     StoreWordRight,
     /// Loads a word, and links to it.
     LoadLinked,
-    /// Stores the word if the link is live; writes whether it was.
+    /// Stores the word if the link is live and names it; writes whether it was stored.
     StoreConditional,
     /// Writes a register of coprocessor 0 to a general one.
     MoveFromCop0,

@@ -7,7 +7,7 @@ use Rattle.m161_bus.specs.declared.console.KeyFull.{KeyFull}
 use Rattle.m161_bus.specs.Board.{BoardState, board_done, board_key}
 use Rattle.m161_cpu.specs.declared.processor.Outcome.{Outcome}
 use Rattle.m161_cpu.specs.declared.processor.Outcome.TheVariants.{Taken}
-use Rattle.m161_elf.specs.Image.{first_answer}
+use Rattle.m161_isa.specs.Choice.{first_answer}
 use Rattle.m161_machine.specs.declared.conf.Conf.{Conf}
 use Rattle.m161_machine.specs.declared.event.Event.{Event}
 use Rattle.m161_machine.specs.declared.event.Event.TheVariants.{Step, Key, Done}

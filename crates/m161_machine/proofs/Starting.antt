@@ -3,7 +3,7 @@ use Rattle.std.specs.Prelude.{not, ◌&&◌, if◌then◌else◌, All}
 use Rattle.std.proofs.lemmas.List.Elements.{All-nil, All-cons, All-head, All-set, All-tail, All-weaker}
 use Rattle.m161_bus.specs.Board.{BoardState, start_words}
 use Rattle.m161_cpu.specs.Processor.{Processor, started_processor}
-use Rattle.m161_cop0.specs.Control.{has_bit}
+use Rattle.m161_isa.specs.Bits.{has_bit}
 use Rattle.m161_machine.specs.State.{started_by, with_starts}
 
 -- The processors that CPUE starts.

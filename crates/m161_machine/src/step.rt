@@ -42,7 +42,7 @@ pub(crate) fn step_parts<T: Tlb, D: Console>(
 {
     let before = board.started();
     match processors[p as usize].step(p, ram, board, links) {
-        // an arm of its own, so that the outcome of most Steps is known without a test
+        // For LLVM: an arm of its own, so that the outcome of most Steps is known without a test.
         Outcome::Ran => {
             start_new(processors, board, before);
             Outcome::Ran

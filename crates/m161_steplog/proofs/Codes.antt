@@ -4,7 +4,7 @@ use Rattle.std.proofs.lemmas.Option.{same_Some}
 use Rattle.m161_cop0.specs.declared.exception.Exception.{Exception}
 use Rattle.m161_cop0.specs.declared.exception.Exception.TheVariants as exception
 use Rattle.m161_cop0.specs.Registers.{number_of_exception, exception_with}
-use Rattle.m161_steplog.specs.Parts.{Reads, IsWord}
+use Rattle.m161_text.specs.Parts.{Reads, IsWord}
 use Rattle.m161_steplog.specs.Text.{code_text}
 use Rattle.m161_steplog.specs.helpers.Text.{IsCode}
 

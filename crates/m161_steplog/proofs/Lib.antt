@@ -1,8 +1,3 @@
-mod Reading
-pub mod Parts
-pub mod Decimal
-pub mod Hex
-mod Feeds
 mod Codes
 mod LogLines
 mod Logs

@@ -7,17 +7,17 @@ use Rattle.m161_machine.specs.declared.event.Event.TheVariants as events
 use Rattle.m161_cpu.specs.declared.processor.Outcome.{Outcome}
 use Rattle.m161_cpu.specs.declared.processor.Outcome.TheVariants as outcomes
 use Rattle.m161_machine.specs.declared.event.Entry.{Entry}
-use Rattle.m161_steplog.specs.Parts.{◌␣◌, hex_text, Reads, Lacks, IsWord, IsByte}
-use Rattle.m161_steplog.specs.helpers.Parts.{ReadsBoth}
+use Rattle.m161_text.specs.Parts.{◌␣◌, hex_text, Reads, Lacks, IsWord, IsByte}
+use Rattle.m161_text.specs.helpers.Parts.{ReadsBoth}
 use Rattle.m161_steplog.specs.Text.{event_text, code_text, outcome_text, entry_text, IsEvent, IsStepOutcome, IsProper, IsOutcomeOf}
 use Rattle.m161_steplog.specs.helpers.Text.{IsCode}
 use Rattle.m161_cop0.specs.declared.exception.Exception.{Exception}
 use Rattle.m161_cop0.specs.Registers.{number_of_exception}
 use Rattle.m161_steplog.proofs.Codes.{code_small}
-use Rattle.m161_steplog.proofs.Reading.{nothing}
-use Rattle.m161_steplog.proofs.Parts.{cut_same, has_space, rest_lacks, one_lacks}
-use Rattle.m161_steplog.proofs.Hex.{hex_lacks, hex_lacks_space}
-use Rattle.m161_steplog.proofs.Decimal.{decimal_lacks}
+use Rattle.m161_text.proofs.Reading.{nothing}
+use Rattle.m161_text.proofs.Parts.{cut_same, has_space, rest_lacks, one_lacks}
+use Rattle.m161_text.proofs.Hex.{hex_lacks, hex_lacks_space}
+use Rattle.m161_text.proofs.Decimal.{decimal_lacks}
 
 -- the first part of a line decides its event
 abbrev Kind : List ℕ → List ℕ → Event → Outcome → Type 0

@@ -6,19 +6,20 @@ use Rattle.std.specs.List.{AllByRecursion}
 use Rattle.m161_machine.specs.declared.event.Entry.{Entry}
 use Rattle.m161_steplog.specs.declared.fault.Fault.{Fault}
 use Rattle.m161_steplog.specs.declared.fault.Fault.TheVariants as faults
-use Rattle.m161_steplog.specs.Parts.{Reads, Lacks}
+use Rattle.m161_text.specs.Parts.{Reads, Lacks}
 use Rattle.m161_steplog.specs.Text.{entry_text, IsProper}
-use Rattle.m161_steplog.specs.Lines.{lines_of, FirstBad, IsRead}
+use Rattle.m161_text.specs.Lines.{lines_of, text_of, FirstBad}
+use Rattle.m161_steplog.specs.Read.{IsRead}
 use Rattle.m161_steplog.specs.Log.{log_text, log_lines, IsLogText, IsLog, AreLogLines}
 use Rattle.m161_steplog.specs.helpers.Log.{IsDistinct}
-use Rattle.m161_steplog.proofs.Feeds.{ended, IsSome, lines_of-ended, ended-lines_of, unended}
+use Rattle.m161_text.proofs.Feeds.{IsSome, lines_of-ended, ended-lines_of, unended}
 use Rattle.m161_steplog.proofs.LogLines.{entry_some, entry_lacks_feed, header_lacks_feed}
 
 flat_map-map : {A B C : Type 0} (f : B → List C) (g : A → B) (xs : List A) → flat_map f (map g xs) ≡ flat_map (λ x. f (g x)) xs
 flat_map-map f g [] = refl
 flat_map-map f g (x ∷ xs) = ap (λ ys. f (g x) ++ ys) (flat_map-map f g xs)
 
-ended-log_lines : (es : List Entry) → ended (log_lines es) ≡ log_text es
+ended-log_lines : (es : List Entry) → text_of (log_lines es) ≡ log_text es
 ended-log_lines es = ap (λ xs. codes "m161 log 1\n" ++ xs) (flat_map-map (λ line. line ++ 10 ∷ []) entry_text es)
 
 -- the lines of a log make its text

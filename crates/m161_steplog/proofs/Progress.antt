@@ -7,7 +7,7 @@ use Rattle.m161_machine.specs.declared.event.Event.{Event}
 use Rattle.m161_steplog.specs.declared.schedule.Item.{Item}
 use Rattle.m161_steplog.specs.declared.fault.Fault.{Fault}
 use Rattle.m161_steplog.specs.declared.fault.Fault.TheVariants as faults
-use Rattle.m161_steplog.specs.Lines.{lines_of, FirstBad}
+use Rattle.m161_text.specs.Lines.{lines_of, FirstBad}
 use Rattle.m161_steplog.specs.Schedule.{ScheduleLine, line_text, line_events, IsLine, IsSchedule, AreScheduleLines}
 use Rattle.m161_steplog.specs.helpers.Schedule.{item_events, ReadsLine}
 

@@ -5,14 +5,14 @@ use Rattle.m161_machine.specs.declared.event.Event.{Event}
 use Rattle.m161_machine.specs.declared.event.Event.TheVariants as events
 use Rattle.m161_steplog.specs.declared.schedule.Item.{Item}
 use Rattle.m161_steplog.specs.declared.schedule.Item.TheVariants as items
-use Rattle.m161_steplog.specs.Parts.{◌␣◌, hex_text, Reads, Lacks, IsWord}
-use Rattle.m161_steplog.specs.helpers.Parts.{ReadsBoth}
+use Rattle.m161_text.specs.Parts.{◌␣◌, hex_text, Reads, Lacks, IsWord}
+use Rattle.m161_text.specs.helpers.Parts.{ReadsBoth}
 use Rattle.m161_steplog.specs.Text.{event_text, IsEvent}
 use Rattle.m161_steplog.specs.Schedule.{ScheduleLine, line_text, line_events, IsLine, IsCount}
 use Rattle.m161_steplog.specs.helpers.Schedule.{item_events, ReadsLine}
-use Rattle.m161_steplog.proofs.Reading.{nothing}
-use Rattle.m161_steplog.proofs.Parts.{cut_same, has_space, not_spaced, one_lacks}
-use Rattle.m161_steplog.proofs.Decimal.{decimal_lacks_space}
+use Rattle.m161_text.proofs.Reading.{nothing}
+use Rattle.m161_text.proofs.Parts.{cut_same, has_space, not_spaced, one_lacks}
+use Rattle.m161_text.proofs.Decimal.{decimal_lacks_space}
 
 -- a text by its parts
 pub of_parts : {X : Type 0} (Valid : X → Type 0) (f : X → List ℕ) (text kind rest : List ℕ) (r : Option X) → text ≡ kind ␣ rest →

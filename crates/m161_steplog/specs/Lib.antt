@@ -1,6 +1,5 @@
-pub mod Parts
 pub mod Text
-pub mod Lines
+pub mod Read
 pub mod Log
 pub mod Schedule
 pub mod Verdict

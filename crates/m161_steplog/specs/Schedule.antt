@@ -2,7 +2,7 @@ use Rattle.std.specs.Prelude.{◌≡◌, ℕ, ◌≤◌, List, [], ◌∷◌, ma
 use Rattle.std.specs.List.{AllByRecursion}
 use Rattle.m161_machine.specs.declared.event.Event.{Event}
 use Rattle.m161_machine.specs.declared.event.Event.TheVariants as events
-use Rattle.m161_steplog.specs.Parts.{◌␣◌, IsWord}
+use Rattle.m161_text.specs.Parts.{◌␣◌, IsWord}
 use Rattle.m161_steplog.specs.Text.{event_text, IsEvent}
 
 -- The text of a schedule: a list of events, in which one line may have several Steps.

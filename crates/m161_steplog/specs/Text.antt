@@ -6,7 +6,7 @@ use Rattle.m161_cpu.specs.declared.processor.Outcome.TheVariants as outcomes
 use Rattle.m161_machine.specs.declared.event.Event.{Event}
 use Rattle.m161_machine.specs.declared.event.Event.TheVariants as events
 use Rattle.m161_machine.specs.declared.event.Entry.{Entry}
-use Rattle.m161_steplog.specs.Parts.{◌␣◌, hex_text, IsWord, IsByte}
+use Rattle.m161_text.specs.Parts.{◌␣◌, hex_text, IsWord, IsByte}
 
 -- The texts of events, outcomes and entries. Decimals have no leading zeros.
 

@@ -1,6 +1,5 @@
 -- Definitions that only contracts of private functions, or proofs, use.
 pub mod Log
-pub mod Parts
 pub mod Schedule
 pub mod Text
 pub mod Verdict

@@ -1,6 +1,5 @@
 //! The texts of a machine's log and of a schedule of events; `verify`, which replays a log on a
-//! machine that it boots, and finds the first entry that differs; and the readers of the lines and
-//! numbers of these texts.
+//! machine that it boots, and finds the first entry that differs.
 //!
 //! ```text
 //! schedule  s P        a Step of processor P
@@ -25,8 +24,6 @@
 //! project's own.
 #![tactic(auto)]
 
-mod cut;
-mod digits;
 mod fault;
 mod line;
 mod log;
@@ -34,8 +31,6 @@ mod schedule;
 mod shown;
 mod verdict;
 
-pub use cut::{cut_at_space, next_line};
-pub use digits::{Byte, Word, parse_byte, parse_decimal, parse_word};
 pub use fault::Fault;
 pub use log::{entry_line, read_log, write_log};
 pub use m161_machine::{BootError, Conf, Entry, Event, Events, Exception, Outcome};

@@ -1,14 +1,13 @@
 //! A line of a log.
 
 ghost use Rattle.std.specs.Prelude.{decimal, codes};
-ghost use Rattle.m161_steplog.specs.Parts.{◌␣◌, hex_text, Reads, IsByte, IsWord};
-ghost use Rattle.m161_steplog.specs.helpers.Parts.{ReadsBoth};
+ghost use Rattle.m161_text.specs.Parts.{◌␣◌, hex_text, Reads, IsByte, IsWord};
+ghost use Rattle.m161_text.specs.helpers.Parts.{ReadsBoth};
 ghost use Rattle.m161_steplog.specs.Text.{code_text, outcome_text, entry_text, IsStepOutcome, IsProper};
 ghost use Rattle.m161_steplog.specs.helpers.Text.{IsCode};
 
-use crate::cut::cut_at_space;
-use crate::digits::{parse_byte, parse_decimal, parse_word};
 use m161_machine::{Entry, Event, Exception, Outcome};
+use m161_text::{cut_at_space, parse_byte, parse_decimal, parse_word};
 
 // The exception of a code.
 fn parse_code(text: &str) -> Option<Exception>

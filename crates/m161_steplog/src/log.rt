@@ -5,15 +5,16 @@ ghost use Rattle.std.specs.List.{AllByRecursion};
 ghost use Rattle.m161_machine.specs.declared.event.Entry.{Entry};
 ghost use Rattle.m161_steplog.specs.declared.fault.Fault.TheVariants as faults;
 ghost use Rattle.m161_steplog.specs.Text.{entry_text};
-ghost use Rattle.m161_steplog.specs.Lines.{lines_of, FirstBad, IsRead};
+ghost use Rattle.m161_text.specs.Lines.{lines_of, FirstBad};
+ghost use Rattle.m161_steplog.specs.Read.{IsRead};
 ghost use Rattle.m161_steplog.specs.Log.{log_text, log_lines, IsLog, AreLogLines};
 ghost use Rattle.m161_steplog.specs.helpers.Log.{IsDistinct};
 
-use crate::cut::next_line;
 use crate::fault::Fault;
 use crate::line::parse_entry;
 use crate::shown::ShownEntry;
 use m161_machine::Entry;
+use m161_text::next_line;
 use std::alloc::{AllocError, Global};
 
 /// An entry's line, without its end.

@@ -4,17 +4,17 @@ ghost use Rattle.std.specs.Prelude.{◌≡◌, ℕ, ◌+◌, ◌<◌, ◌≤◌,
 ghost use Rattle.m161_machine.specs.declared.event.Event.{Event};
 ghost use Rattle.m161_machine.specs.declared.event.Event.TheVariants as events;
 ghost use Rattle.m161_steplog.specs.declared.fault.Fault.TheVariants as faults;
-ghost use Rattle.m161_steplog.specs.Lines.{lines_of, FirstBad, IsReadAs};
-ghost use Rattle.m161_steplog.specs.Parts.{◌␣◌, Reads, IsWord, Lacks};
-ghost use Rattle.m161_steplog.specs.helpers.Parts.{ReadsBoth};
+ghost use Rattle.m161_text.specs.Lines.{lines_of, FirstBad};
+ghost use Rattle.m161_steplog.specs.Read.{IsReadAs};
+ghost use Rattle.m161_text.specs.Parts.{◌␣◌, Reads, IsWord, Lacks};
+ghost use Rattle.m161_text.specs.helpers.Parts.{ReadsBoth};
 ghost use Rattle.m161_steplog.specs.Text.{event_text, IsEvent};
 ghost use Rattle.m161_steplog.specs.Schedule.{IsCount, IsSchedule, AreScheduleLines};
 ghost use Rattle.m161_steplog.specs.helpers.Schedule.{item_events, AddsEvents, ReadsLine};
 
-use crate::cut::{cut_at_space, next_line};
-use crate::digits::{parse_byte, parse_decimal};
 use crate::fault::Fault;
 use m161_machine::{Event, Events};
+use m161_text::{cut_at_space, next_line, parse_byte, parse_decimal};
 use std::alloc::Global;
 
 /// The most events of a schedule.

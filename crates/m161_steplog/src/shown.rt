@@ -3,8 +3,8 @@
 ghost use Rattle.std.specs.Prelude.{Some};
 ghost use Rattle.m161_steplog.specs.Text.{event_text, outcome_text, entry_text};
 
-use crate::digits::{Byte, Word};
 use m161_machine::{Entry, Event, Outcome};
+use m161_text::{Byte, Word};
 use std::fmt;
 
 /// An event as text.

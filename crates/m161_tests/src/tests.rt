@@ -19,6 +19,7 @@ mod steplog;
 mod threads;
 mod tlb;
 mod traps;
+mod workers;
 
 use std::fmt::Debug;
 use std::process::Abort;

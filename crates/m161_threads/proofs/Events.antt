@@ -12,7 +12,7 @@ use Rattle.m161_machine.specs.declared.event.Refusal.{Refusal}
 use Rattle.m161_machine.specs.declared.event.Refusal.TheVariants.{BadProcessor, Off, LogFull, NoMemory}
 use Rattle.m161_machine.specs.declared.conf.Conf.{Conf}
 use Rattle.m161_machine.specs.Conf.{is_within_limits}
-use Rattle.m161_elf.specs.Image.{first_answer}
+use Rattle.m161_isa.specs.Choice.{first_answer}
 use Rattle.m161_machine.specs.State.{State, CountUpTo, answer, counts, is_full, next, refusal, unless}
 use Rattle.m161_machine.specs.helpers.State.{counts_after}
 use Rattle.m161_machine.specs.History.{History, Answers, Refuses}

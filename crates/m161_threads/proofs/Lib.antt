@@ -1,5 +1,4 @@
 mod Events
 mod Seating
 mod Working
-mod Interleaving
 mod Outcomes

@@ -1,18 +1,17 @@
-use Rattle.std.proofs.Common.{◌≡◌, ◌∙◌, refl, ap, sym, ℕ, zero, suc, ◌+◌, ◌<◌, Bool, true, false, List, [], ◌∷◌, ◌++◌, length, get_or, drop, arith}
+use Rattle.std.proofs.Common.{◌≡◌, ◌∙◌, refl, ap, sym, subst, append-nil, ℕ, zero, suc, ◌+◌, ◌<◌, Bool, true, false, List, [], ◌∷◌, ◌++◌, length, get_or, drop, arith}
 use Rattle.std.specs.Prelude.{sum}
+use Rattle.std.specs.List.{list_all}
 use Rattle.std.proofs.lemmas.List.{length-append, length-map, take-append-drop}
-use Rattle.std.proofs.lemmas.List.Sums.{sum_by-cons}
 use Rattle.m161_cpu.specs.Processor.{Processor}
 use Rattle.m161_machine.specs.declared.event.Entry.{Entry}
 use Rattle.m161_machine.specs.State.{counts}
 use Rattle.m161_machine.specs.History.{History, Continues, IsReplay, events_of, steps_of}
 use Rattle.m161_machine.proofs.Resuming.{resumes}
-use Rattle.m161_threads.specs.Runs.{Interleaves, is_step_below}
-use Rattle.m161_threads.specs.helpers.Runs.{IsChecked}
+use Rattle.m161_threads.specs.Runs.{Interleaves, MakesSteps, is_step_below}
+use Rattle.m161_threads.specs.helpers.Runs.{IsChecked, IsLater}
 use Rattle.m161_threads.specs.Shares.{SeatState, new_seat, seats_from}
 use Rattle.m161_threads.specs.helpers.Work.{HasWorked}
 use Rattle.m161_machine.proofs.Counted.{count_through, counts_run, counts_through, length_through}
-use Rattle.m161_threads.proofs.Interleaving.{all_pass, sum_through}
 
 -- What the workers say and what was compared make one interleaving.
 
@@ -25,22 +24,6 @@ place_at : (k : ℕ) (cs : List ℕ) (i at : ℕ) (d : SeatState) → i < length
 place_at k [] i at d inside at_is = absurd (let bad : ⊥ = omega (arith, inside) in bad)
 place_at k (c ∷ cs) zero at d inside at_is = let here : k ≡ at = omega (arith, at_is) in ap (λ n. new_seat n c) here
 place_at k (c ∷ cs) (suc i) at d inside at_is = place_at (k + 1) cs i at d (omega (arith, inside)) (omega (arith, at_is))
-
--- lists that add up, place by place
-sums_add : (xs ys zs : List ℕ) → length xs ≡ length zs → length ys ≡ length zs →
-    ((p : ℕ) → p < length zs → get_or xs p 0 ≡ get_or ys p 0 + get_or zs p 0) → sum xs ≡ sum ys + sum zs
-sums_add [] [] [] a b each = omega arith
-sums_add (x ∷ xs) ys [] a b each = absurd (let bad : ⊥ = omega (arith, a) in bad)
-sums_add [] (y ∷ ys) [] a b each = absurd (let bad : ⊥ = omega (arith, b) in bad)
-sums_add [] ys (z ∷ zs) a b each = absurd (let bad : ⊥ = omega (arith, a) in bad)
-sums_add (x ∷ xs) [] (z ∷ zs) a b each = absurd (let bad : ⊥ = omega (arith, b) in bad)
-sums_add (x ∷ xs) (y ∷ ys) (z ∷ zs) a b each =
-    let first : x ≡ y + z = each 0 (omega arith) in
-    let rest = sums_add xs ys zs (omega (arith, a)) (omega (arith, b)) (λ p inside. each (suc p) (omega (arith, inside))) in
-    let sum_x = sum_by-cons (λ n. n) x xs in
-    let sum_y = sum_by-cons (λ n. n) y ys in
-    let sum_z = sum_by-cons (λ n. n) z zs in
-    omega (arith, first, rest, sum_x, sum_y, sum_z)
 
 same_list : (xs ys : List ℕ) → length xs ≡ length ys →
     ((p : ℕ) → p < length ys → get_or xs p 0 ≡ get_or ys p 0) → xs ≡ ys
@@ -56,6 +39,40 @@ not_noted : (noted off : Bool) → (noted ≡ true → off ≡ true) → off ≡
 not_noted true off h on = absurd (let bad : true ≡ false = sym (h refl) ∙ on in cc)
 not_noted false off h on = refl
 
+-- a machine that may be the one of a copy after so many Steps, is it
+pub makes_steps : (before after : History) (made : ℕ) → IsReplay before → IsReplay after →
+    IsLater before.start before.log made after → MakesSteps before after
+makes_steps before after made first second later =
+    let cs = counts before.state in
+    let entries = drop (length before.log) after.log in
+    let log_is : after.log ≡ before.log ++ entries =
+    sym (take-append-drop (length before.log) after.log) ∙ ap (λ (l : List Entry). l ++ entries) later.log_is in
+    let goes_on : Continues before (events_of entries) after = resumes before after entries first second later.start_is log_is in
+    let through : counts after.state ≡ counts_through (events_of entries) cs =
+    counts_run goes_on.entries before.state after.state goes_on.run_is ∙ ap (λ es. counts_through es cs) goes_on.events_are in
+    let number : length after.state.processors ≡ length before.state.processors =
+    sym (length-map after.state.processors (λ (p : Processor). p.count)) ∙ ap length through
+    ∙ length_through (events_of entries) cs ∙ length-map before.state.processors (λ (p : Processor). p.count) in
+    record {
+      events = events_of entries;
+      steps = subst (λ n. list_all (is_step_below n) (events_of entries) ≡ true) number later.steps;
+      continues = goes_on;
+    }
+
+-- no Step was made
+pub makes_none : (before : History) → MakesSteps before before
+makes_none before = record {
+  events = [];
+  steps = refl;
+  continues = record {
+    entries = [];
+    events_are = refl;
+    run_is = refl;
+    log_is = sym (append-nil before.log);
+    start_is = refl;
+  };
+}
+
 pub interleaves : (before after : History) (quotas : List ℕ) (seats : List SeatState) (made : List ℕ) (off : Bool) →
     IsReplay before → length quotas ≡ length before.state.processors →
     HasWorked (seats_from 0 (counts before.state)) quotas seats made →
@@ -64,13 +81,9 @@ interleaves before after quotas seats made off replays number worked checked =
     let d = new_seat 0 0 in
     let cs = counts before.state in
     let size : length cs ≡ length quotas = length-map before.state.processors (λ (p : Processor). p.count) ∙ sym number in
-    let entries = drop (length before.log) after.log in
-    let log_is : after.log ≡ before.log ++ entries =
-    sym (take-append-drop (length before.log) after.log) ∙ ap (λ (l : List Entry). l ++ entries) checked.log_is in
-    let goes_on : Continues before (events_of entries) after =
-    resumes before after entries replays checked.replay checked.start_is log_is in
-    let through : counts after.state ≡ counts_through (events_of entries) cs =
-    counts_run goes_on.entries before.state after.state goes_on.run_is ∙ ap (λ es. counts_through es cs) goes_on.events_are in
+    let all = makes_steps before after (sum made) replays checked.replay checked.later in
+    let through : counts after.state ≡ counts_through all.events cs =
+    counts_run all.continues.entries before.state after.state all.continues.run_is ∙ ap (λ es. counts_through es cs) all.continues.events_are in
     let counted : (p : ℕ) → p < length quotas → get_or (counts after.state) p 0 ≡ get_or cs p 0 + get_or made p 0 = λ p inside.
     let works = worked.each p d d inside in
     let there : p < length seats = omega (arith, inside, worked.seats_number) in
@@ -79,29 +92,19 @@ interleaves before after quotas seats made off replays number worked checked =
     let fits = (checked.seats_are p d there).1 in
     ap (λ n. get_or (counts after.state) n 0) (sym its) ∙ fits ∙ works.counted
     ∙ ap (λ (s : SeatState). s.count + get_or made p 0) here in
-    let each : (p : ℕ) → p < length made → steps_of p (events_of entries) ≡ get_or made p 0 = λ p inside.
+    let each : (p : ℕ) → p < length made → steps_of p all.events ≡ get_or made p 0 = λ p inside.
     let there : p < length quotas = omega (arith, inside, worked.made_number) in
-    let steps = count_through (events_of entries) p cs (omega (arith, there, size)) in
+    let steps = count_through all.events p cs (omega (arith, there, size)) in
     let is = ap (λ c. get_or c p 0) through in
     let sums = counted p there in
     omega (arith, steps, is, sums) in
-    let same_size : length (counts after.state) ≡ length made =
-    ap length through ∙ length_through (events_of entries) cs ∙ size ∙ sym worked.made_number in
-    let added = sums_add (counts after.state) cs made same_size (size ∙ sym worked.made_number)
-    (λ p inside. counted p (omega (arith, inside, worked.made_number))) in
-    let all = sum_through (events_of entries) cs (length made) (size ∙ sym worked.made_number) in
-    let sum_is = ap sum through in
-    let events_number = length-map entries (λ (e : Entry). e.event) in
-    let log_number = ap length log_is ∙ length-append before.log entries in
-    let is = checked.number in
     record {
-      events = events_of entries;
+      events = all.events;
       interleaving = record {
-        steps = all_pass (is_step_below (length made)) (events_of entries)
-            (omega (arith, added, all, sum_is, events_number, log_number, is));
+        steps = subst (λ n. list_all (is_step_below n) all.events ≡ true) (sym number ∙ sym worked.made_number) all.steps;
         each = each;
       };
-      continues = goes_on;
+      continues = all.continues;
       number = worked.made_number;
       within = λ p inside. (worked.each p d d inside).within;
       whole = λ on. same_list made quotas worked.made_number (λ p inside.
@@ -110,5 +113,5 @@ interleaves before after quotas seats made off replays number worked checked =
           (checked.noted p d (omega (arith, inside, worked.seats_number))) (sym checked.off_is ∙ on)));
       off_is = checked.off_is;
       counted = counted;
-      logged = checked.number;
+      logged = checked.later.number;
     }

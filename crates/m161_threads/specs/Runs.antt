@@ -5,7 +5,7 @@ use Rattle.m161_machine.specs.declared.event.Event.TheVariants as event
 use Rattle.m161_machine.specs.State.{counts}
 use Rattle.m161_machine.specs.History.{History, Continues, IsReplay, steps_of}
 use Rattle.m161_threads.specs.declared.cause.Cause.{Cause}
-use Rattle.m161_threads.specs.declared.cause.Cause.TheVariants.{BadQuotas, NotYet}
+use Rattle.m161_threads.specs.declared.cause.Cause.TheVariants.{BadQuotas, NotYet, Swapped}
 
 -- The result of a run in threads: one interleaving of Steps.
 
@@ -47,7 +47,16 @@ bad_call quotas processors =
 abbrev pub IsOfRun : Cause → Type 0
 IsOfRun cause = (cause ≢ BadQuotas) × (cause ≢ NotYet)
 
--- how a run fails: if it doesn't begin, with the machine unchanged
+-- Steps of the processors that there are were made of a machine, and nothing else, and leave this
+-- one
+pub record MakesSteps (before after : History) : Type 0 where
+  pub events : List Event
+  pub steps : list_all (is_step_below (length before.state.processors)) events ≡ true
+  pub continues : Continues before events after
+
+-- how a run fails: if it doesn't begin, with the machine unchanged; else with the Steps that were
+-- made of it, unless the machine was swapped
 abbrev pub FailsRun : Option Cause → History → Cause → History → Type 0
 FailsRun (Some first) before cause after = (cause ≡ first) × (after ≡ before)
-FailsRun None before cause after = IsOfRun cause × IsReplay after
+FailsRun None before cause after =
+    IsOfRun cause × IsReplay after × (cause ≢ Swapped → MakesSteps before after)

@@ -1,9 +1,13 @@
 //! A machine before a run.
 
-ghost use Rattle.std.specs.Prelude.{◌≡◌, ◌+◌, ◌≤◌, IfOk, length, take, true};
+ghost use Rattle.std.specs.Prelude.{◌≡◌, ◌≤◌, IfOk, IfSome, drop, length, take, true};
+ghost use Rattle.std.specs.List.{list_all};
+ghost use Rattle.m161_machine.specs.History.{events_of};
+ghost use Rattle.m161_threads.specs.Runs.{is_step_below};
+ghost use Rattle.m161_threads.specs.helpers.Runs.{IsLater};
 
 use m161_bus::Console;
-use m161_machine::{Entry, Machine, Start};
+use m161_machine::{Entry, Event, Machine, Start};
 use m161_tlb::Tlb;
 use std::alloc::{AllocError, Global};
 
@@ -29,19 +33,21 @@ impl Before {
         })
     }
 
-    /// Whether a machine may be this one after `made` more events: it has the same start, a log
-    /// that is longer by `made` entries, and this log at its beginning.
-    pub(crate) fn leads_to<T: Tlb, D: Console>(&self, machine: &Machine<T, D>, made: u64) -> bool
-        ensures start { result ≡ true → machine.now.start ≡ self.now.start }
-        ensures number { result ≡ true
-            → length machine.now.log ≡ length self.now.log.items + made }
-        ensures log { result ≡ true
-            → take (length self.now.log.items) machine.now.log ≡ self.now.log.items }
+    /// After how many Steps a machine may be this one: it has the same start, its log begins with
+    /// this log, and goes on with so many Steps alone. `None` if it can't be this one.
+    pub(crate) fn steps_to<T: Tlb, D: Console>(&self, machine: &Machine<T, D>) -> Option<u64>
+        ensures { IfSome result (λ made.
+            IsLater self.now.start self.now.log.items made machine.now) }
     {
-        machine.starts_as(&self.start)
+        if machine.starts_as(&self.start)
             && machine.log_len() >= self.log.len()
-            && (machine.log_len() - self.log.len()) as u64 == made
             && begins_with(machine, self.log.as_slice())
+            && has_steps_from(machine, self.log.len())
+        {
+            Some((machine.log_len() - self.log.len()) as u64)
+        } else {
+            None
+        }
     }
 }
 
@@ -56,6 +62,33 @@ fn begins_with<T: Tlb, D: Console>(machine: &Machine<T, D>, entries: &[Entry]) -
         }
     }
     true
+}
+
+// Whether a machine's log has Steps alone from this entry on.
+fn has_steps_from<T: Tlb, D: Console>(machine: &Machine<T, D>, from: usize) -> bool
+    requires { from ≤ length machine.now.log }
+    ensures { result ≡ true → list_all (is_step_below (length machine.now.state.processors))
+        (events_of (drop from machine.now.log)) ≡ true }
+{
+    let mut first = machine.log_len();
+    while first > from {
+        first -= 1;
+        if !is_step(machine.log_at(first).event, machine.processors()) {
+            return false;
+        }
+    }
+    true
+}
+
+// Whether an event is a Step of one of these processors.
+fn is_step(event: Event, processors: u32) -> bool
+    ensures { result ≡ is_step_below processors event }
+{
+    match event {
+        Event::Step(p) => p < processors,
+        Event::Key(_) => false,
+        Event::Done => false,
+    }
 }
 
 // Whether two entries are the same.

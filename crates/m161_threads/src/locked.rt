@@ -160,8 +160,8 @@ impl<L: Ledger, M: Ledger, T: Tlb, D: Console> Book<L, M, T, D> {
     }
 }
 
-// A lock around a book. It isn't inlined, and neither are the other functions that move a machine:
-// LLVM needs minutes for a function that moves a machine to two places of a result.
+// A lock around a book. For LLVM: it isn't inlined, and neither are the other functions that move a
+// machine, since a function that moves a machine to two places of a result takes minutes to compile.
 #[inline(never)]
 fn behind_lock<L: Ledger, M: Ledger, T: Tlb, D: Console>(
     book: Book<L, M, T, D>,

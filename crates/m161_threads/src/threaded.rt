@@ -1,10 +1,11 @@
 //! A run in threads.
 
-ghost use Rattle.std.specs.Prelude.{◌≡◌, ◌+◌, ◌<◌, ◌≤◌, ℕ, All, IfErr, IfOk, MatchResult, None, length, map, slice_index_or, sum, take, true, vec_len};
+ghost use Rattle.std.specs.Prelude.{◌≡◌, ◌≢◌, ◌+◌, ◌<◌, ◌≤◌, ℕ, All, IfErr, IfOk, MatchResult, None, length, map, slice_index_or, sum, take, true, vec_len};
 ghost use Rattle.m161_machine.specs.History.{IsReplay};
 ghost use Rattle.m161_machine.specs.State.{counts};
 ghost use Rattle.m161_threads.specs.Runs.{FailsRun, Interleaves, IsOfRun, bad_call};
-ghost use Rattle.m161_threads.specs.helpers.Runs.{IsChecked};
+ghost use Rattle.m161_threads.specs.declared.cause.Cause.TheVariants as causes;
+ghost use Rattle.m161_threads.specs.helpers.Runs.{IsChecked, IsLater};
 ghost use Rattle.m161_threads.specs.Shares.{SeatState, seats_from};
 ghost use Rattle.m161_threads.specs.helpers.Work.{HasWorked};
 
@@ -155,11 +156,28 @@ where
             let report = checked_report(locked, &before, tally)?;
             Ok(report)
         }
-        Err(cause) => Err(RunFault {
-            cause,
-            machine: locked.into_machine(),
-        }),
+        Err(cause) => Err(checked_fault(locked.into_machine(), &before, cause)),
     }
+}
+
+// The fault of a run, unless the machine can't be the one that was passed in.
+#[inline(never)]
+fn checked_fault<T: Tlb, D: Console>(
+    machine: Machine<T, D>,
+    before: &Before,
+    cause: Cause,
+) -> RunFault<T, D>
+    requires { IsOfRun cause }
+    ensures machine { result.machine ≡ machine }
+    ensures cause { IsOfRun result.cause }
+    ensures later { result.cause ≢ causes.Swapped → (made : ℕ)
+        × IsLater before.now.start before.now.log.items made machine }
+{
+    let cause = match before.steps_to(&machine) {
+        Some(_) => cause,
+        None => Cause::Swapped,
+    };
+    RunFault { machine, cause }
 }
 
 // Runs a worker for each seat, and returns their results.
@@ -199,7 +217,9 @@ fn checked_report<L: Ledger, M: Ledger, T: Tlb, D: Console>(
     ensures ok { IfOk result (λ r. IsChecked before.now.start before.now.log.items
         tally.seats.items tally.counts.items r.off r.machine) }
     ensures counts { IfOk result (λ r. r.counts.items ≡ tally.counts.items) }
-    ensures err { IfErr result (λ f. IsOfRun f.cause × IsReplay f.machine) }
+    ensures err { IfErr result (λ f. IsOfRun f.cause × IsReplay f.machine
+        × (f.cause ≢ causes.Swapped → (made : ℕ)
+            × IsLater before.now.start before.now.log.items made f.machine)) }
 {
     let Tally { seats, counts } = tally;
     let machine = match locked.finish(seats) {
@@ -210,22 +230,21 @@ fn checked_report<L: Ledger, M: Ledger, T: Tlb, D: Console>(
                 machine,
             },
         ) => {
-            return Err(RunFault {
-                cause: Cause::Miscount,
-                machine,
-            });
+            return Err(checked_fault(machine, before, Cause::Miscount));
         }
     };
-    if !before.leads_to(&machine, total(counts.as_slice())) {
-        return Err(RunFault {
+    match before.steps_to(&machine) {
+        Some(made) if made == total(counts.as_slice()) => {
+            let off = machine.is_off();
+            Ok(Report {
+                machine,
+                counts,
+                off,
+            })
+        }
+        _ => Err(RunFault {
             cause: Cause::Swapped,
             machine,
-        });
+        }),
     }
-    let off = machine.is_off();
-    Ok(Report {
-        machine,
-        counts,
-        off,
-    })
 }

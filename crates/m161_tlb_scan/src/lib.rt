@@ -111,8 +111,8 @@ impl Scan {
         self.pages[i as usize]
     }
 
-    /// Whether one of the eight rows from `8 * block` on is for a page. Eight comparisons without a
-    /// branch, which the compiler turns into two vector comparisons.
+    /// Whether one of the eight rows from `8 * block` on is for a page. For LLVM: eight
+    /// comparisons without a branch, which become two vector comparisons.
     #[inline(always)]
     fn has_page(&self, block: u8, page: u32) -> bool
         requires { block < 8 }

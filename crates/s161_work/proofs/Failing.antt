@@ -6,7 +6,7 @@ use Rattle.m161_machine.specs.declared.conf.Conf.{Conf as MachineConf}
 use Rattle.m161_machine.specs.declared.event.Entry.{Entry}
 use Rattle.m161_machine.specs.Conf.{is_within_limits}
 use Rattle.m161_machine.specs.History.{Boots, boot_fault, load_fault}
-use Rattle.m161_steplog.specs.Lines.{FirstBad}
+use Rattle.m161_text.specs.Lines.{FirstBad}
 use Rattle.m161_steplog.specs.Log.{AreLogLines}
 use Rattle.m161_steplog.specs.Schedule.{AreScheduleLines}
 use Rattle.m161_steplog.specs.Verdict.{Verifies}

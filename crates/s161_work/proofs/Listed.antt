@@ -5,7 +5,8 @@ use Rattle.std.specs.List.{range_with_len}
 use Rattle.std.proofs.lemmas.Bool.Decides.{nat_tests}
 use Rattle.std.proofs.lemmas.List.{flat_map_more}
 use Rattle.std.proofs.lemmas.List.FromFn.{map-range_with_len_more}
-use Rattle.m161_debug.specs.Shows.{numbered_lines, with_line_end, text_of}
+use Rattle.m161_debug.specs.Shows.{numbered_lines}
+use Rattle.m161_text.specs.Lines.{with_line_end, text_of}
 use Rattle.m161_elf.specs.declared.header.ProgramHeader.{ProgramHeader}
 use Rattle.m161_elf.specs.declared.image.Image.{Image}
 use Rattle.m161_elf.specs.declared.image.LoadError.{LoadError}

@@ -8,7 +8,7 @@ use Rattle.m161_machine.specs.declared.event.Event.{Event}
 use Rattle.m161_machine.specs.declared.event.Event.TheVariants.{Step, Key, Done}
 use Rattle.m161_machine.specs.declared.event.Entry.{Entry}
 use Rattle.m161_machine.specs.declared.event.Refusal.{Refusal}
-use Rattle.m161_elf.specs.Image.{first_answer}
+use Rattle.m161_isa.specs.Choice.{first_answer}
 use Rattle.m161_machine.specs.State.{State, is_full, next, unless, answer}
 use Rattle.m161_machine.specs.History.{History, events_of, Boots, Continues, Ends, IsBooted, Leads, Refuses}
 use Rattle.m161_machine.proofs.Continuing.{continues_on, refused_as}

@@ -3,14 +3,13 @@ use Rattle.m161_machine.specs.declared.conf.BootError.TheVariants.{Load}
 use Rattle.m161_machine.specs.declared.event.Event.{Event}
 use Rattle.m161_machine.specs.Conf.{is_within_limits}
 use Rattle.m161_machine.specs.History.{History, boot_fault}
-use Rattle.m161_steplog.specs.Lines.{FirstBad, lines_of}
-use Rattle.m161_steplog.specs.Parts.{◌␣◌}
+use Rattle.m161_text.specs.Lines.{FirstBad, lines_of, with_line_end}
+use Rattle.m161_text.specs.Parts.{◌␣◌}
 use Rattle.m161_steplog.specs.Schedule.{AreScheduleLines, IsSchedule}
 use Rattle.m161_debug.specs.declared.command.CommandError.{CommandError}
 use Rattle.m161_debug.specs.Breakpoints.{SessionState}
 use Rattle.m161_debug.specs.Commands.{name_of_error}
 use Rattle.m161_debug.specs.Obeys.{Commands}
-use Rattle.m161_debug.specs.Shows.{with_line_end}
 use Rattle.s161_command.specs.declared.command.FilesTask.{FilesTask}
 use Rattle.s161_work.specs.declared.fault.Fault.{Fault}
 use Rattle.s161_work.specs.declared.fault.Fault.TheVariants.{Conf, File, Image, Input, Log, Memory, Output, Schedule, Source, Threads}

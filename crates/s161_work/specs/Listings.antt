@@ -5,7 +5,8 @@ use Rattle.m161_elf.specs.declared.image.LoadError.TheVariants as fault
 use Rattle.m161_elf.specs.Header.{e_entry}
 use Rattle.m161_elf.specs.Image.{IsImage, first_fault}
 use Rattle.m161_elf.specs.Span.{spans}
-use Rattle.m161_debug.specs.Shows.{code_line, numbered_lines, text_of}
+use Rattle.m161_debug.specs.Shows.{code_line, numbered_lines}
+use Rattle.m161_text.specs.Lines.{text_of}
 use Rattle.s161_work.specs.declared.fault.Fault.{Fault}
 use Rattle.s161_work.specs.declared.fault.Fault.TheVariants.{Image, Memory}
 

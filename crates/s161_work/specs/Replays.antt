@@ -5,11 +5,10 @@ use Rattle.m161_machine.specs.Conf.{is_within_limits}
 use Rattle.m161_machine.specs.History.{boot_fault}
 use Rattle.m161_steplog.specs.declared.verdict.Verdict.{Verdict}
 use Rattle.m161_steplog.specs.declared.verdict.Verdict.TheVariants.{Agrees, Differs}
-use Rattle.m161_steplog.specs.Lines.{FirstBad}
+use Rattle.m161_text.specs.Lines.{FirstBad, with_line_end}
 use Rattle.m161_steplog.specs.Log.{AreLogLines, IsLog}
-use Rattle.m161_steplog.specs.Parts.{◌␣◌}
+use Rattle.m161_text.specs.Parts.{◌␣◌}
 use Rattle.m161_steplog.specs.Verdict.{Verifies}
-use Rattle.m161_debug.specs.Shows.{with_line_end}
 use Rattle.s161_command.specs.declared.command.FilesTask.{FilesTask}
 use Rattle.s161_work.specs.declared.fault.Fault.{Fault}
 use Rattle.s161_work.specs.declared.fault.Fault.TheVariants.{Conf, File, Image, Input, Log, Memory, Output, Schedule, Source, Threads}

@@ -9,10 +9,10 @@ use Rattle.m161_machine.specs.Conf.{is_within_limits}
 use Rattle.m161_machine.specs.Refusal.{name_of_refusal, number_of_refusal}
 use Rattle.m161_machine.specs.State.{State, next, processor_at}
 use Rattle.m161_machine.specs.History.{History, Continues, Refuses, boot_fault}
-use Rattle.m161_debug.specs.Shows.{with_line_end, show_regs_text}
-use Rattle.m161_steplog.specs.Lines.{FirstBad, lines_of}
+use Rattle.m161_debug.specs.Shows.{show_regs_text}
+use Rattle.m161_text.specs.Lines.{with_line_end, FirstBad, lines_of}
 use Rattle.m161_steplog.specs.Log.{log_text}
-use Rattle.m161_steplog.specs.Parts.{◌␣◌}
+use Rattle.m161_text.specs.Parts.{◌␣◌}
 use Rattle.m161_steplog.specs.Schedule.{AreScheduleLines, IsSchedule}
 use Rattle.s161_command.specs.declared.command.RunTask.{RunTask}
 use Rattle.s161_work.specs.declared.events.Stop.{Stop}

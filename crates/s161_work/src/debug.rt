@@ -1,7 +1,7 @@
 //! Debugging an image under a schedule.
 
 ghost use Rattle.std.specs.Prelude.{◌≡◌, [], IfErr, IfOk, drop, string_bytes};
-ghost use Rattle.m161_steplog.specs.Lines.{lines_of};
+ghost use Rattle.m161_text.specs.Lines.{lines_of};
 ghost use Rattle.s161_work.specs.Debugs.{DoesLine, DoesLines, IsDebug, IsDebugFault};
 ghost use Rattle.s161_work.specs.Samples.{image_file};
 
@@ -13,7 +13,7 @@ use crate::sample::read_image;
 use crate::texts::events_of;
 use crate::{Machine, Session};
 use m161_machine::{Conf, Event};
-use m161_steplog::next_line;
+use m161_text::next_line;
 use s161_command::FilesTask;
 use std::alloc::{AllocError, Global};
 use std::fmt::Write;

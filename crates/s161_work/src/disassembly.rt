@@ -3,7 +3,8 @@
 ghost use Rattle.std.specs.Prelude.{◌≡◌, ◌+◌, ◌<◌, ◌≤◌, ◌^◌, ◌++◌, true, length, string_bytes, IfErr, IfOk, OnOk};
 ghost use Rattle.m161_elf.specs.Image.{is_in_ram};
 ghost use Rattle.m161_ram.specs.Word.{word_at};
-ghost use Rattle.m161_debug.specs.Shows.{code_line, listing_text, code_word, with_line_end};
+ghost use Rattle.m161_debug.specs.Shows.{code_line, listing_text, code_word};
+ghost use Rattle.m161_text.specs.Lines.{with_line_end};
 ghost use Rattle.s161_work.specs.Listings.{aligned_up, dis_text, span_text, IsListing, IsUnlisted};
 ghost use Rattle.s161_work.specs.helpers.Listings.{AreInRam};
 
@@ -11,7 +12,7 @@ use crate::fault::Fault;
 use m161_dis::line;
 use m161_elf::{Span, load, loads};
 use m161_isa::unmapped;
-use m161_steplog::Word;
+use m161_text::Word;
 use std::alloc::{AllocError, Global};
 use std::fmt::Write;
 

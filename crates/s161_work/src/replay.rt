@@ -1,7 +1,7 @@
 //! Replaying a log.
 
 ghost use Rattle.std.specs.Prelude.{◌≡◌, IfErr, IfOk, string_bytes};
-ghost use Rattle.m161_debug.specs.Shows.{with_line_end};
+ghost use Rattle.m161_text.specs.Lines.{with_line_end};
 ghost use Rattle.s161_work.specs.Replays.{IsReplayed, IsReplayFault, status_of_verdict, verdict_text};
 ghost use Rattle.s161_work.specs.Samples.{image_file};
 

@@ -1,7 +1,7 @@
 //! Reading the texts of schedules and logs.
 
 ghost use Rattle.std.specs.Prelude.{IfErr, IfOk};
-ghost use Rattle.m161_steplog.specs.Lines.{lines_of};
+ghost use Rattle.m161_text.specs.Lines.{lines_of};
 ghost use Rattle.m161_steplog.specs.Log.{IsLog};
 ghost use Rattle.m161_steplog.specs.Schedule.{IsSchedule};
 ghost use Rattle.s161_work.specs.Replays.{IsLogFault};

@@ -19,7 +19,8 @@ impl<D: Console> Board<D> {
     #[tactic(auto, unfolding(crate::specs::Board::interrupt_lines))]
     pub fn lines(&self, c: u32) -> u32
         requires { c < self.now.processors }
-        ensures { result ≡ interrupt_lines c self.now }
+        ensures lines { result ≡ interrupt_lines c self.now }
+        ensures few { self.now.processors ≤ 32 }
     {
         self.lines[c as usize]
     }

@@ -1,6 +1,6 @@
 //! What a processor shows.
 
-ghost use Rattle.std.specs.Prelude.{◌≡◌, ◌<◌, Some, slice_get, slice_index};
+ghost use Rattle.std.specs.Prelude.{◌≡◌, ◌-◌, ◌%◌, ◌<◌, Some, slice_get, slice_index};
 ghost use Rattle.m161_cop0.specs.Control.{read_of};
 ghost use Rattle.m161_cop0.specs.Registers.{number_of_register};
 
@@ -24,6 +24,13 @@ impl<T: Tlb> Cpu<T> {
         ensures { result ≡ read_of (number_of_register register) lines self.now.control }
     {
         self.control.read(register.number(), lines)
+    }
+
+    /// The law of Random: it is 63 less the Steps since the start modulo 56.
+    pub fn random_is_by_age(&self)
+        ensures { self.now.control.random ≡ 63 - self.now.control.age % 56 }
+    {
+        self.control.random_is_by_age();
     }
 
     /// A row of the TLB.

@@ -2,14 +2,15 @@
 
 ghost use Rattle.std.specs.Prelude.{◌≡◌, ◌+◌, ◌*◌, ◌%◌, ◌++◌, true, length, string_bytes, IfOk, OnOk};
 ghost use Rattle.m161_elf.specs.Image.{is_in_ram};
-ghost use Rattle.m161_debug.specs.Shows.{listing_text, code_word, with_line_end, code_line, show_code_text};
+ghost use Rattle.m161_debug.specs.Shows.{listing_text, code_word, code_line, show_code_text};
+ghost use Rattle.m161_text.specs.Lines.{with_line_end};
 
 use crate::display::memory::word;
 use m161_bus::Console;
 use m161_dis::line;
 use m161_isa::unmapped;
 use m161_machine::Machine;
-use m161_steplog::Word;
+use m161_text::Word;
 use m161_tlb::Tlb;
 use std::alloc::{AllocError, Global};
 use std::fmt::Write;

@@ -2,12 +2,13 @@
 
 ghost use Rattle.std.specs.Prelude.{◌≡◌, ◌++◌, ◌<◌, length, slice_get, string_bytes, IfOk, OnOk, Some};
 ghost use Rattle.m161_cop0.specs.Registers.{all_registers};
-ghost use Rattle.m161_debug.specs.Shows.{cop0_line, with_line_end, name_and_word, show_cop0_text};
+ghost use Rattle.m161_debug.specs.Shows.{cop0_line, name_and_word, show_cop0_text};
+ghost use Rattle.m161_text.specs.Lines.{with_line_end};
 
 use m161_bus::Console;
 use m161_cop0::{REGISTERS, registers_in_order};
 use m161_machine::{Machine, Register};
-use m161_steplog::Word;
+use m161_text::Word;
 use m161_tlb::Tlb;
 use std::alloc::{AllocError, Global};
 use std::fmt::Write;

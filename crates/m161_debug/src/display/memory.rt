@@ -2,12 +2,13 @@
 
 ghost use Rattle.std.specs.Prelude.{◌≡◌, ◌+◌, ◌*◌, ◌%◌, ◌++◌, ◌≤◌, length, string_bytes, IfOk, OnOk};
 ghost use Rattle.m161_ram.specs.Word.{word_at};
-ghost use Rattle.m161_debug.specs.Shows.{with_line_end, memory_line, show_mem_text, word_text};
-ghost use Rattle.m161_steplog.specs.Parts.{◌␣◌};
+ghost use Rattle.m161_debug.specs.Shows.{memory_line, show_mem_text};
+ghost use Rattle.m161_text.specs.Lines.{with_line_end};
+ghost use Rattle.m161_text.specs.Parts.{word_text, ◌␣◌};
 
 use m161_bus::Console;
 use m161_machine::Machine;
-use m161_steplog::Word;
+use m161_text::Word;
 use m161_tlb::Tlb;
 use std::alloc::{AllocError, Global};
 use std::fmt::Write;

@@ -2,12 +2,13 @@
 
 ghost use Rattle.std.specs.Prelude.{◌≡◌, ◌++◌, ◌<◌, length, codes, decimal, string_bytes, IfOk, OnOk, Some};
 ghost use Rattle.m161_machine.specs.State.{processor_at};
-ghost use Rattle.m161_debug.specs.Shows.{with_line_end, hi_lo_line, name_and_word, place_line, place_text, register_and_word, registers_line, show_regs_text, state_text};
+ghost use Rattle.m161_debug.specs.Shows.{hi_lo_line, name_and_word, place_line, place_text, register_and_word, registers_line, show_regs_text, state_text};
+ghost use Rattle.m161_text.specs.Lines.{with_line_end};
 
 use m161_bus::Console;
 use m161_isa::Reg;
 use m161_machine::{Machine, ProcessorState};
-use m161_steplog::Word;
+use m161_text::Word;
 use m161_tlb::Tlb;
 use std::alloc::{AllocError, Global};
 use std::fmt;

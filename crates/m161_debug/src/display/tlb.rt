@@ -2,11 +2,12 @@
 
 ghost use Rattle.std.specs.Prelude.{◌≡◌, ◌++◌, ◌<◌, length, string_bytes, IfOk, OnOk, Some};
 ghost use Rattle.m161_machine.specs.State.{processor_at};
-ghost use Rattle.m161_debug.specs.Shows.{with_line_end, row_line, row_text, show_tlb_text, two_digits};
+ghost use Rattle.m161_debug.specs.Shows.{row_line, row_text, show_tlb_text, two_digits};
+ghost use Rattle.m161_text.specs.Lines.{with_line_end};
 
 use m161_bus::Console;
 use m161_machine::{Machine, Row};
-use m161_steplog::Word;
+use m161_text::Word;
 use m161_tlb::Tlb;
 use std::alloc::{AllocError, Global};
 use std::fmt;

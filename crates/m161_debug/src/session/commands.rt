@@ -4,8 +4,8 @@ ghost use Rattle.std.specs.Prelude.{◌≡◌, ◌<◌, ◌≤◌, ◌++◌, ◌
 ghost use Rattle.m161_machine.specs.declared.event.Event.{Event};
 ghost use Rattle.m161_debug.specs.declared.command.Change.TheVariants as changes;
 ghost use Rattle.m161_debug.specs.declared.command.Command.TheVariants as commands;
-ghost use Rattle.m161_steplog.specs.Parts.{◌␣◌};
-ghost use Rattle.m161_debug.specs.Shows.{with_line_end, word_text};
+ghost use Rattle.m161_text.specs.Parts.{◌␣◌, word_text};
+ghost use Rattle.m161_text.specs.Lines.{with_line_end};
 ghost use Rattle.m161_debug.specs.Obeys.{area_text, display_text, is_shown, is_there, Commands, Obeys};
 
 use crate::breakpoints::Breakpoint;
@@ -15,7 +15,7 @@ use crate::session::Session;
 use m161_bus::Console;
 use m161_elf::is_in_ram;
 use m161_machine::Event;
-use m161_steplog::Word;
+use m161_text::Word;
 use m161_tlb::Tlb;
 use std::alloc::AllocError;
 use std::fmt::Write;

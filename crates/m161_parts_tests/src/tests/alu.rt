@@ -3,7 +3,7 @@
 use super::same;
 use m161_alu::{
     HiLoPair, Signedness, add_checked, branch_taken, div, merge_left, merge_right, mult,
-    set_on_less, shift, sub_checked,
+    set_on_less, shift, store_left, store_right, sub_checked,
 };
 use m161_isa::{Amount, ShiftOp, ZeroTest};
 
@@ -61,8 +61,8 @@ fn merges_and_tests(rt: HostRuntime) {
         let found = [
             merge_left(memory, register, place),
             merge_right(memory, register, place),
-            merge_right(register, memory, 3 - place),
-            merge_left(register, memory, 3 - place),
+            store_left(memory, register, place),
+            store_right(memory, register, place),
         ];
         same(&rt, found, want);
     }

@@ -26,10 +26,10 @@ use std::thread;
 use std::thread::Threads;
 use std::time::{Clock, Duration};
 
-type Locked<L, M> = m161_threads::Locked<L, M, Scan, PlainConsole>;
+pub(crate) type Locked<L, M> = m161_threads::Locked<L, M, Scan, PlainConsole>;
 
 /// `beq $0, $0, 0x80000200`, and `nop` in its slot.
-const LOOP: [u32; 2] = [0x1000_ffff, 0x0000_0000];
+pub(crate) const LOOP: [u32; 2] = [0x1000_ffff, 0x0000_0000];
 
 /// `lui $8, 0xbfff`; `sw $0, 32264($8)`.
 const POWER_OFF: [u32; 2] = [0x3c08_bfff, 0xad00_7e08];
@@ -38,7 +38,7 @@ const POWER_OFF: [u32; 2] = [0x3c08_bfff, 0xad00_7e08];
 const SEND: [u32; 3] = [0x3c08_bfe0, 0x3409_0041, 0xad09_0000];
 
 /// The file of these words, and its machine.
-fn boot(
+pub(crate) fn boot(
     alloc: Global,
     words: &[u32],
     processors: u32,
@@ -56,7 +56,7 @@ fn boot(
 
 /// Runs a machine in threads that stays on: the machine, and why there is no report, where there
 /// is none. A report has to say that all quotas were made.
-fn run_on<R: Threads + Wait + Sync + Abort + AllocGlobal, G: Gate + Sync>(
+pub(crate) fn run_on<R: Threads + Wait + Sync + Abort + AllocGlobal, G: Gate + Sync>(
     rt: &R,
     name: &str,
     machine: Machine,

@@ -1,16 +1,26 @@
-use Rattle.std.specs.Prelude.{◌≡◌, ℕ, ◌+◌, Bool, List, length, sum, take, All}
+use Rattle.std.specs.Prelude.{◌≡◌, ℕ, ◌+◌, Bool, true, List, length, sum, take, drop, All}
+use Rattle.std.specs.List.{list_all}
 use Rattle.m161_machine.specs.declared.event.Entry.{Entry}
-use Rattle.m161_machine.specs.History.{History, Start, IsReplay}
+use Rattle.m161_machine.specs.History.{History, Start, IsReplay, events_of}
+use Rattle.m161_threads.specs.Runs.{is_step_below}
 use Rattle.m161_threads.specs.Shares.{HasCount, NotedOnlyOff, SeatState}
+
+-- the comparison of a machine with the copy of another: it may be that one after this many Steps
+pub record IsLater
+    (start : Start) (log : List Entry) (made : ℕ) (after : History) : Type 0 where
+  pub start_is : after.start ≡ start
+  pub number : length after.log ≡ length log + made
+  pub log_is : take (length log) after.log ≡ log
+  pub steps :
+      list_all (is_step_below (length after.state.processors))
+      (events_of (drop (length log) after.log)) ≡ true
 
 -- the comparison after a run with the copy made before it
 pub record IsChecked
     (start : Start) (log : List Entry) (seats : List SeatState) (made : List ℕ) (off : Bool)
     (after : History) : Type 0 where
   pub replay : IsReplay after
-  pub start_is : after.start ≡ start
-  pub number : length after.log ≡ length log + sum made
-  pub log_is : take (length log) after.log ≡ log
+  pub later : IsLater start log (sum made) after
   pub seats_are : All (HasCount after.state) seats
   pub noted : NotedOnlyOff after.state seats
   pub off_is : off ≡ after.state.board.off

@@ -1,7 +1,7 @@
 use Rattle.std.specs.Prelude.{ℕ, [], List, length}
 use Rattle.std.proofs.Common.{ap, sym, ◌∙◌, subst, arith}
 use Rattle.m161_asm.specs.declared.statement.Line.{Line as CodeLine}
-use Rattle.m161_asm.specs.Tokens.{lines}
+use Rattle.m161_text.specs.Lines.{lines_of}
 use Rattle.m161_asm.specs.Answer.{IsWithinLines}
 use Rattle.m161_asm.specs.helpers.Lawful.{Lawful}
 use Rattle.m161_asm.specs.Seen.{symbols_seen}
@@ -76,7 +76,7 @@ program_with-requires-clause-entry c =
 
 pub returns-in-Err-clause-line : goal.returns-in-Err-clause-line
 returns-in-Err-clause-line c =
-    subst (λ (t : List ℕ). IsWithinLines (length (lines t)) c.in-Err.error) c.as_bytes.ensures.value
+    subst (λ (t : List ℕ). IsWithinLines (length (lines_of t)) c.in-Err.error) c.as_bytes.ensures.value
     c.in-Err.ensures.line
 
 pub returns-in-Err-second_pass-clause-line : goal.returns-in-Err-second_pass-clause-line

@@ -1,6 +1,6 @@
 use Rattle.std.specs.Prelude.{Ok, [], drop, ◌+◌}
 use Rattle.std.proofs.Common.{arith}
-use Rattle.m161_asm.specs.Tokens.{lines}
+use Rattle.m161_text.specs.Lines.{lines_of}
 use Rattle.m161_asm.specs.helpers.Seen.{above_of}
 use Rattle.m161_asm.proofs.Above.{shorter, step_on, step_off, at_end, dropped_within}
 use Rattle.m161_asm.proofs.first.first_pass.Goals as goal
@@ -11,7 +11,7 @@ returns-in-Err-clause-value c =
     (above_of c.loop-rest.pass.lines.items) c.loop-rest.rest.now c.len_before-len.result
     (Ok []) _ c.loop-rest-test.true c.len_before-len.ensures.value
     (c.in-Err.ensures.value
-    (lines (drop
+    (lines_of (drop
     (c.len_before-len.result + 1)
     c.loop-rest.rest.now))) c.loop-rest.invariant.so_far
 
@@ -35,7 +35,7 @@ loop-rest-preserved c =
           rw c.behind_line-rest.ensures
           (step_on (above_of c.loop-rest.pass.lines.items) _ c.loop-rest.rest.now
           c.len_before-len.result _ c.loop-rest-test.true c.len_before-len.ensures.value
-          (c.in_default.ensures.value (lines below)) c.loop-rest.invariant.so_far);
+          (c.in_default.ensures.value (lines_of below)) c.loop-rest.invariant.so_far);
       within = rw c.behind_line-rest.ensures (omega (arith, d));
       counted =
           rw c.behind_line-rest.ensures

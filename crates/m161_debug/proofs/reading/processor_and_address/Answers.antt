@@ -1,8 +1,7 @@
 use Rattle.std.proofs.Common.{arith, ℕ, decimal}
-use Rattle.m161_steplog.specs.Parts.{Lacks, IsWord}
-use Rattle.m161_debug.specs.Shows.{word_text}
-use Rattle.m161_steplog.proofs.Decimal.{decimal_lacks_space}
-use Rattle.m161_steplog.proofs.Parts.{no_cut, no_first, no_second, both}
+use Rattle.m161_text.specs.Parts.{Lacks, IsWord, word_text}
+use Rattle.m161_text.proofs.Decimal.{decimal_lacks_space}
+use Rattle.m161_text.proofs.Parts.{no_cut, no_first, no_second, both}
 use Rattle.m161_debug.proofs.reading.processor_and_address.Goals as goal
 
 one_part : (n : ℕ) → IsWord n → Lacks 32 (decimal n)

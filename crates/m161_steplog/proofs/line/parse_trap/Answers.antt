@@ -1,12 +1,12 @@
 use Rattle.std.proofs.Common.{arith}
-use Rattle.m161_steplog.specs.Parts.{hex_text, Lacks, IsWord}
+use Rattle.m161_text.specs.Parts.{hex_text, Lacks, IsWord}
 use Rattle.m161_steplog.specs.Text.{code_text}
 use Rattle.m161_steplog.specs.helpers.Text.{IsCode}
 use Rattle.m161_cop0.specs.declared.exception.Exception.{Exception}
 use Rattle.m161_cop0.specs.Registers.{number_of_exception}
-use Rattle.m161_steplog.proofs.Decimal.{decimal_lacks_space}
+use Rattle.m161_text.proofs.Decimal.{decimal_lacks_space}
 use Rattle.m161_steplog.proofs.Codes.{code_small}
-use Rattle.m161_steplog.proofs.Parts.{no_cut, no_first, no_second, both}
+use Rattle.m161_text.proofs.Parts.{no_cut, no_first, no_second, both}
 use Rattle.m161_steplog.proofs.line.parse_trap.Goals as goal
 
 one_part : (code : Exception) → IsCode code → Lacks 32 (code_text code)

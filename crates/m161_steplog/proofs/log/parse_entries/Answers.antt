@@ -1,6 +1,6 @@
 use Rattle.std.proofs.Common.{◌≡◌, ◌++◌, ◌∷◌, [], ◌+◌, ◌∙◌, length, ap, arith, rules, append-nil}
 use Rattle.std.proofs.lemmas.List.{length_push}
-use Rattle.m161_steplog.specs.Lines.{lines_of}
+use Rattle.m161_text.specs.Lines.{lines_of}
 use Rattle.m161_steplog.specs.Log.{log_lines}
 use Rattle.m161_steplog.proofs.Logs.{bad_entry_at, goes_on, all_push, distinct_by}
 use Rattle.m161_steplog.proofs.log.parse_entries.Goals as goal

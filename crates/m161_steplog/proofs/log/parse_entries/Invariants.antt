@@ -1,6 +1,6 @@
 use Rattle.std.proofs.Common.{◌≡◌, ◌+◌, ◌++◌, length, IsUtf8}
 use Rattle.std.specs.List.{AllByRecursion}
-use Rattle.m161_steplog.specs.Lines.{lines_of}
+use Rattle.m161_text.specs.Lines.{lines_of}
 use Rattle.m161_steplog.specs.Log.{log_lines}
 use Rattle.m161_steplog.specs.helpers.Log.{IsDistinct}
 use Rattle.m161_steplog.proofs.log.parse_entries.Given as goal

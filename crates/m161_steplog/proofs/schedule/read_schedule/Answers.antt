@@ -1,6 +1,6 @@
 use Rattle.std.proofs.Common.{◌≡◌, ◌+◌, subst, arith, rules}
 use Rattle.std.proofs.lemmas.Result.{err_from_is_err_and}
-use Rattle.m161_steplog.specs.Lines.{FirstBad}
+use Rattle.m161_text.specs.Lines.{FirstBad}
 use Rattle.m161_steplog.specs.Schedule.{AreScheduleLines}
 use Rattle.m161_steplog.proofs.Progress.{SoFar, more, end, end_only, bad_line, overfull, no_bad, err_only}
 use Rattle.m161_steplog.proofs.schedule.read_schedule.Goals as goal

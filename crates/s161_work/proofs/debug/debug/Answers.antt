@@ -1,7 +1,7 @@
 use Rattle.std.proofs.Common.{◌≡◌, ◌∙◌, List, ℕ, [], Option, IfSome, rules, subst, sym}
 use Rattle.std.proofs.lemmas.Result.{err_from_is_err_and}
 use Rattle.m161_machine.specs.declared.event.Event.{Event}
-use Rattle.m161_steplog.specs.Lines.{lines_of}
+use Rattle.m161_text.specs.Lines.{lines_of}
 use Rattle.m161_steplog.specs.Schedule.{IsSchedule}
 use Rattle.m161_debug.specs.Breakpoints.{SessionState}
 use Rattle.s161_work.specs.Debugs.{DoesLines, IsDebugFault}

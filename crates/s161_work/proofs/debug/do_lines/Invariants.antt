@@ -1,5 +1,5 @@
 use Rattle.std.proofs.Common.{List, ℕ, [], IsUtf8, length, string_bytes}
-use Rattle.m161_steplog.specs.Lines.{lines_of}
+use Rattle.m161_text.specs.Lines.{lines_of}
 use Rattle.s161_work.specs.Debugs.{DoesLines}
 use Rattle.s161_work.proofs.debug.do_lines.Given as goal
 

@@ -1,5 +1,6 @@
 use Rattle.std.proofs.Common.{◌≡◌, ◌∙◌, ◌+◌, ◌*◌, ◌++◌, ℕ, List, length, string_bytes, ap, sym, append_assoc, arith}
-use Rattle.m161_debug.specs.Shows.{code_line, numbered_lines, with_line_end, text_of}
+use Rattle.m161_debug.specs.Shows.{code_line, numbered_lines}
+use Rattle.m161_text.specs.Lines.{with_line_end, text_of}
 use Rattle.s161_work.specs.Listings.{whole_words}
 use Rattle.s161_work.proofs.Listed.{counted_more, in_ram_within}
 use Rattle.s161_work.proofs.disassembly.write_span.Goals as goal

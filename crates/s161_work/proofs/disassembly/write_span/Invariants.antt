@@ -1,5 +1,6 @@
 use Rattle.std.proofs.Common.{◌≡◌, ◌+◌, ◌*◌, ◌++◌, string_bytes}
-use Rattle.m161_debug.specs.Shows.{code_line, numbered_lines, text_of}
+use Rattle.m161_debug.specs.Shows.{code_line, numbered_lines}
+use Rattle.m161_text.specs.Lines.{text_of}
 use Rattle.s161_work.proofs.disassembly.write_span.Given as goal
 
 abbrev pub invariant-loop-i : goal.invariant-loop-i

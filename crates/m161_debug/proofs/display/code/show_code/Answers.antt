@@ -1,5 +1,6 @@
 use Rattle.std.proofs.Common.{◌≡◌, ◌∙◌, ◌+◌, ◌*◌, ◌++◌, ℕ, List, length, sym, ap, arith}
-use Rattle.m161_debug.specs.Shows.{numbered_lines, with_line_end, code_line, show_code_text, text_of}
+use Rattle.m161_debug.specs.Shows.{numbered_lines, code_line, show_code_text}
+use Rattle.m161_text.specs.Lines.{with_line_end, text_of}
 use Rattle.m161_debug.proofs.Places.{in_ram_at}
 use Rattle.m161_debug.proofs.Shown.{counted_more}
 use Rattle.m161_debug.proofs.display.code.show_code.Goals as goal

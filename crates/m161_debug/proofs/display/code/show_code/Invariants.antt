@@ -1,5 +1,6 @@
 use Rattle.std.proofs.Common.{◌≡◌, ◌+◌, ◌*◌, string_bytes}
-use Rattle.m161_debug.specs.Shows.{numbered_lines, code_line, text_of}
+use Rattle.m161_debug.specs.Shows.{numbered_lines, code_line}
+use Rattle.m161_text.specs.Lines.{text_of}
 use Rattle.m161_debug.proofs.display.code.show_code.Given as goal
 
 abbrev pub invariant-loop-i : goal.invariant-loop-i

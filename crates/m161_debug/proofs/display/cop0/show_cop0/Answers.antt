@@ -3,7 +3,8 @@ use Rattle.std.proofs.lemmas.Option.{get_or_from_slice_get}
 use Rattle.m161_cop0.specs.Registers.{all_registers}
 use Rattle.m161_cop0.specs.declared.register.Register.{Register}
 use Rattle.m161_cop0.specs.declared.register.Register.TheVariants as registers
-use Rattle.m161_debug.specs.Shows.{cop0_line, with_line_end, show_cop0_text, text_of}
+use Rattle.m161_debug.specs.Shows.{cop0_line, show_cop0_text}
+use Rattle.m161_text.specs.Lines.{with_line_end, text_of}
 use Rattle.m161_debug.proofs.Shown.{mapped_more}
 use Rattle.m161_debug.proofs.display.cop0.show_cop0.Goals as goal
 

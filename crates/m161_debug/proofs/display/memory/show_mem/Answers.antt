@@ -1,5 +1,6 @@
 use Rattle.std.proofs.Common.{◌∙◌, ◌+◌, ◌*◌, ◌++◌, ℕ, List, sym, ap}
-use Rattle.m161_debug.specs.Shows.{with_line_end, memory_line}
+use Rattle.m161_debug.specs.Shows.{memory_line}
+use Rattle.m161_text.specs.Lines.{with_line_end}
 use Rattle.m161_debug.proofs.Shown.{counted_more}
 use Rattle.m161_debug.proofs.display.memory.show_mem.Goals as goal
 

@@ -1,5 +1,6 @@
 use Rattle.std.proofs.Common.{◌≡◌, ◌+◌, ◌*◌, string_bytes}
-use Rattle.m161_debug.specs.Shows.{numbered_lines, memory_line, text_of}
+use Rattle.m161_debug.specs.Shows.{numbered_lines, memory_line}
+use Rattle.m161_text.specs.Lines.{text_of}
 use Rattle.m161_debug.proofs.display.memory.show_mem.Given as goal
 
 abbrev pub invariant-loop-i : goal.invariant-loop-i

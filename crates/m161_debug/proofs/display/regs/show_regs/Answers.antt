@@ -1,6 +1,7 @@
 use Rattle.std.proofs.Common.{◌≡◌, ◌∙◌, ◌∷◌, ◌++◌, sym, ap, arith}
 use Rattle.m161_machine.specs.State.{processor_at}
-use Rattle.m161_debug.specs.Shows.{numbered_lines, with_line_end, hi_lo_line, place_line, registers_line, show_regs_text, text_of}
+use Rattle.m161_debug.specs.Shows.{numbered_lines, hi_lo_line, place_line, registers_line, show_regs_text}
+use Rattle.m161_text.specs.Lines.{with_line_end, text_of}
 use Rattle.m161_debug.proofs.Shown.{counted_more_after, text_of_more}
 use Rattle.m161_debug.proofs.display.regs.show_regs.Goals as goal
 

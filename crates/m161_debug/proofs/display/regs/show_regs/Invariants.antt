@@ -1,6 +1,7 @@
 use Rattle.std.proofs.Common.{◌≡◌, ◌∷◌, string_bytes}
 use Rattle.m161_machine.specs.State.{processor_at}
-use Rattle.m161_debug.specs.Shows.{numbered_lines, place_line, registers_line, text_of}
+use Rattle.m161_debug.specs.Shows.{numbered_lines, place_line, registers_line}
+use Rattle.m161_text.specs.Lines.{text_of}
 use Rattle.m161_debug.proofs.display.regs.show_regs.Given as goal
 
 -- the first line, and those of the registers so far

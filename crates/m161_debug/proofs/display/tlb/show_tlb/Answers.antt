@@ -1,6 +1,7 @@
 use Rattle.std.proofs.Common.{◌≡◌, ◌∙◌, ◌++◌, ℕ, List, sym, ap, arith}
 use Rattle.m161_machine.specs.State.{processor_at}
-use Rattle.m161_debug.specs.Shows.{numbered_lines, with_line_end, row_line, show_tlb_text, text_of}
+use Rattle.m161_debug.specs.Shows.{numbered_lines, row_line, show_tlb_text}
+use Rattle.m161_text.specs.Lines.{with_line_end, text_of}
 use Rattle.m161_debug.proofs.Shown.{counted_more}
 use Rattle.m161_debug.proofs.display.tlb.show_tlb.Goals as goal
 

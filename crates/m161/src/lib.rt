@@ -1,0 +1,25 @@
+//! The machine that the program `s161` runs, and the names that a program of one's own needs for
+//! it.
+//!
+//! ```text
+//! Machine    a machine with its log: boot, step, key, done, event, and the views
+//! Core       a state of that machine alone, without a log
+//! Events     a list of events, kept as runs
+//! ```
+//!
+//! The machine of `m161_machine` works over any TLB and any console that prove their laws. Here they
+//! are a TLB that is searched row by row, and a console that keeps its bytes in a vector.
+#![tactic(auto)]
+
+pub use m161_console::PlainConsole;
+pub use m161_machine::{
+    BootError, Conf, Entry, Event, Events, Exception, Frame, Identifier, LoadError, Outcome, Page,
+    ProcessorState, Refusal, Reg, Register, Row, Runs, Start,
+};
+pub use m161_tlb_scan::Scan;
+
+/// The machine that the program runs.
+pub type Machine = m161_machine::Machine<Scan, PlainConsole>;
+
+/// A state of that machine.
+pub type Core = m161_machine::Core<Scan, PlainConsole>;

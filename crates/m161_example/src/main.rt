@@ -1,0 +1,77 @@
+//! A program of one's own over the machine: it boots a kernel that prints two bytes, lets the
+//! console send them, and types a byte at a copy of the machine.
+//!
+//! ```text
+//! m161_example IMAGE    prints the console's output, and where the machine and its copy differ
+//! ```
+#![tactic(auto)]
+
+use m161::{BootError, Conf, Event, Machine, Refusal, Register};
+use std::alloc::AllocError;
+use std::process::ExitCode;
+use std::{env, fs, io};
+use thiserror::Error;
+
+/// Why the program ends early.
+#[derive(Drop, Debug, Error)]
+enum Failure {
+    #[error("usage: m161_example IMAGE")]
+    Usage,
+    #[error("{0}")]
+    Io(#[from] io::Error),
+    #[error("{0}")]
+    Boot(#[from] BootError),
+    #[error("an event was refused: {0}")]
+    Refused(#[from] Refusal),
+    #[error("out of memory")]
+    Memory(#[from] AllocError),
+}
+
+// Boots the image, makes the events of the schedule, and prints what they leave.
+fn show(rt: &HostRuntime) -> Result<(), Failure> {
+    let mut words = env::args(rt)?.skip(1);
+    let Some(name) = words.next() else {
+        return Err(Failure::Usage);
+    };
+    let file = fs::read(rt, name.as_str())?;
+    let conf = Conf {
+        ram: 1_048_576,
+        processors: 1,
+        log: 100,
+    };
+    let mut machine = Machine::boot(rt.alloc(), &file, conf)?;
+
+    // five Steps write a byte, which the console sends; and so once more
+    for steps in [5, 20] {
+        for _ in 0..steps {
+            machine.event(Event::Step(0))?;
+        }
+        machine.event(Event::Done)?;
+    }
+    for byte in machine.output() {
+        print!(rt; "{}", char::from(*byte))?;
+    }
+    for p in 0..machine.processors() {
+        println!(rt; "cpu {p} pc {:08x} steps {}", machine.pc(p), machine.count(p))?;
+    }
+
+    // a copy goes its own way
+    let mut copy = machine.copy(rt.alloc())?;
+    copy.event(Event::Key(b'x'))?;
+    println!(rt; "entries {} and {}", machine.log_len(), copy.log_len())?;
+    for p in 0..machine.processors().min(copy.processors()) {
+        let cause = machine.cop(p, Register::Cause);
+        println!(rt; "cpu {p} cause {cause:08x} and {:08x}", copy.cop(p, Register::Cause))?;
+    }
+    Ok(())
+}
+
+fn main(rt: HostRuntime) -> ExitCode {
+    match show(&rt) {
+        Ok(()) => ExitCode::from(0),
+        Err(failure) => {
+            let _ = eprintln!(&rt; "m161_example: {failure}");
+            ExitCode::from(1)
+        }
+    }
+}

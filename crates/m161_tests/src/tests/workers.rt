@@ -1,0 +1,151 @@
+//! The workers of a run in threads: how they call the gate, which cause is told, and seats for any
+//! number of processors.
+
+ghost use Rattle.std.specs.Prelude.{◌≡◌, length};
+
+use super::listing::Left::{Count, Entries};
+use super::listing::{check_log, compare};
+use super::same;
+use super::threads::{LOOP, Locked, boot, run_on};
+use m161_test_support::Machine;
+use m161_threads::{Cause, Gate};
+use std::marker::Brand;
+use std::process::Abort;
+use std::sync::Wait;
+use std::sync::atomic::{AtomicBool, AtomicU32, Ordering};
+use std::sync::ledger::{Blank, Ledger};
+use std::test::Fail;
+use std::thread;
+use std::time::{Clock, Duration};
+
+/// A gate that counts the calls of two processors, and notes one that is out of order. At some
+/// Steps a processor waits until the other one has come as far.
+#[derive(Drop)]
+struct Calls<'a, R: Clock> {
+    clock: &'a R,
+    first: AtomicU32,
+    second: AtomicU32,
+    in_order: AtomicBool,
+}
+
+/// How many Steps each processor makes.
+const QUOTA: u32 = 100;
+
+impl<R: Clock> Gate for Calls<'_, R> {
+    fn pass(&self, p: u32, k: u32) -> bool {
+        let (mine, other) = if p == 0 {
+            (&self.first, &self.second)
+        } else {
+            (&self.second, &self.first)
+        };
+        if mine.fetch_add(1, Ordering::SeqCst) != k {
+            self.in_order.store(false, Ordering::SeqCst);
+        }
+        if k % 9 > 1 {
+            return true;
+        }
+        for _ in 0..10_000 {
+            if other.load(Ordering::SeqCst) > k {
+                return true;
+            }
+            thread::sleep(self.clock, Duration::from_millis(1));
+        }
+        false
+    }
+}
+
+// Both processors meet before the Steps 0, 1, 9, 10 and so on up to 99, the last one. Who calls the
+// gate with the lock in hand keeps the other one from coming as far, and is held.
+#[test]
+fn gate_calls(rt: HostRuntime) -> Result<(), Fail> {
+    let name = "the calls of the gate";
+    let (file, machine) = boot(rt.alloc(), &LOOP, 2, 2 * QUOTA)?;
+    let gate = Calls {
+        clock: &rt,
+        first: AtomicU32::new(0),
+        second: AtomicU32::new(0),
+        in_order: AtomicBool::new(true),
+    };
+    let (machine, cause) = run_on(&rt, name, machine, &[QUOTA, QUOTA], &gate);
+    same(&rt, cause, None);
+    same(&rt, gate.first.load(Ordering::SeqCst), QUOTA);
+    same(&rt, gate.second.load(Ordering::SeqCst), QUOTA);
+    same(&rt, gate.in_order.load(Ordering::SeqCst), true);
+    let left = [(0, Count(100)), (1, Count(100)), (0, Entries(200))];
+    compare(&rt, name, &machine, &left);
+    check_log(&rt, name, &file, &machine)
+}
+
+/// A gate that is closed for a Step of each processor.
+#[derive(Drop)]
+struct BothClosed {
+    first: u32,
+    second: u32,
+}
+
+impl Gate for BothClosed {
+    fn pass(&self, p: u32, k: u32) -> bool {
+        k != if p == 0 { self.first } else { self.second }
+    }
+}
+
+#[test]
+fn lowest_cause(rt: HostRuntime) -> Result<(), Fail> {
+    let name = "two workers with a cause";
+    let (file, machine) = boot(rt.alloc(), &LOOP, 2, 16)?;
+    let gate = BothClosed {
+        first: 3,
+        second: 1,
+    };
+    let (machine, cause) = run_on(&rt, name, machine, &[5, 5], &gate);
+    same(&rt, cause, Some(Cause::Held { p: 0, k: 3 }));
+    let left = [(0, Count(3)), (1, Count(1)), (0, Entries(4))];
+    compare(&rt, name, &machine, &left);
+    check_log(&rt, name, &file, &machine)
+}
+
+/// Puts a machine behind a lock, looks at its seats, and gives the machine back.
+fn lock_and_finish<L: Ledger, M: Ledger, R: Wait + Abort + AllocGlobal>(
+    rt: &R,
+    steps: Blank,
+    offs: Blank,
+    machine: Machine,
+) -> Result<Machine, Fail>
+    requires steps { (steps.name ≡ L.name) × (steps.parts ≡ L.parts)
+        × (L.parts ≡ length machine.state.processors) }
+    requires offs { (offs.name ≡ M.name) × (offs.parts ≡ M.parts)
+        × (M.parts ≡ length machine.state.processors) }
+{
+    let processors = machine.processors();
+    let (locked, seats) = match Locked::<L, M>::new(rt.alloc(), steps, offs, machine) {
+        Ok(parts) => parts,
+        Err((_, error)) => return Err(error.into()),
+    };
+    same(rt, seats.len(), processors as usize);
+    for (seat, processor) in seats.iter().zip(0..processors) {
+        same(rt, (seat.processor(), seat.count()), (processor, 0));
+    }
+    match locked.finish(seats) {
+        Ok(machine) => Ok(machine),
+        Err(wrong) => Err(Fail::new(wrong.processor)),
+    }
+}
+
+/// The same with ledgers of its own.
+fn lock_branded<R: Wait + Abort + AllocGlobal>(rt: &R, machine: Machine) -> Result<Machine, Fail> {
+    let steps = Blank::new(u64::from(machine.processors()));
+    let offs = Blank::new(u64::from(machine.processors()));
+    lock_and_finish::<Brand, Brand, R>(rt, steps, offs, machine)
+}
+
+#[test]
+fn locked_of_any_number(rt: HostRuntime) -> Result<(), Fail> {
+    for processors in [1, 2, 3, 32] {
+        let (_, machine) = boot(rt.alloc(), &LOOP, processors, 16)?;
+        let start = machine.copy_start(rt.alloc())?;
+        let machine = lock_branded(&rt, machine)?;
+        same(&rt, machine.processors(), processors);
+        same(&rt, machine.starts_as(&start), true);
+    }
+    Ok(())
+}
