@@ -67,11 +67,6 @@ impl Cop0 {
         63 - (self.age % 56) as u8
     }
 
-    /// The law of Random: it is 63 less the ticks since the start modulo 56.
-    pub fn random_is_by_age(&self)
-        ensures { self.now.random ≡ 63 - self.now.age % 56 }
-    {}
-
     /// The ticks since the start.
     #[inline(always)]
     pub fn age(&self) -> u64

@@ -26,11 +26,11 @@ impl<T: Tlb> Cpu<T> {
         self.control.read(register.number(), lines)
     }
 
-    /// The law of Random: it is 63 less the Steps since the start modulo 56.
+    /// The law of Random: it is 63 less its ticks modulo 56 (Kane: it counts down from 63 to 8).
     pub fn random_is_by_age(&self)
         ensures { self.now.control.random ≡ 63 - self.now.control.age % 56 }
     {
-        self.control.random_is_by_age();
+        let _row = self.control.random_row();
     }
 
     /// A row of the TLB.
