@@ -11,15 +11,19 @@
 //! are a TLB that is searched row by row, and a console that keeps its bytes in a vector.
 #![tactic(auto)]
 
-pub use m161_console::PlainConsole;
 pub use m161_machine::{
     BootError, Conf, Entry, Event, Events, Exception, Frame, Identifier, LoadError, Outcome, Page,
     ProcessorState, Refusal, Reg, Register, Row, Runs, Start,
 };
-pub use m161_tlb_scan::Scan;
+
+/// The TLB of the machine that the program runs.
+pub type Tlb = m161_tlb_scan::Scan;
+
+/// The console of that machine.
+pub type Console = m161_console::PlainConsole;
 
 /// The machine that the program runs.
-pub type Machine = m161_machine::Machine<Scan, PlainConsole>;
+pub type Machine = m161_machine::Machine<Tlb, Console>;
 
 /// A state of that machine.
-pub type Core = m161_machine::Core<Scan, PlainConsole>;
+pub type Core = m161_machine::Core<Tlb, Console>;

@@ -7,6 +7,7 @@ use Rattle.std.proofs.lemmas.Bool.Decides.{nat_tests}
 use Rattle.std.proofs.lemmas.Str.{IsUtf8-from_ascii}
 use Rattle.std.proofs.lemmas.Str.Ascii.{IsAscii-nil, IsAscii-cons}
 use Rattle.m161_asm.specs.Tokens.{Nothing, AName, ANumber, ARegister, ADirective, AMark, NoToken, beginning, begins_name, continues_name, name_bytes}
+use Rattle.std.proofs.Math.Seq.{take-length}
 
 -- A name is ASCII.
 
@@ -15,10 +16,6 @@ letter_ascii b h = grind (arith, nat_tests, h)
 
 word_ascii : (b : ℕ) → continues_name b ≡ true → b < 128
 word_ascii b h = grind (arith, nat_tests, h)
-
-take_whole : (xs : List ℕ) → take (length xs) xs ≡ xs
-take_whole [] = refl
-take_whole (x ∷ xs) = ap (λ t. x ∷ t) (take_whole xs)
 
 run_ascii : (bs : List ℕ) → IsAscii (name_bytes bs)
 run_ascii [] = IsAscii-nil
@@ -66,5 +63,5 @@ front [] n h e = absurd (omega (arith, h))
 front (b ∷ bs) n h e =
     let k : 1 + n ≡ suc n = omega arith in
     let l : length (b ∷ bs) - 1 ≡ length bs = omega arith in
-    let m : n ≡ prefix_len continues_name bs = rw (l, take_whole bs) at e in
+    let m : n ≡ prefix_len continues_name bs = rw (l, take-length bs) at e in
     rw (k, m) refl

@@ -1,26 +1,24 @@
 //! Runs of the machine.
 
-use m161_console::PlainConsole;
+use m161::{Conf, Machine};
 use m161_isa::Reg;
-use m161_machine::{Conf, Machine};
-use m161_tlb_scan::Scan;
 use std::alloc::Global;
 
 /// A machine that made `steps` Steps of a file, the first one by itself, with a log of that size.
-pub(crate) fn run(alloc: Global, image: &[u8], steps: u32) -> Option<Machine<Scan, PlainConsole>> {
+pub(crate) fn run(alloc: Global, image: &[u8], steps: u32) -> Option<Machine> {
     let conf = Conf {
         ram: 65_536,
         processors: 1,
         log: steps,
     };
-    let mut machine: Machine<Scan, PlainConsole> = Machine::boot(alloc, image, conf).ok()?;
+    let mut machine = Machine::boot(alloc, image, conf).ok()?;
     machine.step(0).ok()?;
     let _ = machine.steps(0, steps);
     Some(machine)
 }
 
 // The last word of a run, and how many Steps it made.
-fn last(machine: &Machine<Scan, PlainConsole>) -> Option<(u32, u64)> {
+fn last(machine: &Machine) -> Option<(u32, u64)> {
     if machine.processors() == 0 {
         return None;
     }

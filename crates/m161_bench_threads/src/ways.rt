@@ -1,9 +1,7 @@
 //! The loop on two processors: a thread for each, and the same Steps in one thread.
 
-use m161_console::PlainConsole;
-use m161_machine::{Conf, Machine};
+use m161::{Conf, Machine};
 use m161_threads::{Gate, run};
-use m161_tlb_scan::Scan;
 use std::alloc::Global;
 use std::sync::Wait;
 use std::thread::Threads;
@@ -41,19 +39,19 @@ impl Gate for Open {
 }
 
 // A machine of two started processors, with room for `steps` Steps of each.
-fn start_machine(alloc: Global, image: &[u8], steps: u32) -> Option<Machine<Scan, PlainConsole>> {
+fn start_machine(alloc: Global, image: &[u8], steps: u32) -> Option<Machine> {
     let conf = Conf {
         ram: 65_536,
         processors: 2,
         log: steps.checked_mul(2)?.checked_add(START)?,
     };
-    let mut machine: Machine<Scan, PlainConsole> = Machine::boot(alloc, image, conf).ok()?;
+    let mut machine = Machine::boot(alloc, image, conf).ok()?;
     let _ = machine.steps(0, START);
     Some(machine)
 }
 
 // How many Steps a machine has made since both processors were started.
-fn steps_made(machine: &Machine<Scan, PlainConsole>) -> Option<u64> {
+fn steps_made(machine: &Machine) -> Option<u64> {
     if machine.processors() != 2 {
         return None;
     }

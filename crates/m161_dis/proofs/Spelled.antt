@@ -11,9 +11,10 @@ use Rattle.m161_isa.specs.Table.{table, width_of, number_of}
 use Rattle.m161_dis.specs.Canon.{branch_target, jump_target}
 use Rattle.m161_asm.specs.Tokens.{Name, Number, lexeme, beginning, begins_name, AName, ANumber, Beginning, continues_name, number_from, number_of_literal, numeral}
 use Rattle.m161_dis.proofs.Pieces.{Piece, IsPiece, Sound, text_of, starts_apart, run-word, words_clean, blank, comma_piece, open_piece, close_piece, minus_piece}
-use Rattle.m161_dis.proofs.Numerals.{Decimal, decimal_is, decimal_len, below, both, register_piece, hex4_piece, hex8_piece}
+use Rattle.m161_dis.proofs.Numerals.{Decimal, decimal_is, decimal_len, below, register_piece, hex4_piece, hex8_piece}
 use Rattle.m161_dis.proofs.Operands.{operand_pieces, signed_pieces}
 use Rattle.m161_dis.proofs.Reading.{pieces_of, lead_pieces, number_small}
+use Rattle.std.proofs.lemmas.Bool.{and_parts}
 
 -- The pieces of an instruction are pieces.
 
@@ -49,8 +50,8 @@ no_prefix [] h = refl
 no_prefix (b ∷ []) h = elim (b == 48) as (λ x. (x && false) ≡ false) [ true ↦ refl | false ↦ refl ]
 no_prefix (b ∷ c ∷ cs) h =
     let d : is_ascii_digit c
-    ≡ true = (both (is_ascii_digit c) (list_all is_ascii_digit cs)
-    (both (is_ascii_digit b) (list_all is_ascii_digit (c ∷ cs)) h).1).0 in
+    ≡ true = (and_parts (is_ascii_digit c) (list_all is_ascii_digit cs)
+    (and_parts (is_ascii_digit b) (list_all is_ascii_digit (c ∷ cs)) h).1).0 in
     let e : (c == 120) ≡ false = not_x c d in
     rw e (elim (b == 48) as (λ x. (x && false) ≡ false) [ true ↦ refl | false ↦ refl ])
 
@@ -77,7 +78,7 @@ number_piece n first others small all read few = (
   λ rest f.
       let r = run-word others rest
       (all_words others
-      (both (is_ascii_digit (48 + first)) (list_all is_ascii_digit others) all).1) f in
+      (and_parts (is_ascii_digit (48 + first)) (list_all is_ascii_digit others) all).1) f in
       let p = no_prefix ((48 + first) ∷ others) all in
       let l : nat_lt 10 (suc (length others)) ≡ false = grind (arith, nat_tests) in
       let z : (suc (length others) == 0) ≡ false = grind (arith, nat_tests) in

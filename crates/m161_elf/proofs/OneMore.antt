@@ -15,6 +15,7 @@ use Rattle.m161_elf.specs.Image.{byte_left, covers, is_larger_in_file, is_outsid
 use Rattle.m161_elf.specs.helpers.Sound.{faults_among}
 use Rattle.m161_elf.specs.Span.{has_bytes, span_of, spans_among}
 use Rattle.m161_elf.specs.helpers.Span.{span_at}
+use Rattle.std.proofs.Math.Bool.{or-false}
 
 -- What one program header more adds.
 
@@ -64,14 +65,10 @@ byte_put file i s memory after at found before put =
     put
 
 -- to the faults
-or_false : (a : Bool) → (a || false) ≡ a
-or_false true = refl
-or_false false = refl
-
 any_with : {X : Type 0} (test : X → Bool) (xs : List X) (x : X)
     → list_any test (xs ++ x ∷ []) ≡ (list_any test xs || test x)
 any_with test xs x =
-    list_any-append test xs (x ∷ []) ∙ ap (λ b. list_any test xs || b) (or_false (test x))
+    list_any-append test xs (x ∷ []) ∙ ap (λ b. list_any test xs || b) (or-false (test x))
 
 pub faults_with : (file : List ℕ) (ram i : ℕ) (s : ProgramHeader) → Some s ≡ segment_at file i
     → faults_among file ram (i + 1) ≡ record {

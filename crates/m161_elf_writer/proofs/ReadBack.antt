@@ -13,6 +13,7 @@ use Rattle.m161_elf.specs.Header.{e_entry, e_phnum, header_at, is_load, segments
 use Rattle.m161_elf.specs.Image.{byte_left, covers, place_in_ram, segment_byte}
 use Rattle.m161_elf_writer.specs.Written.{elf_bytes, file_header, segment_bytes, segment_header, segment_headers, size, words_bytes}
 use Rattle.m161_elf_writer.specs.WrittenLaw.{byte_left_by, byte_of, has_byte}
+use Rattle.std.proofs.lemmas.Bool.{and_parts}
 
 -- What the loader reads of a file that was written.
 
@@ -153,10 +154,6 @@ same_if : (test : Bool) (a b other : ℕ) → (test ≡ true → a ≡ b)
 same_if true a b other e = e refl
 same_if false a b other e = refl
 
-both : (a b : Bool) → (a && b) ≡ true → (a ≡ true) × (b ≡ true)
-both true b holds = (refl, holds)
-both false b holds = absurd (cc)
-
 byte_in : (before mine rest : List ℕ) (offset i : ℕ) → length before ≡ offset → i < length mine
     → slice_index (before ++ (mine ++ rest)) (offset + i) ≡ slice_index mine i
 byte_in before mine rest offset i e within =
@@ -168,7 +165,7 @@ byte_at : (before mine rest : List ℕ) (offset place size at : ℕ) → length 
     then slice_index (before ++ (mine ++ rest)) (offset + (at - place))
     else 0) ≡ slice_index mine (at - place)
 byte_at before mine rest offset place size at e f here =
-    let tests = both (nat_le place at) (nat_lt at (place + size)) here in
+    let tests = and_parts (nat_le place at) (nat_lt at (place + size)) here in
     let within : at - place < length mine = grind (arith, nat_tests, tests.0, tests.1) in
     rw tests.1 (byte_in before mine rest offset (at - place) e within)
 

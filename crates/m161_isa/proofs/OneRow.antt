@@ -9,6 +9,7 @@ use Rattle.m161_isa.specs.declared.table.Row.TheVariants as rows
 use Rattle.m161_isa.specs.Table.{Field, table, all_rows, code_of, HasFields, Fits, FitsNone, has_fields, fits, row_that_fits}
 use Rattle.m161_isa.specs.Bits.{bits_of}
 use Rattle.m161_isa.specs.Laws.{OneRow, FindsTheRow}
+use Rattle.std.proofs.lemmas.Bool.{and_parts}
 
 -- A word fits one row at most: a test over the table's pairs of rows, which computes, and what
 -- follows from it.
@@ -65,16 +66,12 @@ code_found _ = refl
 listed : (r : Row) → (i : ℕ) × (slice_get all_rows i ≡ Some r)
 listed r = found_at (fits (code_of r)) all_rows r (code_found r)
 
-both : (x y : Bool) → (x && y) ≡ true → (x ≡ true) × (y ≡ true)
-both true y e = (refl, e)
-both false y e = cc
-
 -- no word has both of two fields that clash
 same_place : (word p w v q x u : ℕ) → ((p == q) && (w == x) && not (v == u)) ≡ true
     → bits_of word p w ≡ v → bits_of word q x ≡ u → ⊥
 same_place word p w v q x u c first second =
-    let (here, other) = both _ _ c in
-    let (place, width) = both _ _ here in
+    let (here, other) = and_parts _ _ c in
+    let (place, width) = and_parts _ _ here in
     let e : p ≡ q = (Decides-eqb p q).0 place in
     let d : w ≡ x = (Decides-eqb w x).0 width in
     let same : v ≡ u = cc in
@@ -105,8 +102,8 @@ passes : {X : Type 0} (p : X → Bool) (xs : List X) (i : ℕ) (x : X) → list_
 passes p [] i x all at = cc
 passes p (y ∷ ys) zero x all at =
     let e : y ≡ x = cc in
-    rw (← e) (both (p y) (list_all p ys) all).0
-passes p (y ∷ ys) (suc i) x all at = passes p ys i x (both (p y) (list_all p ys) all).1 at
+    rw (← e) (and_parts (p y) (list_all p ys) all).0
+passes p (y ∷ ys) (suc i) x all at = passes p ys i x (and_parts (p y) (list_all p ys) all).1 at
 
 -- a choice whose test cannot pass
 by_test : {X : Type 0} (b : Bool) (x y z : X) → (b ≡ true → ⊥) → y ≡ z → cond b x y ≡ z
@@ -122,7 +119,7 @@ found_in word r (s ∷ rs) zero apart at h =
     let t : fits word r ≡ true = (fits-Decides word r).1 h in
     rw (e, t) refl
 found_in word r (s ∷ rs) (suc i) apart at h =
-    let (here, below) = both _ _ apart in
+    let (here, below) = and_parts _ _ apart in
     let d = passes (λ q. are_apart (table s).fields (table q).fields) rs i r here at in
     let rest = found_in word r rs i below at h in
     by_test (fits word s) (Some s) (find (fits word) rs) (Some r)

@@ -4,6 +4,7 @@ use Rattle.std.proofs.lemmas.List.{drop_all, drop-append-le, length-append, map-
 use Rattle.std.proofs.lemmas.List.Elements.{All-set, All-weaker, All-head, All-tail}
 use Rattle.m161_cpu.specs.Links.{LinkAct, Keep, LinkTo, End, unless_to, after_store, after_act, links_after}
 use Rattle.m161_machine.specs.StoreHistory.{Link, live, live_links, touches, with_link_act, stores_after}
+use Rattle.std.proofs.Math.Bool.{or-false}
 
 -- A machine's state has the words of the live links. They are those of the links with all stores.
 
@@ -16,12 +17,8 @@ or_assoc : (a b c : Bool) → (a || b) || c ≡ a || (b || c)
 or_assoc true b c = refl
 or_assoc false b c = refl
 
-or_false : (a : Bool) → a || false ≡ a
-or_false true = refl
-or_false false = refl
-
 touches_more : (word w : ℕ) (ws : List ℕ) → touches word (ws ++ w ∷ []) ≡ touches word ws || (word == w)
-touches_more word w [] = or_false (word == w)
+touches_more word w [] = or-false (word == w)
 touches_more word w (x ∷ ws) = ap (λ t. (word == x) || t) (touches_more word w ws) ∙ sym (or_assoc (word == x) (touches word ws) (word == w))
 
 -- a store ends a live link to its word

@@ -6,12 +6,7 @@ pub mod files;
 pub mod kernel;
 pub mod outcomes;
 
-use m161_console::PlainConsole;
 use m161_machine::Conf;
-use m161_tlb_scan::Scan;
-
-/// The machine that the tests run, which is the program's.
-pub type Machine = m161_machine::Machine<Scan, PlainConsole>;
 
 /// The size of the machine that the built-in image runs on.
 pub const DEMO_CONF: Conf = Conf {

@@ -72,9 +72,11 @@ pub record IsDebug
   pub is_text_of_commands : IsText commands
   pub does : DoesLines (lines_of commands) (session_of booted) events [] text
 
--- a debugged run is ended by this fault, and there was no fault before it in this order: of the
--- image's file, the schedule's file, standard input, the schedule, the configuration, the image; or
--- memory was refused
+-- what a fault that ends a debugged run says of its inputs: of a file, that it is the image's or the
+-- schedule's; of the schedule, its first bad line; of the configuration or the image, that the
+-- schedule had no fault. Nothing is said of reading: File, Input and Memory hold whatever else is at
+-- fault. The order in which inputs are read is tested: the image's file, the schedule's file, then
+-- standard input
 abbrev pub IsDebugFault : FilesTask → Option (List ℕ) → Option (List ℕ) → Fault → Type 0
 IsDebugFault task image schedule (File name) =
     ((name.now ≡ task.image.now) × IsFileName task.image.now) ⊎ (name.now ≡ task.text.now)

@@ -53,8 +53,10 @@ IsLogFault text _ = ⊥
 abbrev pub HasLog : Option (List ℕ) → Type 0
 HasLog log = OfText log (λ text. (entries : List Entry) × IsLog text entries)
 
--- a replay is ended by this fault, and there was no fault before it in this order: of the image's
--- file, the log's file, the log, the configuration, the image; or memory was refused
+-- what a fault that ends a replay says of its inputs: of a file, that it is the image's or the
+-- log's; of the log, its first bad line; of the configuration or the image, that the log had no
+-- fault. Nothing is said of reading: File and Memory hold whatever else is at fault. The order in
+-- which files are read is tested: the image's, then the log's
 abbrev pub IsReplayFault : FilesTask → Option (List ℕ) → Option (List ℕ) → Fault → Type 0
 IsReplayFault task image log (File name) =
     ((name.now ≡ task.image.now) × IsFileName task.image.now) ⊎ (name.now ≡ task.text.now)

@@ -122,8 +122,10 @@ IsScheduleFault text _ = ⊥
 abbrev pub HasSchedule : Option (List ℕ) → Type 0
 HasSchedule input = OfText input (λ text. AreScheduleLines (lines_of text))
 
--- a run is ended by this fault, and there was no fault before it in this order: of the image's
--- file, standard input, the schedule, the configuration, the image; or memory was refused
+-- what a fault that ends a run says of its inputs: of a file, that it is the image's; of the
+-- schedule, its first bad line; of the configuration or the image, that the schedule had no fault.
+-- Nothing is said of reading: File, Input and Memory hold whatever else is at fault. The order in
+-- which inputs are read is tested: the image's file, then standard input
 abbrev pub IsFaultOf : RunTask → Option (List ℕ) → Option (List ℕ) → Fault → Type 0
 IsFaultOf task known input (File name) =
     (name.now ≡ task.image.now) × IsFileName task.image.now

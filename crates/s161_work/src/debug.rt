@@ -11,7 +11,8 @@ use crate::input::{read_input, read_text};
 use crate::run::Finished;
 use crate::sample::read_image;
 use crate::texts::events_of;
-use crate::{Machine, Session};
+use crate::Session;
+use m161::Machine;
 use m161_machine::{Conf, Event};
 use m161_text::next_line;
 use s161_command::FilesTask;
@@ -54,10 +55,7 @@ pub fn debug<'a, F: FileSource, I: Read>(
     )?;
     let mut session = Session::new(machine);
     let text = do_lines(alloc, &mut session, &events, commands.as_str())?;
-    Ok(Finished {
-        text: Vec::from_slice(alloc, text.as_bytes())?,
-        status: 0,
-    })
+    Ok(Finished::done(text.into_bytes()))
 }
 
 // Executes the commands of a text, one a line. Returns what they print.

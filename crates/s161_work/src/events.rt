@@ -5,7 +5,7 @@ ghost use Rattle.m161_machine.specs.History.{Continues, Refuses};
 ghost use Rattle.m161_machine.specs.State.{next};
 ghost use Rattle.s161_work.specs.Runs.{MakesEvents, stop_line};
 
-use crate::Machine;
+use m161::Machine;
 use m161_machine::{Event, Events, Refusal};
 use std::fmt;
 

@@ -18,11 +18,7 @@ pub mod texts;
 pub mod threaded;
 pub mod work;
 
-use m161_console::PlainConsole;
-use m161_tlb_scan::Scan;
+use m161::{Console, Tlb};
 
-/// The machine that the program runs.
-pub type Machine = m161_machine::Machine<Scan, PlainConsole>;
-
-/// The session that shows it.
-pub type Session = m161_debug::Session<Scan, PlainConsole>;
+/// The session that shows the machine.
+pub type Session = m161_debug::Session<Tlb, Console>;

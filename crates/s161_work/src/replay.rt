@@ -11,10 +11,9 @@ use crate::input::read_text;
 use crate::run::Finished;
 use crate::sample::read_image;
 use crate::texts::entries_of;
-use m161_console::PlainConsole;
+use m161::{Console, Tlb};
 use m161_machine::Conf;
 use m161_steplog::{Verdict, verify};
-use m161_tlb_scan::Scan;
 use s161_command::FilesTask;
 use std::alloc::{AllocError, Global};
 
@@ -38,7 +37,7 @@ pub fn replay<'a, F: FileSource>(
     let file = read_image(alloc, files, task.image)?;
     let log = read_text(alloc, files, task.text)?;
     let entries = entries_of(alloc, log.as_str())?;
-    let verdict = verify::<Scan, PlainConsole>(
+    let verdict = verify::<Tlb, Console>(
         alloc,
         &file,
         Conf {

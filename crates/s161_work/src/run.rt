@@ -11,7 +11,8 @@ use crate::input::read_input;
 use crate::sample::read_image;
 use crate::summary::summary;
 use crate::texts::events_of;
-use crate::{Machine, Session};
+use crate::Session;
+use m161::Machine;
 use m161_machine::Conf;
 use s161_command::RunTask;
 use std::alloc::Global;
@@ -22,6 +23,16 @@ use std::io::Read;
 pub struct Finished {
     pub text: Vec<u8>,
     pub status: u8,
+}
+
+impl Finished {
+    /// A command that has nothing to tell but its text: its exit status is 0.
+    pub fn done(text: Vec<u8>) -> Self
+        ensures text { result.text ≡ text.entry }
+        ensures status { result.status ≡ 0 }
+    {
+        Finished { text, status: 0 }
+    }
 }
 
 /// Reads the image and then the schedule, boots the image, and makes the schedule's events until

@@ -5,7 +5,8 @@ ghost use Rattle.m161_steplog.specs.Log.{log_text};
 ghost use Rattle.s161_work.specs.Runs.{output_text, started_text, summary_text};
 
 use crate::events::Stop;
-use crate::{Machine, Session};
+use crate::Session;
+use m161::Machine;
 use m161_machine::ProcessorState;
 use m161_steplog::write_log;
 use std::alloc::{AllocError, Global};

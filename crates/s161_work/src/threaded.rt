@@ -11,11 +11,10 @@ use crate::files::FileSource;
 use crate::run::{Finished, status};
 use crate::sample::read_image;
 use crate::summary::summary;
-use crate::{Machine, Session};
-use m161_console::PlainConsole;
+use crate::Session;
+use m161::{Console, Machine, Tlb};
 use m161_machine::Conf;
 use m161_threads::{Gate, Report, run};
-use m161_tlb_scan::Scan;
 use s161_command::RunTask;
 use std::alloc::{AllocError, Global};
 use std::sync::Wait;
@@ -85,7 +84,7 @@ fn stop_of(off: bool) -> Stop
 // The text that a report prints, and its exit status.
 fn finish<'a>(
     alloc: Global,
-    report: Report<Scan, PlainConsole>,
+    report: Report<Tlb, Console>,
     show_log: bool,
 ) -> Result<Finished, Fault<'a>>
     ensures text { IfOk result (λ done.

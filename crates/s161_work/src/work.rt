@@ -125,168 +125,40 @@ fn do_task<'a, R: Threads + Wait + Sync, F: FileSource, I: Read, O: Write>(
         (O.contents output.old) (O.contents output.new)) }
     ensures within { IfOk result (λ status. (status ≤ 4) × (status ≢ 2)) }
 {
-    match task {
-        Task::Demo => do_demo(alloc, output),
-        Task::Run(task) => do_run(alloc, task, files, input, output),
-        Task::RunInThreads(task, quota) => do_threads(rt, alloc, task, quota, files, output),
-        Task::Replay(task) => do_replay(alloc, task, files, output),
-        Task::Debug(task) => do_debug(alloc, task, files, input, output),
-        Task::Assemble => do_as(alloc, input, output),
-        Task::Disassemble(image) => do_dis(alloc, image, files, output),
-    }
+    let finished = finish(rt, alloc, task, files, input)?;
+    put(output, &finished.text)?;
+    Ok(finished.status)
 }
 
-// Prints the demo. Returns the exit status.
-fn do_demo<'a, O: Write>(alloc: Global, output: &mut O) -> Result<u8, Fault<'a>>
-    ensures printed { IfOk result (Prints (WithZero IsDemo)
-        (O.contents output.old) (O.contents output.new)) }
-    ensures status { IfOk result (λ status. status ≡ 0) }
-    ensures fault { IfErr result (Fails (WithZero IsDemo) (λ fault. fault ≡ Fault.Memory)
-        (O.contents output.old) (O.contents output.new)) }
-{
-    let text = demo(alloc)?;
-    put(output, text.as_bytes())?;
-    Ok(0)
-}
-
-// Runs an image, and prints the result. Returns the exit status.
-fn do_run<'a, F: FileSource, I: Read, O: Write>(
-    alloc: Global,
-    task: RunTask<'a>,
-    files: &mut F,
-    input: &mut I,
-    output: &mut O,
-) -> Result<u8, Fault<'a>>
-    ensures printed { IfOk result (Prints (IsRun task.entry
-        (image_file (F.known files.old) task.entry.image.now) (I.remaining input.old))
-        (O.contents output.old) (O.contents output.new)) }
-    ensures within { IfOk result (λ status. (status ≤ 3) × (status ≢ 2)) }
-    ensures fault { IfErr result (Fails
-        (IsRun task.entry
-        (image_file (F.known files.old) task.entry.image.now) (I.remaining input.old))
-        (IsFaultOf task.entry
-        (image_file (F.known files.old) task.entry.image.now) (I.remaining input.old))
-        (O.contents output.old) (O.contents output.new)) }
-{
-    print(output, run(alloc, files, input, task)?)
-}
-
-// Runs an image in threads, and prints the result. Returns the exit status.
-fn do_threads<'a, R: Threads + Wait + Sync, F: FileSource, O: Write>(
+// The text that a task prints, and its exit status.
+fn finish<'a, R: Threads + Wait + Sync, F: FileSource, I: Read>(
     rt: &R,
     alloc: Global,
-    task: RunTask<'a>,
-    quota: u32,
-    files: &mut F,
-    output: &mut O,
-) -> Result<u8, Fault<'a>>
-    ensures printed { IfOk result (Prints (IsRunInThreads task.entry quota
-        (image_file (F.known files.old) task.entry.image.now))
-        (O.contents output.old) (O.contents output.new)) }
-    ensures within { IfOk result (λ status. (status ≡ 0) ⊎ (status ≡ 3)) }
-    ensures fault { IfErr result (Fails
-        (IsRunInThreads task.entry quota (image_file (F.known files.old) task.entry.image.now))
-        (IsThreadsFault task.entry (image_file (F.known files.old) task.entry.image.now))
-        (O.contents output.old) (O.contents output.new)) }
-{
-    print(output, run_in_threads(rt, alloc, files, task, quota)?)
-}
-
-// Replays a log, and prints the verdict. Returns the exit status.
-fn do_replay<'a, F: FileSource, O: Write>(
-    alloc: Global,
-    task: FilesTask<'a>,
-    files: &mut F,
-    output: &mut O,
-) -> Result<u8, Fault<'a>>
-    ensures printed { IfOk result (Prints (IsReplayed task.entry
-        (image_file (F.known files.old) task.entry.image.now)
-        (F.known files.old task.entry.text.now))
-        (O.contents output.old) (O.contents output.new)) }
-    ensures within { IfOk result (λ status. (status ≡ 0) ⊎ (status ≡ 4)) }
-    ensures fault { IfErr result (Fails
-        (IsReplayed task.entry (image_file (F.known files.old) task.entry.image.now)
-        (F.known files.old task.entry.text.now))
-        (IsReplayFault task.entry (image_file (F.known files.old) task.entry.image.now)
-        (F.known files.old task.entry.text.now))
-        (O.contents output.old) (O.contents output.new)) }
-{
-    print(output, replay(alloc, files, task)?)
-}
-
-// Executes a debugger's commands, and prints what they show. Returns the exit status.
-fn do_debug<'a, F: FileSource, I: Read, O: Write>(
-    alloc: Global,
-    task: FilesTask<'a>,
+    task: Task<'a>,
     files: &mut F,
     input: &mut I,
-    output: &mut O,
-) -> Result<u8, Fault<'a>>
-    ensures printed { IfOk result (Prints (WithZero (IsDebug task.entry
-        (image_file (F.known files.old) task.entry.image.now)
-        (F.known files.old task.entry.text.now) (I.remaining input.old)))
-        (O.contents output.old) (O.contents output.new)) }
-    ensures status { IfOk result (λ status. status ≡ 0) }
-    ensures fault { IfErr result (Fails
-        (WithZero (IsDebug task.entry (image_file (F.known files.old) task.entry.image.now)
-        (F.known files.old task.entry.text.now) (I.remaining input.old)))
-        (IsDebugFault task.entry (image_file (F.known files.old) task.entry.image.now)
-        (F.known files.old task.entry.text.now))
-        (O.contents output.old) (O.contents output.new)) }
+) -> Result<Finished, Fault<'a>>
+    ensures ok { IfOk result (λ done. IsResultOf task.entry (F.known files.old)
+        (I.remaining input.old) done.text.items done.status) }
+    ensures fault { IfErr result (IsTaskFault task.entry (F.known files.old)
+        (I.remaining input.old)) }
+    ensures within { IfOk result (λ done. (done.status ≤ 4) × (done.status ≢ 2)) }
 {
-    print(output, debug(alloc, files, input, task)?)
-}
-
-// Assembles the text of standard input, and writes its file. Returns the exit status.
-fn do_as<'a, I: Read, O: Write>(
-    alloc: Global,
-    input: &mut I,
-    output: &mut O,
-) -> Result<u8, Fault<'a>>
-    ensures printed { IfOk result (Prints (WithZero (IsAssembled (I.remaining input.old)))
-        (O.contents output.old) (O.contents output.new)) }
-    ensures status { IfOk result (λ status. status ≡ 0) }
-    ensures fault { IfErr result (Fails (WithZero (IsAssembled (I.remaining input.old)))
-        (IsAssemblyFault (I.remaining input.old))
-        (O.contents output.old) (O.contents output.new)) }
-{
-    let source = read_input(alloc, input)?;
-    let file = assembly(alloc, source.as_str())?;
-    put(output, &file)?;
-    Ok(0)
-}
-
-// Prints the listing of an image. Returns the exit status.
-fn do_dis<'a, F: FileSource, O: Write>(
-    alloc: Global,
-    image: &'a str,
-    files: &mut F,
-    output: &mut O,
-) -> Result<u8, Fault<'a>>
-    ensures printed { IfOk result (Prints
-        (WithZero (IsDisassembled (image_file (F.known files.old) image.entry.now)))
-        (O.contents output.old) (O.contents output.new)) }
-    ensures status { IfOk result (λ status. status ≡ 0) }
-    ensures fault { IfErr result (Fails
-        (WithZero (IsDisassembled (image_file (F.known files.old) image.entry.now)))
-        (IsListingFault image.entry.now (image_file (F.known files.old) image.entry.now))
-        (O.contents output.old) (O.contents output.new)) }
-{
-    let file = read_image(alloc, files, image)?;
-    let text = disassembly(alloc, &file)?;
-    put(output, text.as_bytes())?;
-    Ok(0)
-}
-
-// Prints the text of a finished command. Returns its exit status.
-fn print<'a, O: Write>(output: &mut O, finished: Finished) -> Result<u8, Fault<'a>>
-    ensures status { IfOk result (λ status. status ≡ finished.status) }
-    ensures printed { OnOk result (Appends (O.contents output.old) (O.contents output.new)
-        finished.text.items) }
-    ensures fault { IfErr result (λ fault. fault ≡ Fault.Output) }
-{
-    put(output, finished.text.as_slice())?;
-    Ok(finished.status)
+    match task {
+        Task::Demo => Ok(Finished::done(demo(alloc)?.into_bytes())),
+        Task::Run(task) => run(alloc, files, input, task),
+        Task::RunInThreads(task, quota) => run_in_threads(rt, alloc, files, task, quota),
+        Task::Replay(task) => replay(alloc, files, task),
+        Task::Debug(task) => debug(alloc, files, input, task),
+        Task::Assemble => {
+            let source = read_input(alloc, input)?;
+            Ok(Finished::done(assembly(alloc, source.as_str())?))
+        }
+        Task::Disassemble(image) => {
+            let file = read_image(alloc, files, image)?;
+            Ok(Finished::done(disassembly(alloc, &file)?.into_bytes()))
+        }
+    }
 }
 
 // Writes all of an output.

@@ -3,13 +3,13 @@
 use super::listing::Left::{Count, Entries, Memory, Pc, Register};
 use super::listing::{Left, compare, make};
 use super::same;
+use m161::Machine;
 use m161_asm::assemble;
 use m161_elf::{LoadError, load};
 use m161_elf_writer::write;
 use m161_machine::Event::Step;
 use m161_machine::Refusal;
 use m161_ram::Ram;
-use m161_test_support::Machine;
 use m161_test_support::files::{
     ADDRESS, CLASS, ENTRY, FILE_SIZE, HEADER_COUNT, HEADERS, IMAGE, MEMORY_SIZE, OFFSET, PROGRAM,
     TYPE, file_of,

@@ -14,17 +14,15 @@
 //! they leave is worked out by hand from Kane's descriptions and this project's own rules.
 
 use super::same;
-use m161_console::PlainConsole;
+use m161::{Console, Machine, Tlb};
 use m161_cop0::REGISTERS;
 use m161_isa::Reg;
 use m161_machine::{
     Conf, Event, Exception, Outcome, ProcessorState, Refusal, Register as CopRegister,
 };
 use m161_steplog::{Verdict, verify};
-use m161_test_support::Machine;
 use m161_test_support::files::{file_at, file_from};
 use m161_test_support::outcomes::{Answer, ENTRY, RAN, SMALLEST, Times};
-use m161_tlb_scan::Scan;
 use std::alloc::Global;
 use std::process::Abort;
 use std::test::Fail;
@@ -153,7 +151,7 @@ pub(crate) fn check_log(
     machine: &Machine,
 ) -> Result<(), Fail> {
     let log = machine.copy_log(rt.alloc())?;
-    let found = verify::<Scan, PlainConsole>(rt.alloc(), file, machine.conf(), &log)?;
+    let found = verify::<Tlb, Console>(rt.alloc(), file, machine.conf(), &log)?;
     same(rt, (name, found), (name, Verdict::Agrees));
     Ok(())
 }

@@ -2,14 +2,13 @@
 
 use super::listing::{Left, part_of, run_steps};
 use super::same;
-use m161_console::PlainConsole;
+use m161::Machine;
 use m161_elf::LoadError;
 use m161_isa::Reg;
 use m161_machine::{BootError, Conf, Entry, Event, Outcome, ProcessorState, Refusal, Register};
 use m161_test_support::files::{IMAGE, file_at};
 use m161_test_support::outcomes::{ENTRY, RAN};
-use m161_test_support::{DEMO_CONF as CONF, Machine};
-use m161_tlb_scan::Scan;
+use m161_test_support::DEMO_CONF as CONF;
 use std::alloc::Global;
 use std::process::Abort;
 use std::test::Fail;
@@ -65,7 +64,7 @@ fn library_lines(rt: HostRuntime) -> Result<(), Fail> {
         processors: 2,
         log: 65_536,
     };
-    let mut machine: m161_machine::Machine<Scan, PlainConsole> = m161_machine::Machine::boot(
+    let mut machine: Machine = Machine::boot(
         rt.alloc(),
         &file,
         conf,

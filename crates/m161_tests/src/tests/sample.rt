@@ -2,9 +2,9 @@
 
 use super::listing::Left::{Count, Entries, Memory, TlbRow};
 use super::listing::{Left, check_log, compare, make};
+use m161::Machine;
 use m161_machine::Conf;
 use m161_machine::Event::Step;
-use m161_test_support::Machine;
 use m161_test_support::kernel::{SCHEDULE, kernel_file};
 use m161_test_support::outcomes::{INTERRUPT, LOAD_MISS, OFF, RAN, Times};
 use std::test::Fail;

@@ -1,7 +1,7 @@
 //! Texts of logs and schedules, and the check of a log.
 
 use super::same;
-use m161_console::PlainConsole;
+use m161::{Console, Tlb};
 use m161_machine::{Conf, Entry, Event, Outcome};
 use m161_steplog::{
     Byte, Fault, Verdict, Word, cut_at_space, entry_line, next_line, parse_byte, parse_decimal,
@@ -9,7 +9,6 @@ use m161_steplog::{
 };
 use m161_test_support::files::file_at;
 use m161_test_support::outcomes::ENTRY;
-use m161_tlb_scan::Scan;
 use std::alloc::Global;
 use std::test::Fail;
 
@@ -164,7 +163,7 @@ fn verify_of_logs(rt: HostRuntime) -> Result<(), Fail> {
         (&[RAN, OFF, RAN], Verdict::Differs(2)),
     ];
     for (log, verdict) in logs {
-        let found = verify::<Scan, PlainConsole>(alloc, &file, conf, log)?;
+        let found = verify::<Tlb, Console>(alloc, &file, conf, log)?;
         same(&rt, (log, found), (log, verdict));
     }
     Ok(())

@@ -6,15 +6,13 @@ ghost use Rattle.std.specs.Prelude.{◌≡◌, length};
 use super::listing::Left::{Count, Entries, Memory, Output};
 use super::listing::{Left, check_log, compare, make};
 use super::same;
-use m161_console::PlainConsole;
+use m161::{Console, Machine, Tlb};
 use m161_machine::Event::{Done, Key, Step};
 use m161_machine::{Conf, Entry, Event, Outcome, Refusal, Start};
-use m161_test_support::Machine;
 use m161_test_support::files::file_at;
 use m161_test_support::kernel::kernel_file;
 use m161_test_support::outcomes::{Answer, ENTRY, IDLE, RAN, TAKEN, Times};
 use m161_threads::{Cause, Gate, Report, RunFault, Seat, run};
-use m161_tlb_scan::Scan;
 use std::alloc::Global;
 use std::marker::Brand;
 use std::process::Abort;
@@ -26,7 +24,7 @@ use std::thread;
 use std::thread::Threads;
 use std::time::{Clock, Duration};
 
-pub(crate) type Locked<L, M> = m161_threads::Locked<L, M, Scan, PlainConsole>;
+pub(crate) type Locked<L, M> = m161_threads::Locked<L, M, Tlb, Console>;
 
 /// `beq $0, $0, 0x80000200`, and `nop` in its slot.
 pub(crate) const LOOP: [u32; 2] = [0x1000_ffff, 0x0000_0000];

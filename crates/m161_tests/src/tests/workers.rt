@@ -7,7 +7,7 @@ use super::listing::Left::{Count, Entries};
 use super::listing::{check_log, compare};
 use super::same;
 use super::threads::{LOOP, Locked, boot, run_on};
-use m161_test_support::Machine;
+use m161::Machine;
 use m161_threads::{Cause, Gate};
 use std::marker::Brand;
 use std::process::Abort;

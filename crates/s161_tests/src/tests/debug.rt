@@ -2,7 +2,7 @@
 //! hand from the machine's rules.
 
 use super::same;
-use m161_console::PlainConsole;
+use m161::{Console, Machine, Tlb};
 use m161_debug::{BreakError, CommandError, Stop};
 use m161_elf::is_in_ram;
 use m161_isa::Reg;
@@ -10,14 +10,12 @@ use m161_machine::Event::{Done, Key, Step};
 use m161_machine::{Conf, Event, Refusal};
 use m161_test_support::files::file_from;
 use m161_test_support::outcomes::{Answer, ENTRY, RAN, TAKEN};
-use m161_tlb_scan::Scan;
-use s161_work::Machine;
 use s161_work::sample::sample_image;
 use std::alloc::Global;
 use std::process::Abort;
 use std::test::Fail;
 
-type Session = m161_debug::Session<Scan, PlainConsole>;
+type Session = m161_debug::Session<Tlb, Console>;
 
 /// A display of processor 0, or of an address and a number of words.
 enum Display {

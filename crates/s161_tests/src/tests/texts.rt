@@ -2,12 +2,12 @@
 
 use super::same;
 use super::streams::{NoFiles, OneFile};
+use m161::Machine;
 use m161_machine::Conf;
 use m161_steplog::read_schedule;
 use m161_test_support::files::file_from;
 use m161_test_support::kernel::KERNEL;
 use m161_test_support::outcomes::ENTRY;
-use s161_work::Machine;
 use s161_work::demo::IMAGE;
 use s161_work::disassembly::disassembly;
 use s161_work::events::{Stop, make_events};
