@@ -1,14 +1,16 @@
-use Rattle.std.proofs.Common.{◌≡◌, ◌∙◌, refl, ap, sym, subst, append-nil, ℕ, zero, suc, ◌+◌, ◌<◌, Bool, true, false, List, [], ◌∷◌, ◌++◌, length, get_or, drop, arith}
+use Rattle.std.proofs.Common.{◌≡◌, ◌∙◌, refl, ap, sym, subst, append-nil, ℕ, zero, suc, ◌+◌, ◌<◌, Bool, true, false, List, [], ◌∷◌, ◌++◌, length, get_or, drop, None, arith}
 use Rattle.std.specs.Prelude.{sum}
 use Rattle.std.specs.List.{list_all}
-use Rattle.std.proofs.lemmas.List.{length-append, length-map, take-append-drop}
+use Rattle.std.proofs.lemmas.List.{length-map, take-append-drop}
 use Rattle.m161_cpu.specs.Processor.{Processor}
 use Rattle.m161_machine.specs.declared.event.Entry.{Entry}
 use Rattle.m161_machine.specs.State.{counts}
-use Rattle.m161_machine.specs.History.{History, Continues, IsReplay, events_of, steps_of}
+use Rattle.m161_machine.specs.History.{History, Continues, IsReplay, Start, events_of, steps_of}
 use Rattle.m161_machine.proofs.Resuming.{resumes}
-use Rattle.m161_threads.specs.Runs.{Interleaves, MakesSteps, is_step_below}
-use Rattle.m161_threads.specs.helpers.Runs.{IsChecked, IsLater}
+use Rattle.m161_threads.specs.declared.cause.Cause.{Cause}
+use Rattle.m161_threads.specs.declared.cause.Cause.TheVariants.{Swapped}
+use Rattle.m161_threads.specs.Runs.{FailsRun, Interleaves, IsOfRun, MakesSteps, is_step_below}
+use Rattle.m161_threads.specs.helpers.Runs.{FailsLater, IsChecked, IsLater}
 use Rattle.m161_threads.specs.Shares.{SeatState, new_seat, seats_from}
 use Rattle.m161_threads.specs.helpers.Work.{HasWorked}
 use Rattle.m161_machine.proofs.Counted.{count_through, counts_run, counts_through, length_through}
@@ -72,6 +74,26 @@ makes_none before = record {
     start_is = refl;
   };
 }
+
+-- a run that fails before any Step
+pub fails_at_once : (before : History) (cause : Cause) → IsReplay before → IsOfRun cause → FailsRun None before cause before
+fails_at_once before cause replays of_run = (of_run, replays, λ _. makes_none before)
+
+-- a machine that can't be the one of the copy was swapped
+pub is_swapped : (start : Start) (log : List Entry) (after : History) → IsReplay after → FailsLater start log Swapped after
+is_swapped start log after replays = ((λ h. absurd (cc), λ h. absurd (cc)), replays, λ other. absurd (other refl))
+
+-- a run that fails later
+pub fails_run : (before after : History) (start : Start) (log : List Entry) (cause : Cause) → IsReplay before →
+    start ≡ before.start → log ≡ before.log → FailsLater start log cause after → FailsRun None before cause after
+fails_run before after start log cause replays start_is log_is fails = (
+  fails.0,
+  fails.1,
+  λ same.
+      let later = fails.2 same in
+      makes_steps before after later.0 replays fails.1
+      (subst (λ l. IsLater before.start l later.0 after) log_is (subst (λ s. IsLater s log later.0 after) start_is later.1)),
+)
 
 pub interleaves : (before after : History) (quotas : List ℕ) (seats : List SeatState) (made : List ℕ) (off : Bool) →
     IsReplay before → length quotas ≡ length before.state.processors →

@@ -1,12 +1,9 @@
 //! A run in threads.
 
-ghost use Rattle.std.specs.Prelude.{◌≡◌, ◌≢◌, ◌+◌, ◌<◌, ◌≤◌, ℕ, All, IfErr, IfOk, MatchResult, None, length, map, slice_index_or, sum, take, true, vec_len};
+ghost use Rattle.std.specs.Prelude.{◌≡◌, ◌≤◌, IfErr, IfOk, MatchResult, None, length, vec_len};
 ghost use Rattle.m161_machine.specs.History.{IsReplay};
-ghost use Rattle.m161_machine.specs.State.{counts};
 ghost use Rattle.m161_threads.specs.Runs.{FailsRun, Interleaves, IsOfRun, bad_call};
-ghost use Rattle.m161_threads.specs.declared.cause.Cause.TheVariants as causes;
-ghost use Rattle.m161_threads.specs.helpers.Runs.{IsChecked, IsLater};
-ghost use Rattle.m161_threads.specs.Shares.{SeatState, seats_from};
+ghost use Rattle.m161_threads.specs.helpers.Runs.{FailsLater, IsChecked};
 ghost use Rattle.m161_threads.specs.helpers.Work.{HasWorked};
 
 use crate::before::Before;
@@ -168,11 +165,9 @@ fn checked_fault<T: Tlb, D: Console>(
     cause: Cause,
 ) -> RunFault<T, D>
     requires { IsOfRun cause }
-    ensures machine { result.machine ≡ machine }
-    ensures cause { IsOfRun result.cause }
-    ensures later { result.cause ≢ causes.Swapped → (made : ℕ)
-        × IsLater before.now.start before.now.log.items made machine }
+    ensures { FailsLater before.now.start before.now.log.items result.cause result.machine }
 {
+    machine.replay();
     let cause = match before.steps_to(&machine) {
         Some(_) => cause,
         None => Cause::Swapped,
@@ -217,9 +212,8 @@ fn checked_report<L: Ledger, M: Ledger, T: Tlb, D: Console>(
     ensures ok { IfOk result (λ r. IsChecked before.now.start before.now.log.items
         tally.seats.items tally.counts.items r.off r.machine) }
     ensures counts { IfOk result (λ r. r.counts.items ≡ tally.counts.items) }
-    ensures err { IfErr result (λ f. IsOfRun f.cause × IsReplay f.machine
-        × (f.cause ≢ causes.Swapped → (made : ℕ)
-            × IsLater before.now.start before.now.log.items made f.machine)) }
+    ensures err { IfErr result (λ f.
+        FailsLater before.now.start before.now.log.items f.cause f.machine) }
 {
     let Tally { seats, counts } = tally;
     let machine = match locked.finish(seats) {

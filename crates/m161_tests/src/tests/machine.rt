@@ -6,9 +6,9 @@ use m161::Machine;
 use m161_elf::LoadError;
 use m161_isa::Reg;
 use m161_machine::{BootError, Conf, Entry, Event, Outcome, ProcessorState, Refusal, Register};
+use m161_test_support::DEMO_CONF as CONF;
 use m161_test_support::files::{IMAGE, file_at};
 use m161_test_support::outcomes::{ENTRY, RAN};
-use m161_test_support::DEMO_CONF as CONF;
 use std::alloc::Global;
 use std::process::Abort;
 use std::test::Fail;
@@ -64,11 +64,7 @@ fn library_lines(rt: HostRuntime) -> Result<(), Fail> {
         processors: 2,
         log: 65_536,
     };
-    let mut machine: Machine = Machine::boot(
-        rt.alloc(),
-        &file,
-        conf,
-    )?;
+    let mut machine: Machine = Machine::boot(rt.alloc(), &file, conf)?;
     let (made, refusal) = machine.steps(0, 1000);
     same(&rt, (made, refusal), (1000, None));
     let outcome = machine.event(Event::Key(b'x'))?;

@@ -3,12 +3,10 @@
 use super::same;
 use m161::{Console, Tlb};
 use m161_machine::{Conf, Entry, Event, Outcome};
-use m161_steplog::{
-    Byte, Fault, Verdict, Word, cut_at_space, entry_line, next_line, parse_byte, parse_decimal,
-    parse_word, read_log, read_schedule, verify, write_log,
-};
+use m161_steplog::{Fault, Verdict, entry_line, read_log, read_schedule, verify, write_log};
 use m161_test_support::files::file_at;
 use m161_test_support::outcomes::ENTRY;
+use m161_text::{Byte, Word, cut_at_space, next_line, parse_byte, parse_decimal, parse_word};
 use std::alloc::Global;
 use std::test::Fail;
 

@@ -11,47 +11,58 @@ use m161::Machine;
 use m161_threads::{Cause, Gate};
 use std::marker::Brand;
 use std::process::Abort;
-use std::sync::Wait;
-use std::sync::atomic::{AtomicBool, AtomicU32, Ordering};
 use std::sync::ledger::{Blank, Ledger};
+use std::sync::{Mutex, Wait};
 use std::test::Fail;
 use std::thread;
 use std::time::{Clock, Duration};
 
-/// A gate that counts the calls of two processors, and notes one that is out of order. At some
-/// Steps a processor waits until the other one has come as far.
-#[derive(Drop)]
-struct Calls<'a, R: Clock> {
-    clock: &'a R,
-    first: AtomicU32,
-    second: AtomicU32,
-    in_order: AtomicBool,
-}
-
 /// How many Steps each processor makes.
 const QUOTA: u32 = 100;
 
-impl<R: Clock> Gate for Calls<'_, R> {
+/// A gate that lists its calls: a processor, and its Step. Before some Steps a processor waits until
+/// the other one has come as far.
+#[derive(Drop)]
+struct Listing<'a, R: Clock + Wait> {
+    rt: &'a R,
+    calls: Mutex<Vec<(u32, u32)>>,
+}
+
+impl<R: Clock + Wait> Listing<'_, R> {
+    /// Whether a call is in the list.
+    fn has(&self, call: (u32, u32)) -> bool {
+        self.calls.lock(self.rt).contains(&call)
+    }
+}
+
+impl<R: Clock + Wait> Gate for Listing<'_, R> {
     fn pass(&self, p: u32, k: u32) -> bool {
-        let (mine, other) = if p == 0 {
-            (&self.first, &self.second)
-        } else {
-            (&self.second, &self.first)
-        };
-        if mine.fetch_add(1, Ordering::SeqCst) != k {
-            self.in_order.store(false, Ordering::SeqCst);
-        }
-        if k % 9 > 1 {
-            return true;
+        if self.calls.lock(self.rt).push((p, k)).is_err() {
+            return false;
         }
         for _ in 0..10_000 {
-            if other.load(Ordering::SeqCst) > k {
+            if k % 9 > 1 || self.has((p ^ 1, k)) {
                 return true;
             }
-            thread::sleep(self.clock, Duration::from_millis(1));
+            thread::sleep(self.rt, Duration::from_millis(1));
         }
         false
     }
+}
+
+/// Fails the test where the calls of each of two processors aren't those for its Steps, in order.
+fn check_calls(rt: &impl Abort, calls: &[(u32, u32)]) {
+    for p in 0..2 {
+        same(
+            rt,
+            calls.iter().filter(|call| call.0 == p).count(),
+            QUOTA as usize,
+        );
+        for (call, k) in calls.iter().filter(|call| call.0 == p).zip(0..QUOTA) {
+            same(rt, *call, (p, k));
+        }
+    }
+    same(rt, calls.len(), 2 * QUOTA as usize);
 }
 
 // Both processors meet before the Steps 0, 1, 9, 10 and so on up to 99, the last one. Who calls the
@@ -60,17 +71,13 @@ impl<R: Clock> Gate for Calls<'_, R> {
 fn gate_calls(rt: HostRuntime) -> Result<(), Fail> {
     let name = "the calls of the gate";
     let (file, machine) = boot(rt.alloc(), &LOOP, 2, 2 * QUOTA)?;
-    let gate = Calls {
-        clock: &rt,
-        first: AtomicU32::new(0),
-        second: AtomicU32::new(0),
-        in_order: AtomicBool::new(true),
+    let gate = Listing {
+        rt: &rt,
+        calls: Mutex::new(Vec::new(rt.alloc())),
     };
     let (machine, cause) = run_on(&rt, name, machine, &[QUOTA, QUOTA], &gate);
     same(&rt, cause, None);
-    same(&rt, gate.first.load(Ordering::SeqCst), QUOTA);
-    same(&rt, gate.second.load(Ordering::SeqCst), QUOTA);
-    same(&rt, gate.in_order.load(Ordering::SeqCst), true);
+    check_calls(&rt, gate.calls.into_inner().as_slice());
     let left = [(0, Count(100)), (1, Count(100)), (0, Entries(200))];
     compare(&rt, name, &machine, &left);
     check_log(&rt, name, &file, &machine)

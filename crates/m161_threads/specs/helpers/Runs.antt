@@ -1,8 +1,10 @@
-use Rattle.std.specs.Prelude.{◌≡◌, ℕ, ◌+◌, Bool, true, List, length, sum, take, drop, All}
+use Rattle.std.specs.Prelude.{◌≡◌, ◌≢◌, ℕ, ◌+◌, Bool, true, List, length, sum, take, drop, All}
 use Rattle.std.specs.List.{list_all}
 use Rattle.m161_machine.specs.declared.event.Entry.{Entry}
 use Rattle.m161_machine.specs.History.{History, Start, IsReplay, events_of}
-use Rattle.m161_threads.specs.Runs.{is_step_below}
+use Rattle.m161_threads.specs.declared.cause.Cause.{Cause}
+use Rattle.m161_threads.specs.declared.cause.Cause.TheVariants.{Swapped}
+use Rattle.m161_threads.specs.Runs.{IsOfRun, is_step_below}
 use Rattle.m161_threads.specs.Shares.{HasCount, NotedOnlyOff, SeatState}
 
 -- the comparison of a machine with the copy of another: it may be that one after this many Steps
@@ -14,6 +16,12 @@ pub record IsLater
   pub steps :
       list_all (is_step_below (length after.state.processors))
       (events_of (drop (length log) after.log)) ≡ true
+
+-- how a run that began fails, by the comparison with the copy made before it
+abbrev pub FailsLater : Start → List Entry → Cause → History → Type 0
+FailsLater start log cause after =
+    IsOfRun cause × IsReplay after
+    × (cause ≢ Swapped → (made : ℕ) × IsLater start log made after)
 
 -- the comparison after a run with the copy made before it
 pub record IsChecked

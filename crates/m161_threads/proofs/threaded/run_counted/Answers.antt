@@ -1,19 +1,46 @@
-use Rattle.std.proofs.Common.{◌∙◌, ap, sym, subst, ℕ, List, length}
+use Rattle.std.proofs.Common.{◌∙◌, ap, sym, subst, ℕ, List, None, length}
 use Rattle.std.proofs.lemmas.List.{length-map}
+use Rattle.std.proofs.lemmas.Result.{err_from_is_err_and}
 use Rattle.m161_cpu.specs.Processor.{Processor}
 use Rattle.m161_machine.specs.declared.event.Entry.{Entry}
 use Rattle.m161_machine.specs.State.{counts}
-use Rattle.m161_machine.specs.History.{IsReplay, Start}
-use Rattle.m161_threads.specs.Runs.{Interleaves}
+use Rattle.m161_machine.specs.History.{Start}
+use Rattle.m161_threads.specs.declared.cause.Cause.TheVariants.{NoMemory}
+use Rattle.m161_threads.specs.Runs.{FailsRun, Interleaves, IsOfRun}
 use Rattle.m161_threads.specs.helpers.Runs.{IsChecked}
 use Rattle.m161_threads.specs.Shares.{SeatState}
 use Rattle.m161_threads.specs.helpers.Work.{HasWorked}
-use Rattle.m161_threads.proofs.Outcomes.{interleaves, length_places}
+use Rattle.m161_threads.proofs.Outcomes.{fails_at_once, fails_run, interleaves, length_places}
 use Rattle.m161_threads.proofs.threaded.run_counted.Goals as goal
+
+-- memory is no cause of a run that doesn't begin
+memory : IsOfRun NoMemory
+memory = (λ h. absurd (cc), λ h. absurd (cc))
+
+pub returns-in-Err-clause-err : goal.returns-in-Err-clause-err
+returns-in-Err-clause-err g c = fails_at_once c.args.machine NoMemory c.replay.ensures.replay memory
 
 pub returns-in-Err-new-clause-err : goal.returns-in-Err-new-clause-err
 returns-in-Err-new-clause-err g c =
-    ((λ h. absurd (cc), λ h. absurd (cc)), subst IsReplay (sym c.in-Err-new.ensures.err) c.replay.ensures.replay)
+    subst (FailsRun None c.args.machine NoMemory) (sym c.in-Err-new.ensures.err)
+    (fails_at_once c.args.machine NoMemory c.replay.ensures.replay memory)
+
+pub returns-in_err-report-in-Ok-run_seats-clause-err : goal.returns-in_err-report-in-Ok-run_seats-clause-err
+returns-in_err-report-in-Ok-run_seats-clause-err g c =
+    let machine = c.args.machine in
+    let before = c.in-Ok.before in
+    let fault = c.in_err-report-in-Ok-run_seats in
+    let given = err_from_is_err_and c.from_residual.result c.from_residual.ensures.1 in
+    rw (given.1, given.2)
+    (fails_run machine fault.field-0.0.machine before.start before.log.items fault.field-0.0.cause c.replay.ensures.replay
+    c.in-Ok.ensures.start c.in-Ok.ensures.log fault.ensures.err)
+
+pub returns-clause-err : goal.returns-clause-err
+returns-clause-err g c =
+    let machine = c.args.machine in
+    let before = c.in-Ok.before in
+    fails_run machine c.checked_fault.result.machine before.start before.log.items c.checked_fault.result.cause
+    c.replay.ensures.replay c.in-Ok.ensures.start c.in-Ok.ensures.log c.checked_fault.ensures
 
 pub run_seats-requires-clause-seats : goal.run_seats-requires-clause-seats
 run_seats-requires-clause-seats g c κs within =
