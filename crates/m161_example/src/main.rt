@@ -27,8 +27,8 @@ enum Failure {
     Memory(#[from] AllocError),
 }
 
-// Boots the image, makes the events of the schedule, and prints what they leave.
-fn show(rt: &HostRuntime) -> Result<(), Failure> {
+// The machine of the image that the command line names.
+fn boot(rt: &HostRuntime) -> Result<Machine, Failure> {
     let mut words = env::args(rt)?.skip(1);
     let Some(name) = words.next() else {
         return Err(Failure::Usage);
@@ -39,30 +39,49 @@ fn show(rt: &HostRuntime) -> Result<(), Failure> {
         processors: 1,
         log: 100,
     };
-    let mut machine = Machine::boot(rt.alloc(), &file, conf)?;
+    Ok(Machine::boot(rt.alloc(), &file, conf)?)
+}
 
-    // five Steps write a byte, which the console sends; and so once more
+// Five Steps write a byte, which the console sends; after twenty more it sends another.
+fn make_events(machine: &mut Machine) -> Result<(), Refusal> {
     for steps in [5, 20] {
         for _ in 0..steps {
             machine.event(Event::Step(0))?;
         }
         machine.event(Event::Done)?;
     }
+    Ok(())
+}
+
+// Prints the bytes that the console has sent, and where each processor is.
+fn print(rt: &HostRuntime, machine: &Machine) -> io::Result<()> {
     for byte in machine.output() {
         print!(rt; "{}", char::from(*byte))?;
     }
     for p in 0..machine.processors() {
         println!(rt; "cpu {p} pc {:08x} steps {}", machine.pc(p), machine.count(p))?;
     }
+    Ok(())
+}
 
-    // a copy goes its own way
-    let mut copy = machine.copy(rt.alloc())?;
-    copy.event(Event::Key(b'x'))?;
+// Prints how a machine and its copy differ.
+fn compare(rt: &HostRuntime, machine: &Machine, copy: &Machine) -> io::Result<()> {
     println!(rt; "entries {} and {}", machine.log_len(), copy.log_len())?;
     for p in 0..machine.processors().min(copy.processors()) {
         let cause = machine.cop(p, Register::Cause);
         println!(rt; "cpu {p} cause {cause:08x} and {:08x}", copy.cop(p, Register::Cause))?;
     }
+    Ok(())
+}
+
+// Runs the image, and types a byte at a copy of its machine.
+fn show(rt: &HostRuntime) -> Result<(), Failure> {
+    let mut machine = boot(rt)?;
+    make_events(&mut machine)?;
+    print(rt, &machine)?;
+    let mut copy = machine.copy(rt.alloc())?;
+    copy.event(Event::Key(b'x'))?;
+    compare(rt, &machine, &copy)?;
     Ok(())
 }
 

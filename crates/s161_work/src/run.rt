@@ -28,7 +28,7 @@ pub struct Finished {
 impl Finished {
     /// A command that has nothing to tell but its text: its exit status is 0.
     pub fn done(text: Vec<u8>) -> Self
-        ensures text { result.text ≡ text.entry }
+        ensures text { result.text ≡ text }
         ensures status { result.status ≡ 0 }
     {
         Finished { text, status: 0 }
