@@ -60,7 +60,11 @@ fn print(rt: &HostRuntime, machine: &Machine) -> io::Result<()> {
     }
     println!(rt; "")?;
     for p in 0..machine.processors() {
-        println!(rt; "cpu {p} pc {:08x} steps {}", machine.pc(p), machine.count(p))?;
+        println!(rt;
+            "cpu {p} pc {:08x} steps {}",
+            machine.pc(p),
+            machine.count(p)
+        )?;
     }
     Ok(())
 }
