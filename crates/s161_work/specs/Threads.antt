@@ -43,9 +43,9 @@ abbrev pub IsCause : Option Cause → Cause → Type 0
 IsCause (Some first) cause = cause ≡ first
 IsCause None cause = IsOfRun cause
 
--- a run in threads is ended by this fault, and there was no fault before it in this order: of the
--- image's file, the configuration, the image, the threads of a machine that was booted; or memory
--- was refused
+-- what a fault that ends a run in threads says: of a file, that it is the image's; of the
+-- configuration or the image, that the boot answers it; of the threads, that the image has no fault,
+-- and when the cause comes. File and Memory hold whatever else is at fault
 abbrev pub IsThreadsFault : RunTask → Option (List ℕ) → Fault → Type 0
 IsThreadsFault task known (File name) =
     (name.now ≡ task.image.now) × IsFileName task.image.now
