@@ -21,13 +21,14 @@ one_before f log i x some inside got passes rest =
 pub loop-first-preserved : goal.loop-first-preserved
 loop-first-preserved g c =
     let log = c.args.machine.now.log in
-    let n = length c.args.machine.now.state.processors in
+    let f = is_step_below (length c.args.machine.now.state.processors) in
     let i = c.loop-first.first in
+    let x = c.log_at.result in
     let some : 0 < i = omega (arith, c.loop-first-test.true) in
+    let passes : f x.event ≡ true =
+    ap (λ k. is_step_below k x.event) (sym c.processors.ensures) ∙ sym c.is_step.ensures ∙ c.if-not-is_step.false in
     record {
       low = omega (arith, c.loop-first-test.true);
       high = omega (arith, c.loop-first.invariant.high);
-      steps = one_before (is_step_below n) log i c.log_at.result some c.loop-first.invariant.high c.log_at.ensures
-          (ap (λ k. is_step_below k c.log_at.result.event) (sym c.processors.ensures) ∙ sym c.is_step.ensures ∙ c.if-not-is_step.false)
-          c.loop-first.invariant.steps;
+      steps = one_before f log i x some c.loop-first.invariant.high c.log_at.ensures passes c.loop-first.invariant.steps;
     }
