@@ -65,11 +65,10 @@ impl<T: Tlb> Cpu<T> {
         ensures board { KeepsSize board.old board.new }
         ensures proper { IsOfStep result }
     {
-        let was_off = board.is_off();
         match self.execute_next(c, lines, ram, board, links) {
             Ok(()) => {
                 self.tick();
-                if board.is_off() && !was_off {
+                if board.is_off() {
                     Outcome::PoweredOff
                 } else {
                     Outcome::Ran
