@@ -1,0 +1,6 @@
+mod GoneOn
+mod Tracked
+mod Walked
+mod Judged
+mod Made
+mod Begun

@@ -1,0 +1,4 @@
+pub mod Watch
+pub mod Stale
+pub mod Audit
+pub mod helpers
