@@ -4,3 +4,5 @@ mod Walked
 mod Judged
 mod Made
 mod Begun
+mod WatchLines
+mod WatchTexts

@@ -19,9 +19,12 @@ mod finding;
 mod run;
 mod shootdown;
 mod stale;
+mod text;
 mod watch;
 
 pub use finding::{AuditError, Finding};
 pub use m161_machine::{BootError, Conf, Event, Events};
+pub use m161_steplog::Fault;
 pub use run::{audit, audit_events};
+pub use text::read_watches;
 pub use watch::Watch;
