@@ -1,4 +1,4 @@
-use Rattle.std.proofs.Common.{◌≡◌, ◌≢◌, ◌∙◌, refl, ap, sym, ℕ, ◌+◌, ◌*◌, ◌/◌, Bool, true, false, List, length, Option, None, Some, Result, Ok, Err}
+use Rattle.std.proofs.Common.{◌≡◌, ◌≢◌, ◌∙◌, refl, ap, sym, subst, ℕ, ◌+◌, ◌*◌, ◌/◌, Bool, true, false, List, length, Option, None, Some, Result, Ok, Err}
 use Rattle.std.specs.Prelude.{◌+ℤ◌, ◌-ℤ◌, ◌%◌, slice_index, nat_le, if◌then◌else◌, ◌&&◌}
 use Rattle.m161_isa.specs.declared.instr.Instr.{Instr}
 use Rattle.m161_isa.specs.declared.instr.Instr.TheVariants as instrs
@@ -41,7 +41,7 @@ use Rattle.m161_cpu.specs.Effect.{load_linked, own_link, store_conditional, unle
 use Rattle.m161_cpu.specs.helpers.Execute.{change_by}
 use Rattle.m161_cpu.specs.Step.{change_in, executable_word, is_unusable}
 use Rattle.m161_cpu.specs.Uses.{fetch_of, fetches, reference, reference_after, reference_by_row, reference_of_row, uses_of, via_in, via_of, via_row, via_reference}
-use Rattle.m161_cpu.specs.helpers.Uses.{address_by, no_uses, place_of_store, reference_by, reference_by_some, stored_of, uses_after, uses_by, uses_fetched, uses_of_word, width_of_load, width_of_store}
+use Rattle.m161_cpu.specs.helpers.Uses.{IsFetched, IsWord, address_by, no_uses, place_of_store, reference_by, reference_by_some, stored_of, uses_after, uses_by, uses_fetched, uses_of_word, width_of_load, width_of_store}
 use Rattle.m161_cpu.proofs.Decoded.{decoded}
 use Rattle.m161_cpu.proofs.Located.{not_located, located}
 use Rattle.m161_cpu.proofs.Awake.{step_stored}
@@ -333,12 +333,6 @@ pub via_some : (access : Access) (width address : ℕ) (p : Processor) (to : Phy
 unfolding via_of
 via_some access width address p to h = rw h refl
 
-at_pc : (s : Scene) (a : ℕ) (r : Result Physical Fault) → a ≡ s.processor.pc → translate Fetch 4 a s.processor ≡ r → translate Fetch 4 s.processor.pc s.processor ≡ r
-at_pc s a r is h = ap (λ x. translate Fetch 4 x s.processor) (sym is) ∙ h
-
-fetch_via : (s : Scene) (a : ℕ) (to : Physical) (via : Option Via) → a ≡ s.processor.pc → translate Fetch 4 a s.processor ≡ Ok to → via ≡ via_row s.processor a to.row → via ≡ via_of s.processor (fetch_of s.processor)
-fetch_via s a to via is h v = v ∙ ap (λ x. via_row s.processor x to.row) is ∙ via_some Fetch 4 s.processor.pc s.processor to (at_pc s a (Ok to) is h)
-
 pub no_word_at_pc : (memory : List ℕ) (p : Processor) (f : Fault) → physical_at Fetch 4 p.pc p ≡ Err f → executable_word memory p ≡ Err f
 no_word_at_pc memory p f h = rw h refl
 
@@ -351,31 +345,53 @@ unusable_word memory p at h in_ram is = rw (h, in_ram, is) refl
 usable_word : (memory : List ℕ) (p : Processor) (at : ℕ) → physical_at Fetch 4 p.pc p ≡ Ok at → nat_le (at + 4) (length memory) ≡ true → is_unusable p.control (word_at memory at) ≡ false → executable_word memory p ≡ Ok (word_at memory at)
 usable_word memory p at h in_ram is = rw (h, in_ram, is) refl
 
-pub elsewhere_not_located : (s : Scene) (a : ℕ) (f : Fault) → a ≡ s.processor.pc → translate Fetch 4 a s.processor ≡ Err f → ◌≡◌ {A = Uses} no_uses (uses_fetched s)
-elsewhere_not_located s a f is h =
-    let here = at_pc s a (Err f) is h in
-    not_fetched_uses s f None (via_none Fetch 4 s.processor.pc s.processor f here) (no_word_at_pc s.around.memory s.processor f (not_located Fetch 4 s.processor.pc s.processor f here))
+pub elsewhere_not_located : (memory : List ℕ) (p : Processor) (a : ℕ) (f : Fault) → a ≡ p.pc → translate Fetch 4 a p ≡ Err f → IsFetched memory p (None, None)
+elsewhere_not_located memory p a f is h =
+    let here : translate Fetch 4 p.pc p ≡ Err f = ap (λ x. translate Fetch 4 x p) (sym is) ∙ h in
+    (via_none Fetch 4 p.pc p f here, (f, no_word_at_pc memory p f (not_located Fetch 4 p.pc p f here)))
 
-pub elsewhere_outside : (s : Scene) (a : ℕ) (to : Physical) (via : Option Via) → a ≡ s.processor.pc → translate Fetch 4 a s.processor ≡ Ok to → via ≡ via_row s.processor a to.row →
-    nat_le (to.at + 4) (length s.around.memory) ≡ false → ◌≡◌ {A = Uses} (record { fetch = via; access = None; stored = None }) (uses_fetched s)
-elsewhere_outside s a to via is h v past =
-    not_fetched_uses s _ via (fetch_via s a to via is h v)
-    (outside_ram s.around.memory s.processor to.at (located Fetch 4 s.processor.pc s.processor to (at_pc s a (Ok to) is h)) past)
+at_pc : (p : Processor) (a : ℕ) (r : Result Physical Fault) → a ≡ p.pc → translate Fetch 4 a p ≡ r → translate Fetch 4 p.pc p ≡ r
+at_pc p a r is h = ap (λ x. translate Fetch 4 x p) (sym is) ∙ h
 
-pub elsewhere_unusable : (s : Scene) (a : ℕ) (to : Physical) (via : Option Via) → a ≡ s.processor.pc → translate Fetch 4 a s.processor ≡ Ok to → via ≡ via_row s.processor a to.row →
-    nat_le (to.at + 4) (length s.around.memory) ≡ true → is_unusable s.processor.control (word_at s.around.memory to.at) ≡ true → ◌≡◌ {A = Uses} (record { fetch = via; access = None; stored = None }) (uses_fetched s)
-elsewhere_unusable s a to via is h v in_ram bad =
-    not_fetched_uses s _ via (fetch_via s a to via is h v)
-    (unusable_word s.around.memory s.processor to.at (located Fetch 4 s.processor.pc s.processor to (at_pc s a (Ok to) is h)) in_ram bad)
+fetch_via : (p : Processor) (a : ℕ) (to : Physical) (via : Option Via) → a ≡ p.pc → translate Fetch 4 a p ≡ Ok to → via ≡ via_row p a to.row → via ≡ via_of p (fetch_of p)
+fetch_via p a to via is h v = v ∙ ap (λ x. via_row p x to.row) is ∙ via_some Fetch 4 p.pc p to (at_pc p a (Ok to) is h)
 
-pub elsewhere_fetched : (s : Scene) (a : ℕ) (to : Physical) (via : Option Via) → a ≡ s.processor.pc → translate Fetch 4 a s.processor ≡ Ok to → via ≡ via_row s.processor a to.row →
-    nat_le (to.at + 4) (length s.around.memory) ≡ true → is_unusable s.processor.control (word_at s.around.memory to.at) ≡ false → uses_of_word s via (word_at s.around.memory to.at) ≡ uses_fetched s
-elsewhere_fetched s a to via is h v in_ram good =
-    fetched_uses s _ via (fetch_via s a to via is h v)
-    (usable_word s.around.memory s.processor to.at (located Fetch 4 s.processor.pc s.processor to (at_pc s a (Ok to) is h)) in_ram good)
+pub elsewhere_outside : (memory : List ℕ) (p : Processor) (a : ℕ) (to : Physical) (via : Option Via) → a ≡ p.pc → translate Fetch 4 a p ≡ Ok to → via ≡ via_row p a to.row →
+    nat_le (to.at + 4) (length memory) ≡ false → IsFetched memory p (via, None)
+elsewhere_outside memory p a to via is h v past =
+    (fetch_via p a to via is h v, (bus_error Fetch, outside_ram memory p to.at (located Fetch 4 p.pc p to (at_pc p a (Ok to) is h)) past))
 
-pub direct_fetched : (s : Scene) (a at : ℕ) → a ≡ s.processor.pc → physical_at Fetch 4 a s.processor ≡ Ok at → unmapped a ≡ Some at →
-    nat_le (at + 4) (length s.around.memory) ≡ true → is_user s.processor.control ≡ false → uses_of_word s None (word_at s.around.memory at) ≡ uses_fetched s
-direct_fetched s a at is h segment in_ram kernel =
-    fetched_uses s _ None (sym (direct_via Fetch 4 s.processor.pc at s.processor (ap unmapped (sym is) ∙ segment)))
-    (usable_word s.around.memory s.processor at (ap (λ x. physical_at Fetch 4 x s.processor) (sym is) ∙ h) in_ram (in_kernel_mode s.processor.control (word_at s.around.memory at) kernel))
+pub elsewhere_unusable : (memory : List ℕ) (p : Processor) (a : ℕ) (to : Physical) (via : Option Via) → a ≡ p.pc → translate Fetch 4 a p ≡ Ok to → via ≡ via_row p a to.row →
+    nat_le (to.at + 4) (length memory) ≡ true → is_unusable p.control (word_at memory to.at) ≡ true → IsFetched memory p (via, None)
+elsewhere_unusable memory p a to via is h v in_ram bad =
+    (fetch_via p a to via is h v, (fault kind.Coprocessor0Unusable, unusable_word memory p to.at (located Fetch 4 p.pc p to (at_pc p a (Ok to) is h)) in_ram bad))
+
+pub elsewhere_fetched : (memory : List ℕ) (p : Processor) (a word : ℕ) (to : Physical) (via : Option Via) → a ≡ p.pc → translate Fetch 4 a p ≡ Ok to → via ≡ via_row p a to.row →
+    nat_le (to.at + 4) (length memory) ≡ true → word ≡ word_at memory to.at → is_unusable p.control word ≡ false → IsFetched memory p (via, Some word)
+elsewhere_fetched memory p a word to via is h v in_ram w good = (
+  fetch_via p a to via is h v,
+  usable_word memory p to.at (located Fetch 4 p.pc p to (at_pc p a (Ok to) is h)) in_ram (ap (is_unusable p.control) (sym w) ∙ good) ∙ ap (λ x. Ok x) (sym w),
+)
+
+pub direct_fetched : (memory : List ℕ) (p : Processor) (a at word : ℕ) → a ≡ p.pc → physical_at Fetch 4 a p ≡ Ok at → unmapped a ≡ Some at →
+    nat_le (at + 4) (length memory) ≡ true → is_user p.control ≡ false → word ≡ word_at memory at → IsFetched memory p (None, Some word)
+direct_fetched memory p a at word is h segment in_ram kernel w = (
+  sym (direct_via Fetch 4 p.pc at p (ap unmapped (sym is) ∙ segment)),
+  usable_word memory p at (ap (λ x. physical_at Fetch 4 x p) (sym is) ∙ h) in_ram (in_kernel_mode p.control (word_at memory at) kernel) ∙ ap (λ x. Ok x) (sym w),
+)
+
+-- what a Step uses, by its fetch
+
+pub fetched_by : (s : Scene) (x : Option Via × Option ℕ) (word : ℕ) (u : Uses) → fetches s ≡ true → IsFetched s.around.memory s.processor x → x.1 ≡ Some word → u ≡ uses_of_word s x.0 word → u ≡ uses_of s
+fetched_by s x word u h f w is =
+    let here : executable_word s.around.memory s.processor ≡ Ok word = subst (IsWord (executable_word s.around.memory s.processor)) w f.1 in
+    is ∙ fetched_uses s word x.0 f.0 here ∙ sym (uses_if s true h)
+
+pub not_fetched_by : (s : Scene) (x : Option Via × Option ℕ) → fetches s ≡ true → IsFetched s.around.memory s.processor x → x.1 ≡ None →
+    ◌≡◌ {A = Uses} (record { fetch = x.0; access = None; stored = None }) (uses_of s)
+not_fetched_by s x h f w =
+    let here : (g : Fault) × (executable_word s.around.memory s.processor ≡ Err g) = subst (IsWord (executable_word s.around.memory s.processor)) w f.1 in
+    not_fetched_uses s here.0 x.0 f.0 here.1 ∙ sym (uses_if s true h)
+
+pub not_fetching : (s : Scene) → fetches s ≡ false → ◌≡◌ {A = Uses} no_uses (uses_of s)
+not_fetching s h = sym (uses_if s false h)

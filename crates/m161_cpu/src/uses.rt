@@ -9,7 +9,7 @@ ghost use Rattle.m161_cpu.specs.Scene.{Around, scene, scene_of};
 ghost use Rattle.m161_cpu.specs.Translation.{physical_at};
 ghost use Rattle.m161_cpu.specs.Uses.{fetches, reference, uses_of, via_of, via_row};
 ghost use Rattle.m161_cpu.specs.helpers.Translation.{IsWidth};
-ghost use Rattle.m161_cpu.specs.helpers.Uses.{address_by, place_of_store, uses_by, uses_fetched, uses_of_word, width_of_load, width_of_store};
+ghost use Rattle.m161_cpu.specs.helpers.Uses.{IsFetched, address_by, place_of_store, uses_by, uses_of_word, width_of_load, width_of_store};
 
 use crate::fault::Access;
 use crate::links::Links;
@@ -120,9 +120,10 @@ impl<T: Tlb> Cpu<T> {
         if !self.fetches(board.lines(c)) {
             return NOTHING;
         }
-        match self.direct(4, self.pc(), ram.size()) {
-            Some(at) => self.uses_of_word(None, ram.word(at), c, ram, links),
-            None => self.uses_elsewhere(c, ram, links),
+        let (fetch, word) = self.fetched(ram);
+        match word {
+            Some(word) => self.uses_of_word(fetch, word, c, ram, links),
+            None => Uses { fetch, ..NOTHING },
         }
     }
 
@@ -141,27 +142,36 @@ impl<T: Tlb> Cpu<T> {
         }
     }
 
-    // What a Step uses whose fetch isn't by kseg0 in kernel mode.
+    // The row of its fetch, and the word, if it may be executed.
+    #[inline(always)]
+    fn fetched(&self, ram: &Ram) -> (Option<Via>, Option<u32>)
+        requires ram { length ram.now ≤ 2 ^ 29 }
+        ensures { IsFetched ram.now self.now result }
+    {
+        match self.direct(4, self.pc(), ram.size()) {
+            Some(at) => (None, Some(ram.word(at))),
+            None => self.fetched_elsewhere(ram),
+        }
+    }
+
+    // The same of a fetch that isn't by kseg0 in kernel mode.
     #[cold]
     #[inline(never)]
-    fn uses_elsewhere(&self, c: u32, ram: &Ram, links: &Links) -> Uses
-        requires processor { c < 32 }
-        requires ram { length ram.now ≤ 2 ^ 29 }
-        ensures { (b : BoardState)
-            → result ≡ uses_fetched (scene_of self.now c ram.now b links.now) }
+    fn fetched_elsewhere(&self, ram: &Ram) -> (Option<Via>, Option<u32>)
+        ensures { IsFetched ram.now self.now result }
     {
         let Ok(to) = self.locate(Access::Fetch, 4, self.pc()) else {
-            return NOTHING;
+            return (None, None);
         };
         let fetch = self.via_row(to.row, self.pc());
         if u64::from(to.at) + 4 > u64::from(ram.size()) {
-            return Uses { fetch, ..NOTHING };
+            return (fetch, None);
         }
         let word = ram.word(to.at);
         if self.is_unusable(word) {
-            return Uses { fetch, ..NOTHING };
+            return (fetch, None);
         }
-        self.uses_of_word(fetch, word, c, ram, links)
+        (fetch, Some(word))
     }
 
     // What the instruction of a word uses.

@@ -1,4 +1,4 @@
-use Rattle.std.specs.Prelude.{ℕ, ◌+◌, ◌*◌, ◌/◌, ◌%◌, ◌^◌, Bool, nat_le, ◌&&◌, if◌then◌else◌, slice_index, Option, None, Some, Result, Ok, Err}
+use Rattle.std.specs.Prelude.{◌≡◌, ℕ, ◌+◌, ◌*◌, ◌/◌, ◌%◌, ◌^◌, Bool, nat_le, ◌&&◌, if◌then◌else◌, List, slice_index, Option, None, Some, Result, Ok, Err}
 use Rattle.m161_isa.specs.declared.table.Row.{Row}
 use Rattle.m161_isa.specs.declared.instr.Instr.{Instr}
 use Rattle.m161_isa.specs.declared.instr.LoadOp.{LoadOp}
@@ -42,6 +42,16 @@ unfoldable pub uses_fetched : Scene → Uses
 uses_fetched s =
     uses_after s (via_of s.processor (fetch_of s.processor))
     (executable_word s.around.memory s.processor)
+
+-- a word that may be executed, or not
+abbrev pub IsWord : Result ℕ Fault → Option ℕ → Type 0
+IsWord r (Some word) = r ≡ Ok word
+IsWord r None = (f : Fault) × (r ≡ Err f)
+
+-- the row of the fetch, and the word that it gives
+abbrev pub IsFetched : List ℕ → Processor → Option Via × Option ℕ → Type 0
+IsFetched memory p x =
+    (x.0 ≡ via_of p (fetch_of p)) × IsWord (executable_word memory p) x.1
 
 -- by the instruction
 abbrev pub reference_by_some : Processor → Instr → Option Row → Option Reference
