@@ -1,12 +1,12 @@
 //! A program of one's own over the machine: it boots a kernel that prints two bytes, lets the
-//! console send them, and types a byte at a copy of the machine.
+//! console send them, types a byte at a copy of the machine, and lets the copy go on.
 //!
 //! ```text
 //! m161_example IMAGE    prints the console's output, and where the machine and its copy differ
 //! ```
 #![tactic(auto)]
 
-use m161::{BootError, Conf, Event, Machine, Refusal, Register};
+use m161::{BootError, Conf, Event, Machine, Refusal};
 use std::alloc::AllocError;
 use std::process::ExitCode;
 use std::{env, fs, io};
@@ -58,8 +58,13 @@ fn print(rt: &HostRuntime, machine: &Machine) -> io::Result<()> {
     for byte in machine.output() {
         print!(rt; "{}", char::from(*byte))?;
     }
+    println!(rt; "")?;
     for p in 0..machine.processors() {
-        println!(rt; "cpu {p} pc {:08x} steps {}", machine.pc(p), machine.count(p))?;
+        println!(rt;
+            "cpu {p} pc {:08x} steps {}",
+            machine.pc(p),
+            machine.count(p)
+        )?;
     }
     Ok(())
 }
@@ -68,19 +73,19 @@ fn print(rt: &HostRuntime, machine: &Machine) -> io::Result<()> {
 fn compare(rt: &HostRuntime, machine: &Machine, copy: &Machine) -> io::Result<()> {
     println!(rt; "entries {} and {}", machine.log_len(), copy.log_len())?;
     for p in 0..machine.processors().min(copy.processors()) {
-        let cause = machine.cop(p, Register::Cause);
-        println!(rt; "cpu {p} cause {cause:08x} and {:08x}", copy.cop(p, Register::Cause))?;
+        println!(rt; "cpu {p} pc {:08x} and {:08x}", machine.pc(p), copy.pc(p))?;
     }
     Ok(())
 }
 
-// Runs the image, and types a byte at a copy of its machine.
+// Runs the image, types a byte at a copy of its machine, and lets the copy go on.
 fn show(rt: &HostRuntime) -> Result<(), Failure> {
     let mut machine = boot(rt)?;
     make_events(&mut machine)?;
     print(rt, &machine)?;
     let mut copy = machine.copy(rt.alloc())?;
     copy.event(Event::Key(b'x'))?;
+    copy.event(Event::Step(0))?;
     compare(rt, &machine, &copy)?;
     Ok(())
 }

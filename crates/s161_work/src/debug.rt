@@ -5,13 +5,13 @@ ghost use Rattle.m161_text.specs.Lines.{lines_of};
 ghost use Rattle.s161_work.specs.Debugs.{DoesLine, DoesLines, IsDebug, IsDebugFault};
 ghost use Rattle.s161_work.specs.Samples.{image_file};
 
+use crate::Session;
 use crate::fault::Fault;
 use crate::files::FileSource;
 use crate::input::{read_input, read_text};
 use crate::run::Finished;
 use crate::sample::read_image;
 use crate::texts::events_of;
-use crate::Session;
 use m161::Machine;
 use m161_machine::{Conf, Event};
 use m161_text::next_line;

@@ -3,8 +3,8 @@
 ghost use Rattle.std.specs.Prelude.{◌≡◌, IfErr, IfOk, string_bytes};
 ghost use Rattle.s161_work.specs.Demos.{IsDemo};
 
-use crate::fault::Fault;
 use crate::Session;
+use crate::fault::Fault;
 use m161::Machine;
 use m161_machine::Conf;
 use std::alloc::Global;

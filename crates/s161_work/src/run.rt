@@ -4,6 +4,7 @@ ghost use Rattle.std.specs.Prelude.{◌≡◌, IfErr, IfOk};
 ghost use Rattle.s161_work.specs.Runs.{IsFaultOf, IsRun, status_of};
 ghost use Rattle.s161_work.specs.Samples.{image_file};
 
+use crate::Session;
 use crate::events::{Stop, make_events};
 use crate::fault::Fault;
 use crate::files::FileSource;
@@ -11,7 +12,6 @@ use crate::input::read_input;
 use crate::sample::read_image;
 use crate::summary::summary;
 use crate::texts::events_of;
-use crate::Session;
 use m161::Machine;
 use m161_machine::Conf;
 use s161_command::RunTask;

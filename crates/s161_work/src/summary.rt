@@ -4,8 +4,8 @@ ghost use Rattle.std.specs.Prelude.{◌≡◌, ◌++◌, ◌<◌, length, IfOk, 
 ghost use Rattle.m161_steplog.specs.Log.{log_text};
 ghost use Rattle.s161_work.specs.Runs.{output_text, started_text, summary_text};
 
-use crate::events::Stop;
 use crate::Session;
+use crate::events::Stop;
 use m161::Machine;
 use m161_machine::ProcessorState;
 use m161_steplog::write_log;

@@ -5,13 +5,13 @@ ghost use Rattle.s161_work.specs.Runs.{status_of, summary_text};
 ghost use Rattle.s161_work.specs.Samples.{image_file};
 ghost use Rattle.s161_work.specs.Threads.{IsRunInThreads, IsThreadsFault, stop_of};
 
+use crate::Session;
 use crate::events::Stop;
 use crate::fault::Fault;
 use crate::files::FileSource;
 use crate::run::{Finished, status};
 use crate::sample::read_image;
 use crate::summary::summary;
-use crate::Session;
 use m161::{Console, Machine, Tlb};
 use m161_machine::Conf;
 use m161_threads::{Gate, Report, run};

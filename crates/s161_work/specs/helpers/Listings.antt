@@ -1,9 +1,7 @@
-use Rattle.std.specs.Prelude.{◌≡◌, ℕ, ◌-◌, true, List, Option, Some}
+use Rattle.std.specs.Prelude.{◌≡◌, ℕ, true, List, Option, Some}
 use Rattle.std.specs.List.{AllByRecursion}
 use Rattle.m161_elf.specs.declared.span.Span.{Span}
-use Rattle.m161_elf.specs.declared.image.LoadError.TheVariants as fault
 use Rattle.m161_elf.specs.Image.{first_fault, is_in_ram}
-use Rattle.m161_elf.specs.Span.{spans}
 use Rattle.s161_work.specs.declared.fault.Fault.{Fault}
 use Rattle.s161_work.specs.declared.fault.Fault.TheVariants.{File, Image, Memory}
 use Rattle.s161_work.specs.Known.{OfKnown}

@@ -1,4 +1,4 @@
-use Rattle.std.proofs.Common.{◌≡◌, ◌∙◌, List, ℕ, [], Option, IfSome, rules, subst, sym}
+use Rattle.std.proofs.Common.{◌≡◌, ◌∙◌, List, ℕ, [], Option, IfSome, ap, rules, subst, sym}
 use Rattle.std.proofs.lemmas.Result.{err_from_is_err_and}
 use Rattle.m161_machine.specs.declared.event.Event.{Event}
 use Rattle.m161_text.specs.Lines.{lines_of}
@@ -23,7 +23,7 @@ returns-clause-printed g c =
     let R : List ℕ → Type 0 = λ schedule. IfSome (g.F.FileSource.known c.read_image.new.files c.args.task.text.now) (λ bytes. schedule ≡ bytes) in
     let S : List Event → Type 0 = λ events. IsSchedule (lines_of c.as_str.result.now) events in
     let T : List ℕ → Type 0 = λ commands. IfSome input (λ bytes. commands ≡ bytes) in
-    let printed = c.in_ok-from_slice.field-0.items in
+    let printed = c.done.result.text.items in
     let U : List ℕ → Type 0 = λ text. DoesLines (lines_of c.as_str-2.result.now) c.new-session.result c.deref-2.result.now [] text in
     let V : SessionState → Type 0 = λ s. DoesLines (lines_of c.as_str-2.result.now) s c.deref-2.result.now [] printed in
     record {
@@ -39,7 +39,7 @@ returns-clause-printed g c =
       commands = c.as_str-2.result.now;
       is_input = subst T (sym c.as_str-2.ensures.value) c.in_ok-commands.ensures.whole;
       is_text_of_commands = subst IsText (sym c.as_str-2.ensures.value) c.in_ok-commands.commands.ok;
-      does = subst V c.new-session.ensures (subst U (search rules) c.in_ok-text.ensures);
+      does = subst V c.new-session.ensures (subst U (sym (ap (λ v. v.items) (c.done.ensures.text ∙ c.into_bytes.ensures.value))) c.in_ok-text.ensures);
     }
 
 pub returns-in_err-events-clause-fault : goal.returns-in_err-events-clause-fault

@@ -1,6 +1,5 @@
 use Rattle.std.proofs.Common.{refl}
 use Rattle.m161_asm.specs.Tokens.{tokens_from, lexeme, beginning, number_of_literal, numeral, number_from, register_named, register_numbers, register_names}
-use Rattle.m161_text.specs.Lines.{lines_of}
 use Rattle.m161_asm.specs.Lines.{statement, directive_statement, row_named, operand_parts, part, values}
 use Rattle.m161_asm.specs.Text.{text, read_lines, line_of, line_in_place, is_filled, address_below, label_address, symbols_in, program_of, segments_of, words_of_statement, word_of_value, field_of, word_address, number_by, entry_of}
 use Rattle.s161_work.proofs.Sampled.{sample, told}
