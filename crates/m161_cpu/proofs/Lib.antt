@@ -1,6 +1,9 @@
 mod Decoded
 mod Linked
-mod Mapped
+mod Located
 mod Slots
 pub mod Fetched
 pub mod Laws
+pub mod Awake
+mod Used
+mod Told

@@ -5,4 +5,6 @@ pub mod Fault
 pub mod Translation
 pub mod Effect
 pub mod Step
+pub mod Uses
+pub mod UsesLaw
 pub mod helpers

@@ -9,6 +9,7 @@ use Rattle.m161_bus.specs.Board.{BoardState, board_read}
 use Rattle.m161_cpu.specs.declared.fault.Access.{Access}
 use Rattle.m161_cpu.specs.declared.fault.Access.TheVariants.{Fetch, Load, Store}
 use Rattle.m161_cpu.specs.declared.fault.FaultKind.TheVariants as kind
+use Rattle.m161_cpu.specs.declared.translation.Physical.{Physical}
 use Rattle.m161_cpu.specs.Processor.{Processor}
 use Rattle.m161_cpu.specs.declared.fault.Fault.{Fault}
 use Rattle.m161_cpu.specs.Fault.{fault, fault_at}
@@ -39,10 +40,6 @@ miss access address =
     else invalid access address
 
 -- a physical address, and the number of the row that gave it, if the address is mapped
-pub record Physical : Type 0 where
-  pub at : ℕ
-  pub row : Option ℕ
-
 abbrev pub physical : ℕ → Option ℕ → Physical
 physical at row = record { at = at; row = row }
 

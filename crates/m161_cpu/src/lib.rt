@@ -39,8 +39,14 @@ mod links;
 mod memory;
 mod processor;
 mod product;
+mod row_number;
 mod step;
 mod translation;
+mod uses;
+mod uses_law;
 
 pub use links::Links;
 pub use processor::{Cpu, Outcome, ProcessorState};
+pub use row_number::RowNumber;
+pub use uses::{Uses, Via};
+pub use uses_law::uses_tell_the_step;

@@ -26,7 +26,7 @@ use m161_tlb::Tlb;
 impl<T: Tlb> Cpu<T> {
     // The address of a load or a store.
     #[inline(always)]
-    fn address(&self, offset: Immediate, base: Reg) -> u32
+    pub(crate) fn address(&self, offset: Immediate, base: Reg) -> u32
         ensures { result ≡
             (slice_index self.now.registers base + sign_extended_half offset) % 2 ^ 32 }
     {

@@ -179,7 +179,7 @@ impl<T: Tlb> Cpu<T> {
     }
 
     // Opcode 16 in user mode without CU0.
-    fn is_unusable(&self, word: u32) -> bool
+    pub(crate) fn is_unusable(&self, word: u32) -> bool
         ensures { result ≡ is_unusable self.now.control word }
     {
         word >> 26 == 16 && !self.control.may_use_cop0()

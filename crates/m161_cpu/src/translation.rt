@@ -1,16 +1,24 @@
 //! Translation of addresses to physical ones.
 
 ghost use Rattle.std.specs.Prelude.{◌≡◌, ◌+◌, ◌≤◌, ◌<◌, ◌/◌, ◌^◌, false, Ok, Some, IfOk, IfSome};
-ghost use Rattle.m161_cpu.specs.Scene.{result_map};
-ghost use Rattle.m161_cpu.specs.Translation.{Physical, address_error, bus_error, by_page, invalid, is_misaddressed, miss, physical_at, reach, reach_word_of};
+ghost use Rattle.m161_isa.specs.Address.{unmapped};
+ghost use Rattle.m161_cpu.specs.Translation.{address_error, bus_error, by_page, invalid, is_misaddressed, miss, physical_at, reach, reach_word_of, translate};
 ghost use Rattle.m161_cpu.specs.helpers.Translation.{IsWidth};
 ghost use Rattle.m161_tlb.specs.Rows.{find_row};
 ghost use Rattle.m161_cop0.specs.Control.{identifier_of, is_user};
 
 use crate::fault::{Access, Fault, FaultKind};
 use crate::processor::Cpu;
+use crate::row_number::RowNumber;
 use m161_isa::unmapped;
 use m161_tlb::Tlb;
+
+/// A physical address, and the number of the row that gave it, if the address is mapped.
+#[derive(Clone, Copy)]
+pub(crate) struct Physical {
+    pub(crate) at: u32,
+    pub(crate) row: Option<RowNumber>,
+}
 
 /// The fault of an address where nothing is on the bus.
 pub(crate) fn bus_error(access: Access) -> Fault
@@ -34,6 +42,7 @@ impl<T: Tlb> Cpu<T> {
             → IfSome result (λ at. physical_at access width address self.now ≡ Ok at) }
         ensures within { IfSome result (λ at. at + width ≤ size) }
         ensures kernel { IfSome result (λ _. is_user self.now.control ≡ false) }
+        ensures segment { IfSome result (λ at. unmapped address ≡ Some at) }
     {
         let at = address.wrapping_sub(0x8000_0000);
         if address % width == 0 && at < size / width * width && !self.control.is_user() {
@@ -122,13 +131,23 @@ impl<T: Tlb> Cpu<T> {
         requires { 0 < width }
         ensures { result ≡ physical_at access width address self.now }
     {
+        let to = self.locate(access, width, address)?;
+        Ok(to.at)
+    }
+
+    /// The same, with the row that gives it. The Step and `uses` both translate by this.
+    #[inline(always)]
+    pub(crate) fn locate(&self, access: Access, width: u32, address: u32) -> Result<Physical, Fault>
+        requires { 0 < width }
+        ensures { result ≡ translate access width address self.now }
+    {
         if self.is_misaddressed(width, address) {
             return Err(address_error(access, address));
         }
         if let Some(at) = unmapped(address) {
-            return Ok(at);
+            return Ok(Physical { at, row: None });
         }
-        self.physical_by_page(access, address)
+        self.locate_by_page(access, address)
     }
 
     // The address isn't aligned to the access's width, or it is a kernel address in user mode.
@@ -141,30 +160,33 @@ impl<T: Tlb> Cpu<T> {
     }
 
     // The physical address of an address in kuseg or kseg2, by the lowest row that matches.
-    fn physical_by_page(&self, access: Access, address: u32) -> Result<u32, Fault>
-        ensures { result ≡ result_map (λ (to : Physical). to.at)
-            (by_page access address self.now) }
+    #[inline(always)]
+    fn locate_by_page(&self, access: Access, address: u32) -> Result<Physical, Fault>
+        ensures { result ≡ by_page access address self.now }
     {
         let Some(i) = self.matching_row(address) else {
             return Err(miss(access, address));
         };
-        let row = self.row(i);
+        let row = self.row(i.number());
         if !row.v {
             return Err(invalid(access, address));
         }
         if access == Access::Store && !row.d {
             return Err(Fault::at(FaultKind::TlbModified, address));
         }
-        Ok((row.frame.number() << 12) + address % (1 << 12))
+        Ok(Physical {
+            at: (row.frame.number() << 12) + address % (1 << 12),
+            row: Some(i),
+        })
     }
 
     // The lowest row that matches an address and EntryHi's identifier.
-    fn matching_row(&self, address: u32) -> Option<u8>
-        ensures lowest { result ≡ find_row self.now.rows (address / 2 ^ 12)
+    fn matching_row(&self, address: u32) -> Option<RowNumber>
+        ensures { result ≡ find_row self.now.rows (address / 2 ^ 12)
             (identifier_of self.now.control) }
-        ensures within { IfSome result (λ i. i < 64) }
     {
-        self.tlb.find(address >> 12, self.control.identifier())
+        let number = self.tlb.find(address >> 12, self.control.identifier())?;
+        Some(RowNumber::new(number))
     }
 }
 

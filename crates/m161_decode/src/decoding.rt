@@ -37,9 +37,22 @@ pub fn decode_in_step(word: u32) -> Instr
     by_opcode::<InStep>(word)
 }
 
+/// The same as `decode`, for what a Step uses. For LLVM: it is inlined into its one caller too, and the
+/// Step keeps the decoder's other copy to itself.
+#[inline(always)]
+pub fn decode_in_uses(word: u32) -> Instr
+    ensures row { row_of_instr result ≡ row_that_fits word }
+    ensures operands { numbers_of_instr result ≡ numbers_of word (row_that_fits word) }
+    ensures value { result ≡ instr_of word }
+{
+    by_opcode::<InUses>(word)
+}
+
 // The callers of the decoder. For LLVM: there is a copy of it for each, and so the copy of a Step,
 // which has one caller, is inlined.
 struct InStep;
+
+struct InUses;
 
 struct Elsewhere;
 

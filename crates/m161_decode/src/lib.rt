@@ -11,6 +11,6 @@ mod encoding;
 mod fields;
 mod laws;
 
-pub use decoding::{decode, decode_in_step, row_that_fits};
+pub use decoding::{decode, decode_in_step, decode_in_uses, row_that_fits};
 pub use encoding::{encode, is_canonical};
 pub use laws::{at_most_one_row, round_trips};

@@ -1,11 +1,13 @@
-use Rattle.std.proofs.Common.{◌≡◌, ◌∙◌, ap, sym, subst, ℕ, ◌+◌, ◌<◌, ◌≤◌, false, List, [], ◌∷◌, ◌++◌, length, replicate, get_or, set, take, Ok, arith}
+use Rattle.std.proofs.Common.{◌≡◌, ◌∙◌, refl, ap, sym, subst, ℕ, ◌+◌, ◌<◌, ◌≤◌, false, List, [], ◌∷◌, ◌++◌, length, replicate, get_or, set, take, Ok, arith}
 use Rattle.std.proofs.lemmas.List.{length-append, map-append, replicate-append-replicate, take_more_set}
 use Rattle.m161_cpu.specs.declared.processor.Outcome.{Outcome}
+use Rattle.m161_cpu.specs.declared.processor.Outcome.TheVariants.{Ran}
 use Rattle.m161_machine.specs.declared.conf.Conf.{Conf}
 use Rattle.m161_machine.specs.declared.event.Entry.{Entry}
 use Rattle.m161_machine.specs.declared.event.Event.{Event}
 use Rattle.m161_machine.specs.declared.event.Event.TheVariants.{Step}
 use Rattle.m161_machine.specs.State.{KeepsSizes, State, next, step_result, with_step}
+use Rattle.m161_machine.specs.Uses.{MakesStep}
 use Rattle.m161_machine.specs.History.{entry, events_of}
 use Rattle.m161_machine.specs.helpers.Sound.{Advances}
 use Rattle.m161_machine.proofs.Accepting.{step_made}
@@ -52,3 +54,8 @@ one_made p s t (k ∷ rest) made x d one long h is =
     let events_are : ◌≡◌ {A = List Event} (k.event ∷ []) (Step p ∷ []) = first.1 in
     let event_is : k.event ≡ Step p = cc in
     ap (next s) (sym event_is) ∙ first.0.1 ∙ (λ i. Ok ((sym is i).outcome, sym first.0.2 i))
+
+pub step_is_made : (p : ℕ) (s t : State) (kept : List Entry) (made : ℕ) → made ≡ 1 → length kept ≡ 1 → Advances p s (take made kept) t → MakesStep s p t
+step_is_made p s t kept made one long h =
+    let blank = entry (Step p) Ran in
+    ((get_or kept 0 blank).outcome, one_made p s t kept made (get_or kept 0 blank) blank one long h refl)

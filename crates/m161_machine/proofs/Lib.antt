@@ -5,8 +5,8 @@ pub mod Resuming
 pub mod Counted
 mod Accepting
 mod Given
-mod Linking
-mod Storing
+pub mod Linking
+pub mod Storing
 mod Starting
 mod Places
 mod Stepping
@@ -15,3 +15,4 @@ mod Advancing
 mod Writing
 mod Booted
 mod Unfolding
+mod Using

@@ -16,7 +16,7 @@ use Rattle.m161_machine.specs.declared.event.Refusal.{Refusal}
 use Rattle.m161_machine.specs.declared.event.Refusal.TheVariants.{KeyFull as KeyFullRefusal}
 use Rattle.m161_machine.specs.State.{State, answer, answered_done, answered_key, next, processor_at, refusal, refusal_of_done, step_result, with_board, with_step}
 use Rattle.m161_machine.specs.History.{Leads}
-use Rattle.m161_machine.specs.StoreHistory.{Link, LeadsStores, StoresAgree, StoreState, first_link, links_of, live, live_links, live_state, stores_of, with_stores, with_stores_of, without_stores}
+use Rattle.m161_machine.specs.StoreHistory.{Link, LeadsStores, StoresAgree, StoreState, first_link, links_of, live, live_links, live_state, next_store, stores_of, with_stores, with_stores_of, without_stores}
 use Rattle.m161_machine.proofs.Counting.{given, state_of}
 use Rattle.m161_machine.proofs.Linking.{IsMade, all_made, live_after}
 
@@ -59,7 +59,7 @@ all_made_next (Step p) s made =
 all_made_next (Key byte) s made = made
 all_made_next Done s made = made
 
-image : (stores : List ℕ) (links : List (Option Link)) (t : State) → live_links stores links ≡ t.links → live_state (with_stores stores links t) ≡ t
+pub image : (stores : List ℕ) (links : List (Option Link)) (t : State) → live_links stores links ≡ t.links → live_state (with_stores stores links t) ≡ t
 image stores links t same = λ i. record {
   conf = t.conf;
   processors = t.processors;
@@ -68,6 +68,17 @@ image stores links t same = λ i. record {
   links = same i;
   made = t.made;
 }
+
+-- an accepted event of a state with its stores leads to the stores that have it as their image
+pub next_with_stores : (e : Event) (s : StoreState) (o : Outcome) (t : State) → All (IsMade s.stores) s.links → next (live_state s) e ≡ Ok (o, t) →
+    (next_store s e ≡ Ok (o, with_stores (stores_of e s) (links_of e s) t))
+    × (live_state (with_stores (stores_of e s) (links_of e s) t) ≡ t)
+    × All (IsMade (stores_of e s)) (links_of e s)
+next_with_stores e s o t made h = (
+  ap (with_stores_of e s) h,
+  image (stores_of e s) (links_of e s) t (links_next e s t o made h),
+  all_made_next e s made,
+)
 
 -- a run leads to the stores that have it as their image
 with_its_stores : (es : List Entry) (s : StoreState) (t : State) → All (IsMade s.stores) s.links → Leads (live_state s) es t →
@@ -105,7 +116,7 @@ live_first : (l : Option ℕ) → live [] (first_link l) ≡ l
 live_first None = refl
 live_first (Some word) = refl
 
-links_first : (links : List (Option ℕ)) → live_links [] (map first_link links) ≡ links
+pub links_first : (links : List (Option ℕ)) → live_links [] (map first_link links) ≡ links
 links_first [] = refl
 links_first (l ∷ links) = let first = live_first l in let rest = links_first links in λ i. first i ∷ rest i
 
@@ -113,7 +124,7 @@ is_made_first : (l : Option ℕ) → IsMade [] (first_link l)
 is_made_first None = tt
 is_made_first (Some word) = omega arith
 
-made_first : (links : List (Option ℕ)) → All (IsMade []) (map first_link links)
+pub made_first : (links : List (Option ℕ)) → All (IsMade []) (map first_link links)
 made_first [] = All-nil (IsMade [])
 made_first (l ∷ links) = All-cons (IsMade []) (first_link l) (map first_link links) (is_made_first l) (made_first links)
 

@@ -33,7 +33,7 @@ pub use events::{Events, Runs};
 pub use laws::stores_agree;
 pub use m161_bus::Console;
 pub use m161_cop0::{Exception, Register};
-pub use m161_cpu::{Outcome, ProcessorState};
+pub use m161_cpu::{Outcome, ProcessorState, RowNumber, Uses, Via};
 pub use m161_elf::LoadError;
 pub use m161_isa::Reg;
 pub use m161_tlb::{Frame, Identifier, Page, Row, Tlb};

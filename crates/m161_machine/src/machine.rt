@@ -116,6 +116,20 @@ impl<T: Tlb, D: Console> Machine<T, D> {
         })
     }
 
+    /// The state alone; start and log are let go.
+    #[inline(never)]
+    pub fn into_core(self) -> Core<T, D>
+        ensures { result ≡ self.state }
+    {
+        let Machine {
+            core,
+            log: _,
+            image: _,
+            conf: _,
+        } = self;
+        core
+    }
+
     /// Makes one Step of a processor. Does not allocate.
     ///
     /// # Errors

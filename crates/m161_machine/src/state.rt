@@ -1,11 +1,12 @@
 //! The state of a machine, without its log.
 
-ghost use Rattle.std.specs.Prelude.{◌≡◌, ◌⊎◌, ◌+◌, ◌-◌, ◌<◌, ◌≤◌, ◌∷◌, replicate, length, take, IfNone, IfOk, true, false};
+ghost use Rattle.std.specs.Prelude.{◌≡◌, ◌⊎◌, ◌+◌, ◌-◌, ◌<◌, ◌≤◌, ◌∷◌, replicate, length, take, None, IfNone, IfOk, true, false};
 ghost use Rattle.m161_cpu.specs.Processor.{started_processor, stopped_processor};
 ghost use Rattle.m161_cpu.specs.Step.{IsOfStep};
 ghost use Rattle.m161_cpu.specs.declared.processor.Outcome.{Outcome};
 ghost use Rattle.m161_machine.specs.declared.event.Event.TheVariants as events;
 ghost use Rattle.m161_machine.specs.State.{CountUpTo, KeepsSizes, refusal, step_result, with_step};
+ghost use Rattle.m161_machine.specs.Uses.{MakesStep};
 ghost use Rattle.m161_machine.specs.Conf.{is_within_limits};
 ghost use Rattle.m161_machine.specs.History.{Makes, boot_state};
 ghost use Rattle.m161_machine.specs.helpers.History.{start_of};
@@ -144,6 +145,17 @@ impl<T: Tlb, D: Console> Core<T, D> {
         Ok(kept[0].entry().outcome)
     }
 
+    /// Makes one Step of a processor that no refusal holds of. The same as `step`, in less time.
+    #[inline(always)]
+    pub fn make(&mut self, p: u32)
+        requires { refusal self.old (events.Step p) ≡ None }
+        ensures made { MakesStep self.old p self.new }
+        ensures sizes { KeepsSizes self.old self.new }
+    {
+        let mut kept = [Kept::of_step(0, Outcome::Ran)];
+        let _made = self.advance(p, &mut kept);
+    }
+
     /// Makes a Step of processor `p` for each place of `kept`, until one of them switches the
     /// machine off, and writes each one's entry into its place. Returns how many were made. Its
     /// loop is the only place in a program with the code of a Step.
@@ -213,7 +225,7 @@ impl<T: Tlb, D: Console> Core<T, D> {
 
     /// The first refusal that holds of a Step.
     #[inline(always)]
-    pub(crate) fn refusal(&self, p: u32) -> Option<Refusal>
+    pub fn refusal(&self, p: u32) -> Option<Refusal>
         ensures value { result ≡ refusal self.now (events.Step p) }
         ensures within { IfNone result ((p < length self.now.processors) × (p < 32)) }
         ensures on { IfNone result (self.now.board.off ≡ false) }

@@ -16,6 +16,10 @@ IsWord n = n < 2 ^ 32
 abbrev pub IsByte : ℕ → Type 0
 IsByte n = n < 256
 
+-- the number of a page, of 20 bits
+abbrev pub IsPage : ℕ → Type 0
+IsPage n = n < 2 ^ 20
+
 -- a lower case hexadecimal digit
 abbrev pub hex_digit : ℕ → ℕ
 hex_digit n = if nat_lt n 10 then 48 + n else 87 + n

@@ -1,7 +1,7 @@
 //! Numbers in texts.
 
 ghost use Rattle.std.specs.Prelude.{◌≡◌, ◌+◌, ◌^◌, ◌<◌, ◌≤◌, ◌++◌, IsOk, OnOk, length, decimal, string_bytes, string_capacity, string_len, Some};
-ghost use Rattle.m161_text.specs.Parts.{Reads, IsByte, IsWord, hex_digit, hex_text};
+ghost use Rattle.m161_text.specs.Parts.{Reads, IsByte, IsPage, IsWord, hex_digit, hex_text};
 
 use std::alloc::AllocError;
 use std::fmt;
@@ -123,4 +123,14 @@ pub fn parse_byte(text: &str) -> Option<u8>
         return None;
     }
     u8::try_from(parse_hex(text.as_bytes())?).ok()
+}
+
+/// The page of five lower case hexadecimal digits; `None` of any other text.
+pub fn parse_page(text: &str) -> Option<u32>
+    ensures { Reads IsPage (hex_text 5) text.now result }
+{
+    if text.len() != 5 {
+        return None;
+    }
+    parse_hex(text.as_bytes())
 }

@@ -6,6 +6,7 @@
 //! number   decimal, below 2^32, without a sign and without leading zeros
 //! word     eight lower case hexadecimal digits
 //! byte     two lower case hexadecimal digits
+//! page     five lower case hexadecimal digits
 //! ```
 //!
 //! The form is this project's own.
@@ -15,4 +16,4 @@ mod cut;
 mod digits;
 
 pub use cut::{cut_at_space, next_line};
-pub use digits::{Byte, Word, parse_byte, parse_decimal, parse_word, push_hex};
+pub use digits::{Byte, Word, parse_byte, parse_decimal, parse_page, parse_word, push_hex};

@@ -4,7 +4,8 @@ ghost use Rattle.std.specs.Prelude.{◌≡◌, ◌≢◌, ◌<◌, true, false, 
 ghost use Rattle.m161_bus.specs.Board.{interrupt_lines};
 ghost use Rattle.m161_cop0.specs.Control.{read_of};
 ghost use Rattle.m161_cop0.specs.Registers.{number_of_register};
-ghost use Rattle.m161_machine.specs.State.{processor_at, word_in};
+ghost use Rattle.m161_machine.specs.State.{processor_at, step_result, word_in};
+ghost use Rattle.m161_machine.specs.Uses.{uses_in};
 
 use crate::conf::Conf;
 use crate::event::Entry;
@@ -13,7 +14,7 @@ use crate::start::Start;
 use crate::state::Core;
 use m161_bus::Console;
 use m161_cop0::Register;
-use m161_cpu::ProcessorState;
+use m161_cpu::{ProcessorState, Uses};
 use m161_isa::Reg;
 use m161_tlb::{Row, Tlb};
 use std::alloc::{AllocError, Global};
@@ -163,6 +164,17 @@ impl<T: Tlb, D: Console> Machine<T, D> {
         ensures { slice_get (processor_at p self.now.state.processors).rows i ≡ Some result }
     {
         self.core.row(p, i)
+    }
+
+    /// What a Step of a processor uses, if it is the next event: the rows of the TLB through which
+    /// it gets physical addresses, and the physical word of RAM that it stores to.
+    pub fn uses(&self, p: u32) -> Uses
+        requires { p < length self.now.state.processors }
+        ensures value { result ≡ uses_in p self.now.state }
+        // It is the store that the history of the stores appends.
+        ensures stored { result.stored ≡ (step_result p self.now.state).stored }
+    {
+        self.core.uses(p)
     }
 
     /// The bytes that the console has sent, the first one first.

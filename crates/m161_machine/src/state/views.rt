@@ -4,13 +4,14 @@ ghost use Rattle.std.specs.Prelude.{◌≡◌, ◌<◌, Some, slice_get, slice_i
 ghost use Rattle.m161_bus.specs.Board.{interrupt_lines};
 ghost use Rattle.m161_cop0.specs.Control.{read_of};
 ghost use Rattle.m161_cop0.specs.Registers.{number_of_register};
-ghost use Rattle.m161_machine.specs.State.{processor_at, word_in};
+ghost use Rattle.m161_machine.specs.State.{processor_at, step_result, word_in};
+ghost use Rattle.m161_machine.specs.Uses.{uses_in};
 
 use crate::conf::Conf;
 use crate::state::Core;
 use m161_bus::Console;
 use m161_cop0::Register;
-use m161_cpu::ProcessorState;
+use m161_cpu::{ProcessorState, Uses};
 use m161_isa::Reg;
 use m161_tlb::{Row, Tlb};
 
@@ -101,6 +102,27 @@ impl<T: Tlb, D: Console> Core<T, D> {
         ensures { slice_get (processor_at p self.now.processors).rows i ≡ Some result }
     {
         self.processors[p as usize].row(i)
+    }
+
+    /// What a Step of a processor uses, if it is the next event: the rows of the TLB through which
+    /// it gets physical addresses, and the physical word of RAM that it stores to.
+    #[inline(always)]
+    pub fn uses(&self, p: u32) -> Uses
+        requires { p < length self.now.processors }
+        ensures value { result ≡ uses_in p self.now }
+        // It is the store that the history of the stores appends.
+        ensures stored { result.stored ≡ (step_result p self.now).stored }
+    {
+        self.uses_next(p)
+    }
+
+    #[inline(always)]
+    #[tactic(auto, unfolding(crate::specs::Uses::uses_in))]
+    fn uses_next(&self, p: u32) -> Uses
+        requires { p < length self.now.processors }
+        ensures { result ≡ uses_in p self.now }
+    {
+        self.processors[p as usize].uses(p, &self.ram, &self.board, &self.links)
     }
 
     /// The bytes that the console has sent, the first one first.

@@ -1,0 +1,5 @@
+pub mod Watch
+pub mod WatchText
+pub mod Stale
+pub mod Audit
+pub mod helpers

@@ -1,0 +1,223 @@
+//! The audit of a run.
+
+ghost use Rattle.std.specs.Prelude.{◌≡◌, ◌<◌, ℕ, List, [], ◌∷◌, None, Some, IfOk, IfSome, MatchOption, length, replicate};
+ghost use Rattle.m161_machine.specs.declared.event.Event.TheVariants as events;
+ghost use Rattle.m161_machine.specs.History.{boot_fault};
+ghost use Rattle.m161_machine.specs.StoreHistory.{StoreState};
+ghost use Rattle.m161_audit.specs.declared.shootdown.Shootdown.{Shootdown};
+ghost use Rattle.m161_audit.specs.declared.watch.Watch.{Watch};
+ghost use Rattle.m161_audit.specs.Audit.{Audits};
+ghost use Rattle.m161_audit.specs.Watch.{AreGood, IsBad};
+ghost use Rattle.m161_audit.specs.helpers.Run.{AuditsEvents, AuditsInputs, AuditsStep, AuditsSteps, Begins, FindsIn, IsAt, IsInput};
+
+use crate::finding::{AuditError, Finding};
+use crate::shootdown::Shootdowns;
+use crate::stale::stale_use;
+use crate::watch::{Watch, is_bad};
+use m161_bus::Console;
+use m161_cpu::Via;
+use m161_machine::{BootError, Conf, Core, Event, Events, Machine, Refusal};
+use m161_tlb::Tlb;
+use std::alloc::Global;
+
+// The first bad watch.
+fn first_bad(ram: u32, watches: &[Watch]) -> Option<usize>
+    ensures { MatchOption result ((k : ℕ) → AreGood ram watches.now k)
+        (λ k. IsBad ram watches.now k × AreGood ram watches.now k) }
+{
+    for (k, watch) in watches.iter().enumerate() {
+        if is_bad(ram, watch) {
+            return Some(k);
+        }
+    }
+    None
+}
+
+// Audits a Step, and makes it if it is no stale use. A refused one changes nothing.
+#[inline(always)]
+fn audit_step<T: Tlb, D: Console>(
+    core: &mut Core<T, D>,
+    p: u32,
+    shootdowns: &mut Shootdowns,
+) -> Option<Via>
+    ensures { (watches : List Watch) (s : StoreState)
+        → IsAt watches s core.old shootdowns.old
+        → AuditsStep watches s p result core.new shootdowns.new }
+{
+    if let Some(_) = core.refusal(p) {
+        return None;
+    }
+    let uses = core.uses(p);
+    let stored = uses.stored;
+    if let Some(via) = stale_use(core, p, &uses, shootdowns) {
+        return Some(via);
+    }
+    core.make(p);
+    shootdowns.note_stored(stored);
+    None
+}
+
+// Audits Steps of a processor, and makes them up to the first stale use. Returns how many are
+// before it, and the use.
+#[inline(never)]
+fn audit_steps<T: Tlb, D: Console>(
+    core: &mut Core<T, D>,
+    p: u32,
+    times: u32,
+    shootdowns: &mut Shootdowns,
+) -> Option<(u32, Via)>
+    ensures run { (watches : List Watch) (s : StoreState)
+        → IsAt watches s core.old shootdowns.old
+        → AuditsSteps watches s p (replicate times (events.Step p)) result core.new shootdowns.new }
+    ensures within { IfSome result (λ found. found.0 < times) }
+{
+    for made in 0..times {
+        if let Some(via) = audit_step(core, p, shootdowns) {
+            return Some((made, via));
+        }
+    }
+    None
+}
+
+// Makes an event that isn't a Step. A refused one changes nothing, unless memory was refused.
+fn make_input<T: Tlb, D: Console>(core: &mut Core<T, D>, event: Event) -> Result<(), AuditError>
+    requires { IsInput event }
+    ensures { (watches : List Watch) (s : StoreState) (items : List Shootdown)
+        → IsAt watches s core.old items
+        → AuditsInputs watches s (event ∷ []) result core.new items }
+{
+    match core.event(event) {
+        Ok(_) => Ok(()),
+        Err(refusal) => {
+            if refusal == Refusal::NoMemory {
+                Err(AuditError::Boot(BootError::NoMemory))
+            } else {
+                Ok(())
+            }
+        }
+    }
+}
+
+// Makes it so many times.
+fn make_inputs<T: Tlb, D: Console>(
+    core: &mut Core<T, D>,
+    event: Event,
+    times: u32,
+) -> Result<(), AuditError>
+    requires { IsInput event }
+    ensures { (watches : List Watch) (s : StoreState) (items : List Shootdown)
+        → IsAt watches s core.old items
+        → AuditsInputs watches s (replicate times event) result core.new items }
+{
+    for made in 0..times {
+        make_input(core, event)?;
+    }
+    Ok(())
+}
+
+// Audits an event that comes so many times. Returns how many are before the first stale use, its
+// processor, and the use.
+fn audit_run<T: Tlb, D: Console>(
+    core: &mut Core<T, D>,
+    event: Event,
+    times: u32,
+    shootdowns: &mut Shootdowns,
+) -> Result<Option<(u32, u32, Via)>, AuditError>
+    ensures run { (watches : List Watch) (s : StoreState)
+        → IsAt watches s core.old shootdowns.old
+        → AuditsEvents watches s (replicate times event) result core.new shootdowns.new }
+    ensures within { IfOk result (λ found. IfSome found (λ place. place.0 < times)) }
+{
+    match event {
+        Event::Step(p) => match audit_steps(core, p, times, shootdowns) {
+            Some((made, via)) => Ok(Some((made, p, via))),
+            None => Ok(None),
+        },
+        Event::Key(_) | Event::Done => {
+            make_inputs(core, event, times)?;
+            Ok(None)
+        }
+    }
+}
+
+// Audits events from a state on.
+fn find<T: Tlb, D: Console>(
+    core: &mut Core<T, D>,
+    events: &Events,
+    shootdowns: &mut Shootdowns,
+) -> Result<Finding, AuditError>
+    ensures { (watches : List Watch) (s : StoreState)
+        → IsAt watches s core.old shootdowns.old
+        → FindsIn watches s events.now result }
+{
+    let mut done = 0;
+    let mut left = events.runs();
+    while let Some((event, times)) = left.next() {
+        if let Some((before, p, via)) = audit_run(core, event, times, shootdowns)? {
+            return Ok(Finding::Stale {
+                place: done + before as usize,
+                processor: p,
+                address: via.address,
+                row: via.row.number(),
+            });
+        }
+        done += times as usize;
+    }
+    Ok(Finding::Clean)
+}
+
+// The state of a machine that is booted from a file, and the shootdowns of watches that aren't bad.
+#[inline(never)]
+fn begin<T: Tlb, D: Console>(
+    alloc: Global,
+    file: &[u8],
+    conf: Conf,
+    watches: &[Watch],
+) -> Result<(Core<T, D>, Shootdowns), AuditError>
+    ensures { Begins file.now conf (boot_fault file.now conf) watches.now result }
+{
+    let machine: Machine<T, D> = Machine::boot(alloc, file, conf)?;
+    if let Some(k) = first_bad(conf.ram, watches) {
+        return Err(AuditError::BadWatch(k));
+    }
+    let shootdowns = Shootdowns::new(alloc, watches)?;
+    Ok((machine.into_core(), shootdowns))
+}
+
+/// Makes the events of a schedule on a machine that is booted from a file, over any TLB and any
+/// console, and finds the first stale use of a watched page. A refused event counts as a place and
+/// changes nothing.
+///
+/// # Errors
+/// The machine can't be booted; or the first bad watch; or memory was refused, also at an event
+/// `Done`.
+pub fn audit_events<T: Tlb, D: Console>(
+    alloc: Global,
+    file: &[u8],
+    conf: Conf,
+    events: &Events,
+    watches: &[Watch],
+) -> Result<Finding, AuditError>
+    ensures { Audits file.now conf (boot_fault file.now conf) events.now watches.now result }
+{
+    let (mut core, mut shootdowns) = begin::<T, D>(alloc, file, conf, watches)?;
+    find(&mut core, events, &mut shootdowns)
+}
+
+/// The same, for a list of events.
+///
+/// # Errors
+/// Those of `audit_events`.
+pub fn audit<T: Tlb, D: Console>(
+    alloc: Global,
+    file: &[u8],
+    conf: Conf,
+    events: &[Event],
+    watches: &[Watch],
+) -> Result<Finding, AuditError>
+    ensures { Audits file.now conf (boot_fault file.now conf) events.now watches.now result }
+{
+    let (mut core, mut shootdowns) = begin::<T, D>(alloc, file, conf, watches)?;
+    let events = Events::from_slice(alloc, events)?;
+    find(&mut core, &events, &mut shootdowns)
+}

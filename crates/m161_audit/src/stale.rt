@@ -1,0 +1,141 @@
+//! Whether a Step's use of the TLB is stale.
+
+ghost use Rattle.std.specs.Prelude.{◌≡◌, ◌<◌, ℕ, List, true, false, Some, MatchOption, length, slice_get};
+ghost use Rattle.m161_machine.specs.StoreHistory.{StoreState};
+ghost use Rattle.m161_machine.specs.Uses.{uses_in};
+ghost use Rattle.m161_cpu.specs.declared.uses.Via.{Via};
+ghost use Rattle.m161_audit.specs.declared.shootdown.Shootdown.{Shootdown};
+ghost use Rattle.m161_audit.specs.declared.watch.Watch.{Watch};
+ghost use Rattle.m161_audit.specs.Stale.{IsStaleVia, UsesStale, entry_in, is_old};
+ghost use Rattle.m161_audit.specs.helpers.Progress.{is_stale_for};
+ghost use Rattle.m161_audit.specs.helpers.Run.{IsAt};
+
+use crate::shootdown::{Progress, Shootdown, Shootdowns};
+use m161_bus::Console;
+use m161_cpu::{Uses, Via};
+use m161_machine::Core;
+use m161_tlb::{Row, Tlb};
+
+// Whether a row of the TLB is an old mapping, by the page table's entry.
+fn is_old(word: u32, row: &Row) -> bool
+    ensures { result ≡ is_old (entry_in word) row.now }
+{
+    let entry = Row::from_words(0, word);
+    !entry.v || entry.frame.number() != row.frame.number() || (!entry.d && row.d)
+}
+
+// Whether a use is stale for a watch.
+#[inline(always)]
+fn is_stale_for<T: Tlb, D: Console>(
+    core: &Core<T, D>,
+    p: u32,
+    via: &Via,
+    shootdown: &Shootdown,
+) -> bool
+    requires { p < length core.now.processors }
+    ensures { result ≡ is_stale_for core.now p via.now shootdown.now }
+{
+    if via.page.number() != shootdown.watch.page {
+        return false;
+    }
+    if u32::from(via.id.number()) != shootdown.watch.id {
+        return false;
+    }
+    if shootdown.progress != Progress::GoneOn {
+        return false;
+    }
+    match core.word(shootdown.watch.pte) {
+        Some(word) => is_old(word, &core.row(p, via.row.number())),
+        None => false,
+    }
+}
+
+// Whether a use is stale for one of the watches.
+#[inline(never)]
+fn is_stale_among<T: Tlb, D: Console>(
+    core: &Core<T, D>,
+    p: u32,
+    via: &Via,
+    items: &[Shootdown],
+) -> bool
+    requires { p < length core.now.processors }
+    ensures yes { result ≡ true → (i : ℕ) × (x : Shootdown)
+        × (slice_get items.now i ≡ Some x)
+        × (is_stale_for core.now p via.now x ≡ true) }
+    ensures no { result ≡ false → (i : ℕ) (x : Shootdown)
+        → slice_get items.now i ≡ Some x
+        → is_stale_for core.now p via.now x ≡ false }
+{
+    for x in items {
+        if is_stale_for(core, p, via, x) {
+            return true;
+        }
+    }
+    false
+}
+
+// The same. A page whose initiator hasn't gone on needs no look at the watches.
+#[inline(always)]
+fn is_stale<T: Tlb, D: Console>(
+    core: &Core<T, D>,
+    p: u32,
+    via: &Via,
+    shootdowns: &Shootdowns,
+) -> bool
+    requires { p < length core.now.processors }
+    ensures yes { result ≡ true → (i : ℕ) × (x : Shootdown)
+        × (slice_get shootdowns.now i ≡ Some x)
+        × (is_stale_for core.now p via.now x ≡ true) }
+    ensures no { result ≡ false → (i : ℕ) (x : Shootdown)
+        → slice_get shootdowns.now i ≡ Some x
+        → is_stale_for core.now p via.now x ≡ false }
+{
+    if shootdowns.may_have_gone_on(via.page.number()) {
+        is_stale_among(core, p, via, shootdowns.as_slice())
+    } else {
+        false
+    }
+}
+
+// A use, if there is one and it is stale.
+#[inline(always)]
+fn stale_via<T: Tlb, D: Console>(
+    core: &Core<T, D>,
+    p: u32,
+    via: Option<Via>,
+    shootdowns: &Shootdowns,
+) -> Option<Via>
+    requires { p < length core.now.processors }
+    ensures { (watches : List Watch) (s : StoreState)
+        → IsAt watches s core.now shootdowns.now
+        → MatchOption result ((v : Via) → via ≡ Some v → IsStaleVia s watches p v → ⊥)
+        (λ v. (via ≡ Some v) × IsStaleVia s watches p v) }
+{
+    let via = via?;
+    if is_stale(core, p, &via, shootdowns) {
+        Some(via)
+    } else {
+        None
+    }
+}
+
+/// The stale use of a Step: that of its fetch, else that of its access.
+#[inline(always)]
+pub(crate) fn stale_use<T: Tlb, D: Console>(
+    core: &Core<T, D>,
+    p: u32,
+    uses: &Uses,
+    shootdowns: &Shootdowns,
+) -> Option<Via>
+    requires place { p < length core.now.processors }
+    requires uses { uses.now ≡ uses_in p core.now }
+    ensures { (watches : List Watch) (s : StoreState)
+        → IsAt watches s core.now shootdowns.now
+        → MatchOption result ((v : Via) → UsesStale s watches p v → ⊥)
+        (λ v. UsesStale s watches p v) }
+{
+    match stale_via(core, p, uses.fetch, shootdowns) {
+        Some(via) => Some(via),
+        None => stale_via(core, p, uses.access, shootdowns),
+    }
+}
