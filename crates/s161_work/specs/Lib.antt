@@ -1,5 +1,4 @@
 pub mod Assemblies
-pub mod Audits
 pub mod Debugs
 pub mod Demos
 pub mod Faults

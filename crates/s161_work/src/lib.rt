@@ -3,7 +3,6 @@
 #![tactic(auto)]
 
 pub mod assembly;
-pub mod audit;
 pub mod debug;
 pub mod demo;
 pub mod disassembly;
