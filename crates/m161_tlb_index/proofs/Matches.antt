@@ -1,11 +1,11 @@
-use Rattle.std.proofs.Common.{◌≡◌, ◌≢◌, ◌⊎◌, ℕ, ◌+◌, ◌<◌, ◌≤◌, true, false, List, length, get_or, min, Some, None, arith, inl, inr, refl, sym, ◌∙◌}
+use Rattle.std.proofs.Common.{◌≡◌, ◌⊎◌, ℕ, ◌+◌, ◌<◌, ◌≤◌, true, false, List, length, get_or, min, Some, None, arith, inl, inr, sym, ◌∙◌}
 use Rattle.std.proofs.lemmas.Bool.{cases_eq, cases_lt, cases_Bool}
 use Rattle.std.proofs.lemmas.Bool.Decides.{nat_tests}
 use Rattle.m161_tlb.specs.declared.row.Row.{Row}
 use Rattle.m161_tlb.specs.Row.{matches}
 use Rattle.m161_tlb.specs.Rows.{blank_row, find_row}
 use Rattle.m161_tlb.proofs.Found.{NoneBelow, found_at, none_at}
-use Rattle.m161_tlb_index.specs.helpers.Chains.{bucket_of, private_bucket, shared_bucket, home, owner, start, IsNext, IsLinked, IsMatch, Reaches}
+use Rattle.m161_tlb_index.specs.helpers.Chains.{bucket_of, private_bucket, shared_bucket, home, owner, start, IsLinked, IsMatch, Reaches}
 
 -- the first row of a bucket is reached at first
 pub reaches_first : (rows : List Row) (link : ℕ → ℕ) (b page id : ℕ) → b < 128 → IsLinked (home rows) link → Reaches rows b page id (link (64 + b))
@@ -32,9 +32,9 @@ reaches_next rows link b page id i small linked here miss =
       passed = λ j h e. elim (cases_lt j i) [
         | inl before ↦ here.passed j before e
         | inr after ↦ elim (cases_eq j i) [
-            | inl same ↦ rw same miss
-            | inr other ↦ absurd (next.first j (omega (arith, from)) h (e ∙ sym owned))
-          ]
+          | inl same ↦ rw same miss
+          | inr other ↦ absurd (next.first j (omega (arith, from)) h (e ∙ sym owned))
+        ]
       ];
     }
 
@@ -48,9 +48,9 @@ unfolding home
 none_below_both rows page id b b' p s i of of' private shared under-p under-s k here =
     elim (cases_Bool (matches page id (get_or rows k blank_row))) [
       | inl hit ↦ elim (in_a_bucket (get_or rows k blank_row) page id hit) [
-          | inl e ↦ private.first k (omega arith) (e ∙ sym of)
-          | inr e ↦ shared.first k (omega arith) (e ∙ sym of')
-        ]
+        | inl e ↦ private.first k (omega arith) (e ∙ sym of)
+        | inr e ↦ shared.first k (omega arith) (e ∙ sym of')
+      ]
       | inr miss ↦ miss
     ]
 
@@ -61,9 +61,9 @@ lower_is_found rows page id b b' p s i long of of' private shared lower found =
     let under-s : i ≤ s = grind (arith, lower) in
     let which : (i ≡ p) ⊎ (i ≡ s) = grind (arith, lower) in
     let hit : matches page id (get_or rows i blank_row) ≡ true = elim which [
-        | inl e ↦ rw e (private.here (omega arith))
-        | inr e ↦ rw e (shared.here (omega arith))
-      ] in
+      | inl e ↦ rw e (private.here (omega arith))
+      | inr e ↦ rw e (shared.here (omega arith))
+    ] in
     found_at rows page id i (omega arith) (none_below_both rows page id b b' p s i of of' private shared under-p under-s) hit
 
 -- where that is 64, no row is found

@@ -82,12 +82,12 @@ impl Tlb for Index {
 
     fn write(&mut self, i: u8, row: Row) {
         let old = bucket_of(&self.rows[i as usize]);
-        let before = self.place_before(old, i);
+        let from = self.place_before(old, i);
         let new = bucket_of(&row);
-        let behind = self.place_before(new, i);
-        self.links[before as usize] = self.links[i as usize];
-        self.links[i as usize] = self.links[behind as usize];
-        self.links[behind as usize] = i;
+        let to = self.place_before(new, i);
+        self.links[from as usize] = self.links[i as usize];
+        self.links[i as usize] = self.links[to as usize];
+        self.links[to as usize] = i;
         self.rows[i as usize] = row;
     }
 

@@ -1,4 +1,4 @@
-use Rattle.std.specs.Prelude.{◌≡◌, ℕ, ◌+◌, ◌-◌, ◌%◌, ◌<◌, ◌≤◌, nat_lt, if◌then◌else◌, Bool, true, false, List, get_or}
+use Rattle.std.specs.Prelude.{◌≡◌, ℕ, ◌+◌, ◌-◌, ◌%◌, ◌<◌, ◌≤◌, nat_lt, if◌then◌else◌, true, false, List, get_or}
 use Rattle.m161_tlb.specs.declared.row.Row.{Row}
 use Rattle.m161_tlb.specs.Row.{matches}
 use Rattle.m161_tlb.specs.Rows.{blank_row}

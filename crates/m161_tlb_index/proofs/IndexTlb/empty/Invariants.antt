@@ -1,4 +1,4 @@
-use Rattle.std.proofs.Common.{◌≡◌, ◌⊎◌, ℕ, ◌+◌, ◌<◌, ◌≤◌, length, get_or}
+use Rattle.std.proofs.Common.{◌≡◌, ℕ, ◌+◌, ◌<◌, ◌≤◌, length, get_or}
 use Rattle.m161_tlb.specs.Rows.{blank_row, start_row}
 use Rattle.m161_tlb_index.proofs.IndexTlb.empty.Given as goal
 

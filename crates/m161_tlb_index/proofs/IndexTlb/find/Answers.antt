@@ -1,4 +1,4 @@
-use Rattle.std.proofs.Common.{sym, ◌≡◌, length, arith, rules}
+use Rattle.std.proofs.Common.{sym, rules}
 use Rattle.m161_tlb_index.proofs.Matches.{lower_is_found, none_is_found}
 use Rattle.m161_tlb_index.proofs.IndexTlb.find.Goals as goal
 
