@@ -1,7 +1,8 @@
 use Rattle.std.proofs.Common.{◌≡◌, ◌≢◌, ℕ, ◌+◌, ◌<◌, ◌≤◌, arith, inl, inr, ap, sym, ◌∙◌}
 use Rattle.std.proofs.lemmas.Bool.{cases_eq, cases_lt}
 use Rattle.std.proofs.lemmas.Bool.Decides.{nat_tests}
-use Rattle.m161_tlb_index.specs.helpers.Chains.{owner, start, IsNext, IsLinked, Precedes}
+use Rattle.m161_tlb_index.specs.Chains.{owner, start, IsNext, IsLinked}
+use Rattle.m161_tlb_index.specs.helpers.Search.{Precedes}
 
 -- The chains over functions: `bucket` from a row's number to its bucket, `link` from a place to the
 -- number there. Bucket 128 is no bucket.

@@ -5,7 +5,8 @@ use Rattle.m161_tlb.specs.declared.row.Row.{Row}
 use Rattle.m161_tlb.specs.Row.{matches}
 use Rattle.m161_tlb.specs.Rows.{blank_row, find_row}
 use Rattle.m161_tlb.proofs.Found.{NoneBelow, found_at, none_at}
-use Rattle.m161_tlb_index.specs.helpers.Chains.{bucket_of, private_bucket, shared_bucket, home, owner, start, IsLinked, IsMatch, Reaches}
+use Rattle.m161_tlb_index.specs.Chains.{bucket_of, private_bucket, shared_bucket, home, owner, start, IsLinked}
+use Rattle.m161_tlb_index.specs.helpers.Search.{IsMatch, Reaches}
 
 -- the first row of a bucket is reached at first
 pub reaches_first : (rows : List Row) (link : ℕ → ℕ) (b page id : ℕ) → b < 128 → IsLinked (home rows) link → Reaches rows b page id (link (64 + b))
@@ -61,8 +62,8 @@ lower_is_found rows page id b b' p s i long of of' private shared lower found =
     let under-s : i ≤ s = grind (arith, lower) in
     let which : (i ≡ p) ⊎ (i ≡ s) = grind (arith, lower) in
     let hit : matches page id (get_or rows i blank_row) ≡ true = elim which [
-      | inl e ↦ rw e (private.here (omega arith))
-      | inr e ↦ rw e (shared.here (omega arith))
+      | inl e ↦ rw e (private.matched (omega arith))
+      | inr e ↦ rw e (shared.matched (omega arith))
     ] in
     found_at rows page id i (omega arith) (none_below_both rows page id b b' p s i of of' private shared under-p under-s) hit
 

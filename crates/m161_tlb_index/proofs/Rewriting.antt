@@ -3,7 +3,8 @@ use Rattle.std.proofs.lemmas.List.{get_or-set_same, get_or-set_other, length-set
 use Rattle.std.proofs.lemmas.Bool.Decides.{nat_tests}
 use Rattle.m161_tlb.specs.declared.row.Row.{Row}
 use Rattle.m161_tlb.specs.Rows.{blank_row}
-use Rattle.m161_tlb_index.specs.helpers.Chains.{bucket_of, home, IsLinked, Precedes}
+use Rattle.m161_tlb_index.specs.Chains.{bucket_of, home, IsLinked}
+use Rattle.m161_tlb_index.specs.helpers.Search.{Precedes}
 use Rattle.m161_tlb_index.proofs.Chains.{taken, put, not_before, same_owner}
 
 -- each row's bucket is below 128
@@ -19,9 +20,11 @@ home_small rows j = bucket_small (get_or rows j blank_row)
 abbrev without : List Row → ℕ → ℕ → ℕ
 without rows i j = if j == i then 128 else home rows j
 
+-- row i is in none there
 without_same : (rows : List Row) (i : ℕ) → without rows i i ≡ 128
 without_same rows i = grind (arith, nat_tests)
 
+-- each other row is in its own
 without_other : (rows : List Row) (i j : ℕ) → j ≢ i → without rows i j ≡ home rows j
 without_other rows i j other = grind (arith, nat_tests)
 

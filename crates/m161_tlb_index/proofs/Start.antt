@@ -3,7 +3,7 @@ use Rattle.std.proofs.lemmas.Bool.{cases_lt}
 use Rattle.std.proofs.lemmas.Bool.Decides.{nat_tests}
 use Rattle.m161_tlb.specs.declared.row.Row.{Row}
 use Rattle.m161_tlb.specs.Rows.{blank_row, start_row}
-use Rattle.m161_tlb_index.specs.helpers.Chains.{bucket_of, home, owner, start, IsNext, IsLinked}
+use Rattle.m161_tlb_index.specs.Chains.{bucket_of, home, owner, start, IsNext, IsLinked}
 
 -- row i is in bucket i at the start
 home_at_start : (rows : List Row) (i : ℕ) → i < 64 → get_or rows i blank_row ≡ start_row i → home rows i ≡ i

@@ -17,7 +17,8 @@
 
 ghost use Rattle.std.specs.Prelude.{◌≡◌, ◌*◌, ◌+◌, ◌<◌, List, Some, length, get_or, slice_get, slice_set, IfSome};
 ghost use Rattle.m161_tlb.specs.Rows.{blank_row, find_row, start_row, start_rows};
-ghost use Rattle.m161_tlb_index.specs.helpers.Chains.{bucket_of, home, private_bucket, shared_bucket, IsMatch, Precedes};
+ghost use Rattle.m161_tlb_index.specs.Chains.{bucket_of, home, private_bucket, shared_bucket};
+ghost use Rattle.m161_tlb_index.specs.helpers.Search.{IsMatch, Precedes};
 
 use m161_tlb::{Frame, Identifier, Page, Row, Tlb};
 use std::marker::Model;
@@ -47,7 +48,7 @@ pub struct Index {
 impl Model for Index {
     ghost use Rattle.std.specs.Prelude.{◌≡◌, List, length, get_or};
     ghost use Rattle.m161_tlb.specs.declared.row.Row.{Row};
-    ghost use Rattle.m161_tlb_index.specs.helpers.Chains.{home, IsLinked};
+    ghost use Rattle.m161_tlb_index.specs.Chains.{home, IsLinked};
 
     ghost Value = { List Row };
 

@@ -1,5 +1,5 @@
 use Rattle.std.proofs.Common.{◌-◌}
-use Rattle.m161_tlb_index.specs.helpers.Chains.{Reaches}
+use Rattle.m161_tlb_index.specs.helpers.Search.{Reaches}
 use Rattle.m161_tlb_index.proofs.Index.first_match.Given as goal
 
 abbrev pub invariant-loop-at : goal.invariant-loop-at

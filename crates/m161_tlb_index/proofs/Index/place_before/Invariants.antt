@@ -1,5 +1,5 @@
 use Rattle.std.proofs.Common.{◌≡◌, ◌-◌, ◌<◌, ◌≤◌}
-use Rattle.m161_tlb_index.specs.helpers.Chains.{home, owner, start}
+use Rattle.m161_tlb_index.specs.Chains.{home, owner, start}
 use Rattle.m161_tlb_index.proofs.Index.place_before.Given as goal
 
 -- the place belongs to the bucket, and to no row from row i on

@@ -1,7 +1,7 @@
 use Rattle.std.proofs.Common.{◌≡◌, ◌∙◌, ap, rules, get_or}
 use Rattle.std.proofs.lemmas.List.{get_or_default}
 use Rattle.m161_tlb.specs.Rows.{blank_row}
-use Rattle.m161_tlb_index.specs.helpers.Chains.{bucket_of}
+use Rattle.m161_tlb_index.specs.Chains.{bucket_of}
 use Rattle.m161_tlb_index.proofs.Rewriting.{precedes_of, rewritten}
 use Rattle.m161_tlb_index.proofs.IndexTlb.write.Goals as goal
 

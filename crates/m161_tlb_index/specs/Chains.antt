@@ -1,6 +1,5 @@
-use Rattle.std.specs.Prelude.{◌≡◌, ℕ, ◌+◌, ◌-◌, ◌%◌, ◌<◌, ◌≤◌, nat_lt, if◌then◌else◌, true, false, List, get_or}
+use Rattle.std.specs.Prelude.{◌≡◌, ℕ, ◌+◌, ◌-◌, ◌%◌, ◌<◌, ◌≤◌, nat_lt, if◌then◌else◌, List, get_or}
 use Rattle.m161_tlb.specs.declared.row.Row.{Row}
-use Rattle.m161_tlb.specs.Row.{matches}
 use Rattle.m161_tlb.specs.Rows.{blank_row}
 
 -- The chains: each has the rows of one bucket, the lowest first. Rows are read here by a function
@@ -44,22 +43,3 @@ pub record IsNext (bucket : ℕ → ℕ) (b from i : ℕ) : Type 0 where
 -- each link leads to the next row of its bucket
 pub record IsLinked (bucket link : ℕ → ℕ) : Type 0 where
   pub next : (at : ℕ) → at < 192 → IsNext bucket (owner bucket at) (start at) (link at)
-
--- the place whose link leads to the first row of a bucket from row i on
-pub record Precedes (bucket : ℕ → ℕ) (b i at : ℕ) : Type 0 where
-  pub is_place : at < 192
-  pub owned : owner bucket at ≡ b
-  pub below : start at ≤ i
-  pub none : (j : ℕ) → start at ≤ j → j < i → bucket j ≡ b → ⊥
-
--- the number of the first row of a bucket that translates a page, or 64 if none does
-pub record IsMatch (rows : List Row) (b page id i : ℕ) : Type 0 where
-  pub small : i ≤ 64
-  pub here : i < 64 → matches page id (get_or rows i blank_row) ≡ true
-  pub first : (j : ℕ) → j < i → home rows j ≡ b → matches page id (get_or rows j blank_row) ≡ false
-
--- row i is of a bucket, or 64, and no row of the bucket before it translates a page
-pub record Reaches (rows : List Row) (b page id i : ℕ) : Type 0 where
-  pub small : i ≤ 64
-  pub here : i < 64 → home rows i ≡ b
-  pub passed : (j : ℕ) → j < i → home rows j ≡ b → matches page id (get_or rows j blank_row) ≡ false
