@@ -1,0 +1,4 @@
+pub mod Chains
+pub mod Matches
+pub mod Rewriting
+pub mod Start
