@@ -99,16 +99,29 @@ pub static SCHEDULE: [Times; 14] = [
     (Step(0), 1, OFF),
 ];
 
+// Puts a word at a physical address, if the words reach it.
+fn put(words: &mut Vec<u32>, at: u32, word: u32) {
+    if let Some(place) = words.get_mut(at as usize / 4) {
+        *place = word;
+    }
+}
+
 /// The kernel's file: one segment from physical address 0 on.
 pub fn kernel_file(alloc: Global) -> Result<Vec<u8>, AllocError> {
+    kernel_with(alloc, &[])
+}
+
+/// The kernel's file with other words at these physical addresses.
+pub fn kernel_with(alloc: Global, changes: &[(u32, u32)]) -> Result<Vec<u8>, AllocError> {
     let mut words = Vec::new(alloc);
     for _place in 0..6145 {
         words.push(0)?;
     }
     for (at, word, _) in &KERNEL {
-        if let Some(place) = words.get_mut(*at as usize / 4) {
-            *place = *word;
-        }
+        put(&mut words, *at, *word);
+    }
+    for (at, word) in changes {
+        put(&mut words, *at, *word);
     }
     file_from(alloc, ENTRY, 0x8000_0000, &words)
 }

@@ -4,6 +4,7 @@
 //! `processors`, in the form that `listing` says. `sample` runs a whole small kernel of two
 //! processors.
 
+mod audit;
 mod bus;
 mod cop0;
 mod dis;

@@ -8,7 +8,7 @@ use Rattle.s161_command.specs.declared.command.FilesTask.{FilesTask}
 use Rattle.s161_command.specs.declared.command.RunTask.{RunTask}
 use Rattle.s161_command.specs.declared.command.Size.{Size}
 use Rattle.s161_command.specs.declared.command.Task.{Task}
-use Rattle.s161_command.specs.declared.command.Task.TheVariants.{Assemble, Debug, Demo, Disassemble, Replay, Run, RunInThreads}
+use Rattle.s161_command.specs.declared.command.Task.TheVariants.{Assemble, Audit, Debug, Demo, Disassemble, Replay, Run, RunInThreads}
 
 -- The command line, in clap's own words.
 
@@ -36,13 +36,13 @@ threads_rule =
       parser = Some (Signed (pos 0) (pos 1000000));
     }
 
--- a command, with the options of a machine's size added
-abbrev pub with_size_rules : App → App
-with_size_rules command =
+-- a command, with the options of a machine's size added; the last number is the log's default
+abbrev pub with_size_rules : Text → App → App
+with_size_rules log command =
     with_rule (with_rule (with_rule command
     (number_rule (codes "ram") (codes "1048576")))
     (number_rule (codes "cpus") (codes "1")))
-    (number_rule (codes "log") (codes "65536"))
+    (number_rule (codes "log") log)
 
 -- a command that takes an image
 abbrev pub on_image : Text → App
@@ -51,15 +51,25 @@ on_image name = with_rule (new_app name) (file_rule (codes "image"))
 -- the arguments of `run`: an image and options
 abbrev pub run_line : App
 run_line =
-    with_rule (with_rule (with_size_rules (on_image (codes "run"))) show_log_rule) threads_rule
+    with_rule
+    (with_rule (with_size_rules (codes "65536") (on_image (codes "run"))) show_log_rule)
+    threads_rule
+
+-- a command over an image and a text, with the options of a machine's size
+abbrev pub files_line : Text → Text → Text → App
+files_line name text log = with_size_rules log (with_rule (on_image name) (file_rule text))
 
 -- the arguments of `replay`: an image, a log and options
 abbrev pub replay_line : App
-replay_line = with_size_rules (with_rule (on_image (codes "replay")) (file_rule (codes "entries")))
+replay_line = files_line (codes "replay") (codes "entries") (codes "65536")
 
 -- the arguments of `debug`: an image, a schedule and options
 abbrev pub debug_line : App
-debug_line = with_size_rules (with_rule (on_image (codes "debug")) (file_rule (codes "schedule")))
+debug_line = files_line (codes "debug") (codes "schedule") (codes "65536")
+
+-- the arguments of `audit`: an image, watches and options
+abbrev pub audit_line : App
+audit_line = files_line (codes "audit") (codes "watches") (codes "0")
 
 -- `as` has no arguments
 abbrev pub as_line : App
@@ -80,10 +90,11 @@ program_line =
 abbrev pub command_line : App
 command_line =
     with_subcommand (with_subcommand (with_subcommand
-    (with_subcommand (with_subcommand program_line
+    (with_subcommand (with_subcommand (with_subcommand program_line
     run_line.top)
     replay_line.top)
     debug_line.top)
+    audit_line.top)
     as_line.top)
     dis_line.top
 
@@ -115,16 +126,17 @@ IsFlag (Some text) flag =
 abbrev pub given_of : Text → List Row → Text
 given_of name rows = unwrap_or (first_of name rows) []
 
--- a machine of this size is asked for, by what clap gives for each argument
-pub record IsSize (rows : List Row) (size : Size) : Type 0 where
+-- a machine of this size is asked for, by what clap gives for each argument; the log's room has
+-- this default
+pub record IsSize (room : ℕ) (rows : List Row) (size : Size) : Type 0 where
   pub ram : IsNumberOf 1_048_576 (one_of (codes "ram") rows) size.ram
   pub cpus : IsNumberOf 1 (one_of (codes "cpus") rows) size.processors
-  pub log : IsNumberOf 65_536 (one_of (codes "log") rows) size.log
+  pub log : IsNumberOf room (one_of (codes "log") rows) size.log
 
 -- `run` asks for this
 pub record AsksRun (rows : List Row) (task : RunTask) : Type 0 where
   pub image : task.image.now ≡ given_of (codes "image") rows
-  pub size : IsSize rows task.size
+  pub size : IsSize 65_536 rows task.size
   pub show_log : IsFlag (one_of (codes "show-log") rows) task.show_log
 
 -- `run` asks for this: a run under a schedule, or one in threads if their number of Steps isn't 0
@@ -134,17 +146,17 @@ IsRunTask rows (RunInThreads task quota) =
     AsksRun rows task × IsNumberOf 0 (one_of (codes "threads") rows) quota × (0 < quota)
 IsRunTask rows _ = ⊥
 
--- a command over an image and a text of this name asks for this
-pub record AsksFiles (name : Text) (rows : List Row) (task : FilesTask) : Type 0 where
+-- a command over an image and a text of this name asks for this; the log's room has this default
+pub record AsksFiles (name : Text) (log : ℕ) (rows : List Row) (task : FilesTask) : Type 0 where
   pub image : task.image.now ≡ given_of (codes "image") rows
   pub text : task.text.now ≡ given_of name rows
-  pub size : IsSize rows task.size
+  pub size : IsSize log rows task.size
 
 -- the words that ask for another task than the demo
 abbrev pub IsOther : Text → Type 0
 IsOther word =
-    (word ≡ codes "run") ⊎ (word ≡ codes "replay") ⊎ (word ≡ codes "debug") ⊎ (word ≡ codes "as")
-    ⊎ (word ≡ codes "dis")
+    (word ≡ codes "run") ⊎ (word ≡ codes "replay") ⊎ (word ≡ codes "debug") ⊎ (word ≡ codes "audit")
+    ⊎ (word ≡ codes "as") ⊎ (word ≡ codes "dis")
 
 -- a command, with its arguments, asks for this
 abbrev pub IsTask : Option (Text × List Row) → Task → Type 0
@@ -156,10 +168,13 @@ IsTask command (RunInThreads task quota) =
     (λ given. (given.0 ≡ codes "run") × IsRunTask given.1 (RunInThreads task quota))
 IsTask command (Replay task) =
     IsSomeAnd command
-    (λ given. (given.0 ≡ codes "replay") × AsksFiles (codes "entries") given.1 task)
+    (λ given. (given.0 ≡ codes "replay") × AsksFiles (codes "entries") 65_536 given.1 task)
 IsTask command (Debug task) =
     IsSomeAnd command
-    (λ given. (given.0 ≡ codes "debug") × AsksFiles (codes "schedule") given.1 task)
+    (λ given. (given.0 ≡ codes "debug") × AsksFiles (codes "schedule") 65_536 given.1 task)
+IsTask command (Audit task) =
+    IsSomeAnd command
+    (λ given. (given.0 ≡ codes "audit") × AsksFiles (codes "watches") 0 given.1 task)
 IsTask command Assemble = IsSomeAnd command (λ given. given.0 ≡ codes "as")
 IsTask command (Disassemble image) =
     IsSomeAnd command

@@ -1,9 +1,9 @@
 //! The command line.
 
 ghost use Rattle.std.specs.Prelude.{◌≡◌, ◌≢◌, [], IfErr, IfOk, codes, false, map, unwrap_or};
-ghost use Rattle.clap.specs.Words.{HasKind, app_of, fault_of, first_of, found_of, kind_of, one_of, rows_of, rule_of, subcommand_of, subcommand_rows_of, with_subcommand};
+ghost use Rattle.clap.specs.Words.{HasKind, app_of, fault_of, first_of, found_of, kind_of, one_of, rows_of, rule_of, subcommand_of, subcommand_rows_of, with_rule, with_subcommand};
 ghost use Rattle.clap.specs.declared.error.kind.ErrorKind.TheVariants.{OutOfMemory};
-ghost use Rattle.s161_command.specs.Commands.{AsksFiles, AsksRun, IsAccepted, IsFlag, IsNumberOf, IsRunTask, IsSize, IsTask, as_line, command_line, debug_line, dis_line, file_rule, number_rule, program_line, replay_line, run_line, show_log_rule, with_size_rules, threads_rule};
+ghost use Rattle.s161_command.specs.Commands.{AsksFiles, AsksRun, IsAccepted, IsFlag, IsNumberOf, IsRunTask, IsSize, IsTask, as_line, audit_line, command_line, debug_line, dis_line, file_rule, files_line, number_rule, program_line, replay_line, run_line, show_log_rule, threads_rule, with_size_rules};
 ghost use Rattle.s161_command.specs.helpers.Commands.{IsLocal};
 
 use clap::{Arg, ArgAction, ArgMatches, Command, Error, value_parser};
@@ -23,6 +23,8 @@ pub enum Task<'a> {
     Replay(FilesTask<'a>),
     /// Debug an image under a schedule.
     Debug(FilesTask<'a>),
+    /// Look for stale uses of an image's run under a schedule, by the watches of a text.
+    Audit(FilesTask<'a>),
     /// Assemble a text into its file.
     Assemble,
     /// List the instructions of the image of this name.
@@ -36,7 +38,7 @@ pub struct Size {
     pub ram: u32,
     /// Processors.
     pub processors: u32,
-    /// Entries of the log.
+    /// Entries of the log; for `audit` 0, which is its default, asks for room for all events.
     pub log: u32,
 }
 
@@ -68,12 +70,12 @@ const IMAGE_HELP: &str = "An ELF file, or @sample, the built-in kernel of two pr
 /// The end of the program's help.
 const AFTER_HELP: &str = "\
 Exit status:
-  0  a finished demo, debug, as or dis, a machine that switched itself off, or
-     a log that agrees
+  0  a finished demo, debug, as or dis, a machine that switched itself off, a
+     log that agrees, or a clean run
   1  a fault, named on standard error, or a refused event of run
   2  a rejected command line, or a call for help
   3  the schedule or the Steps of the threads ended
-  4  a log that differs";
+  4  a log that differs, or a stale use";
 
 /// The end of the help of `run`.
 const AFTER_RUN_HELP: &str = "\
@@ -122,6 +124,27 @@ Exit status:
 
 Example:
   printf 'b 0 80000208\\ng\\nr 0\\n' | s161 debug kernel.elf schedule";
+
+/// The end of the help of `audit`.
+const AFTER_AUDIT_HELP: &str = "\
+The schedule is that of run, from standard input. The watches say what to look for, one a line:
+  w ID PAGE PTE DONE   the page PAGE of address space ID; its entry, in EntryLo's form, is the word
+                       at PTE, and the initiator of a shootdown writes the word at DONE when it is
+                       over: physical addresses
+ID is a decimal number, PAGE has five hexadecimal digits, PTE and DONE have eight. The answer is
+`clean`, or `stale PLACE PROCESSOR ADDRESS ROW`: the first event, from 0, whose Step used a row of
+the TLB that its page's entry doesn't allow any more, after the shootdown was over.
+
+With --log 0 the log has room for all events of the schedule.
+
+Exit status:
+  0  the run is clean
+  1  a fault, named on standard error
+  4  a stale use
+
+Example:
+  printf 'w 5 00400 00003000 00003004\\n' > watches
+  s161 audit kernel.elf watches --cpus 2 < schedule";
 
 /// The end of the help of `as`.
 const AFTER_AS_HELP: &str = "\
@@ -184,10 +207,14 @@ fn threads_option<'a>(alloc: Global) -> Arg<'a>
         .default_value("0")
 }
 
-// A command, with the options of a machine's size added.
-fn with_size<'a>(alloc: Global, command: Command<'a>) -> Result<Command<'a>, AllocError>
+// A command, with the options of a machine's size added; the last one is the log's default.
+fn with_size<'a>(
+    alloc: Global,
+    command: Command<'a>,
+    log: &'a str,
+) -> Result<Command<'a>, AllocError>
     ensures shape { IsLocal command.entry
-        → IfOk result (λ more. app_of more ≡ with_size_rules (app_of command.entry)) }
+        → IfOk result (λ more. app_of more ≡ with_size_rules log.entry.now (app_of command.entry)) }
     ensures local { IsLocal command.entry → IfOk result IsLocal }
 {
     let ram_help = "Bytes of RAM, 4096 to 16777216 in pages of 4096";
@@ -195,7 +222,26 @@ fn with_size<'a>(alloc: Global, command: Command<'a>) -> Result<Command<'a>, All
     command
         .arg(number_option(alloc, "ram", ram_help, "1048576"))?
         .arg(number_option(alloc, "cpus", "Processors, 1 to 32", "1"))?
-        .arg(number_option(alloc, "log", log_help, "65536"))
+        .arg(number_option(alloc, "log", log_help, log))
+}
+
+// The arguments of a command over an image and a text: the text's argument, and the log's default.
+fn with_files<'a>(
+    alloc: Global,
+    command: Command<'a>,
+    text: Arg<'a>,
+    log: &'a str,
+) -> Result<Command<'a>, AllocError>
+    ensures shape { IsLocal command.entry → text.entry.global ≡ false
+        → IfOk result (λ more. app_of more ≡ with_size_rules log.entry.now
+            (with_rule (with_rule (app_of command.entry) (file_rule (codes "image")))
+            (rule_of text.entry))) }
+    ensures local { IsLocal command.entry → text.entry.global ≡ false → IfOk result IsLocal }
+{
+    let command = command
+        .arg(file_argument(alloc, "image", "IMAGE", IMAGE_HELP))?
+        .arg(text)?;
+    with_size(alloc, command, log)
 }
 
 // The definition of `run`.
@@ -207,7 +253,7 @@ fn run_definition<'a>(alloc: Global) -> Result<Command<'a>, AllocError>
         .about("Runs an image under a schedule of events")
         .after_help(AFTER_RUN_HELP)
         .arg(file_argument(alloc, "image", "IMAGE", IMAGE_HELP))?;
-    with_size(alloc, run)?
+    with_size(alloc, run, "65536")?
         .arg(show_log_option(alloc))?
         .arg(threads_option(alloc))
 }
@@ -219,10 +265,9 @@ fn replay_definition<'a>(alloc: Global) -> Result<Command<'a>, AllocError>
 {
     let replay = Command::new(alloc, "replay")
         .about("Makes a log's events once more, and compares their outcomes")
-        .after_help(AFTER_REPLAY_HELP)
-        .arg(file_argument(alloc, "image", "IMAGE", IMAGE_HELP))?
-        .arg(file_argument(alloc, "entries", "LOG", "A log's file"))?;
-    with_size(alloc, replay)
+        .after_help(AFTER_REPLAY_HELP);
+    let log = file_argument(alloc, "entries", "LOG", "A log's file");
+    with_files(alloc, replay, log, "65536")
 }
 
 // The definition of `debug`.
@@ -232,10 +277,21 @@ fn debug_definition<'a>(alloc: Global) -> Result<Command<'a>, AllocError>
 {
     let debug = Command::new(alloc, "debug")
         .about("Does a debugger's commands on an image under a schedule")
-        .after_help(AFTER_DEBUG_HELP)
-        .arg(file_argument(alloc, "image", "IMAGE", IMAGE_HELP))?
-        .arg(file_argument(alloc, "schedule", "SCHEDULE", "A schedule's file"))?;
-    with_size(alloc, debug)
+        .after_help(AFTER_DEBUG_HELP);
+    let schedule = file_argument(alloc, "schedule", "SCHEDULE", "A schedule's file");
+    with_files(alloc, debug, schedule, "65536")
+}
+
+// The definition of `audit`.
+fn audit_definition<'a>(alloc: Global) -> Result<Command<'a>, AllocError>
+    ensures shape { IfOk result (λ command. app_of command ≡ audit_line) }
+    ensures local { IfOk result IsLocal }
+{
+    let audit = Command::new(alloc, "audit")
+        .about("Looks for a Step that uses a stale row of the TLB, after its shootdown")
+        .after_help(AFTER_AUDIT_HELP);
+    let watches = file_argument(alloc, "watches", "WATCHES", "A file of watches");
+    with_files(alloc, audit, watches, "0")
 }
 
 // The definition of `as`.
@@ -297,6 +353,15 @@ fn with_debug<'a>(alloc: Global, program: Command<'a>) -> Result<Command<'a>, Al
     program.subcommand(debug)
 }
 
+// A program with `audit` added.
+fn with_audit<'a>(alloc: Global, program: Command<'a>) -> Result<Command<'a>, AllocError>
+    ensures { IfOk result (λ more.
+        app_of more ≡ with_subcommand (app_of program.entry) audit_line.top) }
+{
+    let audit = audit_definition(alloc)?;
+    program.subcommand(audit)
+}
+
 // A program with `as` added.
 fn with_as<'a>(alloc: Global, program: Command<'a>) -> Result<Command<'a>, AllocError>
     ensures { IfOk result (λ more. app_of more ≡ with_subcommand (app_of program.entry) as_line.top) }
@@ -320,6 +385,7 @@ fn definition<'a>(alloc: Global) -> Result<Command<'a>, AllocError>
     let program = with_run(alloc, program)?;
     let program = with_replay(alloc, program)?;
     let program = with_debug(alloc, program)?;
+    let program = with_audit(alloc, program)?;
     let program = with_as(alloc, program)?;
     with_dis(alloc, program)
 }
@@ -348,14 +414,14 @@ fn show_log_given<'a>(given: &ArgMatches<'a>) -> bool
     given.get_flag("show-log")
 }
 
-// The size of a machine.
-fn size_given<'a>(given: &ArgMatches<'a>) -> Size
-    ensures { IsSize (rows_of (found_of given.now)) result }
+// The size of a machine; the log's room has this default.
+fn size_given<'a>(given: &ArgMatches<'a>, log: u32) -> Size
+    ensures { IsSize log (rows_of (found_of given.now)) result }
 {
     Size {
         ram: number_given(given, "ram", 1_048_576),
         processors: number_given(given, "cpus", 1),
-        log: number_given(given, "log", 65_536),
+        log: number_given(given, "log", log),
     }
 }
 
@@ -365,7 +431,7 @@ fn run_task_of<'a>(given: &ArgMatches<'a>) -> RunTask<'a>
 {
     RunTask {
         image: file_given(given, "image"),
-        size: size_given(given),
+        size: size_given(given, 65_536),
         show_log: show_log_given(given),
     }
 }
@@ -381,14 +447,15 @@ fn task_of_run<'a>(given: &ArgMatches<'a>) -> Task<'a>
     }
 }
 
-// The arguments of a command over an image and a text; `text` is the name of the second one.
-fn files_task_of<'a>(given: &ArgMatches<'a>, text: &str) -> FilesTask<'a>
-    ensures { AsksFiles text.now (rows_of (found_of given.now)) result }
+// The arguments of a command over an image and a text: the name of the second one, and the default
+// of the log's room.
+fn files_task_of<'a>(given: &ArgMatches<'a>, text: &str, log: u32) -> FilesTask<'a>
+    ensures { AsksFiles text.now log (rows_of (found_of given.now)) result }
 {
     FilesTask {
         image: file_given(given, "image"),
         text: file_given(given, text),
-        size: size_given(given),
+        size: size_given(given, log),
     }
 }
 
@@ -398,8 +465,9 @@ fn task_of<'a>(matches: &ArgMatches<'a>) -> Task<'a>
 {
     match matches.subcommand() {
         Some(("run", given)) => task_of_run(given),
-        Some(("replay", given)) => Task::Replay(files_task_of(given, "entries")),
-        Some(("debug", given)) => Task::Debug(files_task_of(given, "schedule")),
+        Some(("replay", given)) => Task::Replay(files_task_of(given, "entries", 65_536)),
+        Some(("debug", given)) => Task::Debug(files_task_of(given, "schedule", 65_536)),
+        Some(("audit", given)) => Task::Audit(files_task_of(given, "watches", 0)),
         Some(("as", _)) => Task::Assemble,
         Some(("dis", given)) => Task::Disassemble(file_given(given, "image")),
         _ => Task::Demo,

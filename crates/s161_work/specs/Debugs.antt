@@ -12,7 +12,7 @@ use Rattle.m161_debug.specs.Commands.{name_of_error}
 use Rattle.m161_debug.specs.Obeys.{Commands}
 use Rattle.s161_command.specs.declared.command.FilesTask.{FilesTask}
 use Rattle.s161_work.specs.declared.fault.Fault.{Fault}
-use Rattle.s161_work.specs.declared.fault.Fault.TheVariants.{Conf, File, Image, Input, Log, Memory, Output, Schedule, Source, Threads}
+use Rattle.s161_work.specs.declared.fault.Fault.TheVariants.{Conf, File, Image, Input, Memory, Schedule}
 use Rattle.s161_work.specs.Runs.{HasSchedule}
 use Rattle.s161_work.specs.Faults.{BootsTo}
 use Rattle.s161_work.specs.Known.{IsText, OfKnown, OfText}
@@ -87,7 +87,4 @@ IsDebugFault task image schedule Conf = HasSchedule schedule × (is_within_limit
 IsDebugFault task image schedule (Image e) =
     HasSchedule schedule × OfKnown image (λ file. boot_fault file (conf_of task.size) ≡ Some (Load e))
 IsDebugFault task image schedule Memory = Unit {0}
-IsDebugFault task image schedule (Log n) = ⊥
-IsDebugFault task image schedule (Threads cause) = ⊥
-IsDebugFault task image schedule (Source e) = ⊥
-IsDebugFault task image schedule Output = ⊥
+IsDebugFault task image schedule _ = ⊥

@@ -1,4 +1,5 @@
 pub mod Assemblies
+pub mod Audits
 pub mod Debugs
 pub mod Demos
 pub mod Faults

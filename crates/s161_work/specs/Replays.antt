@@ -11,7 +11,7 @@ use Rattle.m161_text.specs.Parts.{◌␣◌}
 use Rattle.m161_steplog.specs.Verdict.{Verifies}
 use Rattle.s161_command.specs.declared.command.FilesTask.{FilesTask}
 use Rattle.s161_work.specs.declared.fault.Fault.{Fault}
-use Rattle.s161_work.specs.declared.fault.Fault.TheVariants.{Conf, File, Image, Input, Log, Memory, Output, Schedule, Source, Threads}
+use Rattle.s161_work.specs.declared.fault.Fault.TheVariants.{Conf, File, Image, Log, Memory}
 use Rattle.s161_work.specs.Known.{IsText, OfKnown, OfText}
 use Rattle.s161_work.specs.Samples.{IsFileName}
 use Rattle.s161_work.specs.Sizes.{conf_of}
@@ -66,8 +66,4 @@ IsReplayFault task image log Conf = HasLog log × (is_within_limits (conf_of tas
 IsReplayFault task image log (Image e) =
     HasLog log × OfKnown image (λ file. boot_fault file (conf_of task.size) ≡ Some (Load e))
 IsReplayFault task image log Memory = Unit {0}
-IsReplayFault task image log (Schedule n) = ⊥
-IsReplayFault task image log Input = ⊥
-IsReplayFault task image log (Threads cause) = ⊥
-IsReplayFault task image log (Source e) = ⊥
-IsReplayFault task image log Output = ⊥
+IsReplayFault task image log _ = ⊥

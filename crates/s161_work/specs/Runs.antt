@@ -18,7 +18,7 @@ use Rattle.s161_command.specs.declared.command.RunTask.{RunTask}
 use Rattle.s161_work.specs.declared.events.Stop.{Stop}
 use Rattle.s161_work.specs.declared.events.Stop.TheVariants.{Off, End, Refused}
 use Rattle.s161_work.specs.declared.fault.Fault.{Fault}
-use Rattle.s161_work.specs.declared.fault.Fault.TheVariants.{Conf, File, Image, Input, Log, Memory, Output, Schedule, Source, Threads}
+use Rattle.s161_work.specs.declared.fault.Fault.TheVariants.{Conf, File, Image, Input, Memory, Schedule}
 use Rattle.s161_work.specs.Faults.{BootsTo}
 use Rattle.s161_work.specs.Known.{IsText, OfKnown, OfText}
 use Rattle.s161_work.specs.Samples.{IsFileName}
@@ -132,11 +132,8 @@ IsFaultOf task known input (File name) =
 IsFaultOf task known input Input = Unit {0}
 IsFaultOf task known input (Schedule n) =
     OfText input (λ text. FirstBad AreScheduleLines text n)
-IsFaultOf task known input (Log n) = ⊥
 IsFaultOf task known input Conf = HasSchedule input × (is_within_limits (conf_of task.size) ≡ false)
 IsFaultOf task known input (Image e) =
     HasSchedule input × OfKnown known (λ file. boot_fault file (conf_of task.size) ≡ Some (Load e))
 IsFaultOf task known input Memory = Unit {0}
-IsFaultOf task known input (Threads cause) = ⊥
-IsFaultOf task known input (Source e) = ⊥
-IsFaultOf task known input Output = ⊥
+IsFaultOf task known input _ = ⊥

@@ -56,8 +56,4 @@ IsThreadsFault task known (Threads cause) =
     OfKnown known (λ file. boot_fault file (conf_of task.size) ≡ None)
     × IsCause (bad_call task.size.processors task.size.processors) cause
 IsThreadsFault task known Memory = Unit {0}
-IsThreadsFault task known (Schedule n) = ⊥
-IsThreadsFault task known (Log n) = ⊥
-IsThreadsFault task known Input = ⊥
-IsThreadsFault task known (Source e) = ⊥
-IsThreadsFault task known Output = ⊥
+IsThreadsFault task known _ = ⊥

@@ -2,8 +2,9 @@ use Rattle.std.specs.Prelude.{◌≡◌, ◌⊎◌, ℕ, List, Option}
 use Rattle.std.specs.Io.KnownBytes.{Appends}
 use Rattle.clap.specs.Words.{Text, subcommand_of}
 use Rattle.s161_command.specs.declared.command.Task.{Task}
-use Rattle.s161_command.specs.declared.command.Task.TheVariants.{Assemble, Debug, Demo, Disassemble, Replay, Run, RunInThreads}
+use Rattle.s161_command.specs.declared.command.Task.TheVariants.{Assemble, Audit, Debug, Demo, Disassemble, Replay, Run, RunInThreads}
 use Rattle.s161_work.specs.Assemblies.{IsAssembled}
+use Rattle.s161_work.specs.Audits.{IsAudited}
 use Rattle.s161_command.specs.Commands.{IsTask, command_line}
 use Rattle.s161_work.specs.Debugs.{IsDebug}
 use Rattle.s161_work.specs.Demos.{IsDemo}
@@ -37,6 +38,8 @@ IsResultOf (Replay task) files input =
     IsReplayed task (image_file files task.image.now) (files task.text.now)
 IsResultOf (Debug task) files input =
     WithZero (IsDebug task (image_file files task.image.now) (files task.text.now) input)
+IsResultOf (Audit task) files input =
+    IsAudited task (image_file files task.image.now) (files task.text.now) input
 IsResultOf Assemble files input = WithZero (IsAssembled input)
 IsResultOf (Disassemble image) files input = WithZero (IsDisassembled (image_file files image.now))
 

@@ -2,11 +2,12 @@
 
 ghost use Rattle.std.specs.Prelude.{◌≡◌};
 ghost use Rattle.s161_work.specs.Assemblies.{fault_of_source};
-ghost use Rattle.s161_work.specs.Faults.{fault_of_boot, fault_of_log, fault_of_schedule};
+ghost use Rattle.s161_work.specs.Faults.{fault_of_audit, fault_of_boot, fault_of_log, fault_of_schedule, fault_of_watches};
 ghost use Rattle.s161_work.specs.Listings.{fault_of_load};
 ghost use Rattle.s161_work.specs.declared.fault.Fault.TheVariants.{Memory};
 
 use m161_asm::{AsmError, ErrorKind};
+use m161_audit::AuditError;
 use m161_elf::LoadError;
 use m161_machine::BootError;
 use m161_threads::Cause;
@@ -25,6 +26,12 @@ pub enum Fault<'a> {
     /// This line of a log, from 1, is bad.
     #[error("s161: log line {0}")]
     Log(u64),
+    /// This line of a text of watches, from 1, is bad.
+    #[error("s161: watches line {0}")]
+    Watches(u64),
+    /// This watch, from 0, is the first that can't be watched.
+    #[error("s161: watch {0}")]
+    Watch(usize),
     /// The machine's size is outside the limits.
     #[error("s161: conf")]
     Conf,
@@ -87,6 +94,27 @@ impl<'a> From<BootError> for Fault<'a> {
             BootError::Load(error) => Fault::Image(error),
             BootError::NoMemory => Fault::Memory,
         }
+    }
+}
+
+impl<'a> From<AuditError> for Fault<'a> {
+    ghost from_gives = { λ error fault. fault ≡ fault_of_audit error };
+
+    fn from(error: AuditError) -> Fault<'a> {
+        match error {
+            AuditError::Boot(error) => Fault::from(error),
+            AuditError::BadWatch(k) => Fault::Watch(k),
+        }
+    }
+}
+
+/// The fault of watches that can't be read.
+pub fn fault_of_watches<'a>(error: m161_steplog::Fault) -> Fault<'a>
+    ensures { result ≡ fault_of_watches error }
+{
+    match error {
+        m161_steplog::Fault::Line(line) => Fault::Watches(line),
+        m161_steplog::Fault::NoMemory => Fault::Memory,
     }
 }
 

@@ -3,6 +3,7 @@
 #![tactic(auto)]
 
 pub mod assembly;
+pub mod audit;
 pub mod debug;
 pub mod demo;
 pub mod disassembly;

@@ -1,13 +1,16 @@
-//! Reading the texts of schedules and logs.
+//! Reading the texts of schedules, logs and watches.
 
 ghost use Rattle.std.specs.Prelude.{IfErr, IfOk};
 ghost use Rattle.m161_text.specs.Lines.{lines_of};
+ghost use Rattle.m161_audit.specs.WatchText.{AreWatches};
 ghost use Rattle.m161_steplog.specs.Log.{IsLog};
 ghost use Rattle.m161_steplog.specs.Schedule.{IsSchedule};
+ghost use Rattle.s161_work.specs.Audits.{IsWatchesFault};
 ghost use Rattle.s161_work.specs.Replays.{IsLogFault};
 ghost use Rattle.s161_work.specs.Runs.{IsScheduleFault};
 
-use crate::fault::{Fault, fault_of_log, fault_of_schedule};
+use crate::fault::{Fault, fault_of_log, fault_of_schedule, fault_of_watches};
+use m161_audit::{Watch, read_watches};
 use m161_machine::{Entry, Events};
 use m161_steplog::{read_log, read_schedule};
 use std::alloc::Global;
@@ -37,5 +40,19 @@ pub fn entries_of<'a>(alloc: Global, text: &str) -> Result<Vec<Entry>, Fault<'a>
     match read_log(alloc, text) {
         Ok(entries) => Ok(entries),
         Err(error) => Err(fault_of_log(error)),
+    }
+}
+
+/// The watches of a text.
+///
+/// # Errors
+/// Its first bad line; or memory was refused.
+pub fn watches_of<'a>(alloc: Global, text: &str) -> Result<Vec<Watch>, Fault<'a>>
+    ensures found { IfOk result (λ watches. AreWatches (lines_of text.now) watches.items) }
+    ensures fault { IfErr result (IsWatchesFault text.now) }
+{
+    match read_watches(alloc, text) {
+        Ok(watches) => Ok(watches),
+        Err(error) => Err(fault_of_watches(error)),
     }
 }

@@ -19,6 +19,7 @@ ghost use Rattle.s161_work.specs.Works.{Does, Finishes, IsDone, IsResultOf, Prin
 ghost use Rattle.s161_work.specs.helpers.Works.{Fails, IsTaskFault};
 
 use crate::assembly::assembly;
+use crate::audit::audit;
 use crate::debug::debug;
 use crate::demo::demo;
 use crate::disassembly::disassembly;
@@ -150,6 +151,7 @@ fn finish<'a, R: Threads + Wait + Sync, F: FileSource, I: Read>(
         Task::RunInThreads(task, quota) => run_in_threads(rt, alloc, files, task, quota),
         Task::Replay(task) => replay(alloc, files, task),
         Task::Debug(task) => debug(alloc, files, input, task),
+        Task::Audit(task) => audit(alloc, files, input, task),
         Task::Assemble => {
             let source = read_input(alloc, input)?;
             Ok(Finished::done(assembly(alloc, source.as_str())?))

@@ -33,6 +33,7 @@ Commands:
   run     Runs an image under a schedule of events
   replay  Makes a log's events once more, and compares their outcomes
   debug   Does a debugger's commands on an image under a schedule
+  audit   Looks for a Step that uses a stale row of the TLB, after its shootdown
   as      Assembles a text to an ELF file
   dis     Prints the instructions of an image
   help    Print this message or the help of the given subcommand(s)
@@ -41,12 +42,12 @@ Options:
   -h, --help  Print help
 
 Exit status:
-  0  a finished demo, debug, as or dis, a machine that switched itself off, or
-     a log that agrees
+  0  a finished demo, debug, as or dis, a machine that switched itself off, a
+     log that agrees, or a clean run
   1  a fault, named on standard error, or a refused event of run
   2  a rejected command line, or a call for help
   3  the schedule or the Steps of the threads ended
-  4  a log that differs
+  4  a log that differs, or a stale use
 ";
 
 /// What clap writes on standard error for the word `foo`.

@@ -1,9 +1,10 @@
 use Rattle.std.specs.Prelude.{◌≡◌, ◌⊎◌, ℕ, List, Option}
 use Rattle.clap.specs.Words.{Text}
 use Rattle.s161_command.specs.declared.command.Task.{Task}
-use Rattle.s161_command.specs.declared.command.Task.TheVariants.{Assemble, Debug, Demo, Disassemble, Replay, Run, RunInThreads}
+use Rattle.s161_command.specs.declared.command.Task.TheVariants.{Assemble, Audit, Debug, Demo, Disassemble, Replay, Run, RunInThreads}
 use Rattle.s161_work.specs.declared.fault.Fault.{Fault}
 use Rattle.s161_work.specs.declared.fault.Fault.TheVariants.{Memory, Output}
+use Rattle.s161_work.specs.Audits.{IsAuditFault}
 use Rattle.s161_work.specs.helpers.Assemblies.{IsAssemblyFault}
 use Rattle.s161_work.specs.Debugs.{IsDebugFault}
 use Rattle.s161_work.specs.helpers.Listings.{IsListingFault}
@@ -23,6 +24,8 @@ IsTaskFault (Replay task) files input fault =
     IsReplayFault task (image_file files task.image.now) (files task.text.now) fault
 IsTaskFault (Debug task) files input fault =
     IsDebugFault task (image_file files task.image.now) (files task.text.now) fault
+IsTaskFault (Audit task) files input fault =
+    IsAuditFault task (image_file files task.image.now) (files task.text.now) input fault
 IsTaskFault Assemble files input fault = IsAssemblyFault input fault
 IsTaskFault (Disassemble image) files input fault =
     IsListingFault image.now (image_file files image.now) fault

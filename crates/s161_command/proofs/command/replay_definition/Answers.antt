@@ -3,23 +3,17 @@ use Rattle.std.proofs.lemmas.Result.{IfOk-weaker}
 use Rattle.clap.specs.Words.{app_of, new_app, with_rule}
 use Rattle.clap.specs.declared.builder.command.Command.TheViews.{out-Command}
 use Rattle.clap.specs.Simple.{app_of_fields}
-use Rattle.s161_command.specs.Commands.{with_size_rules}
-use Rattle.s161_command.proofs.Defining.{local_more}
+use Rattle.s161_command.specs.Commands.{file_rule, with_size_rules}
 use Rattle.s161_command.proofs.command.replay_definition.Goals as goal
 
 pub returns-clause-shape : goal.returns-clause-shape
 returns-clause-shape c =
-    let base : app_of c.after_help.result ≡ new_app (codes "replay") = ap app_of_fields c.after_help.ensures ∙ ap app_of_fields c.about.ensures ∙ c.new.ensures.app in
-    let base_local : (out-Command c.after_help.result).has_globals ≡ false = ap (λ f. f.has_globals) c.after_help.ensures ∙ ap (λ f. f.has_globals) c.about.ensures ∙ c.new.ensures.local in
-    let one = c.in_ok-arg.ensures.shape c.file_argument.ensures.local ∙ ap₂ with_rule base c.file_argument.ensures.rule in
-    let one_local = local_more c.in_ok-arg.ensures base_local c.file_argument.ensures.local in
-    let two = c.in_ok-replay.ensures.shape c.file_argument-2.ensures.local ∙ ap₂ with_rule one c.file_argument-2.ensures.rule in
-    let two_local = local_more c.in_ok-replay.ensures one_local c.file_argument-2.ensures.local in
-    IfOk-weaker c.with_size.result _ _ (λ command h. h ∙ ap with_size_rules two) (c.with_size.ensures.shape two_local)
+    let base : app_of c.after_help-replay.result ≡ new_app (codes "replay") = ap app_of_fields c.after_help-replay.ensures ∙ ap app_of_fields c.about.ensures ∙ c.new.ensures.app in
+    let local : (out-Command c.after_help-replay.result).has_globals ≡ false = ap (λ f. f.has_globals) c.after_help-replay.ensures ∙ ap (λ f. f.has_globals) c.about.ensures ∙ c.new.ensures.local in
+    let lines = ap₂ (λ app rule. with_size_rules (codes "65536") (with_rule (with_rule app (file_rule (codes "image"))) rule)) base c.file_argument-log.ensures.rule in
+    IfOk-weaker c.with_files.result _ _ (λ command h. h ∙ lines) (c.with_files.ensures.shape local c.file_argument-log.ensures.local)
 
 pub returns-clause-local : goal.returns-clause-local
 returns-clause-local c =
-    let base : (out-Command c.after_help.result).has_globals ≡ false = ap (λ f. f.has_globals) c.after_help.ensures ∙ ap (λ f. f.has_globals) c.about.ensures ∙ c.new.ensures.local in
-    let one = local_more c.in_ok-arg.ensures base c.file_argument.ensures.local in
-    let two = local_more c.in_ok-replay.ensures one c.file_argument-2.ensures.local in
-    c.with_size.ensures.local two
+    let local : (out-Command c.after_help-replay.result).has_globals ≡ false = ap (λ f. f.has_globals) c.after_help-replay.ensures ∙ ap (λ f. f.has_globals) c.about.ensures ∙ c.new.ensures.local in
+    c.with_files.ensures.local local c.file_argument-log.ensures.local

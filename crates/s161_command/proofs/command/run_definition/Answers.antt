@@ -12,7 +12,7 @@ returns-clause-shape c =
     let base : app_of c.after_help.result ≡ new_app (codes "run") = ap app_of_fields c.after_help.ensures ∙ ap app_of_fields c.about.ensures ∙ c.new.ensures.app in
     let base_local : (out-Command c.after_help.result).has_globals ≡ false = ap (λ f. f.has_globals) c.after_help.ensures ∙ ap (λ f. f.has_globals) c.about.ensures ∙ c.new.ensures.local in
     let one = c.in_ok-run.ensures.shape c.file_argument.ensures.local ∙ ap₂ with_rule base c.file_argument.ensures.rule in
-    let two = c.in_ok-with_size.ensures.shape (local_more c.in_ok-run.ensures base_local c.file_argument.ensures.local) ∙ ap with_size_rules one in
+    let two = c.in_ok-with_size.ensures.shape (local_more c.in_ok-run.ensures base_local c.file_argument.ensures.local) ∙ ap (with_size_rules _) one in
     let three = c.in_ok-arg.ensures.shape c.show_log_option.ensures.local ∙ ap₂ with_rule two c.show_log_option.ensures.rule in
     IfOk-weaker c.arg-3.result _ _ (λ command h. h.shape c.threads_option.ensures.local ∙ ap₂ with_rule three c.threads_option.ensures.rule) c.arg-3.ensures
 

@@ -9,3 +9,6 @@ returns-in-RunInThreads-clause-ok g c = rw c.in-RunInThreads.is c.run_in_threads
 
 pub returns-in-Replay-clause-ok : goal.returns-in-Replay-clause-ok
 returns-in-Replay-clause-ok g c = rw c.in-Replay.is c.replay.ensures.ok
+
+pub returns-in-Audit-clause-ok : goal.returns-in-Audit-clause-ok
+returns-in-Audit-clause-ok g c = rw c.in-Audit.is c.audit.ensures.ok
