@@ -25,7 +25,7 @@ use std::io::Read;
 #[derive(Drop)]
 struct ShownRow {
     address: u32,
-    row: u32,
+    row: u8,
 }
 
 impl fmt::Display for ShownRow {
