@@ -141,6 +141,7 @@ impl<D: Console> Board<D> {
         requires processor { c < self.old.processors }
         ensures read { ReadsSlot (board_read c at self.old) self.old result self.new }
         ensures size { KeepsSize self.old self.new }
+        ensures off { self.new.off ≡ self.old.off }
     {
         let register = register_of(at, self.processors).ok_or(BusFault)?;
         Ok(self.read_register(c, register))
@@ -166,6 +167,7 @@ impl<D: Console> Board<D> {
         requires there { IsThere self.old.processors register }
         ensures word { result ≡ slot_word c register self.old }
         ensures after { self.new ≡ after_read register self.old }
+        ensures off { self.new.off ≡ self.old.off }
     {
         match register {
             Register::Constant(word) => word,

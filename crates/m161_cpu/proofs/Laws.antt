@@ -1,5 +1,5 @@
 use Rattle.std.proofs.Common.{◌≡◌, refl, Bool, true, false, Result, Ok, Err}
-use Rattle.std.specs.Prelude.{if◌then◌else◌}
+use Rattle.std.specs.Prelude.{not, ◌&&◌, if◌then◌else◌}
 use Rattle.m161_cop0.specs.Control.{is_pending}
 use Rattle.m161_cpu.specs.declared.processor.ProcessorState.{ProcessorState}
 use Rattle.m161_cpu.specs.declared.processor.ProcessorState.TheVariants.{Stopped, Running, Waiting}
@@ -36,31 +36,32 @@ pub step_links : (s : Scene) → Links s.around (step_of s)
 unfolding step_of
 step_links s = links_in s.processor.state s
 
--- A Step whose outcome is Ran leaves the machine on.
+-- A Step whose outcome is Ran leaves a machine on that was on.
 
 abbrev IsOn : Stepped → Type 0
 IsOn x = x.outcome ≡ Ran → x.after.around.board.off ≡ false
 
-on_by : (off : Bool) → (if off then PoweredOff else Ran) ≡ Ran → off ≡ false
-on_by true h = absurd (let bad : PoweredOff ≡ Ran = h in cc)
-on_by false h = refl
+on_by : (before off : Bool) → before ≡ false → (if off && not before then PoweredOff else Ran) ≡ Ran → off ≡ false
+on_by true off on h = absurd (let bad : true ≡ false = on in cc)
+on_by false true on h = absurd (let bad : PoweredOff ≡ Ran = h in cc)
+on_by false false on h = refl
 
-on_ended : (s : Scene) (r : Result Change Fault) → IsOn (step_of_result s r)
-on_ended s (Ok change) = on_by (scene_after change s).around.board.off
-on_ended s (Err f) = λ h. absurd (cc)
+on_ended : (s : Scene) (r : Result Change Fault) → s.around.board.off ≡ false → IsOn (step_of_result s r)
+on_ended s (Ok change) on = on_by s.around.board.off (scene_after change s).around.board.off on
+on_ended s (Err f) on = λ h. absurd (cc)
 
-on_waiting : (s : Scene) (pending : Bool) →
+on_waiting : (s : Scene) (pending : Bool) → s.around.board.off ≡ false →
     IsOn (if pending then running_step (with_processor (with_state Running) s) else idle tick s)
-on_waiting s true =
+on_waiting s true on =
     on_ended (with_processor (with_state Running) s)
-    (change_of_step (with_processor (with_state Running) s))
-on_waiting s false = λ h. absurd (cc)
+    (change_of_step (with_processor (with_state Running) s)) on
+on_waiting s false on = λ h. absurd (cc)
 
-on_in : (state : ProcessorState) (s : Scene) → IsOn (step_by_state state s)
-on_in Stopped s = λ h. absurd (cc)
-on_in Running s = on_ended s (change_of_step s)
-on_in Waiting s = on_waiting s (is_pending (lines_in s) s.processor.control)
+on_in : (state : ProcessorState) (s : Scene) → s.around.board.off ≡ false → IsOn (step_by_state state s)
+on_in Stopped s on = λ h. absurd (cc)
+on_in Running s on = on_ended s (change_of_step s) on
+on_in Waiting s on = on_waiting s (is_pending (lines_in s) s.processor.control) on
 
-pub ran_on : (s : Scene) → (step_of s).outcome ≡ Ran → (step_of s).after.around.board.off ≡ false
+pub ran_on : (s : Scene) → s.around.board.off ≡ false → (step_of s).outcome ≡ Ran → (step_of s).after.around.board.off ≡ false
 unfolding step_of
-ran_on s = on_in s.processor.state s
+ran_on s on = on_in s.processor.state s on

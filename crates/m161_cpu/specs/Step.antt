@@ -8,7 +8,7 @@ use Rattle.m161_ram.specs.Word.{word_at}
 use Rattle.m161_cop0.specs.Control.{Control, is_pending, is_interrupted, may_use_cop0}
 use Rattle.m161_cop0.specs.Clock.{after_tick}
 use Rattle.m161_cop0.specs.Trap.{IsVector}
-use Rattle.m161_bus.specs.Board.{interrupt_lines}
+use Rattle.m161_bus.specs.Board.{BoardState, interrupt_lines}
 use Rattle.m161_cpu.specs.declared.fault.Access.TheVariants.{Fetch}
 use Rattle.m161_cpu.specs.declared.fault.FaultKind.{FaultKind}
 use Rattle.m161_cpu.specs.declared.fault.FaultKind.TheVariants as kind
@@ -50,10 +50,14 @@ with_processor f s = scene (f s.processor) s.around
 abbrev pub idle : (Processor → Processor) → Scene → Stepped
 idle f s = record { outcome = Idle; after = with_processor f s; link = Keep; stored = None }
 
+-- the board was on before, and is off after
+abbrev pub switches_off : BoardState → BoardState → Bool
+switches_off before after = after.off && not before.off
+
 -- what an instruction leaves
 abbrev pub step_of_change : Scene → Change → Stepped
 step_of_change s change = record {
-  outcome = if (scene_after change s).around.board.off then PoweredOff else Ran;
+  outcome = if switches_off s.around.board (scene_after change s).around.board then PoweredOff else Ran;
   after = with_processor tick (scene_after change s);
   link = change.link;
   stored = stored_by change.store;

@@ -4,9 +4,9 @@ ghost use Rattle.std.specs.Prelude.{Some, ◌≡◌, ◌^◌, ◌<◌, ◌≤◌
 ghost use Rattle.m161_bus.specs.Board.{KeepsSize};
 ghost use Rattle.m161_cpu.specs.Scene.{scene_of};
 ghost use Rattle.m161_cpu.specs.Step.{change_in, misfit_kind};
-ghost use Rattle.m161_cpu.specs.helpers.Execute.{change_by, Executes};
+ghost use Rattle.m161_cpu.specs.helpers.Execute.{change_by, Performs};
 
-use crate::fault::{Fault, FaultKind};
+use crate::fault::{Fault, FaultKind, Stop, stopped};
 use crate::links::Links;
 use crate::processor::Cpu;
 use m161_bus::{Board, Console};
@@ -37,10 +37,10 @@ impl<T: Tlb> Cpu<T> {
         ram: &mut Ram,
         board: &mut Board<D>,
         links: &mut Links,
-    ) -> Result<(), Fault>
+    ) -> Result<(), Stop>
         requires processor { (c < board.old.processors) × (board.old.processors ≤ 32) }
         requires ram { length ram.old ≤ 2 ^ 29 }
-        ensures change { Executes (change_in (scene_of self.old c ram.old board.old links.old) word)
+        ensures change { Performs (change_in (scene_of self.old c ram.old board.old links.old) word)
             (scene_of self.old c ram.old board.old links.old) result
             (scene_of self.new c ram.new board.new links.new) }
         ensures board { KeepsSize board.old board.new }
@@ -59,10 +59,10 @@ impl<T: Tlb> Cpu<T> {
         ram: &mut Ram,
         board: &mut Board<D>,
         links: &mut Links,
-    ) -> Result<(), Fault>
+    ) -> Result<(), Stop>
         requires processor { (c < board.old.processors) × (board.old.processors ≤ 32) }
         requires ram { length ram.old ≤ 2 ^ 29 }
-        ensures change { Executes (change_by
+        ensures change { Performs (change_by
             (scene_of self.old c ram.old board.old links.old) instr.now)
             (scene_of self.old c ram.old board.old links.old) result
             (scene_of self.new c ram.new board.new links.new) }
@@ -70,42 +70,42 @@ impl<T: Tlb> Cpu<T> {
         ensures size { length ram.new ≡ length ram.old }
     {
         match *instr {
-            Instr::Shift { op, rd, rt, amount } => self.shift(op, rd, rt, amount),
-            Instr::ShiftVariable { op, rd, rt, rs } => self.shift_variable(op, rd, rt, rs),
-            Instr::Arith { op, rd, rs, rt } => self.arith(op, rd, rs, rt),
+            Instr::Shift { op, rd, rt, amount } => stopped(self.shift(op, rd, rt, amount)),
+            Instr::ShiftVariable { op, rd, rt, rs } => stopped(self.shift_variable(op, rd, rt, rs)),
+            Instr::Arith { op, rd, rs, rt } => stopped(self.arith(op, rd, rs, rt)),
             Instr::Immediate {
                 op,
                 rt,
                 rs,
                 immediate,
-            } => self.immediate(op, rt, rs, immediate),
-            Instr::LoadUpper { rt, immediate } => self.load_upper(rt, immediate),
-            Instr::Multiply { op, rs, rt } => self.multiply(op, rs, rt),
-            Instr::MoveFrom { from, rd } => self.move_from(from, rd),
-            Instr::MoveTo { to, rs } => self.move_to(to, rs),
-            Instr::JumpRegister { rs } => self.jump_register(rs),
-            Instr::JumpAndLinkRegister { rd, rs } => self.jump_and_link_register(rd, rs),
-            Instr::Jump { op, target } => self.jump(op, target),
-            Instr::BranchZero { test, rs, offset } => self.branch_zero(test, rs, offset),
+            } => stopped(self.immediate(op, rt, rs, immediate)),
+            Instr::LoadUpper { rt, immediate } => stopped(self.load_upper(rt, immediate)),
+            Instr::Multiply { op, rs, rt } => stopped(self.multiply(op, rs, rt)),
+            Instr::MoveFrom { from, rd } => stopped(self.move_from(from, rd)),
+            Instr::MoveTo { to, rs } => stopped(self.move_to(to, rs)),
+            Instr::JumpRegister { rs } => stopped(self.jump_register(rs)),
+            Instr::JumpAndLinkRegister { rd, rs } => stopped(self.jump_and_link_register(rd, rs)),
+            Instr::Jump { op, target } => stopped(self.jump(op, target)),
+            Instr::BranchZero { test, rs, offset } => stopped(self.branch_zero(test, rs, offset)),
             Instr::BranchEqual {
                 test,
                 rs,
                 rt,
                 offset,
-            } => self.branch_equal(test, rs, rt, offset),
+            } => stopped(self.branch_equal(test, rs, rt, offset)),
             Instr::Load {
                 op,
                 rt,
                 offset,
                 base,
-            } => self.load(op, rt, offset, base, c, ram, board, links),
+            } => stopped(self.load(op, rt, offset, base, c, ram, board, links)),
             Instr::Store {
                 op,
                 rt,
                 offset,
                 base,
             } => self.store(op, rt, offset, base, c, ram, board, links),
-            Instr::Plain(op) => self.plain(op, c, links),
+            Instr::Plain(op) => stopped(self.plain(op, c, links)),
             Instr::MoveFromCop0 { rt, register } => {
                 self.read_cop0(rt, register, board.lines(c));
                 Ok(())
@@ -114,8 +114,8 @@ impl<T: Tlb> Cpu<T> {
                 self.write_cop0(rt, register);
                 Ok(())
             }
-            Instr::Absent(unit) => Err(Fault::of(misfit_kind(unit))),
-            Instr::Reserved(_) => Err(Fault::of(FaultKind::ReservedInstruction)),
+            Instr::Absent(unit) => Err(Stop::Fault(Fault::of(misfit_kind(unit)))),
+            Instr::Reserved(_) => Err(Stop::Fault(Fault::of(FaultKind::ReservedInstruction))),
         }
     }
 }

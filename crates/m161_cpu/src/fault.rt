@@ -1,7 +1,11 @@
-//! Why an instruction isn't executed.
+//! Why an instruction isn't executed, or why none comes after it.
 
-ghost use Rattle.std.specs.Prelude.{◌≡◌, ◌<◌};
+ghost use Rattle.std.specs.Prelude.{◌≡◌, ◌<◌, Result};
+ghost use Rattle.m161_cpu.specs.declared.fault.Fault.{Fault};
+ghost use Rattle.m161_cpu.specs.declared.fault.Stop.TheVariants as stops;
 ghost use Rattle.m161_cpu.specs.Fault.{exception_of, fault, fault_at, unit_of_kind, is_user_miss_kind};
+ghost use Rattle.m161_cpu.specs.Scene.{Change, Scene};
+ghost use Rattle.m161_cpu.specs.helpers.Execute.{Executes, Performs};
 
 use m161_cop0::Exception;
 
@@ -111,5 +115,36 @@ impl Fault {
         ensures { result ≡ fault_at kind address }
     {
         Fault { kind, address }
+    }
+}
+
+/// Why a Step ends otherwise than by an instruction after which the machine goes on.
+#[derive(Clone, Copy, Debug, PartialEq, Eq)]
+pub(crate) enum Stop {
+    /// The instruction isn't executed.
+    Fault(Fault),
+    /// It is executed, and switches the machine off.
+    PoweredOff,
+}
+
+impl From<Fault> for Stop {
+    ghost from_gives = { λ fault stop. stop ≡ stops.Fault fault };
+
+    fn from(fault: Fault) -> Stop {
+        Stop::Fault(fault)
+    }
+}
+
+/// An instruction that leaves the machine on if it was.
+#[inline(always)]
+pub(crate) fn stopped(executed: Result<(), Fault>) -> Result<(), Stop>
+    ensures { (r : Result Change Fault) (before after : Scene)
+        → after.around.board.off ≡ before.around.board.off
+        → Executes r before executed after
+        → Performs r before result after }
+{
+    match executed {
+        Ok(()) => Ok(()),
+        Err(fault) => Err(Stop::Fault(fault)),
     }
 }

@@ -5,13 +5,13 @@ ghost use Rattle.m161_isa.specs.declared.instr.Instr.TheVariants.{Load, Store};
 ghost use Rattle.m161_bus.specs.Board.{BoardState, KeepsSize};
 ghost use Rattle.m161_alu.specs.Word.{sign_extended_half};
 ghost use Rattle.m161_cpu.specs.Effect.{store_conditional, store_word_at};
-ghost use Rattle.m161_cpu.specs.helpers.Execute.{change_by, Executes, FindsWord};
+ghost use Rattle.m161_cpu.specs.helpers.Execute.{change_by, Executes, FindsWord, Performs};
 ghost use Rattle.m161_cpu.specs.Links.{after_store};
 ghost use Rattle.m161_cpu.specs.Processor.{with_flow};
 ghost use Rattle.m161_cpu.specs.Scene.{scene_of};
 ghost use Rattle.m161_cpu.specs.Translation.{read_word};
 
-use crate::fault::{Access, Fault};
+use crate::fault::{Access, Fault, Stop};
 use crate::links::Links;
 use crate::processor::{Cpu, Flow};
 use crate::translation::bus_error;
@@ -54,6 +54,7 @@ impl<T: Tlb> Cpu<T> {
             (scene_of self.old c ram.now board.old links.old) result
             (scene_of self.new c ram.now board.new links.new) }
         ensures board { KeepsSize board.old board.new }
+        ensures off { board.new.off ≡ board.old.off }
     {
         let address = self.address(offset, base);
         let size = ram.size();
@@ -109,6 +110,7 @@ impl<T: Tlb> Cpu<T> {
         ensures word { FindsWord (read_word address self.now c ram.now board.old)
             board.old result board.new }
         ensures board { KeepsSize board.old board.new }
+        ensures off { board.new.off ≡ board.old.off }
     {
         match self.direct(4, address, ram.size()) {
             Some(at) => Ok(ram.word(at)),
@@ -130,6 +132,7 @@ impl<T: Tlb> Cpu<T> {
         ensures word { FindsWord (read_word address self.now c ram.now board.old)
             board.old result board.new }
         ensures board { KeepsSize board.old board.new }
+        ensures off { board.new.off ≡ board.old.off }
     {
         let word = self.read_word_elsewhere(address, c, ram, board)?;
         Ok(word)
@@ -148,6 +151,7 @@ impl<T: Tlb> Cpu<T> {
         ensures word { FindsWord (read_word address self.now c ram.now board.old)
             board.old result board.new }
         ensures board { KeepsSize board.old board.new }
+        ensures off { board.new.off ≡ board.old.off }
     {
         let at = self.translate(Access::Load, 4, address)?;
         if u64::from(at) + 4 <= u64::from(ram.size()) {
@@ -172,10 +176,10 @@ impl<T: Tlb> Cpu<T> {
         ram: &mut Ram,
         board: &mut Board<D>,
         links: &mut Links,
-    ) -> Result<(), Fault>
+    ) -> Result<(), Stop>
         requires processor { (c < board.old.processors) × (board.old.processors ≤ 32) }
         requires ram { length ram.old ≤ 2 ^ 29 }
-        ensures store { Executes (change_by (scene_of self.old c ram.old board.old links.old)
+        ensures store { Performs (change_by (scene_of self.old c ram.old board.old links.old)
             (Store op rt offset base))
             (scene_of self.old c ram.old board.old links.old) result
             (scene_of self.new c ram.new board.new links.new) }
@@ -257,10 +261,10 @@ impl<T: Tlb> Cpu<T> {
         ram: &mut Ram,
         board: &mut Board<D>,
         links: &mut Links,
-    ) -> Result<(), Fault>
+    ) -> Result<(), Stop>
         requires processor { c < board.old.processors }
         requires ram { length ram.old ≤ 2 ^ 29 }
-        ensures store { Executes
+        ensures store { Performs
             (store_word_at address word (scene_of self.old c ram.old board.old links.old))
             (scene_of self.old c ram.old board.old links.old) result
             (scene_of self.new c ram.new board.new links.new) }
@@ -287,9 +291,9 @@ impl<T: Tlb> Cpu<T> {
         ram: &mut Ram,
         board: &mut Board<D>,
         links: &mut Links,
-    ) -> Result<(), Fault>
+    ) -> Result<(), Stop>
         requires processor { c < board.old.processors }
-        ensures store { Executes
+        ensures store { Performs
             (store_word_at address word (scene_of self.old c ram.old board.old links.old))
             (scene_of self.old c ram.old board.old links.old) result
             (scene_of self.new c ram.new board.new links.new) }
@@ -302,12 +306,14 @@ impl<T: Tlb> Cpu<T> {
             self.end_store(at, links);
             return Ok(());
         }
-        match board.write(c, at, word) {
-            Ok(()) => {
-                self.advance(Flow::Next);
-                Ok(())
-            }
-            Err(_) => Err(bus_error(Access::Store)),
+        let was_on = !board.is_off();
+        if board.write(c, at, word).is_err() {
+            return Err(Stop::Fault(bus_error(Access::Store)));
         }
+        self.advance(Flow::Next);
+        if was_on && board.is_off() {
+            return Err(Stop::PoweredOff);
+        }
+        Ok(())
     }
 }

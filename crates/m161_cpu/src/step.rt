@@ -7,10 +7,10 @@ ghost use Rattle.m161_cpu.specs.Scene.{scene_of};
 ghost use Rattle.m161_cop0.specs.Trap.{IsVector};
 ghost use Rattle.m161_cpu.specs.Fault.{exception_of, vector, with_trap};
 ghost use Rattle.m161_cpu.specs.declared.processor.Outcome.TheVariants.{Trapped};
-ghost use Rattle.m161_cpu.specs.helpers.Execute.{Executes};
+ghost use Rattle.m161_cpu.specs.helpers.Execute.{Performs};
 ghost use Rattle.m161_cpu.specs.Step.{change_of_step, executable_word, is_unusable, running_step, step_of, tick, IsOfStep, Leaves};
 
-use crate::fault::{Access, Fault, FaultKind};
+use crate::fault::{Access, Fault, FaultKind, Stop};
 use crate::links::Links;
 use crate::processor::{Cpu, Outcome};
 use m161_bus::{Board, Console};
@@ -68,13 +68,13 @@ impl<T: Tlb> Cpu<T> {
         match self.execute_next(c, lines, ram, board, links) {
             Ok(()) => {
                 self.tick();
-                if board.is_off() {
-                    Outcome::PoweredOff
-                } else {
-                    Outcome::Ran
-                }
+                Outcome::Ran
             }
-            Err(fault) => self.trap_aside(fault, c, links),
+            Err(Stop::PoweredOff) => {
+                self.tick();
+                Outcome::PoweredOff
+            }
+            Err(Stop::Fault(fault)) => self.trap_aside(fault, c, links),
         }
     }
 
@@ -125,18 +125,18 @@ impl<T: Tlb> Cpu<T> {
         ram: &mut Ram,
         board: &mut Board<D>,
         links: &mut Links,
-    ) -> Result<(), Fault>
+    ) -> Result<(), Stop>
         requires processor { (c < board.old.processors) × (board.old.processors ≤ 32) }
         requires lines { lines ≡ interrupt_lines c board.old }
         requires ram { length ram.old ≤ 2 ^ 29 }
-        ensures change { Executes (change_of_step (scene_of self.old c ram.old board.old links.old))
+        ensures change { Performs (change_of_step (scene_of self.old c ram.old board.old links.old))
             (scene_of self.old c ram.old board.old links.old) result
             (scene_of self.new c ram.new board.new links.new) }
         ensures board { KeepsSize board.old board.new }
         ensures size { length ram.new ≡ length ram.old }
     {
         if self.control.interrupts(lines) {
-            return Err(Fault::of(FaultKind::Interrupt));
+            return Err(Stop::Fault(Fault::of(FaultKind::Interrupt)));
         }
         let word = self.fetch(ram)?;
         self.perform(word, c, ram, board, links)

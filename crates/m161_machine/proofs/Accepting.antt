@@ -43,10 +43,10 @@ step_made s p o t place on room o_is t_is =
     let new : nat_le s.conf.log s.made ≡ false = grind (arith, nat_tests, room) in
     allowed s (Step p) (by_tests s p there on new) ∙ (λ i. Ok (sym o_is i, sym t_is i))
 
--- a Step whose outcome is Ran leaves the machine on
-pub stays_on : (p : ℕ) (s : State) → (step_result p s).outcome ≡ Ran → (step_result p s).after.around.board.off ≡ false
+-- a Step whose outcome is Ran leaves a machine on that was on
+pub stays_on : (p : ℕ) (s : State) → s.board.off ≡ false → (step_result p s).outcome ≡ Ran → (step_result p s).after.around.board.off ≡ false
 unfolding step_result
-stays_on p s ran = ran_on (scene (processor_at p s.processors) (around p s.memory s.board s.links)) ran
+stays_on p s on ran = ran_on (scene (processor_at p s.processors) (around p s.memory s.board s.links)) on ran
 
 pub refused_by : (s : State) (e : Event) (r : Refusal) → refusal s e ≡ Some r → next s e ≡ Err r
 unfolding next

@@ -14,7 +14,7 @@ use Rattle.m161_cpu.specs.declared.processor.ProcessorState.TheVariants.{Stopped
 use Rattle.m161_cpu.specs.Fault.{trap_of}
 use Rattle.m161_cpu.specs.Processor.{with_state}
 use Rattle.m161_cpu.specs.Scene.{Change, Scene, around, scene_after, scene}
-use Rattle.m161_cpu.specs.Step.{IsOfStep, step_of_result, change_of_step, idle, lines_in, running_step, step_by_state, step_of, tick, with_processor}
+use Rattle.m161_cpu.specs.Step.{IsOfStep, step_of_result, change_of_step, idle, lines_in, running_step, step_by_state, step_of, switches_off, tick, with_processor}
 use Rattle.m161_machine.specs.declared.event.Entry.{Entry}
 use Rattle.m161_machine.specs.declared.event.Event.{Event}
 use Rattle.m161_machine.specs.declared.event.Event.TheVariants.{Step, Key, Done}
@@ -42,7 +42,7 @@ by_power true = tt
 by_power false = tt
 
 ended_proper : (s : Scene) (r : Result Change _) → IsOfStep (step_of_result s r).outcome
-ended_proper s (Ok change) = by_power (scene_after change s).around.board.off
+ended_proper s (Ok change) = by_power (switches_off s.around.board (scene_after change s).around.board)
 ended_proper s (Err f) = is_vector (trap_of f s.processor) s.processor.control
 
 waiting_proper : (s : Scene) (pending : Bool) →

@@ -195,7 +195,8 @@ impl<T: Tlb, D: Console> Core<T, D> {
         ensures sizes { KeepsSizes self.old self.new }
         ensures proper { IsOfStep result }
         ensures few { length self.old.processors ≤ 32 }
-        ensures ran { result ≡ Outcome.Ran → self.new.board.off ≡ false }
+        ensures ran { self.old.board.off ≡ false → result ≡ Outcome.Ran
+            → self.new.board.off ≡ false }
     {
         let Core {
             processors,

@@ -1,4 +1,4 @@
-use Rattle.std.specs.Prelude.{◌≡◌, ℕ, Bool, if◌then◌else◌, slice_index, Option, None, Some, Result, Ok, Err}
+use Rattle.std.specs.Prelude.{◌≡◌, ℕ, Bool, true, false, if◌then◌else◌, slice_index, Option, None, Some, Result, Ok, Err}
 use Rattle.m161_isa.specs.declared.instr.Instr.{Instr}
 use Rattle.m161_isa.specs.declared.instr.Coprocessor.{Coprocessor}
 use Rattle.m161_isa.specs.declared.table.Row.{Row}
@@ -10,9 +10,11 @@ use Rattle.m161_cpu.specs.Processor.{Processor}
 use Rattle.m161_cpu.specs.Links.{Keep}
 use Rattle.m161_cpu.specs.Scene.{Around, Scene, Change, scene, result_map, processor_after, around_after}
 use Rattle.m161_cpu.specs.declared.fault.Fault.{Fault}
+use Rattle.m161_cpu.specs.declared.fault.Stop.{Stop}
+use Rattle.m161_cpu.specs.declared.fault.Stop.TheVariants as stop
 use Rattle.m161_cpu.specs.Fault.{fault}
 use Rattle.m161_cpu.specs.Effect.{write}
-use Rattle.m161_cpu.specs.Step.{Stepped, change_of_row, misfit_kind, running_step}
+use Rattle.m161_cpu.specs.Step.{Stepped, change_of_row, misfit_kind, running_step, switches_off}
 
 -- A Step in two parts, and effects on the code's instructions.
 
@@ -55,6 +57,20 @@ Executes (Ok c) before (Ok done) after =
 Executes (Ok c) before (Err f) after = ⊥
 Executes (Err f) before (Ok done) after = ⊥
 Executes (Err f) before (Err g) after =
+    (g ≡ f) × IsAfter before.processor before.around after
+
+-- the same of a change that may switch the board off, which is told
+abbrev pub Performs : Result Change Fault → Scene → Result Unit Stop → Scene → Type 0
+Performs (Ok c) before (Ok done) after =
+    IsAfter (processor_after c before.processor) (around_after c before.around) after
+    × (switches_off before.around.board after.around.board ≡ false)
+Performs (Ok c) before (Err stop.PoweredOff) after =
+    IsAfter (processor_after c before.processor) (around_after c before.around) after
+    × (switches_off before.around.board after.around.board ≡ true)
+Performs (Ok c) before (Err (stop.Fault f)) after = ⊥
+Performs (Err f) before (Ok done) after = ⊥
+Performs (Err f) before (Err stop.PoweredOff) after = ⊥
+Performs (Err f) before (Err (stop.Fault g)) after =
     (g ≡ f) × IsAfter before.processor before.around after
 
 -- an instruction was executed that changes only the processor

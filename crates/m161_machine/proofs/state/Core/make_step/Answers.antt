@@ -32,6 +32,6 @@ returns-clause-state g c =
     ∙ ap (λ x. with_step c.args.p x c.args.self.now) (sym (step_is c.args.p c.args.self.now))
 
 pub returns-clause-ran : goal.returns-clause-ran
-returns-clause-ran g c = λ ran.
+returns-clause-ran g c = λ on ran.
     ap (λ (s : State). s.board.off) (returns-clause-state g c)
-    ∙ stays_on c.args.p c.args.self.now (sym (returns-clause-outcome g c) ∙ ran)
+    ∙ stays_on c.args.p c.args.self.now on (sym (returns-clause-outcome g c) ∙ ran)
