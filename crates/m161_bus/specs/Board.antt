@@ -36,6 +36,12 @@ pub record BoardState : Type 0 where
   pub places : List PlaceState
   pub console : ConsoleState
 
+-- what contracts see of a board: its state; and its console's room, which is no part of the state:
+-- how many bytes the console can send before memory is needed again
+pub record BoardValue : Type 0 where
+  pub state : BoardState
+  pub room : ℕ
+
 -- processor 0 is started, and gets every line; the others get none
 abbrev pub board_at_boot : ℕ → ℕ → ConsoleState → BoardState
 board_at_boot ram processors console = record {
@@ -165,6 +171,10 @@ ReadsSlot (Err fault) old (Err e) new = new ≡ old
 -- the number of processors and the size of RAM stay
 abbrev pub KeepsSize : BoardState → BoardState → Type 0
 KeepsSize old new = (new.ram ≡ old.ram) × (new.processors ≡ old.processors)
+
+-- and so does the console's room
+abbrev pub KeepsSizeAndRoom : BoardValue → BoardValue → Type 0
+KeepsSizeAndRoom old new = KeepsSize old.state new.state × (new.room ≡ old.room)
 
 -- the kept lines are those of each place
 abbrev pub KeepsLines : List ℕ → ℕ → List PlaceState → Type 0

@@ -1,7 +1,7 @@
 //! The board.
 
 ghost use Rattle.std.specs.Prelude.{◌≡◌, ◌-◌, ◌%◌, ◌^◌, ◌<◌, ◌≤◌, length, IfOk};
-ghost use Rattle.m161_bus.specs.Board.{KeepsLines, KeepsSize, ReadsSlot, after_read, board_at_boot, board_read, board_written, irqs_through, irqs_with, with_slot_word, slot_word};
+ghost use Rattle.m161_bus.specs.Board.{KeepsLines, KeepsSizeAndRoom, ReadsSlot, after_read, board_at_boot, board_read, board_written, irqs_through, irqs_with, with_slot_word, slot_word};
 ghost use Rattle.m161_bus.specs.Outcome.{LeavesUnlessRefused};
 ghost use Rattle.m161_bus.specs.helpers.Registers.{IsThere};
 
@@ -47,18 +47,21 @@ pub struct Board<D: Console> {
 
 impl<D: Console> Model for Board<D> {
     ghost use Rattle.std.specs.Prelude.{◌≡◌, ◌≤◌, length};
-    ghost use Rattle.m161_bus.specs.Board.{BoardState, KeepsLines, irqs_through};
+    ghost use Rattle.m161_bus.specs.Board.{BoardValue, KeepsLines, irqs_through};
 
-    ghost Value = { BoardState };
+    ghost Value = { BoardValue };
 
     ghost view = { λ b. record {
-      ram = b.ram;
-      processors = b.processors;
-      irqe = b.irqe;
-      started = b.started;
-      off = b.off;
-      places = b.places;
-      console = D.content b.console;
+      state = record {
+        ram = b.ram;
+        processors = b.processors;
+        irqe = b.irqe;
+        started = b.started;
+        off = b.off;
+        places = b.places;
+        console = D.content b.console;
+      };
+      room = D.room b.console;
     } };
 
     ghost invariant = { λ b.
@@ -98,7 +101,8 @@ impl<D: Console> Board<D> {
     pub fn new(console: D, ram: u32, processors: u32) -> Board<D>
         requires ram { (4096 ≤ ram) × (ram ≤ 16777216) × (ram % 4096 ≡ 0) }
         requires processors { (1 ≤ processors) × (processors ≤ 32) }
-        ensures { result ≡ board_at_boot ram processors (D.content console) }
+        ensures state { result.state ≡ board_at_boot ram processors (D.content console) }
+        ensures room { result.room ≡ D.room console }
     {
         let irqe = u32::MAX;
         let mut places = [Place::at_boot(0); PLACES];
@@ -116,10 +120,11 @@ impl<D: Console> Board<D> {
         }
     }
 
-    /// A board in the same state. Allocates its console's room.
+    /// A board in the same state, with at least the same room. Allocates its console's room.
     #[inline(never)]
     pub fn copy(&self, alloc: Global) -> Result<Board<D>, AllocError>
-        ensures { IfOk result (λ board. board ≡ self.now) }
+        ensures state { IfOk result (λ board. board.state ≡ self.now.state) }
+        ensures room { IfOk result (λ board. self.now.room ≤ board.room) }
     {
         let console = self.console.copy(alloc)?;
         Ok(Board {
@@ -138,10 +143,11 @@ impl<D: Console> Board<D> {
     /// fault exactly if that isn't the address of an aligned word of the slots. Does not allocate.
     #[tactic(auto, unfolding(crate::specs::Board::board_read))]
     pub fn read(&mut self, c: u32, at: u32) -> Result<u32, BusFault>
-        requires processor { c < self.old.processors }
-        ensures read { ReadsSlot (board_read c at self.old) self.old result self.new }
-        ensures size { KeepsSize self.old self.new }
-        ensures off { self.new.off ≡ self.old.off }
+        requires processor { c < self.old.state.processors }
+        ensures read { ReadsSlot (board_read c at self.old.state)
+            self.old.state result self.new.state }
+        ensures size { KeepsSizeAndRoom self.old self.new }
+        ensures off { self.new.state.off ≡ self.old.state.off }
     {
         let register = register_of(at, self.processors).ok_or(BusFault)?;
         Ok(self.read_register(c, register))
@@ -151,10 +157,10 @@ impl<D: Console> Board<D> {
     /// aligned word of the slots. Does not allocate.
     #[tactic(auto, unfolding(crate::specs::Board::board_written))]
     pub fn write(&mut self, c: u32, at: u32, word: u32) -> Result<(), BusFault>
-        requires processor { c < self.old.processors }
-        ensures write { LeavesUnlessRefused (board_written c at word self.old)
-            self.old result self.new }
-        ensures size { KeepsSize self.old self.new }
+        requires processor { c < self.old.state.processors }
+        ensures write { LeavesUnlessRefused (board_written c at word self.old.state)
+            self.old.state result self.new.state }
+        ensures size { KeepsSizeAndRoom self.old self.new }
     {
         let register = register_of(at, self.processors).ok_or(BusFault)?;
         self.write_register(register, word);
@@ -163,11 +169,12 @@ impl<D: Console> Board<D> {
 
     // The word that processor `c` reads from a register.
     fn read_register(&mut self, c: u32, register: Register) -> u32
-        requires processor { c < self.old.processors }
-        requires there { IsThere self.old.processors register }
-        ensures word { result ≡ slot_word c register self.old }
-        ensures after { self.new ≡ after_read register self.old }
-        ensures off { self.new.off ≡ self.old.off }
+        requires processor { c < self.old.state.processors }
+        requires there { IsThere self.old.state.processors register }
+        ensures word { result ≡ slot_word c register self.old.state }
+        ensures after { self.new.state ≡ after_read register self.old.state }
+        ensures off { self.new.state.off ≡ self.old.state.off }
+        ensures room { self.new.room ≡ self.old.room }
     {
         match register {
             Register::Constant(word) => word,
@@ -191,8 +198,9 @@ impl<D: Console> Board<D> {
 
     // Writes a word to a register.
     fn write_register(&mut self, register: Register, word: u32)
-        requires { IsThere self.old.processors register }
-        ensures { self.new ≡ with_slot_word register word self.old }
+        requires { IsThere self.old.state.processors register }
+        ensures after { self.new.state ≡ with_slot_word register word self.old.state }
+        ensures room { self.new.room ≡ self.old.room }
     {
         match register {
             Register::Constant(_)

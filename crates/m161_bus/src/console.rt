@@ -1,7 +1,8 @@
 //! The laws of a console.
 
-ghost use Rattle.std.specs.Prelude.{◌≡◌, List, IfOk};
+ghost use Rattle.std.specs.Prelude.{◌≡◌, ◌≢◌, ℕ, ◌+◌, ◌≤◌, List, Err, IfOk, IsOk, OnOk, OnErr};
 ghost use Rattle.m161_bus.specs.Console.{ConsoleState, console_at_boot, console_read, after_console_read, console_written, with_key, done_of, is_line_up};
+ghost use Rattle.m161_bus.specs.declared.console.DoneError.TheVariants.{NoMemory};
 ghost use Rattle.m161_bus.specs.Outcome.{LeavesUnlessRefused, LeavesUnlessNoMemory};
 
 use std::alloc::{AllocError, Global};
@@ -39,32 +40,56 @@ pub enum DoneError {
 pub trait Console: Drop {
     ghost content: { Self → ConsoleState };
 
+    // How many bytes can be sent before memory is needed again.
+    ghost room: { Self → ℕ };
+
     /// A console as at boot. Allocates the room for the waiting bytes.
     fn fresh(alloc: Global) -> Result<Self, AllocError>
         ensures { IfOk result (λ console. content console ≡ console_at_boot) };
 
-    /// A console in the same state. Allocates its room.
+    /// A console in the same state, with at least the same room. Allocates its room.
     fn copy(&self, alloc: Global) -> Result<Self, AllocError>
-        ensures { IfOk result (λ console. content console ≡ content self.now) };
+        ensures content { IfOk result (λ console. content console ≡ content self.now) }
+        ensures room { IfOk result (λ console. room self.now ≤ room console) };
 
     /// Reads a register; reading CHAR removes the byte. Does not allocate.
     fn read(&mut self, register: ConsoleRegister) -> u32
         ensures word { result ≡ console_read register (content self.old) }
-        ensures after { content self.new ≡ after_console_read register (content self.old) };
+        ensures after { content self.new ≡ after_console_read register (content self.old) }
+        ensures room { room self.new ≡ room self.old };
 
     /// Writes a register. Does not allocate.
     fn write(&mut self, register: ConsoleRegister, word: u32)
-        ensures { content self.new ≡ console_written register word (content self.old) };
+        ensures after { content self.new ≡ console_written register word (content self.old) }
+        ensures room { room self.new ≡ room self.old };
 
     /// Adds a waiting byte. Does not allocate.
     fn key(&mut self, byte: u8) -> Result<(), KeyFull>
-        ensures { let old = content self.old in
-            LeavesUnlessRefused (with_key byte old) old result (content self.new) };
+        ensures key { let old = content self.old in
+            LeavesUnlessRefused (with_key byte old) old result (content self.new) }
+        ensures room { room self.new ≡ room self.old };
 
-    /// Sends the byte in the latch: it goes to the output. May allocate.
+    /// Sends the byte in the latch: it goes to the output. Takes at most one byte's room, and
+    /// allocates only if there is none.
     fn done(&mut self) -> Result<(), DoneError>
-        ensures { let old = content self.old in
-            LeavesUnlessNoMemory (done_of old) old result (content self.new) };
+        ensures done { let old = content self.old in
+            LeavesUnlessNoMemory (done_of old) old result (content self.new) }
+        ensures room { room self.old ≤ room self.new + 1 }
+        ensures succeeds { 1 ≤ room self.old → result ≢ Err NoMemory }
+        ensures err { OnErr result (room self.new ≡ room self.old) };
+
+    /// How many bytes can be sent before memory is needed again.
+    fn room(&self) -> usize
+        ensures { result ≡ room self.now };
+
+    /// Makes room to send this many bytes; allocates only if there is less. After an error nothing
+    /// is changed.
+    fn reserve(&mut self, n: usize) -> Result<(), AllocError>
+        ensures content { content self.new ≡ content self.old }
+        ensures more { room self.old ≤ room self.new }
+        ensures ok { OnOk result (n ≤ room self.new) }
+        ensures succeeds { n ≤ room self.old → IsOk result }
+        ensures err { OnErr result (room self.new ≡ room self.old) };
 
     /// Whether the line is up.
     fn line(&self) -> bool

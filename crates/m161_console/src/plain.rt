@@ -22,18 +22,21 @@ pub struct PlainConsole {
 }
 
 impl Model for PlainConsole {
-    ghost use Rattle.std.specs.Prelude.{◌≤◌, length, vec_capacity};
-    ghost use Rattle.m161_bus.specs.Console.{ConsoleState};
+    ghost use Rattle.std.specs.Prelude.{◌-◌, ◌≤◌, length, vec_capacity};
+    ghost use Rattle.m161_console.specs.Plain.{PlainValue};
 
-    ghost Value = { ConsoleState };
+    ghost Value = { PlainValue };
 
     ghost view = { λ c. record {
-      waiting = c.waiting.items;
-      latch = c.latch;
-      output = c.sent.items;
-      write_irq = c.write_irq;
-      read_enable = c.read_enable;
-      read_force = c.read_force;
+      content = record {
+        waiting = c.waiting.items;
+        latch = c.latch;
+        output = c.sent.items;
+        write_irq = c.write_irq;
+        read_enable = c.read_enable;
+        read_force = c.read_force;
+      };
+      room = vec_capacity c.sent - length c.sent.items;
     } };
 
     ghost invariant = { λ c. 256 ≤ vec_capacity c.waiting };
@@ -42,7 +45,7 @@ impl Model for PlainConsole {
 impl PlainConsole {
     /// RIRQ as it is read: its ACTIVE says that bytes wait.
     fn read_irq(&self) -> IrqBits
-        ensures { result ≡ read_irq self.now }
+        ensures { result ≡ read_irq self.now.content }
     {
         IrqBits {
             enable: self.read_enable,
@@ -53,8 +56,10 @@ impl PlainConsole {
 
     /// Removes the oldest waiting byte and gives it, or gives 0.
     fn take_byte(&mut self) -> u32
-        ensures word { result ≡ oldest self.old.waiting }
-        ensures after { self.new ≡ record self.old { waiting = drop 1 self.old.waiting } }
+        ensures word { result ≡ oldest self.old.content.waiting }
+        ensures after { self.new.content
+            ≡ record self.old.content { waiting = drop 1 self.old.content.waiting } }
+        ensures room { self.new.room ≡ self.old.room }
     {
         if self.waiting.is_empty() {
             return 0;
@@ -64,7 +69,9 @@ impl PlainConsole {
 }
 
 impl Console for PlainConsole {
-    ghost content = { λ c. c };
+    ghost content = { λ c. c.content };
+
+    ghost room = { λ c. c.room };
 
     fn fresh(alloc: Global) -> Result<PlainConsole, AllocError> {
         Ok(PlainConsole {
@@ -80,10 +87,12 @@ impl Console for PlainConsole {
     fn copy(&self, alloc: Global) -> Result<PlainConsole, AllocError> {
         let mut waiting = Vec::with_capacity(alloc, ROOM)?;
         waiting.extend_from_slice(self.waiting.as_slice())?;
+        let mut sent = Vec::with_capacity(alloc, self.sent.capacity())?;
+        sent.extend_from_slice(self.sent.as_slice())?;
         Ok(PlainConsole {
             waiting,
             latch: self.latch,
-            sent: Vec::from_slice(alloc, self.sent.as_slice())?,
+            sent,
             write_irq: self.write_irq,
             read_enable: self.read_enable,
             read_force: self.read_force,
@@ -124,12 +133,21 @@ impl Console for PlainConsole {
 
     fn done(&mut self) -> Result<(), DoneError> {
         let byte = self.latch.ok_or(DoneError::NothingSent)?;
-        if self.sent.push(byte).is_err() {
+        if self.sent.reserve(1).is_err() {
             return Err(DoneError::NoMemory);
         }
+        self.sent.push_reserved(byte);
         self.latch = None;
         self.write_irq.active = true;
         Ok(())
+    }
+
+    fn room(&self) -> usize {
+        self.sent.capacity() - self.sent.len()
+    }
+
+    fn reserve(&mut self, n: usize) -> Result<(), AllocError> {
+        self.sent.reserve(n)
     }
 
     fn line(&self) -> bool {

@@ -1,11 +1,13 @@
 //! What a board shows, and the events of its console.
 
-ghost use Rattle.std.specs.Prelude.{◌≡◌, ◌<◌, ◌≤◌};
-ghost use Rattle.m161_bus.specs.Board.{KeepsSize, board_done, board_key, interrupt_lines, start_words};
+ghost use Rattle.std.specs.Prelude.{◌≡◌, ◌≢◌, ◌+◌, ◌<◌, ◌≤◌, Err, IsOk, OnOk, OnErr};
+ghost use Rattle.m161_bus.specs.Board.{KeepsSize, KeepsSizeAndRoom, board_done, board_key, interrupt_lines, start_words};
+ghost use Rattle.m161_bus.specs.declared.console.DoneError.TheVariants.{NoMemory};
 ghost use Rattle.m161_bus.specs.Outcome.{LeavesUnlessRefused, LeavesUnlessNoMemory};
 
 use crate::board::{Board, StartWords, current_lines};
 use crate::console::{Console, DoneError, KeyFull};
+use std::alloc::AllocError;
 
 /// Where the processors' places begin in kseg1.
 const PLACES_IN_KSEG1: u32 = 0xbfff_8000;
@@ -18,37 +20,37 @@ impl<D: Console> Board<D> {
     /// interprocessor interrupt. One load.
     #[tactic(auto, unfolding(crate::specs::Board::interrupt_lines))]
     pub fn lines(&self, c: u32) -> u32
-        requires { c < self.now.processors }
-        ensures lines { result ≡ interrupt_lines c self.now }
-        ensures few { self.now.processors ≤ 32 }
+        requires { c < self.now.state.processors }
+        ensures lines { result ≡ interrupt_lines c self.now.state }
+        ensures few { self.now.state.processors ≤ 32 }
     {
         self.lines[c as usize]
     }
 
     /// CPUE: bit `c` is set if processor `c` was started.
     pub fn started(&self) -> u32
-        ensures { result ≡ self.now.started }
+        ensures { result ≡ self.now.state.started }
     {
         self.started
     }
 
     /// Whether the machine was switched off.
     pub fn is_off(&self) -> bool
-        ensures { result ≡ self.now.off }
+        ensures { result ≡ self.now.state.off }
     {
         self.off
     }
 
     /// Bytes of RAM.
     pub fn ram(&self) -> u32
-        ensures { result ≡ self.now.ram }
+        ensures { result ≡ self.now.state.ram }
     {
         self.ram
     }
 
     /// How many processors there are.
     pub fn processors(&self) -> u32
-        ensures value { result ≡ self.now.processors }
+        ensures value { result ≡ self.now.state.processors }
         ensures limits { (1 ≤ result) × (result ≤ 32) }
     {
         self.processors
@@ -56,8 +58,8 @@ impl<D: Console> Board<D> {
 
     /// How processor `c` begins if CPUE starts it now.
     pub fn start_words(&self, c: u32) -> StartWords
-        requires { c < self.now.processors }
-        ensures { result ≡ start_words c self.now }
+        requires { c < self.now.state.processors }
+        ensures { result ≡ start_words c self.now.state }
     {
         let place = &self.places[c as usize];
         StartWords {
@@ -69,35 +71,60 @@ impl<D: Console> Board<D> {
 
     /// The console.
     pub fn console(&self) -> &D
-        ensures { D.content result.now ≡ self.now.console }
+        ensures { D.content result.now ≡ self.now.state.console }
     {
         &self.console
     }
 
     /// All bytes that the console sent, the first one first.
     pub fn output(&self) -> &[u8]
-        ensures { result.now ≡ self.now.console.output }
+        ensures { result.now ≡ self.now.state.console.output }
     {
         self.console.output()
     }
 
     /// Types a byte. Does not allocate.
     pub fn key(&mut self, byte: u8) -> Result<(), KeyFull>
-        ensures key { LeavesUnlessRefused (board_key byte self.old) self.old result self.new }
-        ensures size { KeepsSize self.old self.new }
+        ensures key { LeavesUnlessRefused (board_key byte self.old.state)
+            self.old.state result self.new.state }
+        ensures size { KeepsSizeAndRoom self.old self.new }
     {
         self.console.key(byte)?;
         self.lines = current_lines(&self.places, self.irqe, &self.console);
         Ok(())
     }
 
-    /// Sends the byte in the console's latch.
+    /// Sends the byte in the console's latch. Takes at most one byte's room, and allocates only if
+    /// there is none.
     pub fn done(&mut self) -> Result<(), DoneError>
-        ensures done { LeavesUnlessNoMemory (board_done self.old) self.old result self.new }
-        ensures size { KeepsSize self.old self.new }
+        ensures done { LeavesUnlessNoMemory (board_done self.old.state)
+            self.old.state result self.new.state }
+        ensures size { KeepsSize self.old.state self.new.state }
+        ensures room { self.old.room ≤ self.new.room + 1 }
+        ensures succeeds { 1 ≤ self.old.room → result ≢ Err NoMemory }
+        ensures err { OnErr result (self.new.room ≡ self.old.room) }
     {
         self.console.done()?;
         self.lines = current_lines(&self.places, self.irqe, &self.console);
         Ok(())
+    }
+
+    /// How many bytes the console can send before memory is needed again.
+    pub fn room(&self) -> usize
+        ensures { result ≡ self.now.room }
+    {
+        self.console.room()
+    }
+
+    /// Makes room for the console to send this many bytes; allocates only if there is less. After
+    /// an error nothing is changed.
+    pub fn reserve(&mut self, n: usize) -> Result<(), AllocError>
+        ensures state { self.new.state ≡ self.old.state }
+        ensures more { self.old.room ≤ self.new.room }
+        ensures ok { OnOk result (n ≤ self.new.room) }
+        ensures succeeds { n ≤ self.old.room → IsOk result }
+        ensures err { OnErr result (self.new.room ≡ self.old.room) }
+    {
+        self.console.reserve(n)
     }
 }
