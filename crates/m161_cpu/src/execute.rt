@@ -1,7 +1,7 @@
 //! The instruction of a word.
 
 ghost use Rattle.std.specs.Prelude.{Some, ◌≡◌, ◌^◌, ◌<◌, ◌≤◌, length};
-ghost use Rattle.m161_bus.specs.Board.{KeepsSize};
+ghost use Rattle.m161_bus.specs.Board.{KeepsSizeAndRoom};
 ghost use Rattle.m161_cpu.specs.Scene.{scene_of};
 ghost use Rattle.m161_cpu.specs.Step.{change_in, misfit_kind};
 ghost use Rattle.m161_cpu.specs.helpers.Execute.{change_by, Performs};
@@ -38,12 +38,13 @@ impl<T: Tlb> Cpu<T> {
         board: &mut Board<D>,
         links: &mut Links,
     ) -> Result<(), Stop>
-        requires processor { (c < board.old.processors) × (board.old.processors ≤ 32) }
+        requires processor { (c < board.old.state.processors) × (board.old.state.processors ≤ 32) }
         requires ram { length ram.old ≤ 2 ^ 29 }
-        ensures change { Performs (change_in (scene_of self.old c ram.old board.old links.old) word)
-            (scene_of self.old c ram.old board.old links.old) result
-            (scene_of self.new c ram.new board.new links.new) }
-        ensures board { KeepsSize board.old board.new }
+        ensures change { Performs
+            (change_in (scene_of self.old c ram.old board.old.state links.old) word)
+            (scene_of self.old c ram.old board.old.state links.old) result
+            (scene_of self.new c ram.new board.new.state links.new) }
+        ensures board { KeepsSizeAndRoom board.old board.new }
         ensures size { length ram.new ≡ length ram.old }
     {
         self.execute(&decode_in_step(word), c, ram, board, links)
@@ -60,13 +61,13 @@ impl<T: Tlb> Cpu<T> {
         board: &mut Board<D>,
         links: &mut Links,
     ) -> Result<(), Stop>
-        requires processor { (c < board.old.processors) × (board.old.processors ≤ 32) }
+        requires processor { (c < board.old.state.processors) × (board.old.state.processors ≤ 32) }
         requires ram { length ram.old ≤ 2 ^ 29 }
         ensures change { Performs (change_by
-            (scene_of self.old c ram.old board.old links.old) instr.now)
-            (scene_of self.old c ram.old board.old links.old) result
-            (scene_of self.new c ram.new board.new links.new) }
-        ensures board { KeepsSize board.old board.new }
+            (scene_of self.old c ram.old board.old.state links.old) instr.now)
+            (scene_of self.old c ram.old board.old.state links.old) result
+            (scene_of self.new c ram.new board.new.state links.new) }
+        ensures board { KeepsSizeAndRoom board.old board.new }
         ensures size { length ram.new ≡ length ram.old }
     {
         match *instr {

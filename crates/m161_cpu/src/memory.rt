@@ -2,7 +2,7 @@
 
 ghost use Rattle.std.specs.Prelude.{◌≡◌, ◌+◌, ◌-◌, ◌*◌, ◌/◌, ◌%◌, ◌^◌, ◌≤◌, ◌<◌, length, slice_index, Some, Ok, Err};
 ghost use Rattle.m161_isa.specs.declared.instr.Instr.TheVariants.{Load, Store};
-ghost use Rattle.m161_bus.specs.Board.{BoardState, KeepsSize};
+ghost use Rattle.m161_bus.specs.Board.{BoardState, KeepsSizeAndRoom};
 ghost use Rattle.m161_alu.specs.Word.{sign_extended_half};
 ghost use Rattle.m161_cpu.specs.Effect.{store_conditional, store_word_at};
 ghost use Rattle.m161_cpu.specs.helpers.Execute.{change_by, Executes, FindsWord, Performs};
@@ -47,14 +47,14 @@ impl<T: Tlb> Cpu<T> {
         board: &mut Board<D>,
         links: &mut Links,
     ) -> Result<(), Fault>
-        requires processor { (c < board.old.processors) × (board.old.processors ≤ 32) }
+        requires processor { (c < board.old.state.processors) × (board.old.state.processors ≤ 32) }
         requires ram { length ram.now ≤ 2 ^ 29 }
-        ensures load { Executes (change_by (scene_of self.old c ram.now board.old links.old)
+        ensures load { Executes (change_by (scene_of self.old c ram.now board.old.state links.old)
             (Load op rt offset base))
-            (scene_of self.old c ram.now board.old links.old) result
-            (scene_of self.new c ram.now board.new links.new) }
-        ensures board { KeepsSize board.old board.new }
-        ensures off { board.new.off ≡ board.old.off }
+            (scene_of self.old c ram.now board.old.state links.old) result
+            (scene_of self.new c ram.now board.new.state links.new) }
+        ensures board { KeepsSizeAndRoom board.old board.new }
+        ensures off { board.new.state.off ≡ board.old.state.off }
     {
         let address = self.address(offset, base);
         let size = ram.size();
@@ -105,12 +105,12 @@ impl<T: Tlb> Cpu<T> {
         ram: &Ram,
         board: &mut Board<D>,
     ) -> Result<u32, Fault>
-        requires processor { c < board.old.processors }
+        requires processor { c < board.old.state.processors }
         requires ram { length ram.now ≤ 2 ^ 29 }
-        ensures word { FindsWord (read_word address self.now c ram.now board.old)
-            board.old result board.new }
-        ensures board { KeepsSize board.old board.new }
-        ensures off { board.new.off ≡ board.old.off }
+        ensures word { FindsWord (read_word address self.now c ram.now board.old.state)
+            board.old.state result board.new.state }
+        ensures board { KeepsSizeAndRoom board.old board.new }
+        ensures off { board.new.state.off ≡ board.old.state.off }
     {
         match self.direct(4, address, ram.size()) {
             Some(at) => Ok(ram.word(at)),
@@ -128,11 +128,11 @@ impl<T: Tlb> Cpu<T> {
         ram: &Ram,
         board: &mut Board<D>,
     ) -> Result<u32, Fault>
-        requires processor { c < board.old.processors }
-        ensures word { FindsWord (read_word address self.now c ram.now board.old)
-            board.old result board.new }
-        ensures board { KeepsSize board.old board.new }
-        ensures off { board.new.off ≡ board.old.off }
+        requires processor { c < board.old.state.processors }
+        ensures word { FindsWord (read_word address self.now c ram.now board.old.state)
+            board.old.state result board.new.state }
+        ensures board { KeepsSizeAndRoom board.old board.new }
+        ensures off { board.new.state.off ≡ board.old.state.off }
     {
         let word = self.read_word_elsewhere(address, c, ram, board)?;
         Ok(word)
@@ -147,11 +147,11 @@ impl<T: Tlb> Cpu<T> {
         ram: &Ram,
         board: &mut Board<D>,
     ) -> Result<u32, Fault>
-        requires processor { c < board.old.processors }
-        ensures word { FindsWord (read_word address self.now c ram.now board.old)
-            board.old result board.new }
-        ensures board { KeepsSize board.old board.new }
-        ensures off { board.new.off ≡ board.old.off }
+        requires processor { c < board.old.state.processors }
+        ensures word { FindsWord (read_word address self.now c ram.now board.old.state)
+            board.old.state result board.new.state }
+        ensures board { KeepsSizeAndRoom board.old board.new }
+        ensures off { board.new.state.off ≡ board.old.state.off }
     {
         let at = self.translate(Access::Load, 4, address)?;
         if u64::from(at) + 4 <= u64::from(ram.size()) {
@@ -177,13 +177,13 @@ impl<T: Tlb> Cpu<T> {
         board: &mut Board<D>,
         links: &mut Links,
     ) -> Result<(), Stop>
-        requires processor { (c < board.old.processors) × (board.old.processors ≤ 32) }
+        requires processor { (c < board.old.state.processors) × (board.old.state.processors ≤ 32) }
         requires ram { length ram.old ≤ 2 ^ 29 }
-        ensures store { Performs (change_by (scene_of self.old c ram.old board.old links.old)
+        ensures store { Performs (change_by (scene_of self.old c ram.old board.old.state links.old)
             (Store op rt offset base))
-            (scene_of self.old c ram.old board.old links.old) result
-            (scene_of self.new c ram.new board.new links.new) }
-        ensures board { KeepsSize board.old board.new }
+            (scene_of self.old c ram.old board.old.state links.old) result
+            (scene_of self.new c ram.new board.new.state links.new) }
+        ensures board { KeepsSizeAndRoom board.old board.new }
         ensures size { length ram.new ≡ length ram.old }
     {
         let address = self.address(offset, base);
@@ -262,13 +262,13 @@ impl<T: Tlb> Cpu<T> {
         board: &mut Board<D>,
         links: &mut Links,
     ) -> Result<(), Stop>
-        requires processor { c < board.old.processors }
+        requires processor { c < board.old.state.processors }
         requires ram { length ram.old ≤ 2 ^ 29 }
         ensures store { Performs
-            (store_word_at address word (scene_of self.old c ram.old board.old links.old))
-            (scene_of self.old c ram.old board.old links.old) result
-            (scene_of self.new c ram.new board.new links.new) }
-        ensures board { KeepsSize board.old board.new }
+            (store_word_at address word (scene_of self.old c ram.old board.old.state links.old))
+            (scene_of self.old c ram.old board.old.state links.old) result
+            (scene_of self.new c ram.new board.new.state links.new) }
+        ensures board { KeepsSizeAndRoom board.old board.new }
         ensures size { length ram.new ≡ length ram.old }
     {
         if let Some(at) = self.direct(4, address, ram.size()) {
@@ -292,12 +292,12 @@ impl<T: Tlb> Cpu<T> {
         board: &mut Board<D>,
         links: &mut Links,
     ) -> Result<(), Stop>
-        requires processor { c < board.old.processors }
+        requires processor { c < board.old.state.processors }
         ensures store { Performs
-            (store_word_at address word (scene_of self.old c ram.old board.old links.old))
-            (scene_of self.old c ram.old board.old links.old) result
-            (scene_of self.new c ram.new board.new links.new) }
-        ensures board { KeepsSize board.old board.new }
+            (store_word_at address word (scene_of self.old c ram.old board.old.state links.old))
+            (scene_of self.old c ram.old board.old.state links.old) result
+            (scene_of self.new c ram.new board.new.state links.new) }
+        ensures board { KeepsSizeAndRoom board.old board.new }
         ensures size { length ram.new ≡ length ram.old }
     {
         let at = self.translate(Access::Store, 4, address)?;

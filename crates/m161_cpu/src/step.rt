@@ -1,7 +1,7 @@
 //! One Step.
 
 ghost use Rattle.std.specs.Prelude.{◌≡◌, ◌+◌, ◌-◌, ◌^◌, ◌<◌, ◌≤◌, None, length};
-ghost use Rattle.m161_bus.specs.Board.{KeepsSize, interrupt_lines};
+ghost use Rattle.m161_bus.specs.Board.{KeepsSizeAndRoom, interrupt_lines};
 ghost use Rattle.m161_cpu.specs.Links.{End, links_after};
 ghost use Rattle.m161_cpu.specs.Scene.{scene_of};
 ghost use Rattle.m161_cop0.specs.Trap.{IsVector};
@@ -27,14 +27,14 @@ impl<T: Tlb> Cpu<T> {
         board: &mut Board<D>,
         links: &mut Links,
     ) -> Outcome
-        requires processor { c < board.old.processors }
+        requires processor { c < board.old.state.processors }
         requires ram { length ram.old ≤ 2 ^ 29 }
         requires room { self.old.count < 2 ^ 64 - 1 }
-        ensures step { Leaves (step_of (scene_of self.old c ram.old board.old links.old)) result
-            (scene_of self.new c ram.new board.new links.new) }
+        ensures step { Leaves (step_of (scene_of self.old c ram.old board.old.state links.old))
+            result (scene_of self.new c ram.new board.new.state links.new) }
         ensures counted { self.new.count ≡ self.old.count + 1 }
         ensures size { length ram.new ≡ length ram.old }
-        ensures board { KeepsSize board.old board.new }
+        ensures board { KeepsSizeAndRoom board.old board.new }
         ensures proper { IsOfStep result }
     {
         let lines = board.lines(c);
@@ -54,15 +54,15 @@ impl<T: Tlb> Cpu<T> {
         board: &mut Board<D>,
         links: &mut Links,
     ) -> Outcome
-        requires processor { (c < board.old.processors) × (board.old.processors ≤ 32) }
-        requires lines { lines ≡ interrupt_lines c board.old }
+        requires processor { (c < board.old.state.processors) × (board.old.state.processors ≤ 32) }
+        requires lines { lines ≡ interrupt_lines c board.old.state }
         requires ram { length ram.old ≤ 2 ^ 29 }
         requires room { self.old.count < 2 ^ 64 - 1 }
-        ensures step { Leaves (running_step (scene_of self.old c ram.old board.old links.old))
-            result (scene_of self.new c ram.new board.new links.new) }
+        ensures step { Leaves (running_step (scene_of self.old c ram.old board.old.state links.old))
+            result (scene_of self.new c ram.new board.new.state links.new) }
         ensures counted { self.new.count ≡ self.old.count + 1 }
         ensures size { length ram.new ≡ length ram.old }
-        ensures board { KeepsSize board.old board.new }
+        ensures board { KeepsSizeAndRoom board.old board.new }
         ensures proper { IsOfStep result }
     {
         match self.execute_next(c, lines, ram, board, links) {
@@ -126,13 +126,14 @@ impl<T: Tlb> Cpu<T> {
         board: &mut Board<D>,
         links: &mut Links,
     ) -> Result<(), Stop>
-        requires processor { (c < board.old.processors) × (board.old.processors ≤ 32) }
-        requires lines { lines ≡ interrupt_lines c board.old }
+        requires processor { (c < board.old.state.processors) × (board.old.state.processors ≤ 32) }
+        requires lines { lines ≡ interrupt_lines c board.old.state }
         requires ram { length ram.old ≤ 2 ^ 29 }
-        ensures change { Performs (change_of_step (scene_of self.old c ram.old board.old links.old))
-            (scene_of self.old c ram.old board.old links.old) result
-            (scene_of self.new c ram.new board.new links.new) }
-        ensures board { KeepsSize board.old board.new }
+        ensures change { Performs
+            (change_of_step (scene_of self.old c ram.old board.old.state links.old))
+            (scene_of self.old c ram.old board.old.state links.old) result
+            (scene_of self.new c ram.new board.new.state links.new) }
+        ensures board { KeepsSizeAndRoom board.old board.new }
         ensures size { length ram.new ≡ length ram.old }
     {
         if self.control.interrupts(lines) {

@@ -113,9 +113,9 @@ impl<T: Tlb> Cpu<T> {
     /// gets physical addresses, and the word of RAM that it stores to. Does not allocate.
     #[inline(always)]
     pub fn uses<D: Console>(&self, c: u32, ram: &Ram, board: &Board<D>, links: &Links) -> Uses
-        requires processor { c < board.now.processors }
+        requires processor { c < board.now.state.processors }
         requires ram { length ram.now ≤ 2 ^ 29 }
-        ensures { result ≡ uses_of (scene_of self.now c ram.now board.now links.now) }
+        ensures { result ≡ uses_of (scene_of self.now c ram.now board.now.state links.now) }
     {
         if !self.fetches(board.lines(c)) {
             return NOTHING;

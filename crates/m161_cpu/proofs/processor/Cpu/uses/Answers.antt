@@ -6,18 +6,18 @@ use Rattle.m161_cpu.proofs.processor.Cpu.uses.Goals as goal
 
 pub returns-then-not-fetches : goal.returns-then-not-fetches
 returns-then-not-fetches g c =
-    let s = scene_of c.args.self.now c.args.c c.args.ram.now c.args.board.now c.args.links.now in
-    let e : c.fetches.result ≡ fetches s = c.fetches.ensures (around c.args.c c.args.ram.now c.args.board.now c.args.links.now) (sym c.lines.ensures.lines) in
+    let s = scene_of c.args.self.now c.args.c c.args.ram.now c.args.board.now.state c.args.links.now in
+    let e : c.fetches.result ≡ fetches s = c.fetches.ensures (around c.args.c c.args.ram.now c.args.board.now.state c.args.links.now) (sym c.lines.ensures.lines) in
     not_fetching s (sym e ∙ search rules)
 
 pub returns-in-Some : goal.returns-in-Some
 returns-in-Some g c =
-    let s = scene_of c.args.self.now c.args.c c.args.ram.now c.args.board.now c.args.links.now in
-    let e : c.fetches.result ≡ fetches s = c.fetches.ensures (around c.args.c c.args.ram.now c.args.board.now c.args.links.now) (sym c.lines.ensures.lines) in
-    fetched_by s c.fetched-fetch.result c.in-Some.word c.uses_of_word.result (sym e ∙ search rules) c.fetched-fetch.ensures c.in-Some.is (c.uses_of_word.ensures c.args.board.now)
+    let s = scene_of c.args.self.now c.args.c c.args.ram.now c.args.board.now.state c.args.links.now in
+    let e : c.fetches.result ≡ fetches s = c.fetches.ensures (around c.args.c c.args.ram.now c.args.board.now.state c.args.links.now) (sym c.lines.ensures.lines) in
+    fetched_by s c.fetched-fetch.result c.in-Some.word c.uses_of_word.result (sym e ∙ search rules) c.fetched-fetch.ensures c.in-Some.is (c.uses_of_word.ensures c.args.board.now.state)
 
 pub returns-in-None : goal.returns-in-None
 returns-in-None g c =
-    let s = scene_of c.args.self.now c.args.c c.args.ram.now c.args.board.now c.args.links.now in
-    let e : c.fetches.result ≡ fetches s = c.fetches.ensures (around c.args.c c.args.ram.now c.args.board.now c.args.links.now) (sym c.lines.ensures.lines) in
+    let s = scene_of c.args.self.now c.args.c c.args.ram.now c.args.board.now.state c.args.links.now in
+    let e : c.fetches.result ≡ fetches s = c.fetches.ensures (around c.args.c c.args.ram.now c.args.board.now.state c.args.links.now) (sym c.lines.ensures.lines) in
     not_fetched_by s c.fetched-fetch.result (sym e ∙ search rules) c.fetched-fetch.ensures c.in-None.is
