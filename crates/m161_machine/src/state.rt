@@ -44,9 +44,10 @@ impl<T: Tlb, D: Console> Model for Core<T, D> {
 
     ghost Value = { State };
 
-    ghost view = { λ c. state_of c.conf c.processors.items c.ram c.board c.links c.made };
+    ghost view = { λ c. state_of c.conf c.processors.items c.ram c.board.state c.links c.made };
 
-    ghost invariant = { λ c. IsSound (state_of c.conf c.processors.items c.ram c.board c.links c.made) };
+    ghost invariant = { λ c.
+        IsSound (state_of c.conf c.processors.items c.ram c.board.state c.links c.made) };
 }
 
 // The processors at boot: the first, started at the entry, and the others, stopped.

@@ -1,7 +1,7 @@
 //! A Step on the parts of a state.
 
 ghost use Rattle.std.specs.Prelude.{◌≡◌, ◌+◌, ◌-◌, ◌^◌, ◌<◌, ◌≤◌, length, ℕ};
-ghost use Rattle.m161_bus.specs.Board.{KeepsSize};
+ghost use Rattle.m161_bus.specs.Board.{KeepsSizeAndRoom};
 ghost use Rattle.m161_cpu.specs.Step.{IsOfStep};
 ghost use Rattle.m161_machine.specs.declared.conf.Conf.{Conf};
 ghost use Rattle.m161_machine.specs.State.{CountUpTo, started_by, state_of, step_on, with_starts, with_step};
@@ -21,23 +21,23 @@ pub(crate) fn step_parts<T: Tlb, D: Console>(
     links: &mut Links,
 ) -> Outcome
     requires processor { p < length processors.old.items }
-    requires number { (length processors.old.items ≡ board.old.processors)
-        × (board.old.processors ≤ 32) }
+    requires number { (length processors.old.items ≡ board.old.state.processors)
+        × (board.old.state.processors ≤ 32) }
     requires ram { length ram.old ≤ 2 ^ 29 }
     requires room { (n : ℕ) × (n < 2 ^ 64 - 1) × CountUpTo n processors.old.items }
     ensures outcome { (conf : Conf) (n : ℕ) → result ≡
         (step_on p
-        (state_of conf processors.old.items ram.old board.old links.old n)).outcome }
+        (state_of conf processors.old.items ram.old board.old.state links.old n)).outcome }
     ensures state { (conf : Conf) (n : ℕ) →
-        state_of conf processors.new.items ram.new board.new links.new (n + 1) ≡
+        state_of conf processors.new.items ram.new board.new.state links.new (n + 1) ≡
         with_step p
-        (step_on p (state_of conf processors.old.items ram.old board.old links.old n))
-        (state_of conf processors.old.items ram.old board.old links.old n) }
+        (step_on p (state_of conf processors.old.items ram.old board.old.state links.old n))
+        (state_of conf processors.old.items ram.old board.old.state links.old n) }
     ensures counts { (n : ℕ)
         → CountUpTo n processors.old.items → CountUpTo (n + 1) processors.new.items }
     ensures number { length processors.new.items ≡ length processors.old.items }
     ensures size { length ram.new ≡ length ram.old }
-    ensures board { KeepsSize board.old board.new }
+    ensures board { KeepsSizeAndRoom board.old board.new }
     ensures proper { IsOfStep result }
 {
     let before = board.started();
@@ -57,8 +57,9 @@ pub(crate) fn step_parts<T: Tlb, D: Console>(
 // Starts the processors that are new in CPUE.
 #[inline(always)]
 fn start_new<T: Tlb, D: Console>(processors: &mut Vec<Cpu<T>>, board: &Board<D>, before: u32)
-    requires { (length processors.old.items ≡ board.now.processors) × (board.now.processors ≤ 32) }
-    ensures { processors.new.items ≡ with_starts before board.now 0 processors.old.items }
+    requires { (length processors.old.items ≡ board.now.state.processors)
+        × (board.now.state.processors ≤ 32) }
+    ensures { processors.new.items ≡ with_starts before board.now.state 0 processors.old.items }
 {
     if board.started() != before {
         start_others(processors, board, before);
@@ -68,8 +69,9 @@ fn start_new<T: Tlb, D: Console>(processors: &mut Vec<Cpu<T>>, board: &Board<D>,
 #[cold]
 #[inline(never)]
 fn start_others<T: Tlb, D: Console>(processors: &mut Vec<Cpu<T>>, board: &Board<D>, before: u32)
-    requires { (length processors.old.items ≡ board.now.processors) × (board.now.processors ≤ 32) }
-    ensures { processors.new.items ≡ with_starts before board.now 0 processors.old.items }
+    requires { (length processors.old.items ≡ board.now.state.processors)
+        × (board.now.state.processors ≤ 32) }
+    ensures { processors.new.items ≡ with_starts before board.now.state 0 processors.old.items }
 {
     for c in 0..board.processors() {
         start_if_new(&mut processors[c as usize], c, board, before);
@@ -78,8 +80,8 @@ fn start_others<T: Tlb, D: Console>(processors: &mut Vec<Cpu<T>>, board: &Board<
 
 // Starts a processor if it is new in CPUE.
 fn start_if_new<T: Tlb, D: Console>(cpu: &mut Cpu<T>, c: u32, board: &Board<D>, before: u32)
-    requires { (c < board.now.processors) × (c < 32) }
-    ensures { cpu.new ≡ started_by before board.now c cpu.old }
+    requires { (c < board.now.state.processors) × (c < 32) }
+    ensures { cpu.new ≡ started_by before board.now.state c cpu.old }
 {
     if (board.started() >> c) % 2 == 1 && (before >> c) % 2 == 0 {
         let words = board.start_words(c);

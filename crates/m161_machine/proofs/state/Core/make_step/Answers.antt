@@ -12,8 +12,8 @@ step_parts-outcome-requires-clause-room g c =
 
 pub invariant_of-self : goal.invariant_of-self
 invariant_of-self g c = record {
-  size_is = c.step_parts-outcome.ensures.number ∙ c.self.invariant.size_is ∙ sym c.step_parts-outcome.ensures.board.1;
-  few = omega (arith, c.self.invariant.few, c.step_parts-outcome.ensures.board.1);
+  size_is = c.step_parts-outcome.ensures.number ∙ c.self.invariant.size_is ∙ sym c.step_parts-outcome.ensures.board.0.1;
+  few = omega (arith, c.self.invariant.few, c.step_parts-outcome.ensures.board.0.1);
   small = omega (arith, c.self.invariant.small, c.step_parts-outcome.ensures.size);
   limits_hold = c.self.invariant.limits_hold;
   counts = c.step_parts-outcome.ensures.counts c.self.inside.made c.self.invariant.counts;
