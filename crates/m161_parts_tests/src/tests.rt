@@ -6,6 +6,7 @@ mod cpu;
 mod decode;
 mod isa;
 mod ram;
+mod tlb;
 
 use std::fmt::Debug;
 use std::process::Abort;

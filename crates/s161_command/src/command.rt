@@ -234,8 +234,8 @@ fn with_files<'a>(
 ) -> Result<Command<'a>, AllocError>
     ensures shape { IsLocal command.entry → text.entry.global ≡ false
         → IfOk result (λ more. app_of more ≡ with_size_rules log.entry.now
-            (with_rule (with_rule (app_of command.entry) (file_rule (codes "image")))
-            (rule_of text.entry))) }
+        (with_rule (with_rule (app_of command.entry) (file_rule (codes "image")))
+        (rule_of text.entry))) }
     ensures local { IsLocal command.entry → text.entry.global ≡ false → IfOk result IsLocal }
 {
     let command = command

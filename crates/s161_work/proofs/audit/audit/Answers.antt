@@ -42,7 +42,7 @@ returns-clause-ok g c =
       events = c.in_ok-events.events;
       is_schedule = c.in_ok-events.ensures.found;
       finding = c.in_ok-finding.finding;
-      audits = subst U c.audit_conf.ensures c.in_ok-finding.ensures;
+      audits = subst U c.audit_conf-conf.ensures c.in_ok-finding.ensures;
       text_is = search rules;
       status_is = c.status.ensures;
     }
@@ -107,5 +107,5 @@ returns-in_err-finding-clause-fault g c =
     (λ e has. (watches, (c.as_str-2.result.now, is_schedule_text, (utf8_schedule, (c.in_ok-events.events, c.in_ok-events.ensures.found, has)))))
     tt
     (λ k has bad. ((c.as_str.result.now, is_watches, (utf8_watches, (watched, are_watches, bad))), (c.as_str-2.result.now, is_schedule_text, (utf8_schedule, (c.in_ok-events.events, c.in_ok-events.ensures.found, has)))))
-    (subst U c.audit_conf.ensures c.in_err-finding.ensures) in
+    (subst U c.audit_conf-conf.ensures c.in_err-finding.ensures) in
     rw (made.1, made.2) failed
