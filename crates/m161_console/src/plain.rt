@@ -8,7 +8,7 @@ use std::alloc::{AllocError, Global};
 use std::marker::Model;
 
 /// The greatest number of waiting bytes.
-const ROOM: usize = 256;
+const MOST_WAITING: usize = 256;
 
 /// A console over vectors.
 #[derive(Drop)]
@@ -75,7 +75,7 @@ impl Console for PlainConsole {
 
     fn fresh(alloc: Global) -> Result<PlainConsole, AllocError> {
         Ok(PlainConsole {
-            waiting: Vec::with_capacity(alloc, ROOM)?,
+            waiting: Vec::with_capacity(alloc, MOST_WAITING)?,
             latch: None,
             sent: Vec::new(alloc),
             write_irq: IrqBits::from_word(0),
@@ -85,7 +85,7 @@ impl Console for PlainConsole {
     }
 
     fn copy(&self, alloc: Global) -> Result<PlainConsole, AllocError> {
-        let mut waiting = Vec::with_capacity(alloc, ROOM)?;
+        let mut waiting = Vec::with_capacity(alloc, MOST_WAITING)?;
         waiting.extend_from_slice(self.waiting.as_slice())?;
         let mut sent = Vec::with_capacity(alloc, self.sent.capacity())?;
         sent.extend_from_slice(self.sent.as_slice())?;
@@ -124,7 +124,7 @@ impl Console for PlainConsole {
     }
 
     fn key(&mut self, byte: u8) -> Result<(), KeyFull> {
-        if self.waiting.len() >= ROOM {
+        if self.waiting.len() >= MOST_WAITING {
             return Err(KeyFull);
         }
         self.waiting.push_reserved(byte);

@@ -2,6 +2,7 @@
 //! the crate that it tests.
 
 mod alu;
+mod console;
 mod cpu;
 mod decode;
 mod isa;
