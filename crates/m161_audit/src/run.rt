@@ -3,19 +3,23 @@
 ghost use Rattle.std.specs.Prelude.{◌≡◌, ◌<◌, ℕ, List, [], ◌∷◌, None, Some, IfOk, IfSome, MatchOption, length, replicate};
 ghost use Rattle.m161_machine.specs.declared.event.Event.TheVariants as events;
 ghost use Rattle.m161_machine.specs.History.{boot_fault};
-ghost use Rattle.m161_machine.specs.StoreHistory.{StoreState};
+ghost use Rattle.m161_machine.specs.State.{refusal};
+ghost use Rattle.m161_machine.specs.StoreHistory.{StoreState, stores_after};
+ghost use Rattle.m161_machine.specs.Uses.{MakesStep};
 ghost use Rattle.m161_audit.specs.declared.shootdown.Shootdown.{Shootdown};
 ghost use Rattle.m161_audit.specs.declared.watch.Watch.{Watch};
 ghost use Rattle.m161_audit.specs.Audit.{Audits};
 ghost use Rattle.m161_audit.specs.Watch.{AreGood, IsBad};
+ghost use Rattle.m161_audit.specs.helpers.Progress.{tracked};
 ghost use Rattle.m161_audit.specs.helpers.Run.{AuditsEvents, AuditsInputs, AuditsStep, AuditsSteps, Begins, FindsIn, IsAt, IsInput};
 
 use crate::finding::{AuditError, Finding};
 use crate::shootdown::Shootdowns;
-use crate::stale::stale_use;
+use crate::stale::{stale_use, uses_no_row};
 use crate::watch::{Watch, is_bad};
 use m161_bus::Console;
 use m161_cpu::Via;
+use m161_isa::unmapped;
 use m161_machine::{BootError, Conf, Core, Event, Events, Machine, Refusal};
 use m161_tlb::Tlb;
 use std::alloc::Global;
@@ -33,6 +37,67 @@ fn first_bad(ram: u32, watches: &[Watch]) -> Option<usize>
     None
 }
 
+// Makes a Step that no refusal holds of, and notes its store.
+#[inline(always)]
+fn make_step<T: Tlb, D: Console>(
+    core: &mut Core<T, D>,
+    p: u32,
+    stored: Option<u32>,
+    shootdowns: &mut Shootdowns,
+)
+    requires { refusal core.old (events.Step p) ≡ None }
+    ensures made { MakesStep core.old p core.new }
+    ensures noted { (watches : List Watch) (stores : List ℕ)
+        → shootdowns.old ≡ tracked watches stores
+        → shootdowns.new ≡ tracked watches (stores_after stored stores) }
+{
+    core.make(p);
+    shootdowns.note_stored(stored);
+}
+
+// Audits a Step that no refusal holds of, and makes it if it is no stale use.
+#[cold]
+#[inline(never)]
+fn audit_step_of_rows<T: Tlb, D: Console>(
+    core: &mut Core<T, D>,
+    p: u32,
+    shootdowns: &mut Shootdowns,
+) -> Option<Via>
+    requires place { p < length core.old.processors }
+    requires refusal { refusal core.old (events.Step p) ≡ None }
+    ensures { (watches : List Watch) (s : StoreState)
+        → IsAt watches s core.old shootdowns.old
+        → AuditsStep watches s p result core.new shootdowns.new }
+{
+    let uses = core.uses(p);
+    if let Some(via) = stale_use(core, p, &uses, shootdowns) {
+        return Some(via);
+    }
+    make_step(core, p, uses.stored, shootdowns);
+    None
+}
+
+// The same. One that uses no row needs no look at the watches.
+#[inline(always)]
+fn audit_accepted_step<T: Tlb, D: Console>(
+    core: &mut Core<T, D>,
+    p: u32,
+    shootdowns: &mut Shootdowns,
+) -> Option<Via>
+    requires place { p < length core.old.processors }
+    requires refusal { refusal core.old (events.Step p) ≡ None }
+    ensures { (watches : List Watch) (s : StoreState)
+        → IsAt watches s core.old shootdowns.old
+        → AuditsStep watches s p result core.new shootdowns.new }
+{
+    let direct = core.uses(p);
+    if !uses_no_row(core, p, &direct) {
+        return audit_step_of_rows(core, p, shootdowns);
+    }
+    make_step(core, p, direct.stored, shootdowns);
+    None
+}
+
 // Audits a Step, and makes it if it is no stale use. A refused one changes nothing.
 #[inline(always)]
 fn audit_step<T: Tlb, D: Console>(
@@ -47,14 +112,10 @@ fn audit_step<T: Tlb, D: Console>(
     if let Some(_) = core.refusal(p) {
         return None;
     }
-    let uses = core.uses(p);
-    let stored = uses.stored;
-    if let Some(via) = stale_use(core, p, &uses, shootdowns) {
-        return Some(via);
+    match unmapped(core.pc(p)) {
+        Some(_) => audit_accepted_step(core, p, shootdowns),
+        None => audit_step_of_rows(core, p, shootdowns),
     }
-    core.make(p);
-    shootdowns.note_stored(stored);
-    None
 }
 
 // Audits Steps of a processor, and makes them up to the first stale use. Returns how many are

@@ -139,3 +139,20 @@ pub(crate) fn stale_use<T: Tlb, D: Console>(
         None => stale_via(core, p, uses.access, shootdowns),
     }
 }
+
+/// Whether a Step uses no row; then it is no stale use.
+#[inline(always)]
+pub(crate) fn uses_no_row<T: Tlb, D: Console>(core: &Core<T, D>, p: u32, uses: &Uses) -> bool
+    requires uses { uses.now ≡ uses_in p core.now }
+    ensures { result ≡ true → (watches : List Watch) (s : StoreState) (items : List Shootdown)
+        → IsAt watches s core.now items
+        → (v : Via) → UsesStale s watches p v → ⊥ }
+{
+    match uses.fetch {
+        Some(_) => false,
+        None => match uses.access {
+            Some(_) => false,
+            None => true,
+        },
+    }
+}

@@ -1,5 +1,5 @@
-use Rattle.std.proofs.Common.{◌≡◌, ◌≢◌, ◌∙◌, refl, ap, sym, subst, ℕ, ◌+◌, ◌*◌, ◌/◌, Bool, true, false, List, length, Option, None, Some, Result, Ok, Err}
-use Rattle.std.specs.Prelude.{◌+ℤ◌, ◌-ℤ◌, ◌%◌, slice_index, nat_le, if◌then◌else◌, ◌&&◌}
+use Rattle.std.proofs.Common.{◌≡◌, ◌≢◌, ◌∙◌, refl, ap, sym, subst, ℕ, ◌+◌, ◌*◌, ◌/◌, ◌^◌, ◌<◌, ◌≤◌, arith, Bool, true, false, List, length, Option, None, Some, Result, Ok, Err}
+use Rattle.std.specs.Prelude.{IfSome, ◌+ℤ◌, ◌-ℤ◌, ◌%◌, slice_index, nat_le, if◌then◌else◌, ◌&&◌}
 use Rattle.m161_isa.specs.declared.instr.Instr.{Instr}
 use Rattle.m161_isa.specs.declared.instr.Instr.TheVariants as instrs
 use Rattle.m161_isa.specs.declared.instr.LoadOp.{LoadOp}
@@ -17,7 +17,11 @@ use Rattle.m161_isa.specs.declared.instr.ImmediateOp.TheVariants as immediate
 use Rattle.m161_isa.specs.declared.instr.PlainOp.TheVariants as plain
 use Rattle.m161_isa.specs.declared.table.Row.{Row}
 use Rattle.m161_isa.specs.Instr.{row_of_instr, numbers_of_instr, instr_of}
-use Rattle.m161_isa.specs.Table.{row_that_fits, numbers_of}
+use Rattle.m161_isa.specs.declared.table.Row.TheVariants as rows
+use Rattle.m161_isa.specs.Bits.{bits_of}
+use Rattle.m161_isa.specs.Table.{Fits, row_that_fits, numbers_of}
+use Rattle.m161_isa.proofs.InstrBy.{row_of_instr-instr_by, numbers_of_instr-instr_by}
+use Rattle.m161_isa.proofs.OneRow.{row_that_fits-fits}
 use Rattle.m161_isa.specs.Address.{unmapped}
 use Rattle.m161_bus.specs.Board.{BoardState}
 use Rattle.m161_cpu.specs.declared.fault.Access.{Access}
@@ -41,7 +45,7 @@ use Rattle.m161_cpu.specs.Effect.{load_linked, own_link, store_conditional, unle
 use Rattle.m161_cpu.specs.helpers.Execute.{change_by}
 use Rattle.m161_cpu.specs.Step.{change_in, executable_word, is_unusable}
 use Rattle.m161_cpu.specs.Uses.{fetch_of, fetches, reference, reference_after, reference_by_row, reference_of_row, uses_of, via_in, via_of, via_row, via_reference}
-use Rattle.m161_cpu.specs.helpers.Uses.{IsFetched, IsWord, address_by, no_uses, place_of_store, reference_by, reference_by_some, stored_of, uses_after, uses_by, uses_fetched, uses_of_word, width_of_load, width_of_store}
+use Rattle.m161_cpu.specs.helpers.Uses.{IsFetched, IsWord, address_by, no_uses, place_of_store, reference_by, reference_by_some, stored_of, stores_only, uses_after, uses_by, uses_fetched, uses_of_word, width_of_load, width_of_store}
 use Rattle.m161_cpu.proofs.Decoded.{decoded}
 use Rattle.m161_cpu.proofs.Located.{not_located, located}
 use Rattle.m161_cpu.proofs.Awake.{step_stored}
@@ -269,6 +273,40 @@ word_uses s fetch word i row numbers value = λ j. record {
   stored = ap stored_of (decoded s word i row numbers value) j;
 }
 
+-- the opcode of a load or a store is at least 32
+
+high : (word n : ℕ) → 32 ≤ n → bits_of word 26 6 ≡ n → word / 2 ^ 26 < 32 → ⊥
+high word n least is small = omega (arith, least, is, small)
+
+fits_of : (word : ℕ) (i : Instr) (r : Row) → instr_of word ≡ i → row_of_instr i ≡ Some r → Fits word r
+fits_of word i r is row =
+    row_that_fits-fits word r (sym (row_of_instr-instr_by word (row_that_fits word)) ∙ ap row_of_instr is ∙ row)
+
+no_load : (word : ℕ) → word / 2 ^ 26 < 32 → (op : LoadOp) (rt o b : ℕ) → instr_of word ≢ instrs.Load op rt o b
+no_load word small load.Byte rt o b is = high word 32 (omega arith) (fits_of word (instrs.Load load.Byte rt o b) rows.Lb is refl).0 small
+no_load word small load.ByteUnsigned rt o b is = high word 36 (omega arith) (fits_of word (instrs.Load load.ByteUnsigned rt o b) rows.Lbu is refl).0 small
+no_load word small load.Half rt o b is = high word 33 (omega arith) (fits_of word (instrs.Load load.Half rt o b) rows.Lh is refl).0 small
+no_load word small load.HalfUnsigned rt o b is = high word 37 (omega arith) (fits_of word (instrs.Load load.HalfUnsigned rt o b) rows.Lhu is refl).0 small
+no_load word small load.Word rt o b is = high word 35 (omega arith) (fits_of word (instrs.Load load.Word rt o b) rows.Lw is refl).0 small
+no_load word small load.WordLeft rt o b is = high word 34 (omega arith) (fits_of word (instrs.Load load.WordLeft rt o b) rows.Lwl is refl).0 small
+no_load word small load.WordRight rt o b is = high word 38 (omega arith) (fits_of word (instrs.Load load.WordRight rt o b) rows.Lwr is refl).0 small
+no_load word small load.Linked rt o b is = high word 48 (omega arith) (fits_of word (instrs.Load load.Linked rt o b) rows.Ll is refl).0 small
+
+no_store : (word : ℕ) → word / 2 ^ 26 < 32 → (op : StoreOp) (rt o b : ℕ) → instr_of word ≢ instrs.Store op rt o b
+no_store word small store.Byte rt o b is = high word 40 (omega arith) (fits_of word (instrs.Store store.Byte rt o b) rows.Sb is refl).0 small
+no_store word small store.Half rt o b is = high word 41 (omega arith) (fits_of word (instrs.Store store.Half rt o b) rows.Sh is refl).0 small
+no_store word small store.Word rt o b is = high word 43 (omega arith) (fits_of word (instrs.Store store.Word rt o b) rows.Sw is refl).0 small
+no_store word small store.WordLeft rt o b is = high word 42 (omega arith) (fits_of word (instrs.Store store.WordLeft rt o b) rows.Swl is refl).0 small
+no_store word small store.WordRight rt o b is = high word 46 (omega arith) (fits_of word (instrs.Store store.WordRight rt o b) rows.Swr is refl).0 small
+no_store word small store.Conditional rt o b is = high word 56 (omega arith) (fits_of word (instrs.Store store.Conditional rt o b) rows.Sc is refl).0 small
+
+pub plain_uses : (s : Scene) (fetch : Option Via) (word : ℕ) → word / 2 ^ 26 < 32 →
+    ◌≡◌ {A = Uses} (record { fetch = fetch; access = None; stored = None }) (uses_of_word s fetch word)
+plain_uses s fetch word small =
+    other_uses s fetch (instr_of word) (no_load word small) (no_store word small)
+    ∙ word_uses s fetch word (instr_of word) (row_of_instr-instr_by word (row_that_fits word))
+    (numbers_of_instr-instr_by word (row_that_fits word)) refl
+
 -- the fetch
 
 pub fetched_uses : (s : Scene) (word : ℕ) (fetch : Option Via) → fetch ≡ via_of s.processor (fetch_of s.processor) → executable_word s.around.memory s.processor ≡ Ok word →
@@ -382,16 +420,37 @@ direct_fetched memory p a at word is h segment in_ram kernel w = (
 
 -- what a Step uses, by its fetch
 
-pub fetched_by : (s : Scene) (x : Option Via × Option ℕ) (word : ℕ) (u : Uses) → fetches s ≡ true → IsFetched s.around.memory s.processor x → x.1 ≡ Some word → u ≡ uses_of_word s x.0 word → u ≡ uses_of s
-fetched_by s x word u h f w is =
+pub fetched_by : (s : Scene) (x : Option Via × Option ℕ) (word : ℕ) (u : Uses) → IsFetched s.around.memory s.processor x → x.1 ≡ Some word → u ≡ uses_of_word s x.0 word → u ≡ uses_fetched s
+fetched_by s x word u f w is =
     let here : executable_word s.around.memory s.processor ≡ Ok word = subst (IsWord (executable_word s.around.memory s.processor)) w f.1 in
-    is ∙ fetched_uses s word x.0 f.0 here ∙ sym (uses_if s true h)
+    is ∙ fetched_uses s word x.0 f.0 here
 
-pub not_fetched_by : (s : Scene) (x : Option Via × Option ℕ) → fetches s ≡ true → IsFetched s.around.memory s.processor x → x.1 ≡ None →
-    ◌≡◌ {A = Uses} (record { fetch = x.0; access = None; stored = None }) (uses_of s)
-not_fetched_by s x h f w =
+pub not_fetched_by : (s : Scene) (x : Option Via × Option ℕ) → IsFetched s.around.memory s.processor x → x.1 ≡ None →
+    ◌≡◌ {A = Uses} (record { fetch = x.0; access = None; stored = None }) (uses_fetched s)
+not_fetched_by s x f w =
     let here : (g : Fault) × (executable_word s.around.memory s.processor ≡ Err g) = subst (IsWord (executable_word s.around.memory s.processor)) w f.1 in
-    not_fetched_uses s here.0 x.0 f.0 here.1 ∙ sym (uses_if s true h)
+    not_fetched_uses s here.0 x.0 f.0 here.1
+
+pub fetching : (s : Scene) (u : Uses) → fetches s ≡ true → u ≡ uses_fetched s → u ≡ uses_of s
+fetching s u h is = is ∙ sym (uses_if s true h)
 
 pub not_fetching : (s : Scene) → fetches s ≡ false → ◌≡◌ {A = Uses} no_uses (uses_of s)
 not_fetching s h = sym (uses_if s false h)
+
+-- a Step that gets no physical address through a row
+
+pub direct_by_word : (s : Scene) (word : ℕ) (o : Option (Option ℕ)) → IsFetched s.around.memory s.processor (None, Some word) →
+    IfSome o (λ stored. stores_only stored ≡ uses_of_word s None word) → IfSome o (λ stored. stores_only stored ≡ uses_fetched s)
+direct_by_word s word (Some stored) f is = fetched_by s (None, Some word) word (stores_only stored) f refl is
+direct_by_word s word None f is = is
+
+pub direct_by_instr : (s : Scene) (word : ℕ) (i : Instr) (o : Option (Option ℕ)) →
+    row_of_instr i ≡ row_that_fits word → numbers_of_instr i ≡ numbers_of word (row_that_fits word) → i ≡ instr_of word →
+    IfSome o (λ stored. stores_only stored ≡ uses_by s None i) → IfSome o (λ stored. stores_only stored ≡ uses_of_word s None word)
+direct_by_instr s word i (Some stored) row numbers value is = is ∙ word_uses s None word i row numbers value
+direct_by_instr s word i None row numbers value is = is
+
+pub direct_load : (s : Scene) (op : LoadOp) (rt o b at : ℕ) → unmapped (address_by s.processor o b) ≡ Some at →
+    stores_only None ≡ uses_by s None (instrs.Load op rt o b)
+direct_load s op rt o b at is =
+    load_uses s None op rt o b None (sym (direct_via Load (width_of_load op) (address_by s.processor o b) at s.processor is))

@@ -9,14 +9,14 @@ ghost use Rattle.m161_cpu.specs.Scene.{Around, scene, scene_of};
 ghost use Rattle.m161_cpu.specs.Translation.{physical_at};
 ghost use Rattle.m161_cpu.specs.Uses.{fetches, reference, uses_of, via_of, via_row};
 ghost use Rattle.m161_cpu.specs.helpers.Translation.{IsWidth};
-ghost use Rattle.m161_cpu.specs.helpers.Uses.{IsFetched, address_by, place_of_store, uses_by, uses_of_word, width_of_load, width_of_store};
+ghost use Rattle.m161_cpu.specs.helpers.Uses.{IsFetched, address_by, place_of_store, stores_only, uses_by, uses_fetched, uses_of_word, width_of_load, width_of_store};
 
 use crate::fault::Access;
 use crate::links::Links;
 use crate::processor::{Cpu, ProcessorState};
 use crate::row_number::RowNumber;
 use m161_bus::{Board, Console};
-use m161_decode::decode_in_uses;
+use m161_decode::{decode, decode_in_uses};
 use m161_isa::{Instr, LoadOp, StoreOp, unmapped};
 use m161_ram::Ram;
 use m161_tlb::{Identifier, Page, Tlb};
@@ -120,10 +120,13 @@ impl<T: Tlb> Cpu<T> {
         if !self.fetches(board.lines(c)) {
             return NOTHING;
         }
-        let (fetch, word) = self.fetched(ram);
-        match word {
-            Some(word) => self.uses_of_word(fetch, word, c, ram, links),
-            None => Uses { fetch, ..NOTHING },
+        match self.direct_uses(c, ram, links) {
+            Some(stored) => Uses {
+                fetch: None,
+                access: None,
+                stored,
+            },
+            None => self.uses_aside(c, ram, links),
         }
     }
 
@@ -142,22 +145,142 @@ impl<T: Tlb> Cpu<T> {
         }
     }
 
-    // The row of its fetch, and the word, if it may be executed.
+    // The word that a Step stores to, if it fetches by kseg0 in kernel mode and gets no physical
+    // address through a row. `None` stands for each other Step, and for some of these.
     #[inline(always)]
-    fn fetched(&self, ram: &Ram) -> (Option<Via>, Option<u32>)
+    fn direct_uses(&self, c: u32, ram: &Ram, links: &Links) -> Option<Option<u32>>
+        requires processor { c < 32 }
         requires ram { length ram.now ≤ 2 ^ 29 }
-        ensures { IsFetched ram.now self.now result }
+        ensures { (b : BoardState)
+            → IfSome result (λ stored.
+            stores_only stored ≡ uses_fetched (scene_of self.now c ram.now b links.now)) }
     {
         match self.direct(4, self.pc(), ram.size()) {
-            Some(at) => (None, Some(ram.word(at))),
-            None => self.fetched_elsewhere(ram),
+            Some(at) => self.direct_uses_of_word(ram.word(at), c, ram, links),
+            None => None,
         }
     }
 
-    // The same of a fetch that isn't by kseg0 in kernel mode.
+    // The same by the word that was fetched. Below opcode 32 there is neither a load nor a store.
+    #[inline(always)]
+    fn direct_uses_of_word(
+        &self,
+        word: u32,
+        c: u32,
+        ram: &Ram,
+        links: &Links,
+    ) -> Option<Option<u32>>
+        requires processor { c < 32 }
+        requires ram { length ram.now ≤ 2 ^ 29 }
+        ensures { (b : BoardState)
+            → IfSome result (λ stored.
+            stores_only stored ≡ uses_of_word (scene_of self.now c ram.now b links.now) None word) }
+    {
+        if word >> 26 < 32 {
+            return Some(None);
+        }
+        self.direct_uses_of_instr(&decode_in_uses(word), c, ram, links)
+    }
+
+    // The same by the instruction.
+    #[inline(always)]
+    fn direct_uses_of_instr(
+        &self,
+        instr: &Instr,
+        c: u32,
+        ram: &Ram,
+        links: &Links,
+    ) -> Option<Option<u32>>
+        requires processor { c < 32 }
+        requires ram { length ram.now ≤ 2 ^ 29 }
+        ensures { (b : BoardState)
+            → IfSome result (λ stored.
+            stores_only stored ≡ uses_by (scene_of self.now c ram.now b links.now) None instr.now) }
+    {
+        match *instr {
+            Instr::Load {
+                op: _,
+                rt: _,
+                offset,
+                base,
+            } => match unmapped(self.address(offset, base)) {
+                Some(_) => Some(None),
+                None => None,
+            },
+            Instr::Store {
+                op,
+                rt: _,
+                offset,
+                base,
+            } => self.direct_uses_of_store(op, self.address(offset, base), c, ram, links),
+            _ => Some(None),
+        }
+    }
+
+    // The same of a store.
+    #[inline(always)]
+    fn direct_uses_of_store(
+        &self,
+        op: StoreOp,
+        address: u32,
+        c: u32,
+        ram: &Ram,
+        links: &Links,
+    ) -> Option<Option<u32>>
+        requires processor { c < 32 }
+        requires ram { length ram.now ≤ 2 ^ 29 }
+        ensures { (b : BoardState) (rt offset base : ℕ)
+            → address_by self.now offset base ≡ address
+            → IfSome result (λ stored.
+            stores_only stored ≡ uses_by (scene_of self.now c ram.now b links.now) None
+            (instrs.Store op rt offset base)) }
+    {
+        match self.direct_store(op, address, ram.size()) {
+            Some(at) => Some(place_of_store(op, at, ram.size(), links.names(c, at))),
+            None => None,
+        }
+    }
+
+    // For LLVM: a call of `uses_elsewhere`, so that only this function has a stack slot for the
+    // result.
+    #[inline(always)]
+    fn uses_aside(&self, c: u32, ram: &Ram, links: &Links) -> Uses
+        requires processor { c < 32 }
+        requires ram { length ram.now ≤ 2 ^ 29 }
+        ensures { (b : BoardState)
+            → result ≡ uses_fetched (scene_of self.now c ram.now b links.now) }
+    {
+        let Uses {
+            fetch,
+            access,
+            stored,
+        } = self.uses_elsewhere(c, ram, links);
+        Uses {
+            fetch,
+            access,
+            stored,
+        }
+    }
+
+    // What a Step that fetches uses.
     #[cold]
     #[inline(never)]
-    fn fetched_elsewhere(&self, ram: &Ram) -> (Option<Via>, Option<u32>)
+    fn uses_elsewhere(&self, c: u32, ram: &Ram, links: &Links) -> Uses
+        requires processor { c < 32 }
+        requires ram { length ram.now ≤ 2 ^ 29 }
+        ensures { (b : BoardState)
+            → result ≡ uses_fetched (scene_of self.now c ram.now b links.now) }
+    {
+        let (fetch, word) = self.fetched(ram);
+        match word {
+            Some(word) => self.uses_of_word(fetch, word, c, ram, links),
+            None => Uses { fetch, ..NOTHING },
+        }
+    }
+
+    // The row of a fetch, and the word, if it may be executed.
+    #[inline(always)]
+    fn fetched(&self, ram: &Ram) -> (Option<Via>, Option<u32>)
         ensures { IsFetched ram.now self.now result }
     {
         let Ok(to) = self.locate(Access::Fetch, 4, self.pc()) else {
@@ -174,15 +297,17 @@ impl<T: Tlb> Cpu<T> {
         (fetch, Some(word))
     }
 
-    // What the instruction of a word uses.
+    // What the instruction of a word uses. Below opcode 32 there is neither a load nor a store.
     #[inline(always)]
     fn uses_of_word(&self, fetch: Option<Via>, word: u32, c: u32, ram: &Ram, links: &Links) -> Uses
         requires processor { c < 32 }
-        requires ram { length ram.now ≤ 2 ^ 29 }
         ensures { (b : BoardState)
             → result ≡ uses_of_word (scene_of self.now c ram.now b links.now) fetch word }
     {
-        self.uses_of_instr(fetch, &decode_in_uses(word), c, ram, links)
+        if word >> 26 < 32 {
+            return Uses { fetch, ..NOTHING };
+        }
+        self.uses_of_instr(fetch, &decode(word), c, ram, links)
     }
 
     #[inline(always)]
@@ -195,7 +320,6 @@ impl<T: Tlb> Cpu<T> {
         links: &Links,
     ) -> Uses
         requires processor { c < 32 }
-        requires ram { length ram.now ≤ 2 ^ 29 }
         ensures { (b : BoardState)
             → result ≡ uses_by (scene_of self.now c ram.now b links.now) fetch instr.now }
     {
@@ -216,39 +340,7 @@ impl<T: Tlb> Cpu<T> {
                 offset,
                 base,
             } => self.uses_of_store(fetch, op, self.address(offset, base), c, ram, links),
-            _ => Uses {
-                fetch,
-                access: None,
-                stored: None,
-            },
-        }
-    }
-
-    // What a store uses.
-    #[inline(always)]
-    fn uses_of_store(
-        &self,
-        fetch: Option<Via>,
-        op: StoreOp,
-        address: u32,
-        c: u32,
-        ram: &Ram,
-        links: &Links,
-    ) -> Uses
-        requires processor { c < 32 }
-        requires ram { length ram.now ≤ 2 ^ 29 }
-        ensures { (b : BoardState) (rt offset base : ℕ)
-            → address_by self.now offset base ≡ address
-            → result ≡ uses_by (scene_of self.now c ram.now b links.now) fetch
-            (instrs.Store op rt offset base) }
-    {
-        match self.direct_store(op, address, ram.size()) {
-            Some(at) => Uses {
-                fetch,
-                access: None,
-                stored: place_of_store(op, at, ram.size(), links.names(c, at)),
-            },
-            None => self.uses_of_store_elsewhere(fetch, op, address, c, ram, links),
+            _ => Uses { fetch, ..NOTHING },
         }
     }
 
@@ -267,9 +359,9 @@ impl<T: Tlb> Cpu<T> {
         }
     }
 
-    #[cold]
-    #[inline(never)]
-    fn uses_of_store_elsewhere(
+    // What a store uses.
+    #[inline(always)]
+    fn uses_of_store(
         &self,
         fetch: Option<Via>,
         op: StoreOp,
@@ -296,20 +388,8 @@ impl<T: Tlb> Cpu<T> {
 
     // The row through which a reference gets a physical address.
     #[inline(always)]
-    fn via(&self, access: Access, width: u32, address: u32) -> Option<Via>
-        requires { 0 < width }
-        ensures { result ≡ via_of self.now (reference access width address) }
-    {
-        match unmapped(address) {
-            Some(_) => None,
-            None => self.via_mapped(access, width, address),
-        }
-    }
-
-    #[cold]
-    #[inline(never)]
     #[tactic(auto, unfolding(crate::specs::Uses::via_of))]
-    fn via_mapped(&self, access: Access, width: u32, address: u32) -> Option<Via>
+    fn via(&self, access: Access, width: u32, address: u32) -> Option<Via>
         requires { 0 < width }
         ensures { result ≡ via_of self.now (reference access width address) }
     {
@@ -319,8 +399,9 @@ impl<T: Tlb> Cpu<T> {
         }
     }
 
-    // A row that gave a physical address.
-    #[inline(always)]
+    // A row that gave a physical address. For LLVM: a call of its own writes the padding of a `Via`
+    // together with its fields, and the copies of it are of one piece.
+    #[inline(never)]
     fn via_row(&self, row: Option<RowNumber>, address: u32) -> Option<Via>
         ensures { result ≡ via_row self.now address row }
     {

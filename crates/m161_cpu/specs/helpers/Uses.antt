@@ -21,6 +21,10 @@ use Rattle.m161_cpu.specs.helpers.Execute.{change_by}
 abbrev pub no_uses : Uses
 no_uses = record { fetch = None; access = None; stored = None }
 
+-- of a Step that gets no physical address through a row
+abbrev pub stores_only : Option ℕ → Uses
+stores_only stored = record { fetch = None; access = None; stored = stored }
+
 abbrev pub stored_of : Result Change Fault → Option ℕ
 stored_of (Ok change) = stored_by change.store
 stored_of (Err f) = None

@@ -1,8 +1,17 @@
-use Rattle.std.proofs.Common.{rules}
-use Rattle.m161_cpu.specs.declared.fault.Access.TheVariants.{Fetch}
-use Rattle.m161_cpu.proofs.Used.{direct_fetched}
+use Rattle.std.proofs.Common.{sym, rules}
+use Rattle.m161_cpu.proofs.Used.{elsewhere_fetched, elsewhere_not_located, elsewhere_outside, elsewhere_unusable}
 use Rattle.m161_cpu.proofs.processor.Cpu.fetched.Goals as goal
 
-pub returns-in-Some : goal.returns-in-Some
-returns-in-Some g c =
-    direct_fetched c.args.ram.now c.args.self.now c.pc.result c.in-Some.at c.word.result c.pc.ensures (c.in-Some.ensures.value Fetch) c.in-Some.ensures.segment (search rules) c.in-Some.ensures.kernel c.word.ensures
+pub returns-in_default : goal.returns-in_default
+returns-in_default g c = elsewhere_not_located c.args.ram.now c.args.self.now c.pc.result c.in_default.field-0 c.pc.ensures (sym c.in_default.ensures)
+
+pub returns-then-from : goal.returns-then-from
+returns-then-from g c = elsewhere_outside c.args.ram.now c.args.self.now c.pc.result c.in-Ok.to c.via_row-fetch.result c.pc.ensures (sym c.in-Ok.ensures) (search rules) (search rules)
+
+pub returns-then-is_unusable : goal.returns-then-is_unusable
+returns-then-is_unusable g c =
+    elsewhere_unusable c.args.ram.now c.args.self.now c.pc.result c.in-Ok.to c.via_row-fetch.result c.pc.ensures (sym c.in-Ok.ensures) (search rules) (search rules) (search rules)
+
+pub returns : goal.returns
+returns g c =
+    elsewhere_fetched c.args.ram.now c.args.self.now c.pc.result c.word-word.result c.in-Ok.to c.via_row-fetch.result c.pc.ensures (sym c.in-Ok.ensures) (search rules) (search rules) c.word-word.ensures (search rules)

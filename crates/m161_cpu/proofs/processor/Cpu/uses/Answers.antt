@@ -1,7 +1,7 @@
 use Rattle.std.proofs.Common.{◌∙◌, ◌≡◌, sym, rules}
 use Rattle.m161_cpu.specs.Scene.{around, scene_of}
 use Rattle.m161_cpu.specs.Uses.{fetches}
-use Rattle.m161_cpu.proofs.Used.{fetched_by, not_fetched_by, not_fetching}
+use Rattle.m161_cpu.proofs.Used.{fetching, not_fetching}
 use Rattle.m161_cpu.proofs.processor.Cpu.uses.Goals as goal
 
 pub returns-then-not-fetches : goal.returns-then-not-fetches
@@ -14,10 +14,10 @@ pub returns-in-Some : goal.returns-in-Some
 returns-in-Some g c =
     let s = scene_of c.args.self.now c.args.c c.args.ram.now c.args.board.now.state c.args.links.now in
     let e : c.fetches.result ≡ fetches s = c.fetches.ensures (around c.args.c c.args.ram.now c.args.board.now.state c.args.links.now) (sym c.lines.ensures.lines) in
-    fetched_by s c.fetched-fetch.result c.in-Some.word c.uses_of_word.result (sym e ∙ search rules) c.fetched-fetch.ensures c.in-Some.is (c.uses_of_word.ensures c.args.board.now.state)
+    fetching s _ (sym e ∙ search rules) (c.in-Some.ensures c.args.board.now.state)
 
 pub returns-in-None : goal.returns-in-None
 returns-in-None g c =
     let s = scene_of c.args.self.now c.args.c c.args.ram.now c.args.board.now.state c.args.links.now in
     let e : c.fetches.result ≡ fetches s = c.fetches.ensures (around c.args.c c.args.ram.now c.args.board.now.state c.args.links.now) (sym c.lines.ensures.lines) in
-    not_fetched_by s c.fetched-fetch.result (sym e ∙ search rules) c.fetched-fetch.ensures c.in-None.is
+    fetching s c.uses_aside.result (sym e ∙ search rules) (c.uses_aside.ensures c.args.board.now.state)
