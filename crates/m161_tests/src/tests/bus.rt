@@ -5,6 +5,7 @@ use super::listing::{Run, Stage, check_runs, check_with};
 use m161_machine::Event::{Done, Key, Step};
 use m161_machine::{Refusal, Register as R};
 use m161_test_support::outcomes::{Answer, BUS_DATA, BUS_FETCH, ENTRY, INTERRUPT, OFF, RAN, TAKEN};
+use std::process::Abort;
 use std::test::Fail;
 
 const IS_OFF: Answer = Err(Refusal::Off);
@@ -269,28 +270,38 @@ static CONSOLE_ROWS: [Run; 9] = [
     },
 ];
 
-/// An access at bfff0000 or bfe00000, with that in register 8.
-static SLOTS: Run = Run {
-    name: "the slots",
-    ram: 1_048_576,
-    processors: 1,
-    entry: ENTRY,
-    base: ENTRY,
-    program: &[
-        (0x3c08_bfff, "lui $8, 0xbfff"),
-        (0x0000_0000, "nop"),
-        (0x0000_0000, "nop"),
-    ],
-    stages: &[],
-};
+/// The words of an access at bfff0000 or bfe00000, with that in register 8.
+static ACCESS: [(u32, &str); 3] = [
+    (0x3c08_bfff, "lui $8, 0xbfff"),
+    (0x0000_0000, "nop"),
+    (0x0000_0000, "nop"),
+];
+
+/// Such an access in a machine of this much RAM.
+const fn slots(ram: u32) -> Run {
+    Run {
+        name: "the slots",
+        ram,
+        processors: 1,
+        entry: ENTRY,
+        base: ENTRY,
+        program: &ACCESS,
+        stages: &[],
+    }
+}
 
 /// Accesses with no answer: the text and the word of the access, and the word of a `lui` of
 /// register 8 with the upper half of the address before it.
-static ERRORS: [(&str, u32, u32); 16] = [
+static ERRORS: [(&str, u32, u32); 5] = [
     ("lw $9, 0($8)", 0x8d09_0000, 0x3c08_8010),
     ("lb $9, 0($8)", 0x8109_0000, 0x3c08_bfe0),
     ("ll $9, 32268($8)", 0xc109_7e0c, 0x3c08_bfff),
     ("sc $9, 32268($8)", 0xe109_7e0c, 0x3c08_bfff),
+    ("sw $9, 0($8)", 0xad09_0000, 0x3c08_a010),
+];
+
+/// The same, whatever the size of RAM.
+static ERRORS_OF_ANY_SIZE: [(&str, u32, u32); 11] = [
     ("lbu $9, 3($8)", 0x9109_0003, 0x3c08_bfe0),
     ("lh $9, 0($8)", 0x8509_0000, 0x3c08_bfe0),
     ("lhu $9, 2($8)", 0x9509_0002, 0x3c08_bfe0),
@@ -302,7 +313,6 @@ static ERRORS: [(&str, u32, u32); 16] = [
     ("swr $9, 0($8)", 0xb909_0000, 0x3c08_bfe0),
     ("lw $9, 0($8)", 0x8d09_0000, 0x3c08_9fdf),
     ("sw $9, 0($8)", 0xad09_0000, 0x3c08_9fdf),
-    ("sw $9, 0($8)", 0xad09_0000, 0x3c08_a010),
 ];
 
 /// Words of the board at boot: the name, the word of an `ori` that adds the low half of its address
@@ -336,9 +346,13 @@ fn console(rt: HostRuntime) -> Result<(), Fail> {
     check_runs(&rt, &CONSOLE_ROWS)
 }
 
-#[test]
-fn bus_errors(rt: HostRuntime) -> Result<(), Fail> {
-    for &(text, word, base) in &ERRORS {
+// Checks that accesses end in a bus error.
+fn check_errors(
+    rt: &(impl Abort + AllocGlobal),
+    ram: u32,
+    errors: &[(&str, u32, u32)],
+) -> Result<(), Fail> {
+    for &(text, word, base) in errors {
         let left = [
             (0, Cop(R::Cause, 0x1c)),
             (0, Cop(R::Epc, 0x8000_0208)),
@@ -346,9 +360,22 @@ fn bus_errors(rt: HostRuntime) -> Result<(), Fail> {
             (0, Register(9, 0)),
         ];
         let events = [(Step(0), 2, RAN), (Step(0), 1, BUS_DATA)];
-        check_with(&rt, &SLOTS, &[(0, base), (2, word)], text, &events, &left)?;
+        check_with(
+            rt,
+            &slots(ram),
+            &[(0, base), (2, word)],
+            text,
+            &events,
+            &left,
+        )?;
     }
     Ok(())
+}
+
+#[test]
+fn bus_errors(rt: HostRuntime) -> Result<(), Fail> {
+    check_errors(&rt, 1_048_576, &ERRORS)?;
+    check_errors(&rt, 4_096, &ERRORS_OF_ANY_SIZE)
 }
 
 #[test]
@@ -358,7 +385,7 @@ fn board_words(rt: HostRuntime) -> Result<(), Fail> {
         let words = [(1, word), (2, 0x8d09_0000)];
         check_with(
             &rt,
-            &SLOTS,
+            &slots(1_048_576),
             &words,
             name,
             &[(Step(0), 3, RAN)],

@@ -6,6 +6,7 @@ use m161_elf::LoadError;
 use m161_machine::BootError;
 use s161_work::fault::Fault;
 use s161_work::work::{start, work};
+use std::process::Abort;
 use std::sync::Wait;
 use std::test::Fail;
 use std::thread::Threads;
@@ -94,16 +95,23 @@ fn demo(rt: HostRuntime) {
     same(&rt, found, (0, all(DEMO), all("")));
 }
 
+// The demo's output after each number of bytes: an error, or no byte without an error.
+fn check_output(rt: &(impl Abort + AllocGlobal + Threads + Wait + Sync), fails: bool) {
+    for room in 0..DEMO.len() {
+        let rooms = [room, usize::MAX];
+        let found = run(rt, &["s161", "demo"], [DEMO, FAILED], rooms, fails);
+        same(rt, found, (1, (room, true), all(FAILED)));
+    }
+}
+
 #[test]
 fn failing_output(rt: HostRuntime) {
-    // after each number of bytes an error, or no byte without an error
-    for fails in [true, false] {
-        for room in 0..DEMO.len() {
-            let rooms = [room, usize::MAX];
-            let found = run(&rt, &["s161", "demo"], [DEMO, FAILED], rooms, fails);
-            same(&rt, found, (1, (room, true), all(FAILED)));
-        }
-    }
+    check_output(&rt, true);
+}
+
+#[test]
+fn full_output(rt: HostRuntime) {
+    check_output(&rt, false);
 }
 
 #[test]
