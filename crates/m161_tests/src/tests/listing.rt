@@ -43,6 +43,7 @@ pub(crate) struct Worked {
 }
 
 /// A worked row of several processors or of other events than Steps of processor 0.
+#[derive(Drop)]
 pub(crate) struct Run {
     pub name: &'static str,
     /// Bytes of RAM.
