@@ -49,7 +49,7 @@ pub fn replay<'a, F: FileSource>(
     )?;
     let line = verdict_line(alloc, verdict)?;
     Ok(Finished {
-        text: Vec::from_slice(alloc, line.as_bytes())?,
+        text: line.into_bytes(),
         status: status(verdict),
     })
 }
