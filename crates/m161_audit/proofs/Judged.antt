@@ -1,5 +1,5 @@
-use Rattle.std.proofs.Common.{◌≡◌, ◌≢◌, inl, inr, ◌∙◌, refl, ap, sym, subst, ℕ, ◌%◌, Bool, true, false, List, Option, None, Some}
-use Rattle.std.specs.Prelude.{◌==◌, ◌&&◌, slice_get, All}
+use Rattle.std.proofs.Common.{◌≡◌, inl, inr, ◌∙◌, refl, ap, sym, subst, ℕ, ◌<◌, ◌≤◌, ◌%◌, Bool, true, false, List, Option, None, Some}
+use Rattle.std.specs.Prelude.{◌==◌, ◌&&◌, slice_get}
 use Rattle.m161_tlb.specs.declared.row.Row.{Row}
 use Rattle.m161_cpu.specs.declared.uses.Via.{Via}
 use Rattle.m161_cpu.specs.declared.uses.Uses.{Uses}
@@ -15,7 +15,6 @@ use Rattle.m161_audit.specs.helpers.Progress.{has_gone_on, is_old_in, is_stale_f
 use Rattle.m161_audit.specs.helpers.Run.{IsAt}
 use Rattle.m161_audit.proofs.GoneOn.{equal, gone_on_progress, progress_gone_on, same}
 use Rattle.m161_audit.proofs.Tracked.{at_place, of_place}
-use Rattle.m161_audit.proofs.Walked.{of_all}
 
 -- The code's test of a use is the definition.
 
@@ -118,26 +117,21 @@ no_use watches s core items p u at h no_fetch no_access v (inl x) =
 no_use watches s core items p u at h no_fetch no_access v (inr x) =
     no_access v (ap (λ (y : Uses). y.access) (uses_are watches s core items p u at h) ∙ x.1) x.2
 
--- a page whose initiator hasn't gone on
+-- only the watches in the range of the page need a look
 
-abbrev pub NotGoneOn : ℕ → Shootdown → Type 0
-NotGoneOn page x = x.watch.page % 64 ≡ page % 64 → x.progress ≢ GoneOn
-
-not_gone_on : (p : Progress) → p ≢ GoneOn → has_gone_on p ≡ false
-not_gone_on Before h = refl
-not_gone_on Changed h = refl
-not_gone_on GoneOn h = absurd (h refl)
-
-by_page : (core : State) (p : ℕ) (v : Via) (x : Shootdown) (t : Bool) → (v.page == x.watch.page) ≡ t → NotGoneOn v.page x → is_stale_for core p v x ≡ false
-by_page core p v x false e none = rw e refl
-by_page core p v x true e none =
-    let same_page : v.page ≡ x.watch.page = equal v.page x.watch.page e in
-    let not : has_gone_on x.progress ≡ false = not_gone_on x.progress (none (ap (λ n. n % 64) (sym same_page))) in
-    rw (e, not) (no_more (v.id == x.watch.id) (is_old_in (word_in core.memory x.watch.pte) (slice_get (processor_at p core.processors).rows v.row)))
+by_range : (core : State) (p : ℕ) (v : Via) (x : Shootdown) (page over : Bool) → (v.page == x.watch.page) ≡ page → has_gone_on x.progress ≡ over →
+    (x.watch.page % 64 ≡ v.page % 64 → x.progress ≡ GoneOn → is_stale_for core p v x ≡ false) → is_stale_for core p v x ≡ false
+by_range core p v x false over e h there = rw e refl
+by_range core p v x true false e h there = rw (e, h) (no_more (v.id == x.watch.id) (is_old_in (word_in core.memory x.watch.pte) (slice_get (processor_at p core.processors).rows v.row)))
   where
     no_more : (a b : Bool) → (a && false && b) ≡ false
     no_more true b = refl
     no_more false b = refl
+by_range core p v x true true e h there = there (ap (λ n. n % 64) (sym (equal v.page x.watch.page e))) (gone_on_is x.progress h)
 
-pub none_marked : (core : State) (p : ℕ) (v : Via) (items : List Shootdown) → All (NotGoneOn v.page) items → NotTested core p v items
-none_marked core p v items all i x at = by_page core p v x (v.page == x.watch.page) refl (of_all (NotGoneOn v.page) items all i x at)
+pub none_in_range : (core : State) (p : ℕ) (v : Via) (items : List Shootdown) (first past : ℕ) →
+    ((i : ℕ) (x : Shootdown) → slice_get items i ≡ Some x → x.watch.page % 64 ≡ v.page % 64 → x.progress ≡ GoneOn → (first ≤ i) × (i < past)) →
+    ((i : ℕ) (x : Shootdown) → first ≤ i → i < past → slice_get items i ≡ Some x → is_stale_for core p v x ≡ false) →
+    NotTested core p v items
+none_in_range core p v items first past range none i x at =
+    by_range core p v x (v.page == x.watch.page) (has_gone_on x.progress) refl refl (λ page over. let inside = range i x at page over in none i x inside.0 inside.1 at)

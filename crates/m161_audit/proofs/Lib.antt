@@ -1,6 +1,7 @@
 mod GoneOn
 mod Tracked
 mod Walked
+mod Ranged
 mod Judged
 mod Made
 mod Begun

@@ -29,10 +29,10 @@ in_list {X = X} xs i x h = by (slice_get_cases xs i).1
     by (inr c) = absurd (some_not_none x (slice_get xs i) h c.1)
 
 -- a test is false on one element more
-pub false_next : {X : Type 0} (f : X → Bool) (xs : List X) (k : ℕ) (d : X) (b : Bool) → k < length xs →
-    ((i : ℕ) (x : X) → i < k → slice_get xs i ≡ Some x → f x ≡ false) → b ≡ f (get_or xs k d) → b ≡ false →
-    (i : ℕ) (x : X) → i < k + 1 → slice_get xs i ≡ Some x → f x ≡ false
-false_next {X = X} f xs k d b below none is wrong i x less at = by (cases_order i k)
+pub false_from : {X : Type 0} (f : X → Bool) (xs : List X) (from k : ℕ) (d : X) (b : Bool) → k < length xs →
+    ((i : ℕ) (x : X) → from ≤ i → i < k → slice_get xs i ≡ Some x → f x ≡ false) → b ≡ f (get_or xs k d) → b ≡ false →
+    (i : ℕ) (x : X) → from ≤ i → i < k + 1 → slice_get xs i ≡ Some x → f x ≡ false
+false_from {X = X} f xs from k d b below none is wrong i x after less at = by (cases_order i k)
   where
     here : i ≡ k → f x ≡ false
     here e =
@@ -42,8 +42,15 @@ false_next {X = X} f xs k d b below none is wrong i x less at = by (cases_order 
 
     by : (i ≡ k) ⊎ ((i < k) ⊎ (k < i)) → f x ≡ false
     by (inl e) = here e
-    by (inr (inl lt)) = none i x lt at
+    by (inr (inl lt)) = none i x after lt at
     by (inr (inr gt)) = absurd (omega (arith, less, gt))
+
+-- the same from the beginning on
+pub false_next : {X : Type 0} (f : X → Bool) (xs : List X) (k : ℕ) (d : X) (b : Bool) → k < length xs →
+    ((i : ℕ) (x : X) → i < k → slice_get xs i ≡ Some x → f x ≡ false) → b ≡ f (get_or xs k d) → b ≡ false →
+    (i : ℕ) (x : X) → i < k + 1 → slice_get xs i ≡ Some x → f x ≡ false
+false_next f xs k d b below none is wrong i x less at =
+    false_from f xs 0 k d b below (λ j y _ before there. none j y before there) is wrong i x (omega arith) less at
 
 not_true : (b : Bool) → b ≡ true → b ≡ false → ⊥
 not_true b h k = let bad : true ≡ false = sym h ∙ k in cc

@@ -1,8 +1,8 @@
 //! How far the shootdowns are.
 
-ghost use Rattle.std.specs.Prelude.{◌≡◌, ◌≢◌, ◌⊎◌, ℕ, ◌≤◌, ◌%◌, List, [], true, false, IfOk, All, length, map};
+ghost use Rattle.std.specs.Prelude.{◌≡◌, ℕ, ◌≤◌, ◌<◌, ◌%◌, List, [], false, Some, IfOk, All, length, map, slice_get};
 ghost use Rattle.m161_machine.specs.StoreHistory.{stores_after};
-ghost use Rattle.m161_audit.specs.helpers.Progress.{IsMarked, IsWithin, after_word, progress_after, tracked};
+ghost use Rattle.m161_audit.specs.helpers.Progress.{AreInRanges, IsAtMost, IsWithin, after_word, has_gone_on, progress_after, tracked};
 
 use crate::watch::Watch;
 use std::alloc::{AllocError, Global};
@@ -26,6 +26,14 @@ pub(crate) struct Shootdown {
     pub(crate) progress: Progress,
 }
 
+// For each remainder of a page by 64, a range of places: that of each shootdown of such a page whose
+// initiator has gone on is from the first place on and before the other one.
+#[derive(Drop)]
+struct Ranges {
+    firsts: [usize; 64],
+    pasts: [usize; 64],
+}
+
 /// The shootdowns of all watches. Contracts see them as their list.
 #[derive(Drop)]
 pub(crate) struct Shootdowns {
@@ -33,14 +41,13 @@ pub(crate) struct Shootdowns {
     // All words of the watches are from `low` to `high`, so a store elsewhere changes nothing.
     low: u32,
     high: u32,
-    // For each remainder of a page by 64, false only if the initiator of no such page has gone on.
-    marks: [bool; 64],
+    ranges: Ranges,
 }
 
 impl Model for Shootdowns {
     ghost use Rattle.std.specs.Prelude.{◌≡◌, List, All, length};
     ghost use Rattle.m161_audit.specs.declared.shootdown.Shootdown.{Shootdown};
-    ghost use Rattle.m161_audit.specs.helpers.Progress.{IsMarked, IsWithin};
+    ghost use Rattle.m161_audit.specs.helpers.Progress.{AreInRanges, IsAtMost, IsWithin};
 
     ghost Value = { List Shootdown };
 
@@ -48,8 +55,10 @@ impl Model for Shootdowns {
 
     ghost invariant = { λ s.
         All (IsWithin s.low s.high) s.items.items
-        × All (IsMarked s.marks) s.items.items
-        × (length s.marks ≡ 64) };
+        × AreInRanges s.ranges.firsts s.ranges.pasts s.items.items
+        × All (IsAtMost (length s.items.items)) s.ranges.pasts
+        × (length s.ranges.firsts ≡ 64)
+        × (length s.ranges.pasts ≡ 64) };
 }
 
 // The progress after a store to a word.
@@ -87,18 +96,33 @@ fn note_store(items: &mut Vec<Shootdown>, word: u32)
     }
 }
 
-// The marks of the pages whose initiators have gone on.
-fn marks_of(items: &[Shootdown]) -> [bool; 64]
-    ensures marked { All (IsMarked result) items.now }
-    ensures length { length result ≡ 64 }
+// Whether the initiator has gone on.
+fn has_gone_on(progress: Progress) -> bool
+    ensures { result ≡ has_gone_on progress }
 {
-    let mut marks = [false; 64];
-    for item in items {
-        if item.progress == Progress::GoneOn {
-            marks[(item.watch.page % 64) as usize] = true;
+    match progress {
+        Progress::GoneOn => true,
+        Progress::Before | Progress::Changed => false,
+    }
+}
+
+// The ranges of the shootdowns.
+fn ranges_of(items: &[Shootdown]) -> Ranges
+    ensures ranges { AreInRanges result.firsts result.pasts items.now }
+    ensures bounded { All (IsAtMost (length items.now)) result.pasts }
+    ensures firsts { length result.firsts ≡ 64 }
+    ensures pasts { length result.pasts ≡ 64 }
+{
+    let mut firsts = [usize::MAX; 64];
+    let mut pasts = [0; 64];
+    for (i, item) in items.iter().enumerate() {
+        if has_gone_on(item.progress) {
+            let page = (item.watch.page % 64) as usize;
+            firsts[page] = firsts[page].min(i);
+            pasts[page] = i + 1;
         }
     }
-    marks
+    Ranges { firsts, pasts }
 }
 
 // The shootdowns of watches before any store.
@@ -148,12 +172,12 @@ impl Shootdowns {
     {
         let items = from_start(alloc, watches)?;
         let (low, high) = bounds(items.as_slice());
-        let marks = marks_of(items.as_slice());
+        let ranges = ranges_of(items.as_slice());
         Ok(Shootdowns {
             items,
             low,
             high,
-            marks,
+            ranges,
         })
     }
 
@@ -204,18 +228,23 @@ impl Shootdowns {
             items,
             low: _,
             high: _,
-            marks,
+            ranges,
         } = self;
         note_store(items, word);
-        *marks = marks_of(items.as_slice());
+        *ranges = ranges_of(items.as_slice());
     }
 
-    /// Whether the initiator of a page may have gone on.
+    /// The places, from the first on and before the other one, of the shootdowns whose pages have
+    /// the remainder of this page by 64 and whose initiators have gone on.
     #[inline(always)]
-    pub(crate) fn may_have_gone_on(&self, page: u32) -> bool
-        ensures { result ≡ true ⊎ All (λ x. x.watch.page % 64 ≡ page % 64 → x.progress ≢ Progress.GoneOn) self.now }
+    pub(crate) fn range(&self, page: u32) -> (usize, usize)
+        ensures within { result.1 ≤ length self.now }
+        ensures range { (i : ℕ) (x : Shootdown) → slice_get self.now i ≡ Some x
+            → x.watch.page % 64 ≡ page % 64 → x.progress ≡ Progress.GoneOn
+            → (result.0 ≤ i) × (i < result.1) }
     {
-        self.marks[(page % 64) as usize]
+        let page = (page % 64) as usize;
+        (self.ranges.firsts[page], self.ranges.pasts[page])
     }
 
     /// The shootdowns, one by one.

@@ -1,6 +1,6 @@
 //! Whether a Step's use of the TLB is stale.
 
-ghost use Rattle.std.specs.Prelude.{◌≡◌, ◌<◌, ℕ, List, true, false, Some, MatchOption, length, slice_get};
+ghost use Rattle.std.specs.Prelude.{◌≡◌, ◌<◌, ◌≤◌, ℕ, List, true, false, Some, MatchOption, length, slice_get};
 ghost use Rattle.m161_machine.specs.StoreHistory.{StoreState};
 ghost use Rattle.m161_machine.specs.Uses.{uses_in};
 ghost use Rattle.m161_cpu.specs.declared.uses.Via.{Via};
@@ -50,31 +50,34 @@ fn is_stale_for<T: Tlb, D: Console>(
     }
 }
 
-// Whether a use is stale for one of the watches.
+// Whether a use is stale for one of the watches from one place on and before another one.
 #[inline(never)]
 fn is_stale_among<T: Tlb, D: Console>(
     core: &Core<T, D>,
     p: u32,
     via: &Via,
     items: &[Shootdown],
+    first: usize,
+    past: usize,
 ) -> bool
-    requires { p < length core.now.processors }
+    requires place { p < length core.now.processors }
+    requires within { past ≤ length items.now }
     ensures yes { result ≡ true → (i : ℕ) × (x : Shootdown)
         × (slice_get items.now i ≡ Some x)
         × (is_stale_for core.now p via.now x ≡ true) }
     ensures no { result ≡ false → (i : ℕ) (x : Shootdown)
-        → slice_get items.now i ≡ Some x
+        → first ≤ i → i < past → slice_get items.now i ≡ Some x
         → is_stale_for core.now p via.now x ≡ false }
 {
-    for x in items {
-        if is_stale_for(core, p, via, x) {
+    for i in first..past {
+        if is_stale_for(core, p, via, &items[i]) {
             return true;
         }
     }
     false
 }
 
-// The same. A page whose initiator hasn't gone on needs no look at the watches.
+// The same of all watches. Only those in the range of the page need a look.
 #[inline(always)]
 fn is_stale<T: Tlb, D: Console>(
     core: &Core<T, D>,
@@ -90,8 +93,9 @@ fn is_stale<T: Tlb, D: Console>(
         → slice_get shootdowns.now i ≡ Some x
         → is_stale_for core.now p via.now x ≡ false }
 {
-    if shootdowns.may_have_gone_on(via.page.number()) {
-        is_stale_among(core, p, via, shootdowns.as_slice())
+    let (first, past) = shootdowns.range(via.page.number());
+    if first < past {
+        is_stale_among(core, p, via, shootdowns.as_slice(), first, past)
     } else {
         false
     }

@@ -1,4 +1,4 @@
-use Rattle.std.specs.Prelude.{◌≡◌, ℕ, ◌≤◌, ◌%◌, Bool, true, false, ◌==◌, ◌&&◌, if◌then◌else◌, List, [], ◌∷◌, map, slice_get, slice_index_or, Option, None, Some}
+use Rattle.std.specs.Prelude.{◌≡◌, ℕ, ◌<◌, ◌≤◌, ◌%◌, Bool, true, false, ◌==◌, ◌&&◌, if◌then◌else◌, List, [], ◌∷◌, map, slice_get, slice_index_or, Option, None, Some}
 use Rattle.m161_tlb.specs.declared.row.Row.{Row}
 use Rattle.m161_cpu.specs.declared.uses.Via.{Via}
 use Rattle.m161_machine.specs.State.{State, processor_at, word_in}
@@ -59,6 +59,20 @@ abbrev pub IsWithin : ℕ → ℕ → Shootdown → Type 0
 IsWithin low high x =
     (low ≤ x.watch.pte) × (x.watch.pte ≤ high) × (low ≤ x.watch.done) × (x.watch.done ≤ high)
 
--- if the initiator has gone on, the place of the page says so
-abbrev pub IsMarked : List Bool → Shootdown → Type 0
-IsMarked marks x = x.progress ≡ GoneOn → slice_index_or marks (x.watch.page % 64) false ≡ true
+-- if the initiator of the watch at place i has gone on, i is in the range of the page
+abbrev pub IsInRange : List ℕ → List ℕ → ℕ → Shootdown → Type 0
+IsInRange firsts pasts i x =
+    x.progress ≡ GoneOn
+    → (slice_index_or firsts (x.watch.page % 64) 0 ≤ i)
+    × (i < slice_index_or pasts (x.watch.page % 64) 0)
+
+abbrev pub AreInRangesBefore : List ℕ → List ℕ → List Shootdown → ℕ → Type 0
+AreInRangesBefore firsts pasts items k =
+    (i : ℕ) (x : Shootdown) → i < k → slice_get items i ≡ Some x → IsInRange firsts pasts i x
+
+abbrev pub AreInRanges : List ℕ → List ℕ → List Shootdown → Type 0
+AreInRanges firsts pasts items =
+    (i : ℕ) (x : Shootdown) → slice_get items i ≡ Some x → IsInRange firsts pasts i x
+
+abbrev pub IsAtMost : ℕ → ℕ → Type 0
+IsAtMost most n = n ≤ most

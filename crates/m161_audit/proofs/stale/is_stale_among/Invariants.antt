@@ -1,9 +1,9 @@
-use Rattle.std.proofs.Common.{◌≡◌, ◌<◌, ℕ, false, Some}
+use Rattle.std.proofs.Common.{◌≡◌, ◌<◌, ◌≤◌, ℕ, false, Some}
 use Rattle.std.specs.Prelude.{slice_get}
 use Rattle.m161_audit.specs.declared.shootdown.Shootdown.{Shootdown}
 use Rattle.m161_audit.specs.helpers.Progress.{is_stale_for}
 use Rattle.m161_audit.proofs.stale.is_stale_among.Given as goal
 
 -- the use is stale for none of the watches so far
-abbrev pub invariant-loop-x : goal.invariant-loop-x
-invariant-loop-x g l = (i : ℕ) (x : Shootdown) → i < l.x-index → slice_get l.items i ≡ Some x → is_stale_for l.core l.p l.via x ≡ false
+abbrev pub invariant-loop-i : goal.invariant-loop-i
+invariant-loop-i g l = (i : ℕ) (x : Shootdown) → l.first ≤ i → i < l.i → slice_get l.items i ≡ Some x → is_stale_for l.core l.p l.via x ≡ false
