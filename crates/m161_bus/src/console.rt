@@ -95,6 +95,10 @@ pub trait Console: Drop {
     fn line(&self) -> bool
         ensures { result ≡ is_line_up (content self.now) };
 
+    /// The byte that is being sent, if one is.
+    fn latch(&self) -> Option<u8>
+        ensures { result ≡ (content self.now).latch };
+
     /// All bytes sent, the first one first.
     fn output(&self) -> &[u8]
         ensures { result.now ≡ (content self.now).output };

@@ -154,6 +154,10 @@ impl Console for PlainConsole {
         self.write_irq.is_up() || self.read_irq().is_up()
     }
 
+    fn latch(&self) -> Option<u8> {
+        self.latch
+    }
+
     fn output(&self) -> &[u8] {
         &self.sent
     }

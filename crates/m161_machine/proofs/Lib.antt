@@ -13,6 +13,9 @@ mod Stepping
 mod Made
 mod Advancing
 mod Writing
+mod Sliding
+mod Again
+mod Transfers
 mod Booted
 mod Unfolding
 mod Using

@@ -76,6 +76,13 @@ impl<D: Console> Board<D> {
         &self.console
     }
 
+    /// The byte that the console is sending, if it is.
+    pub fn latch(&self) -> Option<u8>
+        ensures { result ≡ self.now.state.console.latch }
+    {
+        self.console.latch()
+    }
+
     /// All bytes that the console sent, the first one first.
     pub fn output(&self) -> &[u8]
         ensures { result.now ≡ self.now.state.console.output }

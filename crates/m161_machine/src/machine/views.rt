@@ -27,7 +27,7 @@ impl<T: Tlb, D: Console> Machine<T, D> {
             (processor_at p self.now.state.processors).registers register }
         ensures zero { register ≡ 0 → result ≡ 0 }
     {
-        self.core.reg(p, register)
+        self.present.reg(p, register)
     }
 
     /// HI of a processor.
@@ -35,7 +35,7 @@ impl<T: Tlb, D: Console> Machine<T, D> {
         requires { p < length self.now.state.processors }
         ensures { result ≡ (processor_at p self.now.state.processors).hi }
     {
-        self.core.hi(p)
+        self.present.hi(p)
     }
 
     /// LO of a processor.
@@ -43,7 +43,7 @@ impl<T: Tlb, D: Console> Machine<T, D> {
         requires { p < length self.now.state.processors }
         ensures { result ≡ (processor_at p self.now.state.processors).lo }
     {
-        self.core.lo(p)
+        self.present.lo(p)
     }
 
     /// The address of a processor's current instruction.
@@ -51,7 +51,7 @@ impl<T: Tlb, D: Console> Machine<T, D> {
         requires { p < length self.now.state.processors }
         ensures { result ≡ (processor_at p self.now.state.processors).pc }
     {
-        self.core.pc(p)
+        self.present.pc(p)
     }
 
     /// Whether a processor's current instruction is in a delay slot.
@@ -59,7 +59,7 @@ impl<T: Tlb, D: Console> Machine<T, D> {
         requires { p < length self.now.state.processors }
         ensures { result ≡ (processor_at p self.now.state.processors).slot }
     {
-        self.core.in_slot(p)
+        self.present.in_slot(p)
     }
 
     /// What a processor is doing.
@@ -67,7 +67,7 @@ impl<T: Tlb, D: Console> Machine<T, D> {
         requires { p < length self.now.state.processors }
         ensures { result ≡ (processor_at p self.now.state.processors).state }
     {
-        self.core.state(p)
+        self.present.state(p)
     }
 
     /// How many Steps a processor has made, idle ones included.
@@ -75,46 +75,58 @@ impl<T: Tlb, D: Console> Machine<T, D> {
         requires { p < length self.now.state.processors }
         ensures { result ≡ (processor_at p self.now.state.processors).count }
     {
-        self.core.count(p)
+        self.present.count(p)
     }
 
     /// The word at a physical address; `None` if it is misaligned or outside RAM.
     pub fn word(&self, address: u32) -> Option<u32>
         ensures { result ≡ word_in self.now.state.memory address }
     {
-        self.core.word(address)
+        self.present.word(address)
     }
 
     /// The state without the log: the same views, and what an event would do to it, by a copy.
     pub fn core(&self) -> &Core<T, D>
-        ensures { result.now ≡ self.now.state }
+        ensures { result.now.state ≡ self.now.state }
     {
-        &self.core
+        &self.present
     }
 
-    /// How many events were accepted.
+    /// The state at the base of the log: the log's events, made on it, lead to the machine's state.
+    /// It is the state at boot while no entry was dropped.
+    pub fn base(&self) -> &Core<T, D>
+        ensures { result.now.state ≡ self.now.base }
+    {
+        &self.base
+    }
+
+    /// How many events were accepted since boot.
+    pub fn made(&self) -> u64
+        ensures { result ≡ self.now.state.made }
+    {
+        self.present.made()
+    }
+
+    /// How many entries the log has.
     pub fn log_len(&self) -> usize
         ensures { result ≡ length self.now.log }
     {
-        self.log.len()
+        self.window.len()
     }
 
-    /// An accepted event with its outcome; the oldest is the first.
+    /// An entry of the log, an accepted event with its outcome; the oldest is the first.
     pub fn log_at(&self, i: usize) -> Entry
         requires { i < length self.now.log }
         ensures { slice_get self.now.log i ≡ Some result }
     {
-        self.log[i].entry()
+        self.window.at(i)
     }
 
-    /// The accepted events with their outcomes, oldest first.
+    /// The log's entries, oldest first.
     pub fn copy_log(&self, alloc: Global) -> Result<Vec<Entry>, AllocError>
         ensures { IfOk result (λ entries. entries.items ≡ self.now.log) }
     {
-        let mut entries = Vec::with_capacity(alloc, self.log.len())?;
-        for kept in self.log.iter() {
-            entries.push_reserved(kept.entry());
-        }
+        let entries = self.window.to_entries(alloc)?;
         Ok(entries)
     }
 
@@ -154,7 +166,7 @@ impl<T: Tlb, D: Console> Machine<T, D> {
             (interrupt_lines p self.now.state.board)
             (processor_at p self.now.state.processors).control }
     {
-        self.core.cop(p, register)
+        self.present.cop(p, register)
     }
 
     /// A row of a processor's TLB.
@@ -163,7 +175,7 @@ impl<T: Tlb, D: Console> Machine<T, D> {
         requires row { i < 64 }
         ensures { slice_get (processor_at p self.now.state.processors).rows i ≡ Some result }
     {
-        self.core.row(p, i)
+        self.present.row(p, i)
     }
 
     /// What a Step of a processor uses, if it is the next event: the rows of the TLB through which
@@ -174,21 +186,28 @@ impl<T: Tlb, D: Console> Machine<T, D> {
         // It is the store that the history of the stores appends.
         ensures stored { result.stored ≡ (step_result p self.now.state).stored }
     {
-        self.core.uses(p)
+        self.present.uses(p)
+    }
+
+    /// The byte that the console is sending, if it is.
+    pub fn latch(&self) -> Option<u8>
+        ensures { result ≡ self.now.state.board.console.latch }
+    {
+        self.present.latch()
     }
 
     /// The bytes that the console has sent, the first one first.
     pub fn output(&self) -> &[u8]
         ensures { result.now ≡ self.now.state.board.console.output }
     {
-        self.core.output()
+        self.present.output()
     }
 
     /// RAM, from physical address 0 on.
     pub fn memory(&self) -> &[u8]
         ensures { result.now ≡ self.now.state.memory }
     {
-        self.core.memory()
+        self.present.memory()
     }
 
     /// How many processors it has.
@@ -202,6 +221,6 @@ impl<T: Tlb, D: Console> Machine<T, D> {
     pub fn is_off(&self) -> bool
         ensures { result ≡ self.now.state.board.off }
     {
-        self.core.is_off()
+        self.present.is_off()
     }
 }

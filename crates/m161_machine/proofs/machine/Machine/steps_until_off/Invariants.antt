@@ -1,11 +1,11 @@
-use Rattle.std.proofs.Common.{◌≡◌, ◌+◌, ◌-◌, ◌≤◌, false, length, replicate}
+use Rattle.std.proofs.Common.{◌≡◌, ◌+◌, ◌-◌, ◌≤◌, false, replicate, length}
 use Rattle.m161_machine.specs.declared.event.Event.TheVariants.{Step}
 use Rattle.m161_machine.specs.History.{Continues}
-use Rattle.m161_machine.proofs.machine.Machine.steps_in_room.Given as goal
+use Rattle.m161_machine.proofs.machine.Machine.steps_until_off.Given as goal
 
 abbrev pub invariant-loop-made : goal.invariant-loop-made
 invariant-loop-made g l = Continues l.fn.self (replicate l.made (Step l.p)) l.self
-    × (length l.self.log ≡ length l.fn.self.log + l.made)
+    × (l.self.state.made ≡ l.fn.self.state.made + l.made)
     × (length l.self.state.processors ≡ length l.fn.self.state.processors)
     × (l.self.start ≡ l.fn.self.start)
     × (l.self.state.board.off ≡ false)
