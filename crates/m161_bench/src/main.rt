@@ -83,13 +83,7 @@ fn arguments(rt: &HostRuntime) -> Option<Task> {
 }
 
 // Makes the runs and prints their results; `None` if something fails.
-fn make_runs(
-    rt: &HostRuntime,
-    times: u32,
-    steps: u32,
-    row: Option<u8>,
-    log: u32,
-) -> Option<()> {
+fn make_runs(rt: &HostRuntime, times: u32, steps: u32, row: Option<u8>, log: u32) -> Option<()> {
     let image = image(rt.alloc(), row)?;
     let start = Instant::now(rt).ok()?;
     let (word, count) = runs(rt.alloc(), image.as_slice(), times, steps, log)?;

@@ -7,7 +7,8 @@ use Rattle.m161_machine.specs.declared.event.Event.{Event}
 use Rattle.m161_machine.specs.State.{State, KeepsSizes, next}
 use Rattle.m161_machine.specs.History.{Answers, History, Leads, Slides, entry}
 use Rattle.m161_machine.specs.Sound.{IsLawful}
-use Rattle.m161_machine.specs.helpers.Window.{Slid, transfers_of}
+use Rattle.m161_machine.specs.helpers.Window.{Slid}
+use Rattle.m161_machine.specs.History.{transfers_of}
 use Rattle.m161_machine.proofs.Made.{lawful_on}
 use Rattle.m161_machine.proofs.Transfers.{split_transfers, transfers_append}
 

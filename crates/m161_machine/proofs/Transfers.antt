@@ -7,7 +7,7 @@ use Rattle.m161_machine.specs.declared.event.Entry.{Entry}
 use Rattle.m161_machine.specs.declared.event.Event.{Event}
 use Rattle.m161_machine.specs.declared.event.Event.TheVariants.{Step}
 use Rattle.m161_machine.specs.History.{events_of}
-use Rattle.m161_machine.specs.helpers.Window.{is_done, transfers_of}
+use Rattle.m161_machine.specs.History.{is_done, transfers_of}
 
 -- How many entries are of Done.
 

@@ -1,4 +1,4 @@
-use Rattle.std.specs.Prelude.{◌≡◌, ℕ, ◌+◌, ◌-◌, ◌<◌, min, Bool, false, ◌==◌, List, [], ◌∷◌, ◌++◌, map, length, replicate, slice_index_or, Option, None, Some, Result, Ok, Err, if◌then◌else◌}
+use Rattle.std.specs.Prelude.{◌≡◌, ℕ, ◌+◌, ◌-◌, ◌<◌, min, Bool, true, false, ◌==◌, List, [], ◌∷◌, ◌++◌, map, length, replicate, slice_index_or, Option, None, Some, Result, Ok, Err, if◌then◌else◌}
 use Rattle.std.specs.List.{count_by}
 use Rattle.m161_elf.specs.declared.image.LoadError.{LoadError}
 use Rattle.m161_elf.specs.Image.{first_fault, IsImage}
@@ -163,3 +163,12 @@ abbrev pub IsLoaded : Start → Type 0
 IsLoaded start =
     (file : List ℕ) × (first_fault file start.conf.ram ≡ None)
     × IsImage file start.conf.ram start.entry start.bytes
+
+abbrev pub is_done : Event → Bool
+is_done (Step p) = false
+is_done (Key byte) = false
+is_done Done = true
+
+-- how many of the entries are of Done: each of them wants a byte's room of the base's console
+abbrev pub transfers_of : List Entry → ℕ
+transfers_of entries = count_by (λ (e : Entry). is_done e.event) entries

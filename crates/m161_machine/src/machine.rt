@@ -41,7 +41,7 @@ impl<T: Tlb, D: Console> Model for Machine<T, D> {
     ghost use Rattle.std.specs.Prelude.{◌≡◌, ◌≤◌, length};
     ghost use Rattle.m161_machine.specs.History.{History};
     ghost use Rattle.m161_machine.specs.Sound.{IsLawful};
-    ghost use Rattle.m161_machine.specs.helpers.Window.{transfers_of};
+    ghost use Rattle.m161_machine.specs.History.{transfers_of};
 
     ghost Value = { History };
 

@@ -4,7 +4,8 @@ ghost use Rattle.std.specs.Prelude.{◌≡◌, ◌+◌, ◌<◌, ◌≤◌, ◌^
 ghost use Rattle.circular_buffer.specs.Buffer.{buffer};
 ghost use Rattle.m161_machine.specs.State.{State};
 ghost use Rattle.m161_machine.specs.History.{Leads};
-ghost use Rattle.m161_machine.specs.helpers.Window.{Slid, transfers_of};
+ghost use Rattle.m161_machine.specs.helpers.Window.{Slid};
+ghost use Rattle.m161_machine.specs.History.{transfers_of};
 
 use crate::event::Entry;
 use crate::kept::{Kept, blanks};
@@ -33,7 +34,7 @@ impl Model for Window {
     ghost use Rattle.std.specs.Prelude.{◌≡◌, length};
     ghost use Rattle.circular_buffer.specs.Buffer.{Buffer};
     ghost use Rattle.m161_machine.specs.declared.event.Entry.{Entry};
-    ghost use Rattle.m161_machine.specs.helpers.Window.{transfers_of};
+    ghost use Rattle.m161_machine.specs.History.{transfers_of};
 
     ghost Value = { Buffer Entry };
 

@@ -1,22 +1,11 @@
-use Rattle.std.specs.Prelude.{◌≡◌, ℕ, ◌+◌, min, Bool, true, false, List, [], ◌∷◌, ◌++◌, length}
-use Rattle.std.specs.List.{count_by}
+use Rattle.std.specs.Prelude.{◌≡◌, ℕ, ◌+◌, min, List, [], ◌∷◌, ◌++◌, length}
 use Rattle.circular_buffer.specs.Buffer.{Buffer}
-use Rattle.m161_machine.specs.declared.event.Event.{Event}
-use Rattle.m161_machine.specs.declared.event.Event.TheVariants.{Step, Key, Done}
+use Rattle.m161_machine.specs.declared.event.Event.TheVariants.{Step}
 use Rattle.m161_machine.specs.declared.event.Entry.{Entry}
 use Rattle.m161_machine.specs.State.{State}
 use Rattle.m161_machine.specs.History.{Leads}
 
 -- The window of the log, as the code keeps it.
-
-abbrev pub is_done : Event → Bool
-is_done (Step p) = false
-is_done (Key byte) = false
-is_done Done = true
-
--- how many of the entries are of Done: each of them wants a byte's room of the base's console
-abbrev pub transfers_of : List Entry → ℕ
-transfers_of entries = count_by (λ (e : Entry). is_done e.event) entries
 
 -- the first entry is of a Step of this processor
 abbrev pub BeginsWithStep : ℕ → List Entry → Type 0

@@ -4,7 +4,8 @@ ghost use Rattle.std.specs.Prelude.{◌≡◌, ◌+◌, ◌<◌, ◌≤◌, fals
 ghost use Rattle.m161_machine.specs.declared.event.Event.TheVariants as events;
 ghost use Rattle.m161_machine.specs.State.{State};
 ghost use Rattle.m161_machine.specs.History.{Leads, events_of, is_step_of};
-ghost use Rattle.m161_machine.specs.helpers.Window.{BeginsWithStep, transfers_of};
+ghost use Rattle.m161_machine.specs.helpers.Window.{BeginsWithStep};
+ghost use Rattle.m161_machine.specs.History.{transfers_of};
 
 use crate::event::Event;
 use crate::kept::Kept;

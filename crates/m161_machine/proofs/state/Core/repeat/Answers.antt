@@ -1,7 +1,7 @@
 use Rattle.std.proofs.Common.{◌≡◌, ◌∙◌, ◌+◌, ◌++◌, ap, sym, subst, length, take, arith}
 use Rattle.std.proofs.lemmas.List.{length-append}
 use Rattle.m161_machine.specs.History.{Leads}
-use Rattle.m161_machine.specs.helpers.Window.{transfers_of}
+use Rattle.m161_machine.specs.History.{transfers_of}
 use Rattle.m161_machine.proofs.Leading.{leads_on, leads_rest}
 use Rattle.m161_machine.proofs.Transfers.{taken, transfers_append}
 use Rattle.m161_machine.proofs.state.Core.repeat.Goals as goal

@@ -1,6 +1,6 @@
 use Rattle.std.proofs.Common.{◌≡◌, ◌+◌, ◌-◌, ◌≤◌, length, take}
 use Rattle.m161_machine.specs.History.{Leads}
-use Rattle.m161_machine.specs.helpers.Window.{transfers_of}
+use Rattle.m161_machine.specs.History.{transfers_of}
 use Rattle.m161_machine.proofs.state.Core.repeat.Given as goal
 
 abbrev pub invariant-loop-made : goal.invariant-loop-made

@@ -1,6 +1,6 @@
 use Rattle.std.proofs.Common.{ap, arith, rules}
 use Rattle.circular_buffer.specs.Buffer.{Buffer}
-use Rattle.m161_machine.specs.helpers.Window.{transfers_of}
+use Rattle.m161_machine.specs.History.{transfers_of}
 use Rattle.m161_machine.proofs.Transfers.{split_transfers}
 use Rattle.m161_machine.proofs.window.Window.drop_oldest.Goals as goal
 
