@@ -20,6 +20,7 @@ mod steplog;
 mod threads;
 mod tlb;
 mod traps;
+mod window;
 mod workers;
 
 use std::fmt::Debug;
