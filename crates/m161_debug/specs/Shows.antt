@@ -1,4 +1,4 @@
-use Rattle.std.specs.Prelude.{ℕ, ◌+◌, ◌*◌, ◌/◌, ◌%◌, Bool, true, false, List, [], ◌∷◌, ◌++◌, slice_index, slice_index_or, codes, decimal, flat_map, map}
+use Rattle.std.specs.Prelude.{ℕ, ◌+◌, ◌*◌, ◌/◌, ◌%◌, Bool, true, false, List, [], ◌∷◌, ◌++◌, slice_index, slice_index_or, codes, decimal, map}
 use Rattle.std.specs.List.{range_with_len}
 use Rattle.std.specs.Option.{option_map_or}
 use Rattle.m161_isa.specs.Address.{unmapped}
@@ -15,7 +15,7 @@ use Rattle.m161_cpu.specs.declared.processor.ProcessorState.{ProcessorState}
 use Rattle.m161_cpu.specs.declared.processor.ProcessorState.TheVariants.{Stopped, Running, Waiting}
 use Rattle.m161_cpu.specs.Processor.{Processor}
 use Rattle.m161_machine.specs.State.{State, processor_at}
-use Rattle.m161_text.specs.Lines.{with_line_end, text_of}
+use Rattle.m161_text.specs.Lines.{text_of}
 use Rattle.m161_text.specs.Parts.{◌␣◌, word_text}
 
 -- The displays: each is a list of lines, computed from a state.

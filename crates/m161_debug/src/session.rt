@@ -207,6 +207,7 @@ impl<T: Tlb, D: Console> Session<T, D> {
         ensures breakpoints { self.new.breakpoints ≡ self.old.breakpoints }
         ensures within { used_by result ≤ length events.now }
     {
+        self.machine.replay();
         for (k, event) in events.iter().enumerate() {
             if k > 0 && self.is_at_break(*event) {
                 return Stop::Break(k);
