@@ -60,7 +60,7 @@ fn compare(rt: &impl Abort, one: &Core, other: &Core) {
 }
 
 /// Makes the log's events on a copy of the base: with the log's outcomes they lead to the machine.
-fn check_base(rt: &HostRuntime, machine: &Machine) -> Result<(), Fail> {
+fn check_base(rt: &(impl Abort + AllocGlobal), machine: &Machine) -> Result<(), Fail> {
     let mut core = machine.base().copy(rt.alloc())?;
     for entry in machine.copy_log(rt.alloc())?.iter() {
         same(rt, core.event(entry.event), Ok(entry.outcome));
@@ -135,7 +135,7 @@ fn console_room(rt: HostRuntime) -> Result<(), Fail> {
 
 /// The sample kernel under its schedule with a window of this size: at each place the base and the
 /// kept entries give the machine again.
-fn windows_of(rt: &HostRuntime, file: &[u8], log: u32) -> Result<(), Fail> {
+fn windows_of(rt: &(impl Abort + AllocGlobal), file: &[u8], log: u32) -> Result<(), Fail> {
     let conf = Conf {
         ram: 65_536,
         processors: 2,
@@ -198,4 +198,45 @@ fn link_across_a_drop(rt: HostRuntime) -> Result<(), Fail> {
 fn worn_at_last(rt: HostRuntime) {
     same(&rt, worn(9_223_372_036_854_775_806), false);
     same(&rt, worn(9_223_372_036_854_775_807), true);
+}
+
+/// Twelve events: Steps, a typed byte, Steps, and the end of a transfer.
+static ROUND: [(Event, u32); 4] = [
+    (Event::Step(0), 5),
+    (Event::Key(0x62), 1),
+    (Event::Step(0), 5),
+    (Event::Done, 1),
+];
+
+/// A kernel that sends what is typed, for 200,000 events with a window of 65,536: the base and the
+/// kept entries give the machine again.
+#[test]
+fn long_run(rt: HostRuntime) -> Result<(), Fail> {
+    let words = [
+        0x3c08_bfe0, // lui $8, 0xbfe0
+        0x8d09_0000, // lw $9, 0($8)
+        0xad09_0000, // sw $9, 0($8)
+        0x1000_fffd, // beq $0, $0, 0x80000204
+        0,
+    ];
+    let file = file_at(rt.alloc(), ENTRY, &words)?;
+    let conf = Conf {
+        ram: 4096,
+        processors: 1,
+        log: 65_536,
+    };
+    let mut machine = Machine::boot(rt.alloc(), &file, conf)?;
+    for round in 1..16_668u32 {
+        for (event, times) in &ROUND {
+            for _ in 0..*times {
+                same(&rt, machine.event(*event).is_ok(), true);
+            }
+        }
+        if round % 4_000 == 0 {
+            check_base(&rt, &machine)?;
+        }
+    }
+    same(&rt, (machine.made(), machine.log_len()), (200_004, 65_536));
+    same(&rt, (machine.base().made(), machine.output().len()), (134_468, 16_667));
+    check_base(&rt, &machine)
 }
