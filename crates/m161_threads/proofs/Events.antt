@@ -9,11 +9,11 @@ use Rattle.m161_cpu.specs.Processor.{Processor}
 use Rattle.m161_machine.specs.declared.event.Event.{Event}
 use Rattle.m161_machine.specs.declared.event.Event.TheVariants.{Step, Key, Done}
 use Rattle.m161_machine.specs.declared.event.Refusal.{Refusal}
-use Rattle.m161_machine.specs.declared.event.Refusal.TheVariants.{BadProcessor, Off, LogFull, NoMemory}
+use Rattle.m161_machine.specs.declared.event.Refusal.TheVariants.{BadProcessor, Off, Worn, NoMemory}
 use Rattle.m161_machine.specs.declared.conf.Conf.{Conf}
 use Rattle.m161_machine.specs.Conf.{is_within_limits}
 use Rattle.m161_isa.specs.Choice.{first_answer}
-use Rattle.m161_machine.specs.State.{State, CountUpTo, answer, counts, is_full, next, refusal, unless}
+use Rattle.m161_machine.specs.State.{State, CountUpTo, answer, counts, is_worn, next, refusal, unless}
 use Rattle.m161_machine.specs.helpers.State.{counts_after}
 use Rattle.m161_machine.specs.History.{History, Answers, Refuses}
 use Rattle.m161_machine.proofs.Counting.{counts_law}
@@ -41,22 +41,22 @@ second_false false r rest h = h
 pub was_on : (s t : State) (e : Event) (o : Outcome) → next s e ≡ Ok (o, t) → s.board.off ≡ false
 was_on s t (Step p) o h =
     let none = no_refusal s t (Step p) o h in
-    first_false s.board.off Off ((is_full s, LogFull) ∷ [])
-    (second_false (nat_le (length s.processors) p) BadProcessor ((s.board.off, Off) ∷ (is_full s, LogFull) ∷ []) none)
-was_on s t (Key byte) o h = first_false s.board.off Off ((is_full s, LogFull) ∷ []) (no_refusal s t (Key byte) o h)
-was_on s t Done o h = first_false s.board.off Off ((is_full s, LogFull) ∷ []) (no_refusal s t Done o h)
+    first_false s.board.off Off ((is_worn s.made, Worn) ∷ [])
+    (second_false (nat_le (length s.processors) p) BadProcessor ((s.board.off, Off) ∷ (is_worn s.made, Worn) ∷ []) none)
+was_on s t (Key byte) o h = first_false s.board.off Off ((is_worn s.made, Worn) ∷ []) (no_refusal s t (Key byte) o h)
+was_on s t Done o h = first_false s.board.off Off ((is_worn s.made, Worn) ∷ []) (no_refusal s t Done o h)
 
 pub was_there : (s t : State) (p : ℕ) (o : Outcome) → next s (Step p) ≡ Ok (o, t) → p < length s.processors
 was_there s t p o h =
-    let inside = first_false (nat_le (length s.processors) p) BadProcessor ((s.board.off, Off) ∷ (is_full s, LogFull) ∷ [])
+    let inside = first_false (nat_le (length s.processors) p) BadProcessor ((s.board.off, Off) ∷ (is_worn s.made, Worn) ∷ [])
     (no_refusal s t (Step p) o h) in
     grind (arith, nat_tests, inside)
 
 -- a Step is refused as Off where the machine is off
-off_of : (bad off full : Bool) → first_answer ((bad, BadProcessor) ∷ (off, Off) ∷ (full, LogFull) ∷ []) ≡ Some Off → off ≡ true
+off_of : (bad off full : Bool) → first_answer ((bad, BadProcessor) ∷ (off, Off) ∷ (full, Worn) ∷ []) ≡ Some Off → off ≡ true
 off_of true off full h = absurd (let bad : ◌≡◌ {A = Option Refusal} (Some BadProcessor) (Some Off) = h in cc)
 off_of false true full h = refl
-off_of false false true h = absurd (let bad : ◌≡◌ {A = Option Refusal} (Some LogFull) (Some Off) = h in cc)
+off_of false false true h = absurd (let bad : ◌≡◌ {A = Option Refusal} (Some Worn) (Some Off) = h in cc)
 off_of false false false h = absurd (let bad : ◌≡◌ {A = Option Refusal} None (Some Off) = h in cc)
 
 off_unless : (r : Option Refusal) (y : Outcome × State) (e : Event) →
@@ -66,7 +66,7 @@ off_unless (Some r) y e h = ap (λ q. Some q) (sym h)
 
 pub off_is : (s : State) (p : ℕ) → Refuses (next s (Step p)) (Step p) Off → s.board.off ≡ true
 unfolding next
-off_is s p h = off_of (nat_le (length s.processors) p) s.board.off (is_full s)
+off_is s p h = off_of (nat_le (length s.processors) p) s.board.off (is_worn s.made)
     (off_unless (refusal s (Step p)) _ (Step p) h)
 
 -- one Step more in one count, and in the sum of all

@@ -28,9 +28,9 @@ pub enum Cause {
         /// How many Steps of the run it had made.
         k: u32,
     },
-    /// The log is full.
-    #[error("the log is full")]
-    LogFull,
+    /// The machine has accepted 2^63 - 1 events.
+    #[error("the machine has accepted as many events as it can count")]
+    Worn,
     /// A processor's count differs from its seat's.
     #[error("a processor's count isn't its seat's")]
     Miscount,
@@ -50,7 +50,7 @@ impl Cause {
             Cause::NoMemory => "NoMemory",
             Cause::NoThread => "NoThread",
             Cause::Held { p: _, k: _ } => "Held",
-            Cause::LogFull => "LogFull",
+            Cause::Worn => "Worn",
             Cause::Miscount => "Miscount",
             Cause::Swapped => "Swapped",
         }

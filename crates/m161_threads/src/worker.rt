@@ -52,7 +52,7 @@ pub(crate) enum Stop {
         k: u32,
     },
     /// The log is full.
-    LogFull,
+    Worn,
 }
 
 impl Stop {
@@ -62,7 +62,7 @@ impl Stop {
     {
         match self {
             Stop::Held { p, k } => Cause::Held { p, k },
-            Stop::LogFull => Cause::LogFull,
+            Stop::Worn => Cause::Worn,
         }
     }
 }
@@ -123,7 +123,7 @@ fn work<L: Ledger, M: Ledger, T: Tlb, D: Console, R: Wait, G: Gate>(
                 return Worked { seat, made, stop };
             }
             Turn::Full => {
-                let stop = Some(Stop::LogFull);
+                let stop = Some(Stop::Worn);
                 return Worked { seat, made, stop };
             }
         }
