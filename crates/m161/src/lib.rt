@@ -12,7 +12,7 @@
 #![tactic(auto)]
 
 pub use m161_machine::{
-    BootError, Conf, Entry, Event, Events, Exception, Frame, Identifier, LoadError, Outcome, Page,
+    BoardWord, BootError, Conf, Entry, Event, Events, Exception, Frame, Identifier, LoadError, Outcome, Page,
     ProcessorState, Refusal, Reg, Register, Row, Runs, Start,
 };
 

@@ -45,8 +45,8 @@ fn make_step<T: Tlb, D: Console>(
     stored: Option<u32>,
     shootdowns: &mut Shootdowns,
 )
-    requires { refusal core.old (events.Step p) ≡ None }
-    ensures made { MakesStep core.old p core.new }
+    requires { refusal core.old.state (events.Step p) ≡ None }
+    ensures made { MakesStep core.old.state p core.new.state }
     ensures noted { (watches : List Watch) (stores : List ℕ)
         → shootdowns.old ≡ tracked watches stores
         → shootdowns.new ≡ tracked watches (stores_after stored stores) }
@@ -63,11 +63,11 @@ fn audit_step_of_rows<T: Tlb, D: Console>(
     p: u32,
     shootdowns: &mut Shootdowns,
 ) -> Option<Via>
-    requires place { p < length core.old.processors }
-    requires refusal { refusal core.old (events.Step p) ≡ None }
+    requires place { p < length core.old.state.processors }
+    requires refusal { refusal core.old.state (events.Step p) ≡ None }
     ensures { (watches : List Watch) (s : StoreState)
-        → IsAt watches s core.old shootdowns.old
-        → AuditsStep watches s p result core.new shootdowns.new }
+        → IsAt watches s core.old.state shootdowns.old
+        → AuditsStep watches s p result core.new.state shootdowns.new }
 {
     let uses = core.uses(p);
     if let Some(via) = stale_use(core, p, &uses, shootdowns) {
@@ -84,11 +84,11 @@ fn audit_accepted_step<T: Tlb, D: Console>(
     p: u32,
     shootdowns: &mut Shootdowns,
 ) -> Option<Via>
-    requires place { p < length core.old.processors }
-    requires refusal { refusal core.old (events.Step p) ≡ None }
+    requires place { p < length core.old.state.processors }
+    requires refusal { refusal core.old.state (events.Step p) ≡ None }
     ensures { (watches : List Watch) (s : StoreState)
-        → IsAt watches s core.old shootdowns.old
-        → AuditsStep watches s p result core.new shootdowns.new }
+        → IsAt watches s core.old.state shootdowns.old
+        → AuditsStep watches s p result core.new.state shootdowns.new }
 {
     let direct = core.uses(p);
     if !uses_no_row(core, p, &direct) {
@@ -106,8 +106,8 @@ fn audit_step<T: Tlb, D: Console>(
     shootdowns: &mut Shootdowns,
 ) -> Option<Via>
     ensures { (watches : List Watch) (s : StoreState)
-        → IsAt watches s core.old shootdowns.old
-        → AuditsStep watches s p result core.new shootdowns.new }
+        → IsAt watches s core.old.state shootdowns.old
+        → AuditsStep watches s p result core.new.state shootdowns.new }
 {
     if let Some(_) = core.refusal(p) {
         return None;
@@ -128,8 +128,8 @@ fn audit_steps<T: Tlb, D: Console>(
     shootdowns: &mut Shootdowns,
 ) -> Option<(u32, Via)>
     ensures run { (watches : List Watch) (s : StoreState)
-        → IsAt watches s core.old shootdowns.old
-        → AuditsSteps watches s p (replicate times (events.Step p)) result core.new shootdowns.new }
+        → IsAt watches s core.old.state shootdowns.old
+        → AuditsSteps watches s p (replicate times (events.Step p)) result core.new.state shootdowns.new }
     ensures within { IfSome result (λ found. found.0 < times) }
 {
     for made in 0..times {
@@ -144,8 +144,8 @@ fn audit_steps<T: Tlb, D: Console>(
 fn make_input<T: Tlb, D: Console>(core: &mut Core<T, D>, event: Event) -> Result<(), AuditError>
     requires { IsInput event }
     ensures { (watches : List Watch) (s : StoreState) (items : List Shootdown)
-        → IsAt watches s core.old items
-        → AuditsInputs watches s (event ∷ []) result core.new items }
+        → IsAt watches s core.old.state items
+        → AuditsInputs watches s (event ∷ []) result core.new.state items }
 {
     match core.event(event) {
         Ok(_) => Ok(()),
@@ -167,8 +167,8 @@ fn make_inputs<T: Tlb, D: Console>(
 ) -> Result<(), AuditError>
     requires { IsInput event }
     ensures { (watches : List Watch) (s : StoreState) (items : List Shootdown)
-        → IsAt watches s core.old items
-        → AuditsInputs watches s (replicate times event) result core.new items }
+        → IsAt watches s core.old.state items
+        → AuditsInputs watches s (replicate times event) result core.new.state items }
 {
     for made in 0..times {
         make_input(core, event)?;
@@ -185,8 +185,8 @@ fn audit_run<T: Tlb, D: Console>(
     shootdowns: &mut Shootdowns,
 ) -> Result<Option<(u32, u32, Via)>, AuditError>
     ensures run { (watches : List Watch) (s : StoreState)
-        → IsAt watches s core.old shootdowns.old
-        → AuditsEvents watches s (replicate times event) result core.new shootdowns.new }
+        → IsAt watches s core.old.state shootdowns.old
+        → AuditsEvents watches s (replicate times event) result core.new.state shootdowns.new }
     ensures within { IfOk result (λ found. IfSome found (λ place. place.0 < times)) }
 {
     match event {
@@ -208,7 +208,7 @@ fn find<T: Tlb, D: Console>(
     shootdowns: &mut Shootdowns,
 ) -> Result<Finding, AuditError>
     ensures { (watches : List Watch) (s : StoreState)
-        → IsAt watches s core.old shootdowns.old
+        → IsAt watches s core.old.state shootdowns.old
         → FindsIn watches s events.now result }
 {
     let mut done = 0;

@@ -32,8 +32,8 @@ fn is_stale_for<T: Tlb, D: Console>(
     via: &Via,
     shootdown: &Shootdown,
 ) -> bool
-    requires { p < length core.now.processors }
-    ensures { result ≡ is_stale_for core.now p via.now shootdown.now }
+    requires { p < length core.now.state.processors }
+    ensures { result ≡ is_stale_for core.now.state p via.now shootdown.now }
 {
     if via.page.number() != shootdown.watch.page {
         return false;
@@ -60,14 +60,14 @@ fn is_stale_among<T: Tlb, D: Console>(
     first: usize,
     past: usize,
 ) -> bool
-    requires place { p < length core.now.processors }
+    requires place { p < length core.now.state.processors }
     requires within { past ≤ length items.now }
     ensures yes { result ≡ true → (i : ℕ) × (x : Shootdown)
         × (slice_get items.now i ≡ Some x)
-        × (is_stale_for core.now p via.now x ≡ true) }
+        × (is_stale_for core.now.state p via.now x ≡ true) }
     ensures no { result ≡ false → (i : ℕ) (x : Shootdown)
         → first ≤ i → i < past → slice_get items.now i ≡ Some x
-        → is_stale_for core.now p via.now x ≡ false }
+        → is_stale_for core.now.state p via.now x ≡ false }
 {
     for i in first..past {
         if is_stale_for(core, p, via, &items[i]) {
@@ -85,13 +85,13 @@ fn is_stale<T: Tlb, D: Console>(
     via: &Via,
     shootdowns: &Shootdowns,
 ) -> bool
-    requires { p < length core.now.processors }
+    requires { p < length core.now.state.processors }
     ensures yes { result ≡ true → (i : ℕ) × (x : Shootdown)
         × (slice_get shootdowns.now i ≡ Some x)
-        × (is_stale_for core.now p via.now x ≡ true) }
+        × (is_stale_for core.now.state p via.now x ≡ true) }
     ensures no { result ≡ false → (i : ℕ) (x : Shootdown)
         → slice_get shootdowns.now i ≡ Some x
-        → is_stale_for core.now p via.now x ≡ false }
+        → is_stale_for core.now.state p via.now x ≡ false }
 {
     let (first, past) = shootdowns.range(via.page.number());
     if first < past {
@@ -109,9 +109,9 @@ fn stale_via<T: Tlb, D: Console>(
     via: Option<Via>,
     shootdowns: &Shootdowns,
 ) -> Option<Via>
-    requires { p < length core.now.processors }
+    requires { p < length core.now.state.processors }
     ensures { (watches : List Watch) (s : StoreState)
-        → IsAt watches s core.now shootdowns.now
+        → IsAt watches s core.now.state shootdowns.now
         → MatchOption result ((v : Via) → via ≡ Some v → IsStaleVia s watches p v → ⊥)
         (λ v. (via ≡ Some v) × IsStaleVia s watches p v) }
 {
@@ -131,10 +131,10 @@ pub(crate) fn stale_use<T: Tlb, D: Console>(
     uses: &Uses,
     shootdowns: &Shootdowns,
 ) -> Option<Via>
-    requires place { p < length core.now.processors }
-    requires uses { uses.now ≡ uses_in p core.now }
+    requires place { p < length core.now.state.processors }
+    requires uses { uses.now ≡ uses_in p core.now.state }
     ensures { (watches : List Watch) (s : StoreState)
-        → IsAt watches s core.now shootdowns.now
+        → IsAt watches s core.now.state shootdowns.now
         → MatchOption result ((v : Via) → UsesStale s watches p v → ⊥)
         (λ v. UsesStale s watches p v) }
 {
@@ -147,9 +147,9 @@ pub(crate) fn stale_use<T: Tlb, D: Console>(
 /// Whether a Step uses no row; then it is no stale use.
 #[inline(always)]
 pub(crate) fn uses_no_row<T: Tlb, D: Console>(core: &Core<T, D>, p: u32, uses: &Uses) -> bool
-    requires uses { uses.now ≡ uses_in p core.now }
+    requires uses { uses.now ≡ uses_in p core.now.state }
     ensures { result ≡ true → (watches : List Watch) (s : StoreState) (items : List Shootdown)
-        → IsAt watches s core.now items
+        → IsAt watches s core.now.state items
         → (v : Via) → UsesStale s watches p v → ⊥ }
 {
     match uses.fetch {

@@ -36,7 +36,7 @@ fn read_text(rt: &HostRuntime, text: &str) -> Option<(usize, u128)> {
 
 /// Writes the log of a run of `steps` Steps as text, and reads it back.
 pub(crate) fn measure(rt: &HostRuntime, image: &[u8], steps: u32) -> Option<Measured> {
-    let machine = run(rt.alloc(), image, steps)?;
+    let machine = run(rt.alloc(), image, steps, steps)?;
     let log = machine.copy_log(rt.alloc()).ok()?;
     let (text, write) = write_text(rt, log.as_slice())?;
     let (entries, read) = read_text(rt, text.as_str())?;

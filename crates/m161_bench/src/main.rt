@@ -4,10 +4,13 @@
 //! ```text
 //! m161_bench RUNS [STEPS [ROW]]   RUNS runs of STEPS Steps each, or of 1,000,000; the loop runs in
 //!                                 kseg0, or mapped by ROW of the TLB
+//! m161_bench window RUNS STEPS LOG  the same in kseg0, with a log of LOG entries, which keeps the
+//!                                 last ones; the Steps of the others are made on its base too
 //! m161_bench log STEPS            writes the log of one run in kseg0 as text, and reads it back
 //! ```
 //!
-//! Each run boots the loop's file again, with a log of that size, and makes the Steps. Standard
+//! Each run boots the loop's file again, with a log for all Steps or of LOG entries, and makes the
+//! Steps. Standard
 //! output gets the number of all Steps and the sum of the runs' last words; or the length of the
 //! text and the number of entries read back. Standard error gets the nanoseconds of the runs; or
 //! those of the writing and of the reading.
@@ -38,6 +41,7 @@ enum Task {
         runs: u32,
         steps: u32,
         row: Option<u8>,
+        log: u32,
     },
     /// The times of a log as text.
     Log {
@@ -53,6 +57,14 @@ fn arguments(rt: &HostRuntime) -> Option<Task> {
         let steps = words.next()?.parse().ok()?;
         return Some(Task::Log { steps });
     }
+    if first.as_str() == "window" {
+        return Some(Task::Runs {
+            runs: words.next()?.parse().ok()?,
+            steps: words.next()?.parse().ok()?,
+            row: None,
+            log: words.next()?.parse().ok()?,
+        });
+    }
     let runs = first.parse().ok()?;
     let steps = match words.next() {
         Some(steps) => steps.parse().ok()?,
@@ -62,14 +74,19 @@ fn arguments(rt: &HostRuntime) -> Option<Task> {
         Some(row) => Some(row.parse().ok()?),
         None => None,
     };
-    Some(Task::Runs { runs, steps, row })
+    Some(Task::Runs {
+        runs,
+        steps,
+        row,
+        log: steps,
+    })
 }
 
 // Makes the runs and prints their results; `None` if something fails.
-fn make_runs(rt: &HostRuntime, times: u32, steps: u32, row: Option<u8>) -> Option<()> {
+fn make_runs(rt: &HostRuntime, times: u32, steps: u32, row: Option<u8>, log: u32) -> Option<()> {
     let image = image(rt.alloc(), row)?;
     let start = Instant::now(rt).ok()?;
-    let (word, count) = runs(rt.alloc(), image.as_slice(), times, steps)?;
+    let (word, count) = runs(rt.alloc(), image.as_slice(), times, steps, log)?;
     let took = start.elapsed(rt).ok()?;
     let nanoseconds = took.as_nanos();
     println!(rt; "{count} {word:08x}").ok()?;
@@ -89,7 +106,12 @@ fn main(rt: HostRuntime) -> ExitCode {
         return ExitCode::from(2);
     };
     let done = match task {
-        Task::Runs { runs, steps, row } => make_runs(&rt, runs, steps, row),
+        Task::Runs {
+            runs,
+            steps,
+            row,
+            log,
+        } => make_runs(&rt, runs, steps, row, log),
         Task::Log { steps } => make_log(&rt, steps),
     };
     ExitCode::from(if done.is_some() { 0 } else { 1 })

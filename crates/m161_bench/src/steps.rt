@@ -4,16 +4,16 @@ use m161::{Conf, Machine};
 use m161_isa::Reg;
 use std::alloc::Global;
 
-/// A machine that made `steps` Steps of a file, the first one by itself, with a log of that size.
-pub(crate) fn run(alloc: Global, image: &[u8], steps: u32) -> Option<Machine> {
+/// A machine that made `steps` Steps of a file, the first one by itself, with a log of this size.
+pub(crate) fn run(alloc: Global, image: &[u8], steps: u32, log: u32) -> Option<Machine> {
     let conf = Conf {
         ram: 65_536,
         processors: 1,
-        log: steps,
+        log,
     };
     let mut machine = Machine::boot(alloc, image, conf).ok()?;
     machine.step(0).ok()?;
-    let _ = machine.steps(0, steps);
+    let _ = machine.steps(0, steps.saturating_sub(1));
     Some(machine)
 }
 
@@ -25,12 +25,18 @@ fn last(machine: &Machine) -> Option<(u32, u64)> {
     Some((machine.reg(0, Reg::new(17)), machine.count(0)))
 }
 
-/// The sums of the last words and of the Steps of some runs.
-pub(crate) fn runs(alloc: Global, image: &[u8], times: u32, steps: u32) -> Option<(u32, u64)> {
+/// The sums of the last words and of the Steps of some runs, each with a log of this size.
+pub(crate) fn runs(
+    alloc: Global,
+    image: &[u8],
+    times: u32,
+    steps: u32,
+    log: u32,
+) -> Option<(u32, u64)> {
     let mut word = 0u32;
     let mut count = 0u64;
     for _ in 0..times {
-        let machine = run(alloc, image, steps)?;
+        let machine = run(alloc, image, steps, log)?;
         let (last, made) = last(&machine)?;
         word = word.wrapping_add(last);
         count = count.saturating_add(made);

@@ -1,18 +1,26 @@
-//! The program that both processors run.
+//! The program that all processors run.
 
 use m161_asm::assemble;
 use m161_elf_writer::write;
 use std::alloc::Global;
 
-/// Processor 0 starts processor 1; then both are at `both`. The loop is that of `m161_bench`.
+/// The Steps of processor 0 that start all others; each processor is at the loop's start then.
+pub(crate) const START: u32 = 5 + 31 * 4 + 2;
+
+/// Processor 0 writes the first address of the 31 others (of those that aren't there, the board
+/// ignores it) and starts them; then all are at `both`. The loop is that of `m161_bench`.
 const SOURCE: &str = "\
         lui     $8, 0xbfff
         ori     $9, $8, 0x8400      # the place of processor 1
         lui     $10, 0x8000
-        ori     $10, $10, 0x021c
-        sw      $10, 768($9)        # its first address: both
-        ori     $11, $0, 2
-        sw      $11, 32276($8)      # CPUE
+        ori     $10, $10, 0x022c
+        ori     $11, $0, 31
+next:   sw      $10, 768($9)        # its first address: both
+        addiu   $11, $11, -1
+        bne     $11, $0, next
+        addiu   $9, $9, 1024        # the place of the next one
+        addiu   $12, $0, -1
+        sw      $12, 32276($8)      # CPUE
 both:   lui     $16, 0x8000
         ori     $16, $16, 0x1000
 loop:   lw      $8, 0($16)

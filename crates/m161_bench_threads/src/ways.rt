@@ -1,14 +1,23 @@
-//! The loop on two processors: a thread for each, and the same Steps in one thread.
+//! The loop on several processors: a thread for each, and the same Steps in one thread.
 
+use crate::image::START;
 use m161::{Conf, Machine};
-use m161_threads::{Gate, run};
+use m161_threads::{Gate, run_bursts};
 use std::alloc::Global;
 use std::sync::Wait;
 use std::thread::Threads;
 use std::time::{Clock, Instant};
 
-/// The Steps of processor 0 that start processor 1; both are at the loop's start then.
-const START: u32 = 7;
+/// What is to be measured.
+#[derive(Clone, Copy)]
+pub(crate) struct Task {
+    /// How many Steps each processor makes.
+    pub(crate) steps: u32,
+    /// How many processors there are.
+    pub(crate) processors: u32,
+    /// How many Steps a thread makes under one holding of the lock.
+    pub(crate) burst: u32,
+}
 
 /// Steps, and the nanoseconds that they took.
 #[derive(Clone, Copy)]
@@ -20,7 +29,7 @@ pub(crate) struct Took {
 /// The same Steps, in three ways.
 #[derive(Clone, Copy)]
 pub(crate) struct Measured {
-    /// In two threads, one for each processor.
+    /// In a thread for each processor.
     pub(crate) threads: Took,
     /// In one thread, the processors by turns, one Step each.
     pub(crate) turns: Took,
@@ -38,80 +47,97 @@ impl Gate for Open {
     }
 }
 
-// A machine of two started processors, with room for `steps` Steps of each.
-fn start_machine(alloc: Global, image: &[u8], steps: u32) -> Option<Machine> {
+// A machine of started processors, with room for some entries.
+fn start_machine(alloc: Global, image: &[u8], task: Task) -> Option<Machine> {
     let conf = Conf {
         ram: 65_536,
-        processors: 2,
-        log: steps.checked_mul(2)?.checked_add(START)?,
+        processors: task.processors,
+        log: task
+            .steps
+            .checked_mul(task.processors)?
+            .checked_add(START)?
+            .min(16_777_216),
     };
     let mut machine = Machine::boot(alloc, image, conf).ok()?;
     let _ = machine.steps(0, START);
     Some(machine)
 }
 
-// How many Steps a machine has made since both processors were started.
-fn steps_made(machine: &Machine) -> Option<u64> {
-    if machine.processors() != 2 {
-        return None;
-    }
-    let all = machine.count(0).saturating_add(machine.count(1));
-    Some(all.saturating_sub(u64::from(START)))
+// How many Steps a machine has made since its processors were started.
+fn steps_made(machine: &Machine) -> u64 {
+    machine.made().saturating_sub(u64::from(START))
 }
 
-// Makes `steps` Steps of each processor, in a thread for each.
+// Makes the Steps of each processor, in a thread for each.
 fn in_threads<R: Threads + Wait + Clock + AllocGlobal + Sync>(
     rt: &R,
     image: &[u8],
-    steps: u32,
+    task: Task,
 ) -> Option<Took> {
-    let machine = start_machine(rt.alloc(), image, steps)?;
+    let machine = start_machine(rt.alloc(), image, task)?;
+    let quotas = vec![in rt.alloc(); task.steps; task.processors as usize].ok()?;
     let start = Instant::now(rt).ok()?;
-    let report = run(rt, rt.alloc(), machine, &[steps, steps], &Open).ok()?;
+    let report = run_bursts(
+        rt,
+        rt.alloc(),
+        machine,
+        quotas.as_slice(),
+        &Open,
+        task.burst,
+    )
+    .ok()?;
     let took = start.elapsed(rt).ok()?;
     Some(Took {
-        steps: steps_made(&report.machine)?,
+        steps: steps_made(&report.machine),
         nanoseconds: took.as_nanos(),
     })
 }
 
-// Makes `steps` Steps of each processor, by turns of one Step.
-fn by_turns(rt: &(impl Clock + AllocGlobal), image: &[u8], steps: u32) -> Option<Took> {
-    let mut machine = start_machine(rt.alloc(), image, steps)?;
+// Makes the Steps of each processor, by turns of one Step.
+fn by_turns(rt: &(impl Clock + AllocGlobal), image: &[u8], task: Task) -> Option<Took> {
+    let mut machine = start_machine(rt.alloc(), image, task)?;
     let start = Instant::now(rt).ok()?;
-    for _ in 0..steps {
-        machine.step(0).ok()?;
-        machine.step(1).ok()?;
+    for _ in 0..task.steps {
+        turn(&mut machine, task.processors)?;
     }
     let took = start.elapsed(rt).ok()?;
     Some(Took {
-        steps: steps_made(&machine)?,
+        steps: steps_made(&machine),
         nanoseconds: took.as_nanos(),
     })
 }
 
-// Makes `steps` Steps of each processor, those of processor 0 first.
-fn as_whole(rt: &(impl Clock + AllocGlobal), image: &[u8], steps: u32) -> Option<Took> {
-    let mut machine = start_machine(rt.alloc(), image, steps)?;
+// One Step of each processor.
+fn turn(machine: &mut Machine, processors: u32) -> Option<()> {
+    for p in 0..processors {
+        machine.step(p).ok()?;
+    }
+    Some(())
+}
+
+// Makes the Steps of each processor, those of processor 0 first.
+fn as_whole(rt: &(impl Clock + AllocGlobal), image: &[u8], task: Task) -> Option<Took> {
+    let mut machine = start_machine(rt.alloc(), image, task)?;
     let start = Instant::now(rt).ok()?;
-    let _ = machine.steps(0, steps);
-    let _ = machine.steps(1, steps);
+    for p in 0..task.processors {
+        let _ = machine.steps(p, task.steps);
+    }
     let took = start.elapsed(rt).ok()?;
     Some(Took {
-        steps: steps_made(&machine)?,
+        steps: steps_made(&machine),
         nanoseconds: took.as_nanos(),
     })
 }
 
-/// Makes `steps` Steps of each of two processors, in each of the three ways.
+/// Makes the Steps of each processor, in each of the three ways.
 pub(crate) fn measure<R: Threads + Wait + Clock + AllocGlobal + Sync>(
     rt: &R,
     image: &[u8],
-    steps: u32,
+    task: Task,
 ) -> Option<Measured> {
     Some(Measured {
-        threads: in_threads(rt, image, steps)?,
-        turns: by_turns(rt, image, steps)?,
-        whole: as_whole(rt, image, steps)?,
+        threads: in_threads(rt, image, task)?,
+        turns: by_turns(rt, image, task)?,
+        whole: as_whole(rt, image, task)?,
     })
 }

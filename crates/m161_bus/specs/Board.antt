@@ -5,6 +5,9 @@ use Rattle.m161_bus.specs.declared.board.StartWords.{StartWords}
 use Rattle.m161_bus.specs.declared.console.KeyFull.{KeyFull}
 use Rattle.m161_bus.specs.declared.console.DoneError.{DoneError}
 use Rattle.m161_bus.specs.declared.register.Register.{Register}
+use Rattle.m161_bus.specs.declared.register.BoardWord.{BoardWord}
+use Rattle.m161_bus.specs.declared.register.BoardWord.TheVariants as words
+use Rattle.m161_bus.specs.declared.console.ConsoleRegister.TheVariants as consoles
 use Rattle.m161_bus.specs.declared.register.Register.TheVariants.{Constant, Console, RamSize, Irqs, Power, Irqe, Cpus, Cpue, SelfBit, Cirqe, Cipi, Cram}
 use Rattle.m161_bus.specs.Console.{ConsoleState, console_read, after_console_read, console_written, is_line_up, with_key, done_of}
 use Rattle.m161_bus.specs.Registers.{register_of}
@@ -98,6 +101,30 @@ slot_word c SelfBit b = 2 ^ c
 slot_word c (Cirqe p) b = (place_of p b).cirqe
 slot_word c (Cipi p) b = if (place_of p b).cipi then 1 else 0
 slot_word c (Cram p i) b = slice_index (place_of p b).cram i
+
+-- the register of a word that an event can change
+abbrev pub register_of_word : BoardWord → Register
+register_of_word words.WriteIrq = Console consoles.WriteIrq
+register_of_word words.ReadIrq = Console consoles.ReadIrq
+register_of_word words.Irqe = Irqe
+register_of_word words.Cpue = Cpue
+register_of_word (words.Cirqe p) = Cirqe p
+register_of_word (words.Cipi p) = Cipi p
+register_of_word (words.Cram p i) = Cram p i
+
+-- such a word, as any processor would read it
+abbrev pub shown_word : BoardWord → BoardState → ℕ
+shown_word word b = slot_word 0 (register_of_word word) b
+
+-- the processor of such a word exists, and so does the word of its CRAM
+abbrev pub IsShown : ℕ → BoardWord → Type 0
+IsShown processors words.WriteIrq = Unit {0}
+IsShown processors words.ReadIrq = Unit {0}
+IsShown processors words.Irqe = Unit {0}
+IsShown processors words.Cpue = Unit {0}
+IsShown processors (words.Cirqe p) = p < processors
+IsShown processors (words.Cipi p) = p < processors
+IsShown processors (words.Cram p i) = (p < processors) × (i < 64)
 
 -- reading changes only the console
 abbrev pub after_read : Register → BoardState → BoardState

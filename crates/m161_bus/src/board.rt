@@ -2,12 +2,13 @@
 
 ghost use Rattle.std.specs.Prelude.{◌≡◌, ◌-◌, ◌%◌, ◌^◌, ◌<◌, ◌≤◌, length, IfOk};
 ghost use Rattle.m161_bus.specs.Board.{KeepsLines, KeepsSizeAndRoom, ReadsSlot, after_read, board_at_boot, board_read, board_written, irqs_through, irqs_with, with_slot_word, slot_word};
+ghost use Rattle.m161_bus.specs.Console.{after_console_read, console_read, console_written};
 ghost use Rattle.m161_bus.specs.Outcome.{LeavesUnlessRefused};
 ghost use Rattle.m161_bus.specs.helpers.Registers.{IsThere};
 
 mod views;
 
-use crate::console::Console;
+use crate::console::{Console, ConsoleRegister};
 use crate::lines::{PLACES, lines_of_all};
 use crate::place::Place;
 use crate::register::{Register, register_of};
@@ -36,6 +37,9 @@ pub struct StartWords {
 #[derive(Drop)]
 pub struct Board<D: Console> {
     lines: [u32; PLACES],
+    // The bits of IRQS that IRQE lets through: while these stay, only a processor's own registers
+    // change its lines.
+    through: u32,
     ram: u32,
     processors: u32,
     irqe: u32,
@@ -65,7 +69,8 @@ impl<D: Console> Model for Board<D> {
     } };
 
     ghost invariant = { λ b.
-        KeepsLines b.lines (irqs_through b.irqe (D.content b.console)) b.places
+        (b.through ≡ irqs_through b.irqe (D.content b.console))
+        × KeepsLines b.lines b.through b.places
         × (length b.lines ≡ 32)
         × (length b.places ≡ 32)
         × (1 ≤ b.processors)
@@ -79,21 +84,34 @@ fn irqs_of<D: Console>(console: &D) -> u32
     u32::from(console.line())
 }
 
-// The lines of every processor.
-fn current_lines<D: Console>(places: &[Place; PLACES], irqe: u32, console: &D) -> [u32; PLACES]
-    requires { length places.now ≡ 32 }
-    ensures lines { KeepsLines result (irqs_through irqe (D.content console.now)) places.now }
-    ensures len { length result ≡ 32 }
-{
-    lines_of_all(places, irqs_of(console) & irqe)
-}
-
 // CPUS: a bit for each processor.
 fn cpus_of(processors: u32) -> u32
     requires { (1 ≤ processors) × (processors ≤ 32) }
     ensures { result ≡ 2 ^ processors - 1 }
 {
     ((1u64 << processors) - 1) as u32
+}
+
+// The lines of every processor, after the console or IRQE changed. They are made anew only if IRQE
+// now lets other bits of IRQS through.
+pub(crate) fn settle<D: Console>(
+    lines: &mut [u32; PLACES],
+    through: &mut u32,
+    places: &[Place; PLACES],
+    irqe: u32,
+    console: &D,
+)
+    requires kept { KeepsLines lines.old through.old places.now }
+    requires len { (length lines.old ≡ 32) × (length places.now ≡ 32) }
+    ensures through { through.new ≡ irqs_through irqe (D.content console.now) }
+    ensures kept { KeepsLines lines.new through.new places.now }
+    ensures len { length lines.new ≡ 32 }
+{
+    let now = irqs_of(console) & irqe;
+    if now != *through {
+        *through = now;
+        *lines = lines_of_all(places, now);
+    }
 }
 
 impl<D: Console> Board<D> {
@@ -107,9 +125,11 @@ impl<D: Console> Board<D> {
         let irqe = u32::MAX;
         let mut places = [Place::at_boot(0); PLACES];
         places[0] = Place::at_boot(u32::MAX);
-        let lines = current_lines(&places, irqe, &console);
+        let through = irqs_of(&console) & irqe;
+        let lines = lines_of_all(&places, through);
         Board {
             lines,
+            through,
             ram,
             processors,
             irqe,
@@ -129,6 +149,7 @@ impl<D: Console> Board<D> {
         let console = self.console.copy(alloc)?;
         Ok(Board {
             lines: self.lines,
+            through: self.through,
             ram: self.ram,
             processors: self.processors,
             irqe: self.irqe,
@@ -178,18 +199,17 @@ impl<D: Console> Board<D> {
     {
         match register {
             Register::Constant(word) => word,
-            Register::Console(register) => {
-                let word = self.console.read(register);
-                self.lines = current_lines(&self.places, self.irqe, &self.console);
-                word
-            }
+            Register::Console(register) => self.read_console(register),
             Register::RamSize => self.ram,
             Register::Irqs => irqs_of(&self.console),
             Register::Power => 0,
             Register::Irqe => self.irqe,
             Register::Cpus => cpus_of(self.processors),
             Register::Cpue => self.started,
-            Register::SelfBit => 1 << c,
+            Register::SelfBit => {
+                let _few = &self.processors;
+                1 << c
+            }
             Register::Cirqe(p) => self.places[p as usize].cirqe(),
             Register::Cipi(p) => u32::from(self.places[p as usize].cipi()),
             Register::Cram(p, i) => self.places[p as usize].cram(i),
@@ -208,14 +228,88 @@ impl<D: Console> Board<D> {
             | Register::Irqs
             | Register::Cpus
             | Register::SelfBit => {}
-            Register::Console(register) => self.console.write(register, word),
+            Register::Console(register) => self.write_console(register, word),
             Register::Power => self.off = true,
-            Register::Irqe => self.irqe = word,
+            Register::Irqe => self.set_irqe(word),
             Register::Cpue => self.started |= word & cpus_of(self.processors),
-            Register::Cirqe(p) => self.places[p as usize].set_cirqe(word),
-            Register::Cipi(p) => self.places[p as usize].set_cipi(word != 0),
-            Register::Cram(p, i) => self.places[p as usize].set_cram(i, word),
+            Register::Cirqe(p) => {
+                self.places[p as usize].set_cirqe(word);
+                self.lines[p as usize] = self.places[p as usize].lines(self.through);
+            }
+            Register::Cipi(p) => {
+                self.places[p as usize].set_cipi(word != 0);
+                self.lines[p as usize] = self.places[p as usize].lines(self.through);
+            }
+            Register::Cram(p, i) => {
+                self.places[p as usize].set_cram(i, word);
+                self.lines[p as usize] = self.places[p as usize].lines(self.through);
+            }
         }
-        self.lines = current_lines(&self.places, self.irqe, &self.console);
+    }
+
+    // Reads a register of the console.
+    fn read_console(&mut self, register: ConsoleRegister) -> u32
+        ensures word { result ≡ console_read register self.old.state.console }
+        ensures after { self.new.state ≡ record self.old.state {
+          console = after_console_read register self.old.state.console;
+        } }
+        ensures room { self.new.room ≡ self.old.room }
+    {
+        let Board {
+            lines,
+            through,
+            places,
+            irqe,
+            console,
+            ram: _,
+            processors: _,
+            started: _,
+            off: _,
+        } = self;
+        let word = console.read(register);
+        settle(lines, through, places, *irqe, console);
+        word
+    }
+
+    // Writes a word to a register of the console.
+    fn write_console(&mut self, register: ConsoleRegister, word: u32)
+        ensures after { self.new.state ≡ record self.old.state {
+          console = console_written register word self.old.state.console;
+        } }
+        ensures room { self.new.room ≡ self.old.room }
+    {
+        let Board {
+            lines,
+            through,
+            places,
+            irqe,
+            console,
+            ram: _,
+            processors: _,
+            started: _,
+            off: _,
+        } = self;
+        console.write(register, word);
+        settle(lines, through, places, *irqe, console);
+    }
+
+    // Replaces IRQE.
+    fn set_irqe(&mut self, word: u32)
+        ensures after { self.new.state ≡ record self.old.state { irqe = word } }
+        ensures room { self.new.room ≡ self.old.room }
+    {
+        let Board {
+            lines,
+            through,
+            places,
+            irqe,
+            console,
+            ram: _,
+            processors: _,
+            started: _,
+            off: _,
+        } = self;
+        *irqe = word;
+        settle(lines, through, places, word, console);
     }
 }

@@ -1,6 +1,6 @@
 //! The laws of a console.
 
-ghost use Rattle.std.specs.Prelude.{◌≡◌, ◌≢◌, ℕ, ◌+◌, ◌≤◌, List, Err, IfOk, IsOk, OnOk, OnErr};
+ghost use Rattle.std.specs.Prelude.{◌≡◌, ◌≢◌, ℕ, ◌+◌, ◌≤◌, List, Err, length, IfOk, IsOk, OnOk, OnErr};
 ghost use Rattle.m161_bus.specs.Console.{ConsoleState, console_at_boot, console_read, after_console_read, console_written, with_key, done_of, is_line_up};
 ghost use Rattle.m161_bus.specs.declared.console.DoneError.TheVariants.{NoMemory};
 ghost use Rattle.m161_bus.specs.Outcome.{LeavesUnlessRefused, LeavesUnlessNoMemory};
@@ -91,9 +91,21 @@ pub trait Console: Drop {
         ensures succeeds { n ≤ room self.old → IsOk result }
         ensures err { OnErr result (room self.new ≡ room self.old) };
 
+    /// The word that a read of a register would give. Nothing is changed.
+    fn peek(&self, register: ConsoleRegister) -> u32
+        ensures { result ≡ console_read register (content self.now) };
+
+    /// How many typed bytes wait to be read.
+    fn waiting(&self) -> u32
+        ensures { result ≡ length (content self.now).waiting };
+
     /// Whether the line is up.
     fn line(&self) -> bool
         ensures { result ≡ is_line_up (content self.now) };
+
+    /// The byte that is being sent, if one is.
+    fn latch(&self) -> Option<u8>
+        ensures { result ≡ (content self.now).latch };
 
     /// All bytes sent, the first one first.
     fn output(&self) -> &[u8]

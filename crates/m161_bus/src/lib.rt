@@ -46,3 +46,4 @@ mod register;
 pub use board::{Board, BusFault, StartWords};
 pub use console::{Console, ConsoleRegister, DoneError, KeyFull};
 pub use irq::IrqBits;
+pub use register::BoardWord;

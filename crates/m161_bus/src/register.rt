@@ -47,6 +47,25 @@ pub(crate) enum Register {
     Cram(u32, u32),
 }
 
+/// A word of the slots that an event can change, for those who look at it.
+#[derive(Clone, Copy, Debug, PartialEq, Eq)]
+pub enum BoardWord {
+    /// WIRQ of the console.
+    WriteIrq,
+    /// RIRQ of the console.
+    ReadIrq,
+    /// IRQE.
+    Irqe,
+    /// CPUE.
+    Cpue,
+    /// CIRQE of a processor.
+    Cirqe(u32),
+    /// CIPI of a processor.
+    Cipi(u32),
+    /// A word of a processor's CRAM, by its number.
+    Cram(u32, u32),
+}
+
 /// The register at a physical address, on a board with this number of processors. `None` if that
 /// isn't the address of an aligned word of the slots.
 #[tactic(auto, unfolding(crate::specs::Registers::register_of))]

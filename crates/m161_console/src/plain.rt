@@ -1,9 +1,10 @@
-//! The console.
+//! A console whose waiting bytes are in a vector.
 
 ghost use Rattle.std.specs.Prelude.{◌≡◌, drop};
-ghost use Rattle.m161_bus.specs.Console.{oldest, read_irq};
+ghost use Rattle.m161_bus.specs.Console.{bytes_wait, oldest};
 
-use m161_bus::{Console, ConsoleRegister, DoneError, IrqBits, KeyFull};
+use crate::port::Port;
+use m161_bus::{Console, ConsoleRegister, DoneError, KeyFull};
 use std::alloc::{AllocError, Global};
 use std::marker::Model;
 
@@ -14,43 +15,31 @@ const MOST_WAITING: usize = 256;
 #[derive(Drop)]
 pub struct PlainConsole {
     waiting: Vec<u8>,
-    latch: Option<u8>,
-    sent: Vec<u8>,
-    write_irq: IrqBits,
-    read_enable: bool,
-    read_force: bool,
+    port: Port,
 }
 
 impl Model for PlainConsole {
-    ghost use Rattle.std.specs.Prelude.{◌-◌, ◌≤◌, length, vec_capacity};
-    ghost use Rattle.m161_console.specs.Plain.{PlainValue};
+    ghost use Rattle.std.specs.Prelude.{◌≡◌, ◌≤◌, length, vec_capacity};
+    ghost use Rattle.m161_console.specs.Value.{ConsoleValue, with_waiting};
 
-    ghost Value = { PlainValue };
+    ghost Value = { ConsoleValue };
 
     ghost view = { λ c. record {
-      content = record {
-        waiting = c.waiting.items;
-        latch = c.latch;
-        output = c.sent.items;
-        write_irq = c.write_irq;
-        read_enable = c.read_enable;
-        read_force = c.read_force;
-      };
-      room = vec_capacity c.sent - length c.sent.items;
+      content = with_waiting c.waiting.items c.port.content;
+      room = c.port.room;
     } };
 
-    ghost invariant = { λ c. 256 ≤ vec_capacity c.waiting };
+    ghost invariant = { λ c. (256 ≤ vec_capacity c.waiting) × (length c.waiting.items ≤ 256) };
 }
 
 impl PlainConsole {
-    /// RIRQ as it is read: its ACTIVE says that bytes wait.
-    fn read_irq(&self) -> IrqBits
-        ensures { result ≡ read_irq self.now.content }
+    /// The oldest waiting byte, or 0.
+    fn oldest(&self) -> u32
+        ensures { result ≡ oldest self.now.content.waiting }
     {
-        IrqBits {
-            enable: self.read_enable,
-            active: !self.waiting.is_empty(),
-            force: self.read_force,
+        match self.waiting.first() {
+            Some(byte) => u32::from(*byte),
+            None => 0,
         }
     }
 
@@ -66,6 +55,13 @@ impl PlainConsole {
         }
         u32::from(self.waiting.remove(0))
     }
+
+    /// Whether bytes wait.
+    fn waits(&self) -> bool
+        ensures { result ≡ bytes_wait self.now.content.waiting }
+    {
+        !self.waiting.is_empty()
+    }
 }
 
 impl Console for PlainConsole {
@@ -76,51 +72,29 @@ impl Console for PlainConsole {
     fn fresh(alloc: Global) -> Result<PlainConsole, AllocError> {
         Ok(PlainConsole {
             waiting: Vec::with_capacity(alloc, MOST_WAITING)?,
-            latch: None,
-            sent: Vec::new(alloc),
-            write_irq: IrqBits::from_word(0),
-            read_enable: false,
-            read_force: false,
+            port: Port::fresh(alloc),
         })
     }
 
     fn copy(&self, alloc: Global) -> Result<PlainConsole, AllocError> {
         let mut waiting = Vec::with_capacity(alloc, MOST_WAITING)?;
         waiting.extend_from_slice(self.waiting.as_slice())?;
-        let mut sent = Vec::with_capacity(alloc, self.sent.capacity())?;
-        sent.extend_from_slice(self.sent.as_slice())?;
         Ok(PlainConsole {
             waiting,
-            latch: self.latch,
-            sent,
-            write_irq: self.write_irq,
-            read_enable: self.read_enable,
-            read_force: self.read_force,
+            port: self.port.copy(alloc)?,
         })
     }
 
     fn read(&mut self, register: ConsoleRegister) -> u32 {
         match register {
             ConsoleRegister::Char => self.take_byte(),
-            ConsoleRegister::WriteIrq => self.write_irq.word(),
-            ConsoleRegister::ReadIrq => self.read_irq().word(),
+            ConsoleRegister::WriteIrq => self.port.write_irq_word(),
+            ConsoleRegister::ReadIrq => self.port.read_irq_word(self.waits()),
         }
     }
 
     fn write(&mut self, register: ConsoleRegister, word: u32) {
-        match register {
-            ConsoleRegister::Char => {
-                if self.latch.is_none() {
-                    self.latch = Some((word % (1 << 8)) as u8);
-                }
-            }
-            ConsoleRegister::WriteIrq => self.write_irq = IrqBits::from_word(word),
-            ConsoleRegister::ReadIrq => {
-                let bits = IrqBits::from_word(word);
-                self.read_enable = bits.enable;
-                self.read_force = bits.force;
-            }
-        }
+        self.port.write(register, word);
     }
 
     fn key(&mut self, byte: u8) -> Result<(), KeyFull> {
@@ -132,29 +106,38 @@ impl Console for PlainConsole {
     }
 
     fn done(&mut self) -> Result<(), DoneError> {
-        let byte = self.latch.ok_or(DoneError::NothingSent)?;
-        if self.sent.reserve(1).is_err() {
-            return Err(DoneError::NoMemory);
-        }
-        self.sent.push_reserved(byte);
-        self.latch = None;
-        self.write_irq.active = true;
-        Ok(())
+        self.port.send()
     }
 
     fn room(&self) -> usize {
-        self.sent.capacity() - self.sent.len()
+        self.port.room()
     }
 
     fn reserve(&mut self, n: usize) -> Result<(), AllocError> {
-        self.sent.reserve(n)
+        self.port.reserve(n)
+    }
+
+    fn peek(&self, register: ConsoleRegister) -> u32 {
+        match register {
+            ConsoleRegister::Char => self.oldest(),
+            ConsoleRegister::WriteIrq => self.port.write_irq_word(),
+            ConsoleRegister::ReadIrq => self.port.read_irq_word(self.waits()),
+        }
+    }
+
+    fn waiting(&self) -> u32 {
+        self.waiting.len() as u32
     }
 
     fn line(&self) -> bool {
-        self.write_irq.is_up() || self.read_irq().is_up()
+        self.port.line(self.waits())
+    }
+
+    fn latch(&self) -> Option<u8> {
+        self.port.latch()
     }
 
     fn output(&self) -> &[u8] {
-        &self.sent
+        self.port.output()
     }
 }

@@ -79,6 +79,10 @@ is_pending lines c = not (bit_and (ip_of lines c) (im_of c.status) == 0)
 unfoldable pub is_interrupted : ℕ → Control → Bool
 is_interrupted lines c = has_bit c.status 0 && is_pending lines c
 
+-- the timer will interrupt: Status lets its interrupt through, and Compare is set
+unfoldable pub expects_timer : Control → Bool
+expects_timer c = has_bit c.status 15 && not (c.compare == 0)
+
 -- KUc: user mode
 unfoldable pub is_user : Control → Bool
 is_user c = has_bit c.status 1

@@ -51,6 +51,14 @@ impl Links {
         }
     }
 
+    /// The word that a processor is linked to, if its link is live.
+    pub fn linked_word(&self, c: u32) -> Option<u32>
+        requires { c < 32 }
+        ensures { result ≡ slice_index_or self.now c None }
+    {
+        self.words[c as usize]
+    }
+
     /// Whether a processor's link is live and to this word.
     pub(crate) fn names(&self, c: u32, word: u32) -> bool
         requires { c < 32 }

@@ -8,7 +8,7 @@ use Rattle.m161_debug.specs.declared.command.Area.TheVariants.{Memory, Code}
 use Rattle.m161_debug.specs.declared.command.Change.{Change}
 use Rattle.m161_debug.specs.declared.command.Change.TheVariants.{Set, Delete}
 use Rattle.m161_debug.specs.declared.command.Command.{Command}
-use Rattle.m161_debug.specs.declared.command.Command.TheVariants.{Breakpoint, Make, Go, GoFirst, Show, Words}
+use Rattle.m161_debug.specs.declared.command.Command.TheVariants.{Breakpoint, Make, Go, GoFirst, Show, Words, Log}
 use Rattle.m161_debug.specs.declared.command.CommandError.{CommandError}
 use Rattle.m161_debug.specs.declared.command.CommandError.TheVariants.{Unknown, BadArgument, BadProcessor, TooMany, NoMemory}
 use Rattle.m161_debug.specs.declared.command.Display.{Display}
@@ -21,7 +21,7 @@ abbrev pub command_words : List (List ℕ)
 command_words =
     codes "b" ∷ codes "d" ∷ codes "s" ∷ codes "k" ∷ codes "o" ∷ codes "g" ∷ codes "r" ∷ codes "c"
     ∷ codes "t"
-    ∷ codes "m" ∷ codes "x" ∷ []
+    ∷ codes "m" ∷ codes "x" ∷ codes "l" ∷ []
 
 abbrev pub change_word : Change → List ℕ
 change_word Set = codes "b"
@@ -56,6 +56,7 @@ IsCommandLine (GoFirst n) line =
 IsCommandLine (Show display p) line = IsWord p × (line ≡ display_word display ␣ decimal p)
 IsCommandLine (Words area address n) line =
     IsWord address × IsWord n × (line ≡ area_word area ␣ word_text address ␣ decimal n)
+IsCommandLine (Log n) line = IsWord n × (line ≡ codes "l" ␣ decimal n)
 
 -- the part before the first space
 abbrev pub first_word : List ℕ → List ℕ

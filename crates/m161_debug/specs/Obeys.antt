@@ -15,7 +15,7 @@ use Rattle.m161_debug.specs.declared.command.Area.{Area}
 use Rattle.m161_debug.specs.declared.command.Area.TheVariants.{Memory, Code}
 use Rattle.m161_debug.specs.declared.command.Change.TheVariants.{Set, Delete}
 use Rattle.m161_debug.specs.declared.command.Command.{Command}
-use Rattle.m161_debug.specs.declared.command.Command.TheVariants.{Breakpoint, Make, Go, GoFirst, Show, Words}
+use Rattle.m161_debug.specs.declared.command.Command.TheVariants.{Breakpoint, Make, Go, GoFirst, Show, Words, Log}
 use Rattle.m161_debug.specs.declared.command.CommandError.{CommandError}
 use Rattle.m161_debug.specs.declared.command.CommandError.TheVariants.{BadArgument, BadProcessor, TooMany, NoMemory}
 use Rattle.m161_debug.specs.declared.command.Display.{Display}
@@ -24,7 +24,7 @@ use Rattle.m161_debug.specs.declared.stop.Stop.{Stop}
 use Rattle.m161_debug.specs.declared.stop.Stop.TheVariants.{Break, Refused, Off, End}
 use Rattle.m161_debug.specs.Breakpoints.{SessionState, breakpoint, break_fault, has, with_breakpoint, without_breakpoint}
 use Rattle.m161_debug.specs.Stops.{Stops}
-use Rattle.m161_debug.specs.Shows.{show_regs_text, show_cop0_text, show_tlb_text, show_mem_text, show_code_text}
+use Rattle.m161_debug.specs.Shows.{show_regs_text, show_cop0_text, show_tlb_text, show_mem_text, show_code_text, show_log_text}
 use Rattle.m161_text.specs.Lines.{with_line_end}
 use Rattle.m161_debug.specs.Commands.{IsAsked}
 
@@ -56,6 +56,7 @@ fault_of s (Show display p) =
     if nat_le (length s.machine.state.processors) p then Some BadProcessor else None
 fault_of s (Words area address n) =
     if is_shown area s.machine.state address n then None else Some BadArgument
+fault_of s (Log n) = if nat_le 1 n && nat_le n 1024 then None else Some BadArgument
 
 abbrev pub refused_text : Refusal → List ℕ
 refused_text r = decimal (number_of_refusal r) ␣ name_of_refusal r
@@ -124,6 +125,8 @@ HasEffect (Show display p) s rest used t printed =
     (used ≡ 0) × (t ≡ s) × (printed ≡ display_text display p s.machine.state)
 HasEffect (Words area address n) s rest used t printed =
     (used ≡ 0) × (t ≡ s) × (printed ≡ area_text area address n s.machine.state)
+HasEffect (Log n) s rest used t printed =
+    (used ≡ 0) × (t ≡ s) × (printed ≡ show_log_text n s.machine.log)
 
 -- the error is returned, and nothing is changed
 abbrev pub FailsWith :

@@ -1,4 +1,4 @@
-use Rattle.std.specs.Prelude.{ℕ, ◌+◌, ◌*◌, ◌/◌, ◌%◌, Bool, true, false, List, [], ◌∷◌, ◌++◌, slice_index, slice_index_or, codes, decimal, flat_map, map}
+use Rattle.std.specs.Prelude.{ℕ, ◌+◌, ◌-◌, ◌*◌, ◌/◌, ◌%◌, Bool, true, false, List, [], ◌∷◌, ◌++◌, slice_index, slice_index_or, codes, decimal, length, drop, map}
 use Rattle.std.specs.List.{range_with_len}
 use Rattle.std.specs.Option.{option_map_or}
 use Rattle.m161_isa.specs.Address.{unmapped}
@@ -14,11 +14,13 @@ use Rattle.m161_bus.specs.Board.{interrupt_lines}
 use Rattle.m161_cpu.specs.declared.processor.ProcessorState.{ProcessorState}
 use Rattle.m161_cpu.specs.declared.processor.ProcessorState.TheVariants.{Stopped, Running, Waiting}
 use Rattle.m161_cpu.specs.Processor.{Processor}
+use Rattle.m161_machine.specs.declared.event.Entry.{Entry}
 use Rattle.m161_machine.specs.State.{State, processor_at}
-use Rattle.m161_text.specs.Lines.{with_line_end, text_of}
+use Rattle.m161_steplog.specs.Text.{entry_text}
+use Rattle.m161_text.specs.Lines.{text_of}
 use Rattle.m161_text.specs.Parts.{◌␣◌, word_text}
 
--- The displays: each is a list of lines, computed from a state.
+-- The displays: each is a list of lines, computed from a state or from the log.
 
 -- n lines, counted from 0
 abbrev pub numbered_lines : ℕ → (ℕ → List ℕ) → List (List ℕ)
@@ -116,3 +118,12 @@ code_line memory at = listing_text at (code_word memory at)
 
 unfoldable pub show_code_text : ℕ → ℕ → State → List ℕ
 show_code_text address n s = text_of (numbered_lines n (λ i. code_line s.memory (address + 4 * i)))
+
+-- The log: a line for each of its last n entries, the oldest of them first.
+
+-- the last n elements of a list, or all if it has fewer
+abbrev pub last_of : {X : Type 0} → ℕ → List X → List X
+last_of n xs = drop (length xs - n) xs
+
+unfoldable pub show_log_text : ℕ → List Entry → List ℕ
+show_log_text n log = text_of (map entry_text (last_of n log))

@@ -1,4 +1,4 @@
-use Rattle.std.specs.Prelude.{◌≡◌, ◌⊎◌, ℕ, ◌+◌, Bool, true, false, nat_lt, ◌&&◌, if◌then◌else◌, List, [], ◌∷◌, ◌++◌, length, take, drop, slice_get, Some, IsOk, Result, Ok, Err}
+use Rattle.std.specs.Prelude.{◌≡◌, ◌⊎◌, ℕ, ◌+◌, Bool, true, false, nat_lt, ◌&&◌, if◌then◌else◌, List, [], ◌∷◌, length, take, drop, slice_get, Some, IsOk, Result, Ok, Err}
 use Rattle.m161_cpu.specs.declared.processor.Outcome.{Outcome}
 use Rattle.m161_cpu.specs.declared.processor.Outcome.TheVariants as outcomes
 use Rattle.m161_machine.specs.declared.event.Event.{Event}
@@ -6,7 +6,7 @@ use Rattle.m161_machine.specs.declared.event.Event.TheVariants as events
 use Rattle.m161_machine.specs.declared.event.Refusal.{Refusal}
 use Rattle.m161_machine.specs.declared.event.Refusal.TheVariants.{NoMemory}
 use Rattle.m161_machine.specs.State.{State, processor_at, next}
-use Rattle.m161_machine.specs.History.{History, entry, Continues}
+use Rattle.m161_machine.specs.History.{History, Continues}
 use Rattle.m161_debug.specs.declared.breakpoints.Breakpoint.{Breakpoint}
 use Rattle.m161_debug.specs.declared.stop.Stop.{Stop}
 use Rattle.m161_debug.specs.declared.stop.Stop.TheVariants.{Break, Refused, Off, End}
@@ -28,37 +28,39 @@ is_power_off (outcomes.Trapped code vector) = false
 is_power_off outcomes.Idle = false
 is_power_off outcomes.Taken = false
 
--- a history with one more accepted event
-abbrev pub with_event : History → Event → Outcome × State → History
-with_event m e r = record m { log = m.log ++ entry e r.0 ∷ []; state = r.1 }
-
 -- after event k: it was refused, it switched the machine off, or the run goes on
 abbrev pub stop_after :
-    ℕ → History → Event → Result (Outcome × State) Refusal → (History → Stop × History) →
-    Stop × History
-stop_after k m e (Err refusal) rest = (Refused k refusal, m)
-stop_after k m e (Ok r) rest =
-    if is_power_off r.0 then (Off k, with_event m e r) else rest (with_event m e r)
+    ℕ → State → Result (Outcome × State) Refusal → (State → Stop × State) → Stop × State
+stop_after k s (Err refusal) rest = (Refused k refusal, s)
+stop_after k s (Ok r) rest = if is_power_off r.0 then (Off k, r.1) else rest r.1
 
--- where a run over the events from place k on stops, and the history at the stop; no breakpoint is
+-- where a run over the events from place k on stops, and the state at the stop; no breakpoint is
 -- looked for at place 0
-abbrev pub stop_from : List Breakpoint → ℕ → History → List Event → Stop × History
-stop_from bs k m [] = (End k, m)
-stop_from bs k m (e ∷ es) =
-    if nat_lt 0 k && is_break bs m.state e then (Break k, m)
-    else stop_after k m e (next m.state e) (λ n. stop_from bs (k + 1) n es)
+abbrev pub stop_from : List Breakpoint → ℕ → State → List Event → Stop × State
+stop_from bs k s [] = (End k, s)
+stop_from bs k s (e ∷ es) =
+    if nat_lt 0 k && is_break bs s e then (Break k, s)
+    else stop_after k s (next s e) (λ t. stop_from bs (k + 1) t es)
 
--- for event k, a Done that would be accepted, memory was refused: the k events before it are made,
--- and no stop is among them
+-- how many events were made up to a stop: also the one that switched the machine off
+abbrev pub made_at : Stop → ℕ
+made_at (Break k) = k
+made_at (Refused k refusal) = k
+made_at (Off k) = k + 1
+made_at (End n) = n
+
+-- for event k, a Done that would be accepted, memory was refused: no stop is among the events
+-- before it
 pub record LacksMemory
-    (bs : List Breakpoint) (m : History) (es : List Event) (k : ℕ) (n : History) : Type 0 where
+    (bs : List Breakpoint) (s : State) (es : List Event) (k : ℕ) (t : State) : Type 0 where
   pub event : slice_get es k ≡ Some events.Done
-  pub before : Continues m (take k es) n
-  pub accepts : IsOk (next n.state events.Done)
-  pub no_stop : stop_from bs 0 m es ≡ stop_from bs k n (drop k es)
+  pub accepts : IsOk (next t events.Done)
+  pub no_stop : stop_from bs 0 s es ≡ stop_from bs k t (drop k es)
 
--- where a run over these events stops, and the history at the stop
-abbrev pub Stops : List Breakpoint → History → List Event → Stop → History → Type 0
-Stops bs m es stop n =
-    (stop_from bs 0 m es ≡ (stop, n))
-    ⊎ ((k : ℕ) × (stop ≡ Refused k NoMemory) × LacksMemory bs m es k n)
+-- where a run over these events stops, and the machine at the stop: the events before the stop were
+-- made of it
+pub record Stops
+    (bs : List Breakpoint) (m : History) (es : List Event) (stop : Stop) (n : History) : Type 0 where
+  pub made : Continues m (take (made_at stop) es) n
+  pub stop_is : (stop_from bs 0 m.state es ≡ (stop, n.state))
+      ⊎ ((k : ℕ) × (stop ≡ Refused k NoMemory) × LacksMemory bs m.state es k n.state)

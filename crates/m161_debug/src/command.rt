@@ -48,6 +48,8 @@ pub(crate) enum Command {
     Show(Display, u32),
     /// Shows this number of words from an address on.
     Words(Area, u32, u32),
+    /// Shows this number of the log's last entries.
+    Log(u32),
 }
 
 /// Why a command isn't executed. Each is returned only if none above it holds.
@@ -129,7 +131,7 @@ fn command_alone(line: &str) -> Result<Command, CommandError>
     match line {
         "o" => Ok(Command::Make(Event::Done)),
         "g" => Ok(Command::Go),
-        "b" | "d" | "s" | "k" | "r" | "c" | "t" | "m" | "x" => Err(CommandError::BadArgument),
+        "b" | "d" | "s" | "k" | "r" | "c" | "t" | "m" | "x" | "l" => Err(CommandError::BadArgument),
         _ => Err(CommandError::Unknown),
     }
 }
@@ -151,6 +153,7 @@ fn command_with(word: &str, arguments: &str) -> Result<Command, CommandError>
         "t" => show_of(Display::Tlb, arguments),
         "m" => words_of(Area::Memory, arguments),
         "x" => words_of(Area::Code, arguments),
+        "l" => log_command(arguments),
         _ => Err(CommandError::Unknown),
     }
 }
@@ -206,6 +209,15 @@ fn words_of(area: Area, arguments: &str) -> Result<Command, CommandError>
 {
     match address_and_count(arguments) {
         Some((address, n)) => Ok(Command::Words(area, address, n)),
+        None => Err(CommandError::BadArgument),
+    }
+}
+
+fn log_command(arguments: &str) -> Result<Command, CommandError>
+    ensures { IsAsked (codes "l" ␣ arguments.now) result }
+{
+    match parse_decimal(arguments) {
+        Some(n) => Ok(Command::Log(n)),
         None => Err(CommandError::BadArgument),
     }
 }

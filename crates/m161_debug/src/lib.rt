@@ -15,6 +15,7 @@
 //! g       g N            break K, refused K N NAME, off K, or end N
 //! r P     c P     t P    registers, coprocessor 0, TLB
 //! m ADDR N    x ADDR N   1 to 1,024 words: memory, code
+//! l N                    the last 1 to 1,024 entries of the log, or all if it has fewer
 //! ```
 //!
 //! P, N and K are decimal, without leading zeros; ADDR is eight and HH two lower case hexadecimal

@@ -6,12 +6,12 @@ ghost use Rattle.m161_machine.specs.History.{Answers};
 ghost use Rattle.m161_debug.specs.Breakpoints.{breakpoint, break_answer, break_fault, break_leaves, has, without_breakpoint, IsSet};
 ghost use Rattle.m161_debug.specs.Stops.{is_break, Stops};
 ghost use Rattle.m161_debug.specs.Obeys.{used_by};
-ghost use Rattle.m161_debug.specs.Shows.{show_code_text, show_cop0_text, show_mem_text, show_regs_text, show_tlb_text};
+ghost use Rattle.m161_debug.specs.Shows.{show_code_text, show_cop0_text, show_log_text, show_mem_text, show_regs_text, show_tlb_text};
 
 mod commands;
 
 use crate::breakpoints::{BreakError, Breakpoint, Breakpoints, MOST};
-use crate::display::{show_code, show_cop0, show_mem, show_regs, show_tlb};
+use crate::display::{show_code, show_cop0, show_log, show_mem, show_regs, show_tlb};
 use crate::stop::Stop;
 use m161_bus::Console;
 use m161_machine::{Event, Machine, Outcome, Refusal};
@@ -184,6 +184,17 @@ impl<T: Tlb, D: Console> Session<T, D> {
         show_code(self.machine.allocator(), &self.machine, address, n)
     }
 
+    /// The last `n` entries of the log, or all if it has fewer, one a line, the oldest of them
+    /// first.
+    ///
+    /// # Errors
+    /// Memory was refused.
+    pub fn show_log(&self, n: usize) -> Result<String, AllocError>
+        ensures { IfOk result (λ text. string_bytes text ≡ show_log_text n self.now.machine.log) }
+    {
+        show_log(self.machine.allocator(), &self.machine, n)
+    }
+
     // Whether a Step is at a breakpoint.
     fn is_at_break(&self, event: Event) -> bool
         ensures { result ≡ is_break self.now.breakpoints self.now.machine.state event }
@@ -207,6 +218,7 @@ impl<T: Tlb, D: Console> Session<T, D> {
         ensures breakpoints { self.new.breakpoints ≡ self.old.breakpoints }
         ensures within { used_by result ≤ length events.now }
     {
+        self.machine.replay();
         for (k, event) in events.iter().enumerate() {
             if k > 0 && self.is_at_break(*event) {
                 return Stop::Break(k);

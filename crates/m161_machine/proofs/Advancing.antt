@@ -2,7 +2,6 @@ use Rattle.std.proofs.Common.{◌≡◌, ◌∙◌, refl, ap, sym, subst, ℕ, �
 use Rattle.std.proofs.lemmas.List.{length-append, map-append, replicate-append-replicate, take_more_set}
 use Rattle.m161_cpu.specs.declared.processor.Outcome.{Outcome}
 use Rattle.m161_cpu.specs.declared.processor.Outcome.TheVariants.{Ran}
-use Rattle.m161_machine.specs.declared.conf.Conf.{Conf}
 use Rattle.m161_machine.specs.declared.event.Entry.{Entry}
 use Rattle.m161_machine.specs.declared.event.Event.{Event}
 use Rattle.m161_machine.specs.declared.event.Event.TheVariants.{Step}
@@ -37,13 +36,12 @@ advances_more p s t u kept made x o h inside is gives =
 
 -- where the Step isn't refused
 pub advances_by_step : (p most : ℕ) (s t u : State) (kept : List Entry) (made : ℕ) (x : Entry) (o : Outcome) → Advances p s (take made kept) t →
-    KeepsSizes s t → p < length s.processors → t.board.off ≡ false → t.made ≡ s.made + made → s.made + most ≤ s.conf.log → length kept ≡ most →
+    KeepsSizes s t → p < length s.processors → t.board.off ≡ false → t.made ≡ s.made + made → s.made + most ≤ 9223372036854775807 → length kept ≡ most →
     made < length kept → o ≡ (step_result p t).outcome → u ≡ with_step p (step_result p t) t → x ≡ entry (Step p) o →
     Advances p s (take (made + 1) (set kept made x)) u
 advances_by_step p most s t u kept made x o h sizes place on made_is room number inside o_is u_is is =
-    let conf_is = ap (λ (c : Conf). c.log) sizes.0 in
     advances_more p s t u kept made x o h inside is
-    (step_made t p o u (omega (arith, place, sizes.1)) on (omega (arith, made_is, room, number, inside, conf_is)) o_is u_is)
+    (step_made t p o u (omega (arith, place, sizes.1)) on (omega (arith, made_is, room, number, inside)) o_is u_is)
 
 -- one Step, and the entry that is read back
 pub one_made : (p : ℕ) (s t : State) (kept : List Entry) (made : ℕ) (x d : Entry) → made ≡ 1 → length kept ≡ 1 → Advances p s (take made kept) t →

@@ -25,18 +25,19 @@ loaded file conf image h =
     let left = loaded_of file conf.ram (first_fault file conf.ram) image h in (file, left.0, left.1)
 
 -- a machine that was just booted
-pub lawful_at_boot : (start : Start) (state : State) (log : List Entry) → IsLoaded start → is_within_limits start.conf ≡ true →
-    state ≡ boot_state start → log ≡ [] → IsLawful (record { start = start; log = log; state = state })
-lawful_at_boot start state log from_file within state_is empty =
+pub lawful_at_boot : (start : Start) (base state : State) (log : List Entry) → IsLoaded start → is_within_limits start.conf ≡ true →
+    base ≡ boot_state start → state ≡ boot_state start → log ≡ [] →
+    IsLawful (record { start = start; base = base; log = log; state = state })
+lawful_at_boot start base state log from_file within base_is state_is empty =
     let one : 1 ≤ start.conf.processors = search rules in
     let others = length-replicate (start.conf.processors - 1) stopped_processor in
-    rw (state_is, empty) record {
+    rw (base_is, state_is, empty) record {
       replay = refl;
+      reached = ([], refl);
       is_loaded = from_file;
       limits_hold = within;
       conf_is = refl;
-      made_is = refl;
+      log_is_last = omega arith;
       ram_is = from_file.2.size_is;
       size_is = omega (arith, one, others);
-      log_fits = omega arith;
     }

@@ -1,15 +1,15 @@
-use Rattle.std.proofs.Common.{◌≡◌, ◌∙◌, refl, ap, sym, ℕ, zero, suc, ◌+◌, ◌-◌, ◌<◌, Bool, true, false, List, [], ◌∷◌, length, map, replicate, set, get_or, arith}
+use Rattle.std.proofs.Common.{◌≡◌, ◌∙◌, refl, ap, sym, ℕ, ◌+◌, ◌<◌, Bool, true, false, List, [], ◌∷◌, length, set, get_or, arith}
 use Rattle.std.specs.Prelude.{◌==◌, if◌then◌else◌}
 use Rattle.std.proofs.lemmas.Bool.Decides.{nat_tests}
 use Rattle.std.proofs.lemmas.List.{get_or-set_same, get_or-set_other, length-map, length-set}
 use Rattle.std.proofs.lemmas.List.Sums.{sum_by-cons}
-use Rattle.m161_cpu.specs.Processor.{Processor, stopped_processor}
+use Rattle.m161_cpu.specs.Processor.{Processor}
 use Rattle.m161_machine.specs.declared.event.Entry.{Entry}
 use Rattle.m161_machine.specs.declared.event.Event.{Event}
 use Rattle.m161_machine.specs.declared.event.Event.TheVariants.{Step, Key, Done}
 use Rattle.m161_machine.specs.State.{State, counts}
 use Rattle.m161_machine.specs.helpers.State.{counts_after}
-use Rattle.m161_machine.specs.History.{History, Start, CountsSteps, IsReplay, Leads, boot_state, events_of, is_step_of, steps_of}
+use Rattle.m161_machine.specs.History.{History, CountsSteps, IsReplay, Leads, events_of, is_step_of, steps_of}
 use Rattle.m161_machine.proofs.Counting.{counts_law}
 
 -- What the counts of a run say of its events.
@@ -60,26 +60,13 @@ pub length_through : (es : List Event) (cs : List ℕ) → length (counts_throug
 length_through [] cs = refl
 length_through (e ∷ es) cs = length_through es (counts_after e cs) ∙ same_length e cs
 
--- at boot no processor has made a Step
-none_made : (n p : ℕ) → get_or (map (λ (q : Processor). q.count) (replicate n stopped_processor)) p 0 ≡ 0
-none_made zero p = refl
-none_made (suc n) zero = refl
-none_made (suc n) (suc p) = none_made n p
-
-none_at_boot : (start : Start) (p : ℕ) → get_or (counts (boot_state start)) p 0 ≡ 0
-none_at_boot start zero = refl
-none_at_boot start (suc p) = none_made (start.conf.processors - 1) p
-
 pub counts_steps : (h : History) → IsReplay h → CountsSteps h
 counts_steps h replay p inside =
     let es = events_of h.log in
-    let cs = counts (boot_state h.start) in
-    let through : counts h.state ≡ counts_through es cs =
-    counts_run h.log (boot_state h.start) h.state replay in
+    let cs = counts h.base in
+    let through : counts h.state ≡ counts_through es cs = counts_run h.log h.base h.state replay in
     let number : length (counts h.state) ≡ length h.state.processors =
     length-map h.state.processors (λ (q : Processor). q.count) in
     let there : p < length cs =
     omega (arith, inside, number, ap length through, length_through es cs) in
-    let made = count_through es p cs there in
-    let none = none_at_boot h.start p in
-    ap (λ l. get_or l p 0) through ∙ omega (arith, made, none)
+    ap (λ l. get_or l p 0) through ∙ count_through es p cs there

@@ -34,3 +34,8 @@ leads_to_one [] s t u h k = h ∙ sym k
 leads_to_one (e ∷ es) s t u h k =
     let same : h.0 ≡ k.0 = one_state (next s e.event) e.outcome h.0 k.0 h.1 k.1 in
     leads_to_one es h.0 t u h.2 (subst (λ v. Leads v es u) (sym same) k.2)
+
+-- a run, and where its beginning leads
+pub leads_split : (es fs : List Entry) (s t : State) → Leads s (es ++ fs) t → (u : State) × Leads s es u × Leads u fs t
+leads_split [] fs s t h = (s, refl, h)
+leads_split (e ∷ es) fs s t h = let r = leads_split es fs h.0 t h.2 in (r.0, (h.0, h.1, r.1), r.2)

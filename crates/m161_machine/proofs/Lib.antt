@@ -10,9 +10,13 @@ pub mod Storing
 mod Starting
 mod Places
 mod Stepping
-mod Made
+pub mod Made
 mod Advancing
 mod Writing
+mod Sliding
+mod Again
+mod Transfers
 mod Booted
 mod Unfolding
 mod Using
+mod Idle

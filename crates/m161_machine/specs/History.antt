@@ -1,4 +1,4 @@
-use Rattle.std.specs.Prelude.{◌≡◌, ℕ, ◌-◌, ◌<◌, Bool, false, ◌==◌, List, [], ◌∷◌, ◌++◌, map, length, replicate, slice_index_or, Option, None, Some, Result, Ok, Err, if◌then◌else◌}
+use Rattle.std.specs.Prelude.{◌≡◌, ℕ, ◌+◌, ◌-◌, ◌<◌, min, Bool, true, false, ◌==◌, List, [], ◌∷◌, ◌++◌, map, length, replicate, slice_index_or, Option, None, Some, Result, Ok, Err, if◌then◌else◌}
 use Rattle.std.specs.List.{count_by}
 use Rattle.m161_elf.specs.declared.image.LoadError.{LoadError}
 use Rattle.m161_elf.specs.Image.{first_fault, IsImage}
@@ -20,7 +20,7 @@ use Rattle.m161_machine.specs.declared.event.Refusal.TheVariants.{NoMemory as No
 use Rattle.m161_cpu.specs.Links.{no_links}
 use Rattle.m161_machine.specs.State.{State, counts, next}
 
--- The history of a machine: it is the replay of its log.
+-- The history of a machine: from its base, it is the replay of its log.
 
 -- what a machine is booted from: all of RAM, the address of the first instruction, and its size
 pub record Start : Type 0 where
@@ -44,10 +44,11 @@ boot_state start = record {
 abbrev pub events_of : List Entry → List Event
 events_of log = map (λ (e : Entry). e.event) log
 
--- the model of a machine in contracts: what it was booted from, the entries of the events since
--- then, and the state that they lead to
+-- the model of a machine in contracts: what it was booted from, the state at the base of its log,
+-- the entries of the last events, and the state that they lead to
 pub record History : Type 0 where
   pub start : Start
+  pub base : State
   pub log : List Entry
   pub state : State
 
@@ -57,9 +58,13 @@ abbrev pub Leads : State → List Entry → State → Type 0
 Leads s [] t = t ≡ s
 Leads s (e ∷ es) t = (u : State) × (next s e.event ≡ Ok (e.outcome, u)) × Leads u es t
 
--- the log leads from the state at boot to the machine's
+-- the log leads from the base to the machine's state
 abbrev pub IsReplay : History → Type 0
-IsReplay h = Leads (boot_state h.start) h.log h.state
+IsReplay h = Leads h.base h.log h.state
+
+-- some events lead from the state at boot to this one
+abbrev pub IsReached : Start → State → Type 0
+IsReached start s = (entries : List Entry) × Leads (boot_state start) entries s
 
 -- an event is a Step of this processor
 abbrev pub is_step_of : ℕ → Event → Bool
@@ -71,11 +76,12 @@ is_step_of p Done = false
 abbrev pub steps_of : ℕ → List Event → ℕ
 steps_of p events = count_by (is_step_of p) events
 
--- each processor has counted its Steps in the log, and no others
+-- since the base, each processor has counted its Steps in the log, and no others
 abbrev pub CountsSteps : History → Type 0
 CountsSteps h =
     (p : ℕ) → p < length h.state.processors →
-    slice_index_or (counts h.state) p 0 ≡ steps_of p (events_of h.log)
+    slice_index_or (counts h.state) p 0
+    ≡ slice_index_or (counts h.base) p 0 + steps_of p (events_of h.log)
 
 -- an outcome that an event can have: a Step's is never Taken, and its trap has one of the four
 -- vectors; that of a byte typed or sent is Taken
@@ -98,11 +104,19 @@ abbrev pub Makes : State → Event → Result Outcome Refusal → State → Type
 Makes s e (Ok o) t = next s e ≡ Ok (o, t)
 Makes s e (Err refusal) t = Refuses (next s e) e refusal × (t ≡ s)
 
+-- the log after these entries were appended: the last ones that it has room for. The entries before
+-- them are lost, and lead from the base before to the base after.
+pub record Slides (m : History) (entries : List Entry) (n : History) : Type 0 where
+  pub lost : List Entry
+  pub log_is : m.log ++ entries ≡ lost ++ n.log
+  pub base_is : Leads m.base lost n.base
+  pub length_is : length n.log ≡ min m.start.conf.log (length m.log + length entries)
+  pub start_is : n.start ≡ m.start
+
 -- the result of an event and the machine after it: those of `next`, with the entry appended to the
 -- log; or the refusal, and nothing is changed
 abbrev pub Answers : History → Event → Result Outcome Refusal → History → Type 0
-Answers m e (Ok o) n =
-    (next m.state e ≡ Ok (o, n.state)) × (n.log ≡ m.log ++ entry e o ∷ []) × (n.start ≡ m.start)
+Answers m e (Ok o) n = (next m.state e ≡ Ok (o, n.state)) × Slides m (entry e o ∷ []) n
 Answers m e (Err refusal) n = Refuses (next m.state e) e refusal × (n ≡ m)
 
 -- from m the events are accepted one after the other, and leave n: their entries are appended to
@@ -111,8 +125,7 @@ pub record Continues (m : History) (events : List Event) (n : History) : Type 0 
   pub entries : List Entry
   pub events_are : events_of entries ≡ events
   pub run_is : Leads m.state entries n.state
-  pub log_is : n.log ≡ m.log ++ entries
-  pub start_is : n.start ≡ m.start
+  pub slides : Slides m entries n
 
 -- why an event, asked for n times, was made this many times: that is n, or the next is refused
 abbrev pub Ends : History → Event → ℕ → ℕ → Option Refusal → Type 0
@@ -124,6 +137,7 @@ pub record IsBooted (file : List ℕ) (conf : Conf) (m : History) : Type 0 where
   pub conf_is : m.start.conf ≡ conf
   pub image : IsImage file conf.ram m.start.entry m.start.bytes
   pub log_is : m.log ≡ []
+  pub base_is : m.base ≡ boot_state m.start
   pub state_is : m.state ≡ boot_state m.start
 
 -- the fault of an image, as an error of the boot
@@ -149,3 +163,12 @@ abbrev pub IsLoaded : Start → Type 0
 IsLoaded start =
     (file : List ℕ) × (first_fault file start.conf.ram ≡ None)
     × IsImage file start.conf.ram start.entry start.bytes
+
+abbrev pub is_done : Event → Bool
+is_done (Step p) = false
+is_done (Key byte) = false
+is_done Done = true
+
+-- how many of the entries are of Done: each of them wants a byte's room of the base's console
+abbrev pub transfers_of : List Entry → ℕ
+transfers_of entries = count_by (λ (e : Entry). is_done e.event) entries

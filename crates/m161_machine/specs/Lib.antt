@@ -1,6 +1,7 @@
 pub mod Refusal
 pub mod Conf
 pub mod State
+pub mod Resting
 pub mod Uses
 pub mod History
 pub mod StoreHistory

@@ -1,7 +1,7 @@
-use Rattle.std.specs.Prelude.{◌≡◌, ◌≤◌, ◌^◌, true, length}
+use Rattle.std.specs.Prelude.{◌≡◌, ◌≤◌, ◌^◌, min, true, length}
 use Rattle.m161_machine.specs.Conf.{is_within_limits}
 use Rattle.m161_machine.specs.State.{State, CountUpTo}
-use Rattle.m161_machine.specs.History.{History, IsLoaded, IsReplay}
+use Rattle.m161_machine.specs.History.{History, IsLoaded, IsReached, IsReplay}
 
 -- What the types of states and of machines keep.
 
@@ -17,10 +17,10 @@ pub record IsSound (s : State) : Type 0 where
 -- what holds of every machine's history
 pub record IsLawful (h : History) : Type 0 where
   pub replay : IsReplay h
+  pub reached : IsReached h.start h.base
   pub is_loaded : IsLoaded h.start
   pub limits_hold : is_within_limits h.start.conf ≡ true
   pub conf_is : h.state.conf ≡ h.start.conf
-  pub made_is : h.state.made ≡ length h.log
+  pub log_is_last : length h.log ≡ min h.start.conf.log h.state.made
   pub ram_is : length h.state.memory ≡ h.start.conf.ram
   pub size_is : length h.state.processors ≡ h.start.conf.processors
-  pub log_fits : length h.log ≤ h.start.conf.log

@@ -15,7 +15,7 @@ use Rattle.m161_machine.specs.declared.conf.Conf.{Conf}
 use Rattle.m161_machine.specs.declared.event.Event.{Event}
 use Rattle.m161_machine.specs.declared.event.Event.TheVariants as event
 use Rattle.m161_machine.specs.declared.event.Refusal.{Refusal}
-use Rattle.m161_machine.specs.declared.event.Refusal.TheVariants.{BadProcessor, Off, LogFull, KeyFull as KeyFullRefusal, NothingSent, NoMemory}
+use Rattle.m161_machine.specs.declared.event.Refusal.TheVariants.{BadProcessor, Off, Worn, KeyFull as KeyFullRefusal, NothingSent, NoMemory}
 
 -- The state of a machine, and what an event does to it.
 
@@ -83,17 +83,17 @@ with_step p x s = record s {
 abbrev pub with_board : BoardState → State → State
 with_board board s = record s { board = board; made = s.made + 1 }
 
--- whether the log has no room for one more event
-abbrev pub is_full : State → Bool
-is_full s = nat_le s.conf.log s.made
+-- whether a machine that accepted this many events accepts no more
+abbrev pub is_worn : ℕ → Bool
+is_worn made = nat_le 9223372036854775807 made
 
 -- why an event is refused, whatever it would do
 abbrev pub refusal : State → Event → Option Refusal
 refusal s (event.Step p) =
     first_answer ((nat_le (length s.processors) p, BadProcessor) ∷
-    (s.board.off, Off) ∷ (is_full s, LogFull) ∷ [])
-refusal s (event.Key byte) = first_answer ((s.board.off, Off) ∷ (is_full s, LogFull) ∷ [])
-refusal s event.Done = first_answer ((s.board.off, Off) ∷ (is_full s, LogFull) ∷ [])
+    (s.board.off, Off) ∷ (is_worn s.made, Worn) ∷ [])
+refusal s (event.Key byte) = first_answer ((s.board.off, Off) ∷ (is_worn s.made, Worn) ∷ [])
+refusal s event.Done = first_answer ((s.board.off, Off) ∷ (is_worn s.made, Worn) ∷ [])
 
 -- the result of a device's input
 abbrev pub answered_key : State → Result BoardState KeyFull → Result (Outcome × State) Refusal
@@ -142,3 +142,9 @@ abbrev pub KeepsSizes : State → State → Type 0
 KeepsSizes old new =
     (new.conf ≡ old.conf)
     × (length new.processors ≡ length old.processors) × (length new.memory ≡ length old.memory)
+
+-- a state as it is stored: how many bytes its console can send before memory is needed again is no
+-- part of the state
+pub record CoreValue : Type 0 where
+  pub state : State
+  pub room : ℕ

@@ -9,7 +9,7 @@ use Rattle.m161_machine.specs.declared.event.Event.{Event}
 use Rattle.m161_machine.specs.declared.event.Event.TheVariants as event
 use Rattle.m161_machine.specs.declared.event.Refusal.{Refusal}
 use Rattle.m161_machine.specs.State.{State, next, step_result}
-use Rattle.m161_machine.specs.History.{History, boot_state}
+use Rattle.m161_machine.specs.History.{History}
 
 -- The history of the stores, which says when a link of `ll` is live. A state of it has the list of
 -- all stores to RAM, and each link with the number of stores when it was made. A machine's state
@@ -123,6 +123,6 @@ abbrev pub StoresAgree : State → List Entry → State → Type 0
 StoresAgree s entries t =
     (u : StoreState) × LeadsStores (without_stores s) entries u × (live_state u ≡ t)
 
--- the law for the log of a machine, from boot
+-- the law for the log of a machine, from its base
 abbrev pub StoresReplay : History → Type 0
-StoresReplay h = StoresAgree (boot_state h.start) h.log h.state
+StoresReplay h = StoresAgree h.base h.log h.state

@@ -4,3 +4,4 @@ pub mod History
 pub mod Kept
 pub mod Sound
 pub mod State
+pub mod Window

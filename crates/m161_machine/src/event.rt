@@ -35,9 +35,9 @@ pub enum Refusal {
     /// The machine is off.
     #[error("the machine is off")]
     Off,
-    /// The log has no room left.
-    #[error("the log is full")]
-    LogFull,
+    /// The machine has accepted 2^63 - 1 events.
+    #[error("the machine has accepted as many events as it can count")]
+    Worn,
     /// 256 typed bytes are waiting.
     #[error("256 typed bytes are waiting")]
     KeyFull,
@@ -57,7 +57,7 @@ impl Refusal {
         match self {
             Refusal::BadProcessor => 1,
             Refusal::Off => 2,
-            Refusal::LogFull => 3,
+            Refusal::Worn => 8,
             Refusal::KeyFull => 4,
             Refusal::NothingSent => 5,
             Refusal::NoMemory => 6,
@@ -71,7 +71,7 @@ impl Refusal {
         match self {
             Refusal::BadProcessor => "BadProcessor",
             Refusal::Off => "Off",
-            Refusal::LogFull => "LogFull",
+            Refusal::Worn => "Worn",
             Refusal::KeyFull => "KeyFull",
             Refusal::NothingSent => "NothingSent",
             Refusal::NoMemory => "NoMemory",

@@ -1,12 +1,12 @@
 //! The log's entries as they are stored: four bytes each, since every Step writes one.
 
-ghost use Rattle.std.specs.Prelude.{◌≡◌, ◌+◌, ◌*◌, ◌/◌, ◌%◌, ◌<◌, ◌≤◌, ◌^◌, IfOk, length, vec_capacity};
+ghost use Rattle.std.specs.Prelude.{◌≡◌, ◌+◌, ◌*◌, ◌/◌, ◌%◌, ◌<◌, ◌≤◌, ◌^◌, IfOk, length};
 ghost use Rattle.m161_cop0.specs.Trap.{IsVector};
 ghost use Rattle.m161_cpu.specs.declared.processor.Outcome.TheVariants as outcomes;
 ghost use Rattle.m161_cpu.specs.Step.{IsOfStep};
 ghost use Rattle.m161_machine.specs.declared.event.Event.TheVariants as events;
-ghost use Rattle.m161_machine.specs.History.{entry};
-ghost use Rattle.m161_machine.specs.helpers.Kept.{vector_with, outcome_with};
+ghost use Rattle.m161_machine.specs.History.{entry, is_step_of};
+ghost use Rattle.m161_machine.specs.helpers.Kept.{number_of_vector, outcome_with, place_of, vector_with};
 
 use crate::event::{Entry, Event};
 use m161_cop0::Exception;
@@ -21,7 +21,7 @@ const KEY: u32 = 62;
 const DONE: u32 = 63;
 
 /// A stored entry. Contracts see it as the entry.
-#[derive(Drop)]
+#[derive(Clone, Copy)]
 pub(crate) struct Kept {
     word: u32,
 }
@@ -29,20 +29,26 @@ pub(crate) struct Kept {
 impl Model for Kept {
     ghost use Rattle.std.specs.Prelude.{◌≡◌, ◌/◌, ◌%◌, ◌<◌};
     ghost use Rattle.m161_machine.specs.declared.event.Entry.{Entry};
-    ghost use Rattle.m161_machine.specs.helpers.Kept.{entry_in_word};
+    ghost use Rattle.m161_machine.specs.helpers.Kept.{entry_in_word, word_of_entry};
 
     ghost Value = { Entry };
 
     ghost view = { λ k. entry_in_word k.word };
 
-    // the number with the code of a typed byte is a byte
-    ghost invariant = { λ k. k.word % 64 ≡ 62 → k.word / 64 < 256 };
+    // the word is that of its entry, and the number with the code of a typed byte is a byte
+    ghost invariant = { λ k. (word_of_entry (entry_in_word k.word) ≡ k.word)
+        × (k.word % 64 ≡ 62 → k.word / 64 < 256) };
+
+    ghost inverse = { λ e. record { word = word_of_entry e } };
+
+    ghost inverse_ok = { λ k h i. record { word = h.0 i } };
 }
 
 // The number of a trap's vector.
 fn vector_number(vector: u32) -> u32
     requires { IsVector vector }
     ensures small { result < 4 }
+    ensures number { result ≡ number_of_vector vector }
     ensures value { vector_with result ≡ vector }
 {
     match vector {
@@ -70,6 +76,7 @@ fn vector_at(number: u32) -> u32
 fn place(outcome: Outcome) -> u32
     requires { IsOfStep outcome }
     ensures small { result < 62 }
+    ensures place { result ≡ place_of outcome }
     ensures value { outcome_with result ≡ outcome }
 {
     match outcome {
@@ -84,6 +91,7 @@ fn place(outcome: Outcome) -> u32
 fn place_of_other(outcome: Outcome) -> u32
     requires { IsOfStep outcome }
     ensures small { result < 62 }
+    ensures place { result ≡ place_of outcome }
     ensures value { outcome_with result ≡ outcome }
 {
     match outcome {
@@ -99,6 +107,7 @@ fn place_of_trap(code: Exception, vector: u32) -> u32
     requires { IsVector vector }
     ensures small { result < 62 }
     ensures large { 4 ≤ result }
+    ensures place { result ≡ place_of (outcomes.Trapped code vector) }
     ensures value { outcome_with result ≡ outcomes.Trapped code vector }
 {
     4 + u32::from(code.number()) * 4 + vector_number(vector)
@@ -172,27 +181,22 @@ impl Kept {
         }
     }
 
-    /// The same entry again.
-    pub(crate) fn copy(&self) -> Kept
-        ensures { result ≡ self.now }
+    /// Whether it is of a Step of this processor.
+    #[inline(always)]
+    pub(crate) fn is_step_of(&self, p: u32) -> bool
+        ensures { result ≡ is_step_of p self.now.event }
     {
-        Kept { word: self.word }
+        self.word % 64 < KEY && self.word / 64 == p
     }
 }
 
-/// A copy of stored entries, with room for this many.
-pub(crate) fn copy_kept(
-    alloc: Global,
-    entries: &Vec<Kept>,
-    room: usize,
-) -> Result<Vec<Kept>, AllocError>
-    requires { length entries.now.items ≤ room }
-    ensures items { IfOk result (λ copies. copies.items ≡ entries.now.items) }
-    ensures room { IfOk result (λ copies. room ≤ vec_capacity copies) }
+/// Entries that are to be written over.
+pub(crate) fn blanks(alloc: Global, number: usize) -> Result<Vec<Kept>, AllocError>
+    ensures { IfOk result (λ blanks. length blanks.items ≡ number) }
 {
-    let mut copies = Vec::with_capacity(alloc, room)?;
-    for kept in entries.iter() {
-        copies.push_reserved(kept.copy());
+    let mut blanks = Vec::with_capacity(alloc, number)?;
+    for _blank in 0..number {
+        blanks.push_reserved(Kept::of_step(0, Outcome::Ran));
     }
-    Ok(copies)
+    Ok(blanks)
 }

@@ -4,16 +4,18 @@
 //! event    one whole Step of one processor, a typed byte, or the end of a console transfer
 //! next     the result of an event: its outcome and the state after it, or the first refusal
 //! leads    next along a list of entries, from one state to another
-//! history  what a machine is: what it was booted from, its log, and the state that the log leads to
+//! history  what a machine is: what it was booted from, the state at its log's base, its log, and
+//!          the state that the log leads to from there
 //!
-//! refusals, in order   1 no such processor   2 off   3 log full   4 256 typed bytes wait
+//! refusals, in order   1 no such processor   2 off   8 worn   4 256 typed bytes wait
 //!                      5 the console isn't sending   6 no memory, only of `done`
 //! limits               RAM 4,096 to 16,777,216 bytes in pages of 4,096; 1 to 32 processors;
 //!                      a log of 1 to 16,777,216 entries
 //! ```
 //!
-//! A refused event changes nothing and isn't logged. The room of the log is reserved at boot, so a
-//! Step and a typed byte do not allocate. Events, the order of refusals and the limits are this
+//! A refused event changes nothing and isn't logged. The log is a window: it keeps the last entries
+//! for which there is room, and the event of an entry that is dropped is made on the base. Its room
+//! is reserved at boot, so a Step and a typed byte do not allocate. Events, the order of refusals and the limits are this
 //! project's own.
 #![tactic(auto)]
 
@@ -26,12 +28,13 @@ mod machine;
 mod start;
 mod state;
 mod step;
+mod window;
 
 pub use conf::{BootError, Conf};
 pub use event::{Entry, Event, Refusal};
 pub use events::{Events, Runs};
 pub use laws::stores_agree;
-pub use m161_bus::Console;
+pub use m161_bus::{BoardWord, Console};
 pub use m161_cop0::{Exception, Register};
 pub use m161_cpu::{Outcome, ProcessorState, RowNumber, Uses, Via};
 pub use m161_elf::LoadError;
@@ -39,4 +42,4 @@ pub use m161_isa::Reg;
 pub use m161_tlb::{Frame, Identifier, Page, Row, Tlb};
 pub use machine::Machine;
 pub use start::Start;
-pub use state::Core;
+pub use state::{Core, worn};

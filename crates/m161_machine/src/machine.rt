@@ -1,20 +1,22 @@
 //! The machine.
 
-ghost use Rattle.std.specs.Prelude.{◌≡◌, ◌⊎◌, ◌+◌, ◌-◌, ◌%◌, ◌<◌, ◌≤◌, ◌^◌, true, false, take, Ok, List, [], ◌∷◌, ◌++◌, length, replicate, vec_capacity, All, IfOk};
+ghost use Rattle.std.specs.Prelude.{◌≡◌, ◌⊎◌, ◌+◌, ◌-◌, ◌%◌, ◌<◌, ◌≤◌, ◌^◌, min, true, false, length, replicate, take, All, IfOk};
 ghost use Rattle.m161_elf.specs.Image.{is_in_ram};
-ghost use Rattle.m161_machine.specs.declared.event.Entry.{Entry};
 ghost use Rattle.m161_machine.specs.declared.event.Event.TheVariants as events;
 ghost use Rattle.m161_machine.specs.Conf.{is_within_limits};
-ghost use Rattle.m161_machine.specs.State.{CountUpTo};
-ghost use Rattle.m161_machine.specs.History.{boot_fault, Boots, Answers, CanGive, Continues, CountsSteps, Ends, IsLoaded, IsReplay};
+ghost use Rattle.m161_machine.specs.State.{CountUpTo, KeepsSizes};
+ghost use Rattle.m161_machine.specs.History.{boot_fault, boot_state, Boots, Answers, CanGive, Continues, CountsSteps, Ends, IsLoaded, IsReached, IsReplay};
 ghost use Rattle.m161_machine.specs.StoreHistory.{StoresReplay};
+ghost use Rattle.m161_machine.specs.helpers.History.{start_of};
+ghost use Rattle.m161_machine.specs.helpers.Sound.{Advances};
 
 mod views;
 
 use crate::conf::{BootError, Conf};
 use crate::event::{Event, Refusal};
-use crate::kept::{Kept, copy_kept};
+use crate::kept::{Kept, blanks};
 use crate::state::Core;
+use crate::window::{AT_ONCE, Window};
 use m161_bus::Console;
 use m161_cpu::Outcome;
 use m161_elf::{Image, load};
@@ -23,57 +25,49 @@ use std::alloc::{AllocError, Global};
 use std::marker::Model;
 
 /// A machine, over any TLB and any console. Contracts see it as its history: what it was booted
-/// from, its log, and the state that the log's events lead to.
+/// from, the state at the base of its log, the log, and the state that the log's events lead to.
 #[derive(Drop)]
 pub struct Machine<T: Tlb, D: Console> {
-    core: Core<T, D>,
-    log: Vec<Kept>,
+    present: Core<T, D>,
+    base: Core<T, D>,
+    window: Window,
+    // Room for the entries of Steps that are made at once.
+    fresh: Vec<Kept>,
     image: Image,
     conf: Conf,
 }
 
 impl<T: Tlb, D: Console> Model for Machine<T, D> {
-    ghost use Rattle.std.specs.Prelude.{◌≡◌, ◌≤◌, vec_capacity};
+    ghost use Rattle.std.specs.Prelude.{◌≡◌, ◌≤◌, length};
     ghost use Rattle.m161_machine.specs.History.{History};
     ghost use Rattle.m161_machine.specs.Sound.{IsLawful};
+    ghost use Rattle.m161_machine.specs.History.{transfers_of};
 
     ghost Value = { History };
 
     ghost view = { λ m. record {
       start = record { bytes = m.image.bytes.items; entry = m.image.entry; conf = m.conf };
-      log = m.log.items;
-      state = m.core;
+      base = m.base.state;
+      log = m.window.items;
+      state = m.present.state;
     } };
 
     ghost invariant = { λ m.
         IsLawful (record {
           start = record { bytes = m.image.bytes.items; entry = m.image.entry; conf = m.conf };
-          log = m.log.items;
-          state = m.core;
+          base = m.base.state;
+          log = m.window.items;
+          state = m.present.state;
         })
-        × (m.conf.log ≤ vec_capacity m.log) };
-}
-
-/// How many Steps are made at once: the room of their entries is in the processor's nearest cache.
-const AT_ONCE: u32 = 1024;
-
-// Appends entries that are to be written over.
-#[inline(always)]
-fn push_blanks(log: &mut Vec<Kept>, number: u32)
-    requires room { length log.old.items + number ≤ vec_capacity log.old }
-    ensures first { take (length log.old.items) log.new.items ≡ log.old.items }
-    ensures number { length log.new.items ≡ length log.old.items + number }
-    ensures capacity { vec_capacity log.new ≡ vec_capacity log.old }
-{
-    for _blank in 0..number {
-        log.push_reserved(Kept::of_step(0, Outcome::Ran));
-    }
+        × (m.window.capacity ≡ m.conf.log)
+        × (transfers_of m.window.items ≤ m.base.room)
+        × (length m.fresh.items ≡ 256) };
 }
 
 impl<T: Tlb, D: Console> Machine<T, D> {
-    /// Boots a file. The machine keeps the loaded image in addition to its memory, so it allocates
-    /// twice the RAM of its configuration, four bytes for each entry of the log, and the console's
-    /// room.
+    /// Boots a file. The machine keeps the loaded image and the state at its log's base beside its
+    /// memory, so it allocates three times the RAM of its configuration, four bytes for each entry
+    /// of the log, and the room of two consoles.
     ///
     /// # Errors
     /// The configuration is outside the limits; or the file can't be loaded; or memory was refused.
@@ -86,12 +80,15 @@ impl<T: Tlb, D: Console> Machine<T, D> {
             return Err(BootError::BadConf);
         }
         let image = load(alloc, file, conf.ram)?;
-        let bytes = Vec::from_slice(alloc, image.bytes.as_slice())?;
-        let core = Core::at_boot(alloc, bytes, image.entry, conf)?;
-        let log = Vec::with_capacity(alloc, conf.log as usize)?;
+        let present = core_at_boot(alloc, &image, conf)?;
+        let base = core_at_boot(alloc, &image, conf)?;
+        let window = Window::new(alloc, conf.log as usize)?;
+        let fresh = blanks(alloc, AT_ONCE)?;
         Ok(Machine {
-            core,
-            log,
+            present,
+            base,
+            window,
+            fresh,
             image,
             conf,
         })
@@ -102,32 +99,55 @@ impl<T: Tlb, D: Console> Machine<T, D> {
     pub fn copy(&self, alloc: Global) -> Result<Machine<T, D>, AllocError>
         ensures { IfOk result (λ machine. machine ≡ self.now) }
     {
-        let core = self.core.copy(alloc)?;
-        let log = copy_kept(alloc, &self.log, self.conf.log as usize)?;
+        let present = self.present.copy(alloc)?;
+        let base = self.base.copy(alloc)?;
+        let window = self.window.copy(alloc)?;
+        let fresh = blanks(alloc, AT_ONCE)?;
         let image = Image {
             entry: self.image.entry,
             bytes: Vec::from_slice(alloc, self.image.bytes.as_slice())?,
         };
         Ok(Machine {
-            core,
-            log,
+            present,
+            base,
+            window,
+            fresh,
             image,
             conf: self.conf,
         })
     }
 
-    /// The state alone; start and log are let go.
+    /// The state alone; start, base and log are let go.
     #[inline(never)]
     pub fn into_core(self) -> Core<T, D>
-        ensures { result ≡ self.state }
+        ensures { result.state ≡ self.state }
     {
         let Machine {
-            core,
-            log: _,
+            present,
+            base: _,
+            window: _,
+            fresh: _,
             image: _,
             conf: _,
         } = self;
-        core
+        present
+    }
+
+    /// The state at the base of the log alone: the log's events, made on it, lead to the machine's
+    /// state.
+    #[inline(never)]
+    pub fn into_base(self) -> Core<T, D>
+        ensures { result.state ≡ self.base }
+    {
+        let Machine {
+            present: _,
+            base,
+            window: _,
+            fresh: _,
+            image: _,
+            conf: _,
+        } = self;
+        base
     }
 
     /// Makes one Step of a processor. Does not allocate.
@@ -138,8 +158,9 @@ impl<T: Tlb, D: Console> Machine<T, D> {
         ensures answers { Answers self.old (events.Step p) result self.new }
         ensures processors { length self.new.state.processors ≡ length self.old.state.processors }
     {
-        let outcome = self.core.step(p)?;
-        self.log.push_reserved(Kept::of_step(p, outcome));
+        let outcome = self.present.step(p)?;
+        let kept = [Kept::of_step(p, outcome)];
+        self.window.append(&mut self.base, &kept, 0);
         Ok(outcome)
     }
 
@@ -152,45 +173,39 @@ impl<T: Tlb, D: Console> Machine<T, D> {
         ensures end { Ends self.new (events.Step p) n result.0 result.1 }
         ensures processors { length self.new.state.processors ≡ length self.old.state.processors }
     {
+        self.replay();
         if n == 0 {
             return (0, None);
         }
-        if let Some(refusal) = self.core.refusal(p) {
+        if let Some(refusal) = self.present.refusal(p) {
             return (0, Some(refusal));
         }
-        let most = n.min(self.room());
-        let made = self.steps_in_room(p, most);
-        self.replay();
+        let most = self.present.before_worn(n);
+        let made = self.steps_until_off(p, most);
         if made == n {
             (n, None)
         } else if self.is_off() {
             (made, Some(Refusal::Off))
         } else {
-            (made, Some(Refusal::LogFull))
+            (made, Some(Refusal::Worn))
         }
-    }
-
-    // How many more entries the log has room for.
-    fn room(&self) -> u32
-        ensures { length self.now.log + result ≡ self.now.start.conf.log }
-    {
-        self.conf.log - self.log.len() as u32
     }
 
     // Makes Steps until `most` are made or one of them switches the machine off. Returns how many
     // were made. No other refusal can come between, so the loop doesn't test for any.
-    fn steps_in_room(&mut self, p: u32, most: u32) -> u32
+    fn steps_until_off(&mut self, p: u32, most: u32) -> u32
         requires place { p < length self.old.state.processors }
         requires on { self.old.state.board.off ≡ false }
-        requires room { length self.old.log + most ≤ self.old.start.conf.log }
+        requires few { self.old.state.made + most ≤ 2 ^ 63 - 1 }
         ensures run { Continues self.old (replicate result (events.Step p)) self.new }
         ensures end { result ≡ most ⊎ (result < most) × (self.new.state.board.off ≡ true) }
-        ensures log { length self.new.log ≡ length self.old.log + result }
+        ensures made { self.new.state.made ≡ self.old.state.made + result }
         ensures processors { length self.new.state.processors ≡ length self.old.state.processors }
     {
+        let at_once = self.conf.log.min(AT_ONCE as u32);
         let mut made = 0;
         while made < most {
-            let now = (most - made).min(AT_ONCE);
+            let now = (most - made).min(at_once);
             made += self.steps_at_once(p, now);
             if self.is_off() {
                 return made;
@@ -199,28 +214,29 @@ impl<T: Tlb, D: Console> Machine<T, D> {
         made
     }
 
-    // Makes Steps until `most` are made or one of them switches the machine off: the room of their
-    // entries is appended to the log, and what wasn't written is taken back.
+    // Makes Steps until `most` are made or one of them switches the machine off, and then appends
+    // their entries.
     fn steps_at_once(&mut self, p: u32, most: u32) -> u32
         requires place { p < length self.old.state.processors }
         requires on { self.old.state.board.off ≡ false }
-        requires room { length self.old.log + most ≤ self.old.start.conf.log }
+        requires few { self.old.state.made + most ≤ 2 ^ 63 - 1 }
+        requires room { (most ≤ 256) × (most ≤ self.old.start.conf.log) }
         ensures run { Continues self.old (replicate result (events.Step p)) self.new }
+        ensures some { 1 ≤ most → 1 ≤ result }
         ensures end { result ≡ most ⊎ (result < most) × (self.new.state.board.off ≡ true) }
-        ensures log { length self.new.log ≡ length self.old.log + result }
+        ensures made { self.new.state.made ≡ self.old.state.made + result }
         ensures processors { length self.new.state.processors ≡ length self.old.state.processors }
     {
         let Machine {
-            core,
-            log,
+            present,
+            base,
+            window,
+            fresh,
             image: _,
             conf: _,
         } = self;
-        let before = log.len();
-        push_blanks(log, most);
-        let (_, blanks) = log.as_mut_slice().split_at_mut(before);
-        let made = core.advance(p, blanks);
-        log.truncate(before + made);
+        let made = advance_into(present, p, fresh, most as usize);
+        window.append(base, &fresh[..made], 0);
         made as u32
     }
 
@@ -231,12 +247,14 @@ impl<T: Tlb, D: Console> Machine<T, D> {
     pub fn key(&mut self, byte: u8) -> Result<Outcome, Refusal>
         ensures { Answers self.old (events.Key byte) result self.new }
     {
-        let outcome = self.core.key(byte)?;
-        self.log.push_reserved(Kept::of_key(byte));
+        let outcome = self.present.key(byte)?;
+        let kept = [Kept::of_key(byte)];
+        self.window.append(&mut self.base, &kept, 0);
         Ok(outcome)
     }
 
-    /// The console has sent the byte in its latch.
+    /// The console has sent the byte in its latch. Allocates room for the byte in two consoles: the
+    /// machine's, and the one at its log's base.
     ///
     /// # Errors
     /// The first refusal that holds, or else `NoMemory`. Nothing is changed then, and nothing
@@ -244,8 +262,17 @@ impl<T: Tlb, D: Console> Machine<T, D> {
     pub fn done(&mut self) -> Result<Outcome, Refusal>
         ensures { Answers self.old events.Done result self.new }
     {
-        let outcome = self.core.done()?;
-        self.log.push_reserved(Kept::of_done());
+        if let Some(refusal) = self.present.refusal_of_done() {
+            return Err(refusal);
+        }
+        let room = self.window.transfers() + 1;
+        match self.base.reserve(room) {
+            Ok(()) => {}
+            Err(_) => return Err(Refusal::NoMemory),
+        }
+        let outcome = self.present.done()?;
+        let kept = [Kept::of_done()];
+        self.window.append(&mut self.base, &kept, 1);
         Ok(outcome)
     }
 
@@ -263,41 +290,47 @@ impl<T: Tlb, D: Console> Machine<T, D> {
         }
     }
 
-    /// The law of every machine: it is the replay of its log. From the state at boot, the log's
-    /// events are accepted one after the other with the log's outcomes, and lead to the machine's
-    /// state. The configuration is within the limits and never changes. Each
-    /// processor has counted exactly its Steps in the log, and each entry's outcome is one that its
-    /// event can have.
+    /// The law of every machine: from its base, it is the replay of its log. The log's events are
+    /// accepted one after the other with the log's outcomes, and lead to the machine's state. The
+    /// base is reached from the state at boot; it is that state while no entry was dropped. The log
+    /// has the last entries for which there is room. The configuration is within the limits and
+    /// never changes. Since the base each processor has counted exactly its Steps in the log, and
+    /// each entry's outcome is one that its event can have.
     pub fn replay(&self)
         ensures replay { IsReplay self.now }
+        ensures reached { IsReached self.now.start self.now.base }
+        ensures boot { self.now.base.made ≡ 0 → self.now.base ≡ boot_state self.now.start }
         ensures file { IsLoaded self.now.start }
         ensures limits { is_within_limits self.now.start.conf ≡ true }
         ensures conf { self.now.state.conf ≡ self.now.start.conf }
         ensures ram { length self.now.state.memory ≡ self.now.start.conf.ram }
         ensures processors { length self.now.state.processors ≡ self.now.start.conf.processors }
-        ensures made { self.now.state.made ≡ length self.now.log }
-        ensures room { length self.now.log ≤ self.now.start.conf.log }
-        ensures counts { CountUpTo (length self.now.log) self.now.state.processors }
+        ensures made { self.now.state.made ≡ self.now.base.made + length self.now.log }
+        ensures last { length self.now.log ≡ min self.now.start.conf.log self.now.state.made }
+        ensures few { self.now.state.made ≤ 2 ^ 63 - 1 }
+        ensures counts { CountUpTo self.now.state.made self.now.state.processors }
         ensures steps { CountsSteps self.now }
         ensures outcomes { All (λ e. CanGive e.event e.outcome) self.now.log }
     {
-        let _log = &self.log;
-        self.core.law();
+        let _window = &self.window;
+        self.present.law();
     }
 
     /// The law of the stores: the machine's live links are those of the history of its stores. From
-    /// boot, with no stores, the log's events lead to all stores to RAM and to links that have the
-    /// number of stores when they were made; and the state is the image of these.
+    /// the base, taken with no stores and with its live links as the first ones, the log's events
+    /// lead to all stores to RAM and to links that have the number of stores when they were made;
+    /// and the state is the image of these.
     pub fn stores_replay(&self)
         ensures { StoresReplay self.now }
     {
         self.replay();
     }
 
-    /// The law that a machine's start and log determine its state: two machines, over any TLBs and
-    /// consoles, with the same start and the same log agree in every view.
+    /// The law that a machine's base and log determine its state: two machines, over any TLBs and
+    /// consoles, with the same start, the same base and the same log agree in every view.
     pub fn is_determined_by_log<U: Tlb, E: Console>(&self, other: &Machine<U, E>)
         requires start { other.now.start ≡ self.now.start }
+        requires base { other.now.base ≡ self.now.base }
         requires log { other.now.log ≡ self.now.log }
         ensures { other.now ≡ self.now }
     {
@@ -307,6 +340,44 @@ impl<T: Tlb, D: Console> Machine<T, D> {
 
     /// The allocator that it was booted with.
     pub fn allocator(&self) -> Global {
-        *self.log.allocator()
+        *self.fresh.allocator()
     }
+}
+
+// The state at boot of a machine with this image.
+fn core_at_boot<T: Tlb, D: Console>(
+    alloc: Global,
+    image: &Image,
+    conf: Conf,
+) -> Result<Core<T, D>, AllocError>
+    requires limits { is_within_limits conf ≡ true }
+    requires ram { length image.now.bytes.items ≡ conf.ram }
+    ensures { IfOk result (λ core. core.state
+        ≡ boot_state (start_of image.now.bytes.items image.now.entry conf)) }
+{
+    let bytes = Vec::from_slice(alloc, image.bytes.as_slice())?;
+    Core::at_boot(alloc, bytes, image.entry, conf)
+}
+
+// Makes Steps of processor `p` until `most` are made or one of them switches the machine off, and
+// writes their entries into this room, from its beginning on. Returns how many were made.
+fn advance_into<T: Tlb, D: Console>(
+    core: &mut Core<T, D>,
+    p: u32,
+    room: &mut Vec<Kept>,
+    most: usize,
+) -> usize
+    requires place { p < length core.old.state.processors }
+    requires on { core.old.state.board.off ≡ false }
+    requires few { core.old.state.made + most ≤ 2 ^ 63 - 1 }
+    requires room { most ≤ length room.old.items }
+    ensures advances { Advances p core.old.state (take result room.new.items) core.new.state }
+    ensures within { result ≤ most }
+    ensures some { 1 ≤ most → 1 ≤ result }
+    ensures end { result ≡ most ⊎ (result < most) × (core.new.state.board.off ≡ true) }
+    ensures length { length room.new.items ≡ length room.old.items }
+    ensures sizes { KeepsSizes core.old.state core.new.state }
+{
+    let (first, _) = room.as_mut_slice().split_at_mut(most);
+    core.advance(p, first)
 }

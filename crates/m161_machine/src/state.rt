@@ -1,17 +1,19 @@
 //! The state of a machine, without its log.
 
-ghost use Rattle.std.specs.Prelude.{◌≡◌, ◌⊎◌, ◌+◌, ◌-◌, ◌<◌, ◌≤◌, ◌∷◌, replicate, length, take, None, IfNone, IfOk, true, false};
+ghost use Rattle.std.specs.Prelude.{◌≡◌, ◌≢◌, ◌⊎◌, ◌+◌, ◌-◌, ◌^◌, ◌<◌, ◌≤◌, ◌∷◌, replicate, length, take, None, Ok, Err, IfNone, IfSome, IfOk, IsOk, OnOk, OnErr, true, false};
 ghost use Rattle.m161_cpu.specs.Processor.{started_processor, stopped_processor};
 ghost use Rattle.m161_cpu.specs.Step.{IsOfStep};
 ghost use Rattle.m161_cpu.specs.declared.processor.Outcome.{Outcome};
 ghost use Rattle.m161_machine.specs.declared.event.Event.TheVariants as events;
-ghost use Rattle.m161_machine.specs.State.{CountUpTo, KeepsSizes, refusal, step_result, with_step};
+ghost use Rattle.m161_machine.specs.State.{CountUpTo, KeepsSizes, State, is_worn, next, refusal, step_result, with_step};
+ghost use Rattle.m161_machine.specs.declared.event.Refusal.{Refusal};
 ghost use Rattle.m161_machine.specs.Uses.{MakesStep};
 ghost use Rattle.m161_machine.specs.Conf.{is_within_limits};
 ghost use Rattle.m161_machine.specs.History.{Makes, boot_state};
 ghost use Rattle.m161_machine.specs.helpers.History.{start_of};
 ghost use Rattle.m161_machine.specs.helpers.Sound.{Advances};
 
+mod again;
 mod views;
 
 use crate::conf::Conf;
@@ -39,15 +41,29 @@ pub struct Core<T: Tlb, D: Console> {
 }
 
 impl<T: Tlb, D: Console> Model for Core<T, D> {
-    ghost use Rattle.m161_machine.specs.State.{State, state_of};
+    ghost use Rattle.m161_machine.specs.State.{CoreValue, state_of};
     ghost use Rattle.m161_machine.specs.Sound.{IsSound};
 
-    ghost Value = { State };
+    ghost Value = { CoreValue };
 
-    ghost view = { λ c. state_of c.conf c.processors.items c.ram c.board.state c.links c.made };
+    ghost view = { λ c. record {
+      state = state_of c.conf c.processors.items c.ram c.board.state c.links c.made;
+      room = c.board.room;
+    } };
 
     ghost invariant = { λ c.
         IsSound (state_of c.conf c.processors.items c.ram c.board.state c.links c.made) };
+}
+
+/// So many events a machine accepts.
+const WORN: u64 = 9_223_372_036_854_775_807;
+
+/// Whether a machine that has accepted this many events since boot accepts no more. No run gets
+/// there: at a hundred million events a second it would take three thousand years.
+pub fn worn(made: u64) -> bool
+    ensures { result ≡ is_worn made }
+{
+    made >= WORN
 }
 
 // The processors at boot: the first, started at the entry, and the others, stopped.
@@ -97,7 +113,7 @@ impl<T: Tlb, D: Console> Core<T, D> {
     ) -> Result<Core<T, D>, AllocError>
         requires limits { is_within_limits conf ≡ true }
         requires ram { length bytes.items ≡ conf.ram }
-        ensures { IfOk result (λ core. core ≡ boot_state (start_of bytes.items entry conf)) }
+        ensures { IfOk result (λ core. core.state ≡ boot_state (start_of bytes.items entry conf)) }
     {
         let processors = first_processors(alloc, conf.processors, entry)?;
         let console = D::fresh(alloc)?;
@@ -111,10 +127,11 @@ impl<T: Tlb, D: Console> Core<T, D> {
         })
     }
 
-    /// The same state again. Allocates as much memory as it has.
+    /// The same state again, with at least the same room. Allocates as much memory as it has.
     #[inline(never)]
     pub fn copy(&self, alloc: Global) -> Result<Core<T, D>, AllocError>
-        ensures { IfOk result (λ core. core ≡ self.now) }
+        ensures state { IfOk result (λ core. core.state ≡ self.now.state) }
+        ensures room { IfOk result (λ core. self.now.room ≤ core.room) }
     {
         let processors = copy_processors(alloc, &self.processors)?;
         let ram = self.ram.copy(alloc)?;
@@ -134,8 +151,9 @@ impl<T: Tlb, D: Console> Core<T, D> {
     /// # Errors
     /// The first refusal that holds. Nothing is changed then.
     pub fn step(&mut self, p: u32) -> Result<Outcome, Refusal>
-        ensures makes { Makes self.old (events.Step p) result self.new }
-        ensures sizes { KeepsSizes self.old self.new }
+        ensures makes { Makes self.old.state (events.Step p) result self.new.state }
+        ensures sizes { KeepsSizes self.old.state self.new.state }
+        ensures room { self.new.room ≡ self.old.room }
         ensures proper { IfOk result (λ outcome. (p < 32) × IsOfStep outcome) }
     {
         if let Some(refusal) = self.refusal(p) {
@@ -143,15 +161,17 @@ impl<T: Tlb, D: Console> Core<T, D> {
         }
         let mut kept = [Kept::of_step(0, Outcome::Ran)];
         let _made = self.advance(p, &mut kept);
-        Ok(kept[0].entry().outcome)
+        let made = kept[0];
+        Ok(made.entry().outcome)
     }
 
     /// Makes one Step of a processor that no refusal holds of. The same as `step`, in less time.
     #[inline(always)]
     pub fn make(&mut self, p: u32)
-        requires { refusal self.old (events.Step p) ≡ None }
-        ensures made { MakesStep self.old p self.new }
-        ensures sizes { KeepsSizes self.old self.new }
+        requires { refusal self.old.state (events.Step p) ≡ None }
+        ensures made { MakesStep self.old.state p self.new.state }
+        ensures sizes { KeepsSizes self.old.state self.new.state }
+        ensures room { self.new.room ≡ self.old.room }
     {
         let mut kept = [Kept::of_step(0, Outcome::Ran)];
         let _made = self.advance(p, &mut kept);
@@ -162,16 +182,17 @@ impl<T: Tlb, D: Console> Core<T, D> {
     /// loop is the only place in a program with the code of a Step.
     #[inline(never)]
     pub(crate) fn advance(&mut self, p: u32, kept: &mut [Kept]) -> usize
-        requires place { p < length self.old.processors }
-        requires on { self.old.board.off ≡ false }
-        requires room { self.old.made + length kept.old ≤ self.old.conf.log }
-        ensures advances { Advances p self.old (take result kept.new) self.new }
+        requires place { p < length self.old.state.processors }
+        requires on { self.old.state.board.off ≡ false }
+        requires few { self.old.state.made + length kept.old ≤ 2 ^ 63 - 1 }
+        ensures advances { Advances p self.old.state (take result kept.new) self.new.state }
         ensures length { length kept.new ≡ length kept.old }
         ensures within { result ≤ length kept.old }
         ensures some { 1 ≤ length kept.old → 1 ≤ result }
         ensures end { result ≡ length kept.old
-            ⊎ (result < length kept.old) × (self.new.board.off ≡ true) }
-        ensures sizes { KeepsSizes self.old self.new }
+            ⊎ (result < length kept.old) × (self.new.state.board.off ≡ true) }
+        ensures sizes { KeepsSizes self.old.state self.new.state }
+        ensures room { self.new.room ≡ self.old.room }
     {
         let mut made = 0;
         while made < kept.len() {
@@ -189,15 +210,16 @@ impl<T: Tlb, D: Console> Core<T, D> {
     // Tests no refusal.
     #[inline(always)]
     fn make_step(&mut self, p: u32) -> Outcome
-        requires processor { p < length self.old.processors }
-        requires room { self.old.made < self.old.conf.log }
-        ensures outcome { result ≡ (step_result p self.old).outcome }
-        ensures state { self.new ≡ with_step p (step_result p self.old) self.old }
-        ensures sizes { KeepsSizes self.old self.new }
+        requires processor { p < length self.old.state.processors }
+        requires few_made { self.old.state.made < 2 ^ 63 - 1 }
+        ensures outcome { result ≡ (step_result p self.old.state).outcome }
+        ensures state { self.new.state ≡ with_step p (step_result p self.old.state) self.old.state }
+        ensures sizes { KeepsSizes self.old.state self.new.state }
+        ensures room { self.new.room ≡ self.old.room }
         ensures proper { IsOfStep result }
-        ensures few { length self.old.processors ≤ 32 }
-        ensures ran { self.old.board.off ≡ false → result ≡ Outcome.Ran
-            → self.new.board.off ≡ false }
+        ensures few { length self.old.state.processors ≤ 32 }
+        ensures ran { self.old.state.board.off ≡ false → result ≡ Outcome.Ran
+            → self.new.state.board.off ≡ false }
     {
         let Core {
             processors,
@@ -216,8 +238,8 @@ impl<T: Tlb, D: Console> Core<T, D> {
     // look.
     #[inline(always)]
     fn went_off(&self, outcome: Outcome) -> bool
-        requires { outcome ≡ Outcome.Ran → self.now.board.off ≡ false }
-        ensures { result ≡ self.now.board.off }
+        requires { outcome ≡ Outcome.Ran → self.now.state.board.off ≡ false }
+        ensures { result ≡ self.now.state.board.off }
     {
         match outcome {
             Outcome::Ran => false,
@@ -228,10 +250,10 @@ impl<T: Tlb, D: Console> Core<T, D> {
     /// The first refusal that holds of a Step.
     #[inline(always)]
     pub fn refusal(&self, p: u32) -> Option<Refusal>
-        ensures value { result ≡ refusal self.now (events.Step p) }
-        ensures within { IfNone result ((p < length self.now.processors) × (p < 32)) }
-        ensures on { IfNone result (self.now.board.off ≡ false) }
-        ensures room { IfNone result (self.now.made < self.now.conf.log) }
+        ensures value { result ≡ refusal self.now.state (events.Step p) }
+        ensures within { IfNone result ((p < length self.now.state.processors) × (p < 32)) }
+        ensures on { IfNone result (self.now.state.board.off ≡ false) }
+        ensures few { IfNone result (self.now.state.made < 2 ^ 63 - 1) }
     {
         self.law();
         if p >= self.processors() {
@@ -244,17 +266,27 @@ impl<T: Tlb, D: Console> Core<T, D> {
     /// The first refusal that holds of any event.
     #[inline(always)]
     pub(crate) fn refusal_of_input(&self) -> Option<Refusal>
-        ensures value { result ≡ refusal self.now events.Done }
-        ensures on { IfNone result (self.now.board.off ≡ false) }
-        ensures room { IfNone result (self.now.made < self.now.conf.log) }
+        ensures value { result ≡ refusal self.now.state events.Done }
+        ensures on { IfNone result (self.now.state.board.off ≡ false) }
+        ensures few { IfNone result (self.now.state.made < 2 ^ 63 - 1) }
     {
         if self.board.is_off() {
             Some(Refusal::Off)
-        } else if self.made >= u64::from(self.conf.log) {
-            Some(Refusal::LogFull)
+        } else if worn(self.made) {
+            Some(Refusal::Worn)
         } else {
             None
         }
+    }
+
+    /// The least of `n` and the number of events until it is worn.
+    pub(crate) fn before_worn(&self, n: u32) -> u32
+        requires { self.now.state.made ≤ 2 ^ 63 - 1 }
+        ensures few { self.now.state.made + result ≤ 2 ^ 63 - 1 }
+        ensures least { result ≡ n ⊎ (result < n) × (self.now.state.made + result ≡ 2 ^ 63 - 1) }
+    {
+        let left = WORN - self.made;
+        if u64::from(n) <= left { n } else { left as u32 }
     }
 
     /// Types a byte at the console. Does not allocate.
@@ -263,8 +295,9 @@ impl<T: Tlb, D: Console> Core<T, D> {
     /// The first refusal that holds. Nothing is changed then.
     #[tactic(auto, unfolding(crate::specs::State::next))]
     pub fn key(&mut self, byte: u8) -> Result<Outcome, Refusal>
-        ensures makes { Makes self.old (events.Key byte) result self.new }
-        ensures sizes { KeepsSizes self.old self.new }
+        ensures makes { Makes self.old.state (events.Key byte) result self.new.state }
+        ensures sizes { KeepsSizes self.old.state self.new.state }
+        ensures room { self.new.room ≡ self.old.room }
     {
         if let Some(refusal) = self.refusal_of_input() {
             return Err(refusal);
@@ -277,14 +310,18 @@ impl<T: Tlb, D: Console> Core<T, D> {
         Ok(Outcome::Taken)
     }
 
-    /// The console has sent the byte in its latch.
+    /// The console has sent the byte in its latch. Takes at most one byte's room, and allocates
+    /// only if there is none.
     ///
     /// # Errors
     /// The first refusal that holds, or else `NoMemory`. Nothing is changed then.
     #[tactic(auto, unfolding(crate::specs::State::next))]
     pub fn done(&mut self) -> Result<Outcome, Refusal>
-        ensures makes { Makes self.old events.Done result self.new }
-        ensures sizes { KeepsSizes self.old self.new }
+        ensures makes { Makes self.old.state events.Done result self.new.state }
+        ensures sizes { KeepsSizes self.old.state self.new.state }
+        ensures room { self.old.room ≤ self.new.room + 1 }
+        ensures succeeds { 1 ≤ self.old.room → result ≢ Err Refusal.NoMemory }
+        ensures err { OnErr result (self.new.room ≡ self.old.room) }
     {
         if let Some(refusal) = self.refusal_of_input() {
             return Err(refusal);
@@ -298,14 +335,43 @@ impl<T: Tlb, D: Console> Core<T, D> {
         Ok(Outcome::Taken)
     }
 
+    /// The first refusal that holds of a Done, want of memory aside.
+    #[tactic(auto, unfolding(crate::specs::State::next))]
+    pub fn refusal_of_done(&self) -> Option<Refusal>
+        ensures some { IfSome result (λ refusal. next self.now.state events.Done ≡ Err refusal) }
+        ensures none { IfNone result ((r : Outcome × State) × (next self.now.state events.Done ≡ Ok r)) }
+    {
+        if let Some(refusal) = self.refusal_of_input() {
+            return Some(refusal);
+        }
+        match self.board.latch() {
+            Some(_byte) => None,
+            None => Some(Refusal::NothingSent),
+        }
+    }
+
+    /// Makes room for the console to send this many bytes; allocates only if there is less.
+    ///
+    /// # Errors
+    /// Memory was refused. Nothing is changed then.
+    pub fn reserve(&mut self, n: usize) -> Result<(), AllocError>
+        ensures state { self.new.state ≡ self.old.state }
+        ensures more { self.old.room ≤ self.new.room }
+        ensures ok { OnOk result (n ≤ self.new.room) }
+        ensures succeeds { n ≤ self.old.room → IsOk result }
+        ensures err { OnErr result (self.new.room ≡ self.old.room) }
+    {
+        self.board.reserve(n)
+    }
+
     /// The law of every state: there are as many processors as the board says, at most 32; the
     /// configuration is within the limits; and no processor has made more Steps than events were
     /// accepted.
     pub fn law(&self)
-        ensures number { length self.now.processors ≡ self.now.board.processors }
-        ensures few { length self.now.processors ≤ 32 }
-        ensures limits { is_within_limits self.now.conf ≡ true }
-        ensures counts { CountUpTo self.now.made self.now.processors }
+        ensures number { length self.now.state.processors ≡ self.now.state.board.processors }
+        ensures few { length self.now.state.processors ≤ 32 }
+        ensures limits { is_within_limits self.now.state.conf ≡ true }
+        ensures counts { CountUpTo self.now.state.made self.now.state.processors }
     {
         let _processors = &self.processors;
     }
@@ -315,8 +381,9 @@ impl<T: Tlb, D: Console> Core<T, D> {
     /// # Errors
     /// Those of `step`, `key` or `done`.
     pub fn event(&mut self, event: Event) -> Result<Outcome, Refusal>
-        ensures makes { Makes self.old event result self.new }
-        ensures sizes { KeepsSizes self.old self.new }
+        ensures makes { Makes self.old.state event result self.new.state }
+        ensures sizes { KeepsSizes self.old.state self.new.state }
+        ensures room { self.old.room ≤ self.new.room + 1 }
     {
         match event {
             Event::Step(p) => self.step(p),

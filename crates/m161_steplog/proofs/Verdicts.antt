@@ -20,14 +20,14 @@ made_no_more s u before e made other follows =
     let last = leads_rest before (e ∷ []) s u follows.0 made follows.1 in other last.0 last.1
 
 -- an entry that the machine repeats
-pub repeated : (s : State) (m n : History) (log : List Entry) (k : ℕ) (d : Entry) (b : Bool) → k < length log → Leads s (take k log) m.state → Repeats m (get_or log k d) n (Ok b) → b ≡ true → Leads s (take (k + 1) log) n.state
+pub repeated : (s m n : State) (log : List Entry) (k : ℕ) (d : Entry) (b : Bool) → k < length log → Leads s (take k log) m → Repeats m (get_or log k d) n (Ok b) → b ≡ true → Leads s (take (k + 1) log) n
 repeated s m n log k d false lt made here is = absurd (cc)
-repeated s m n log k d true lt made here is = rw (made_next log k d lt) (leads_more (take k log) (get_or log k d) s m.state n.state made here.0)
+repeated s m n log k d true lt made here is = rw (made_next log k d lt) (leads_more (take k log) (get_or log k d) s m n made here)
 
 -- one that it doesn't repeat
-pub differs : (s : State) (m n : History) (log : List Entry) (k : ℕ) (d : Entry) (b : Bool) → k < length log → Leads s (take k log) m.state → Repeats m (get_or log k d) n (Ok b) → b ≡ false → IsVerdict s log (Verdict.Differs k)
+pub differs : (s m n : State) (log : List Entry) (k : ℕ) (d : Entry) (b : Bool) → k < length log → Leads s (take k log) m → Repeats m (get_or log k d) n (Ok b) → b ≡ false → IsVerdict s log (Verdict.Differs k)
 differs s m n log k d true lt made here is = absurd (cc)
-differs s m n log k d false lt made here is = (lt, (m.state, made), rw (made_next log k d lt) (made_no_more s m.state (take k log) (get_or log k d) made here))
+differs s m n log k d false lt made here is = (lt, (m, made), rw (made_next log k d lt) (made_no_more s m (take k log) (get_or log k d) made here))
 
 -- the contract by the boot's answer
 pub not_booted : (file : List ℕ) (conf : Conf) (fault : Option BootError) (log : List Entry) (e : BootError) → Boots file conf fault (Err e) → Verifies file conf fault log (Err e)

@@ -1,13 +1,22 @@
-use Rattle.std.specs.Prelude.{◌≡◌, ◌⊎◌, ℕ, List, [], ◌∷◌, ◌++◌, map, flat_map, codes}
+use Rattle.std.specs.Prelude.{◌≡◌, ◌⊎◌, ℕ, List, [], ◌∷◌, ◌++◌, map, flat_map, codes, decimal}
 use Rattle.std.specs.List.{AllByRecursion}
 use Rattle.m161_machine.specs.declared.event.Entry.{Entry}
 use Rattle.m161_steplog.specs.Text.{entry_text, IsProper}
+use Rattle.m161_text.specs.Parts.{◌␣◌}
 
 -- The text of a log.
 
+-- a line for each entry
+abbrev pub entry_lines : List Entry → List ℕ
+entry_lines es = flat_map (λ e. entry_text e ++ codes "\n") es
+
 -- a first line, then a line for each entry
 abbrev pub log_text : List Entry → List ℕ
-log_text es = codes "m161 log 1\n" ++ flat_map (λ e. entry_text e ++ codes "\n") es
+log_text es = codes "m161 log 1\n" ++ entry_lines es
+
+-- the text of the end of a log, of which so many entries before these were dropped
+abbrev pub tail_text : ℕ → List Entry → List ℕ
+tail_text dropped es = codes "m161 tail 1" ␣ decimal dropped ++ codes "\n" ++ entry_lines es
 
 -- the text, or the text without its last line end
 abbrev pub IsLogText : List ℕ → List Entry → Type 0

@@ -32,7 +32,7 @@ mod shown;
 mod verdict;
 
 pub use fault::Fault;
-pub use log::{entry_line, read_log, write_log};
+pub use log::{entry_line, read_log, write_log, write_tail};
 pub use m161_machine::{BootError, Conf, Entry, Event, Events, Exception, Outcome};
 pub use schedule::read_schedule;
 pub use verdict::{Verdict, verify};

@@ -1,13 +1,13 @@
 //! The text of a log.
 
-ghost use Rattle.std.specs.Prelude.{◌≡◌, ℕ, List, IfOk, IsErrOf, string_bytes};
+ghost use Rattle.std.specs.Prelude.{◌≡◌, ◌++◌, ℕ, List, IfOk, OnOk, IsErrOf, string_bytes};
 ghost use Rattle.std.specs.List.{AllByRecursion};
 ghost use Rattle.m161_machine.specs.declared.event.Entry.{Entry};
 ghost use Rattle.m161_steplog.specs.declared.fault.Fault.TheVariants as faults;
 ghost use Rattle.m161_steplog.specs.Text.{entry_text};
 ghost use Rattle.m161_text.specs.Lines.{lines_of, FirstBad};
 ghost use Rattle.m161_steplog.specs.Read.{IsRead};
-ghost use Rattle.m161_steplog.specs.Log.{log_text, log_lines, IsLog, AreLogLines};
+ghost use Rattle.m161_steplog.specs.Log.{entry_lines, log_text, log_lines, tail_text, IsLog, AreLogLines};
 ghost use Rattle.m161_steplog.specs.helpers.Log.{IsDistinct};
 
 use crate::fault::Fault;
@@ -35,12 +35,34 @@ pub fn write_log(alloc: Global, entries: &[Entry]) -> Result<String, AllocError>
     ensures { IfOk result (λ text. string_bytes text ≡ log_text entries.now) }
 {
     let mut text = String::from_str(alloc, "m161 log 1\n")?;
+    push_entries(alloc, &mut text, entries)?;
+    Ok(text)
+}
+
+/// The text of the end of a log, of which so many entries before these were dropped. It isn't the
+/// text of a log: `read_log` refuses it.
+///
+/// # Errors
+/// Memory was refused.
+pub fn write_tail(alloc: Global, dropped: u64, entries: &[Entry]) -> Result<String, AllocError>
+    ensures { IfOk result (λ text. string_bytes text ≡ tail_text dropped entries.now) }
+{
+    let mut text = format!(in alloc; "m161 tail 1 {dropped}\n")?;
+    push_entries(alloc, &mut text, entries)?;
+    Ok(text)
+}
+
+// Appends a line for each entry.
+fn push_entries(alloc: Global, text: &mut String, entries: &[Entry]) -> Result<(), AllocError>
+    ensures { OnOk result
+        (string_bytes text.new ≡ string_bytes text.old ++ entry_lines entries.now) }
+{
     for entry in entries {
         let line = entry_line(alloc, entry)?;
         text.push_str(line.as_str())?;
         text.push_str("\n")?;
     }
-    Ok(text)
+    Ok(())
 }
 
 // The entries of a log's text, line by line.

@@ -5,7 +5,7 @@ ghost use Rattle.m161_steplog.specs.Verdict.{Verifies};
 ghost use Rattle.m161_steplog.specs.helpers.Verdict.{Repeats};
 
 use m161_bus::Console;
-use m161_machine::{BootError, Conf, Entry, Machine, Refusal};
+use m161_machine::{BootError, Conf, Core, Entry, Machine, Refusal};
 use m161_tlb::Tlb;
 use std::alloc::Global;
 
@@ -18,11 +18,11 @@ pub enum Verdict {
     Differs(usize),
 }
 
-// Whether a machine accepts an entry's event, with the entry's outcome.
-fn repeats<T: Tlb, D: Console>(machine: &mut Machine<T, D>, entry: Entry) -> Result<bool, BootError>
-    ensures { Repeats machine.old entry machine.new result }
+// Whether a state accepts an entry's event, with the entry's outcome.
+fn repeats<T: Tlb, D: Console>(core: &mut Core<T, D>, entry: Entry) -> Result<bool, BootError>
+    ensures { Repeats core.old.state entry core.new.state result }
 {
-    match machine.event(entry.event) {
+    match core.event(entry.event) {
         Ok(outcome) => Ok(outcome == entry.outcome),
         Err(Refusal::NoMemory) => Err(BootError::NoMemory),
         Err(_) => Ok(false),
@@ -30,7 +30,7 @@ fn repeats<T: Tlb, D: Console>(machine: &mut Machine<T, D>, entry: Entry) -> Res
 }
 
 /// Makes the events of a log on a machine that is booted from a file, over any TLB and any
-/// console, and compares the outcomes.
+/// console, and compares the outcomes. The log may be longer than the machine's own has room for.
 ///
 /// # Errors
 /// The machine can't be booted; or memory was refused, at the boot or at an event `Done`.
@@ -42,9 +42,10 @@ pub fn verify<T: Tlb, D: Console>(
 ) -> Result<Verdict, BootError>
     ensures { Verifies file.now conf (boot_fault file.now conf) log.now result }
 {
-    let mut machine: Machine<T, D> = Machine::boot(alloc, file, conf)?;
+    let machine: Machine<T, D> = Machine::boot(alloc, file, conf)?;
+    let mut core = machine.into_core();
     for (k, entry) in log.iter().enumerate() {
-        if !repeats(&mut machine, *entry)? {
+        if !repeats(&mut core, *entry)? {
             return Ok(Verdict::Differs(k));
         }
     }

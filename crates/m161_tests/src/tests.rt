@@ -5,6 +5,7 @@
 //! processors.
 
 mod audit;
+mod bursts;
 mod bus;
 mod cop0;
 mod dis;
@@ -13,6 +14,7 @@ mod fetches;
 mod instructions;
 mod listing;
 mod machine;
+mod meeting;
 mod processors;
 mod programs;
 mod sample;
@@ -20,6 +22,7 @@ mod steplog;
 mod threads;
 mod tlb;
 mod traps;
+mod window;
 mod workers;
 
 use std::fmt::Debug;

@@ -1,19 +1,19 @@
-use Rattle.std.proofs.Common.{◌≡◌, ◌∙◌, refl, ap, sym, subst, append-nil, ℕ, zero, suc, ◌+◌, ◌<◌, Bool, true, false, List, [], ◌∷◌, ◌++◌, length, get_or, drop, None, arith}
+use Rattle.std.proofs.Common.{◌≡◌, ◌∙◌, refl, ap, sym, subst, append-nil, ℕ, zero, suc, ◌+◌, ◌<◌, min, Bool, true, false, List, [], ◌∷◌, ◌++◌, length, get_or, drop, None, arith}
 use Rattle.std.specs.Prelude.{sum}
 use Rattle.std.specs.List.{list_all}
-use Rattle.std.proofs.lemmas.List.{length-map, take-append-drop}
+use Rattle.std.proofs.lemmas.List.{length-append, length-map, take-append-drop}
 use Rattle.m161_cpu.specs.Processor.{Processor}
 use Rattle.m161_machine.specs.declared.event.Entry.{Entry}
-use Rattle.m161_machine.specs.State.{counts}
-use Rattle.m161_machine.specs.History.{History, Continues, IsReplay, Start, events_of, steps_of}
-use Rattle.m161_machine.proofs.Resuming.{resumes}
+use Rattle.m161_machine.specs.State.{State, counts}
+use Rattle.m161_machine.specs.History.{History, Continues, IsReplay, Leads, Start, boot_state, events_of, steps_of}
+use Rattle.m161_machine.proofs.Leading.{leads_rest}
+use Rattle.m161_machine.proofs.Counted.{count_through, counts_run, counts_through, length_through}
 use Rattle.m161_threads.specs.declared.cause.Cause.{Cause}
 use Rattle.m161_threads.specs.declared.cause.Cause.TheVariants.{Swapped}
-use Rattle.m161_threads.specs.Runs.{FailsRun, Interleaves, IsOfRun, MakesSteps, is_step_below}
-use Rattle.m161_threads.specs.helpers.Runs.{FailsLater, IsChecked, IsLater}
+use Rattle.m161_threads.specs.Runs.{FailsRun, Interleaves, IsOfRun, MakesSteps, ShowsInterleaving, ShowsSteps, is_step_below}
+use Rattle.m161_threads.specs.helpers.Runs.{FailsLater, IsChecked, IsLater, IsTold, Past, past_of}
 use Rattle.m161_threads.specs.Shares.{SeatState, new_seat, seats_from}
 use Rattle.m161_threads.specs.helpers.Work.{HasWorked}
-use Rattle.m161_machine.proofs.Counted.{count_through, counts_run, counts_through, length_through}
 
 -- What the workers say and what was compared make one interleaving.
 
@@ -41,71 +41,157 @@ not_noted : (noted off : Bool) → (noted ≡ true → off ≡ true) → off ≡
 not_noted true off h on = absurd (let bad : true ≡ false = sym (h refl) ∙ on in cc)
 not_noted false off h on = refl
 
--- a machine that may be the one of a copy after so many Steps, is it
-pub makes_steps : (before after : History) (made : ℕ) → IsReplay before → IsReplay after →
-    IsLater before.start before.log made after → MakesSteps before after
-makes_steps before after made first second later =
-    let cs = counts before.state in
+-- what a machine says of its log, of its parts
+pub told : {h : History} → IsReplay h → (h.base.made ≡ 0 → h.base ≡ boot_state h.start) → h.state.made ≡ h.base.made + length h.log →
+    length h.log ≡ min h.start.conf.log h.state.made → IsTold h
+told replay boot number last = record { replay = replay; boot = boot; number = number; last = last }
+
+-- of two machines with one start, of which the later one dropped no entry, neither did the other
+none_dropped : (before after : History) (made : ℕ) → IsTold before → IsTold after → IsLater (past_of before) made after →
+    after.base.made ≡ 0 → (before.base.made ≡ 0) × (length after.log ≡ min before.start.conf.log (length after.log))
+none_dropped before after made first second later none =
+    let conf_is = ap (λ (s : Start). s.conf.log) later.start_is in
+    let before_number = first.number in
+    let before_last = first.last in
+    let after_number = second.number in
+    let after_last = second.last in
+    let events_made = later.events_made in (
+      omega (arith, conf_is, before_number, before_last, after_number, after_last, events_made, none),
+      omega (arith, conf_is, after_number, after_last, none),
+    )
+
+-- so the later one's log goes on from the other's
+resumes : (before after : History) (made : ℕ) → IsTold before → IsTold after → IsLater (past_of before) made after →
+    after.base.made ≡ 0 → Continues before (events_of (drop (length before.log) after.log)) after
+resumes before after made first second later none =
     let entries = drop (length before.log) after.log in
+    let dropped = none_dropped before after made first second later none in
     let log_is : after.log ≡ before.log ++ entries =
-    sym (take-append-drop (length before.log) after.log) ∙ ap (λ (l : List Entry). l ++ entries) later.log_is in
-    let goes_on : Continues before (events_of entries) after = resumes before after entries first second later.start_is log_is in
-    let through : counts after.state ≡ counts_through (events_of entries) cs =
+    sym (take-append-drop (length before.log) after.log) ∙ ap (λ (l : List Entry). l ++ entries) (later.whole none).log_is in
+    let base_is : after.base ≡ before.base =
+    second.boot none ∙ ap boot_state later.start_is ∙ sym (first.boot dropped.0) in
+    let long = ap length log_is ∙ length-append before.log entries in
+    let short = dropped.1 in
+    record {
+      entries = entries;
+      events_are = refl;
+      run_is = leads_rest before.log entries before.base before.state after.state first.replay
+          (subst (λ (es : List Entry). Leads before.base es after.state) log_is
+          (subst (λ (s : State). Leads s after.log after.state) base_is second.replay));
+      slides = record {
+        lost = [];
+        log_is = sym log_is;
+        base_is = base_is;
+        length_is = omega (arith, long, short);
+        start_is = later.start_is;
+      };
+    }
+
+-- a machine that may be the one of a copy after so many Steps, is it, as far as its log shows
+shows_steps : (before after : History) (made : ℕ) → IsTold before → IsTold after → IsLater (past_of before) made after →
+    after.base.made ≡ 0 → ShowsSteps before after
+shows_steps before after made first second later none =
+    let cs = counts before.state in
+    let events = events_of (drop (length before.log) after.log) in
+    let goes_on = resumes before after made first second later none in
+    let through : counts after.state ≡ counts_through events cs =
     counts_run goes_on.entries before.state after.state goes_on.run_is ∙ ap (λ es. counts_through es cs) goes_on.events_are in
     let number : length after.state.processors ≡ length before.state.processors =
     sym (length-map after.state.processors (λ (p : Processor). p.count)) ∙ ap length through
-    ∙ length_through (events_of entries) cs ∙ length-map before.state.processors (λ (p : Processor). p.count) in
+    ∙ length_through events cs ∙ length-map before.state.processors (λ (p : Processor). p.count) in
     record {
-      events = events_of entries;
-      steps = subst (λ n. list_all (is_step_below n) (events_of entries) ≡ true) number later.steps;
+      events = events;
+      steps = subst (λ n. list_all (is_step_below n) events ≡ true) number (later.whole none).steps;
       continues = goes_on;
     }
 
--- no Step was made
-pub makes_none : (before : History) → MakesSteps before before
-makes_none before = record {
-  events = [];
-  steps = refl;
-  continues = record {
-    entries = [];
-    events_are = refl;
-    run_is = refl;
-    log_is = sym (append-nil before.log);
-    start_is = refl;
-  };
+pub makes_steps : (before after : History) (made : ℕ) → IsTold before → IsTold after → IsLater (past_of before) made after →
+    MakesSteps before made after
+makes_steps before after made first second later = record {
+  start_is = later.start_is;
+  counted = later.counted;
+  events_made = later.events_made;
+  shown = shows_steps before after made first second later;
 }
 
+-- no Step was made
+pub makes_none : (before : History) → IsTold before → MakesSteps before 0 before
+makes_none before told =
+    let last = told.last in
+    record {
+      start_is = refl;
+      counted = omega arith;
+      events_made = omega arith;
+      shown = λ _. record {
+        events = [];
+        steps = refl;
+        continues = record {
+          entries = [];
+          events_are = refl;
+          run_is = refl;
+          slides = record {
+            lost = [];
+            log_is = append-nil before.log;
+            base_is = refl;
+            length_is = omega (arith, last);
+            start_is = refl;
+          };
+        };
+      };
+    }
+
 -- a run that fails before any Step
-pub fails_at_once : (before : History) (cause : Cause) → IsReplay before → IsOfRun cause → FailsRun None before cause before
-fails_at_once before cause replays of_run = (of_run, replays, λ _. makes_none before)
+pub fails_at_once : (before : History) (cause : Cause) → IsTold before → IsOfRun cause → FailsRun None before cause before
+fails_at_once before cause told of_run = (of_run, told.replay, λ _. (0, makes_none before told))
 
 -- a machine that can't be the one of the copy was swapped
-pub is_swapped : (start : Start) (log : List Entry) (after : History) → IsReplay after → FailsLater start log Swapped after
-is_swapped start log after replays = ((λ h. absurd (cc), λ h. absurd (cc)), replays, λ other. absurd (other refl))
+pub is_swapped : (past : Past) (after : History) → IsReplay after → FailsLater past Swapped after
+is_swapped past after replays = ((λ h. absurd (cc), λ h. absurd (cc)), replays, λ other. absurd (other refl))
 
 -- a run that fails later
-pub fails_run : (before after : History) (start : Start) (log : List Entry) (cause : Cause) → IsReplay before →
-    start ≡ before.start → log ≡ before.log → FailsLater start log cause after → FailsRun None before cause after
-fails_run before after start log cause replays start_is log_is fails = (
+pub fails_run : (before after : History) (past : Past) (cause : Cause) → IsTold before →
+    past ≡ past_of before → FailsLater past cause after → FailsRun None before cause after
+fails_run before after past cause told past_is fails = (
   fails.0,
   fails.1,
   λ same.
       let later = fails.2 same in
-      makes_steps before after later.0 replays fails.1
-      (subst (λ l. IsLater before.start l later.0 after) log_is (subst (λ s. IsLater s log later.0 after) start_is later.1)),
+      (later.1.0, makes_steps before after later.1.0 told later.0 (subst (λ p. IsLater p later.1.0 after) past_is later.1.1)),
 )
 
+-- the Steps of each processor, in the events that the log shows
+shows : (before after : History) (quotas made : List ℕ) → length quotas ≡ length before.state.processors → length made ≡ length quotas →
+    ((p : ℕ) → p < length quotas → get_or (counts after.state) p 0 ≡ get_or (counts before.state) p 0 + get_or made p 0) →
+    ShowsSteps before after → ShowsInterleaving before made after
+shows before after quotas made number made_number counted all =
+    let cs = counts before.state in
+    let size : length cs ≡ length quotas = length-map before.state.processors (λ (p : Processor). p.count) ∙ sym number in
+    let through : counts after.state ≡ counts_through all.events cs =
+    counts_run all.continues.entries before.state after.state all.continues.run_is ∙ ap (λ es. counts_through es cs) all.continues.events_are in
+    let each : (p : ℕ) → p < length made → steps_of p all.events ≡ get_or made p 0 = λ p inside.
+    let there : p < length quotas = omega (arith, inside, made_number) in
+    let steps = count_through all.events p cs (omega (arith, there, size)) in
+    let is = ap (λ c. get_or c p 0) through in
+    let sums = counted p there in
+    omega (arith, steps, is, sums) in
+    record {
+      events = all.events;
+      interleaving = record {
+        steps = subst (λ n. list_all (is_step_below n) all.events ≡ true) (sym number ∙ sym made_number) all.steps;
+        each = each;
+      };
+      continues = all.continues;
+    }
+
 pub interleaves : (before after : History) (quotas : List ℕ) (seats : List SeatState) (made : List ℕ) (off : Bool) →
-    IsReplay before → length quotas ≡ length before.state.processors →
+    IsTold before → length quotas ≡ length before.state.processors →
     HasWorked (seats_from 0 (counts before.state)) quotas seats made →
-    IsChecked before.start before.log seats made off after → Interleaves before quotas made off after
-interleaves before after quotas seats made off replays number worked checked =
+    IsChecked (past_of before) seats made off after → Interleaves before quotas made off after
+interleaves before after quotas seats made off told number worked checked =
     let d = new_seat 0 0 in
     let cs = counts before.state in
     let size : length cs ≡ length quotas = length-map before.state.processors (λ (p : Processor). p.count) ∙ sym number in
-    let all = makes_steps before after (sum made) replays checked.replay checked.later in
-    let through : counts after.state ≡ counts_through all.events cs =
-    counts_run all.continues.entries before.state after.state all.continues.run_is ∙ ap (λ es. counts_through es cs) all.continues.events_are in
+    let all = makes_steps before after (sum made) told checked.told checked.later in
     let counted : (p : ℕ) → p < length quotas → get_or (counts after.state) p 0 ≡ get_or cs p 0 + get_or made p 0 = λ p inside.
     let works = worked.each p d d inside in
     let there : p < length seats = omega (arith, inside, worked.seats_number) in
@@ -114,19 +200,8 @@ interleaves before after quotas seats made off replays number worked checked =
     let fits = (checked.seats_are p d there).1 in
     ap (λ n. get_or (counts after.state) n 0) (sym its) ∙ fits ∙ works.counted
     ∙ ap (λ (s : SeatState). s.count + get_or made p 0) here in
-    let each : (p : ℕ) → p < length made → steps_of p all.events ≡ get_or made p 0 = λ p inside.
-    let there : p < length quotas = omega (arith, inside, worked.made_number) in
-    let steps = count_through all.events p cs (omega (arith, there, size)) in
-    let is = ap (λ c. get_or c p 0) through in
-    let sums = counted p there in
-    omega (arith, steps, is, sums) in
     record {
-      events = all.events;
-      interleaving = record {
-        steps = subst (λ n. list_all (is_step_below n) all.events ≡ true) (sym number ∙ sym worked.made_number) all.steps;
-        each = each;
-      };
-      continues = all.continues;
+      start_is = all.start_is;
       number = worked.made_number;
       within = λ p inside. (worked.each p d d inside).within;
       whole = λ on. same_list made quotas worked.made_number (λ p inside.
@@ -135,5 +210,6 @@ interleaves before after quotas seats made off replays number worked checked =
           (checked.noted p d (omega (arith, inside, worked.seats_number))) (sym checked.off_is ∙ on)));
       off_is = checked.off_is;
       counted = counted;
-      logged = checked.later.number;
+      events_made = all.events_made;
+      shown = λ none. shows before after quotas made number worked.made_number counted (all.shown none);
     }

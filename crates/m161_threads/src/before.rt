@@ -1,54 +1,92 @@
 //! A machine before a run.
 
-ghost use Rattle.std.specs.Prelude.{◌≡◌, ◌≤◌, IfOk, IfSome, drop, length, take, true};
+ghost use Rattle.std.specs.Prelude.{◌≡◌, ◌≤◌, IfOk, IfSome, drop, length, sum, take, true};
 ghost use Rattle.std.specs.List.{list_all};
 ghost use Rattle.m161_machine.specs.History.{events_of};
+ghost use Rattle.m161_machine.specs.State.{counts};
 ghost use Rattle.m161_threads.specs.Runs.{is_step_below};
-ghost use Rattle.m161_threads.specs.helpers.Runs.{IsLater};
+ghost use Rattle.m161_threads.specs.helpers.Runs.{GoesOn, IsLater, past_of};
 
 use m161_bus::Console;
 use m161_machine::{Entry, Event, Machine, Start};
 use m161_tlb::Tlb;
 use std::alloc::{AllocError, Global};
+use std::marker::Model;
 
-/// A machine before a run: what it was booted from, and its log.
+/// What is kept of a machine before a run: what it was booted from, its log, how many events it
+/// has accepted, and how many of them were Steps.
 #[derive(Drop)]
 pub(crate) struct Before {
     start: Start,
     log: Vec<Entry>,
+    made: u64,
+    steps: u64,
+}
+
+impl Model for Before {
+    ghost use Rattle.m161_threads.specs.helpers.Runs.{Past};
+
+    ghost Value = { Past };
+
+    ghost view = { λ b. record { start = b.start; log = b.log.items; made = b.made; counted = b.steps } };
 }
 
 impl Before {
-    /// A copy of what a machine was booted from and of its log.
+    /// What is to be kept of a machine.
     pub(crate) fn of<T: Tlb, D: Console>(
         alloc: Global,
         machine: &Machine<T, D>,
     ) -> Result<Before, AllocError>
-        ensures start { IfOk result (λ before. before.start ≡ machine.now.start) }
-        ensures log { IfOk result (λ before. before.log.items ≡ machine.now.log) }
+        ensures { IfOk result (λ before. before ≡ past_of machine.now) }
     {
         Ok(Before {
             start: machine.copy_start(alloc)?,
             log: machine.copy_log(alloc)?,
+            made: machine.made(),
+            steps: all_steps(machine),
         })
     }
 
-    /// After how many Steps a machine may be this one: it has the same start, its log begins with
-    /// this log, and goes on with so many Steps alone. `None` if it can't be this one.
+    /// After how many Steps a machine may be this one: it has the same start, and has accepted so
+    /// many events more and counted so many Steps more. As long as it has dropped no entry of its
+    /// log, that begins with this log, and goes on with Steps alone. `None` if it can't be this one.
     pub(crate) fn steps_to<T: Tlb, D: Console>(&self, machine: &Machine<T, D>) -> Option<u64>
-        ensures { IfSome result (λ made.
-            IsLater self.now.start self.now.log.items made machine.now) }
+        ensures { IfSome result (λ made. IsLater self.now made machine.now) }
     {
-        if machine.starts_as(&self.start)
-            && machine.log_len() >= self.log.len()
-            && begins_with(machine, self.log.as_slice())
-            && has_steps_from(machine, self.log.len())
-        {
-            Some((machine.log_len() - self.log.len()) as u64)
+        let made = machine.made().checked_sub(self.made)?;
+        let steps = all_steps(machine).checked_sub(self.steps)?;
+        if steps == made && machine.starts_as(&self.start) && self.goes_on(machine) {
+            Some(made)
         } else {
             None
         }
     }
+
+    // Whether a machine's log, unless entries of it were dropped, begins with this log, and goes on
+    // with Steps alone.
+    fn goes_on<T: Tlb, D: Console>(&self, machine: &Machine<T, D>) -> bool
+        ensures { result ≡ true → machine.now.base.made ≡ 0
+            → GoesOn self.now.log machine.now }
+    {
+        if machine.base().made() > 0 {
+            return true;
+        }
+        machine.log_len() >= self.log.len()
+            && begins_with(machine, self.log.as_slice())
+            && has_steps_from(machine, self.log.len())
+    }
+}
+
+// How many Steps all processors of a machine have made.
+fn all_steps<T: Tlb, D: Console>(machine: &Machine<T, D>) -> u64
+    ensures { result ≡ sum (counts machine.now.state) }
+{
+    machine.replay();
+    let mut steps = 0u64;
+    for p in 0..machine.processors() {
+        steps += machine.count(p);
+    }
+    steps
 }
 
 // Whether a machine's log begins with these entries.

@@ -1,9 +1,9 @@
 //! What the lock protects, and the seats of the threads.
 
-ghost use Rattle.std.specs.Prelude.{◌≡◌, ◌+◌, ◌<◌, Err, true, OnErr, OnOk, slice_index_or, if◌then◌else◌};
+ghost use Rattle.std.specs.Prelude.{◌≡◌, ◌+◌, ◌<◌, Err, Some, true, OnErr, OnOk, replicate, slice_index_or, if◌then◌else◌};
 ghost use Rattle.m161_machine.specs.declared.event.Event.TheVariants as events;
 ghost use Rattle.m161_machine.specs.declared.event.Refusal.TheVariants as refusals;
-ghost use Rattle.m161_machine.specs.History.{Answers, IsReplay};
+ghost use Rattle.m161_machine.specs.History.{Answers, Continues, Ends};
 ghost use Rattle.m161_machine.specs.State.{counts};
 
 use m161_bus::Console;
@@ -75,6 +75,15 @@ impl<L: Ledger, M: Ledger> Seat<L, M> {
     }
 }
 
+/// The Steps that were made of a processor under one holding of the lock.
+#[derive(Clone, Copy, Debug, PartialEq, Eq)]
+pub struct Burst {
+    /// How many were made.
+    pub made: u32,
+    /// Why no more were made, if fewer were made than asked for.
+    pub refusal: Option<Refusal>,
+}
+
 impl<L: Ledger, M: Ledger, T: Tlb, D: Console> Book<L, M, T, D> {
     /// The machine, read-only. It is off if a seat has noted that.
     pub fn machine(&self) -> &Machine<T, D>
@@ -109,6 +118,29 @@ impl<L: Ledger, M: Ledger, T: Tlb, D: Console> Book<L, M, T, D> {
             }
             Err(refusal) => Err(refusal),
         }
+    }
+
+    /// Makes Steps of a seat's processor until `k` are made or one is refused, counted at the seat.
+    /// The same as this many calls of `step_in`, in less time. Does not allocate.
+    pub fn step_burst(&mut self, seat: &mut Seat<L, M>, k: u32) -> Burst
+        ensures run { Continues self.old.machine
+            (replicate result.made (events.Step seat.old.processor)) self.new.machine }
+        ensures end { Ends self.new.machine (events.Step seat.old.processor) k
+            result.made result.refusal }
+        ensures own { slice_index_or (counts self.new.machine.state) seat.old.processor 0
+            ≡ slice_index_or (counts self.old.machine.state) seat.old.processor 0
+            + result.made }
+        ensures seat { seat.new ≡ record seat.old { count = seat.old.count + result.made } }
+        ensures off { result.refusal ≡ Some refusals.Off
+            → self.new.machine.state.board.off ≡ true }
+        ensures offs { self.new.offs ≡ self.old.offs }
+    {
+        let (made, refusal) = self.machine.steps(seat.processor, k);
+        self.machine.replay();
+        self.steps.add(&mut seat.steps, u64::from(made));
+        self.steps.audit(&mut seat.steps);
+        seat.count += u64::from(made);
+        Burst { made, refusal }
     }
 
     /// Notes at a seat that the machine is off. A second note changes nothing.

@@ -11,9 +11,9 @@ pub enum Cause {
     /// There isn't one quota for each processor. Returned before any Step.
     #[error("there isn't one quota for each processor")]
     BadQuotas,
-    /// The machine doesn't have two processors. Returned before any Step.
-    #[error("the machine doesn't have two processors")]
-    NotYet,
+    /// A burst has 1 to 1,024 Steps. Returned before any Step.
+    #[error("a burst has 1 to 1,024 Steps")]
+    BadBurst,
     /// Memory was refused.
     #[error("out of memory")]
     NoMemory,
@@ -28,9 +28,9 @@ pub enum Cause {
         /// How many Steps of the run it had made.
         k: u32,
     },
-    /// The log is full.
-    #[error("the log is full")]
-    LogFull,
+    /// The machine has accepted 2^63 - 1 events.
+    #[error("the machine has accepted as many events as it can count")]
+    Worn,
     /// A processor's count differs from its seat's.
     #[error("a processor's count isn't its seat's")]
     Miscount,
@@ -46,11 +46,11 @@ impl Cause {
     {
         match self {
             Cause::BadQuotas => "BadQuotas",
-            Cause::NotYet => "NotYet",
+            Cause::BadBurst => "BadBurst",
             Cause::NoMemory => "NoMemory",
             Cause::NoThread => "NoThread",
             Cause::Held { p: _, k: _ } => "Held",
-            Cause::LogFull => "LogFull",
+            Cause::Worn => "Worn",
             Cause::Miscount => "Miscount",
             Cause::Swapped => "Swapped",
         }

@@ -2,9 +2,11 @@
 //!
 //! ```text
 //! book     what the lock protects: the machine, and two ledgers. Each of its calls makes one event
-//!          at most: a Step of a seat's processor, a typed byte, or the end of a console transfer
+//!          at most, a Step of a seat's processor, a typed byte, or the end of a console transfer;
+//!          or a burst, several Steps of one seat's processor
 //! seat     a thread's right to the Steps of one processor; it counts them
-//! run      a thread for each processor makes its quota of Steps, and takes the lock for each
+//! run      a thread for each of 1 to 32 processors makes its quota of Steps, and takes the lock
+//!          for each, or for each burst
 //!
 //! promised      the Steps that were made are one interleaving, and the machine is the replay of
 //!               its log; each processor has made its quota, or the machine is off
@@ -25,8 +27,8 @@ mod tally;
 mod threaded;
 mod worker;
 
-pub use book::{Book, Seat};
+pub use book::{Book, Burst, Seat};
 pub use cause::Cause;
 pub use locked::{Locked, Miscount};
 pub use m161_machine::{Machine, Outcome, Refusal};
-pub use threaded::{Gate, Report, RunFault, run};
+pub use threaded::{Gate, Report, RunFault, run, run_bursts};

@@ -2,7 +2,7 @@
 
 ghost use Rattle.std.specs.Prelude.{◌≡◌, ◌≤◌, IfErr, IfOk, MatchResult, None, length, vec_len};
 ghost use Rattle.m161_machine.specs.History.{IsReplay};
-ghost use Rattle.m161_threads.specs.Runs.{FailsRun, Interleaves, IsOfRun, bad_call};
+ghost use Rattle.m161_threads.specs.Runs.{FailsRun, Interleaves, IsOfRun, bad_call, is_burst};
 ghost use Rattle.m161_threads.specs.helpers.Runs.{FailsLater, IsChecked};
 ghost use Rattle.m161_threads.specs.helpers.Work.{HasWorked};
 
@@ -11,7 +11,7 @@ use crate::book::Seat;
 use crate::cause::Cause;
 use crate::locked::{Locked, Miscount};
 use crate::tally::{Tally, take_apart, total};
-use crate::worker::run_workers;
+use crate::worker::{StartLine, run_workers};
 use m161_bus::Console;
 use m161_machine::Machine;
 use m161_tlb::Tlb;
@@ -21,11 +21,11 @@ use std::sync::Wait;
 use std::sync::ledger::{Blank, Ledger};
 use std::thread::Threads;
 
-/// A worker calls this before each of its Steps, without the lock: so it may wait, also for another
-/// worker.
+/// A worker calls this before each of its bursts, without the lock: so it may wait, also for
+/// another worker.
 pub trait Gate {
-    /// Whether processor `p` may make its Step number `k` of the run, from 0 on. `false` ends its
-    /// part of the run.
+    /// Whether processor `p` may make the burst whose first Step is its Step number `k` of the run,
+    /// from 0 on. `false` ends its part of the run.
     fn pass(&self, p: u32, k: u32) -> bool;
 }
 
@@ -50,15 +50,15 @@ pub struct RunFault<T: Tlb, D: Console> {
 }
 
 /// Runs a machine in threads: each processor has a worker of its own, which makes its quota of
-/// Steps, and takes the lock for each. A worker stops if it finds the machine off or the log full,
-/// or if the gate stops it; the others continue. The order of the Steps is the host's choice, and
-/// two runs may differ; the machine's log says which interleaving was made. The call blocks until
-/// all workers have ended, and nothing bounds that time.
+/// Steps, and takes the lock for each. No worker makes a Step before all are started. A worker
+/// stops if it finds the machine off or worn, or if the gate stops it; the others continue. The
+/// order of the Steps is the host's choice, and two runs may differ; the machine's log says which
+/// interleaving was made. The call blocks until all workers have ended, and nothing bounds that
+/// time.
 ///
 /// # Errors
-/// The number of quotas, then the number of processors, which has to be two; or the cause of the
-/// lowest processor that has one; or the workers' results don't fit the machine. The machine is
-/// returned, with the Steps that were made.
+/// The number of quotas; or the cause of the lowest processor that has one; or the workers' results
+/// don't fit the machine. The machine is returned, with the Steps that were made.
 #[inline(never)]
 pub fn run<T, D, R, G>(
     rt: &R,
@@ -75,9 +75,42 @@ where
     ensures ok { IfOk result (λ r.
         Interleaves machine quotas.now r.counts.items r.off r.machine) }
     ensures begun { IfOk result (λ r.
-        bad_call (length quotas.now) (length machine.state.processors) ≡ None) }
+        bad_call (length quotas.now) (length machine.state.processors) 1 ≡ None) }
     ensures err { IfErr result (λ f. FailsRun
-        (bad_call (length quotas.now) (length machine.state.processors))
+        (bad_call (length quotas.now) (length machine.state.processors) 1)
+        machine f.cause f.machine) }
+    ensures replay { MatchResult result (λ r. IsReplay r.machine) (λ f. IsReplay f.machine) }
+{
+    run_bursts(rt, alloc, machine, quotas, gate, 1)
+}
+
+/// Runs a machine in threads as `run` does, but a worker that holds the lock makes up to `longest`
+/// Steps, cut to what is left of its quota: a burst. Longer bursts make a run faster, and leave
+/// fewer interleavings to the host's choice.
+///
+/// # Errors
+/// The number of quotas, then the length of the bursts, which has to be 1 to 1,024; or those of
+/// `run`.
+#[inline(never)]
+pub fn run_bursts<T, D, R, G>(
+    rt: &R,
+    alloc: Global,
+    machine: Machine<T, D>,
+    quotas: &[u32],
+    gate: &G,
+    longest: u32,
+) -> Result<Report<T, D>, RunFault<T, D>>
+where
+    T: Tlb + Send,
+    D: Console + Send,
+    R: Threads + Wait + Sync,
+    G: Gate + Sync,
+    ensures ok { IfOk result (λ r.
+        Interleaves machine quotas.now r.counts.items r.off r.machine) }
+    ensures begun { IfOk result (λ r.
+        bad_call (length quotas.now) (length machine.state.processors) longest ≡ None) }
+    ensures err { IfErr result (λ f. FailsRun
+        (bad_call (length quotas.now) (length machine.state.processors) longest)
         machine f.cause f.machine) }
     ensures replay { MatchResult result (λ r. IsReplay r.machine) (λ f. IsReplay f.machine) }
 {
@@ -89,15 +122,22 @@ where
             machine,
         });
     }
-    if processors != 2 {
+    if !is_burst(longest) {
         return Err(RunFault {
-            cause: Cause::NotYet,
+            cause: Cause::BadBurst,
             machine,
         });
     }
     let steps = Blank::new(u64::from(processors));
     let offs = Blank::new(u64::from(processors));
-    run_counted::<Brand, Brand, T, D, R, G>(rt, alloc, steps, offs, machine, quotas, gate)
+    run_counted::<Brand, Brand, T, D, R, G>(rt, alloc, steps, offs, machine, quotas, gate, longest)
+}
+
+// Whether a worker may make so many Steps under one holding of the lock.
+fn is_burst(longest: u32) -> bool
+    ensures { result ≡ is_burst longest }
+{
+    (1..=1024).contains(&longest)
 }
 
 // A run whose Steps these ledgers count.
@@ -110,6 +150,7 @@ fn run_counted<L, M, T, D, R, G>(
     machine: Machine<T, D>,
     quotas: &[u32],
     gate: &G,
+    longest: u32,
 ) -> Result<Report<T, D>, RunFault<T, D>>
 where
     L: Ledger + Send + Sync,
@@ -124,6 +165,7 @@ where
         × (M.parts ≡ length machine.state.processors) }
     requires quotas { length quotas.now ≡ length machine.state.processors }
     requires few { length machine.state.processors ≤ 32 }
+    requires longest { 1 ≤ longest }
     ensures ok { IfOk result (λ r.
         Interleaves machine quotas.now r.counts.items r.off r.machine) }
     ensures err { IfErr result (λ f. FailsRun None machine f.cause f.machine) }
@@ -148,7 +190,7 @@ where
             });
         }
     };
-    match run_seats(rt, alloc, &locked, gate, seats, quotas) {
+    match run_seats(rt, alloc, &locked, gate, seats, quotas, longest) {
         Ok(tally) => {
             let report = checked_report(locked, &before, tally)?;
             Ok(report)
@@ -165,7 +207,7 @@ fn checked_fault<T: Tlb, D: Console>(
     cause: Cause,
 ) -> RunFault<T, D>
     requires { IsOfRun cause }
-    ensures { FailsLater before.now.start before.now.log.items result.cause result.machine }
+    ensures { FailsLater before.now result.cause result.machine }
 {
     machine.replay();
     let cause = match before.steps_to(&machine) {
@@ -183,6 +225,7 @@ fn run_seats<L, M, T, D, R, G>(
     gate: &G,
     seats: Vec<Seat<L, M>>,
     quotas: &[u32],
+    longest: u32,
 ) -> Result<Tally<L, M>, Cause>
 where
     L: Ledger + Send + Sync,
@@ -192,11 +235,22 @@ where
     R: Threads + Wait + Sync,
     G: Gate + Sync,
     requires seats { vec_len seats ≡ length quotas.now }
+    requires longest { 1 ≤ longest }
     ensures worked { IfOk result (λ t.
         HasWorked seats.items quotas.now t.seats.items t.counts.items) }
     ensures cause { IfErr result (λ cause. IsOfRun cause) }
 {
-    let worked = run_workers(rt, alloc, locked.book(), gate, seats, quotas)?;
+    let line = StartLine::new();
+    let worked = run_workers(
+        rt,
+        alloc,
+        locked.book(),
+        gate,
+        &line,
+        seats,
+        quotas,
+        longest,
+    )?;
     let tally = take_apart(alloc, worked)?;
     Ok(tally)
 }
@@ -209,11 +263,10 @@ fn checked_report<L: Ledger, M: Ledger, T: Tlb, D: Console>(
     tally: Tally<L, M>,
 ) -> Result<Report<T, D>, RunFault<T, D>>
     requires { vec_len tally.counts ≤ 32 }
-    ensures ok { IfOk result (λ r. IsChecked before.now.start before.now.log.items
+    ensures ok { IfOk result (λ r. IsChecked before.now
         tally.seats.items tally.counts.items r.off r.machine) }
     ensures counts { IfOk result (λ r. r.counts.items ≡ tally.counts.items) }
-    ensures err { IfErr result (λ f.
-        FailsLater before.now.start before.now.log.items f.cause f.machine) }
+    ensures err { IfErr result (λ f. FailsLater before.now f.cause f.machine) }
 {
     let Tally { seats, counts } = tally;
     let machine = match locked.finish(seats) {
@@ -227,6 +280,7 @@ fn checked_report<L: Ledger, M: Ledger, T: Tlb, D: Console>(
             return Err(checked_fault(machine, before, Cause::Miscount));
         }
     };
+    machine.replay();
     match before.steps_to(&machine) {
         Some(made) if made == total(counts.as_slice()) => {
             let off = machine.is_off();

@@ -1,11 +1,11 @@
 //! Workers: a thread for each processor.
 
-ghost use Rattle.std.specs.Prelude.{◌≡◌, ◌+◌, ◌<◌, ℕ, length, vec_len, slice_index, slice_index_or, IfErr, IfOk};
+ghost use Rattle.std.specs.Prelude.{◌≡◌, ◌+◌, ◌<◌, ◌≤◌, ℕ, None, length, vec_len, slice_index, slice_index_or, IfErr, IfOk};
 ghost use Rattle.m161_threads.specs.Runs.{IsOfRun};
 ghost use Rattle.m161_threads.specs.Shares.{SeatState};
 ghost use Rattle.m161_threads.specs.helpers.Work.{KeepsTask, Works, after_turn, task_of};
 
-use crate::book::{Book, Seat};
+use crate::book::{Book, Burst, Seat};
 use crate::cause::Cause;
 use crate::threaded::Gate;
 use m161_bus::Console;
@@ -13,7 +13,7 @@ use m161_machine::Refusal;
 use m161_tlb::Tlb;
 use std::alloc::Global;
 use std::sync::ledger::Ledger;
-use std::sync::{Mutex, Wait};
+use std::sync::{Condvar, Mutex, Wait};
 use std::thread;
 use std::thread::{Promise, PromisedHandle, Scope, Threads};
 
@@ -51,8 +51,9 @@ pub(crate) enum Stop {
         /// How many Steps it had made.
         k: u32,
     },
-    /// The log is full.
-    LogFull,
+    /// The machine has accepted as many events as it can count. (No other refusal comes: a seat's
+    /// processor is one of the machine's.)
+    Worn,
 }
 
 impl Stop {
@@ -62,88 +63,130 @@ impl Stop {
     {
         match self {
             Stop::Held { p, k } => Cause::Held { p, k },
-            Stop::LogFull => Cause::LogFull,
+            Stop::Worn => Cause::Worn,
         }
     }
 }
 
-/// The result of taking the lock for a Step.
-enum Turn {
-    /// A Step was made.
-    Made,
-    /// The machine is off, which the seat has noted.
-    Off,
-    /// Another refusal: a seat's processor is one of the machine's, so the log is full.
-    Full,
+/// The workers of a run wait here until all of them are started, or one can't be.
+#[derive(Drop)]
+pub(crate) struct StartLine {
+    open: Mutex<bool>,
+    opened: Condvar,
 }
 
-// Takes the lock and makes one Step of a seat's processor.
+impl StartLine {
+    /// A line at which workers wait.
+    pub(crate) fn new() -> StartLine {
+        StartLine {
+            open: Mutex::new(false),
+            opened: Condvar::new(),
+        }
+    }
+
+    // Waits until it is open.
+    fn wait<R: Wait>(&self, rt: &R) {
+        let _open = self
+            .opened
+            .wait_while(rt, self.open.lock(rt), |open| !*open);
+    }
+
+    // Lets all workers go.
+    fn open<R: Wait>(&self, rt: &R) {
+        *self.open.lock(rt) = true;
+        self.opened.notify_all();
+    }
+}
+
+// Takes the lock and makes a burst of at most `most` Steps of a seat's processor.
 fn take_turn<L: Ledger, M: Ledger, T: Tlb, D: Console, R: Wait>(
     rt: &R,
     book: &Mutex<Book<L, M, T, D>>,
     seat: &mut Seat<L, M>,
-) -> Turn
-    ensures { seat.new ≡ after_turn result seat.old }
+    most: u32,
+) -> Burst
+    ensures seat { seat.new ≡ after_turn result seat.old }
+    ensures within { result.made ≤ most }
+    ensures whole { result.refusal ≡ None → result.made ≡ most }
 {
     let mut book = book.lock(rt);
-    match book.step_in(seat) {
-        Ok(_) => Turn::Made,
-        Err(refusal) => {
-            if refusal == Refusal::Off {
-                book.note_off(seat);
-                Turn::Off
-            } else {
-                Turn::Full
-            }
-        }
+    let burst = book.step_burst(seat, most);
+    if let Some(Refusal::Off) = burst.refusal {
+        book.note_off(seat);
     }
+    burst
 }
 
-// Makes the quota of Steps, unless the gate, a full log or the power switch stops the worker.
+// Makes the quota of Steps, in bursts of at most `longest`, unless the gate, a refusal or the power
+// switch stops the worker.
 fn work<L: Ledger, M: Ledger, T: Tlb, D: Console, R: Wait, G: Gate>(
     rt: &R,
     book: &Mutex<Book<L, M, T, D>>,
     gate: &G,
     seat: Seat<L, M>,
     quota: u32,
+    longest: u32,
 ) -> Worked<L, M>
+    requires { 1 ≤ longest }
     ensures { Works seat.processor seat.count quota result.seat result.made result.stop }
 {
     let mut seat = seat;
     let p = seat.processor();
-    for made in 0..quota {
+    let mut made = 0;
+    while made < quota {
         if !gate.pass(p, made) {
             let stop = Some(Stop::Held { p, k: made });
             return Worked { seat, made, stop };
         }
-        match take_turn(rt, book, &mut seat) {
-            Turn::Made => {}
-            Turn::Off => {
+        let burst = take_turn(rt, book, &mut seat, longest.min(quota - made));
+        made += burst.made;
+        match burst.refusal {
+            None => {}
+            Some(Refusal::Off) => {
                 let stop = None;
                 return Worked { seat, made, stop };
             }
-            Turn::Full => {
-                let stop = Some(Stop::LogFull);
+            Some(_) => {
+                let stop = Some(Stop::Worn);
                 return Worked { seat, made, stop };
             }
         }
     }
     Worked {
         seat,
-        made: quota,
+        made,
         stop: None,
     }
 }
 
-// Starts a worker for each seat.
+// The same, once all workers are started.
+fn work_from<L: Ledger, M: Ledger, T: Tlb, D: Console, R: Wait, G: Gate>(
+    rt: &R,
+    book: &Mutex<Book<L, M, T, D>>,
+    gate: &G,
+    line: &StartLine,
+    seat: Seat<L, M>,
+    quota: u32,
+    longest: u32,
+) -> Worked<L, M>
+    requires { 1 ≤ longest }
+    ensures { Works seat.processor seat.count quota result.seat result.made result.stop }
+{
+    line.wait(rt);
+    work(rt, book, gate, seat, quota, longest)
+}
+
+// Starts a worker for each seat, which waits at the line.
 fn start_all<'s, E, L, M, T, D, R, G>(
     scope: &Scope<'s, E>,
     rt: &'s R,
     alloc: Global,
     book: &'s Mutex<Book<L, M, T, D>>,
     gate: &'s G,
+    line: &'s StartLine,
     seats: Vec<Seat<L, M>>,
     quotas: &[u32],
+    longest: u32,
 ) -> Result<Vec<PromisedHandle<Worked<L, M>, Task>>, Cause>
 where
     L: Ledger + Send + Sync + 's,
@@ -152,7 +195,8 @@ where
     D: Console + Send + 's,
     R: Wait + Sync,
     G: Gate + Sync,
-    requires { vec_len seats ≡ length quotas.now }
+    requires seats { vec_len seats ≡ length quotas.now }
+    requires longest { 1 ≤ longest }
     ensures err { IfErr result (λ cause. IsOfRun cause) }
     ensures len { IfOk result (λ v. vec_len v ≡ length quotas.now) }
     ensures each { IfOk result (λ v. (k : ℕ) (d : _) (e : SeatState) → k < length quotas.now
@@ -171,7 +215,10 @@ where
             before: seat.count(),
             quota,
         };
-        let Ok(handle) = scope.spawn_with(task, move || work(rt, book, gate, seat, quota)) else {
+        let Ok(handle) = scope.spawn_with(
+            task,
+            move || work_from(rt, book, gate, line, seat, quota, longest),
+        ) else {
             return Err(Cause::NoThread);
         };
         handles.push_reserved(handle);
@@ -200,14 +247,17 @@ where
     }
 }
 
-/// Runs a worker for each seat, and joins them all.
+/// Runs a worker for each seat, and joins them all. Each holds the lock for at most `longest` Steps
+/// at a time, and none makes a Step before all are started, or one can't be.
 pub(crate) fn run_workers<L, M, T, D, R, G>(
     rt: &R,
     alloc: Global,
     book: &Mutex<Book<L, M, T, D>>,
     gate: &G,
+    line: &StartLine,
     seats: Vec<Seat<L, M>>,
     quotas: &[u32],
+    longest: u32,
 ) -> Result<Vec<Worked<L, M>>, Cause>
 where
     L: Ledger + Send + Sync,
@@ -216,7 +266,8 @@ where
     D: Console + Send,
     R: Threads + Wait + Sync,
     G: Gate + Sync,
-    requires { vec_len seats ≡ length quotas.now }
+    requires seats { vec_len seats ≡ length quotas.now }
+    requires longest { 1 ≤ longest }
     ensures err { IfErr result (λ cause. IsOfRun cause) }
     ensures len { IfOk result (λ v. vec_len v ≡ length quotas.now) }
     ensures each { IfOk result (λ v. (k : ℕ) (d : _) (e : SeatState) → k < length quotas.now
@@ -228,7 +279,8 @@ where
         thread::scope_env(),
         rt,
         |scope| -> Result<Vec<Worked<L, M>>, Cause>
-            requires { vec_len seats ≡ length quotas.now }
+            requires seats { vec_len seats ≡ length quotas.now }
+            requires longest { 1 ≤ longest }
             ensures err { IfErr result (λ cause. IsOfRun cause) }
             ensures all { IfOk result (λ v. (vec_len v ≡ length quotas.entry.now)
                 × ((k : ℕ) (d : _) (e : SeatState) → k < length quotas.entry.now
@@ -237,7 +289,9 @@ where
                 (slice_index_or v.items k d).seat (slice_index_or v.items k d).made
                 (slice_index_or v.items k d).stop)) }
         {
-            let handles = start_all(scope, rt, alloc, book, gate, seats, quotas)?;
+            let started = start_all(scope, rt, alloc, book, gate, line, seats, quotas, longest);
+            line.open(rt);
+            let handles = started?;
             let all = join_all(rt, handles)?;
             Ok(all)
         },

@@ -5,8 +5,8 @@
 //!                         registers
 //! s161 run IMAGE          boots an ELF file, makes the events of the schedule on standard input,
 //!                         and prints the console's output, the started processors and why it
-//!                         stopped; with --threads Q each of two processors has a thread that makes
-//!                         Q Steps, and no schedule is read
+//!                         stopped; with --threads Q each processor has a thread that makes Q Steps,
+//!                         and no schedule is read
 //! s161 replay IMAGE LOG   boots an ELF file, makes the events of a log, and prints whether their
 //!                         outcomes are the log's
 //! s161 debug IMAGE SCHEDULE

@@ -7,6 +7,7 @@ use Rattle.clap.specs.declared.builder.value_parser.ValueParser.TheVariants.{Sig
 use Rattle.s161_command.specs.declared.command.FilesTask.{FilesTask}
 use Rattle.s161_command.specs.declared.command.RunTask.{RunTask}
 use Rattle.s161_command.specs.declared.command.Size.{Size}
+use Rattle.s161_command.specs.declared.command.ThreadsTask.{ThreadsTask}
 use Rattle.s161_command.specs.declared.command.Task.{Task}
 use Rattle.s161_command.specs.declared.command.Task.TheVariants.{Assemble, Audit, Debug, Demo, Disassemble, Replay, Run, RunInThreads}
 
@@ -36,6 +37,13 @@ threads_rule =
       parser = Some (Signed (pos 0) (pos 1000000));
     }
 
+-- how many Steps a thread makes at most in one go, 1 to 1,024
+abbrev pub burst_rule : Rule
+burst_rule =
+    record (number_rule (codes "burst") (codes "1")) {
+      parser = Some (Signed (pos 1) (pos 1024));
+    }
+
 -- a command, with the options of a machine's size added; the last number is the log's default
 abbrev pub with_size_rules : Text → App → App
 with_size_rules log command =
@@ -51,9 +59,11 @@ on_image name = with_rule (new_app name) (file_rule (codes "image"))
 -- the arguments of `run`: an image and options
 abbrev pub run_line : App
 run_line =
-    with_rule
-    (with_rule (with_size_rules (codes "65536") (on_image (codes "run"))) show_log_rule)
-    threads_rule
+    with_rule (with_rule (with_rule
+    (with_size_rules (codes "65536") (on_image (codes "run")))
+    show_log_rule)
+    threads_rule)
+    burst_rule
 
 -- a command over an image and a text, with the options of a machine's size
 abbrev pub files_line : Text → Text → Text → App
@@ -69,7 +79,7 @@ debug_line = files_line (codes "debug") (codes "schedule") (codes "65536")
 
 -- the arguments of `audit`: an image, watches and options
 abbrev pub audit_line : App
-audit_line = files_line (codes "audit") (codes "watches") (codes "0")
+audit_line = files_line (codes "audit") (codes "watches") (codes "65536")
 
 -- `as` has no arguments
 abbrev pub as_line : App
@@ -126,12 +136,12 @@ IsFlag (Some text) flag =
 abbrev pub given_of : Text → List Row → Text
 given_of name rows = unwrap_or (first_of name rows) []
 
--- a machine of this size is asked for, by what clap gives for each argument; the log's room has
--- this default
-pub record IsSize (room : ℕ) (rows : List Row) (size : Size) : Type 0 where
+-- a machine of this size is asked for, by what clap gives for each argument; how many entries its
+-- log keeps has this default
+pub record IsSize (kept : ℕ) (rows : List Row) (size : Size) : Type 0 where
   pub ram : IsNumberOf 1_048_576 (one_of (codes "ram") rows) size.ram
   pub cpus : IsNumberOf 1 (one_of (codes "cpus") rows) size.processors
-  pub log : IsNumberOf room (one_of (codes "log") rows) size.log
+  pub log : IsNumberOf kept (one_of (codes "log") rows) size.log
 
 -- `run` asks for this
 pub record AsksRun (rows : List Row) (task : RunTask) : Type 0 where
@@ -139,14 +149,21 @@ pub record AsksRun (rows : List Row) (task : RunTask) : Type 0 where
   pub size : IsSize 65_536 rows task.size
   pub show_log : IsFlag (one_of (codes "show-log") rows) task.show_log
 
+-- `run` asks for this in threads: each of them makes some Steps
+pub record AsksThreads (rows : List Row) (task : ThreadsTask) : Type 0 where
+  pub run : AsksRun rows task.run
+  pub quota : IsNumberOf 0 (one_of (codes "threads") rows) task.quota
+  pub some : 0 < task.quota
+  pub burst : IsNumberOf 1 (one_of (codes "burst") rows) task.burst
+
 -- `run` asks for this: a run under a schedule, or one in threads if their number of Steps isn't 0
 abbrev pub IsRunTask : List Row → Task → Type 0
 IsRunTask rows (Run task) = AsksRun rows task × IsNumberOf 0 (one_of (codes "threads") rows) 0
-IsRunTask rows (RunInThreads task quota) =
-    AsksRun rows task × IsNumberOf 0 (one_of (codes "threads") rows) quota × (0 < quota)
+IsRunTask rows (RunInThreads task) = AsksThreads rows task
 IsRunTask rows _ = ⊥
 
--- a command over an image and a text of this name asks for this; the log's room has this default
+-- a command over an image and a text of this name asks for this; how many entries the log keeps has
+-- this default
 pub record AsksFiles (name : Text) (log : ℕ) (rows : List Row) (task : FilesTask) : Type 0 where
   pub image : task.image.now ≡ given_of (codes "image") rows
   pub text : task.text.now ≡ given_of name rows
@@ -163,9 +180,8 @@ abbrev pub IsTask : Option (Text × List Row) → Task → Type 0
 IsTask command Demo = IfSome command (λ given. ¬ IsOther given.0)
 IsTask command (Run task) =
     IsSomeAnd command (λ given. (given.0 ≡ codes "run") × IsRunTask given.1 (Run task))
-IsTask command (RunInThreads task quota) =
-    IsSomeAnd command
-    (λ given. (given.0 ≡ codes "run") × IsRunTask given.1 (RunInThreads task quota))
+IsTask command (RunInThreads task) =
+    IsSomeAnd command (λ given. (given.0 ≡ codes "run") × IsRunTask given.1 (RunInThreads task))
 IsTask command (Replay task) =
     IsSomeAnd command
     (λ given. (given.0 ≡ codes "replay") × AsksFiles (codes "entries") 65_536 given.1 task)
@@ -174,7 +190,7 @@ IsTask command (Debug task) =
     (λ given. (given.0 ≡ codes "debug") × AsksFiles (codes "schedule") 65_536 given.1 task)
 IsTask command (Audit task) =
     IsSomeAnd command
-    (λ given. (given.0 ≡ codes "audit") × AsksFiles (codes "watches") 0 given.1 task)
+    (λ given. (given.0 ≡ codes "audit") × AsksFiles (codes "watches") 65_536 given.1 task)
 IsTask command Assemble = IsSomeAnd command (λ given. given.0 ≡ codes "as")
 IsTask command (Disassemble image) =
     IsSomeAnd command

@@ -3,7 +3,7 @@
 ghost use Rattle.std.specs.Prelude.{◌≡◌, ◌≢◌, [], IfErr, IfOk, codes, false, map, unwrap_or};
 ghost use Rattle.clap.specs.Words.{HasKind, app_of, fault_of, first_of, found_of, kind_of, one_of, rows_of, rule_of, subcommand_of, subcommand_rows_of, with_rule, with_subcommand};
 ghost use Rattle.clap.specs.declared.error.kind.ErrorKind.TheVariants.{OutOfMemory};
-ghost use Rattle.s161_command.specs.Commands.{AsksFiles, AsksRun, IsAccepted, IsFlag, IsNumberOf, IsRunTask, IsSize, IsTask, as_line, audit_line, command_line, debug_line, dis_line, file_rule, files_line, number_rule, program_line, replay_line, run_line, show_log_rule, threads_rule, with_size_rules};
+ghost use Rattle.s161_command.specs.Commands.{AsksFiles, AsksRun, AsksThreads, IsAccepted, IsFlag, IsNumberOf, IsRunTask, IsSize, IsTask, as_line, audit_line, burst_rule, command_line, debug_line, dis_line, file_rule, files_line, number_rule, program_line, replay_line, run_line, show_log_rule, threads_rule, with_size_rules};
 ghost use Rattle.s161_command.specs.helpers.Commands.{IsLocal};
 
 use clap::{Arg, ArgAction, ArgMatches, Command, Error, value_parser};
@@ -17,8 +17,8 @@ pub enum Task<'a> {
     Demo,
     /// Run an image under a schedule.
     Run(RunTask<'a>),
-    /// Run an image in threads, each of which makes this number of Steps.
-    RunInThreads(RunTask<'a>, u32),
+    /// Run an image in threads.
+    RunInThreads(ThreadsTask<'a>),
     /// Replay an image against a log.
     Replay(FilesTask<'a>),
     /// Debug an image under a schedule.
@@ -38,7 +38,7 @@ pub struct Size {
     pub ram: u32,
     /// Processors.
     pub processors: u32,
-    /// Entries of the log; for `audit` 0, which is its default, asks for room for all events.
+    /// Entries that the log keeps.
     pub log: u32,
 }
 
@@ -51,6 +51,17 @@ pub struct RunTask<'a> {
     pub size: Size,
     /// Whether the log is shown.
     pub show_log: bool,
+}
+
+/// The arguments of `run` in threads.
+#[derive(Clone, Copy)]
+pub struct ThreadsTask<'a> {
+    /// Those of any run.
+    pub run: RunTask<'a>,
+    /// How many Steps each thread makes.
+    pub quota: u32,
+    /// How many of them it makes at most before another thread may go on.
+    pub burst: u32,
 }
 
 /// The arguments of a command over an image and a text.
@@ -85,9 +96,14 @@ The schedule is read from standard input, an event a line:
   o        the console has sent its byte
   # ...    a comment; an empty line is ignored too
 
-With --threads each of two processors has a thread that makes Q Steps, unless
-the machine is switched off, and the host says in which order. No schedule is
-read; the log that --show-log prints can be replayed.
+With --threads each processor has a thread that makes Q Steps, unless the
+machine is switched off, and no schedule is read. A thread makes up to K Steps
+in one go (--burst); the host says which thread makes the next ones.
+
+The log keeps the last N entries (--log). Where entries before them were
+dropped, --show-log prints `m161 tail 1 DROPPED` in place of the log's first
+line, with their number. A log can be replayed, and its tail can't: the same
+run with a greater --log has the whole log.
 
 Exit status:
   0  the machine switched itself off
@@ -99,9 +115,9 @@ Example:
 
 /// The end of the help of `replay`.
 const AFTER_REPLAY_HELP: &str = "\
-The log is what run --show-log prints from its line `m161 log 1` on, without the last line. The
-answer is `agrees`, or `differs K` where entry K, from 0, is the first that another run makes
-otherwise.
+The log is what run --show-log prints from its line `m161 log 1` on, without the last line; it may
+be longer than --log. The answer is `agrees`, or `differs K` where entry K, from 0, is the first
+that another run makes otherwise.
 
 Exit status:
   0  the log agrees
@@ -116,6 +132,7 @@ The schedule is that of run, in a file. The commands are read from standard inpu
   s P  k HH  o         makes an event that isn't the schedule's
   r P  c P  t P        shows registers, coprocessor 0, the TLB
   m ADDR N  x ADDR N   shows N words of memory or of code, 1 to 1024
+  l N                  shows the log's last N entries, 1 to 1024, or all that it keeps
 An error of a command is printed as `? Name`, and the next one is done.
 
 Exit status:
@@ -134,8 +151,6 @@ The schedule is that of run, from standard input. The watches say what to look f
 ID is a decimal number, PAGE has five hexadecimal digits, PTE and DONE have eight. The answer is
 `clean`, or `stale PLACE PROCESSOR ADDRESS ROW`: the first event, from 0, whose Step used a row of
 the TLB that its page's entry doesn't allow any more, after the shootdown was over.
-
-With --log 0 the log has room for all events of the schedule.
 
 Exit status:
   0  the run is clean
@@ -207,6 +222,19 @@ fn threads_option<'a>(alloc: Global) -> Arg<'a>
         .default_value("0")
 }
 
+// The option of `run` that says how many Steps a thread makes in one go.
+fn burst_option<'a>(alloc: Global) -> Arg<'a>
+    ensures rule { rule_of result ≡ burst_rule }
+    ensures local { result.global ≡ false }
+{
+    Arg::new(alloc, "burst")
+        .long("burst")
+        .value_name("K")
+        .help("Steps that a thread makes at most in one go, 1 to 1024")
+        .value_parser(value_parser!(u32).range(1..=1024))
+        .default_value("1")
+}
+
 // A command, with the options of a machine's size added; the last one is the log's default.
 fn with_size<'a>(
     alloc: Global,
@@ -218,7 +246,7 @@ fn with_size<'a>(
     ensures local { IsLocal command.entry → IfOk result IsLocal }
 {
     let ram_help = "Bytes of RAM, 4096 to 16777216 in pages of 4096";
-    let log_help = "Room of the log, 1 to 16777216 events";
+    let log_help = "Entries that the log keeps, the last ones, 1 to 16777216";
     command
         .arg(number_option(alloc, "ram", ram_help, "1048576"))?
         .arg(number_option(alloc, "cpus", "Processors, 1 to 32", "1"))?
@@ -255,7 +283,8 @@ fn run_definition<'a>(alloc: Global) -> Result<Command<'a>, AllocError>
         .arg(file_argument(alloc, "image", "IMAGE", IMAGE_HELP))?;
     with_size(alloc, run, "65536")?
         .arg(show_log_option(alloc))?
-        .arg(threads_option(alloc))
+        .arg(threads_option(alloc))?
+        .arg(burst_option(alloc))
 }
 
 // The definition of `replay`.
@@ -291,7 +320,7 @@ fn audit_definition<'a>(alloc: Global) -> Result<Command<'a>, AllocError>
         .about("Looks for a Step that uses a stale row of the TLB, after its shootdown")
         .after_help(AFTER_AUDIT_HELP);
     let watches = file_argument(alloc, "watches", "WATCHES", "A file of watches");
-    with_files(alloc, audit, watches, "0")
+    with_files(alloc, audit, watches, "65536")
 }
 
 // The definition of `as`.
@@ -414,7 +443,7 @@ fn show_log_given<'a>(given: &ArgMatches<'a>) -> bool
     given.get_flag("show-log")
 }
 
-// The size of a machine; the log's room has this default.
+// The size of a machine; the log's number of entries has this default.
 fn size_given<'a>(given: &ArgMatches<'a>, log: u32) -> Size
     ensures { IsSize log (rows_of (found_of given.now)) result }
 {
@@ -443,12 +472,16 @@ fn task_of_run<'a>(given: &ArgMatches<'a>) -> Task<'a>
     let task = run_task_of(given);
     match number_given(given, "threads", 0) {
         0 => Task::Run(task),
-        quota => Task::RunInThreads(task, quota),
+        quota => Task::RunInThreads(ThreadsTask {
+            run: task,
+            quota,
+            burst: number_given(given, "burst", 1),
+        }),
     }
 }
 
 // The arguments of a command over an image and a text: the name of the second one, and the default
-// of the log's room.
+// of the log's number of entries.
 fn files_task_of<'a>(given: &ArgMatches<'a>, text: &str, log: u32) -> FilesTask<'a>
     ensures { AsksFiles text.now log (rows_of (found_of given.now)) result }
 {
@@ -467,7 +500,7 @@ fn task_of<'a>(matches: &ArgMatches<'a>) -> Task<'a>
         Some(("run", given)) => task_of_run(given),
         Some(("replay", given)) => Task::Replay(files_task_of(given, "entries", 65_536)),
         Some(("debug", given)) => Task::Debug(files_task_of(given, "schedule", 65_536)),
-        Some(("audit", given)) => Task::Audit(files_task_of(given, "watches", 0)),
+        Some(("audit", given)) => Task::Audit(files_task_of(given, "watches", 65_536)),
         Some(("as", _)) => Task::Assemble,
         Some(("dis", given)) => Task::Disassemble(file_given(given, "image")),
         _ => Task::Demo,

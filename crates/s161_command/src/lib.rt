@@ -3,4 +3,4 @@
 
 mod command;
 
-pub use command::{FilesTask, RunTask, Size, Task, parse};
+pub use command::{FilesTask, RunTask, Size, Task, ThreadsTask, parse};

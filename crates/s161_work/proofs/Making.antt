@@ -9,7 +9,7 @@ use Rattle.m161_machine.specs.declared.event.Event.TheVariants.{Step, Key, Done}
 use Rattle.m161_machine.specs.declared.event.Entry.{Entry}
 use Rattle.m161_machine.specs.declared.event.Refusal.{Refusal}
 use Rattle.m161_isa.specs.Choice.{first_answer}
-use Rattle.m161_machine.specs.State.{State, is_full, next, unless, answer}
+use Rattle.m161_machine.specs.State.{State, is_worn, next, unless, answer}
 use Rattle.m161_machine.specs.History.{History, events_of, Boots, Continues, Ends, IsBooted, Leads, Refuses}
 use Rattle.m161_machine.proofs.Continuing.{continues_on, refused_as}
 use Rattle.s161_work.specs.Runs.{IsRefusedAt}
@@ -23,9 +23,9 @@ refused_first true a rest x = (a, refl)
 refused_first false a rest x = (Refusal.Off, refl)
 
 abbrev with_off : Bool → State → Event → Result (Outcome × State) Refusal
-with_off off s (Step p) = unless (first_answer ((nat_le (length s.processors) p, Refusal.BadProcessor) ∷ (off, Refusal.Off) ∷ (is_full s, Refusal.LogFull) ∷ [])) (answer s (Step p))
-with_off off s (Key byte) = unless (first_answer ((off, Refusal.Off) ∷ (is_full s, Refusal.LogFull) ∷ [])) (answer s (Key byte))
-with_off off s Done = unless (first_answer ((off, Refusal.Off) ∷ (is_full s, Refusal.LogFull) ∷ [])) (answer s Done)
+with_off off s (Step p) = unless (first_answer ((nat_le (length s.processors) p, Refusal.BadProcessor) ∷ (off, Refusal.Off) ∷ (is_worn s.made, Refusal.Worn) ∷ [])) (answer s (Step p))
+with_off off s (Key byte) = unless (first_answer ((off, Refusal.Off) ∷ (is_worn s.made, Refusal.Worn) ∷ [])) (answer s (Key byte))
+with_off off s Done = unless (first_answer ((off, Refusal.Off) ∷ (is_worn s.made, Refusal.Worn) ∷ [])) (answer s Done)
 
 next_with : (s : State) (e : Event) → next s e ≡ with_off s.board.off s e
 unfolding next
@@ -34,7 +34,7 @@ next_with s (Key byte) = refl
 next_with s Done = refl
 
 refused_off : (s : State) (e : Event) → (r : Refusal) × (with_off true s e ≡ Err r)
-refused_off s (Step p) = refused_first (nat_le (length s.processors) p) Refusal.BadProcessor ((is_full s, Refusal.LogFull) ∷ []) (answer s (Step p))
+refused_off s (Step p) = refused_first (nat_le (length s.processors) p) Refusal.BadProcessor ((is_worn s.made, Refusal.Worn) ∷ []) (answer s (Step p))
 refused_off s (Key byte) = (Refusal.Off, refl)
 refused_off s Done = (Refusal.Off, refl)
 

@@ -1,6 +1,5 @@
-use Rattle.std.specs.Prelude.{◌≡◌, ◌⊎◌, ℕ, ◌==◌, false, if◌then◌else◌, List, Option, None, Some, Ok, IfSome, codes, decimal, length}
+use Rattle.std.specs.Prelude.{◌≡◌, ◌⊎◌, ℕ, false, List, Option, None, Some, Ok, IfSome, codes, decimal}
 use Rattle.m161_machine.specs.declared.conf.BootError.TheVariants.{Load}
-use Rattle.m161_machine.specs.declared.conf.Conf.{Conf as MachineConf}
 use Rattle.m161_machine.specs.declared.event.Event.{Event}
 use Rattle.m161_machine.specs.Conf.{is_within_limits}
 use Rattle.m161_machine.specs.History.{boot_fault}
@@ -14,10 +13,10 @@ use Rattle.m161_text.specs.Lines.{with_line_end, FirstBad, lines_of}
 use Rattle.m161_text.specs.Parts.{◌␣◌, word_text}
 use Rattle.m161_steplog.specs.Schedule.{AreScheduleLines, IsSchedule}
 use Rattle.s161_command.specs.declared.command.FilesTask.{FilesTask}
-use Rattle.s161_command.specs.declared.command.Size.{Size}
 use Rattle.s161_work.specs.declared.fault.Fault.{Fault}
 use Rattle.s161_work.specs.declared.fault.Fault.TheVariants.{Conf, File, Image, Input, Memory, Schedule, Watch, Watches}
 use Rattle.s161_work.specs.Known.{IsText, OfKnown, OfText}
+use Rattle.s161_work.specs.Runs.{HasSchedule}
 use Rattle.s161_work.specs.Samples.{IsFileName}
 use Rattle.s161_work.specs.Sizes.{conf_of}
 
@@ -31,13 +30,6 @@ finding_text (Stale place processor address row) =
 abbrev pub status_of_finding : Finding → ℕ
 status_of_finding Clean = 0
 status_of_finding (Stale place processor address row) = 4
-
--- the machine of an audit; its log has room for all events of the schedule if 0 is asked for
-abbrev pub audit_conf : Size → List Event → MachineConf
-audit_conf size events =
-    record (conf_of size) {
-      log = if size.log == 0 then (if length events == 0 then 1 else length events) else size.log;
-    }
 
 -- a finished audit: what it prints and its exit status; the files of the image and of the watches,
 -- and standard input have these bytes, as far as they are known
@@ -58,8 +50,7 @@ pub record IsAudited
   pub is_schedule : IsSchedule (lines_of schedule) events
   pub finding : Finding
   pub audits :
-      Audits file (audit_conf task.size events) (boot_fault file (audit_conf task.size events)) events
-      watched (Ok finding)
+      Audits file (conf_of task.size) (boot_fault file (conf_of task.size)) events watched (Ok finding)
   pub text_is : text ≡ with_line_end (finding_text finding)
   pub status_is : status ≡ status_of_finding finding
 
@@ -73,11 +64,6 @@ IsWatchesFault text _ = ⊥
 abbrev pub OfWatches : Option (List ℕ) → (List Watched → Type 0) → Type 0
 OfWatches watches IsSo =
     OfText watches (λ text. (watched : List Watched) × AreWatches (lines_of text) watched × IsSo watched)
-
--- an input has a schedule, whose events have this property
-abbrev pub OfEvents : Option (List ℕ) → (List Event → Type 0) → Type 0
-OfEvents input IsSo =
-    OfText input (λ text. (events : List Event) × IsSchedule (lines_of text) events × IsSo events)
 
 abbrev pub HasWatches : Option (List ℕ) → Type 0
 HasWatches watches = OfWatches watches (λ watched. Unit {0})
@@ -98,15 +84,12 @@ IsAuditFault task image watches input (Watches n) =
 IsAuditFault task image watches input (Schedule n) =
     HasWatches watches × OfText input (λ text. FirstBad AreScheduleLines text n)
 IsAuditFault task image watches input Conf =
-    HasWatches watches
-    × OfEvents input (λ events. is_within_limits (audit_conf task.size events) ≡ false)
+    HasWatches watches × HasSchedule input × (is_within_limits (conf_of task.size) ≡ false)
 IsAuditFault task image watches input (Image e) =
-    HasWatches watches
-    × OfEvents input (λ events. OfKnown image (λ file.
-    boot_fault file (audit_conf task.size events) ≡ Some (Load e)))
+    HasWatches watches × HasSchedule input
+    × OfKnown image (λ file. boot_fault file (conf_of task.size) ≡ Some (Load e))
 IsAuditFault task image watches input (Watch k) =
     OfWatches watches (λ watched.
     IsBad task.size.ram watched k × AreGood task.size.ram watched k)
-    × OfEvents input (λ events. OfKnown image (λ file.
-    boot_fault file (audit_conf task.size events) ≡ None))
+    × HasSchedule input × OfKnown image (λ file. boot_fault file (conf_of task.size) ≡ None)
 IsAuditFault task image watches input _ = ⊥

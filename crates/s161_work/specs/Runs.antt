@@ -11,7 +11,7 @@ use Rattle.m161_machine.specs.State.{State, next, processor_at}
 use Rattle.m161_machine.specs.History.{History, Continues, Refuses, boot_fault}
 use Rattle.m161_debug.specs.Shows.{show_regs_text}
 use Rattle.m161_text.specs.Lines.{with_line_end, FirstBad, lines_of}
-use Rattle.m161_steplog.specs.Log.{log_text}
+use Rattle.m161_steplog.specs.Log.{log_text, tail_text}
 use Rattle.m161_text.specs.Parts.{◌␣◌}
 use Rattle.m161_steplog.specs.Schedule.{AreScheduleLines, IsSchedule}
 use Rattle.s161_command.specs.declared.command.RunTask.{RunTask}
@@ -79,12 +79,16 @@ stop_line (Refused k refusal) =
     codes "stop: refused" ␣ decimal k ␣ decimal (number_of_refusal refusal)
     ␣ name_of_refusal refusal
 
+-- the text of a machine's log, or of its end if entries were dropped
+abbrev pub shown_log : History → List ℕ
+shown_log m = if m.base.made == 0 then log_text m.log else tail_text m.base.made m.log
+
 -- what `run` prints of a machine, and of its log if that was asked for
 abbrev pub summary_text : History → Stop → Bool → List ℕ
 summary_text m stop show_log =
     output_text m.state.board.console.output
     ++ started_texts m.state (length m.state.processors)
-    ++ (if show_log then log_text m.log else [])
+    ++ (if show_log then shown_log m else [])
     ++ with_line_end (stop_line stop)
 
 abbrev pub status_of : Stop → ℕ

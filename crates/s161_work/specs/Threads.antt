@@ -4,11 +4,11 @@ use Rattle.m161_machine.specs.Conf.{is_within_limits}
 use Rattle.m161_machine.specs.History.{History, boot_fault}
 use Rattle.m161_threads.specs.declared.cause.Cause.{Cause}
 use Rattle.m161_threads.specs.Runs.{Interleaves, IsOfRun, bad_call}
-use Rattle.s161_command.specs.declared.command.RunTask.{RunTask}
+use Rattle.s161_command.specs.declared.command.ThreadsTask.{ThreadsTask}
 use Rattle.s161_work.specs.declared.events.Stop.{Stop}
 use Rattle.s161_work.specs.declared.events.Stop.TheVariants.{End, Off}
 use Rattle.s161_work.specs.declared.fault.Fault.{Fault}
-use Rattle.s161_work.specs.declared.fault.Fault.TheVariants.{Conf, File, Image, Input, Log, Memory, Output, Schedule, Source, Threads}
+use Rattle.s161_work.specs.declared.fault.Fault.TheVariants.{Conf, File, Image, Memory, Threads}
 use Rattle.s161_work.specs.Runs.{status_of, summary_text}
 use Rattle.s161_work.specs.Faults.{BootsTo}
 use Rattle.s161_work.specs.Known.{OfKnown}
@@ -21,21 +21,21 @@ use Rattle.s161_work.specs.Sizes.{conf_of}
 abbrev pub stop_of : Bool → Stop
 stop_of off = if off then Off else End
 
--- a finished run in threads, with this quota of Steps for each processor: what it prints and its
--- exit status; the image's file has these bytes, as far as they are known
+-- a finished run in threads: what it prints and its exit status; the image's file has these bytes,
+-- as far as they are known
 pub record IsRunInThreads
-    (task : RunTask) (quota : ℕ) (known : Option (List ℕ))
-    (text : List ℕ) (status : ℕ) : Type 0 where
+    (task : ThreadsTask) (known : Option (List ℕ)) (text : List ℕ) (status : ℕ) : Type 0 where
   pub file : List ℕ
   pub is_file : IfSome known (λ bytes. file ≡ bytes)
   pub booted : History
-  pub boots : BootsTo file (conf_of task.size) booted
-  pub begins : bad_call task.size.processors task.size.processors ≡ None
+  pub boots : BootsTo file (conf_of task.run.size) booted
+  pub begins : bad_call task.run.size.processors task.run.size.processors task.burst ≡ None
   pub made : List ℕ
   pub off : Bool
   pub machine : History
-  pub interleaves : Interleaves booted (replicate task.size.processors quota) made off machine
-  pub text_is : text ≡ summary_text machine (stop_of off) task.show_log
+  pub interleaves :
+      Interleaves booted (replicate task.run.size.processors task.quota) made off machine
+  pub text_is : text ≡ summary_text machine (stop_of off) task.run.show_log
   pub status_is : status ≡ status_of (stop_of off)
 
 -- the cause of a run that doesn't begin for this reason; or of one that began
@@ -46,14 +46,14 @@ IsCause None cause = IsOfRun cause
 -- what a fault that ends a run in threads says: of a file, that it is the image's; of the
 -- configuration or the image, that the boot answers it; of the threads, that the image has no fault,
 -- and when the cause comes. File and Memory hold whatever else is at fault
-abbrev pub IsThreadsFault : RunTask → Option (List ℕ) → Fault → Type 0
+abbrev pub IsThreadsFault : ThreadsTask → Option (List ℕ) → Fault → Type 0
 IsThreadsFault task known (File name) =
-    (name.now ≡ task.image.now) × IsFileName task.image.now
-IsThreadsFault task known Conf = is_within_limits (conf_of task.size) ≡ false
+    (name.now ≡ task.run.image.now) × IsFileName task.run.image.now
+IsThreadsFault task known Conf = is_within_limits (conf_of task.run.size) ≡ false
 IsThreadsFault task known (Image e) =
-    OfKnown known (λ file. boot_fault file (conf_of task.size) ≡ Some (Load e))
+    OfKnown known (λ file. boot_fault file (conf_of task.run.size) ≡ Some (Load e))
 IsThreadsFault task known (Threads cause) =
-    OfKnown known (λ file. boot_fault file (conf_of task.size) ≡ None)
-    × IsCause (bad_call task.size.processors task.size.processors) cause
+    OfKnown known (λ file. boot_fault file (conf_of task.run.size) ≡ None)
+    × IsCause (bad_call task.run.size.processors task.run.size.processors task.burst) cause
 IsThreadsFault task known Memory = Unit {0}
 IsThreadsFault task known _ = ⊥

@@ -32,8 +32,8 @@ abbrev pub IsResultOf :
     Task → (Text → Option (List ℕ)) → Option (List ℕ) → List ℕ → ℕ → Type 0
 IsResultOf Demo files input = WithZero IsDemo
 IsResultOf (Run task) files input = IsRun task (image_file files task.image.now) input
-IsResultOf (RunInThreads task quota) files input =
-    IsRunInThreads task quota (image_file files task.image.now)
+IsResultOf (RunInThreads task) files input =
+    IsRunInThreads task (image_file files task.run.image.now)
 IsResultOf (Replay task) files input =
     IsReplayed task (image_file files task.image.now) (files task.text.now)
 IsResultOf (Debug task) files input =

@@ -1,9 +1,9 @@
 //! Auditing a run.
 
-ghost use Rattle.std.specs.Prelude.{◌≡◌, ◌≤◌, IfErr, IfOk, Some, decimal, length, string_bytes};
+ghost use Rattle.std.specs.Prelude.{◌≡◌, IfErr, IfOk, Some, decimal, string_bytes};
 ghost use Rattle.m161_text.specs.Lines.{with_line_end};
 ghost use Rattle.m161_text.specs.Parts.{◌␣◌, word_text};
-ghost use Rattle.s161_work.specs.Audits.{IsAudited, IsAuditFault, audit_conf, finding_text, status_of_finding};
+ghost use Rattle.s161_work.specs.Audits.{IsAudited, IsAuditFault, finding_text, status_of_finding};
 ghost use Rattle.s161_work.specs.Samples.{image_file};
 
 use crate::fault::Fault;
@@ -14,9 +14,9 @@ use crate::sample::read_image;
 use crate::texts::{events_of, watches_of};
 use m161::{Console, Tlb};
 use m161_audit::{Finding, audit_events};
-use m161_machine::{Conf, Events};
+use m161_machine::Conf;
 use m161_text::Word;
-use s161_command::{FilesTask, Size};
+use s161_command::FilesTask;
 use std::alloc::{AllocError, Global};
 use std::fmt;
 use std::io::Read;
@@ -106,30 +106,22 @@ pub fn audit<'a, F: FileSource, I: Read>(
     let schedule = read_input(alloc, input)?;
     let watches = watches_of(alloc, text.as_str())?;
     let events = events_of(alloc, schedule.as_str())?;
-    let conf = audit_conf(task.size, &events);
-    let finding = audit_events::<Tlb, Console>(alloc, &file, conf, &events, &watches)?;
+    let finding = audit_events::<Tlb, Console>(
+        alloc,
+        &file,
+        Conf {
+            ram: task.size.ram,
+            processors: task.size.processors,
+            log: task.size.log,
+        },
+        &events,
+        &watches,
+    )?;
     let line = finding_line(alloc, finding)?;
     Ok(Finished {
         text: line.into_bytes(),
         status: status(finding),
     })
-}
-
-// The machine of an audit.
-fn audit_conf(size: Size, events: &Events) -> Conf
-    requires { length events.now ≤ 16_777_216 }
-    ensures { result ≡ audit_conf size events.now }
-{
-    let log = match (size.log, events.len()) {
-        (0, 0) => 1,
-        (0, number) => number as u32,
-        (log, _) => log,
-    };
-    Conf {
-        ram: size.ram,
-        processors: size.processors,
-        log,
-    }
 }
 
 // The line of a finding.

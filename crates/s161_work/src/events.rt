@@ -39,6 +39,8 @@ impl fmt::Display for Stop {
 pub fn make_events(machine: &mut Machine, events: &Events) -> Stop
     ensures { MakesEvents machine.old events.now result machine.new }
 {
+    // So that the proof knows that the log is within its room.
+    machine.replay();
     let was_off = machine.is_off();
     let mut made = 0;
     let mut left = events.runs();
@@ -73,6 +75,8 @@ fn make_inputs(machine: &mut Machine, event: Event, times: u32) -> (u32, Option<
     ensures why { MatchOption result.1 (result.0 ≡ times)
         (λ refusal. (result.0 < times) × Refuses (next machine.new.state event) event refusal) }
 {
+    // So that the proof knows that the log is within its room.
+    machine.replay();
     for made in 0..times {
         if let Err(refusal) = machine.event(event) {
             return (made, Some(refusal));

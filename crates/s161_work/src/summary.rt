@@ -1,14 +1,13 @@
 //! The text that `run` prints.
 
 ghost use Rattle.std.specs.Prelude.{◌≡◌, ◌++◌, ◌<◌, length, IfOk, OnOk};
-ghost use Rattle.m161_steplog.specs.Log.{log_text};
-ghost use Rattle.s161_work.specs.Runs.{output_text, started_text, summary_text};
+ghost use Rattle.s161_work.specs.Runs.{output_text, shown_log, started_text, summary_text};
 
 use crate::Session;
 use crate::events::Stop;
 use m161::Machine;
 use m161_machine::ProcessorState;
-use m161_steplog::write_log;
+use m161_steplog::{write_log, write_tail};
 use std::alloc::{AllocError, Global};
 
 /// The console's output, each started processor, the log if it was asked for, and why the events
@@ -64,9 +63,12 @@ fn push_processor(text: &mut Vec<u8>, session: &Session, p: u32) -> Result<(), A
 }
 
 fn push_log(alloc: Global, text: &mut Vec<u8>, machine: &Machine) -> Result<(), AllocError>
-    ensures { OnOk result (text.new.items ≡ text.old.items ++ log_text machine.now.log) }
+    ensures { OnOk result (text.new.items ≡ text.old.items ++ shown_log machine.now) }
 {
     let entries = machine.copy_log(alloc)?;
-    let log = write_log(alloc, &entries)?;
+    let log = match machine.base().made() {
+        0 => write_log(alloc, &entries)?,
+        dropped => write_tail(alloc, dropped, &entries)?,
+    };
     text.extend_from_slice(log.as_bytes())
 }

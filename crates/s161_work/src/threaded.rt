@@ -14,8 +14,8 @@ use crate::sample::read_image;
 use crate::summary::summary;
 use m161::{Console, Machine, Tlb};
 use m161_machine::Conf;
-use m161_threads::{Gate, Report, run};
-use s161_command::RunTask;
+use m161_threads::{Gate, Report, run_bursts};
+use s161_command::ThreadsTask;
 use std::alloc::{AllocError, Global};
 use std::sync::Wait;
 use std::thread::Threads;
@@ -29,8 +29,8 @@ impl Gate for Open {
     }
 }
 
-/// Reads and boots the image, and gives each processor a thread that makes `quota` Steps, unless
-/// the machine is switched off.
+/// Reads and boots the image, and gives each processor a thread that makes its quota of Steps, in
+/// bursts, unless the machine is switched off.
 ///
 /// # Errors
 /// The first fault.
@@ -38,32 +38,32 @@ pub fn run_in_threads<'a, R: Threads + Wait + Sync, F: FileSource>(
     rt: &R,
     alloc: Global,
     files: &mut F,
-    task: RunTask<'a>,
-    quota: u32,
+    task: ThreadsTask<'a>,
 ) -> Result<Finished, Fault<'a>>
-    ensures ok { IfOk result (λ done. IsRunInThreads task.entry quota
-        (image_file (F.known files.old) task.entry.image.now)
+    ensures ok { IfOk result (λ done. IsRunInThreads task.entry
+        (image_file (F.known files.old) task.entry.run.image.now)
         done.text.items done.status) }
     ensures fault { IfErr result (IsThreadsFault task.entry
-        (image_file (F.known files.old) task.entry.image.now)) }
+        (image_file (F.known files.old) task.entry.run.image.now)) }
 {
-    let file = read_image(alloc, files, task.image)?;
+    let ThreadsTask { run, quota, burst } = task;
+    let file = read_image(alloc, files, run.image)?;
     let machine = Machine::boot(
         alloc,
         &file,
         Conf {
-            ram: task.size.ram,
-            processors: task.size.processors,
-            log: task.size.log,
+            ram: run.size.ram,
+            processors: run.size.processors,
+            log: run.size.log,
         },
     )?;
     machine.replay();
     let quotas = quotas_of(alloc, quota, machine.processors())?;
-    let report = match run(rt, alloc, machine, quotas.as_slice(), &Open) {
+    let report = match run_bursts(rt, alloc, machine, quotas.as_slice(), &Open, burst) {
         Ok(report) => report,
         Err(fault) => return Err(Fault::Threads(fault.cause)),
     };
-    let done = finish(alloc, report, task.show_log)?;
+    let done = finish(alloc, report, run.show_log)?;
     Ok(done)
 }
 

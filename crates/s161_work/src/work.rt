@@ -32,7 +32,7 @@ use crate::sample::read_image;
 use crate::threaded::run_in_threads;
 use clap::Error;
 use clap::error::ErrorKind;
-use s161_command::{FilesTask, RunTask, Task, parse};
+use s161_command::{FilesTask, RunTask, Task, ThreadsTask, parse};
 use std::alloc::Global;
 use std::convert::AsStr;
 use std::io::{Read, Write};
@@ -148,7 +148,7 @@ fn finish<'a, R: Threads + Wait + Sync, F: FileSource, I: Read>(
     match task {
         Task::Demo => Ok(Finished::done(demo(alloc)?.into_bytes())),
         Task::Run(task) => run(alloc, files, input, task),
-        Task::RunInThreads(task, quota) => run_in_threads(rt, alloc, files, task, quota),
+        Task::RunInThreads(task) => run_in_threads(rt, alloc, files, task),
         Task::Replay(task) => replay(alloc, files, task),
         Task::Debug(task) => debug(alloc, files, input, task),
         Task::Audit(task) => audit(alloc, files, input, task),

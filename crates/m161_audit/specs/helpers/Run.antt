@@ -6,7 +6,7 @@ use Rattle.m161_machine.specs.declared.event.Event.TheVariants.{Step, Key, Done}
 use Rattle.m161_machine.specs.declared.conf.Conf.{Conf}
 use Rattle.m161_machine.specs.declared.conf.BootError.{BootError}
 use Rattle.m161_machine.specs.History.{History, IsBooted, boot_state}
-use Rattle.m161_machine.specs.State.{State}
+use Rattle.m161_machine.specs.State.{CoreValue, State}
 use Rattle.m161_machine.specs.StoreHistory.{StoreState, live_state}
 use Rattle.m161_machine.proofs.Linking.{IsMade}
 use Rattle.m161_audit.specs.declared.finding.AuditError.{AuditError}
@@ -87,10 +87,10 @@ FindsIn watches s es (Err error) = error ≡ Boot NoMemory
 
 -- what an audit begins with, without a reason not to boot
 abbrev pub BeginsBooted :
-    List ℕ → Conf → List Watch → Result (State × List Shootdown) AuditError → Type 0
+    List ℕ → Conf → List Watch → Result (CoreValue × List Shootdown) AuditError → Type 0
 BeginsBooted file conf watches (Ok (core, items)) =
     ((k : ℕ) → AreGood conf.ram watches k)
-    × ((m : History) × IsBooted file conf m × (core ≡ boot_state m.start))
+    × ((m : History) × IsBooted file conf m × (core.state ≡ boot_state m.start))
     × (items ≡ tracked watches [])
 BeginsBooted file conf watches (Err (Boot e)) = e ≡ NoMemory
 BeginsBooted file conf watches (Err (BadWatch k)) =
@@ -98,7 +98,7 @@ BeginsBooted file conf watches (Err (BadWatch k)) =
 
 -- by the first reason not to boot
 abbrev pub Begins :
-    List ℕ → Conf → Option BootError → List Watch → Result (State × List Shootdown) AuditError
+    List ℕ → Conf → Option BootError → List Watch → Result (CoreValue × List Shootdown) AuditError
     → Type 0
 Begins file conf (Some first) watches result = result ≡ Err (Boot first)
 Begins file conf None watches result = BeginsBooted file conf watches result

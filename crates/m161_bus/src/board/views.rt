@@ -1,12 +1,13 @@
 //! What a board shows, and the events of its console.
 
-ghost use Rattle.std.specs.Prelude.{◌≡◌, ◌≢◌, ◌+◌, ◌<◌, ◌≤◌, Err, IsOk, OnOk, OnErr};
-ghost use Rattle.m161_bus.specs.Board.{KeepsSize, KeepsSizeAndRoom, board_done, board_key, interrupt_lines, start_words};
+ghost use Rattle.std.specs.Prelude.{◌≡◌, ◌≢◌, ◌+◌, ◌<◌, ◌≤◌, Err, length, IsOk, OnOk, OnErr};
+ghost use Rattle.m161_bus.specs.Board.{IsShown, KeepsSize, KeepsSizeAndRoom, board_done, board_key, interrupt_lines, shown_word, start_words};
 ghost use Rattle.m161_bus.specs.declared.console.DoneError.TheVariants.{NoMemory};
 ghost use Rattle.m161_bus.specs.Outcome.{LeavesUnlessRefused, LeavesUnlessNoMemory};
 
-use crate::board::{Board, StartWords, current_lines};
-use crate::console::{Console, DoneError, KeyFull};
+use crate::board::{Board, StartWords, settle};
+use crate::console::{Console, ConsoleRegister, DoneError, KeyFull};
+use crate::register::BoardWord;
 use std::alloc::AllocError;
 
 /// Where the processors' places begin in kseg1.
@@ -76,6 +77,36 @@ impl<D: Console> Board<D> {
         &self.console
     }
 
+    /// The byte that the console is sending, if it is.
+    pub fn latch(&self) -> Option<u8>
+        ensures { result ≡ self.now.state.console.latch }
+    {
+        self.console.latch()
+    }
+
+    /// How many typed bytes wait to be read.
+    pub fn waiting(&self) -> u32
+        ensures { result ≡ length self.now.state.console.waiting }
+    {
+        self.console.waiting()
+    }
+
+    /// A word that an event can change, as a processor would read it. Nothing is changed.
+    pub fn word(&self, word: BoardWord) -> u32
+        requires { IsShown self.now.state.processors word }
+        ensures { result ≡ shown_word word self.now.state }
+    {
+        match word {
+            BoardWord::WriteIrq => self.console.peek(ConsoleRegister::WriteIrq),
+            BoardWord::ReadIrq => self.console.peek(ConsoleRegister::ReadIrq),
+            BoardWord::Irqe => self.irqe,
+            BoardWord::Cpue => self.started,
+            BoardWord::Cirqe(p) => self.places[p as usize].cirqe(),
+            BoardWord::Cipi(p) => u32::from(self.places[p as usize].cipi()),
+            BoardWord::Cram(p, i) => self.places[p as usize].cram(i),
+        }
+    }
+
     /// All bytes that the console sent, the first one first.
     pub fn output(&self) -> &[u8]
         ensures { result.now ≡ self.now.state.console.output }
@@ -89,8 +120,19 @@ impl<D: Console> Board<D> {
             self.old.state result self.new.state }
         ensures size { KeepsSizeAndRoom self.old self.new }
     {
-        self.console.key(byte)?;
-        self.lines = current_lines(&self.places, self.irqe, &self.console);
+        let Board {
+            lines,
+            through,
+            places,
+            irqe,
+            console,
+            ram: _,
+            processors: _,
+            started: _,
+            off: _,
+        } = self;
+        console.key(byte)?;
+        settle(lines, through, places, *irqe, console);
         Ok(())
     }
 
@@ -104,8 +146,19 @@ impl<D: Console> Board<D> {
         ensures succeeds { 1 ≤ self.old.room → result ≢ Err NoMemory }
         ensures err { OnErr result (self.new.room ≡ self.old.room) }
     {
-        self.console.done()?;
-        self.lines = current_lines(&self.places, self.irqe, &self.console);
+        let Board {
+            lines,
+            through,
+            places,
+            irqe,
+            console,
+            ram: _,
+            processors: _,
+            started: _,
+            off: _,
+        } = self;
+        console.done()?;
+        settle(lines, through, places, *irqe, console);
         Ok(())
     }
 

@@ -1,7 +1,7 @@
 //! What the processor asks of the registers.
 
 ghost use Rattle.std.specs.Prelude.{◌≡◌, ◌-◌, ◌%◌, ◌<◌, ◌≤◌};
-ghost use Rattle.m161_cop0.specs.Control.{cause_of, identifier_of, im_of, index_row_of, is_interrupted, is_pending, is_user, may_use_cop0};
+ghost use Rattle.m161_cop0.specs.Control.{cause_of, expects_timer, identifier_of, im_of, index_row_of, is_interrupted, is_pending, is_user, may_use_cop0};
 
 use crate::control::Cop0;
 
@@ -22,6 +22,14 @@ impl Cop0 {
         ensures { result ≡ is_interrupted lines self.now }
     {
         (self.ip | lines) & self.mask != 0
+    }
+
+    /// The timer's interrupt passes IM, and Compare isn't zero; so Count will reach it.
+    #[tactic(auto, unfolding(crate::specs::Control::expects_timer))]
+    pub fn expects_timer(&self) -> bool
+        ensures { result ≡ expects_timer self.now }
+    {
+        (self.status >> 15) % 2 == 1 && self.compare != 0
     }
 
     /// KUc is set: the processor is in user mode.

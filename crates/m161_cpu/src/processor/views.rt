@@ -3,6 +3,7 @@
 ghost use Rattle.std.specs.Prelude.{◌≡◌, ◌-◌, ◌%◌, ◌<◌, Some, slice_get, slice_index};
 ghost use Rattle.m161_cop0.specs.Control.{read_of};
 ghost use Rattle.m161_cop0.specs.Registers.{number_of_register};
+ghost use Rattle.m161_cpu.specs.Resting.{is_resting, is_ticking};
 
 use crate::processor::{Cpu, ProcessorState};
 use m161_cop0::Register;
@@ -24,6 +25,32 @@ impl<T: Tlb> Cpu<T> {
         ensures { result ≡ read_of (number_of_register register) lines self.now.control }
     {
         self.control.read(register.number(), lines)
+    }
+
+    /// Whether its next Step is idle. `lines` are the board's lines of this processor.
+    #[tactic(auto, unfolding(crate::specs::Resting::is_resting))]
+    pub fn is_resting(&self, lines: u32) -> bool
+        ensures { result ≡ is_resting lines self.now }
+    {
+        match self.state {
+            ProcessorState::Stopped => true,
+            ProcessorState::Running => false,
+            ProcessorState::Waiting => !self.control.pending(lines),
+        }
+    }
+
+    /// Whether it rests until its timer's interrupt. `lines` are the board's lines of this
+    /// processor.
+    #[tactic(auto, unfolding(crate::specs::Resting::is_ticking))]
+    pub fn is_ticking(&self, lines: u32) -> bool
+        ensures { result ≡ is_ticking lines self.now }
+    {
+        match self.state {
+            ProcessorState::Stopped | ProcessorState::Running => false,
+            ProcessorState::Waiting => {
+                !self.control.pending(lines) && self.control.expects_timer()
+            }
+        }
     }
 
     /// The law of Random: it is 63 less its ticks modulo 56 (Kane: it counts down from 63 to 8).

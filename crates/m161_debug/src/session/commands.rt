@@ -62,6 +62,7 @@ impl<T: Tlb, D: Console> Session<T, D> {
             Command::GoFirst(n) => self.go_first(n, rest, text),
             Command::Show(display, p) => self.show(display, p, text),
             Command::Words(area, address, n) => self.show_words(area, address, n, text),
+            Command::Log(n) => self.show_entries(n, text),
         }
     }
 
@@ -224,6 +225,19 @@ impl<T: Tlb, D: Console> Session<T, D> {
             return Err(CommandError::BadArgument);
         }
         let shown = self.words(area, address, n)?;
+        text.push_str(shown.as_str())?;
+        Ok(0)
+    }
+
+    // Appends the last entries of the log.
+    fn show_entries(&mut self, n: u32, text: &mut String) -> Result<usize, CommandError>
+        ensures { (rest : List Event) → Obeys (Ok (commands.Log n)) self.old rest result self.new
+            (string_bytes text.old) (string_bytes text.new) }
+    {
+        if n < 1 || n > 1024 {
+            return Err(CommandError::BadArgument);
+        }
+        let shown = self.show_log(n as usize)?;
         text.push_str(shown.as_str())?;
         Ok(0)
     }

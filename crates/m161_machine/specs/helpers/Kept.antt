@@ -1,9 +1,10 @@
-use Rattle.std.specs.Prelude.{ℕ, ◌-◌, ◌/◌, ◌%◌, ◌==◌, if◌then◌else◌, Option, None, Some}
+use Rattle.std.specs.Prelude.{ℕ, ◌+◌, ◌*◌, ◌-◌, ◌/◌, ◌%◌, ◌==◌, if◌then◌else◌, Option, None, Some}
 use Rattle.m161_cop0.specs.declared.exception.Exception.{Exception}
 use Rattle.m161_cop0.specs.declared.exception.Exception.TheVariants.{Interrupt}
-use Rattle.m161_cop0.specs.Registers.{exception_with}
+use Rattle.m161_cop0.specs.Registers.{exception_with, number_of_exception}
 use Rattle.m161_cpu.specs.declared.processor.Outcome.{Outcome}
 use Rattle.m161_cpu.specs.declared.processor.Outcome.TheVariants.{Ran, Trapped, Idle, PoweredOff, Taken}
+use Rattle.m161_machine.specs.declared.event.Event.{Event}
 use Rattle.m161_machine.specs.declared.event.Event.TheVariants.{Step, Key, Done}
 use Rattle.m161_machine.specs.declared.event.Entry.{Entry}
 
@@ -30,3 +31,25 @@ entry_in_word word =
     if word % 64 == 62 then record { event = Key (word / 64); outcome = Taken }
     else if word % 64 == 63 then record { event = Done; outcome = Taken }
     else record { event = Step (word / 64); outcome = outcome_with (word % 64) }
+
+-- the same the other way round
+
+abbrev pub number_of_vector : ℕ → ℕ
+number_of_vector vector =
+    if vector == 0x80000000 then 0 else if vector == 0x80000080 then 1
+    else if vector == 0xbfc00100 then 2 else 3
+
+abbrev pub place_of : Outcome → ℕ
+place_of Ran = 0
+place_of Idle = 1
+place_of PoweredOff = 2
+place_of (Trapped code vector) = 4 + number_of_exception code * 4 + number_of_vector vector
+place_of Taken = 0
+
+abbrev pub word_with : Event → Outcome → ℕ
+word_with (Step p) o = p * 64 + place_of o
+word_with (Key byte) o = byte * 64 + 62
+word_with Done o = 63
+
+abbrev pub word_of_entry : Entry → ℕ
+word_of_entry e = word_with e.event e.outcome

@@ -1,10 +1,11 @@
 //! The views of a machine. Only `copy_log` and `copy_start` allocate.
 
-ghost use Rattle.std.specs.Prelude.{◌≡◌, ◌≢◌, ◌<◌, true, false, Some, length, slice_get, slice_index, IfOk};
-ghost use Rattle.m161_bus.specs.Board.{interrupt_lines};
+ghost use Rattle.std.specs.Prelude.{◌≡◌, ◌≢◌, ◌<◌, true, false, None, Some, length, slice_get, slice_index, slice_index_or, IfOk};
+ghost use Rattle.m161_bus.specs.Board.{IsShown, interrupt_lines, shown_word};
 ghost use Rattle.m161_cop0.specs.Control.{read_of};
 ghost use Rattle.m161_cop0.specs.Registers.{number_of_register};
 ghost use Rattle.m161_machine.specs.State.{processor_at, step_result, word_in};
+ghost use Rattle.m161_machine.specs.Resting.{IdleIsRest, rests, ticks};
 ghost use Rattle.m161_machine.specs.Uses.{uses_in};
 
 use crate::conf::Conf;
@@ -12,7 +13,7 @@ use crate::event::Entry;
 use crate::machine::Machine;
 use crate::start::Start;
 use crate::state::Core;
-use m161_bus::Console;
+use m161_bus::{BoardWord, Console};
 use m161_cop0::Register;
 use m161_cpu::{ProcessorState, Uses};
 use m161_isa::Reg;
@@ -27,7 +28,7 @@ impl<T: Tlb, D: Console> Machine<T, D> {
             (processor_at p self.now.state.processors).registers register }
         ensures zero { register ≡ 0 → result ≡ 0 }
     {
-        self.core.reg(p, register)
+        self.present.reg(p, register)
     }
 
     /// HI of a processor.
@@ -35,7 +36,7 @@ impl<T: Tlb, D: Console> Machine<T, D> {
         requires { p < length self.now.state.processors }
         ensures { result ≡ (processor_at p self.now.state.processors).hi }
     {
-        self.core.hi(p)
+        self.present.hi(p)
     }
 
     /// LO of a processor.
@@ -43,7 +44,7 @@ impl<T: Tlb, D: Console> Machine<T, D> {
         requires { p < length self.now.state.processors }
         ensures { result ≡ (processor_at p self.now.state.processors).lo }
     {
-        self.core.lo(p)
+        self.present.lo(p)
     }
 
     /// The address of a processor's current instruction.
@@ -51,7 +52,7 @@ impl<T: Tlb, D: Console> Machine<T, D> {
         requires { p < length self.now.state.processors }
         ensures { result ≡ (processor_at p self.now.state.processors).pc }
     {
-        self.core.pc(p)
+        self.present.pc(p)
     }
 
     /// Whether a processor's current instruction is in a delay slot.
@@ -59,7 +60,7 @@ impl<T: Tlb, D: Console> Machine<T, D> {
         requires { p < length self.now.state.processors }
         ensures { result ≡ (processor_at p self.now.state.processors).slot }
     {
-        self.core.in_slot(p)
+        self.present.in_slot(p)
     }
 
     /// What a processor is doing.
@@ -67,7 +68,7 @@ impl<T: Tlb, D: Console> Machine<T, D> {
         requires { p < length self.now.state.processors }
         ensures { result ≡ (processor_at p self.now.state.processors).state }
     {
-        self.core.state(p)
+        self.present.state(p)
     }
 
     /// How many Steps a processor has made, idle ones included.
@@ -75,46 +76,58 @@ impl<T: Tlb, D: Console> Machine<T, D> {
         requires { p < length self.now.state.processors }
         ensures { result ≡ (processor_at p self.now.state.processors).count }
     {
-        self.core.count(p)
+        self.present.count(p)
     }
 
     /// The word at a physical address; `None` if it is misaligned or outside RAM.
     pub fn word(&self, address: u32) -> Option<u32>
         ensures { result ≡ word_in self.now.state.memory address }
     {
-        self.core.word(address)
+        self.present.word(address)
     }
 
     /// The state without the log: the same views, and what an event would do to it, by a copy.
     pub fn core(&self) -> &Core<T, D>
-        ensures { result.now ≡ self.now.state }
+        ensures { result.now.state ≡ self.now.state }
     {
-        &self.core
+        &self.present
     }
 
-    /// How many events were accepted.
+    /// The state at the base of the log: the log's events, made on it, lead to the machine's state.
+    /// It is the state at boot while no entry was dropped.
+    pub fn base(&self) -> &Core<T, D>
+        ensures { result.now.state ≡ self.now.base }
+    {
+        &self.base
+    }
+
+    /// How many events were accepted since boot.
+    pub fn made(&self) -> u64
+        ensures { result ≡ self.now.state.made }
+    {
+        self.present.made()
+    }
+
+    /// How many entries the log has.
     pub fn log_len(&self) -> usize
         ensures { result ≡ length self.now.log }
     {
-        self.log.len()
+        self.window.len()
     }
 
-    /// An accepted event with its outcome; the oldest is the first.
+    /// An entry of the log, an accepted event with its outcome; the oldest is the first.
     pub fn log_at(&self, i: usize) -> Entry
         requires { i < length self.now.log }
         ensures { slice_get self.now.log i ≡ Some result }
     {
-        self.log[i].entry()
+        self.window.at(i)
     }
 
-    /// The accepted events with their outcomes, oldest first.
+    /// The log's entries, oldest first.
     pub fn copy_log(&self, alloc: Global) -> Result<Vec<Entry>, AllocError>
         ensures { IfOk result (λ entries. entries.items ≡ self.now.log) }
     {
-        let mut entries = Vec::with_capacity(alloc, self.log.len())?;
-        for kept in self.log.iter() {
-            entries.push_reserved(kept.entry());
-        }
+        let entries = self.window.to_entries(alloc)?;
         Ok(entries)
     }
 
@@ -154,7 +167,7 @@ impl<T: Tlb, D: Console> Machine<T, D> {
             (interrupt_lines p self.now.state.board)
             (processor_at p self.now.state.processors).control }
     {
-        self.core.cop(p, register)
+        self.present.cop(p, register)
     }
 
     /// A row of a processor's TLB.
@@ -163,7 +176,7 @@ impl<T: Tlb, D: Console> Machine<T, D> {
         requires row { i < 64 }
         ensures { slice_get (processor_at p self.now.state.processors).rows i ≡ Some result }
     {
-        self.core.row(p, i)
+        self.present.row(p, i)
     }
 
     /// What a Step of a processor uses, if it is the next event: the rows of the TLB through which
@@ -174,21 +187,69 @@ impl<T: Tlb, D: Console> Machine<T, D> {
         // It is the store that the history of the stores appends.
         ensures stored { result.stored ≡ (step_result p self.now.state).stored }
     {
-        self.core.uses(p)
+        self.present.uses(p)
+    }
+
+    /// Whether a Step of a processor, if it is the next event, is idle.
+    pub fn rests(&self, p: u32) -> bool
+        requires { p < length self.now.state.processors }
+        ensures value { result ≡ rests p self.now.state }
+        ensures idle { IdleIsRest p self.now.state }
+    {
+        self.present.rests(p)
+    }
+
+    /// Whether a processor rests until its timer's interrupt: its idle Steps bring that nearer.
+    pub fn ticks(&self, p: u32) -> bool
+        requires { p < length self.now.state.processors }
+        ensures { result ≡ ticks p self.now.state }
+    {
+        self.present.ticks(p)
+    }
+
+    /// The byte that the console is sending, if it is.
+    pub fn latch(&self) -> Option<u8>
+        ensures { result ≡ self.now.state.board.console.latch }
+    {
+        self.present.latch()
+    }
+
+    /// How many typed bytes wait to be read.
+    pub fn waiting(&self) -> u32
+        ensures { result ≡ length self.now.state.board.console.waiting }
+    {
+        self.present.waiting()
+    }
+
+    /// A word of the slots that an event can change, as a processor would read it. Nothing is
+    /// changed.
+    pub fn board_word(&self, word: BoardWord) -> u32
+        requires { IsShown self.now.state.board.processors word }
+        ensures { result ≡ shown_word word self.now.state.board }
+    {
+        self.present.board_word(word)
+    }
+
+    /// The physical word that a processor's link of `ll` names, if the link is live.
+    pub fn link(&self, p: u32) -> Option<u32>
+        requires { p < length self.now.state.processors }
+        ensures { result ≡ slice_index_or self.now.state.links p None }
+    {
+        self.present.link(p)
     }
 
     /// The bytes that the console has sent, the first one first.
     pub fn output(&self) -> &[u8]
         ensures { result.now ≡ self.now.state.board.console.output }
     {
-        self.core.output()
+        self.present.output()
     }
 
     /// RAM, from physical address 0 on.
     pub fn memory(&self) -> &[u8]
         ensures { result.now ≡ self.now.state.memory }
     {
-        self.core.memory()
+        self.present.memory()
     }
 
     /// How many processors it has.
@@ -202,6 +263,6 @@ impl<T: Tlb, D: Console> Machine<T, D> {
     pub fn is_off(&self) -> bool
         ensures { result ≡ self.now.state.board.off }
     {
-        self.core.is_off()
+        self.present.is_off()
     }
 }

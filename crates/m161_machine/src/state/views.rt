@@ -1,15 +1,16 @@
 //! What a state shows.
 
-ghost use Rattle.std.specs.Prelude.{◌≡◌, ◌<◌, Some, slice_get, slice_index, length};
-ghost use Rattle.m161_bus.specs.Board.{interrupt_lines};
+ghost use Rattle.std.specs.Prelude.{◌≡◌, ◌<◌, None, Some, slice_get, slice_index, slice_index_or, length};
+ghost use Rattle.m161_bus.specs.Board.{IsShown, interrupt_lines, shown_word};
 ghost use Rattle.m161_cop0.specs.Control.{read_of};
 ghost use Rattle.m161_cop0.specs.Registers.{number_of_register};
 ghost use Rattle.m161_machine.specs.State.{processor_at, step_result, word_in};
+ghost use Rattle.m161_machine.specs.Resting.{IdleIsRest, rests, ticks};
 ghost use Rattle.m161_machine.specs.Uses.{uses_in};
 
 use crate::conf::Conf;
 use crate::state::Core;
-use m161_bus::Console;
+use m161_bus::{BoardWord, Console};
 use m161_cop0::Register;
 use m161_cpu::{ProcessorState, Uses};
 use m161_isa::Reg;
@@ -18,9 +19,9 @@ use m161_tlb::{Row, Tlb};
 impl<T: Tlb, D: Console> Core<T, D> {
     /// A general register of a processor.
     pub fn reg(&self, p: u32, register: Reg) -> u32
-        requires { p < length self.now.processors }
+        requires { p < length self.now.state.processors }
         ensures value { result ≡ slice_index
-            (processor_at p self.now.processors).registers register }
+            (processor_at p self.now.state.processors).registers register }
         ensures zero { register ≡ 0 → result ≡ 0 }
     {
         self.processors[p as usize].reg(register)
@@ -28,55 +29,55 @@ impl<T: Tlb, D: Console> Core<T, D> {
 
     /// HI of a processor.
     pub fn hi(&self, p: u32) -> u32
-        requires { p < length self.now.processors }
-        ensures { result ≡ (processor_at p self.now.processors).hi }
+        requires { p < length self.now.state.processors }
+        ensures { result ≡ (processor_at p self.now.state.processors).hi }
     {
         self.processors[p as usize].hi()
     }
 
     /// LO of a processor.
     pub fn lo(&self, p: u32) -> u32
-        requires { p < length self.now.processors }
-        ensures { result ≡ (processor_at p self.now.processors).lo }
+        requires { p < length self.now.state.processors }
+        ensures { result ≡ (processor_at p self.now.state.processors).lo }
     {
         self.processors[p as usize].lo()
     }
 
     /// The address of a processor's current instruction.
     pub fn pc(&self, p: u32) -> u32
-        requires { p < length self.now.processors }
-        ensures { result ≡ (processor_at p self.now.processors).pc }
+        requires { p < length self.now.state.processors }
+        ensures { result ≡ (processor_at p self.now.state.processors).pc }
     {
         self.processors[p as usize].pc()
     }
 
     /// Whether a processor's current instruction is in a delay slot.
     pub fn in_slot(&self, p: u32) -> bool
-        requires { p < length self.now.processors }
-        ensures { result ≡ (processor_at p self.now.processors).slot }
+        requires { p < length self.now.state.processors }
+        ensures { result ≡ (processor_at p self.now.state.processors).slot }
     {
         self.processors[p as usize].in_slot()
     }
 
     /// What a processor is doing.
     pub fn state(&self, p: u32) -> ProcessorState
-        requires { p < length self.now.processors }
-        ensures { result ≡ (processor_at p self.now.processors).state }
+        requires { p < length self.now.state.processors }
+        ensures { result ≡ (processor_at p self.now.state.processors).state }
     {
         self.processors[p as usize].state()
     }
 
     /// How many Steps a processor has made, idle ones included.
     pub fn count(&self, p: u32) -> u64
-        requires { p < length self.now.processors }
-        ensures { result ≡ (processor_at p self.now.processors).count }
+        requires { p < length self.now.state.processors }
+        ensures { result ≡ (processor_at p self.now.state.processors).count }
     {
         self.processors[p as usize].count()
     }
 
     /// The word at a physical address; `None` if it is misaligned or outside RAM.
     pub fn word(&self, address: u32) -> Option<u32>
-        ensures { result ≡ word_in self.now.memory address }
+        ensures { result ≡ word_in self.now.state.memory address }
     {
         if address % 4 == 0 && u64::from(address) + 4 <= u64::from(self.ram.size()) {
             Some(self.ram.word(address))
@@ -87,19 +88,19 @@ impl<T: Tlb, D: Console> Core<T, D> {
 
     /// A register of coprocessor 0 of a processor. Cause shows the board's lines as they are now.
     pub fn cop(&self, p: u32, register: Register) -> u32
-        requires { p < length self.now.processors }
+        requires { p < length self.now.state.processors }
         ensures { result ≡ read_of (number_of_register register)
-            (interrupt_lines p self.now.board)
-            (processor_at p self.now.processors).control }
+            (interrupt_lines p self.now.state.board)
+            (processor_at p self.now.state.processors).control }
     {
         self.processors[p as usize].cop(register, self.board.lines(p))
     }
 
     /// A row of a processor's TLB.
     pub fn row(&self, p: u32, i: u8) -> Row
-        requires processor { p < length self.now.processors }
+        requires processor { p < length self.now.state.processors }
         requires row { i < 64 }
-        ensures { slice_get (processor_at p self.now.processors).rows i ≡ Some result }
+        ensures { slice_get (processor_at p self.now.state.processors).rows i ≡ Some result }
     {
         self.processors[p as usize].row(i)
     }
@@ -108,10 +109,10 @@ impl<T: Tlb, D: Console> Core<T, D> {
     /// it gets physical addresses, and the physical word of RAM that it stores to.
     #[inline(always)]
     pub fn uses(&self, p: u32) -> Uses
-        requires { p < length self.now.processors }
-        ensures value { result ≡ uses_in p self.now }
+        requires { p < length self.now.state.processors }
+        ensures value { result ≡ uses_in p self.now.state }
         // It is the store that the history of the stores appends.
-        ensures stored { result.stored ≡ (step_result p self.now).stored }
+        ensures stored { result.stored ≡ (step_result p self.now.state).stored }
     {
         self.uses_next(p)
     }
@@ -119,50 +120,107 @@ impl<T: Tlb, D: Console> Core<T, D> {
     #[inline(always)]
     #[tactic(auto, unfolding(crate::specs::Uses::uses_in))]
     fn uses_next(&self, p: u32) -> Uses
-        requires { p < length self.now.processors }
-        ensures { result ≡ uses_in p self.now }
+        requires { p < length self.now.state.processors }
+        ensures { result ≡ uses_in p self.now.state }
     {
         self.processors[p as usize].uses(p, &self.ram, &self.board, &self.links)
     }
 
+    /// Whether a Step of a processor, if it is the next event, is idle.
+    #[tactic(auto, unfolding(crate::specs::Resting::rests))]
+    pub fn rests(&self, p: u32) -> bool
+        requires { p < length self.now.state.processors }
+        ensures value { result ≡ rests p self.now.state }
+        ensures idle { IdleIsRest p self.now.state }
+    {
+        self.processors[p as usize].is_resting(self.board.lines(p))
+    }
+
+    /// Whether a processor rests until its timer's interrupt: its idle Steps bring that nearer.
+    #[tactic(auto, unfolding(crate::specs::Resting::ticks))]
+    pub fn ticks(&self, p: u32) -> bool
+        requires { p < length self.now.state.processors }
+        ensures { result ≡ ticks p self.now.state }
+    {
+        self.processors[p as usize].is_ticking(self.board.lines(p))
+    }
+
+    /// The byte that the console is sending, if it is.
+    pub fn latch(&self) -> Option<u8>
+        ensures { result ≡ self.now.state.board.console.latch }
+    {
+        self.board.latch()
+    }
+
+    /// How many typed bytes wait to be read.
+    pub fn waiting(&self) -> u32
+        ensures { result ≡ length self.now.state.board.console.waiting }
+    {
+        self.board.waiting()
+    }
+
+    /// A word of the slots that an event can change, as a processor would read it. Nothing is
+    /// changed.
+    pub fn board_word(&self, word: BoardWord) -> u32
+        requires { IsShown self.now.state.board.processors word }
+        ensures { result ≡ shown_word word self.now.state.board }
+    {
+        self.board.word(word)
+    }
+
+    /// The physical word that a processor's link of `ll` names, if the link is live.
+    pub fn link(&self, p: u32) -> Option<u32>
+        requires { p < length self.now.state.processors }
+        ensures { result ≡ slice_index_or self.now.state.links p None }
+    {
+        self.links.linked_word(p)
+    }
+
     /// The bytes that the console has sent, the first one first.
     pub fn output(&self) -> &[u8]
-        ensures { result.now ≡ self.now.board.console.output }
+        ensures { result.now ≡ self.now.state.board.console.output }
     {
         self.board.output()
     }
 
     /// RAM, from physical address 0 on.
     pub fn memory(&self) -> &[u8]
-        ensures { result.now ≡ self.now.memory }
+        ensures { result.now ≡ self.now.state.memory }
     {
         self.ram.as_bytes()
     }
 
     /// How many events were accepted since boot.
     pub fn made(&self) -> u64
-        ensures { result ≡ self.now.made }
+        ensures { result ≡ self.now.state.made }
     {
         self.made
     }
 
+    /// How many bytes the console can send before memory is needed again.
+    pub fn room(&self) -> usize
+        ensures { result ≡ self.now.room }
+    {
+        self.board.room()
+    }
+
     /// The configuration of its machine.
     pub fn conf(&self) -> Conf
-        ensures { result ≡ self.now.conf }
+        ensures { result ≡ self.now.state.conf }
     {
         self.conf
     }
 
     /// How many processors it has.
     pub fn processors(&self) -> u32
-        ensures { result ≡ length self.now.processors }
+        ensures { result ≡ length self.now.state.processors }
     {
         self.board.processors()
     }
 
     /// Whether it was switched off.
     pub fn is_off(&self) -> bool
-        ensures { result ≡ self.now.board.off }
+        ensures { result ≡ self.now.state.board.off }
     {
         self.board.is_off()
     }

@@ -124,7 +124,7 @@ fn log_of_a_run(rt: HostRuntime) -> Result<(), Fail> {
     same(&rt, (machine.conf(), machine.log_len()), (conf, 0));
     // seven words of the program, and the zeros after them: `nop`
     same(&rt, machine.steps(0, 7), (7, None));
-    same(&rt, machine.steps(0, 9), (1, Some(Refusal::LogFull)));
+    same(&rt, machine.steps(0, 9), (9, None));
     same(&rt, machine.steps(9, 1), (0, Some(Refusal::BadProcessor)));
     same(&rt, machine.steps(0, 0), (0, None));
     let ran = Entry {
@@ -132,6 +132,7 @@ fn log_of_a_run(rt: HostRuntime) -> Result<(), Fail> {
         outcome: Outcome::Ran,
     };
     let log = machine.copy_log(rt.alloc())?;
+    same(&rt, (machine.made(), machine.base().made()), (16, 8));
     same(&rt, log.as_slice(), [ran; 8].as_slice());
     same(&rt, log_at(&machine, 7), Some(ran));
     Ok(())
@@ -156,7 +157,7 @@ fn refusals(rt: HostRuntime) {
     for (refusal, number, name) in [
         (Refusal::BadProcessor, 1, "BadProcessor"),
         (Refusal::Off, 2, "Off"),
-        (Refusal::LogFull, 3, "LogFull"),
+        (Refusal::Worn, 8, "Worn"),
         (Refusal::KeyFull, 4, "KeyFull"),
         (Refusal::NothingSent, 5, "NothingSent"),
         (Refusal::NoMemory, 6, "NoMemory"),
@@ -196,7 +197,7 @@ fn configuration(rt: HostRuntime) -> Result<(), Fail> {
     for (p, answer, entries) in [
         (9, Err(Refusal::BadProcessor), 0),
         (0, Ok(Outcome::Ran), 1),
-        (0, Err(Refusal::LogFull), 1),
+        (0, Ok(Outcome::Ran), 1),
         (9, Err(Refusal::BadProcessor), 1),
     ] {
         let found = machine.step(p);

@@ -1,5 +1,5 @@
-//! One machine behind a lock, and two processors of it in threads. Which Step comes first is the
-//! host's choice, so a row says only what holds of all interleavings.
+//! One machine behind a lock, and its processors in threads. Which Step comes first is the host's
+//! choice, so a row says only what holds of all interleavings.
 
 ghost use Rattle.std.specs.Prelude.{◌≡◌, length};
 
@@ -30,10 +30,10 @@ pub(crate) type Locked<L, M> = m161_threads::Locked<L, M, Tlb, Console>;
 pub(crate) const LOOP: [u32; 2] = [0x1000_ffff, 0x0000_0000];
 
 /// `lui $8, 0xbfff`; `sw $0, 32264($8)`.
-const POWER_OFF: [u32; 2] = [0x3c08_bfff, 0xad00_7e08];
+pub(crate) const POWER_OFF: [u32; 2] = [0x3c08_bfff, 0xad00_7e08];
 
 /// `lui $8, 0xbfe0`; `ori $9, $0, 0x0041`; `sw $9, 0($8)`, to the console's CHAR.
-const SEND: [u32; 3] = [0x3c08_bfe0, 0x3409_0041, 0xad09_0000];
+pub(crate) const SEND: [u32; 3] = [0x3c08_bfe0, 0x3409_0041, 0xad09_0000];
 
 /// The file of these words, and its machine.
 pub(crate) fn boot(
@@ -161,7 +161,7 @@ struct Limited {
 /// No Step that is made.
 const NONE: (u32, u32) = (9, 0);
 
-static LIMITED: [Limited; 5] = [
+static LIMITED: [Limited; 4] = [
     Limited {
         name: "one quota for two processors",
         processors: 2,
@@ -178,9 +178,9 @@ static LIMITED: [Limited; 5] = [
         log: 16,
         quotas: &[5],
         closed: NONE,
-        cause: Some(Cause::NotYet),
-        asked: false,
-        left: &[(0, Count(0)), (0, Entries(0))],
+        cause: None,
+        asked: true,
+        left: &[(0, Count(5)), (0, Entries(5))],
     },
     Limited {
         name: "quotas of no Steps",
@@ -201,16 +201,6 @@ static LIMITED: [Limited; 5] = [
         cause: Some(Cause::Held { p: 1, k: 3 }),
         asked: true,
         left: &[(0, Count(5)), (1, Count(3)), (0, Entries(8))],
-    },
-    Limited {
-        name: "a full log",
-        processors: 2,
-        log: 8,
-        quotas: &[5, 5],
-        closed: NONE,
-        cause: Some(Cause::LogFull),
-        asked: true,
-        left: &[(0, Entries(8))],
     },
 ];
 
@@ -233,11 +223,11 @@ fn quotas(rt: HostRuntime) -> Result<(), Fail> {
 fn causes(rt: HostRuntime) {
     for (cause, name) in [
         (Cause::BadQuotas, "BadQuotas"),
-        (Cause::NotYet, "NotYet"),
+        (Cause::BadBurst, "BadBurst"),
         (Cause::NoMemory, "NoMemory"),
         (Cause::NoThread, "NoThread"),
         (Cause::Held { p: 1, k: 3 }, "Held"),
-        (Cause::LogFull, "LogFull"),
+        (Cause::Worn, "Worn"),
         (Cause::Miscount, "Miscount"),
         (Cause::Swapped, "Swapped"),
     ] {

@@ -1,8 +1,9 @@
-use Rattle.std.specs.Prelude.{◌≡◌, ℕ, ◌+◌, ◌<◌, ◌≤◌, true, false, List, length, slice_index, slice_index_or, Option, None}
+use Rattle.std.specs.Prelude.{◌≡◌, ℕ, ◌+◌, ◌<◌, ◌≤◌, Bool, true, false, List, length, slice_index, slice_index_or, Option, None, Some, if◌then◌else◌}
+use Rattle.m161_machine.specs.declared.event.Refusal.{Refusal}
+use Rattle.m161_machine.specs.declared.event.Refusal.TheVariants.{BadProcessor, Off, Worn, KeyFull, NothingSent, NoMemory}
+use Rattle.m161_threads.specs.declared.book.Burst.{Burst}
 use Rattle.m161_threads.specs.declared.worker.Stop.{Stop}
 use Rattle.m161_threads.specs.declared.worker.Task.{Task}
-use Rattle.m161_threads.specs.declared.worker.Turn.{Turn}
-use Rattle.m161_threads.specs.declared.worker.Turn.TheVariants.{Made, Off, Full}
 use Rattle.m161_threads.specs.Shares.{SeatState}
 
 -- The work of a worker with its seat.
@@ -24,11 +25,22 @@ task_of seat quota = record { processor = seat.processor; before = seat.count; q
 abbrev pub KeepsTask : Task → SeatState → ℕ → Option Stop → Type 0
 KeepsTask t new made stop = Works t.processor t.before t.quota new made stop
 
--- a seat after the lock was taken for one Step
-abbrev pub after_turn : Turn → SeatState → SeatState
-after_turn Made seat = record seat { count = seat.count + 1 }
-after_turn Off seat = record seat { noted = true }
-after_turn Full seat = seat
+-- whether a burst ended because the machine is off
+abbrev pub found_off : Option Refusal → Bool
+found_off None = false
+found_off (Some BadProcessor) = false
+found_off (Some Off) = true
+found_off (Some Worn) = false
+found_off (Some KeyFull) = false
+found_off (Some NothingSent) = false
+found_off (Some NoMemory) = false
+
+-- a seat after the lock was taken for a burst
+abbrev pub after_turn : Burst → SeatState → SeatState
+after_turn burst seat = record seat {
+  count = seat.count + burst.made;
+  noted = if found_off burst.refusal then true else seat.noted;
+}
 
 -- workers with these seats and quotas, none with a reason to stop: the seats that they return, and
 -- how many Steps each made

@@ -17,13 +17,14 @@ use std::test::Fail;
 
 type Session = m161_debug::Session<Tlb, Console>;
 
-/// A display of processor 0, or of an address and a number of words.
+/// A display of processor 0, of an address and a number of words, or of a number of entries.
 enum Display {
     Regs,
     Cop0,
     Tlb,
     Mem(u32, u32),
     Code(u32, u32),
+    Log(usize),
 }
 
 /// What is done to a session, and what it answers.
@@ -83,7 +84,7 @@ const FOUR: &[Event] = &[Step(0); 4];
 
 const ONE: &[Event] = &[Step(0); 1];
 
-static SCENES: [Scene; 15] = [
+static SCENES: [Scene; 16] = [
     Scene {
         name: "breakpoints",
         processors: 2,
@@ -302,10 +303,29 @@ static SCENES: [Scene; 15] = [
         words: &[0x0000_000c],
         acts: &[Line("s 0", SEVEN, 0, "s 0 trap 8 80000080\n")],
     },
+    Scene {
+        name: "the log's last entries",
+        processors: 2,
+        entry: ENTRY,
+        words: LOOP,
+        acts: &[
+            Line("l 1", SEVEN, 0, ""),
+            Make(Step(0), RAN),
+            Make(Step(2), Err(Refusal::BadProcessor)),
+            Make(Key(0x41), TAKEN),
+            Line("s 1", &[], 0, "s 1 idle\n"),
+            Line("l 1", SEVEN, 0, "s 1 idle\n"),
+            Line("l 2", SEVEN, 0, "k 41 taken\ns 1 idle\n"),
+            Line("l 3", SEVEN, 0, "s 0 ran\nk 41 taken\ns 1 idle\n"),
+            Line("l 1024", SEVEN, 0, "s 0 ran\nk 41 taken\ns 1 idle\n"),
+            Displays(Display::Log(2), "k 41 taken\n", "k 41 taken\ns 1 idle\n"),
+            Displays(Display::Log(2000), "s 0 ran\n", "k 41 taken\ns 1 idle\n"),
+        ],
+    },
 ];
 
 /// Lines, and why each isn't done on a machine of 4,096 bytes with two processors.
-static FAULTS: [(&str, CommandError); 38] = [
+static FAULTS: [(&str, CommandError); 46] = [
     ("", CommandError::Unknown),
     (" r 0", CommandError::Unknown),
     ("q", CommandError::Unknown),
@@ -344,19 +364,33 @@ static FAULTS: [(&str, CommandError); 38] = [
     ("x 80000ffc 2", CommandError::BadArgument),
     ("x c0000200 1", CommandError::BadArgument),
     ("x bffffffc 2", CommandError::BadArgument),
+    ("l", CommandError::BadArgument),
+    ("l ", CommandError::BadArgument),
+    ("l 0", CommandError::BadArgument),
+    ("l 1025", CommandError::BadArgument),
+    ("l 01", CommandError::BadArgument),
+    ("l 1 ", CommandError::BadArgument),
+    ("l 4294967297", CommandError::BadArgument),
+    (" l 1", CommandError::Unknown),
 ];
 
 fn session(alloc: Global, processors: u32, entry: u32, words: &[u32]) -> Result<Session, Fail> {
     let file = file_from(alloc, entry, entry, words)?;
-    session_of(alloc, file, 4_096, processors)
+    session_of(alloc, file, 4_096, processors, 100)
 }
 
 /// A session on the machine of a file.
-fn session_of(alloc: Global, file: Vec<u8>, ram: u32, processors: u32) -> Result<Session, Fail> {
+fn session_of(
+    alloc: Global,
+    file: Vec<u8>,
+    ram: u32,
+    processors: u32,
+    log: u32,
+) -> Result<Session, Fail> {
     let conf = Conf {
         ram,
         processors,
-        log: 100,
+        log,
     };
     Ok(Session::new(Machine::boot(alloc, &file, conf)?))
 }
@@ -447,6 +481,7 @@ fn display_of(
         Display::Tlb => session.show_tlb(0)?,
         Display::Mem(at, n) => words_of(rt, session, *at, *n)?,
         Display::Code(at, n) => code_of(rt, session, *at, *n)?,
+        Display::Log(n) => session.show_log(*n)?,
     })
 }
 
@@ -484,13 +519,29 @@ fn code_and_watch(rt: HostRuntime) -> Result<(), Fail> {
         same(&rt, "no sample", "");
         return Ok(());
     };
-    let session = session_of(rt.alloc(), file, 1_048_576, 2)?;
+    let session = session_of(rt.alloc(), file, 1_048_576, 2, 100)?;
     let text = code_of(&rt, &session, 0x8000_0248, 1)?;
     same(
         &rt,
         text.as_str(),
         "80000248 11e0fffe beq $15, $0, 0x80000244\n",
     );
+    Ok(())
+}
+
+/// A log that keeps three entries shows no others.
+#[test]
+fn kept_entries(rt: HostRuntime) -> Result<(), Fail> {
+    let file = file_from(rt.alloc(), ENTRY, ENTRY, LOOP)?;
+    let mut session = session_of(rt.alloc(), file, 4_096, 1, 3)?;
+    for done in &[
+        Go(&[Key(1), Step(0), Key(2), Step(0), Key(3)], Stop::End(5)),
+        Line("l 2", SEVEN, 0, "s 0 ran\nk 03 taken\n"),
+        Line("l 3", SEVEN, 0, "k 02 taken\ns 0 ran\nk 03 taken\n"),
+        Line("l 4", SEVEN, 0, "k 02 taken\ns 0 ran\nk 03 taken\n"),
+    ] {
+        check_act(&rt, "three entries", &mut session, done)?;
+    }
     Ok(())
 }
 

@@ -117,7 +117,7 @@ static VERDICTS: [Case; 8] = [
         output: &["agrees\n"],
         errors: "",
     },
-    // one processor, and no room for a second entry
+    // one processor; a log that is longer than the machine's
     Case {
         words: &["s161", "replay", "image", "text"],
         program: &START_OTHER,
@@ -132,13 +132,13 @@ static VERDICTS: [Case; 8] = [
         program: &POWER_OFF,
         text: LOG,
         input: "",
-        status: 4,
-        output: &["differs 1\n"],
+        status: 0,
+        output: &["agrees\n"],
         errors: "",
     },
 ];
 
-static REPLAY_FAULTS: [Case; 7] = [
+static REPLAY_FAULTS: [Case; 8] = [
     Case {
         words: &["s161", "replay", "other", "none"],
         program: &POWER_OFF,
@@ -171,6 +171,16 @@ static REPLAY_FAULTS: [Case; 7] = [
         words: &["s161", "replay", "image", "text"],
         program: &POWER_OFF,
         text: "",
+        input: "",
+        status: 1,
+        output: &[],
+        errors: "s161: log line 1\n",
+    },
+    // the end of a log
+    Case {
+        words: &["s161", "replay", "image", "text"],
+        program: &POWER_OFF,
+        text: "m161 tail 1 1\ns 0 off\n",
         input: "",
         status: 1,
         output: &[],
@@ -258,13 +268,14 @@ static COMMANDS: [Case; 6] = [
         ],
         errors: "",
     },
+    // dropped-entry
     Case {
         words: &["s161", "debug", "image", "text", "--log", "1"],
         program: &POWER_OFF,
         text: "s 0 3\n",
-        input: "g\r\ng\ng\n",
+        input: "l 5\ng\r\ng\nl 5\nl 0\ng\n",
         status: 0,
-        output: &["? Unknown\nrefused 1 3 LogFull\nrefused 0 3 LogFull\n"],
+        output: &["? Unknown\noff 1\ns 0 off\n? BadArgument\nrefused 0 2 Off\n"],
         errors: "",
     },
     Case {

@@ -169,7 +169,7 @@ fn check(
     Ok(())
 }
 
-static STOPS: [Case; 7] = [
+static STOPS: [Case; 6] = [
     // power-off
     Case {
         words: &["s161", "run", "image"],
@@ -225,12 +225,47 @@ static STOPS: [Case; 7] = [
         output: &[&[AT_ENTRY, "stop: refused 0 1 BadProcessor\n"]],
         errors: "",
     },
+];
+
+// A log that keeps as many entries as there are events, or fewer.
+static WINDOWS: [Case; 4] = [
     Case {
         words: &["s161", "run", "--log", "1", "image"],
         program: &POWER_OFF,
         schedule: "s 0 2\n",
-        status: 1,
-        output: &[&HALF_WAY, &["stop: refused 1 3 LogFull\n"]],
+        status: 0,
+        output: &[&POWERED_OFF, &["stop: off\n"]],
+        errors: "",
+    },
+    // dropped-entry
+    Case {
+        words: &["s161", "run", "--log", "1", "--show-log", "image"],
+        program: &POWER_OFF,
+        schedule: "s 0 2\n",
+        status: 0,
+        output: &[&POWERED_OFF, &["m161 tail 1 1\ns 0 off\n", "stop: off\n"]],
+        errors: "",
+    },
+    Case {
+        words: &["s161", "run", "--log", "2", "--show-log", "image"],
+        program: &POWER_OFF,
+        schedule: "s 0 2\n",
+        status: 0,
+        output: &[
+            &POWERED_OFF,
+            &["m161 log 1\ns 0 ran\ns 0 off\n", "stop: off\n"],
+        ],
+        errors: "",
+    },
+    Case {
+        words: &["s161", "run", "image", "--show-log", "--log=3"],
+        program: &STAND_STILL,
+        schedule: "s 0 12\nk 41\n",
+        status: 3,
+        output: &[
+            &[AT_ENTRY, "m161 tail 1 10\n"],
+            &["s 0 ran\ns 0 ran\nk 41 taken\n", "stop: end\n"],
+        ],
         errors: "",
     },
 ];
@@ -387,6 +422,11 @@ fn stops(rt: HostRuntime) -> Result<(), Fail> {
 }
 
 #[test]
+fn windows(rt: HostRuntime) -> Result<(), Fail> {
+    check(&rt, &WINDOWS)
+}
+
+#[test]
 fn empty_schedule(rt: HostRuntime) -> Result<(), Fail> {
     check(&rt, &EMPTY_SCHEDULES)
 }
@@ -418,7 +458,7 @@ fn over<I: Read>(
     Ok(work_over(rt, &WORDS, &mut files, input, texts))
 }
 
-static THREADED: [Case; 6] = [
+static THREADED: [Case; 11] = [
     // threads-command
     Case {
         words: &["s161", "run", "image", "--cpus", "2", "--threads", "5"],
@@ -453,21 +493,86 @@ static THREADED: [Case; 6] = [
         output: &[&POWERED_OFF, &["stop: off\n"]],
         errors: "",
     },
+    // other numbers of processors than two
     Case {
-        words: &["s161", "run", "image", "--threads", "5"],
+        words: &["s161", "run", "image", "--threads", "5", "--show-log"],
         program: &POWER_OFF,
         schedule: "",
-        status: 1,
-        output: &[],
-        errors: "s161: threads NotYet\n",
+        status: 0,
+        output: &[
+            &POWERED_OFF,
+            &["m161 log 1\ns 0 ran\ns 0 off\n", "stop: off\n"],
+        ],
+        errors: "",
     },
     Case {
-        words: &["s161", "run", "image", "--cpus=2", "--threads=5", "--log=9"],
+        words: &["s161", "run", "image", "--threads=2", "--cpus=32"],
         program: &STAND_STILL,
         schedule: "",
-        status: 1,
-        output: &[],
-        errors: "s161: threads LogFull\n",
+        status: 3,
+        output: &[&[AT_ENTRY, "stop: end\n"]],
+        errors: "",
+    },
+    // a log that keeps fewer entries than Steps are made
+    Case {
+        words: &["s161", "run", "image", "--cpus=2", "--threads=6", "--log=9"],
+        program: &STAND_STILL,
+        schedule: "",
+        status: 3,
+        output: &[&[AT_ENTRY, "stop: end\n"]],
+        errors: "",
+    },
+    // bursts: with one processor there is one order
+    Case {
+        words: &[
+            "s161",
+            "run",
+            "image",
+            "--threads=100",
+            "--burst=7",
+            "--cpus=3",
+        ],
+        program: &STAND_STILL,
+        schedule: "",
+        status: 3,
+        output: &[&[AT_ENTRY, "stop: end\n"]],
+        errors: "",
+    },
+    Case {
+        words: &[
+            "s161",
+            "run",
+            "image",
+            "--threads=4",
+            "--burst=1024",
+            "--log=2",
+            "--show-log",
+        ],
+        program: &STAND_STILL,
+        schedule: "",
+        status: 3,
+        output: &[
+            &[AT_ENTRY],
+            &["m161 tail 1 2\ns 0 ran\ns 0 ran\n", "stop: end\n"],
+        ],
+        errors: "",
+    },
+    // without threads they have no effect
+    Case {
+        words: &["s161", "run", "image", "--burst", "5"],
+        program: &POWER_OFF,
+        schedule: "s 0 2",
+        status: 0,
+        output: &[&POWERED_OFF, &["stop: off\n"]],
+        errors: "",
+    },
+    Case {
+        words: &["s161", "run", "image", "--burst=5", "--threads=0"],
+        program: &POWER_OFF,
+        schedule: "s 0",
+        status: 3,
+        output: &[&HALF_WAY, &["stop: end\n"]],
+        errors: "",
     },
 ];
 
@@ -633,7 +738,7 @@ fn failing_output_of_a_run(rt: HostRuntime) -> Result<(), Fail> {
 #[test]
 fn rejected_runs(rt: HostRuntime) -> Result<(), Fail> {
     let file = file_at(rt.alloc(), ENTRY, &POWER_OFF)?;
-    let cases: [&[&str]; 7] = [
+    let cases: [&[&str]; 11] = [
         &["s161", "run"],
         &["s161", "run", "image", "image"],
         &["s161", "run", "image", "--ram", "x"],
@@ -641,6 +746,10 @@ fn rejected_runs(rt: HostRuntime) -> Result<(), Fail> {
         &["s161", "run", "image", "--log", "1", "--log", "1"],
         &["s161", "run", "image", "--show-log", "--show-log"],
         &["s161", "run", "image", "--threads", "1000001"],
+        &["s161", "run", "image", "--threads", "1", "--burst", "0"],
+        &["s161", "run", "image", "--threads", "1", "--burst", "1025"],
+        &["s161", "run", "image", "--burst", "0"],
+        &["s161", "run", "image", "--burst", "x"],
     ];
     for words in cases {
         let mut files = OneFile {

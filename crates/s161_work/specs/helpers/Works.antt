@@ -18,8 +18,8 @@ abbrev pub IsTaskFault : Task → (Text → Option (List ℕ)) → Option (List 
 IsTaskFault Demo files input fault = fault ≡ Memory
 IsTaskFault (Run task) files input fault =
     IsFaultOf task (image_file files task.image.now) input fault
-IsTaskFault (RunInThreads task quota) files input fault =
-    IsThreadsFault task (image_file files task.image.now) fault
+IsTaskFault (RunInThreads task) files input fault =
+    IsThreadsFault task (image_file files task.run.image.now) fault
 IsTaskFault (Replay task) files input fault =
     IsReplayFault task (image_file files task.image.now) (files task.text.now) fault
 IsTaskFault (Debug task) files input fault =

@@ -11,10 +11,10 @@ returns-in-Some-clause-run g c = λ watches s at.
 
 pub loop-made-preserved : goal.loop-made-preserved
 loop-made-preserved g c = λ watches s at.
-    passes_again watches s (Step c.args.p) c.loop-made.made c.loop-made.core c.audit_step.new.core c.loop-made.shootdowns c.audit_step.new.shootdowns (c.loop-made.invariant watches s at)
+    passes_again watches s (Step c.args.p) c.loop-made.made c.loop-made.core.state c.audit_step.new.core.state c.loop-made.shootdowns c.audit_step.new.shootdowns (c.loop-made.invariant watches s at)
     (λ more. c.in_default.ensures watches _ more)
 
 pub returns-clause-run : goal.returns-clause-run
 returns-clause-run g c = λ watches s at.
     let all : c.loop-made.made ≡ c.args.times = omega arith in
-    subst (λ n. Passes watches s (replicate n (Step c.args.p)) c.loop-made.core c.loop-made.shootdowns) all (c.loop-made.invariant watches s at)
+    subst (λ n. Passes watches s (replicate n (Step c.args.p)) c.loop-made.core.state c.loop-made.shootdowns) all (c.loop-made.invariant watches s at)

@@ -8,5 +8,5 @@ use Rattle.m161_audit.proofs.run.audit_steps.Given as goal
 -- the Steps so far are made, and none is a stale use
 abbrev pub invariant-loop-made : goal.invariant-loop-made
 invariant-loop-made g l =
-    (watches : List Watch) (s : StoreState) → IsAt watches s l.fn.core l.fn.shootdowns
-    → Passes watches s (replicate l.made (Step l.p)) l.core l.shootdowns
+    (watches : List Watch) (s : StoreState) → IsAt watches s l.fn.core.state l.fn.shootdowns
+    → Passes watches s (replicate l.made (Step l.p)) l.core.state l.shootdowns

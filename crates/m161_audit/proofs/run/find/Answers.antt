@@ -33,7 +33,7 @@ loop-event-preserved g c =
       before.0 ++ replicate c.in-Some.times c.in-Some.event,
       before.1 ∙ ap (λ l. before.0 ++ l) c.in-Some.ensures.steps.0 ∙ sym (append_assoc before.0 (replicate c.in-Some.times c.in-Some.event) c.next.new.self),
       omega (arith, before.2, length-append before.0 (replicate c.in-Some.times c.in-Some.event), length-replicate c.in-Some.times c.in-Some.event),
-      (λ watches s at. passes_more watches s before.0 (replicate c.in-Some.times c.in-Some.event) c.loop-event.core c.audit_run.new.core c.loop-event.shootdowns c.audit_run.new.shootdowns (before.3 watches s at)
+      (λ watches s at. passes_more watches s before.0 (replicate c.in-Some.times c.in-Some.event) c.loop-event.core.state c.audit_run.new.core.state c.loop-event.shootdowns c.audit_run.new.shootdowns (before.3 watches s at)
           (λ more. rw c.in_default-2.is at (c.in_ok-before.ensures.run watches _ more))),
     )
 

@@ -9,5 +9,5 @@ use Rattle.m161_audit.proofs.run.find.Given as goal
 abbrev pub invariant-loop-event : goal.invariant-loop-event
 invariant-loop-event g l =
     (before : List Event) × (l.events ≡ before ++ l.left) × (l.done ≡ length before)
-    × ((watches : List Watch) (s : StoreState) → IsAt watches s l.fn.core l.fn.shootdowns
-    → Passes watches s before l.core l.shootdowns)
+    × ((watches : List Watch) (s : StoreState) → IsAt watches s l.fn.core.state l.fn.shootdowns
+    → Passes watches s before l.core.state l.shootdowns)

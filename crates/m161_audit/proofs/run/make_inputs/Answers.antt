@@ -12,10 +12,10 @@ returns-in_err-make_input g c = λ watches s items at.
 
 pub loop-made-preserved : goal.loop-made-preserved
 loop-made-preserved g c = λ watches s items at.
-    passes_again watches s c.args.event c.loop-made.made c.loop-made.core c.make_input.new.core items items (c.loop-made.invariant watches s items at)
+    passes_again watches s c.args.event c.loop-made.made c.loop-made.core.state c.make_input.new.core.state items items (c.loop-made.invariant watches s items at)
     (λ more. c.in_ok-make_input.ensures watches _ items more)
 
 pub returns : goal.returns
 returns g c = λ watches s items at.
     let all : c.loop-made.made ≡ c.args.times = omega arith in
-    subst (λ n. Passes watches s (replicate n c.args.event) c.loop-made.core items) all (c.loop-made.invariant watches s items at)
+    subst (λ n. Passes watches s (replicate n c.args.event) c.loop-made.core.state items) all (c.loop-made.invariant watches s items at)

@@ -8,5 +8,5 @@ use Rattle.m161_audit.proofs.run.make_inputs.Given as goal
 -- the inputs so far are made
 abbrev pub invariant-loop-made : goal.invariant-loop-made
 invariant-loop-made g l =
-    (watches : List Watch) (s : StoreState) (items : List Shootdown) → IsAt watches s l.fn.core items
-    → Passes watches s (replicate l.made l.event) l.core items
+    (watches : List Watch) (s : StoreState) (items : List Shootdown) → IsAt watches s l.fn.core.state items
+    → Passes watches s (replicate l.made l.event) l.core.state items

@@ -9,4 +9,4 @@ returns-in_default c =
     let no = c.in_default in
     let P : List ℕ → Type 0 = λ v. AllByRecursion (λ w. v ≢ w) command_words in
     subst P (sym (first_word_alone c.args.line.now c.requires))
-    (no.not-b, (no.not-d, (no.not-s, (no.not-k, (no.not-o, (no.not-g, (no.not-r, (no.not-c, (no.not-t, (no.not-m, (no.not-x, tt)))))))))))
+    (no.not-b, (no.not-d, (no.not-s, (no.not-k, (no.not-o, (no.not-g, (no.not-r, (no.not-c, (no.not-t, (no.not-m, (no.not-x, (no.not-l, tt))))))))))))

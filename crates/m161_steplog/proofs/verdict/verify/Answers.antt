@@ -1,7 +1,8 @@
-use Rattle.std.proofs.Common.{◌∙◌, arith, rules, take_all}
+use Rattle.std.proofs.Common.{◌∙◌, subst, arith, rules, take_all}
 use Rattle.std.proofs.lemmas.Result.{err_from_is_err_and}
 use Rattle.m161_machine.specs.History.{boot_fault}
 use Rattle.m161_steplog.specs.declared.verdict.Verdict.TheVariants as verdicts
+use Rattle.m161_steplog.specs.Verdict.{IsVerdict}
 use Rattle.m161_steplog.proofs.Verdicts.{repeated, differs, judged, no_memory}
 use Rattle.m161_steplog.proofs.verdict.verify.Goals as goal
 
@@ -12,11 +13,13 @@ returns-in_err-repeats g c =
 
 pub returns-then-not-branch : goal.returns-then-not-branch
 returns-then-not-branch g c = judged c.args.file.now c.args.conf (boot_fault c.args.file.now c.args.conf) c.args.log.now c.in_ok-machine.machine (verdicts.Differs c.loop-k.k) c.in_ok-machine.ensures.answer
-    (differs c.in_ok-machine.machine.state c.loop-k.machine c.repeats.new.machine c.args.log.now c.loop-k.k _ c.in_ok-repeats.field-0 (omega arith) c.loop-k.invariant c.in_ok-repeats.ensures (search rules))
+    (subst (λ s. IsVerdict s c.args.log.now (verdicts.Differs c.loop-k.k)) c.into_core-core.ensures
+    (differs c.into_core-core.result.state c.loop-k.core.state c.repeats.new.core.state c.args.log.now c.loop-k.k _ c.in_ok-repeats.field-0 (omega arith) c.loop-k.invariant c.in_ok-repeats.ensures (search rules)))
 
 pub loop-k-preserved : goal.loop-k-preserved
-loop-k-preserved g c = repeated c.in_ok-machine.machine.state c.loop-k.machine c.repeats.new.machine c.args.log.now c.loop-k.k _ c.in_ok-repeats.field-0 (omega arith) c.loop-k.invariant c.in_ok-repeats.ensures (search rules)
+loop-k-preserved g c = repeated c.into_core-core.result.state c.loop-k.core.state c.repeats.new.core.state c.args.log.now c.loop-k.k _ c.in_ok-repeats.field-0 (omega arith) c.loop-k.invariant c.in_ok-repeats.ensures (search rules)
 
 pub returns : goal.returns
 returns g c = judged c.args.file.now c.args.conf (boot_fault c.args.file.now c.args.conf) c.args.log.now c.in_ok-machine.machine verdicts.Agrees c.in_ok-machine.ensures.answer
-    (c.loop-k.machine.state, rw (take_all c.loop-k.k c.args.log.now (omega arith)) at c.loop-k.invariant)
+    (subst (λ s. IsVerdict s c.args.log.now verdicts.Agrees) c.into_core-core.ensures
+    (c.loop-k.core.state, rw (take_all c.loop-k.k c.args.log.now (omega arith)) at c.loop-k.invariant))

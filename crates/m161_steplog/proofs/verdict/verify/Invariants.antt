@@ -3,4 +3,4 @@ use Rattle.m161_machine.specs.History.{Leads}
 use Rattle.m161_steplog.proofs.verdict.verify.Given as goal
 
 abbrev pub invariant-loop-k : goal.invariant-loop-k
-invariant-loop-k g l = Leads l.initial.machine.state (take l.k l.log) l.machine.state
+invariant-loop-k g l = Leads l.initial.core.state (take l.k l.log) l.core.state

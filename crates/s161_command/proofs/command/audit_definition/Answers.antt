@@ -10,7 +10,7 @@ pub returns-clause-shape : goal.returns-clause-shape
 returns-clause-shape c =
     let base : app_of c.after_help-audit.result ≡ new_app (codes "audit") = ap app_of_fields c.after_help-audit.ensures ∙ ap app_of_fields c.about.ensures ∙ c.new.ensures.app in
     let local : (out-Command c.after_help-audit.result).has_globals ≡ false = ap (λ f. f.has_globals) c.after_help-audit.ensures ∙ ap (λ f. f.has_globals) c.about.ensures ∙ c.new.ensures.local in
-    let lines = ap₂ (λ app rule. with_size_rules (codes "0") (with_rule (with_rule app (file_rule (codes "image"))) rule)) base c.file_argument-watches.ensures.rule in
+    let lines = ap₂ (λ app rule. with_size_rules (codes "65536") (with_rule (with_rule app (file_rule (codes "image"))) rule)) base c.file_argument-watches.ensures.rule in
     IfOk-weaker c.with_files.result _ _ (λ command h. h ∙ lines) (c.with_files.ensures.shape local c.file_argument-watches.ensures.local)
 
 pub returns-clause-local : goal.returns-clause-local

@@ -1,15 +1,14 @@
-use Rattle.std.proofs.Common.{◌≡◌, List, ℕ, Option, Ok, Err, IfSome, rules, subst, sym}
+use Rattle.std.proofs.Common.{◌≡◌, List, ℕ, Option, IfSome, rules, subst, sym}
 use Rattle.std.proofs.lemmas.Result.{err_from_is_err_and}
-use Rattle.m161_machine.specs.declared.conf.Conf.{Conf as MachineConf}
-use Rattle.m161_machine.specs.History.{boot_fault}
 use Rattle.m161_audit.specs.declared.watch.Watch.{Watch as Watched}
-use Rattle.m161_audit.specs.Audit.{Audits}
 use Rattle.m161_audit.specs.WatchText.{AreWatches}
 use Rattle.m161_text.specs.Lines.{lines_of}
 use Rattle.s161_work.proofs.Failing.{audit_failed, schedule_failed, watches_failed}
-use Rattle.s161_work.specs.Audits.{HasWatches, IsAuditFault, audit_conf}
+use Rattle.s161_work.specs.Audits.{HasWatches, IsAuditFault}
 use Rattle.s161_work.specs.Known.{IsText}
+use Rattle.s161_work.specs.Runs.{HasSchedule}
 use Rattle.s161_work.specs.Samples.{image_file}
+use Rattle.s161_work.specs.Sizes.{conf_of}
 use Rattle.s161_work.proofs.audit.audit.Goals as goal
 
 pub returns-clause-ok : goal.returns-clause-ok
@@ -27,7 +26,6 @@ returns-clause-ok g c =
     let is_schedule_text = subst T (sym c.as_str-2.ensures.value) c.in_ok-schedule.ensures.whole in
     let utf8_schedule = subst IsText (sym c.as_str-2.ensures.value) c.in_ok-schedule.schedule.ok in
     let S : List Watched → Type 0 = λ watched. AreWatches (lines_of c.as_str.result.now) watched in
-    let U : MachineConf → Type 0 = λ conf. Audits c.deref.result.now conf (boot_fault c.deref.result.now conf) c.in_ok-events.events c.deref-2.result.now (Ok c.in_ok-finding.finding) in
     record {
       file = c.deref.result.now;
       is_file = subst P (sym c.deref.ensures.value) c.in_ok-file.ensures.whole;
@@ -42,7 +40,7 @@ returns-clause-ok g c =
       events = c.in_ok-events.events;
       is_schedule = c.in_ok-events.ensures.found;
       finding = c.in_ok-finding.finding;
-      audits = subst U c.audit_conf-conf.ensures c.in_ok-finding.ensures;
+      audits = c.in_ok-finding.ensures;
       text_is = search rules;
       status_is = c.status.ensures;
     }
@@ -95,17 +93,16 @@ returns-in_err-finding-clause-fault g c =
     let is_schedule_text = subst T (sym c.as_str-2.ensures.value) c.in_ok-schedule.ensures.whole in
     let utf8_schedule = subst IsText (sym c.as_str-2.ensures.value) c.in_ok-schedule.schedule.ok in
     let S : List Watched → Type 0 = λ watched. AreWatches (lines_of c.as_str.result.now) watched in
-    let conf = audit_conf c.args.task.size c.in_ok-events.events in
+    let schedule : HasSchedule input = (c.as_str-2.result.now, is_schedule_text, (utf8_schedule, (c.in_ok-events.events, c.in_ok-events.ensures.found))) in
     let watched = c.deref-2.result.now in
     let are_watches = subst S (sym c.deref-2.ensures.value) c.in_ok-watches.ensures.found in
     let watches : HasWatches text = (c.as_str.result.now, is_watches, (utf8_watches, (watched, are_watches, tt))) in
-    let U : MachineConf → Type 0 = λ conf. Audits c.deref.result.now conf (boot_fault c.deref.result.now conf) c.in_ok-events.events watched (Err c.in_err-finding.field-0.0) in
     let made = err_from_is_err_and c.from_residual-in_err-finding.result c.from_residual-in_err-finding.ensures.1 in
-    let failed = audit_failed (IsAuditFault c.args.task image text input) image conf c.deref.result.now c.in_ok-events.events watched c.in_err-finding.field-0.0
+    let failed = audit_failed (IsAuditFault c.args.task image text input) image (conf_of c.args.task.size) c.deref.result.now c.in_ok-events.events watched c.in_err-finding.field-0.0
     (subst P (sym c.deref.ensures.value) c.in_ok-file.ensures.whole)
-    (λ outside. (watches, (c.as_str-2.result.now, is_schedule_text, (utf8_schedule, (c.in_ok-events.events, c.in_ok-events.ensures.found, outside)))))
-    (λ e has. (watches, (c.as_str-2.result.now, is_schedule_text, (utf8_schedule, (c.in_ok-events.events, c.in_ok-events.ensures.found, has)))))
+    (λ outside. (watches, schedule, outside))
+    (λ e has. (watches, schedule, has))
     tt
-    (λ k has bad. ((c.as_str.result.now, is_watches, (utf8_watches, (watched, are_watches, bad))), (c.as_str-2.result.now, is_schedule_text, (utf8_schedule, (c.in_ok-events.events, c.in_ok-events.ensures.found, has)))))
-    (subst U c.audit_conf-conf.ensures c.in_err-finding.ensures) in
+    (λ k has bad. ((c.as_str.result.now, is_watches, (utf8_watches, (watched, are_watches, bad))), schedule, has))
+    c.in_err-finding.ensures in
     rw (made.1, made.2) failed

@@ -71,3 +71,9 @@ returns-in_err-machine-clause-fault g c =
     let failed = boot_failed (IsDebugFault c.args.task image text) image (conf_of c.args.task.size) c.deref.result.now c.in_err-machine.field-0.0
     (subst P (sym c.deref.ensures.value) c.in_ok-file.ensures.whole) (λ outside. (schedule, outside)) (λ e has. (schedule, has)) tt c.in_err-machine.ensures.answer in
     rw (made.1, made.2) failed
+
+-- refused memory may end it wherever it stands
+pub returns-in_err-text-clause-fault : goal.returns-in_err-text-clause-fault
+returns-in_err-text-clause-fault g c =
+    let made = err_from_is_err_and c.from_residual-in_err-text.result c.from_residual-in_err-text.ensures.1 in
+    rw (made.1, made.2) tt

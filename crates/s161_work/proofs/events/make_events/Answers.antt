@@ -1,5 +1,6 @@
 use Rattle.std.proofs.Common.{◌≡◌, ◌≤◌, ◌+◌, ap, arith, length, refl, rules}
 use Rattle.std.proofs.lemmas.List.{length-drop}
+use Rattle.m161_machine.proofs.Continuing.{continues_none}
 use Rattle.s161_work.proofs.Making.{at_most_all, run_made, run_passed, run_refused, run_within, switched}
 use Rattle.s161_work.proofs.events.make_events.Goals as goal
 
@@ -21,6 +22,10 @@ returns-in-Some-refusal c =
     let refused = run_refused c.args.events.now c.loop-event.left c.next.new.self c.loop-event.made c.make_alike-more.result.0 c.in-Some.times c.in-Some.event c.make_alike-more.new.machine.state c.in-Some-refusal.refusal
     before.3 c.in-Some.ensures.steps.0 (search rules) (search rules) in
     record { made = c.loop-event.made + c.make_alike-more.result.0; first = made; why = (search rules, refl, refused) }
+
+pub loop-event-init : goal.loop-event-init
+loop-event-init c =
+    (continues_none c.args.machine.now (let last = c.replay.ensures.last in omega (arith, last)), refl, omega arith, c.runs-left.ensures.all)
 
 pub loop-event-preserved : goal.loop-event-preserved
 loop-event-preserved c =

@@ -55,3 +55,8 @@ returns-in_err-machine-clause-fault g c =
     let failed = boot_failed (IsFaultOf c.args.task known input) known (conf_of c.args.task.size) c.deref.result.now c.in_err-machine.field-0.0
     (subst R (sym c.deref.ensures.value) c.in_ok-file.ensures.whole) (λ outside. (schedule, outside)) (λ e has. (schedule, has)) tt c.in_err-machine.ensures.answer in
     rw (made.1, made.2) failed
+
+pub returns-in_err-summary-clause-fault : goal.returns-in_err-summary-clause-fault
+returns-in_err-summary-clause-fault g c =
+    let made = err_from_is_err_and c.from_residual-in_err-summary.result c.from_residual-in_err-summary.ensures.1 in
+    rw (made.1, made.2) tt

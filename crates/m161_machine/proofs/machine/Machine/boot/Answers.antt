@@ -10,8 +10,10 @@ invariant_of-result g c =
     let within : is_within_limits c.args.conf ≡ true = search rules in
     let image = c.in_ok-image.image in
     let start : Start = start_of image.bytes.items image.entry c.args.conf in (
-      lawful_at_boot start c.in_ok-core.core c.in_ok-log.log.items
+      lawful_at_boot start c.in_ok-base.base.state c.in_ok-present.present.state c.in_ok-window.window.items
           (loaded c.args.file.now c.args.conf image c.in_ok-image.ensures.answer) within
-          (search rules) (search rules),
+          (search rules) (search rules) (search rules),
+      search rules,
+      search rules,
       search rules,
     )

@@ -4,4 +4,4 @@ use Rattle.m161_machine.proofs.machine.Machine.is_determined_by_log.Goals as goa
 pub returns : goal.returns
 returns g c =
     determined c.args.self.now c.args.other.now c.replay.ensures.replay c.replay-2.ensures.replay
-    c.requires.start c.requires.log
+    c.requires.start c.requires.base c.requires.log

@@ -1,35 +1,75 @@
-use Rattle.std.proofs.Common.{◌≡◌, ◌∙◌, ap, subst, ◌++◌, length, replicate, take, arith, rules}
+use Rattle.std.proofs.Common.{◌≡◌, ◌∙◌, ap, refl, sym, subst, take, replicate, length, arith, rules}
+use Rattle.std.proofs.lemmas.List.{length-take-le}
 use Rattle.m161_machine.specs.declared.event.Event.TheVariants.{Step}
 use Rattle.m161_machine.specs.History.{Continues, History}
-use Rattle.m161_machine.proofs.Made.{lawful_on}
-use Rattle.m161_machine.proofs.Writing.{goes_on, written}
+use Rattle.m161_machine.specs.helpers.Sound.{Advances}
+use Rattle.m161_machine.specs.History.{transfers_of}
+use Rattle.m161_machine.proofs.Made.{counted}
+use Rattle.m161_machine.proofs.Sliding.{lawful_slid, slides}
+use Rattle.m161_machine.proofs.Transfers.{no_transfers}
+use Rattle.m161_machine.proofs.Writing.{goes_on}
 use Rattle.m161_machine.proofs.machine.Machine.steps_at_once.Given.{Over}
 use Rattle.m161_machine.proofs.machine.Machine.steps_at_once.Goals as goal
 
--- the log has the entries of the Steps that were made
-log_is : (g : Over) (c : goal.After-truncate g) → c.truncate.new.self.items ≡ c.self.inside.log.items ++ take c.advance-made.result c.advance-made.new.kept
-log_is g c =
-    let blanks = c.push_blanks.new.log in
-    let number = c.push_blanks.ensures.number in
-    let most : length c.advance-made.new.kept ≡ c.args.most =
-    omega (arith, c.advance-made.ensures.length, c.split_at_mut-blanks.ensures.back_len, c.as_mut_slice.ensures.value, ap length c.as_mut_slice.ensures.value, number, c.len-before.ensures) in
-    c.truncate.ensures.items
-    ∙ written c.self.inside.log.items c.split_at_mut-blanks.result.0.now c.advance-made.new.kept _ blanks.len c.len-before.result c.advance-made.result
-    (search rules) (c.len-before.ensures ∙ c.self.inside.log.ok.0)
-    (omega (arith, c.advance-made.ensures.within, c.advance-made.ensures.length))
-    (omega (arith, c.advance-made.ensures.within, c.advance-made.ensures.length, most, number, c.len-before.ensures, blanks.ok.0))
+abbrev before : (g : Over) (c : goal.After-append g) → History
+before g c = record {
+  start = record { bytes = c.self.inside.image.bytes.items; entry = c.self.inside.image.entry; conf = c.self.inside.conf };
+  base = c.self.inside.base.state;
+  log = c.self.inside.window.items;
+  state = c.self.inside.present.state;
+}
+
+-- the entries that were made, as they are appended
+advances : (g : Over) (c : goal.After-append g) →
+    Advances c.args.p c.self.inside.present.state (take c.advance_into-made.result c.deref.result.now) c.advance_into-made.new.core.state
+advances g c =
+    let same : c.advance_into-made.new.room.items ≡ c.deref.result.now = search rules in
+    subst (λ es. Advances c.args.p c.self.inside.present.state (take c.advance_into-made.result es) c.advance_into-made.new.core.state) same
+    c.advance_into-made.ensures.advances
+
+pub append-requires-clause-transfers : goal.append-requires-clause-transfers
+append-requires-clause-transfers g c =
+    let same : c.advance_into-made.new.room.items ≡ c.deref.result.now = search rules in
+    sym (subst (λ es. transfers_of (take c.advance_into-made.result es) ≡ 0) same
+    (no_transfers (take c.advance_into-made.result c.advance_into-made.new.room.items) _ c.args.p c.advance_into-made.ensures.advances.1))
 
 pub invariant_of-self : goal.invariant_of-self
-invariant_of-self g c =
-    rw (log_is g c) (
-      lawful_on (record { start = record { bytes = c.self.inside.image.bytes.items; entry = c.self.inside.image.entry; conf = c.self.inside.conf }; log = c.self.inside.log.items; state = c.self.inside.core })
-          (take c.advance-made.result c.advance-made.new.kept) c.advance-made.new.self c.self.invariant.0 c.advance-made.ensures.advances.0 c.advance-made.ensures.sizes,
-      omega (arith, c.self.invariant.1, c.push_blanks.ensures.capacity, c.truncate.ensures.capacity),
-    )
+invariant_of-self g c = (
+  lawful_slid (before g c) (take c.advance_into-made.result c.deref.result.now) c.append.new.base.state c.advance_into-made.new.core.state
+      c.self.inside.window c.append.new.self c.self.invariant.0
+      refl c.self.invariant.1 (advances g c).0 c.advance_into-made.ensures.sizes c.append.ensures.slid,
+  c.append.ensures.slid.capacity_is ∙ c.self.invariant.1,
+  c.append.ensures.room,
+  c.advance_into-made.ensures.length ∙ c.self.invariant.3,
+)
 
 pub returns-clause-run : goal.returns-clause-run
 returns-clause-run g c =
-    let after : History = record { start = record { bytes = c.self.inside.image.bytes.items; entry = c.self.inside.image.entry; conf = c.self.inside.conf }; log = c.truncate.new.self.items; state = c.advance-made.new.self } in
-    subst (λ (m : History). Continues m (replicate c.advance-made.result (Step c.args.p)) after) c.self.view_is
-    (rw (log_is g c) (goes_on c.args.p (record { bytes = c.self.inside.image.bytes.items; entry = c.self.inside.image.entry; conf = c.self.inside.conf }) c.self.inside.log.items c.advance-made.new.kept c.self.inside.core c.advance-made.new.self c.advance-made.result
-    (omega (arith, c.advance-made.ensures.within, c.advance-made.ensures.length)) c.advance-made.ensures.advances))
+    let after : History = record {
+      start = (before g c).start;
+      base = c.append.new.base.state;
+      log = c.append.new.self.items;
+      state = c.advance_into-made.new.core.state;
+    } in
+    let same : c.advance_into-made.new.room.items ≡ c.deref.result.now = search rules in
+    let long = ap length same in
+    let within = c.advance_into-made.ensures.within in
+    let room = c.requires.room.0 in
+    let length_is = c.advance_into-made.ensures.length in
+    let number = c.self.invariant.3 in
+    subst (λ (m : History). Continues m (replicate c.advance_into-made.result (Step c.args.p)) after) c.self.view_is
+    (goes_on c.args.p (before g c) after c.deref.result.now c.advance_into-made.result (omega (arith, long, within, room, length_is, number)) (advances g c)
+    (slides (before g c) (take c.advance_into-made.result c.deref.result.now) c.append.new.base.state c.advance_into-made.new.core.state
+    c.self.inside.window c.append.new.self refl c.self.invariant.1 c.append.ensures.slid))
+
+pub returns-clause-made : goal.returns-clause-made
+returns-clause-made g c =
+    let made = counted (take c.advance_into-made.result c.advance_into-made.new.room.items) c.self.inside.present.state c.advance_into-made.new.core.state
+    c.advance_into-made.ensures.advances.0 in
+    let within = c.advance_into-made.ensures.within in
+    let room = c.requires.room.0 in
+    let length_is = c.advance_into-made.ensures.length in
+    let number = c.self.invariant.3 in
+    let long = length-take-le c.advance_into-made.result c.advance_into-made.new.room.items (omega (arith, within, room, length_is, number)) in
+    let view = ap (λ (h : History). h.state.made) c.self.view_is in
+    omega (arith, made, long, view)

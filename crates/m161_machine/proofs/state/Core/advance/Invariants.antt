@@ -5,12 +5,13 @@ use Rattle.m161_machine.proofs.state.Core.advance.Given as goal
 
 -- the entries so far are those of the Steps so far
 abbrev pub invariant-loop-made : goal.invariant-loop-made
-invariant-loop-made g l = Advances l.p l.fn.self (take l.made l.kept) l.self
-    × KeepsSizes l.fn.self l.self
+invariant-loop-made g l = Advances l.p l.fn.self.state (take l.made l.kept) l.self.state
+    × KeepsSizes l.fn.self.state l.self.state
     × (length l.kept ≡ length l.fn.kept)
-    × (l.self.made ≡ l.fn.self.made + l.made)
-    × (l.self.board.off ≡ false)
+    × (l.self.state.made ≡ l.fn.self.state.made + l.made)
+    × (l.self.state.board.off ≡ false)
     × (l.made ≤ length l.kept)
+    × (l.self.room ≡ l.fn.self.room)
 
 abbrev pub decreases-loop-made : goal.decreases-loop-made
 decreases-loop-made g l = length l.kept - l.made

@@ -1,14 +1,13 @@
 use Rattle.std.proofs.Common.{◌∙◌, ap, sym, arith}
-use Rattle.m161_machine.specs.State.{State, step_on, with_step}
+use Rattle.m161_machine.specs.State.{CoreValue, State, step_on, with_step}
 use Rattle.m161_machine.proofs.Accepting.{stays_on}
 use Rattle.m161_machine.proofs.Stepping.{step_is}
 use Rattle.m161_machine.proofs.state.Core.make_step.Goals as goal
 
 pub step_parts-outcome-requires-clause-room : goal.step_parts-outcome-requires-clause-room
 step_parts-outcome-requires-clause-room g c =
-    let made_is = ap (λ (s : State). s.made) c.self.view_is in
-    let conf_is = ap (λ (s : State). s.conf.log) c.self.view_is in
-    (c.self.inside.made, omega (arith, c.requires.room, made_is, conf_is, c.self.ranges), c.self.invariant.counts)
+    let made_is = ap (λ (v : CoreValue). v.state.made) c.self.view_is in
+    (c.self.inside.made, omega (arith, c.requires.few_made, made_is, c.self.ranges), c.self.invariant.counts)
 
 pub invariant_of-self : goal.invariant_of-self
 invariant_of-self g c = record {
@@ -22,16 +21,16 @@ invariant_of-self g c = record {
 pub returns-clause-outcome : goal.returns-clause-outcome
 returns-clause-outcome g c =
     c.step_parts-outcome.ensures.outcome c.self.inside.conf c.self.inside.made
-    ∙ ap (λ (s : State). (step_on c.args.p s).outcome) c.self.view_is
-    ∙ ap (λ x. x.outcome) (sym (step_is c.args.p c.args.self.now))
+    ∙ ap (λ (v : CoreValue). (step_on c.args.p v.state).outcome) c.self.view_is
+    ∙ ap (λ x. x.outcome) (sym (step_is c.args.p c.args.self.now.state))
 
 pub returns-clause-state : goal.returns-clause-state
 returns-clause-state g c =
     c.step_parts-outcome.ensures.state c.self.inside.conf c.self.inside.made
-    ∙ ap (λ (s : State). with_step c.args.p (step_on c.args.p s) s) c.self.view_is
-    ∙ ap (λ x. with_step c.args.p x c.args.self.now) (sym (step_is c.args.p c.args.self.now))
+    ∙ ap (λ (v : CoreValue). with_step c.args.p (step_on c.args.p v.state) v.state) c.self.view_is
+    ∙ ap (λ x. with_step c.args.p x c.args.self.now.state) (sym (step_is c.args.p c.args.self.now.state))
 
 pub returns-clause-ran : goal.returns-clause-ran
 returns-clause-ran g c = λ on ran.
     ap (λ (s : State). s.board.off) (returns-clause-state g c)
-    ∙ stays_on c.args.p c.args.self.now on (sym (returns-clause-outcome g c) ∙ ran)
+    ∙ stays_on c.args.p c.args.self.now.state on (sym (returns-clause-outcome g c) ∙ ran)

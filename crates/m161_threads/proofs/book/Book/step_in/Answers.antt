@@ -7,14 +7,15 @@ use Rattle.m161_threads.proofs.book.Book.step_in.Goals as goal
 pub overflow_add-seat : goal.overflow_add-seat
 overflow_add-seat g c =
     let r = c.replay.ensures in
-    let few = few_in c.step.new.self r.counts r.limits r.processors r.room in
+    let few = few_in c.step.new.self r.reached r.replay in
+    let worn = r.few in
     let kept = (keeps_step c.self.inside.machine c.step.new.self c.seat.inside.processor c.self.inside.steps.total
     c.self.inside.offs.total c.in-Ok.outcome c.in-Ok.ensures.answers c.self.invariant).0 in
     let is = c.seat.invariant.1 in
     let more = c.add.ensures.amount in
     let total = c.add.ensures.total in
     let bound = c.audit.ensures.bound in
-    omega (arith, few, kept, is, more, total, bound)
+    omega (arith, few, worn, kept, is, more, total, bound)
 
 pub invariant_of-self : goal.invariant_of-self
 invariant_of-self g c =
