@@ -1,31 +1,126 @@
-use Rattle.std.proofs.Common.{◌≡◌, ◌∙◌, refl, ap, sym, ℕ, zero, suc, ◌<◌, List, [], ◌∷◌, length, get_or, Option, None, replicate, arith}
-use Rattle.std.specs.Prelude.{slice_set}
-use Rattle.m161_cpu.specs.Links.{no_links}
+use Rattle.std.proofs.Common.{◌≡◌, ◌∙◌, refl, ap, sym, subst, ℕ, ◌-◌, ◌*◌, ◌^◌, ◌%◌, ◌<◌, ◌≢◌, ◌⊎◌, ⊎_elim, Bool, true, false, if◌then◌else◌, List, length, map, set, get_or, Option, None, Some, replicate, arith, bit_and, bit_or}
+use Rattle.std.specs.Int.{w32, bit_at, bit_not, trailing_zeros}
+use Rattle.std.proofs.lemmas.Bool.{cases_eq}
+use Rattle.std.proofs.lemmas.Nat.{and_le_l}
+use Rattle.std.proofs.lemmas.Nat.Bits.{bit_at-zero, bit_at_set_other, bit_at_set_same, bit_at_clear_other, bit_at_clear_same, bit_at-trailing_zeros}
+use Rattle.std.proofs.lemmas.List.{same_lists, places, length-set, get_or-set_same, get_or-set_other, get_or_default, get_or-replicate, get_or-map, length-map}
+use Rattle.m161_cpu.specs.Links.{no_links, is_to, unless_to}
+use Rattle.m161_cpu.specs.helpers.Links.{HasBits, IsWalked}
 
-abbrev no_link : Option ℕ
-no_link = None
+-- a mask with the bit of processor c, and without it
+abbrev pub with_bit : ℕ → ℕ → ℕ
+with_bit live c = bit_or live (1 * 2 ^ c % 4294967296)
 
--- a link that there is not ends
-none_among : (n c : ℕ) → slice_set (replicate n no_link) c no_link ≡ replicate n no_link
-none_among zero c = refl
-none_among (suc n) zero = refl
-none_among (suc n) (suc c) = ap (λ l. no_link ∷ l) (none_among n c)
+abbrev pub without_bit : ℕ → ℕ → ℕ
+without_bit live c = bit_and live (4294967295 - 1 * 2 ^ c % 4294967296)
 
-pub none_ends : (c : ℕ) (links : List (Option ℕ)) → links ≡ no_links
-    → links ≡ slice_set links c None
-none_ends c links none = none ∙ sym (none_among 32 c) ∙ ap (λ l. slice_set l c None) (sym none)
+-- no link is live where no bit is set
+pub none_live : (links : List (Option ℕ)) → length links ≡ 32 → HasBits links 0 → links ≡ no_links
+none_live links number h =
+    same_lists links no_links number (λ k d below.
+    let within : k < 32 = omega (arith, below, number) in
+    get_or_default links k d None below ∙ h k within (bit_at-zero k)
+    ∙ sym (get_or-replicate 32 k None d within))
 
--- no link is live where none of them is
-none_each : (n : ℕ) (l : List (Option ℕ)) → length l ≡ n
-    → ((k : ℕ) → k < n → get_or l k no_link ≡ no_link) → l ≡ replicate n no_link
-none_each zero [] e h = refl
-none_each zero (x ∷ xs) e h = absurd (let bad : ⊥ = omega (arith, e) in bad)
-none_each (suc n) [] e h = absurd (let bad : ⊥ = omega (arith, e) in bad)
-none_each (suc n) (x ∷ xs) e h =
-    ap (λ y. y ∷ xs) (h 0 (omega arith))
-    ∙ ap (λ ys. no_link ∷ ys)
-    (none_each n xs (omega (arith, e)) (λ k below. h (suc k) (omega (arith, below))))
+-- at the start no link is live
+pub none_begins : HasBits no_links 0
+none_begins c below bit = get_or-replicate 32 c None None below
 
-pub none_live : (links : List (Option ℕ)) → length links ≡ 32
-    → ((k : ℕ) → k < 32 → get_or links k None ≡ None) → links ≡ no_links
-none_live links e h = none_each 32 links e h
+module _ (links : List (Option ℕ)) (live c : ℕ) (number : length links ≡ 32) (below : c < 32) where
+  -- a link that ends takes its bit away
+  pub bits_without : HasBits links live → HasBits (set links c None) (without_bit live c)
+  bits_without h k within bit =
+      ⊎_elim
+      (λ same. ap (λ j. get_or (set links c None) j None) same
+      ∙ get_or-set_same links c None None (omega (arith, below, number)))
+      (λ other. get_or-set_other links c k None None other
+      ∙ h k within (sym (bit_at_clear_other w32 live c below k within other) ∙ bit))
+      (cases_eq k c)
+
+  -- a new link has its bit
+  pub bits_with : (word : ℕ) → HasBits links live → HasBits (set links c (Some word)) (with_bit live c)
+  bits_with word h k within bit =
+      ⊎_elim
+      (λ same. absurd (omega (arith, bit, bit_at_set_same w32 live c below, ap (bit_at (with_bit live c)) same)))
+      (λ other. get_or-set_other links c k (Some word) None other
+      ∙ h k within (sym (bit_at_set_other w32 live c below k other) ∙ bit))
+      (cases_eq k c)
+
+-- the walk over the bits of a mask
+abbrev pub last_of : ℕ → ℕ
+last_of left = trailing_zeros w32 left
+
+module _ (word : ℕ) (before : List (Option ℕ)) (number : length before ≡ 32) where
+  -- before it
+  pub walk_begins : (live : ℕ) → HasBits before live → IsWalked word before live before
+  walk_begins live h = record {
+    number = number;
+    past = λ c below bit. h c below bit ∙ sym (ap (unless_to word) (h c below bit));
+    rest = λ c below bit. refl;
+  }
+
+  -- after it
+  pub walk_ends : (links : List (Option ℕ)) → IsWalked word before 0 links
+      → links ≡ map (unless_to word) before
+  walk_ends links walked =
+      same_lists links (map (unless_to word) before)
+      (walked.number ∙ sym (length-map before (unless_to word) ∙ number)) (λ k d below.
+      let within : k < 32 = omega (arith, below, walked.number) in
+      get_or_default links k d None below ∙ walked.past k within (bit_at-zero k)
+      ∙ sym (get_or-map (unless_to word) before k None d (omega (arith, within, number))))
+
+  module _ (left : ℕ) (links : List (Option ℕ)) (walked : IsWalked word before left links)
+      (some : 0 < left) (fits : left < 4294967296) where
+    abbrev pub c : ℕ
+    c = last_of left
+
+    found : (c < 32) × (bit_at left c ≡ 1) × ((i : ℕ) → i < c → bit_at left i ≡ 0)
+    found = bit_at-trailing_zeros w32 left some fits
+
+    apart : without_bit left c ≡ left → ⊥
+    apart same =
+        absurd (omega (arith, bit_at_clear_same w32 left c found.0, ap (λ n. bit_at n c) same, found.1))
+
+    pub fewer : without_bit left c < left
+    fewer =
+        ⊎_elim (λ same. absurd (apart same))
+        (λ other. omega (arith, and_le_l left (4294967295 - 1 * 2 ^ c % 4294967296), other))
+        (cases_eq (without_bit left c) left)
+
+    other_bit : (k : ℕ) → k < 32 → (k ≡ c → ⊥) → bit_at (without_bit left c) k ≡ bit_at left k
+    other_bit k below other = bit_at_clear_other w32 left c found.0 k below other
+
+    -- this link is ended, if it is to the word; the others are as they were
+    pub walked_on : (after : List (Option ℕ)) → length after ≡ 32
+        → get_or after c None ≡ unless_to word (get_or links c None)
+        → ((k : ℕ) → (k ≡ c → ⊥) → get_or after k None ≡ get_or links k None)
+        → IsWalked word before (without_bit left c) after
+    walked_on after long here there = record {
+      number = long;
+      past = λ k below bit.
+          ⊎_elim
+          (λ same. ap (λ j. get_or after j None) same ∙ here
+          ∙ ap (unless_to word) (walked.rest c found.0 found.1)
+          ∙ ap (λ j. unless_to word (get_or before j None)) (sym same))
+          (λ other. there k other ∙ walked.past k below (sym (other_bit k below other) ∙ bit))
+          (cases_eq k c);
+      rest = λ k below bit.
+          ⊎_elim
+          (λ same. absurd (omega (arith, bit, bit_at_clear_same w32 left c found.0,
+          ap (bit_at (without_bit left c)) same)))
+          (λ other. there k other ∙ walked.rest k below (sym (other_bit k below other) ∙ bit))
+          (cases_eq k c);
+    }
+
+    pub walked_over : is_to word (get_or links c None) ≡ false
+        → IsWalked word before (without_bit left c) links
+    walked_over other =
+        walked_on links walked.number (sym (ap (λ b. if b then None else get_or links c None) other)) (λ k apart_from. refl)
+
+    pub walked_ending : is_to word (get_or links c None) ≡ true
+        → IsWalked word before (without_bit left c) (set links c None)
+    walked_ending same =
+        walked_on (set links c None) (length-set links c None ∙ walked.number)
+        (get_or-set_same links c None None (omega (arith, found.0, walked.number))
+        ∙ sym (ap (λ b. if b then None else get_or links c None) same))
+        (λ k other. get_or-set_other links c k None None other)

@@ -1,4 +1,5 @@
 -- Definitions that only contracts of private functions, or proofs, use.
 pub mod Execute
+pub mod Links
 pub mod Translation
 pub mod Uses

@@ -1,7 +1,8 @@
 //! Links of `ll` and `sc`.
 
-ghost use Rattle.std.specs.Prelude.{◌≡◌, ◌<◌, true, Some, None, length, slice_index_or, slice_set};
-ghost use Rattle.m161_cpu.specs.Links.{no_links, after_store, is_to, unless_to};
+ghost use Rattle.std.specs.Prelude.{◌≡◌, ◌<◌, Some, None, length, slice_index_or, slice_set};
+ghost use Rattle.m161_cpu.specs.Links.{no_links, after_store, is_to};
+ghost use Rattle.m161_cpu.specs.helpers.Links.{HasBits};
 
 use std::marker::Model;
 
@@ -15,19 +16,19 @@ const NONE: [Option<u32>; PROCESSORS] = [None; PROCESSORS];
 #[derive(Drop)]
 pub struct Links {
     words: [Option<u32>; PROCESSORS],
-    // If this is false, no link is live, and a store needn't look.
-    any: bool,
+    // A processor whose link is live has its bit here: a store looks at these links alone.
+    live: u32,
 }
 
 impl Model for Links {
-    ghost use Rattle.std.specs.Prelude.{◌≡◌, ℕ, List, Option, false, length};
-    ghost use Rattle.m161_cpu.specs.Links.{no_links};
+    ghost use Rattle.std.specs.Prelude.{◌≡◌, ℕ, List, Option, length};
+    ghost use Rattle.m161_cpu.specs.helpers.Links.{HasBits};
 
     ghost Value = { List (Option ℕ) };
 
     ghost view = { λ l. l.words };
 
-    ghost invariant = { λ l. (length l.words ≡ 32) × (l.any ≡ false → l.words ≡ no_links) };
+    ghost invariant = { λ l. (length l.words ≡ 32) × HasBits l.words l.live };
 }
 
 impl Links {
@@ -37,7 +38,7 @@ impl Links {
     {
         Links {
             words: NONE,
-            any: false,
+            live: 0,
         }
     }
 
@@ -47,7 +48,7 @@ impl Links {
     {
         Links {
             words: self.words,
-            any: self.any,
+            live: self.live,
         }
     }
 
@@ -75,7 +76,7 @@ impl Links {
         ensures { self.new ≡ slice_set self.old c (Some word) }
     {
         self.words[c as usize] = Some(word);
-        self.any = true;
+        self.live |= 1 << c;
     }
 
     /// Ends a processor's link.
@@ -85,9 +86,8 @@ impl Links {
         requires { c < 32 }
         ensures { self.new ≡ slice_set self.old c None }
     {
-        if self.any {
-            self.words[c as usize] = None;
-        }
+        self.words[c as usize] = None;
+        self.live &= !(1 << c);
     }
 
     /// Ends the links to a word that was stored to.
@@ -95,9 +95,18 @@ impl Links {
     pub(crate) fn store_to(&mut self, word: u32)
         ensures { self.new ≡ after_store (Some word) self.old }
     {
-        if self.any {
+        if self.live != 0 {
             self.end_links_to(word);
         }
+    }
+
+    // The processors whose links may be live, one bit each.
+    #[inline(always)]
+    fn live(&self) -> u32
+        ensures bits { HasBits self.now result }
+        ensures length { length self.now ≡ 32 }
+    {
+        self.live
     }
 
     // Ends the links to a word.
@@ -106,29 +115,13 @@ impl Links {
     fn end_links_to(&mut self, word: u32)
         ensures { self.new ≡ after_store (Some word) self.old }
     {
-        for c in 0..PROCESSORS {
-            self.words[c] = unless_to(word, self.words[c]);
-        }
-        self.any = !are_none(&self.words);
-    }
-}
-
-// A link, unless it is to this word.
-fn unless_to(word: u32, link: Option<u32>) -> Option<u32>
-    ensures { result ≡ unless_to word link }
-{
-    if link == Some(word) { None } else { link }
-}
-
-// Whether no link is live.
-fn are_none(words: &[Option<u32>; PROCESSORS]) -> bool
-    requires { length words.now ≡ 32 }
-    ensures { result ≡ true → words.now ≡ no_links }
-{
-    for c in 0..PROCESSORS {
-        if words[c].is_some() {
-            return false;
+        let mut left = self.live();
+        while left != 0 {
+            let c = left.trailing_zeros();
+            if self.names(c, word) {
+                self.unlink(c);
+            }
+            left &= !(1 << c);
         }
     }
-    true
 }

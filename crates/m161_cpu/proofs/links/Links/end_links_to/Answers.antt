@@ -1,19 +1,35 @@
-use Rattle.std.proofs.Common.{◌∙◌, ap, ◌<◌, None, get_or, length, set, rules}
-use Rattle.std.proofs.lemmas.List.{get_or_default, length-set}
-use Rattle.std.proofs.lemmas.List.Edits.{map_over_more}
-use Rattle.m161_cpu.specs.Links.{unless_to}
+use Rattle.std.proofs.Common.{rules, ◌≡◌, ◌∙◌, ◌<◌, sym, subst, true, false}
+use Rattle.m161_cpu.specs.helpers.Links.{IsWalked}
+use Rattle.m161_cpu.proofs.Linked.{fewer, last_of, walk_ends, walked_ending, walked_over, without_bit}
+use Rattle.m161_cpu.proofs.links.Links.end_links_to.Goals.{then-names, else-names}
 use Rattle.m161_cpu.proofs.links.Links.end_links_to.Goals as goal
 
-pub loop-c-preserved : goal.loop-c-preserved
-loop-c-preserved c =
-    let words = c.loop-c.self-inside.words in
-    let link = get_or words c.loop-c.c None in
-    let inside : c.loop-c.c < length words = search rules in
-    let before : c.loop-c.c < length c.self.inside.words = search rules in (
-      length-set words c.loop-c.c c.unless_to.result ∙ c.loop-c.invariant.0,
-      ap (set words c.loop-c.c) c.unless_to.ensures
-          ∙ map_over_more
-          (unless_to c.args.word) c.self.inside.words words c.loop-c.c link before
-          c.loop-c.invariant.1
-          (get_or_default words c.loop-c.c None link inside),
-    )
+pub loop-left-smaller : goal.loop-left-smaller
+loop-left-smaller c =
+    fewer c.args.word c.args.self.now c.live-left.ensures.length c.loop-left.left c.loop-left.self
+    c.loop-left.invariant (search rules) (search rules)
+
+pub loop-left-preserved : goal.loop-left-preserved
+loop-left-preserved c =
+    let word = c.args.word in
+    let before = c.args.self.now in
+    let left = c.loop-left.left in
+    let IsOn = IsWalked word before (without_bit left (last_of left)) in
+    elim c.if-names.branch [
+      then-names w ↦
+          subst IsOn (sym (w.self-is ∙ w.unlink.ensures))
+          (walked_ending word before c.live-left.ensures.length left c.loop-left.self
+          c.loop-left.invariant (search rules) (search rules)
+          (sym c.names.ensures ∙ w.if-names.true))
+    | else-names w ↦
+          subst IsOn (sym w.self-is)
+          (walked_over word before c.live-left.ensures.length left c.loop-left.self
+          c.loop-left.invariant (search rules) (search rules)
+          (sym c.names.ensures ∙ w.if-names.false))
+    ]
+
+pub returns : goal.returns
+returns c =
+    walk_ends c.args.word c.args.self.now c.live-left.ensures.length c.loop-left.self
+    (subst (λ n. IsWalked c.args.word c.args.self.now n c.loop-left.self) (search rules)
+    c.loop-left.invariant)

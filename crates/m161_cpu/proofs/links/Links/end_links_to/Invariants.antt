@@ -1,11 +1,11 @@
-use Rattle.std.proofs.Common.{◌≡◌, ◌++◌, length, map, take, drop}
-use Rattle.m161_cpu.specs.Links.{unless_to}
+use Rattle.std.proofs.Common.{ℕ}
+use Rattle.m161_cpu.specs.helpers.Links.{IsWalked}
 use Rattle.m161_cpu.proofs.links.Links.end_links_to.Given as goal
 
--- the links so far are ended, where they are to the word
-abbrev pub invariant-loop-c : goal.invariant-loop-c
-invariant-loop-c l =
-    (length l.self-inside.words ≡ 32)
-    × (l.self-inside.words
-    ≡ map (unless_to l.word) (take l.c l.initial.self-inside.words)
-    ++ drop l.c l.initial.self-inside.words)
+-- the links whose bits aren't left are ended, where they are to the word
+abbrev pub invariant-loop-left : goal.invariant-loop-left
+invariant-loop-left l = IsWalked l.word l.initial.self l.left l.self
+
+-- each pass takes a bit away
+abbrev pub decreases-loop-left : goal.decreases-loop-left
+decreases-loop-left l = l.left

@@ -1,6 +1,13 @@
-use Rattle.std.proofs.Common.{rules}
-use Rattle.m161_cpu.proofs.Linked.{none_ends}
+use Rattle.std.proofs.Common.{None, rules, ◌∙◌}
+use Rattle.std.proofs.lemmas.List.{length-set}
+use Rattle.m161_cpu.proofs.Linked.{bits_without}
 use Rattle.m161_cpu.proofs.links.Links.unlink.Goals as goal
 
-pub returns-else-self : goal.returns-else-self
-returns-else-self c = none_ends c.args.c c.args.self.now (search rules)
+pub invariant_of-self : goal.invariant_of-self
+invariant_of-self c =
+    let words = c.self.inside.words in
+    (
+      length-set words c.args.c None ∙ c.self.invariant.0,
+      bits_without words c.self.inside.live c.args.c c.self.invariant.0 (search rules)
+          c.self.invariant.1,
+    )
