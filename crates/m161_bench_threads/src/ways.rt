@@ -129,12 +129,16 @@ fn as_whole(rt: &(impl Clock + AllocGlobal), image: &[u8], task: Task) -> Option
     })
 }
 
-/// Makes the Steps of each processor, in each of the three ways.
+/// Makes the Steps of each processor, in each of the three ways. Once more before these, without a
+/// measure: the first log of such a size is in memory that the host has yet to hand out, page by
+/// page, and the later ones find it there.
 pub(crate) fn measure<R: Threads + Wait + Clock + AllocGlobal + Sync>(
     rt: &R,
     image: &[u8],
     task: Task,
 ) -> Option<Measured> {
+    let _ = as_whole(rt, image, task)?;
+    let _ = as_whole(rt, image, task)?;
     Some(Measured {
         threads: in_threads(rt, image, task)?,
         turns: by_turns(rt, image, task)?,

@@ -1,5 +1,6 @@
-use Rattle.std.proofs.Common.{rules, ◌≡◌, ◌∙◌, refl, ap, sym, subst, ℕ, zero, suc, ◌+◌, ◌-◌, ◌<◌, ◌≤◌, Bool, true, false, List, [], ◌∷◌, length, set, get_or, map, replicate, Option, None, Some, Result, Ok, Err, arith}
-use Rattle.std.specs.Prelude.{nat_le, sum}
+use Rattle.std.proofs.Common.{rules, ◌≡◌, ◌∙◌, refl, ap, ap₂, sym, subst, ℕ, zero, suc, ◌+◌, ◌-◌, ◌<◌, ◌≤◌, Bool, true, false, List, [], ◌∷◌, length, set, get_or, map, replicate, Option, None, Some, Result, Ok, Err, arith}
+use Rattle.std.specs.Prelude.{nat_le, sum, ◌&&◌}
+use Rattle.std.specs.List.{list_all}
 use Rattle.std.proofs.lemmas.Bool.Decides.{nat_tests}
 use Rattle.std.proofs.lemmas.List.{get_or-set_same, length-map, length-set}
 use Rattle.std.proofs.lemmas.List.Sums.{sum_by-set}
@@ -15,8 +16,9 @@ use Rattle.m161_machine.specs.State.{State, answer, counts, is_worn, next, refus
 use Rattle.m161_machine.specs.helpers.State.{counts_after}
 use Rattle.m161_machine.specs.History.{History, Answers, Continues, IsReached, IsReplay, Leads, Refuses, boot_state, events_of}
 use Rattle.m161_machine.proofs.Counting.{counts_law}
-use Rattle.m161_machine.proofs.Counted.{counts_run, counts_through}
+use Rattle.m161_machine.proofs.Counted.{counts_run, counts_through, length_through}
 use Rattle.m161_machine.proofs.Made.{counted}
+use Rattle.m161_threads.specs.Runs.{is_step_below}
 use Rattle.m161_threads.specs.Shares.{IsKept}
 
 -- What an accepted and a refused event show of a machine.
@@ -110,6 +112,30 @@ few_steps (e ∷ es) s t h =
     let one = sum_after e.event s h.0 e.outcome h.1 in
     let is = ap sum (counts_law s h.0 e.event e.outcome h.1) in
     omega (arith, rest, one, is)
+
+-- an event that counts a Step is one, of a processor that there is
+step_here : (e : Event) (s t : State) (o : Outcome) → next s e ≡ Ok (o, t) → sum (counts_after e (counts s)) ≡ sum (counts s) + 1 →
+    is_step_below (length s.processors) e ≡ true
+step_here (Step p) s t o h one = let there = was_there s t p o h in grind (arith, nat_tests, there)
+step_here (Key byte) s t o h one = absurd (let bad : ⊥ = omega (arith, one) in bad)
+step_here Done s t o h one = absurd (let bad : ⊥ = omega (arith, one) in bad)
+
+same_number : (e : Event) (s t : State) (o : Outcome) → next s e ≡ Ok (o, t) → length t.processors ≡ length s.processors
+same_number e s t o h =
+    sym (length-map t.processors (λ (q : Processor). q.count)) ∙ ap length (counts_law s t e o h)
+    ∙ length_through (e ∷ []) (counts s) ∙ length-map s.processors (λ (q : Processor). q.count)
+
+-- where a run counts as many Steps as it has events, it has Steps alone
+pub steps_alone : (es : List Entry) (s t : State) (n : ℕ) → length s.processors ≡ n → Leads s es t →
+    sum (counts t) ≡ sum (counts s) + length es → list_all (is_step_below n) (events_of es) ≡ true
+steps_alone [] s t n number h all = refl
+steps_alone (x ∷ es) s t n number h all =
+    let few = few_steps es h.0 t h.2 in
+    let one = sum_after x.event s h.0 x.outcome h.1 in
+    let is = ap sum (counts_law s h.0 x.event x.outcome h.1) in
+    let here = step_here x.event s h.0 x.outcome h.1 (omega (arith, few, one, is, all)) in
+    let rest = steps_alone es h.0 t n (same_number x.event s h.0 x.outcome h.1 ∙ number) h.2 (omega (arith, few, one, is, all)) in
+    ap₂ (λ a b. a && b) (subst (λ k. is_step_below k x.event ≡ true) number here) rest
 
 none_at_boot : (n : ℕ) → sum (map (λ (q : Processor). q.count) (replicate n stopped_processor)) ≡ 0
 none_at_boot zero = refl

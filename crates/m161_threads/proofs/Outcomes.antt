@@ -7,12 +7,14 @@ use Rattle.m161_machine.specs.declared.event.Entry.{Entry}
 use Rattle.m161_machine.specs.State.{State, counts}
 use Rattle.m161_machine.specs.History.{History, Continues, IsReplay, Leads, Start, boot_state, events_of, steps_of}
 use Rattle.m161_machine.proofs.Leading.{leads_rest}
+use Rattle.m161_machine.proofs.Made.{counted}
 use Rattle.m161_machine.proofs.Counted.{count_through, counts_run, counts_through, length_through}
 use Rattle.m161_threads.specs.declared.cause.Cause.{Cause}
 use Rattle.m161_threads.specs.declared.cause.Cause.TheVariants.{Swapped}
 use Rattle.m161_threads.specs.Runs.{FailsRun, Interleaves, IsOfRun, MakesSteps, ShowsInterleaving, ShowsSteps, is_step_below}
 use Rattle.m161_threads.specs.helpers.Runs.{FailsLater, IsChecked, IsLater, IsTold, Past, past_of}
 use Rattle.m161_threads.specs.Shares.{SeatState, new_seat, seats_from}
+use Rattle.m161_threads.proofs.Events.{steps_alone}
 use Rattle.m161_threads.specs.helpers.Work.{HasWorked}
 
 -- What the workers say and what was compared make one interleaving.
@@ -67,7 +69,7 @@ resumes before after made first second later none =
     let entries = drop (length before.log) after.log in
     let dropped = none_dropped before after made first second later none in
     let log_is : after.log ≡ before.log ++ entries =
-    sym (take-append-drop (length before.log) after.log) ∙ ap (λ (l : List Entry). l ++ entries) (later.whole none).log_is in
+    sym (take-append-drop (length before.log) after.log) ∙ ap (λ (l : List Entry). l ++ entries) (later.whole none) in
     let base_is : after.base ≡ before.base =
     second.boot none ∙ ap boot_state later.start_is ∙ sym (first.boot dropped.0) in
     let long = ap length log_is ∙ length-append before.log entries in
@@ -91,17 +93,14 @@ resumes before after made first second later none =
 shows_steps : (before after : History) (made : ℕ) → IsTold before → IsTold after → IsLater (past_of before) made after →
     after.base.made ≡ 0 → ShowsSteps before after
 shows_steps before after made first second later none =
-    let cs = counts before.state in
     let events = events_of (drop (length before.log) after.log) in
     let goes_on = resumes before after made first second later none in
-    let through : counts after.state ≡ counts_through events cs =
-    counts_run goes_on.entries before.state after.state goes_on.run_is ∙ ap (λ es. counts_through es cs) goes_on.events_are in
-    let number : length after.state.processors ≡ length before.state.processors =
-    sym (length-map after.state.processors (λ (p : Processor). p.count)) ∙ ap length through
-    ∙ length_through events cs ∙ length-map before.state.processors (λ (p : Processor). p.count) in
+    let made_more = counted goes_on.entries before.state after.state goes_on.run_is in
     record {
       events = events;
-      steps = subst (λ n. list_all (is_step_below n) events ≡ true) number (later.whole none).steps;
+      steps = subst (λ es. list_all (is_step_below (length before.state.processors)) es ≡ true) goes_on.events_are
+          (steps_alone goes_on.entries before.state after.state (length before.state.processors) refl goes_on.run_is
+          (omega (arith, made_more, later.counted, later.events_made)));
       continues = goes_on;
     }
 

@@ -1,14 +1,11 @@
 //! A machine before a run.
 
-ghost use Rattle.std.specs.Prelude.{◌≡◌, ◌≤◌, IfOk, IfSome, drop, length, sum, take, true};
-ghost use Rattle.std.specs.List.{list_all};
-ghost use Rattle.m161_machine.specs.History.{events_of};
+ghost use Rattle.std.specs.Prelude.{◌≡◌, ◌≤◌, IfOk, IfSome, length, sum, take, true};
 ghost use Rattle.m161_machine.specs.State.{counts};
-ghost use Rattle.m161_threads.specs.Runs.{is_step_below};
-ghost use Rattle.m161_threads.specs.helpers.Runs.{GoesOn, IsLater, past_of};
+ghost use Rattle.m161_threads.specs.helpers.Runs.{IsLater, past_of};
 
 use m161_bus::Console;
-use m161_machine::{Entry, Event, Machine, Start};
+use m161_machine::{Entry, Machine, Start};
 use m161_tlb::Tlb;
 use std::alloc::{AllocError, Global};
 use std::marker::Model;
@@ -48,8 +45,8 @@ impl Before {
     }
 
     /// After how many Steps a machine may be this one: it has the same start, and has accepted so
-    /// many events more and counted so many Steps more. As long as it has dropped no entry of its
-    /// log, that begins with this log, and goes on with Steps alone. `None` if it can't be this one.
+    /// many events more and counted as many Steps more. As long as it has dropped no entry of its
+    /// log, that begins with this log. `None` if it can't be this one.
     pub(crate) fn steps_to<T: Tlb, D: Console>(&self, machine: &Machine<T, D>) -> Option<u64>
         ensures { IfSome result (λ made. IsLater self.now made machine.now) }
     {
@@ -62,18 +59,13 @@ impl Before {
         }
     }
 
-    // Whether a machine's log, unless entries of it were dropped, begins with this log, and goes on
-    // with Steps alone.
+    // Whether a machine's log, unless entries of it were dropped, begins with this log.
     fn goes_on<T: Tlb, D: Console>(&self, machine: &Machine<T, D>) -> bool
         ensures { result ≡ true → machine.now.base.made ≡ 0
-            → GoesOn self.now.log machine.now }
+            → take (length self.now.log) machine.now.log ≡ self.now.log }
     {
-        if machine.base().made() > 0 {
-            return true;
-        }
-        machine.log_len() >= self.log.len()
-            && begins_with(machine, self.log.as_slice())
-            && has_steps_from(machine, self.log.len())
+        machine.base().made() > 0
+            || machine.log_len() >= self.log.len() && begins_with(machine, self.log.as_slice())
     }
 }
 
@@ -100,33 +92,6 @@ fn begins_with<T: Tlb, D: Console>(machine: &Machine<T, D>, entries: &[Entry]) -
         }
     }
     true
-}
-
-// Whether a machine's log has Steps alone from this entry on.
-fn has_steps_from<T: Tlb, D: Console>(machine: &Machine<T, D>, from: usize) -> bool
-    requires { from ≤ length machine.now.log }
-    ensures { result ≡ true → list_all (is_step_below (length machine.now.state.processors))
-        (events_of (drop from machine.now.log)) ≡ true }
-{
-    let mut first = machine.log_len();
-    while first > from {
-        first -= 1;
-        if !is_step(machine.log_at(first).event, machine.processors()) {
-            return false;
-        }
-    }
-    true
-}
-
-// Whether an event is a Step of one of these processors.
-fn is_step(event: Event, processors: u32) -> bool
-    ensures { result ≡ is_step_below processors event }
-{
-    match event {
-        Event::Step(p) => p < processors,
-        Event::Key(_) => false,
-        Event::Done => false,
-    }
 }
 
 // Whether two entries are the same.

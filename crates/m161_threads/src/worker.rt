@@ -12,10 +12,19 @@ use m161_bus::Console;
 use m161_machine::Refusal;
 use m161_tlb::Tlb;
 use std::alloc::Global;
+use std::hint::spin_loop;
 use std::sync::ledger::Ledger;
-use std::sync::{Condvar, Mutex, Wait};
+use std::sync::{Condvar, Mutex, MutexGuard, Wait};
 use std::thread;
 use std::thread::{Promise, PromisedHandle, Scope, Threads};
+
+/// How many times a worker tries to take the lock of a burst before it sleeps.
+const TRIES: u32 = 64;
+
+/// The first pause between two tries, in turns of a loop, and how many times it doubles.
+const PAUSE: u32 = 16;
+
+const LONGEST_PAUSE: u32 = 6;
 
 /// The result of a worker: its seat, how many Steps it made, and why it stopped early, unless
 /// because the machine is off.
@@ -98,6 +107,25 @@ impl StartLine {
     }
 }
 
+// Lets a time go by that grows with the number of times that the lock was tried.
+fn pause(tried: u32) {
+    for _ in 0..PAUSE << tried.min(LONGEST_PAUSE) {
+        spin_loop();
+    }
+}
+
+// Takes the lock. A worker that makes bursts first tries so many times, with longer and longer
+// pauses: to sleep until the holder lets it go costs both as much as hundreds of Steps.
+fn take_lock<'b, B, R: Wait>(rt: &R, book: &'b Mutex<B>, tries: u32) -> MutexGuard<'b, B> {
+    for tried in 0..tries {
+        if let Some(guard) = book.try_lock() {
+            return guard;
+        }
+        pause(tried);
+    }
+    book.lock(rt)
+}
+
 // Takes the lock and makes a burst of at most `most` Steps of a seat's processor.
 fn take_turn<L: Ledger, M: Ledger, T: Tlb, D: Console, R: Wait>(
     rt: &R,
@@ -109,7 +137,7 @@ fn take_turn<L: Ledger, M: Ledger, T: Tlb, D: Console, R: Wait>(
     ensures within { result.made ≤ most }
     ensures whole { result.refusal ≡ None → result.made ≡ most }
 {
-    let mut book = book.lock(rt);
+    let mut book = take_lock(rt, book, if most > 1 { TRIES } else { 0 });
     let burst = book.step_burst(seat, most);
     if let Some(Refusal::Off) = burst.refusal {
         book.note_off(seat);

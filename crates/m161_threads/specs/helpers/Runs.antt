@@ -1,11 +1,10 @@
-use Rattle.std.specs.Prelude.{◌≡◌, ◌≢◌, ℕ, ◌+◌, min, Bool, true, List, length, sum, take, drop, All}
-use Rattle.std.specs.List.{list_all}
+use Rattle.std.specs.Prelude.{◌≡◌, ◌≢◌, ℕ, ◌+◌, min, Bool, List, length, sum, take, All}
 use Rattle.m161_machine.specs.declared.event.Entry.{Entry}
 use Rattle.m161_machine.specs.State.{counts}
-use Rattle.m161_machine.specs.History.{History, Start, IsReplay, boot_state, events_of}
+use Rattle.m161_machine.specs.History.{History, Start, IsReplay, boot_state}
 use Rattle.m161_threads.specs.declared.cause.Cause.{Cause}
 use Rattle.m161_threads.specs.declared.cause.Cause.TheVariants.{Swapped}
-use Rattle.m161_threads.specs.Runs.{IsOfRun, is_step_below}
+use Rattle.m161_threads.specs.Runs.{IsOfRun}
 use Rattle.m161_threads.specs.Shares.{HasCount, NotedOnlyOff, SeatState}
 
 -- what is kept of a machine before a run, to compare the machine after it with
@@ -30,20 +29,13 @@ pub record IsTold (h : History) : Type 0 where
   pub number : h.state.made ≡ h.base.made + length h.log
   pub last : length h.log ≡ min h.start.conf.log h.state.made
 
--- a log begins with another one, and goes on with Steps alone
-pub record GoesOn (log : List Entry) (after : History) : Type 0 where
-  pub log_is : take (length log) after.log ≡ log
-  pub steps :
-      list_all (is_step_below (length after.state.processors))
-      (events_of (drop (length log) after.log)) ≡ true
-
 -- the comparison of a machine with what was kept of another: it may be that one after this many
 -- Steps
 pub record IsLater (past : Past) (made : ℕ) (after : History) : Type 0 where
   pub start_is : after.start ≡ past.start
   pub events_made : after.state.made ≡ past.made + made
   pub counted : sum (counts after.state) ≡ past.counted + made
-  pub whole : after.base.made ≡ 0 → GoesOn past.log after
+  pub whole : after.base.made ≡ 0 → take (length past.log) after.log ≡ past.log
 
 -- how a run that began fails, by the comparison with what was kept before it
 abbrev pub FailsLater : Past → Cause → History → Type 0
