@@ -8,7 +8,7 @@
 //! ```
 //!
 //! The machine of `m161_machine` works over any TLB and any console that prove their laws. Here they
-//! are a TLB that is searched row by row, and a console that keeps its bytes in a vector.
+//! are a TLB whose rows are found by a hash of the page, and a console that keeps its bytes in a ring.
 #![tactic(auto)]
 
 pub use m161_machine::{
@@ -17,10 +17,10 @@ pub use m161_machine::{
 };
 
 /// The TLB of the machine that the program runs.
-pub type Tlb = m161_tlb_scan::Scan;
+pub type Tlb = m161_tlb_index::Index;
 
 /// The console of that machine.
-pub type Console = m161_console::PlainConsole;
+pub type Console = m161_console::RingConsole;
 
 /// The machine that the program runs.
 pub type Machine = m161_machine::Machine<Tlb, Console>;

@@ -1,15 +1,14 @@
 //! The auditor on the small kernel and its variants, and the texts of watches.
 
 use super::same;
+use m161::{Console, Tlb};
 use m161_asm::assemble;
 use m161_audit::{
     AuditError, BootError, Conf, Event, Fault, Finding, Watch, audit, audit_events, read_watches,
 };
-use m161_console::PlainConsole;
 use m161_elf_writer::write;
 use m161_steplog::read_schedule;
 use m161_test_support::kernel::kernel_with;
-use m161_tlb_scan::Scan;
 use std::alloc::Global;
 use std::process::Abort;
 use std::test::Fail;
@@ -64,10 +63,10 @@ fn check(
 ) -> Result<(), Fail> {
     let file = kernel_with(alloc, changes)?;
     let events = read_schedule(alloc, schedule)?;
-    let found = audit_events::<Scan, PlainConsole>(alloc, &file, CONF, &events, watches);
+    let found = audit_events::<Tlb, Console>(alloc, &file, CONF, &events, watches);
     same(rt, found, expected);
     let list = events.to_vec(alloc)?;
-    let found = audit::<Scan, PlainConsole>(alloc, &file, CONF, list.as_slice(), watches);
+    let found = audit::<Tlb, Console>(alloc, &file, CONF, list.as_slice(), watches);
     same(rt, found, expected);
     Ok(())
 }
@@ -189,7 +188,7 @@ fn audit_errors(rt: HostRuntime) -> Result<(), Fail> {
         )?;
     }
     let conf = Conf { ram: 4097, ..CONF };
-    let found = audit::<Scan, PlainConsole>(alloc, &[], conf, &[Event::Done], &bad);
+    let found = audit::<Tlb, Console>(alloc, &[], conf, &[Event::Done], &bad);
     same(&rt, found, Err(AuditError::Boot(BootError::BadConf)));
     Ok(())
 }
@@ -248,7 +247,7 @@ fn check_careless(
 ) -> Result<(), Fail> {
     let file = write(alloc, &assemble(alloc, CARELESS)?)?;
     let events = read_schedule(alloc, schedule)?;
-    let found = audit_events::<Scan, PlainConsole>(alloc, &file, CONF, &events, watches);
+    let found = audit_events::<Tlb, Console>(alloc, &file, CONF, &events, watches);
     same(rt, found, Ok(expected));
     Ok(())
 }

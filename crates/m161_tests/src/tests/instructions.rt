@@ -5,6 +5,7 @@
 use super::listing::Left::{Hi, Lo, Memory, Pc, Register};
 use super::listing::{Left, last_step, part_of};
 use super::same;
+use m161::Machine;
 use m161_test_support::outcomes::{
     ADDRESS_LOAD, ADDRESS_STORE, Answer, BREAKPOINT, BUS_DATA, ENTRY, LOAD_MISS, OVERFLOW, RAN,
     RESERVED, STORE_MISS, SYSCALL, UNUSABLE,
@@ -340,7 +341,7 @@ fn leaves(
     ]?;
     program.extend_from_slice(words)?;
     let steps = u32::try_from(program.len())?;
-    let machine = last_step(rt, text, ENTRY, &program, steps, RAN)?;
+    let machine: Machine = last_step(rt, text, ENTRY, &program, steps, RAN)?;
     for part in left {
         same(
             rt,
@@ -419,7 +420,7 @@ fn stops(rt: HostRuntime) -> Result<(), Fail> {
             0x3408_0005,
             word,
         ];
-        let machine = last_step(&rt, text, ENTRY, &program, 7, answer)?;
+        let machine: Machine = last_step(&rt, text, ENTRY, &program, 7, answer)?;
         let pc = if answer == LOAD_MISS || answer == STORE_MISS {
             0x8000_0000
         } else {

@@ -4,7 +4,7 @@
 //! have to execute an instruction; the last has the outcome that the row names. A `Run` names each
 //! event and its answer, on a machine of any size.
 //!
-//! In both forms a Step that traps or is idle has to leave the general registers, HI and LO of all
+//! Both forms run over each TLB with each console. In both a Step that traps or is idle has to leave the general registers, HI and LO of all
 //! processors and the memory as they were, and a refused event all that the views show, but for the
 //! TLB rows of other processors than 0. The log of each has to agree with another machine of the
 //! same file.
@@ -14,15 +14,19 @@
 //! they leave is worked out by hand from Kane's descriptions and this project's own rules.
 
 use super::same;
-use m161::{Console, Machine, Tlb};
+use m161_bus::Console;
+use m161_console::{PlainConsole, RingConsole};
 use m161_cop0::REGISTERS;
 use m161_isa::Reg;
 use m161_machine::{
-    Conf, Event, Exception, Outcome, ProcessorState, Refusal, Register as CopRegister,
+    Conf, Event, Exception, Machine, Outcome, ProcessorState, Refusal, Register as CopRegister,
 };
 use m161_steplog::{Verdict, verify};
 use m161_test_support::files::{file_at, file_from};
 use m161_test_support::outcomes::{Answer, ENTRY, RAN, SMALLEST, Times};
+use m161_tlb::Tlb;
+use m161_tlb_index::Index;
+use m161_tlb_scan::Scan;
 use std::alloc::Global;
 use std::process::Abort;
 use std::test::Fail;
@@ -93,11 +97,24 @@ pub(crate) enum Left {
     Entries(usize),
 }
 
-/// Runs rows, and fails the test at the first that leaves something else.
+/// Runs rows over each TLB and each console, and fails the test at the first that leaves something
+/// else.
 pub(crate) fn check(rt: &(impl Abort + AllocGlobal), rows: &[Worked]) -> Result<(), Fail> {
+    check_over::<Scan, PlainConsole>(rt, rows)?;
+    check_over::<Scan, RingConsole>(rt, rows)?;
+    check_over::<Index, PlainConsole>(rt, rows)?;
+    check_over::<Index, RingConsole>(rt, rows)
+}
+
+fn check_over<T: Tlb, D: Console>(
+    rt: &(impl Abort + AllocGlobal),
+    rows: &[Worked],
+) -> Result<(), Fail> {
     for row in rows {
         let words = words_of(rt.alloc(), row.program)?;
-        let machine = last_step(rt, row.name, row.entry, &words, row.steps, row.last)?;
+        let machine: Machine<T, D> = last_step(
+            rt, row.name, row.entry, &words, row.steps, row.last,
+        )?;
         for left in row.left {
             same(
                 rt,
@@ -111,10 +128,20 @@ pub(crate) fn check(rt: &(impl Abort + AllocGlobal), rows: &[Worked]) -> Result<
 
 /// The same of rows with events.
 pub(crate) fn check_runs(rt: &(impl Abort + AllocGlobal), runs: &[Run]) -> Result<(), Fail> {
+    check_runs_over::<Scan, PlainConsole>(rt, runs)?;
+    check_runs_over::<Scan, RingConsole>(rt, runs)?;
+    check_runs_over::<Index, PlainConsole>(rt, runs)?;
+    check_runs_over::<Index, RingConsole>(rt, runs)
+}
+
+fn check_runs_over<T: Tlb, D: Console>(
+    rt: &(impl Abort + AllocGlobal),
+    runs: &[Run],
+) -> Result<(), Fail> {
     for run in runs {
         let words = words_of(rt.alloc(), run.program)?;
         let file = file_from(rt.alloc(), run.entry, run.base, &words)?;
-        let mut machine = boot_run(rt.alloc(), run, &file)?;
+        let mut machine: Machine<T, D> = boot_run(rt.alloc(), run, &file)?;
         make_stages(rt, run.name, &mut machine, run.stages)?;
         check_log(rt, run.name, &file, &machine)?;
     }
@@ -130,6 +157,20 @@ pub(crate) fn check_with(
     events: &[Times],
     left: &[(u32, Left)],
 ) -> Result<(), Fail> {
+    check_with_over::<Scan, PlainConsole>(rt, run, others, text, events, left)?;
+    check_with_over::<Scan, RingConsole>(rt, run, others, text, events, left)?;
+    check_with_over::<Index, PlainConsole>(rt, run, others, text, events, left)?;
+    check_with_over::<Index, RingConsole>(rt, run, others, text, events, left)
+}
+
+fn check_with_over<T: Tlb, D: Console>(
+    rt: &(impl Abort + AllocGlobal),
+    run: &Run,
+    others: &[(usize, u32)],
+    text: &str,
+    events: &[Times],
+    left: &[(u32, Left)],
+) -> Result<(), Fail> {
     let mut words = words_of(rt.alloc(), run.program)?;
     for (place, other) in others {
         if let Some(word) = words.get_mut(*place) {
@@ -137,7 +178,7 @@ pub(crate) fn check_with(
         }
     }
     let file = file_from(rt.alloc(), run.entry, run.base, &words)?;
-    let mut machine = boot_run(rt.alloc(), run, &file)?;
+    let mut machine: Machine<T, D> = boot_run(rt.alloc(), run, &file)?;
     make_stages(rt, text, &mut machine, run.stages)?;
     make(rt, text, &mut machine, events)?;
     compare(rt, text, &machine, left);
@@ -145,20 +186,24 @@ pub(crate) fn check_with(
 }
 
 /// Fails the test where a machine's log isn't that of a machine of the same file.
-pub(crate) fn check_log(
+pub(crate) fn check_log<T: Tlb, D: Console>(
     rt: &(impl Abort + AllocGlobal),
     name: &str,
     file: &[u8],
-    machine: &Machine,
+    machine: &Machine<T, D>,
 ) -> Result<(), Fail> {
     let log = machine.copy_log(rt.alloc())?;
-    let found = verify::<Tlb, Console>(rt.alloc(), file, machine.conf(), &log)?;
+    let found = verify::<T, D>(rt.alloc(), file, machine.conf(), &log)?;
     same(rt, (name, found), (name, Verdict::Agrees));
     Ok(())
 }
 
 /// The machine of a row, booted from its file.
-fn boot_run(alloc: Global, run: &Run, file: &[u8]) -> Result<Machine, Fail> {
+fn boot_run<T: Tlb, D: Console>(
+    alloc: Global,
+    run: &Run,
+    file: &[u8],
+) -> Result<Machine<T, D>, Fail> {
     let conf = Conf {
         ram: run.ram,
         processors: run.processors,
@@ -176,10 +221,10 @@ fn words_of(alloc: Global, program: &[(u32, &str)]) -> Result<Vec<u32>, Fail> {
     Ok(words)
 }
 
-fn make_stages(
+fn make_stages<T: Tlb, D: Console>(
     rt: &(impl Abort + AllocGlobal),
     name: &str,
-    machine: &mut Machine,
+    machine: &mut Machine<T, D>,
     stages: &[Stage],
 ) -> Result<(), Fail> {
     for stage in stages {
@@ -191,10 +236,10 @@ fn make_stages(
 
 /// Makes events, and fails the test at the first with another answer, or that changes something
 /// that it has to leave.
-pub(crate) fn make(
+pub(crate) fn make<T: Tlb, D: Console>(
     rt: &(impl Abort + AllocGlobal),
     name: &str,
-    machine: &mut Machine,
+    machine: &mut Machine<T, D>,
     events: &[Times],
 ) -> Result<(), Fail> {
     for (event, times, answer) in events {
@@ -207,10 +252,10 @@ pub(crate) fn make(
 
 /// Makes an event, and fails the test where the answer is another or something changes that has to
 /// stay.
-fn make_one(
+fn make_one<T: Tlb, D: Console>(
     rt: &(impl Abort + AllocGlobal),
     name: &str,
-    machine: &mut Machine,
+    machine: &mut Machine<T, D>,
     event: Event,
     answer: Answer,
 ) -> Result<(), Fail> {
@@ -233,7 +278,13 @@ fn make_one(
 }
 
 /// Fails the test where an event is answered otherwise.
-fn check_answer(rt: &impl Abort, name: &str, machine: &mut Machine, event: Event, answer: Answer) {
+fn check_answer<T: Tlb, D: Console>(
+    rt: &impl Abort,
+    name: &str,
+    machine: &mut Machine<T, D>,
+    event: Event,
+    answer: Answer,
+) {
     let found = machine.event(event);
     let place = (name, machine.log_len(), event);
     same(rt, (place, found), (place, answer));
@@ -265,9 +316,9 @@ fn change<T: PartialEq + Copy>(before: &[T], after: &[T]) -> Option<(usize, Opti
 
 /// The general registers, HI and LO of each processor; with `all` whatever else the views show,
 /// but for memory and the TLB rows of other processors than 0.
-fn values_of(
+fn values_of<T: Tlb, D: Console>(
     rt: &(impl Abort + AllocGlobal),
-    machine: &Machine,
+    machine: &Machine<T, D>,
     all: bool,
 ) -> Result<Vec<u64>, Fail> {
     let mut values = Vec::new(rt.alloc());
@@ -289,9 +340,9 @@ fn values_of(
 }
 
 /// Appends a processor's general registers, HI and LO.
-fn push_registers(
+fn push_registers<T: Tlb, D: Console>(
     rt: &impl Abort,
-    machine: &Machine,
+    machine: &Machine<T, D>,
     p: u32,
     values: &mut Vec<u64>,
 ) -> Result<(), Fail> {
@@ -305,9 +356,9 @@ fn push_registers(
 }
 
 /// Appends what else the views show of a processor, but for its TLB.
-fn push_control(
+fn push_control<T: Tlb, D: Console>(
     rt: &impl Abort,
-    machine: &Machine,
+    machine: &Machine<T, D>,
     p: u32,
     values: &mut Vec<u64>,
 ) -> Result<(), Fail> {
@@ -327,7 +378,11 @@ fn push_control(
 }
 
 /// Appends the words of processor 0's TLB rows.
-fn push_rows(rt: &impl Abort, machine: &Machine, values: &mut Vec<u64>) -> Result<(), Fail> {
+fn push_rows<T: Tlb, D: Console>(
+    rt: &impl Abort,
+    machine: &Machine<T, D>,
+    values: &mut Vec<u64>,
+) -> Result<(), Fail> {
     assert!(rt; machine.processors() > 0);
     for i in 0..64u8 {
         let row = machine.row(0, i);
@@ -338,7 +393,12 @@ fn push_rows(rt: &impl Abort, machine: &Machine, values: &mut Vec<u64>) -> Resul
 }
 
 /// Fails the test where other parts are left.
-pub(crate) fn compare(rt: &impl Abort, name: &str, machine: &Machine, left: &[(u32, Left)]) {
+pub(crate) fn compare<T: Tlb, D: Console>(
+    rt: &impl Abort,
+    name: &str,
+    machine: &Machine<T, D>,
+    left: &[(u32, Left)],
+) {
     for (p, part) in left {
         let place = (name, machine.log_len(), *p);
         same(rt, (place, part_of(rt, machine, *p, *part)), (place, *part));
@@ -346,7 +406,12 @@ pub(crate) fn compare(rt: &impl Abort, name: &str, machine: &Machine, left: &[(u
 }
 
 /// What is left at the same part of a machine, of a processor.
-pub(crate) fn part_of(rt: &impl Abort, machine: &Machine, p: u32, part: Left) -> Left {
+pub(crate) fn part_of<T: Tlb, D: Console>(
+    rt: &impl Abort,
+    machine: &Machine<T, D>,
+    p: u32,
+    part: Left,
+) -> Left {
     assert!(rt; p < machine.processors());
     match part {
         Left::Register(r, _) => {
@@ -378,14 +443,14 @@ pub(crate) fn part_of(rt: &impl Abort, machine: &Machine, p: u32, part: Left) ->
 
 /// The smallest machine after `steps` Steps of these words, of which all but the last execute an
 /// instruction, and the last has this answer. Its log has to replay.
-pub(crate) fn last_step(
+pub(crate) fn last_step<T: Tlb, D: Console>(
     rt: &(impl Abort + AllocGlobal),
     name: &str,
     entry: u32,
     words: &[u32],
     steps: u32,
     last: Answer,
-) -> Result<Machine, Fail> {
+) -> Result<Machine<T, D>, Fail> {
     let file = file_at(rt.alloc(), entry, words)?;
     let mut machine = Machine::boot(rt.alloc(), &file, SMALLEST)?;
     run_steps(rt, &mut machine, steps.saturating_sub(1));
@@ -395,7 +460,11 @@ pub(crate) fn last_step(
 }
 
 /// Makes `steps` Steps, each of which executes an instruction.
-pub(crate) fn run_steps(rt: &impl Abort, machine: &mut Machine, steps: u32) {
+pub(crate) fn run_steps<T: Tlb, D: Console>(
+    rt: &impl Abort,
+    machine: &mut Machine<T, D>,
+    steps: u32,
+) {
     for _ in 0..steps {
         same(rt, machine.step(0), RAN);
     }

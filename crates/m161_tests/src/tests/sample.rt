@@ -2,11 +2,16 @@
 
 use super::listing::Left::{Count, Entries, Memory, TlbRow};
 use super::listing::{Left, check_log, compare, make};
-use m161::Machine;
-use m161_machine::Conf;
+use m161_bus::Console;
+use m161_console::{PlainConsole, RingConsole};
 use m161_machine::Event::Step;
+use m161_machine::{Conf, Machine};
 use m161_test_support::kernel::{SCHEDULE, kernel_file};
 use m161_test_support::outcomes::{INTERRUPT, LOAD_MISS, OFF, RAN, Times};
+use m161_tlb::Tlb;
+use m161_tlb_index::Index;
+use m161_tlb_scan::Scan;
+use std::process::Abort;
 use std::test::Fail;
 
 /// What it leaves.
@@ -21,16 +26,23 @@ static LEFT: [(u32, Left); 8] = [
     (1, TlbRow(18, 0x8001_2000, 0)),
 ];
 
-#[test]
-fn shootdown(rt: HostRuntime) -> Result<(), Fail> {
+fn shootdown_over<T: Tlb, D: Console>(rt: &(impl Abort + AllocGlobal)) -> Result<(), Fail> {
     let file = kernel_file(rt.alloc())?;
     let conf = Conf {
         ram: 1_048_576,
         processors: 2,
         log: 1000,
     };
-    let mut machine = Machine::boot(rt.alloc(), &file, conf)?;
-    make(&rt, "shootdown", &mut machine, &SCHEDULE)?;
-    compare(&rt, "shootdown", &machine, &LEFT);
-    check_log(&rt, "shootdown", &file, &machine)
+    let mut machine: Machine<T, D> = Machine::boot(rt.alloc(), &file, conf)?;
+    make(rt, "shootdown", &mut machine, &SCHEDULE)?;
+    compare(rt, "shootdown", &machine, &LEFT);
+    check_log(rt, "shootdown", &file, &machine)
+}
+
+#[test]
+fn shootdown(rt: HostRuntime) -> Result<(), Fail> {
+    shootdown_over::<Scan, PlainConsole>(&rt)?;
+    shootdown_over::<Scan, RingConsole>(&rt)?;
+    shootdown_over::<Index, PlainConsole>(&rt)?;
+    shootdown_over::<Index, RingConsole>(&rt)
 }
