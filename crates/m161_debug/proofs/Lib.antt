@@ -1,7 +1,5 @@
 mod Sets
 mod Going
-mod Shown
-mod Places
 mod Asked
 mod Numerals
 mod Obeying

@@ -24,7 +24,8 @@ use Rattle.m161_debug.specs.declared.stop.Stop.{Stop}
 use Rattle.m161_debug.specs.declared.stop.Stop.TheVariants.{Break, Refused, Off, End}
 use Rattle.m161_debug.specs.Breakpoints.{SessionState, breakpoint, break_fault, has, with_breakpoint, without_breakpoint}
 use Rattle.m161_debug.specs.Stops.{Stops}
-use Rattle.m161_debug.specs.Shows.{show_regs_text, show_cop0_text, show_tlb_text, show_mem_text, show_code_text, show_log_text}
+use Rattle.m161_display.specs.Shows.{show_regs_text, show_cop0_text, show_tlb_text, show_mem_text, show_code_text}
+use Rattle.m161_debug.specs.Shows.{show_log_text}
 use Rattle.m161_text.specs.Lines.{with_line_end}
 use Rattle.m161_debug.specs.Commands.{IsAsked}
 

@@ -26,7 +26,7 @@
 
 mod breakpoints;
 mod command;
-mod display;
+mod log;
 mod reading;
 mod room;
 mod session;

@@ -6,14 +6,16 @@ ghost use Rattle.m161_machine.specs.History.{Answers};
 ghost use Rattle.m161_debug.specs.Breakpoints.{breakpoint, break_answer, break_fault, break_leaves, has, without_breakpoint, IsSet};
 ghost use Rattle.m161_debug.specs.Stops.{is_break, Stops};
 ghost use Rattle.m161_debug.specs.Obeys.{used_by};
-ghost use Rattle.m161_debug.specs.Shows.{show_code_text, show_cop0_text, show_log_text, show_mem_text, show_regs_text, show_tlb_text};
+ghost use Rattle.m161_display.specs.Shows.{show_code_text, show_cop0_text, show_mem_text, show_regs_text, show_tlb_text};
+ghost use Rattle.m161_debug.specs.Shows.{show_log_text};
 
 mod commands;
 
 use crate::breakpoints::{BreakError, Breakpoint, Breakpoints, MOST};
-use crate::display::{show_code, show_cop0, show_log, show_mem, show_regs, show_tlb};
+use crate::log::show_log;
 use crate::stop::Stop;
 use m161_bus::Console;
+use m161_display::{show_code, show_cop0, show_mem, show_regs, show_tlb};
 use m161_machine::{Event, Machine, Outcome, Refusal};
 use m161_tlb::Tlb;
 use std::alloc::AllocError;

@@ -9,8 +9,8 @@ use Rattle.m161_machine.specs.History.{History, Continues, IsReplay, Leads, Star
 use Rattle.m161_machine.proofs.Leading.{leads_rest}
 use Rattle.m161_machine.proofs.Made.{counted}
 use Rattle.m161_machine.proofs.Counted.{count_through, counts_run, counts_through, length_through}
-use Rattle.m161_threads.specs.declared.cause.Cause.{Cause}
-use Rattle.m161_threads.specs.declared.cause.Cause.TheVariants.{Swapped}
+use Rattle.m161_cause.specs.declared.cause.Cause.{Cause}
+use Rattle.m161_cause.specs.declared.cause.Cause.TheVariants.{Swapped}
 use Rattle.m161_threads.specs.Runs.{FailsRun, Interleaves, IsOfRun, MakesSteps, ShowsInterleaving, ShowsSteps, is_step_below}
 use Rattle.m161_threads.specs.helpers.Runs.{FailsLater, IsChecked, IsLater, IsTold, Past, past_of}
 use Rattle.m161_threads.specs.Shares.{SeatState, new_seat, seats_from}

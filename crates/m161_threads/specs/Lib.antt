@@ -1,4 +1,3 @@
 pub mod Shares
-pub mod Cause
 pub mod Runs
 pub mod helpers

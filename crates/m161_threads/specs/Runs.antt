@@ -4,8 +4,8 @@ use Rattle.m161_machine.specs.declared.event.Event.{Event}
 use Rattle.m161_machine.specs.declared.event.Event.TheVariants as event
 use Rattle.m161_machine.specs.State.{counts}
 use Rattle.m161_machine.specs.History.{History, Continues, IsReplay, steps_of}
-use Rattle.m161_threads.specs.declared.cause.Cause.{Cause}
-use Rattle.m161_threads.specs.declared.cause.Cause.TheVariants.{BadQuotas, BadBurst, Swapped}
+use Rattle.m161_cause.specs.declared.cause.Cause.{Cause}
+use Rattle.m161_cause.specs.declared.cause.Cause.TheVariants.{BadQuotas, BadBurst, Swapped}
 
 -- The result of a run in threads: one interleaving of Steps.
 

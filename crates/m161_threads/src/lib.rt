@@ -21,14 +21,13 @@
 
 mod before;
 mod book;
-mod cause;
 mod locked;
 mod tally;
 mod threaded;
 mod worker;
 
 pub use book::{Book, Burst, Seat};
-pub use cause::Cause;
 pub use locked::{Locked, Miscount};
+pub use m161_cause::Cause;
 pub use m161_machine::{Machine, Outcome, Refusal};
 pub use threaded::{Gate, Report, RunFault, run, run_bursts};

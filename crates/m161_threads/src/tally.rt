@@ -4,8 +4,8 @@ ghost use Rattle.std.specs.Prelude.{◌≡◌, ◌≤◌, ◌<◌, ℕ, IfErr, I
 ghost use Rattle.m161_threads.specs.Runs.{IsOfRun};
 
 use crate::book::Seat;
-use crate::cause::Cause;
 use crate::worker::Worked;
+use m161_cause::Cause;
 use std::alloc::Global;
 use std::sync::ledger::Ledger;
 

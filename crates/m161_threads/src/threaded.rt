@@ -8,11 +8,11 @@ ghost use Rattle.m161_threads.specs.helpers.Work.{HasWorked};
 
 use crate::before::Before;
 use crate::book::Seat;
-use crate::cause::Cause;
 use crate::locked::{Locked, Miscount};
 use crate::tally::{Tally, take_apart, total};
 use crate::worker::{StartLine, run_workers};
 use m161_bus::Console;
+use m161_cause::Cause;
 use m161_machine::Machine;
 use m161_tlb::Tlb;
 use std::alloc::Global;

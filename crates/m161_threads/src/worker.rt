@@ -6,9 +6,9 @@ ghost use Rattle.m161_threads.specs.Shares.{SeatState};
 ghost use Rattle.m161_threads.specs.helpers.Work.{KeepsTask, Works, after_turn, task_of};
 
 use crate::book::{Book, Burst, Seat};
-use crate::cause::Cause;
 use crate::threaded::Gate;
 use m161_bus::Console;
+use m161_cause::Cause;
 use m161_machine::Refusal;
 use m161_tlb::Tlb;
 use std::alloc::Global;

@@ -1,14 +1,2 @@
-pub mod Assemblies
-pub mod Audits
-pub mod Debugs
-pub mod Demos
-pub mod Faults
-pub mod Known
-pub mod Listings
-pub mod Replays
-pub mod Runs
-pub mod Samples
-pub mod Sizes
 pub mod Works
-pub mod Threads
 pub mod helpers

@@ -3,16 +3,16 @@ use Rattle.std.specs.Io.KnownBytes.{Appends}
 use Rattle.clap.specs.Words.{Text, subcommand_of}
 use Rattle.s161_command.specs.declared.command.Task.{Task}
 use Rattle.s161_command.specs.declared.command.Task.TheVariants.{Assemble, Audit, Debug, Demo, Disassemble, Replay, Run, RunInThreads}
-use Rattle.s161_work.specs.Assemblies.{IsAssembled}
-use Rattle.s161_work.specs.Audits.{IsAudited}
+use Rattle.s161_texts.specs.Assemblies.{IsAssembled}
+use Rattle.s161_audit.specs.Audits.{IsAudited}
 use Rattle.s161_command.specs.Commands.{IsTask, command_line}
-use Rattle.s161_work.specs.Debugs.{IsDebug}
-use Rattle.s161_work.specs.Demos.{IsDemo}
-use Rattle.s161_work.specs.Listings.{IsDisassembled}
-use Rattle.s161_work.specs.Replays.{IsReplayed}
-use Rattle.s161_work.specs.Runs.{IsRun}
-use Rattle.s161_work.specs.Samples.{image_file}
-use Rattle.s161_work.specs.Threads.{IsRunInThreads}
+use Rattle.s161_debug.specs.Debugs.{IsDebug}
+use Rattle.s161_runs.specs.Demos.{IsDemo}
+use Rattle.s161_texts.specs.Listings.{IsDisassembled}
+use Rattle.s161_runs.specs.Replays.{IsReplayed}
+use Rattle.s161_runs.specs.Runs.{IsRun}
+use Rattle.s161_base.specs.Samples.{image_file}
+use Rattle.s161_threads.specs.Threads.{IsRunInThreads}
 
 -- The effect of a command line.
 

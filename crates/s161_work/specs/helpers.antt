@@ -1,5 +1,4 @@
 -- Definitions that only contracts of private functions, or proofs, use.
 pub mod Assemblies
 pub mod Listings
-pub mod Samples
 pub mod Works

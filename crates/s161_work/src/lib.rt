@@ -2,24 +2,11 @@
 //! of a command line.
 #![tactic(auto)]
 
-pub mod assembly;
-pub mod audit;
-pub mod debug;
-pub mod demo;
-pub mod disassembly;
-pub mod events;
-pub mod fault;
-pub mod files;
-pub mod input;
-pub mod replay;
-pub mod run;
-pub mod sample;
-pub mod summary;
-pub mod texts;
-pub mod threaded;
 pub mod work;
 
-use m161::{Console, Tlb};
-
-/// The session that shows the machine.
-pub type Session = m161_debug::Session<Tlb, Console>;
+pub use s161_audit::{audit, watches};
+pub use s161_base::{fault, files, finished, input, sample, texts};
+pub use s161_debug::debug;
+pub use s161_runs::{demo, events, replay, run, summary};
+pub use s161_texts::{assembly, disassembly};
+pub use s161_threads::threaded;

@@ -2,8 +2,8 @@ use Rattle.std.specs.Prelude.{◌≡◌, ◌≢◌, ℕ, ◌+◌, min, Bool, Lis
 use Rattle.m161_machine.specs.declared.event.Entry.{Entry}
 use Rattle.m161_machine.specs.State.{counts}
 use Rattle.m161_machine.specs.History.{History, Start, IsReplay, boot_state}
-use Rattle.m161_threads.specs.declared.cause.Cause.{Cause}
-use Rattle.m161_threads.specs.declared.cause.Cause.TheVariants.{Swapped}
+use Rattle.m161_cause.specs.declared.cause.Cause.{Cause}
+use Rattle.m161_cause.specs.declared.cause.Cause.TheVariants.{Swapped}
 use Rattle.m161_threads.specs.Runs.{IsOfRun}
 use Rattle.m161_threads.specs.Shares.{HasCount, NotedOnlyOff, SeatState}
 

@@ -1,8 +1,8 @@
 use Rattle.std.specs.Prelude.{◌≡◌, ℕ, List, Option, Err}
 use Rattle.m161_asm.specs.Text.{text}
-use Rattle.s161_work.specs.declared.fault.Fault.{Fault}
-use Rattle.s161_work.specs.declared.fault.Fault.TheVariants.{Input, Memory, Source}
-use Rattle.s161_work.specs.Known.{OfText}
+use Rattle.s161_base.specs.declared.fault.Fault.{Fault}
+use Rattle.s161_base.specs.declared.fault.Fault.TheVariants.{Input, Memory, Source}
+use Rattle.s161_base.specs.Known.{OfText}
 
 -- an assembly is ended by this fault: of standard input, or of its text; or memory was refused
 abbrev pub IsAssemblyFault : Option (List ℕ) → Fault → Type 0

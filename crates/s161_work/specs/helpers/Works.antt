@@ -2,16 +2,16 @@ use Rattle.std.specs.Prelude.{◌≡◌, ◌⊎◌, ℕ, List, Option}
 use Rattle.clap.specs.Words.{Text}
 use Rattle.s161_command.specs.declared.command.Task.{Task}
 use Rattle.s161_command.specs.declared.command.Task.TheVariants.{Assemble, Audit, Debug, Demo, Disassemble, Replay, Run, RunInThreads}
-use Rattle.s161_work.specs.declared.fault.Fault.{Fault}
-use Rattle.s161_work.specs.declared.fault.Fault.TheVariants.{Memory, Output}
-use Rattle.s161_work.specs.Audits.{IsAuditFault}
+use Rattle.s161_base.specs.declared.fault.Fault.{Fault}
+use Rattle.s161_base.specs.declared.fault.Fault.TheVariants.{Memory, Output}
+use Rattle.s161_audit.specs.Audits.{IsAuditFault}
 use Rattle.s161_work.specs.helpers.Assemblies.{IsAssemblyFault}
-use Rattle.s161_work.specs.Debugs.{IsDebugFault}
+use Rattle.s161_debug.specs.Debugs.{IsDebugFault}
 use Rattle.s161_work.specs.helpers.Listings.{IsListingFault}
-use Rattle.s161_work.specs.Replays.{IsReplayFault}
-use Rattle.s161_work.specs.Runs.{IsFaultOf}
-use Rattle.s161_work.specs.Samples.{image_file}
-use Rattle.s161_work.specs.Threads.{IsThreadsFault}
+use Rattle.s161_runs.specs.Replays.{IsReplayFault}
+use Rattle.s161_runs.specs.Runs.{IsFaultOf}
+use Rattle.s161_base.specs.Samples.{image_file}
+use Rattle.s161_threads.specs.Threads.{IsThreadsFault}
 
 -- a task's work is ended by this fault, before anything is printed
 abbrev pub IsTaskFault : Task → (Text → Option (List ℕ)) → Option (List ℕ) → Fault → Type 0

@@ -2,8 +2,8 @@ use Rattle.std.proofs.Common.{◌≡◌, ◌∙◌, refl, sym, subst, ℕ, Bool,
 use Rattle.std.specs.Prelude.{IfErr, IfOk, MatchResult, nat_eq, if◌then◌else◌}
 use Rattle.std.proofs.lemmas.Bool.Decides.{nat_tests}
 use Rattle.m161_machine.specs.History.{History, IsReplay}
-use Rattle.m161_threads.specs.declared.cause.Cause.{Cause}
-use Rattle.m161_threads.specs.declared.cause.Cause.TheVariants.{BadQuotas, BadBurst}
+use Rattle.m161_cause.specs.declared.cause.Cause.{Cause}
+use Rattle.m161_cause.specs.declared.cause.Cause.TheVariants.{BadQuotas, BadBurst}
 use Rattle.m161_threads.specs.Runs.{FailsRun, bad_call, is_burst}
 use Rattle.m161_threads.proofs.threaded.run_bursts.Goals as goal
 

@@ -3,7 +3,7 @@ use Rattle.std.proofs.lemmas.List.{length-map}
 use Rattle.std.proofs.lemmas.Result.{err_from_is_err_and}
 use Rattle.m161_cpu.specs.Processor.{Processor}
 use Rattle.m161_machine.specs.State.{counts}
-use Rattle.m161_threads.specs.declared.cause.Cause.TheVariants.{NoMemory}
+use Rattle.m161_cause.specs.declared.cause.Cause.TheVariants.{NoMemory}
 use Rattle.m161_threads.specs.Runs.{FailsRun, Interleaves, IsOfRun}
 use Rattle.m161_threads.specs.helpers.Runs.{IsChecked, Past}
 use Rattle.m161_threads.specs.Shares.{SeatState}

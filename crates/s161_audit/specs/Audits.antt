@@ -1,0 +1,103 @@
+use Rattle.std.specs.Prelude.{◌≡◌, ◌⊎◌, ℕ, false, List, Option, None, Some, Ok, IfSome, codes, decimal}
+use Rattle.m161_machine.specs.declared.conf.BootError.TheVariants.{Load}
+use Rattle.m161_machine.specs.declared.event.Event.{Event}
+use Rattle.m161_machine.specs.Conf.{is_within_limits}
+use Rattle.m161_machine.specs.History.{boot_fault}
+use Rattle.m161_audit.specs.declared.finding.AuditError.{AuditError}
+use Rattle.m161_audit.specs.declared.finding.AuditError.TheVariants as audit
+use Rattle.m161_audit.specs.declared.finding.Finding.{Finding}
+use Rattle.m161_audit.specs.declared.finding.Finding.TheVariants.{Clean, Stale}
+use Rattle.m161_audit.specs.declared.watch.Watch.{Watch as Watched}
+use Rattle.m161_audit.specs.Audit.{Audits}
+use Rattle.m161_audit.specs.Watch.{AreGood, IsBad}
+use Rattle.m161_audit.specs.WatchText.{AreWatchLines, AreWatches}
+use Rattle.m161_text.specs.Lines.{with_line_end, FirstBad, lines_of}
+use Rattle.m161_text.specs.Parts.{◌␣◌, word_text}
+use Rattle.m161_steplog.specs.Schedule.{AreScheduleLines, IsSchedule}
+use Rattle.s161_command.specs.declared.command.FilesTask.{FilesTask}
+use Rattle.s161_base.specs.declared.fault.Fault.{Fault}
+use Rattle.s161_base.specs.declared.fault.Fault.TheVariants.{Conf, File, Image, Input, Memory, Schedule, Watch, Watches}
+use Rattle.s161_base.specs.Known.{IsText, OfKnown, OfText}
+use Rattle.s161_base.specs.Faults.{fault_of_boot}
+use Rattle.s161_base.specs.Texts.{HasSchedule}
+use Rattle.s161_base.specs.Samples.{IsFileName}
+use Rattle.s161_base.specs.Sizes.{conf_of}
+
+-- The output and the exit status of `audit`.
+
+abbrev pub finding_text : Finding → List ℕ
+finding_text Clean = codes "clean"
+finding_text (Stale place processor address row) =
+    codes "stale" ␣ decimal place ␣ decimal processor ␣ word_text address ␣ decimal row
+
+abbrev pub status_of_finding : Finding → ℕ
+status_of_finding Clean = 0
+status_of_finding (Stale place processor address row) = 4
+
+-- a finished audit: what it prints and its exit status; the files of the image and of the watches,
+-- and standard input have these bytes, as far as they are known
+pub record IsAudited
+    (task : FilesTask) (image watches input : Option (List ℕ)) (text : List ℕ) (status : ℕ)
+    : Type 0 where
+  pub file : List ℕ
+  pub is_file : IfSome image (λ bytes. file ≡ bytes)
+  pub watches_text : List ℕ
+  pub is_file_of_watches : IfSome watches (λ bytes. watches_text ≡ bytes)
+  pub is_text_of_watches : IsText watches_text
+  pub watched : List Watched
+  pub are_watches : AreWatches (lines_of watches_text) watched
+  pub schedule : List ℕ
+  pub is_input : IfSome input (λ bytes. schedule ≡ bytes)
+  pub is_text : IsText schedule
+  pub events : List Event
+  pub is_schedule : IsSchedule (lines_of schedule) events
+  pub finding : Finding
+  pub audits :
+      Audits file (conf_of task.size) (boot_fault file (conf_of task.size)) events watched (Ok finding)
+  pub text_is : text ≡ with_line_end (finding_text finding)
+  pub status_is : status ≡ status_of_finding finding
+
+-- why a run isn't audited
+abbrev pub fault_of_audit : AuditError → Fault
+fault_of_audit (audit.Boot e) = fault_of_boot e
+fault_of_audit (audit.BadWatch k) = Watch k
+
+-- a text isn't one of watches, by its first bad line; or memory was refused
+abbrev pub IsWatchesFault : List ℕ → Fault → Type 0
+IsWatchesFault text (Watches n) = FirstBad AreWatchLines text n
+IsWatchesFault text Memory = Unit {0}
+IsWatchesFault text _ = ⊥
+
+-- a file has watches with this property
+abbrev pub OfWatches : Option (List ℕ) → (List Watched → Type 0) → Type 0
+OfWatches watches IsSo =
+    OfText watches (λ text. (watched : List Watched) × AreWatches (lines_of text) watched × IsSo watched)
+
+abbrev pub HasWatches : Option (List ℕ) → Type 0
+HasWatches watches = OfWatches watches (λ watched. Unit {0})
+
+-- what a fault that ends an audit says of its inputs: of a file, that it is the image's or the
+-- watches'; of the watches or the schedule, its first bad line; of the configuration, the image or a
+-- watch, that the watches and the schedule had no fault. Nothing is said of reading: File, Input and
+-- Memory hold whatever else is at fault. The order in which inputs are read is tested: the image's
+-- file, the watches' file, then standard input
+abbrev pub IsAuditFault :
+    FilesTask → Option (List ℕ) → Option (List ℕ) → Option (List ℕ) → Fault → Type 0
+IsAuditFault task image watches input (File name) =
+    ((name.now ≡ task.image.now) × IsFileName task.image.now) ⊎ (name.now ≡ task.text.now)
+IsAuditFault task image watches input Input = Unit {0}
+IsAuditFault task image watches input Memory = Unit {0}
+IsAuditFault task image watches input (Watches n) =
+    OfText watches (λ text. FirstBad AreWatchLines text n)
+IsAuditFault task image watches input (Schedule n) =
+    HasWatches watches × OfText input (λ text. FirstBad AreScheduleLines text n)
+IsAuditFault task image watches input Conf =
+    HasWatches watches × HasSchedule input × (is_within_limits (conf_of task.size) ≡ false)
+IsAuditFault task image watches input (Image e) =
+    HasWatches watches × HasSchedule input
+    × OfKnown image (λ file. boot_fault file (conf_of task.size) ≡ Some (Load e))
+IsAuditFault task image watches input (Watch k) =
+    OfWatches watches (λ watched.
+    IsBad task.size.ram watched k × AreGood task.size.ram watched k)
+    × HasSchedule input × OfKnown image (λ file. boot_fault file (conf_of task.size) ≡ None)
+IsAuditFault task image watches input _ = ⊥

@@ -1,0 +1,2 @@
+pub mod Failing
+mod Sampled

@@ -1,0 +1,54 @@
+use Rattle.std.specs.Prelude.{ℕ, List, Ok}
+use Rattle.m161_asm.specs.declared.error.AsmError.{AsmError}
+use Rattle.m161_asm.specs.declared.error.ErrorKind.{ErrorKind}
+use Rattle.m161_asm.specs.declared.error.ErrorKind.TheVariants as asm
+use Rattle.m161_elf.specs.declared.image.LoadError.{LoadError}
+use Rattle.m161_elf.specs.declared.image.LoadError.TheVariants as fault
+use Rattle.m161_machine.specs.declared.conf.Conf.{Conf as Size}
+use Rattle.m161_machine.specs.declared.conf.BootError.{BootError}
+use Rattle.m161_machine.specs.declared.conf.BootError.TheVariants.{BadConf, Load, NoMemory}
+use Rattle.m161_steplog.specs.declared.fault.Fault.{Fault as TextFault}
+use Rattle.m161_steplog.specs.declared.fault.Fault.TheVariants as text
+use Rattle.m161_machine.specs.History.{History, Boots, boot_fault}
+use Rattle.s161_base.specs.declared.fault.Fault.{Fault}
+use Rattle.s161_base.specs.declared.fault.Fault.TheVariants.{Conf, Image, Log, Memory, Schedule, Source, Watches}
+
+-- How a command boots a file, and why it ends early.
+
+-- there is no reason not to boot this file, and booted is the machine
+abbrev pub BootsTo : List ℕ → Size → History → Type 0
+BootsTo file conf booted = Boots file conf (boot_fault file conf) (Ok booted)
+
+-- why a machine isn't booted, as a fault of the command
+abbrev pub fault_of_boot : BootError → Fault
+fault_of_boot BadConf = Conf
+fault_of_boot (Load e) = Image e
+fault_of_boot NoMemory = Memory
+
+-- why a schedule can't be read, as a fault of the command
+abbrev pub fault_of_schedule : TextFault → Fault
+fault_of_schedule (text.Line n) = Schedule n
+fault_of_schedule text.NoMemory = Memory
+
+-- why a log can't be read
+abbrev pub fault_of_log : TextFault → Fault
+fault_of_log (text.Line n) = Log n
+fault_of_log text.NoMemory = Memory
+
+-- why watches can't be read
+abbrev pub fault_of_watches : TextFault → Fault
+fault_of_watches (text.Line n) = Watches n
+fault_of_watches text.NoMemory = Memory
+
+-- why a file isn't loaded, as a fault of the command
+abbrev pub fault_of_load : LoadError → Fault
+fault_of_load fault.NoMemory = Memory
+fault_of_load e = Image e
+
+-- why a text isn't assembled, as a fault of the command
+abbrev pub fault_of_kind : ErrorKind → AsmError → Fault
+fault_of_kind asm.NoMemory e = Memory
+fault_of_kind _ e = Source e
+
+abbrev pub fault_of_source : AsmError → Fault
+fault_of_source e = fault_of_kind e.kind e

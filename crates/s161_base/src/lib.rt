@@ -1,0 +1,10 @@
+//! What the commands of the program share: the fault that ends one, what a finished one prints, files
+//! and standard input, the built-in sample, and the texts of schedules and logs.
+#![tactic(auto)]
+
+pub mod fault;
+pub mod files;
+pub mod finished;
+pub mod input;
+pub mod sample;
+pub mod texts;

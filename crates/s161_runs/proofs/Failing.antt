@@ -1,0 +1,45 @@
+use Rattle.std.proofs.Common.{◌≡◌, ◌⊎◌, ℕ, List, false, Option, None, Some, IfSome, Err, ap, inl, inr, sym}
+use Rattle.m161_elf.specs.declared.image.LoadError.{LoadError}
+use Rattle.m161_machine.specs.declared.conf.BootError.{BootError}
+use Rattle.m161_machine.specs.declared.conf.Conf.{Conf as MachineConf}
+use Rattle.m161_machine.specs.declared.event.Entry.{Entry}
+use Rattle.m161_machine.specs.Conf.{is_within_limits}
+use Rattle.m161_machine.specs.History.{boot_fault}
+use Rattle.m161_text.specs.Lines.{FirstBad}
+use Rattle.m161_steplog.specs.Log.{AreLogLines}
+use Rattle.m161_steplog.specs.Verdict.{Verifies}
+use Rattle.s161_base.proofs.Failing.{HasFault, boot_fails}
+use Rattle.s161_base.specs.Faults.{fault_of_boot}
+use Rattle.s161_base.specs.Texts.{IsLogFault}
+use Rattle.s161_base.specs.declared.fault.Fault.{Fault}
+use Rattle.s161_base.specs.declared.fault.Fault.TheVariants.{Conf, File, Image, Input, Log, Memory, Output, Schedule, Source, Threads, Watch, Watches}
+
+-- Why a replay ends early: `P` is what is said of its fault.
+
+-- a log's fault
+pub log_failed : (P : Fault → Type 0) (text : List ℕ) (fault : Fault) → ((n : ℕ) → FirstBad AreLogLines text n → P (Log n)) → P Memory →
+    IsLogFault text fault → P fault
+log_failed P text (Log n) line memory h = line n h
+log_failed P text Memory line memory h = memory
+log_failed P text (File name) line memory h = absurd h
+log_failed P text (Schedule n) line memory h = absurd h
+log_failed P text (Watches n) line memory h = absurd h
+log_failed P text (Watch k) line memory h = absurd h
+log_failed P text (Threads cause) line memory h = absurd h
+log_failed P text Conf line memory h = absurd h
+log_failed P text (Image e) line memory h = absurd h
+log_failed P text Input line memory h = absurd h
+log_failed P text Output line memory h = absurd h
+log_failed P text (Source e) line memory h = absurd h
+
+why_unverified : (file : List ℕ) (conf : MachineConf) (fault : Option BootError) (log : List Entry) (e : BootError) → Verifies file conf fault log (Err e) →
+    (fault ≡ Some e) ⊎ (e ≡ BootError.NoMemory)
+why_unverified file conf (Some first) log e h = inl (ap (λ x. Some x) (sym h))
+why_unverified file conf None log e h = inr h
+
+-- a replay's, which boots first
+pub verify_failed : (P : Fault → Type 0) (image : Option (List ℕ)) (conf : MachineConf) (file : List ℕ) (log : List Entry) (e : BootError) → IfSome image (λ bytes. file ≡ bytes) →
+    (is_within_limits conf ≡ false → P Conf) → ((x : LoadError) → HasFault image conf x → P (Image x)) → P Memory →
+    Verifies file conf (boot_fault file conf) log (Err e) → P (fault_of_boot e)
+verify_failed P image conf file log e is limits load memory h =
+    boot_fails P image conf file e is limits load memory (why_unverified file conf (boot_fault file conf) log e h)

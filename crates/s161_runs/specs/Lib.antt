@@ -1,0 +1,3 @@
+pub mod Demos
+pub mod Replays
+pub mod Runs

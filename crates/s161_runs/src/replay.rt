@@ -1,0 +1,75 @@
+//! Replaying a log.
+
+ghost use Rattle.std.specs.Prelude.{◌≡◌, IfErr, IfOk, string_bytes};
+ghost use Rattle.m161_text.specs.Lines.{with_line_end};
+ghost use Rattle.s161_runs.specs.Replays.{IsReplayed, IsReplayFault, status_of_verdict, verdict_text};
+ghost use Rattle.s161_base.specs.Samples.{image_file};
+
+use m161::{Console, Tlb};
+use m161_machine::Conf;
+use m161_steplog::{Verdict, verify};
+use s161_base::fault::Fault;
+use s161_base::files::FileSource;
+use s161_base::finished::Finished;
+use s161_base::input::read_text;
+use s161_base::sample::read_image;
+use s161_base::texts::entries_of;
+use s161_command::FilesTask;
+use std::alloc::{AllocError, Global};
+
+/// Reads the image and then the log, boots the image, and makes the log's events until one is
+/// refused or its outcome differs from its entry's.
+///
+/// # Errors
+/// The first fault.
+pub fn replay<'a, F: FileSource>(
+    alloc: Global,
+    files: &mut F,
+    task: FilesTask<'a>,
+) -> Result<Finished, Fault<'a>>
+    ensures ok { IfOk result (λ done. IsReplayed task.entry
+        (image_file (F.known files.old) task.entry.image.now)
+        (F.known files.old task.entry.text.now) done.text.items done.status) }
+    ensures fault { IfErr result (IsReplayFault task.entry
+        (image_file (F.known files.old) task.entry.image.now)
+        (F.known files.old task.entry.text.now)) }
+{
+    let file = read_image(alloc, files, task.image)?;
+    let log = read_text(alloc, files, task.text)?;
+    let entries = entries_of(alloc, log.as_str())?;
+    let verdict = verify::<Tlb, Console>(
+        alloc,
+        &file,
+        Conf {
+            ram: task.size.ram,
+            processors: task.size.processors,
+            log: task.size.log,
+        },
+        &entries,
+    )?;
+    let line = verdict_line(alloc, verdict)?;
+    Ok(Finished {
+        text: line.into_bytes(),
+        status: status(verdict),
+    })
+}
+
+// The text of a verdict.
+fn verdict_line(alloc: Global, verdict: Verdict) -> Result<String, AllocError>
+    ensures { IfOk result (λ line. string_bytes line ≡ with_line_end (verdict_text verdict)) }
+{
+    match verdict {
+        Verdict::Agrees => String::from_str(alloc, "agrees\n"),
+        Verdict::Differs(k) => format!(in alloc; "differs {k}\n"),
+    }
+}
+
+// The exit status of a verdict.
+fn status(verdict: Verdict) -> u8
+    ensures { result ≡ status_of_verdict verdict }
+{
+    match verdict {
+        Verdict::Agrees => 0,
+        Verdict::Differs(_) => 4,
+    }
+}

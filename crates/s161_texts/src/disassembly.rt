@@ -1,0 +1,107 @@
+//! The listing of a file's instructions.
+
+ghost use Rattle.std.specs.Prelude.{◌≡◌, ◌+◌, ◌<◌, ◌≤◌, ◌^◌, ◌++◌, true, length, string_bytes, IfErr, IfOk, OnOk};
+ghost use Rattle.m161_elf.specs.Image.{is_in_ram};
+ghost use Rattle.m161_ram.specs.Word.{word_at};
+ghost use Rattle.m161_display.specs.Shows.{code_line, listing_text, code_word};
+ghost use Rattle.m161_text.specs.Lines.{with_line_end};
+ghost use Rattle.s161_texts.specs.Listings.{aligned_up, dis_text, span_text, IsListing, IsUnlisted};
+ghost use Rattle.s161_texts.specs.helpers.Listings.{AreInRam};
+
+use m161_dis::line;
+use m161_elf::{Span, load, loads};
+use m161_isa::unmapped;
+use m161_text::Word;
+use s161_base::fault::Fault;
+use std::alloc::{AllocError, Global};
+use std::fmt::Write;
+
+/// The bytes of RAM into which a file is loaded: the most that a machine can have.
+const RAM: u32 = 16_777_216;
+
+/// The listing of an ELF file: for each segment, in the order of the program headers, a line for
+/// each whole word of its part of the file, from its first multiple of 4 on. A line has the
+/// address, the word that loading leaves there, and its text.
+///
+/// # Errors
+/// The first fault of the file; or memory was refused.
+pub fn disassembly<'a>(alloc: Global, file: &[u8]) -> Result<String, Fault<'a>>
+    ensures ok { IfOk result (λ text. IsListing file.now (string_bytes text)) }
+    ensures fault { IfErr result (IsUnlisted file.now) }
+{
+    let image = load(alloc, file, RAM)?;
+    let spans = loads(alloc, file, RAM)?;
+    Ok(listing(alloc, &image.bytes, &spans)?)
+}
+
+// The lines of spans.
+fn listing(alloc: Global, memory: &[u8], spans: &[Span]) -> Result<String, AllocError>
+    requires { AreInRam (length memory.now) spans.now }
+    ensures { IfOk result (λ text. string_bytes text ≡ dis_text memory.now spans.now) }
+{
+    let mut text = String::new(alloc);
+    for span in spans {
+        write_span(alloc, &mut text, memory, *span)?;
+    }
+    Ok(text)
+}
+
+// The lines of a span.
+fn write_span(alloc: Global, text: &mut String, memory: &[u8], span: Span) -> Result<(), AllocError>
+    requires { is_in_ram (length memory.now) span.address span.size ≡ true }
+    ensures { OnOk result (string_bytes text.new
+        ≡ string_bytes text.old ++ span_text memory.now span) }
+{
+    let start = aligned_up(span.address);
+    let words = (span.address + span.size).saturating_sub(start) / 4;
+    for i in 0..words {
+        write_word(alloc, text, memory, start + 4 * i)?;
+    }
+    Ok(())
+}
+
+// The first multiple of 4 from an address on.
+fn aligned_up(address: u32) -> u32
+    requires { address + 3 < 2 ^ 32 }
+    ensures { result ≡ aligned_up address }
+{
+    (address + 3) / 4 * 4
+}
+
+// The line of an address.
+fn write_word(alloc: Global, text: &mut String, memory: &[u8], at: u32) -> Result<(), AllocError>
+    requires { is_in_ram (length memory.now) at 4 ≡ true }
+    ensures { OnOk result (string_bytes text.new
+        ≡ string_bytes text.old ++ with_line_end (code_line memory.now at)) }
+{
+    write_code(alloc, text, code_at(memory, at), at)
+}
+
+// The word at an address in kseg0 or kseg1.
+fn code_at(memory: &[u8], at: u32) -> u32
+    requires { is_in_ram (length memory.now) at 4 ≡ true }
+    ensures { result ≡ code_word memory.now at }
+{
+    match unmapped(at) {
+        Some(physical) => word(memory, physical as usize),
+        None => 0,
+    }
+}
+
+// The word at a physical address.
+fn word(memory: &[u8], at: usize) -> u32
+    requires { at + 4 ≤ length memory.now }
+    ensures { result ≡ word_at memory.now at }
+{
+    u32::from_be_bytes([memory[at], memory[at + 1], memory[at + 2], memory[at + 3]])
+}
+
+// The line of a word at an address.
+fn write_code(alloc: Global, text: &mut String, word: u32, at: u32) -> Result<(), AllocError>
+    ensures { OnOk result (string_bytes text.new
+        ≡ string_bytes text.old ++ with_line_end (listing_text at word)) }
+{
+    let instruction = line(alloc, word, at)?;
+    let (at, word) = (Word(at), Word(word));
+    writeln!(text, "{at} {word} {instruction}")
+}

@@ -1,6 +1,0 @@
-pub mod Failing
-pub mod Listed
-pub mod Making
-pub mod Sampled
-pub mod Shown
-mod Threading

@@ -1,9 +1,0 @@
-use Rattle.std.proofs.Common.{◌∙◌}
-use Rattle.m161_asm.specs.Segments.{segments_seen}
-use Rattle.s161_work.proofs.Sampled.{file_is}
-use Rattle.s161_work.proofs.sample.sample_image.Goals as goal
-
-pub returns-clause-ok : goal.returns-clause-ok
-returns-clause-ok c =
-    let program = c.in_ok-program.program in
-    c.in_ok-write.ensures ∙ file_is program.entry (segments_seen program.segments.items) c.in_ok-program.ensures.0 c.in_ok-program.ensures.1
