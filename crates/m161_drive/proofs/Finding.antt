@@ -1,5 +1,6 @@
-use Rattle.std.proofs.Common.{◌≡◌, ◌∙◌, refl, sym, ap, ℕ, suc, ◌+◌, ◌-◌, ◌<◌, ◌≤◌, Bool, true, false, cond, List, [], ◌∷◌, ◌++◌, length, arith}
-use Rattle.std.specs.Prelude.{Option, None, Some, ◌||◌, find, filter, is_some, slice_get}
+use Rattle.std.proofs.Common.{◌≡◌, ◌∙◌, refl, ap, ℕ, suc, ◌+◌, ◌-◌, ◌<◌, ◌≤◌, Bool, true, false, cond, List, [], ◌∷◌, ◌++◌, arith}
+use Rattle.std.proofs.lemmas.Bool.Decides.{nat_tests}
+use Rattle.std.specs.Prelude.{Option, None, Some, ◌==◌, ◌||◌, find, filter, is_some, slice_get}
 use Rattle.std.specs.List.{list_any, range_with_len}
 
 -- Searches along a range.
@@ -80,3 +81,10 @@ any_found test (x ∷ xs) = any_cons (test x) (list_any test xs) x (find test xs
 -- an item behind the first
 pub get_behind : (x : ℕ) (xs : List ℕ) (i : ℕ) → 1 ≤ i → slice_get (x ∷ xs) i ≡ slice_get xs (i - 1)
 get_behind x xs i h = let e : i ≡ suc (i - 1) = omega arith in ap (λ k. slice_get (x ∷ xs) k) e
+
+-- a comparison of numbers
+pub eq_true : (a b : ℕ) → a ≡ b → (a == b) ≡ true
+eq_true a b h = grind (arith, nat_tests)
+
+pub eq_false : (a b : ℕ) → (a ≡ b → ⊥) → (a == b) ≡ false
+eq_false a b h = grind (arith, nat_tests)

@@ -1,4 +1,4 @@
-use Rattle.std.proofs.Common.{◌≡◌, ◌∙◌, refl, sym, ap, subst, ℕ, zero, suc, ◌+◌, ◌<◌, ◌≤◌, Bool, true, false, cond, not, List, [], ◌∷◌, ◌++◌, length, arith, ◌⊎◌, inl, inr}
+use Rattle.std.proofs.Common.{◌≡◌, refl, subst, ℕ, zero, suc, ◌+◌, Bool, true, false, cond, not, List, [], ◌∷◌, ◌++◌, length, arith, ◌⊎◌, inl, inr}
 use Rattle.std.proofs.lemmas.Bool.Decides.{nat_tests}
 use Rattle.std.specs.Prelude.{Option, None, Some, Result, Ok, Err, ◌&&◌, ◌||◌, if◌then◌else◌, nat_lt, nat_le, find, filter, fold, slice_get, slice_index, is_some}
 use Rattle.std.specs.List.{range_with_len}
@@ -196,7 +196,7 @@ choice_fits rules key c s =
     (λ h. just Done s (and_first (is_sending s) (nat_le rules.transfer (since_filled c.filled s) || not (some_ready s)) h))
     (if_fits (wants_key rules c s) (type_key key c s) (next_step c s) s
     (λ h. key_fits key c s (and_second (not (transfer_ends rules c s)) room
-        (and_first (not (transfer_ends rules c s) && room) (gap_is_over rules.gap c s || not (some_ready s)) h)))
+    (and_first (not (transfer_ends rules c s) && room) (gap_is_over rules.gap c s || not (some_ready s)) h)))
     (step_fits c s))
 
 -- so it is refused for the last refusals alone

@@ -1,4 +1,4 @@
-use Rattle.std.proofs.Common.{◌≡◌, ◌∙◌, refl, sym, ap, ℕ, suc, ◌+◌, ◌-◌, ◌<◌, ◌≤◌, Bool, true, false, cond, List, [], ◌∷◌, ◌++◌, length, take, set, arith, append_assoc}
+use Rattle.std.proofs.Common.{◌≡◌, ◌∙◌, refl, sym, ap, ℕ, suc, ◌+◌, ◌-◌, ◌<◌, List, [], ◌∷◌, ◌++◌, length, take, set, arith, append_assoc}
 use Rattle.std.proofs.lemmas.Grind.{take-set_at}
 use Rattle.std.specs.Prelude.{swap}
 use Rattle.rand_pcg.specs.Lcg.{Lcg}
@@ -25,12 +25,12 @@ draws_left : (n i m : ℕ) (g : Lcg) → i < n → draws (n - i) m g ≡ below m
 draws_left n i m g h = let e : n - i ≡ suc (n - (i + 1)) = omega arith in ap (λ k. draws k m g) e
 
 -- and the number that is written of it
-pub drawn_more : (n i m : ℕ) (g : Lcg) (xs : List ℕ) → i < n → length xs ≡ n →
+pub drawn_more : (n i m : ℕ) (g : Lcg) (xs : List ℕ) → i < n → i < length xs →
     take i xs ++ draws (n - i) m g ≡ take (i + 1) (set xs i (below m g)) ++ draws (n - (i + 1)) m (after_word g)
-drawn_more n i m g xs h long =
+drawn_more n i m g xs h there =
     let rest = draws (n - (i + 1)) m (after_word g) in
     let front : take (i + 1) (set xs i (below m g)) ≡ take i xs ++ below m g ∷ [] =
-        take-set_at xs i (i + 1) (below m g) refl (omega arith) in
+    take-set_at xs i (i + 1) (below m g) refl there in
     ap (λ ys. take i xs ++ ys) (draws_left n i m g h)
     ∙ sym (append_assoc (take i xs) (below m g ∷ []) rest)
     ∙ ap (λ ys. ys ++ rest) (sym front)

@@ -1,4 +1,4 @@
-use Rattle.std.proofs.Common.{◌≡◌, refl, ◌^◌, List, [], ◌∷◌}
+use Rattle.std.proofs.Common.{◌≡◌, refl, ◌^◌, [], ◌∷◌}
 use Rattle.m161_drive.specs.Words.{after_word, draws, seeded, word}
 
 -- The words that O'Neill's paper prints of seed 42, and numbers of three seeds that a program of

@@ -1,21 +1,20 @@
-use Rattle.std.proofs.Common.{◌≡◌, ◌∙◌, refl, sym, ap, subst, ℕ, zero, suc, ◌+◌, ◌*◌, ◌%◌, ◌^◌, ◌<◌, ◌≤◌, Bool, true, false, cond, not, List, [], ◌∷◌, length, arith, ◌⊎◌, inl, inr, get_or-set_same, get_or-set_other}
+use Rattle.std.proofs.Common.{◌≡◌, ◌∙◌, refl, sym, ap, subst, ℕ, zero, suc, ◌+◌, ◌%◌, ◌^◌, ◌<◌, ◌≤◌, Bool, true, false, not, List, [], ◌∷◌, length, arith, inl, inr, get_or-set_same, get_or-set_other}
 use Rattle.std.proofs.Math.ListN.{length-set}
 use Rattle.std.proofs.lemmas.Nat.{and_le_r, and_mod, or_mod}
 use Rattle.std.proofs.lemmas.Bool.Decides.{eqb_tells, nat_tests}
-use Rattle.std.specs.Prelude.{Option, None, Some, Result, Ok, Err, ◌==◌, ◌&&◌, ◌||◌, if◌then◌else◌, bit_and, bit_or, nat_lt, nat_le, slice_index_or, slice_set}
+use Rattle.std.specs.Prelude.{Result, Ok, Err, ◌==◌, ◌&&◌, ◌||◌, if◌then◌else◌, bit_and, bit_or, nat_lt, nat_le, slice_set}
 use Rattle.std.specs.List.{list_any, range_with_len}
 use Rattle.m161_bus.specs.Board.{BoardState, interrupt_lines, start_words}
 use Rattle.m161_cop0.specs.Clock.{after_tick, is_due, next_count}
-use Rattle.m161_cop0.specs.Control.{Control, bit, expects_timer, im_of, internal_ip_of, ip_of, is_pending}
+use Rattle.m161_cop0.specs.Control.{Control, expects_timer, im_of, internal_ip_of, is_pending}
 use Rattle.m161_cpu.specs.declared.processor.Outcome.{Outcome}
-use Rattle.m161_cpu.specs.declared.processor.Outcome.TheVariants.{Idle}
 use Rattle.m161_cpu.specs.declared.processor.ProcessorState.{ProcessorState}
 use Rattle.m161_cpu.specs.declared.processor.ProcessorState.TheVariants.{Stopped, Running, Waiting}
 use Rattle.m161_cpu.specs.Processor.{Processor, started_processor, stopped_processor, with_state}
 use Rattle.m161_cpu.specs.Resting.{is_resting, is_ticking as ticks_in, is_waiting, rests_in}
 use Rattle.m161_cpu.specs.Scene.{Around, Scene, around, scene}
 use Rattle.m161_cpu.specs.Step.{Stepped, count_step, idle, running_step, step_by_state, step_of, tick, with_processor}
-use Rattle.m161_isa.specs.Bits.{bits_of, has_bit}
+use Rattle.m161_isa.specs.Bits.{has_bit}
 use Rattle.m161_isa.specs.Choice.{first_answer}
 use Rattle.m161_machine.specs.declared.event.Refusal.{Refusal}
 use Rattle.m161_machine.specs.declared.event.Refusal.TheVariants.{BadProcessor, Off, Worn}
@@ -30,11 +29,11 @@ use Rattle.m161_drive.specs.Ready.{is_asleep, is_ready, is_ticking, some_ready, 
 masked : (a b l m : ℕ) → m < 2 ^ 15 → a % 2 ^ 15 ≡ b % 2 ^ 15 → bit_and (bit_or a l) m ≡ bit_and (bit_or b l) m
 masked a b l m small same =
     let low : (x : ℕ) → bit_and x m ≡ bit_and (x % 2 ^ 15) (m % 2 ^ 15) = λ x.
-        let below = and_le_r x m in
-        let whole : bit_and x m % 2 ^ 15 ≡ bit_and x m = omega (arith, below) in
-        sym whole ∙ and_mod x m 15 in
+    let below = and_le_r x m in
+    let whole : bit_and x m % 2 ^ 15 ≡ bit_and x m = omega (arith, below) in
+    sym whole ∙ and_mod x m 15 in
     let ors : bit_or a l % 2 ^ 15 ≡ bit_or b l % 2 ^ 15 =
-        or_mod a l 15 ∙ ap (λ x. bit_or x (l % 2 ^ 15)) same ∙ sym (or_mod b l 15) in
+    or_mod a l 15 ∙ ap (λ x. bit_or x (l % 2 ^ 15)) same ∙ sym (or_mod b l 15) in
     low (bit_or a l) ∙ ap (λ x. bit_and x (m % 2 ^ 15)) ors ∙ sym (low (bit_or b l))
 
 timer_high : (s t : Bool) (software : ℕ) → internal_ip_of s software % 2 ^ 15 ≡ internal_ip_of t software % 2 ^ 15
@@ -96,10 +95,13 @@ sleeps_by Running p a r t = let bad : false ≡ true = r in absurd cc
 sleeps_by Waiting p a r t =
     let lines = interrupt_lines a.number a.board in
     let still : is_pending lines p.control ≡ false = not_pending (is_pending lines p.control) r in
-    let off : expects_timer p.control ≡ false = subst (λ b. (true && not b && expects_timer p.control) ≡ false) still t in
-    (tick p,
-     ap (λ b. if b then running_step (with_processor (with_state Running) (scene p a)) else idle tick (scene p a)) still,
-     refl, pends_still lines p.control off, expects_still p.control)
+    let off : expects_timer p.control ≡ false = subst (λ b. (true && not b && expects_timer p.control) ≡ false) still t in (
+      tick p,
+      ap (λ b. if b then running_step (with_processor (with_state Running) (scene p a)) else idle tick (scene p a)) still,
+      refl,
+      pends_still lines p.control off,
+      expects_still p.control,
+    )
 
 abbrev scene_in : ℕ → State → Scene
 scene_in p s = scene (processor_at p s.processors) (around p s.memory s.board s.links)
@@ -119,7 +121,7 @@ no_starts : (board : BoardState) (c : ℕ) (ps : List Processor) → with_starts
 no_starts board c [] = refl
 no_starts board c (p ∷ ps) =
     let first : started_by board.started board c p ≡ p =
-        not_again (has_bit board.started c) (started_processor (start_words c board).pc (start_words c board).r4 (start_words c board).r29 p.count) p in
+    not_again (has_bit board.started c) (started_processor (start_words c board).pc (start_words c board).r4 (start_words c board).r29 p.count) p in
     let rest = no_starts board (c + 1) ps in
     λ i. first i ∷ rest i
 
@@ -172,11 +174,11 @@ asleep_still : (p : ℕ) (new : Processor) (s : State) → p < length s.processo
     is_asleep (idle_state p new s) ≡ is_asleep s
 asleep_still p new s here r t =
     let long : length (idle_state p new s).processors ≡ length s.processors =
-        ap length (idle_processors p new s) ∙ length-set s.processors p new in
+    ap length (idle_processors p new s) ∙ length-set s.processors p new in
     let rest = rests_still p new s here r in
     let tock = ticks_still p new s here t in
     λ i. not (list_any (λ q. nat_lt q (long i) && not (rest q i)) (range_with_len 0 (long i))
-        || list_any (λ q. nat_lt q (long i) && tock q i) (range_with_len 0 (long i)))
+    || list_any (λ q. nat_lt q (long i) && tock q i) (range_with_len 0 (long i)))
 
 -- none of a range passes
 or_none : (a b : Bool) → (a || b) ≡ false → (a ≡ false) × (b ≡ false)
@@ -228,15 +230,16 @@ stays_asleep s p o t asleep h =
     let there : nat_lt p (length s.processors) ≡ true = less_is p (length s.processors) here in
     let none = or_none (some_ready s) (some_ticking s) (not_pending (some_ready s || some_ticking s) asleep) in
     let resting : rests p s ≡ true =
-        not_ready (nat_lt p (length s.processors)) (rests p s) there
-        (any_none (is_ready s) (length s.processors) 0 p none.0 (omega arith) (omega arith)) in
+    not_ready (nat_lt p (length s.processors)) (rests p s) there
+    (any_none (is_ready s) (length s.processors) 0 p none.0 (omega arith) (omega arith)) in
     let still : ticks p s ≡ false =
-        not_ticking (nat_lt p (length s.processors)) (ticks p s) there
-        (any_none (is_ticking s) (length s.processors) 0 p none.1 (omega arith) (omega arith)) in
+    not_ticking (nat_lt p (length s.processors)) (ticks p s) there
+    (any_none (is_ticking s) (length s.processors) 0 p none.1 (omega arith) (omega arith)) in
     let x = sleeps p s resting still in
     let old = processor_at p s.processors in
     let lines = interrupt_lines p s.board in
     let after : is_asleep (idle_state p x.0 s) ≡ is_asleep s =
-        asleep_still p x.0 s here (resting_same lines x.0 old x.2 x.3) (ticking_same lines x.0 old x.2 x.3 x.4) in
-    (sym done.1 ∙ ap (λ (y : Stepped). y.outcome) x.1,
-     ap is_asleep (sym done.2 ∙ ap (λ (y : Stepped). with_step p y s) x.1) ∙ after ∙ asleep)
+    asleep_still p x.0 s here (resting_same lines x.0 old x.2 x.3) (ticking_same lines x.0 old x.2 x.3 x.4) in (
+      sym done.1 ∙ ap (λ (y : Stepped). y.outcome) x.1,
+      ap is_asleep (sym done.2 ∙ ap (λ (y : Stepped). with_step p y s) x.1) ∙ after ∙ asleep,
+    )

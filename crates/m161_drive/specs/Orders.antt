@@ -1,4 +1,4 @@
-use Rattle.std.specs.Prelude.{ℕ, ◌+◌, Bool, true, false, nat_lt, ◌&&◌, if◌then◌else◌, List, [], ◌∷◌, length, slice_get, slice_index, Option, None, Some}
+use Rattle.std.specs.Prelude.{ℕ, ◌+◌, Bool, false, nat_lt, ◌&&◌, if◌then◌else◌, List, [], ◌∷◌, length, slice_get, slice_index, Option, None, Some}
 use Rattle.rand_pcg.specs.Lcg.{Lcg}
 use Rattle.m161_machine.specs.State.{State}
 use Rattle.m161_drive.specs.declared.order.Order.{Order}

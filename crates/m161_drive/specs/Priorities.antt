@@ -1,4 +1,4 @@
-use Rattle.std.specs.Prelude.{ℕ, ◌+◌, ◌-◌, zero, suc, Bool, nat_lt, ◌==◌, if◌then◌else◌, List, length, map, replicate, filter, fold, swap, count_by, slice_index, slice_set, Option, None, Some}
+use Rattle.std.specs.Prelude.{ℕ, ◌+◌, ◌-◌, zero, suc, nat_lt, ◌==◌, if◌then◌else◌, List, length, map, replicate, filter, fold, swap, count_by, slice_index, slice_set, Option, None, Some}
 use Rattle.std.specs.List.{last_or, range_with_len}
 use Rattle.rand_pcg.specs.Lcg.{Lcg}
 use Rattle.m161_machine.specs.State.{State}
@@ -59,7 +59,7 @@ higher ranks (Some best) k =
 -- the place of the ready processor of the greatest rank
 abbrev pub highest : Ranks → State → Option ℕ
 highest r s = fold (higher r.ranks) None
-  (filter (λ k. is_ready s (slice_index r.processors k)) (range_with_len 0 32))
+    (filter (λ k. is_ready s (slice_index r.processors k)) (range_with_len 0 32))
 
 -- the number of the last point that is this Step of the stretch
 abbrev pub last_point : ℕ → List ℕ → Option ℕ

@@ -68,11 +68,7 @@ impl Cursor {
 
     // Whether the byte in the latch is sent now.
     #[inline(always)]
-    fn transfer_ends<T: Tlb, D: Console>(
-        &self,
-        policy: &Policy,
-        machine: &Machine<T, D>,
-    ) -> bool
+    fn transfer_ends<T: Tlb, D: Console>(&self, policy: &Policy, machine: &Machine<T, D>) -> bool
         ensures { result ≡ transfer_ends policy.now self.now machine.now.state }
     {
         machine.latch().is_some()

@@ -1,6 +1,6 @@
 //! The orders, as a run goes on.
 
-ghost use Rattle.std.specs.Prelude.{◌≡◌, None};
+ghost use Rattle.std.specs.Prelude.{◌≡◌, ◌≤◌, None};
 ghost use Rattle.m161_drive.specs.Orders.{by_order, by_words, interrupted, order_at_start};
 ghost use Rattle.m161_drive.specs.Policy.{order_fault};
 
@@ -40,7 +40,8 @@ fn by_words<T: Tlb, D: Console>(generator: &mut Pcg32, machine: &Machine<T, D>) 
 impl OrderState {
     /// An order at the start of a run on so many processors.
     pub(crate) fn start(order: Order, processors: u32) -> OrderState
-        requires { order_fault order ≡ None }
+        requires limits { order_fault order ≡ None }
+        requires processors { (1 ≤ processors) × (processors ≤ 32) }
         ensures { result ≡ order_at_start order processors }
     {
         match order {

@@ -30,7 +30,7 @@ impl<'a> Model for Policy<'a> {
 }
 
 impl<'a> Policy<'a> {
-    ghost use Rattle.std.specs.Prelude.{◌≡◌, None, Some, MatchResult, slice_get, length};
+    ghost use Rattle.std.specs.Prelude.{◌≡◌, ◌-◌, ◌<◌, ◌^◌, None, Some, IfSome, MatchResult, slice_get};
     ghost use Rattle.m161_drive.specs.Policy.{order_fault};
 
     /// A policy. A byte in the console's latch is sent once `transfer` events were accepted after
@@ -47,7 +47,7 @@ impl<'a> Policy<'a> {
     ) -> Result<Policy<'a>, OrderError>
         ensures { MatchResult result
             (λ policy. (order_fault order ≡ None)
-                × (policy ≡ record { order = order; transfer = transfer; gap = gap; keys = keys.now }))
+            × (policy ≡ record { order = order; transfer = transfer; gap = gap; keys = keys.now }))
             (λ e. order_fault order ≡ Some e) }
     {
         match order {
@@ -102,8 +102,13 @@ impl<'a> Policy<'a> {
 
     /// A key by its number, if there is one.
     pub fn key(&self, i: usize) -> Option<u8>
-        ensures { result ≡ slice_get self.now.keys i }
+        ensures value { result ≡ slice_get self.now.keys i }
+        ensures within { IfSome result (λ _. i < 2 ^ 64 - 1) }
     {
-        self.keys.get(i).copied()
+        if i < self.keys.len() {
+            Some(self.keys[i])
+        } else {
+            None
+        }
     }
 }

@@ -72,6 +72,7 @@ fn draw_points(points: &mut [u32; 64], changes: usize, generator: &mut Pcg32, wi
     requires { changes ≤ 64 }
     ensures points { take changes points.new ≡ draws changes within generator.old }
     ensures after { generator.new ≡ after_words changes generator.old }
+    ensures length { length points.new ≡ 64 }
 {
     for j in 0..changes {
         points[j] = below(generator, within);
@@ -94,7 +95,8 @@ fn less_than(ranks: &[u32; 32], rank: u32) -> u32
 
 // The ranks from 64 on, in the same order.
 fn renewed(ranks: &[u32; 32]) -> [u32; 32]
-    ensures { result ≡ renewed ranks.now }
+    ensures value { result ≡ renewed ranks.now }
+    ensures length { length result ≡ 32 }
 {
     let mut renewed = [0; 32];
     for k in 0..32 {
@@ -181,13 +183,7 @@ impl Ranking {
         ensures within { result < 32 }
     {
         match best {
-            Some(b) => {
-                if self.ranks[b] < self.ranks[k] {
-                    k
-                } else {
-                    b
-                }
-            }
+            Some(b) => { if self.ranks[b] < self.ranks[k] { k } else { b } }
             None => k,
         }
     }

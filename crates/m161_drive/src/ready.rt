@@ -54,13 +54,7 @@ fn place_behind(last: Option<u32>, processors: u32) -> u32
     ensures { result ≡ place_behind last processors }
 {
     match last {
-        Some(p) => {
-            if p < processors {
-                p + 1
-            } else {
-                0
-            }
-        }
+        Some(p) => { if p < processors { p + 1 } else { 0 } }
         None => 0,
     }
 }

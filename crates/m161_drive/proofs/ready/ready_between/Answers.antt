@@ -1,4 +1,4 @@
-use Rattle.std.proofs.Common.{◌≡◌, ◌∙◌, sym, arith}
+use Rattle.std.proofs.Common.{◌∙◌, sym, arith}
 use Rattle.m161_drive.specs.Ready.{is_ready}
 use Rattle.m161_drive.proofs.Finding.{find_done, find_here, find_skip}
 use Rattle.m161_drive.proofs.ready.ready_between.Goals as goal

@@ -1,4 +1,4 @@
-use Rattle.std.proofs.Common.{◌≡◌, ◌∙◌, sym, arith}
+use Rattle.std.proofs.Common.{◌∙◌, sym, arith}
 use Rattle.m161_drive.specs.Ready.{is_ticking}
 use Rattle.m161_drive.proofs.Finding.{find_done, find_here, find_skip}
 use Rattle.m161_drive.proofs.ready.ticking_between.Goals as goal

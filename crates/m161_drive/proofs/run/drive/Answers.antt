@@ -1,8 +1,6 @@
-use Rattle.std.proofs.Common.{◌≡◌, ◌∙◌, refl, sym, ap, subst, [], arith}
+use Rattle.std.proofs.Common.{refl, [], arith}
 use Rattle.m161_machine.proofs.Continuing.{continues_none}
-use Rattle.m161_drive.specs.Drive.{Drives}
-use Rattle.m161_drive.specs.declared.run.Stop.TheVariants.{Off, End}
-use Rattle.m161_drive.proofs.Driving.{Driving, drives_more, stopped, stops_so}
+use Rattle.m161_drive.proofs.Driving.{drives_more, stopped, stops_so}
 use Rattle.m161_drive.proofs.run.drive.Goals as goal
 
 pub loop-made-init : goal.loop-made-init
