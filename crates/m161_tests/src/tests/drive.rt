@@ -155,7 +155,7 @@ fn check_priorities(
 
 #[test]
 fn drive_priorities(rt: HostRuntime) -> Result<(), Fail> {
-    check_priorities(&rt, 0, 2, 10, b"0000000100000001111000001111000110000000")?;
+    check_priorities(&rt, 0, 2, 10, b"0000000100000000011100001111000110000000")?;
     check_priorities(&rt, 1, 3, 8, b"0000000110000111110000011110000000001111")?;
     check_priorities(&rt, 42, 5, 6, b"0000000100100100001111011101111001111000")?;
     check_priorities(&rt, 7, 2, 100, b"0000000111000000000000000000000000000000")?;
