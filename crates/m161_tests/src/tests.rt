@@ -9,6 +9,7 @@ mod bursts;
 mod bus;
 mod cop0;
 mod dis;
+mod drive;
 mod elf;
 mod fetches;
 mod instructions;

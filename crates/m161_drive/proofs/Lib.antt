@@ -1,0 +1,6 @@
+pub mod Finding
+pub mod Driving
+pub mod Fitting
+pub mod Sleeping
+pub mod Ranked
+mod Rows

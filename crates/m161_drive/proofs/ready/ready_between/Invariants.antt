@@ -1,0 +1,11 @@
+use Rattle.std.proofs.Common.{◌≡◌, ◌-◌}
+use Rattle.std.specs.Prelude.{find}
+use Rattle.std.specs.List.{range_with_len}
+use Rattle.m161_drive.specs.Ready.{is_ready}
+use Rattle.m161_drive.proofs.ready.ready_between.Given as goal
+
+-- the rest of the range has what the whole has
+abbrev pub invariant-loop-p : goal.invariant-loop-p
+invariant-loop-p g l =
+    find (is_ready l.machine.state) (range_with_len l.p (l.to - l.p))
+    ≡ find (is_ready l.machine.state) (range_with_len l.from (l.to - l.from))

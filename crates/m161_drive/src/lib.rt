@@ -1,0 +1,36 @@
+//! Driven runs: a policy chooses each event from the machine's state.
+//!
+//! ```text
+//! policy   an order of the processors' Steps, when a byte in the console's latch is sent, and which
+//!          keys are typed, and when
+//! cursor   what a policy has to know of the run so far
+//! choice   the first of these that applies: the console has sent its byte; a key; a Step of a ready
+//!          processor by the order; a Step of a processor whose timer runs; none
+//! ready    a processor whose Step isn't idle
+//! orders   turns of n Steps; at random; by priorities that change at random Steps
+//! ```
+//!
+//! A driven run is a run along a list of events like any other: what the policy chose can be written
+//! down and made again. All of this is this project's own, but for PCG32's words (O'Neill 2014) and
+//! the order by priorities (Burckhardt and others, A Randomized Scheduler with Probabilistic
+//! Guarantees of Finding Bugs, 2010).
+#![tactic(auto)]
+
+mod cursor;
+mod laws;
+mod order;
+mod orders;
+mod policy;
+mod ranking;
+mod ready;
+mod run;
+mod turns;
+mod words;
+
+pub use cursor::Cursor;
+pub use laws::{chooses_accepted, stays_asleep};
+pub use m161_machine::{Event, Machine, Refusal};
+pub use order::{Order, OrderError};
+pub use policy::Policy;
+pub use ready::is_asleep;
+pub use run::{Driven, Stop, drive};

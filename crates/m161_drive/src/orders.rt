@@ -1,0 +1,83 @@
+//! The orders, as a run goes on.
+
+ghost use Rattle.std.specs.Prelude.{◌≡◌, ◌≤◌, None};
+ghost use Rattle.m161_drive.specs.Orders.{by_order, by_words, interrupted, order_at_start};
+ghost use Rattle.m161_drive.specs.Policy.{order_fault};
+
+use crate::order::Order;
+use crate::ranking::Ranking;
+use crate::ready::{count_ready, ready_at};
+use crate::turns::Turns;
+use crate::words::{below, seeded};
+use m161_bus::Console;
+use m161_machine::Machine;
+use m161_tlb::Tlb;
+use rand_pcg::Pcg32;
+
+/// An order, with what it has to know of the run so far.
+#[derive(Drop)]
+pub(crate) enum OrderState {
+    /// In turns.
+    InTurns(Turns),
+    /// By the words to come.
+    AtRandom(Pcg32),
+    /// By priorities.
+    ByPriority(Ranking),
+}
+
+// A ready processor by the next word; no word is drawn if none is ready.
+fn by_words<T: Tlb, D: Console>(generator: &mut Pcg32, machine: &Machine<T, D>) -> Option<u32>
+    ensures processor { result ≡ (by_words generator.old machine.now.state).0 }
+    ensures after { generator.new ≡ (by_words generator.old machine.now.state).1 }
+{
+    let count = count_ready(machine);
+    if count == 0 {
+        return None;
+    }
+    ready_at(machine, below(generator, count))
+}
+
+impl OrderState {
+    /// An order at the start of a run on so many processors.
+    pub(crate) fn start(order: Order, processors: u32) -> OrderState
+        requires limits { order_fault order ≡ None }
+        requires processors { (1 ≤ processors) × (processors ≤ 32) }
+        ensures { result ≡ order_at_start order processors }
+    {
+        match order {
+            Order::Turns(steps) => OrderState::InTurns(Turns { steps, made: 0 }),
+            Order::Random(seed) => OrderState::AtRandom(seeded(seed)),
+            Order::Priorities {
+                seed,
+                changes,
+                within,
+            } => OrderState::ByPriority(Ranking::new(seed, changes, within, processors)),
+        }
+    }
+
+    /// The next processor, if one is ready.
+    #[inline(always)]
+    pub(crate) fn choose<T: Tlb, D: Console>(
+        &mut self,
+        last: Option<u32>,
+        machine: &Machine<T, D>,
+    ) -> Option<u32>
+        ensures processor { result ≡ (by_order self.old last machine.now.state).0 }
+        ensures after { self.new ≡ (by_order self.old last machine.now.state).1 }
+    {
+        match self {
+            OrderState::InTurns(turns) => turns.choose(last, machine),
+            OrderState::AtRandom(generator) => by_words(generator, machine),
+            OrderState::ByPriority(ranking) => ranking.choose(machine),
+        }
+    }
+
+    /// A Step is made that it didn't choose.
+    pub(crate) fn interrupt(&mut self)
+        ensures { self.new ≡ interrupted self.old }
+    {
+        if let OrderState::InTurns(turns) = self {
+            turns.made = 0;
+        }
+    }
+}
