@@ -1,11 +1,11 @@
-use Rattle.std.proofs.Common.{◌≡◌, ◌∙◌, refl, ap, sym, subst, ℕ, ◌-◌, ◌*◌, ◌^◌, ◌%◌, ◌<◌, ◌≢◌, ◌⊎◌, ⊎_elim, Bool, true, false, if◌then◌else◌, List, length, map, set, get_or, Option, None, Some, replicate, arith, bit_and, bit_or}
-use Rattle.std.specs.Int.{w32, bit_at, bit_not, trailing_zeros}
+use Rattle.std.proofs.Common.{◌≡◌, ◌∙◌, refl, ap, sym, ℕ, ◌-◌, ◌*◌, ◌^◌, ◌%◌, ◌<◌, ⊎_elim, true, false, if◌then◌else◌, List, length, map, set, get_or, Option, None, Some, is_some, arith, bit_and, bit_or}
+use Rattle.std.specs.Int.{w32, bit_at, trailing_zeros}
 use Rattle.std.proofs.lemmas.Bool.{cases_eq}
 use Rattle.std.proofs.lemmas.Nat.{and_le_l}
 use Rattle.std.proofs.lemmas.Nat.Bits.{bit_at-zero, bit_at_set_other, bit_at_set_same, bit_at_clear_other, bit_at_clear_same, bit_at-trailing_zeros}
-use Rattle.std.proofs.lemmas.List.{same_lists, places, length-set, get_or-set_same, get_or-set_other, get_or_default, get_or-replicate, get_or-map, length-map}
-use Rattle.m161_cpu.specs.Links.{no_links, is_to, unless_to}
-use Rattle.m161_cpu.specs.helpers.Links.{HasBits, IsWalked}
+use Rattle.std.proofs.lemmas.List.{same_lists, length-set, get_or-set_same, get_or-set_other, get_or_default, get_or-replicate, get_or-map, length-map}
+use Rattle.m161_cpu.specs.Links.{HasBits, no_links, is_to, unless_to}
+use Rattle.m161_cpu.specs.helpers.Links.{IsWalked}
 
 -- a mask with the bit of processor c, and without it
 abbrev pub with_bit : ℕ → ℕ → ℕ
@@ -14,36 +14,54 @@ with_bit live c = bit_or live (1 * 2 ^ c % 4294967296)
 abbrev pub without_bit : ℕ → ℕ → ℕ
 without_bit live c = bit_and live (4294967295 - 1 * 2 ^ c % 4294967296)
 
+-- the bit of a link
+abbrev bit_of : Option ℕ → ℕ
+bit_of link = if is_some link then 1 else 0
+
+dead : (link : Option ℕ) → bit_of link ≡ 0 → link ≡ None
+dead None e = refl
+dead (Some word) e = absurd (let bad : ⊥ = omega (arith, e) in bad)
+
+pub no_link : (links : List (Option ℕ)) (live : ℕ) → HasBits links live → (k : ℕ) → k < 32
+    → bit_at live k ≡ 0 → get_or links k None ≡ None
+no_link links live h k within bit = dead (get_or links k None) (sym (h k within) ∙ bit)
+
 -- no link is live where no bit is set
 pub none_live : (links : List (Option ℕ)) → length links ≡ 32 → HasBits links 0 → links ≡ no_links
 none_live links number h =
     same_lists links no_links number (λ k d below.
     let within : k < 32 = omega (arith, below, number) in
-    get_or_default links k d None below ∙ h k within (bit_at-zero k)
+    get_or_default links k d None below ∙ no_link links 0 h k within (bit_at-zero k)
     ∙ sym (get_or-replicate 32 k None d within))
 
 -- at the start no link is live
 pub none_begins : HasBits no_links 0
-none_begins c below bit = get_or-replicate 32 c None None below
+none_begins c below = bit_at-zero c ∙ sym (ap bit_of (get_or-replicate 32 c None None below))
 
 module _ (links : List (Option ℕ)) (live c : ℕ) (number : length links ≡ 32) (below : c < 32) where
+  inside : c < length links
+  inside = omega (arith, below, number)
+
   -- a link that ends takes its bit away
   pub bits_without : HasBits links live → HasBits (set links c None) (without_bit live c)
-  bits_without h k within bit =
+  bits_without h k within =
       ⊎_elim
-      (λ same. ap (λ j. get_or (set links c None) j None) same
-      ∙ get_or-set_same links c None None (omega (arith, below, number)))
-      (λ other. get_or-set_other links c k None None other
-      ∙ h k within (sym (bit_at_clear_other w32 live c below k within other) ∙ bit))
+      (λ same. ap (bit_at (without_bit live c)) same ∙ bit_at_clear_same w32 live c below
+      ∙ sym (ap (λ j. bit_of (get_or (set links c None) j None)) same
+      ∙ ap bit_of (get_or-set_same links c None None inside)))
+      (λ other. bit_at_clear_other w32 live c below k within other ∙ h k within
+      ∙ sym (ap bit_of (get_or-set_other links c k None None other)))
       (cases_eq k c)
 
   -- a new link has its bit
   pub bits_with : (word : ℕ) → HasBits links live → HasBits (set links c (Some word)) (with_bit live c)
-  bits_with word h k within bit =
+  bits_with word h k within =
       ⊎_elim
-      (λ same. absurd (omega (arith, bit, bit_at_set_same w32 live c below, ap (bit_at (with_bit live c)) same)))
-      (λ other. get_or-set_other links c k (Some word) None other
-      ∙ h k within (sym (bit_at_set_other w32 live c below k other) ∙ bit))
+      (λ same. ap (bit_at (with_bit live c)) same ∙ bit_at_set_same w32 live c below
+      ∙ sym (ap (λ j. bit_of (get_or (set links c (Some word)) j None)) same
+      ∙ ap bit_of (get_or-set_same links c (Some word) None inside)))
+      (λ other. bit_at_set_other w32 live c below k other ∙ h k within
+      ∙ sym (ap bit_of (get_or-set_other links c k (Some word) None other)))
       (cases_eq k c)
 
 -- the walk over the bits of a mask
@@ -55,7 +73,8 @@ module _ (word : ℕ) (before : List (Option ℕ)) (number : length before ≡ 3
   pub walk_begins : (live : ℕ) → HasBits before live → IsWalked word before live before
   walk_begins live h = record {
     number = number;
-    past = λ c below bit. h c below bit ∙ sym (ap (unless_to word) (h c below bit));
+    past = λ c below bit.
+        let none = no_link before live h c below bit in none ∙ sym (ap (unless_to word) none);
     rest = λ c below bit. refl;
   }
 
@@ -106,8 +125,12 @@ module _ (word : ℕ) (before : List (Option ℕ)) (number : length before ≡ 3
           (cases_eq k c);
       rest = λ k below bit.
           ⊎_elim
-          (λ same. absurd (omega (arith, bit, bit_at_clear_same w32 left c found.0,
-          ap (bit_at (without_bit left c)) same)))
+          (λ same. absurd (omega (
+            arith,
+            bit,
+            bit_at_clear_same w32 left c found.0,
+            ap (bit_at (without_bit left c)) same,
+          )))
           (λ other. there k other ∙ walked.rest k below (sym (other_bit k below other) ∙ bit))
           (cases_eq k c);
     }

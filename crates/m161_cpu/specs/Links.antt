@@ -1,4 +1,5 @@
-use Rattle.std.specs.Prelude.{ℕ, Bool, false, ◌==◌, if◌then◌else◌, List, map, slice_set, replicate, Option, None, Some}
+use Rattle.std.specs.Prelude.{◌≡◌, ℕ, ◌<◌, Bool, false, ◌==◌, if◌then◌else◌, List, map, slice_set, slice_index_or, replicate, Option, None, Some, is_some}
+use Rattle.std.specs.Int.{bit_at}
 
 -- Links of `ll` and `sc`. MIPS II has the two instructions; when a link ends is this project's own
 -- rule.
@@ -6,6 +7,11 @@ use Rattle.std.specs.Prelude.{ℕ, Bool, false, ◌==◌, if◌then◌else◌, L
 -- the physical word that each of 32 processors is linked to, if its link is live
 abbrev pub no_links : List (Option ℕ)
 no_links = replicate 32 None
+
+-- each processor's bit of a number is 1 if its link is live, else 0
+abbrev pub HasBits : List (Option ℕ) → ℕ → Type 0
+HasBits links live =
+    (c : ℕ) → c < 32 → bit_at live c ≡ (if is_some (slice_index_or links c None) then 1 else 0)
 
 -- what a Step does to its own processor's link
 pub data LinkAct : Type 0 where

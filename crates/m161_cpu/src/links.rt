@@ -1,8 +1,7 @@
 //! Links of `ll` and `sc`.
 
 ghost use Rattle.std.specs.Prelude.{◌≡◌, ◌<◌, Some, None, length, slice_index_or, slice_set};
-ghost use Rattle.m161_cpu.specs.Links.{no_links, after_store, is_to};
-ghost use Rattle.m161_cpu.specs.helpers.Links.{HasBits};
+ghost use Rattle.m161_cpu.specs.Links.{HasBits, no_links, after_store, is_to};
 
 use std::marker::Model;
 
@@ -22,7 +21,7 @@ pub struct Links {
 
 impl Model for Links {
     ghost use Rattle.std.specs.Prelude.{◌≡◌, ℕ, List, Option, length};
-    ghost use Rattle.m161_cpu.specs.helpers.Links.{HasBits};
+    ghost use Rattle.m161_cpu.specs.Links.{HasBits};
 
     ghost Value = { List (Option ℕ) };
 

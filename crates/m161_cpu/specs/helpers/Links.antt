@@ -4,10 +4,6 @@ use Rattle.m161_cpu.specs.Links.{unless_to}
 
 -- How the code finds the links that a store ends.
 
--- a processor whose bit isn't in a number has no link
-abbrev pub HasBits : List (Option ℕ) → ℕ → Type 0
-HasBits links live = (c : ℕ) → c < 32 → bit_at live c ≡ 0 → slice_index_or links c None ≡ None
-
 -- the links before a store to a word, and those after it as far as no bit is left in a number
 pub record IsWalked (word : ℕ) (before : List (Option ℕ)) (left : ℕ) (links : List (Option ℕ))
     : Type 0 where

@@ -1,4 +1,4 @@
-use Rattle.std.proofs.Common.{rules, ◌≡◌, ◌∙◌, ◌<◌, sym, subst, true, false}
+use Rattle.std.proofs.Common.{rules, ◌∙◌, sym, subst}
 use Rattle.m161_cpu.specs.helpers.Links.{IsWalked}
 use Rattle.m161_cpu.proofs.Linked.{fewer, last_of, walk_ends, walked_ending, walked_over, without_bit}
 use Rattle.m161_cpu.proofs.links.Links.end_links_to.Goals.{then-names, else-names}
@@ -16,12 +16,12 @@ loop-left-preserved c =
     let left = c.loop-left.left in
     let IsOn = IsWalked word before (without_bit left (last_of left)) in
     elim c.if-names.branch [
-      then-names w ↦
+      | then-names w ↦
           subst IsOn (sym (w.self-is ∙ w.unlink.ensures))
           (walked_ending word before c.live-left.ensures.length left c.loop-left.self
           c.loop-left.invariant (search rules) (search rules)
           (sym c.names.ensures ∙ w.if-names.true))
-    | else-names w ↦
+      | else-names w ↦
           subst IsOn (sym w.self-is)
           (walked_over word before c.live-left.ensures.length left c.loop-left.self
           c.loop-left.invariant (search rules) (search rules)

@@ -1,4 +1,3 @@
-use Rattle.std.proofs.Common.{ℕ}
 use Rattle.m161_cpu.specs.helpers.Links.{IsWalked}
 use Rattle.m161_cpu.proofs.links.Links.end_links_to.Given as goal
 
