@@ -9,7 +9,6 @@ mod bursts;
 mod bus;
 mod cop0;
 mod dis;
-mod drive;
 mod elf;
 mod fetches;
 mod instructions;
