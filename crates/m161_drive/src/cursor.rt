@@ -56,6 +56,13 @@ impl Cursor {
         }
     }
 
+    /// How many keys it has chosen.
+    pub fn typed(&self) -> usize
+        ensures { result ≡ self.now.typed }
+    {
+        self.typed
+    }
+
     // How many events were accepted after the one that filled the latch.
     fn since_filled<T: Tlb, D: Console>(&self, machine: &Machine<T, D>) -> u64
         ensures { result ≡ since_filled self.now.filled machine.now.state }
