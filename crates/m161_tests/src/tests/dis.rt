@@ -2,6 +2,7 @@
 
 use super::listing::last_step;
 use super::same;
+use m161::Machine;
 use m161_dis::line;
 use m161_test_support::outcomes::{ENTRY, RAN, RESERVED};
 use std::test::Fail;
@@ -23,7 +24,7 @@ fn disassembled_words(rt: HostRuntime) -> Result<(), Fail> {
     }
     // the second is executed as `add`, and the fourth traps
     for &(word, answer) in &[(0x0000_0060, RAN), (0xffff_ffff, RESERVED)] {
-        last_step(&rt, "disassembled-words", ENTRY, &[word], 1, answer)?;
+        let _machine: Machine = last_step(&rt, "disassembled-words", ENTRY, &[word], 1, answer)?;
     }
     Ok(())
 }
