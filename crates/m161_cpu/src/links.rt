@@ -99,7 +99,7 @@ impl Links {
         }
     }
 
-    // The processors whose links may be live, one bit each.
+    // The processors whose links are live, one bit each.
     #[inline(always)]
     fn live(&self) -> u32
         ensures bits { HasBits self.now result }

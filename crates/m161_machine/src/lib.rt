@@ -15,8 +15,8 @@
 //!
 //! A refused event changes nothing and isn't logged. The log is a window: it keeps the last entries
 //! for which there is room, and the event of an entry that is dropped is made on the base. Its room
-//! is reserved at boot, so a Step and a typed byte do not allocate. Events, the order of refusals and the limits are this
-//! project's own.
+//! is reserved at boot, so a Step and a typed byte do not allocate. Events, the order of refusals
+//! and the limits are this project's own.
 #![tactic(auto)]
 
 mod conf;
