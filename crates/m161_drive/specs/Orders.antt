@@ -1,8 +1,8 @@
 use Rattle.std.specs.Prelude.{ℕ, ◌+◌, Bool, false, nat_lt, ◌&&◌, if◌then◌else◌, List, [], ◌∷◌, length, slice_get, slice_index, Option, None, Some}
 use Rattle.rand_pcg.specs.Lcg.{Lcg}
 use Rattle.m161_machine.specs.State.{State}
-use Rattle.m161_drive.specs.declared.order.Order.{Order}
-use Rattle.m161_drive.specs.declared.order.Order.TheVariants as order
+use Rattle.m161_order.specs.declared.order.Order.{Order}
+use Rattle.m161_order.specs.declared.order.Order.TheVariants as order
 use Rattle.m161_drive.specs.declared.turns.Turns.{Turns}
 use Rattle.m161_drive.specs.declared.orders.OrderState.{OrderState}
 use Rattle.m161_drive.specs.declared.orders.OrderState.TheVariants.{InTurns, AtRandom, ByPriority}

@@ -1,19 +1,7 @@
-use Rattle.std.specs.Prelude.{ℕ, nat_lt, ◌==◌, if◌then◌else◌, List, Option, None, Some}
-use Rattle.m161_drive.specs.declared.order.Order.{Order}
-use Rattle.m161_drive.specs.declared.order.Order.TheVariants.{Turns, Random, Priorities}
-use Rattle.m161_drive.specs.declared.order.OrderError.{OrderError}
-use Rattle.m161_drive.specs.declared.order.OrderError.TheVariants.{NoTurn, NoStretch, TooManyChanges}
+use Rattle.std.specs.Prelude.{ℕ, List, Option}
+use Rattle.m161_order.specs.declared.order.Order.{Order}
 
 -- Policies.
-
--- the first number of an order that is outside its limits
-abbrev pub order_fault : Order → Option OrderError
-order_fault (Turns steps) = if steps == 0 then Some NoTurn else None
-order_fault (Random seed) = None
-order_fault (Priorities seed changes within) =
-    if within == 0 then Some NoStretch
-    else if nat_lt 64 changes then Some TooManyChanges
-    else None
 
 -- a policy
 pub record Rules : Type 0 where

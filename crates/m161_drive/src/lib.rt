@@ -18,7 +18,6 @@
 
 mod cursor;
 mod laws;
-mod order;
 mod orders;
 mod policy;
 mod ranking;
@@ -30,7 +29,7 @@ mod words;
 pub use cursor::Cursor;
 pub use laws::{chooses_accepted, stays_asleep};
 pub use m161_machine::{Event, Machine, Refusal};
-pub use order::{Order, OrderError};
+pub use m161_order::{Order, OrderError};
 pub use policy::Policy;
 pub use ready::is_asleep;
 pub use run::{Driven, Stop, drive};

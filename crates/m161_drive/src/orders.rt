@@ -2,15 +2,15 @@
 
 ghost use Rattle.std.specs.Prelude.{◌≡◌, ◌≤◌, None};
 ghost use Rattle.m161_drive.specs.Orders.{by_order, by_words, interrupted, order_at_start};
-ghost use Rattle.m161_drive.specs.Policy.{order_fault};
+ghost use Rattle.m161_order.specs.Order.{order_fault};
 
-use crate::order::Order;
 use crate::ranking::Ranking;
 use crate::ready::{count_ready, ready_at};
 use crate::turns::Turns;
 use crate::words::{below, seeded};
 use m161_bus::Console;
 use m161_machine::Machine;
+use m161_order::Order;
 use m161_tlb::Tlb;
 use rand_pcg::Pcg32;
 

@@ -1,6 +1,6 @@
 //! What chooses the events of a driven run.
 
-use crate::order::{Order, OrderError};
+use m161_order::{Order, OrderError};
 use std::marker::Model;
 
 /// A policy: an order of Steps, when a transfer of the console ends, and which keys are typed, and
@@ -15,7 +15,8 @@ pub struct Policy<'a> {
 
 impl<'a> Model for Policy<'a> {
     ghost use Rattle.std.specs.Prelude.{◌≡◌, None};
-    ghost use Rattle.m161_drive.specs.Policy.{Rules, order_fault};
+    ghost use Rattle.m161_order.specs.Order.{order_fault};
+    ghost use Rattle.m161_drive.specs.Policy.{Rules};
 
     ghost Value = { Rules };
 
@@ -31,7 +32,7 @@ impl<'a> Model for Policy<'a> {
 
 impl<'a> Policy<'a> {
     ghost use Rattle.std.specs.Prelude.{◌≡◌, ◌-◌, ◌<◌, ◌^◌, None, Some, IfSome, MatchResult, slice_get};
-    ghost use Rattle.m161_drive.specs.Policy.{order_fault};
+    ghost use Rattle.m161_order.specs.Order.{order_fault};
 
     /// A policy. A byte in the console's latch is sent once `transfer` events were accepted after
     /// the one that put it there, and a key is typed once `gap` events were accepted after the last
@@ -50,25 +51,8 @@ impl<'a> Policy<'a> {
             × (policy ≡ record { order = order; transfer = transfer; gap = gap; keys = keys.now }))
             (λ e. order_fault order ≡ Some e) }
     {
-        match order {
-            Order::Turns(steps) => {
-                if steps == 0 {
-                    return Err(OrderError::NoTurn);
-                }
-            }
-            Order::Random(_) => {}
-            Order::Priorities {
-                seed: _,
-                changes,
-                within,
-            } => {
-                if within == 0 {
-                    return Err(OrderError::NoStretch);
-                }
-                if changes > 64 {
-                    return Err(OrderError::TooManyChanges);
-                }
-            }
+        if let Some(error) = order.fault() {
+            return Err(error);
         }
         Ok(Policy {
             order,

@@ -1,5 +1,8 @@
 //! Which ready processor makes the next Step, as a policy says it.
 
+ghost use Rattle.std.specs.Prelude.{◌≡◌};
+ghost use Rattle.m161_order.specs.Order.{order_fault};
+
 use thiserror::Error;
 
 /// An order of the Steps of ready processors.
@@ -33,4 +36,33 @@ pub enum OrderError {
     /// More than 64 changes in a stretch.
     #[error("a stretch has at most 64 changes")]
     TooManyChanges,
+}
+
+impl Order {
+    /// The first of its numbers that is outside its limits.
+    pub fn fault(self) -> Option<OrderError>
+        ensures { result ≡ order_fault self }
+    {
+        match self {
+            Order::Turns(steps) => {
+                if steps == 0 {
+                    return Some(OrderError::NoTurn);
+                }
+            }
+            Order::Random(_) => {}
+            Order::Priorities {
+                seed: _,
+                changes,
+                within,
+            } => {
+                if within == 0 {
+                    return Some(OrderError::NoStretch);
+                }
+                if changes > 64 {
+                    return Some(OrderError::TooManyChanges);
+                }
+            }
+        }
+        None
+    }
 }
