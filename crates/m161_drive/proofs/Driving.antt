@@ -1,4 +1,4 @@
-use Rattle.std.proofs.Common.{◌≡◌, ◌∙◌, refl, sym, ap, subst, ℕ, ◌+◌, ◌<◌, List, [], ◌∷◌, ◌++◌, length}
+use Rattle.std.proofs.Common.{◌≡◌, ◌∙◌, refl, sym, ap, subst, ℕ, ◌+◌, ◌<◌, ◌≤◌, List, [], ◌∷◌, ◌++◌, length}
 use Rattle.std.proofs.lemmas.List.{length-append}
 use Rattle.m161_machine.specs.declared.event.Event.{Event}
 use Rattle.m161_machine.specs.State.{State}
@@ -46,13 +46,14 @@ drives_more rules m made c d k l so_far turn = record {
 }
 
 -- where it stops
-pub stopped : (rules : Rules) (n made : ℕ) (stop : Stop) (m k l : History) (c : Cursor) → Driving rules m made c k →
+pub stopped : (rules : Rules) (n made : ℕ) (stop : Stop) (m k l : History) (c : Cursor) → made ≤ n → Driving rules m made c k →
     Stops rules n made c k.state stop → l ≡ k → Drives rules n m (record { made = made; stop = stop }) l
-stopped rules n made stop m k l c so_far h same =
+stopped rules n made stop m k l c few so_far h same =
     subst (λ x. Drives rules n m (record { made = made; stop = stop }) x) (sym same) (record {
       events = so_far.events;
       cursor = c;
       made_is = so_far.made_is;
+      few = few;
       chosen_are = so_far.chosen_are;
       continues = so_far.continues;
       stops = h;

@@ -1,4 +1,4 @@
-use Rattle.std.specs.Prelude.{◌≡◌, ℕ, ◌<◌, true, false, List, [], ◌∷◌, length, Option, None, Some, Ok, ◌⊎◌}
+use Rattle.std.specs.Prelude.{◌≡◌, ℕ, ◌<◌, ◌≤◌, true, false, List, [], ◌∷◌, length, Option, None, Some, Ok, ◌⊎◌}
 use Rattle.m161_cpu.specs.declared.processor.Outcome.{Outcome}
 use Rattle.m161_cpu.specs.declared.processor.Outcome.TheVariants.{Idle}
 use Rattle.m161_machine.specs.declared.event.Event.{Event}
@@ -49,6 +49,7 @@ pub record Drives (rules : Rules) (n : ℕ) (m : History) (driven : Driven) (k :
   pub events : List Event
   pub cursor : Cursor
   pub made_is : length events ≡ driven.made
+  pub few : driven.made ≤ n
   pub chosen_are : Chooses rules (cursor_at rules m.state) m.state events cursor k.state
   pub continues : Continues m events k
   pub stops : Stops rules n driven.made cursor k.state driven.stop

@@ -4,8 +4,7 @@ use Rattle.clap.specs.declared.parser.matches.ArgMatches.{ArgMatches}
 use Rattle.clap.specs.declared.error.Error.{Error}
 use Rattle.clap.specs.declared.error.kind.ErrorKind.TheVariants.{OutOfMemory}
 use Rattle.clap.proofs.OnLiterals.{clap_on_literals}
-use Rattle.s161_command.specs.declared.command.Task.{Task}
-use Rattle.s161_command.specs.Commands.{IsAccepted, IsTask, command_line}
+use Rattle.s161_command.specs.Commands.{IsAccepted, command_line}
 
 -- What clap says of a parse, said of the command line.
 
@@ -34,8 +33,6 @@ is_plain : (app : App) → app ≡ command_line → is_simple app ≡ true
 unfolding clap_on_literals
 is_plain app same = ap is_simple same
 
-pub tasked : (app : App) (words : List Text) (m : ArgMatches) (task : Task) → app ≡ command_line → HasMatchesOf app words m
-    → IsTask (subcommand_rows_of m) task → IsTask (subcommand_of command_line words) task
-tasked app words m task same has is =
-    let given = (has (is_plain app same)).1 ∙ ap (λ a. subcommand_of a words) same in
-    subst (λ command. IsTask command task) given is
+pub given_so : (app : App) (words : List Text) (m : ArgMatches) → app ≡ command_line → HasMatchesOf app words m →
+    subcommand_rows_of m ≡ subcommand_of command_line words
+given_so app words m same has = (has (is_plain app same)).1 ∙ ap (λ a. subcommand_of a words) same

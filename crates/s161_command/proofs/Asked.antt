@@ -1,8 +1,10 @@
 use Rattle.std.proofs.Common.{◌≡◌, ◌∙◌, ℕ, List, Bool, true, false, Option, None, Some, Result, Ok, Err, ap, codes, refl}
-use Rattle.std.specs.Prelude.{unwrap_or}
+use Rattle.std.specs.Prelude.{is_some, option_map, unwrap_or}
 use Rattle.std.specs.Str.Parse.{ParsesUnsigned}
 use Rattle.clap.specs.Words.{ReadsOne}
-use Rattle.s161_command.specs.Commands.{IsFlag, IsNumberOf}
+use Rattle.s161_command.specs.Commands.{IsFlag}
+use Rattle.s161_command.specs.Drives.{IsLongNumberOf}
+use Rattle.s161_command.specs.Numbers.{IsNumberOf}
 
 -- What clap's getters answer, said of what is asked for.
 
@@ -18,7 +20,24 @@ number_of E G (Some t) None default n none value parses is =
     let error = value t refl in
     record { number = λ fits. absurd (parses t (Err error.0) error.1 fits); other = λ not. is }
 
+-- the same of 64 bits
+pub long_number_of : (E : Type 0) (G : List ℕ → Result ℕ E → Type 0) (text : Option (List ℕ)) (read : Option ℕ) (default n : ℕ) →
+    (text ≡ None → read ≡ None) → ((t : List ℕ) → text ≡ Some t → ReadsOne G t read) →
+    ((t : List ℕ) (x : Result ℕ E) → G t x → ParsesUnsigned 64 10 t x) → n ≡ unwrap_or read default → IsLongNumberOf default text n
+long_number_of E G None read default n none value parses is = is ∙ ap (λ r. unwrap_or r default) (none refl)
+long_number_of E G (Some t) (Some v) default n none value parses is =
+    let parsed = parses t (Ok v) (value t refl) in
+    record { number = λ fits. is ∙ parsed.1; other = λ not. absurd (not parsed.0) }
+long_number_of E G (Some t) None default n none value parses is =
+    let error = value t refl in
+    record { number = λ fits. absurd (parses t (Err error.0) error.1 fits); other = λ not. is }
+
 pub flag_of : (text : Option (List ℕ)) (flag : Bool) → (text ≡ None → flag ≡ false) → (text ≡ Some (codes "true") → flag ≡ true) →
     (text ≡ Some (codes "false") → flag ≡ false) → IsFlag text flag
 flag_of None flag none on off = none refl
 flag_of (Some t) flag none on off = (λ is. on (ap (λ x. Some x) is), λ is. off (ap (λ x. Some x) is))
+
+-- what has a text is given
+pub given_as : {A B : Type 0} (f : A → B) (o : Option A) → is_some o ≡ is_some (option_map f o)
+given_as f None = refl
+given_as f (Some x) = refl

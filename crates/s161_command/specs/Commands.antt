@@ -1,15 +1,24 @@
-use Rattle.std.specs.Prelude.{◌≡◌, ◌⊎◌, ℕ, ◌<◌, ◌^◌, Bool, true, false, List, [], ◌∷◌, Option, None, Some, IfSome, IsSomeAnd, codes, pos, unwrap_or}
-use Rattle.std.specs.Str.Parse.{IsNumeral, digits_value, without_leading_plus}
-use Rattle.clap.specs.Words.{App, Row, Rule, Text, fault_of, first_of, new_app, new_rule, one_of, with_rule, with_subcommand}
+use Rattle.std.specs.Prelude.{◌≡◌, ◌≢◌, ◌⊎◌, ℕ, ◌<◌, Bool, true, false, List, [], ◌∷◌, Option, None, Some, IfSome, IsSomeAnd, codes, pos, unwrap_or}
+use Rattle.clap.specs.Words.{App, HasKind, Row, Rule, Text, fault_of, first_of, kind_of, new_app, new_rule, one_of, subcommand_of, with_rule, with_subcommand}
 use Rattle.clap.specs.Simple.{new_shape, on_top}
 use Rattle.clap.specs.declared.builder.action.ArgAction.TheVariants.{SetTrue}
 use Rattle.clap.specs.declared.builder.value_parser.ValueParser.TheVariants.{Signed}
+use Rattle.clap.specs.declared.error.kind.ErrorKind.{ErrorKind}
+use Rattle.clap.specs.declared.error.kind.ErrorKind.TheVariants.{DisplayHelp, DisplayVersion, OutOfMemory}
+use Rattle.m161_order.specs.Order.{order_fault}
+use Rattle.s161_command.specs.declared.drive.Clash.{Clash}
+use Rattle.s161_command.specs.declared.command.DrivenTask.{DrivenTask}
 use Rattle.s161_command.specs.declared.command.FilesTask.{FilesTask}
+use Rattle.s161_command.specs.declared.command.Rejection.{Rejection}
+use Rattle.s161_command.specs.declared.command.Rejection.TheVariants.{Words, Options}
 use Rattle.s161_command.specs.declared.command.RunTask.{RunTask}
+use Rattle.s161_command.specs.declared.command.ScheduleTask.{ScheduleTask}
 use Rattle.s161_command.specs.declared.command.Size.{Size}
 use Rattle.s161_command.specs.declared.command.ThreadsTask.{ThreadsTask}
 use Rattle.s161_command.specs.declared.command.Task.{Task}
-use Rattle.s161_command.specs.declared.command.Task.TheVariants.{Assemble, Audit, Debug, Demo, Disassemble, Replay, Run, RunInThreads}
+use Rattle.s161_command.specs.declared.command.Task.TheVariants.{Assemble, Audit, Debug, Demo, Disassemble, Replay, Run, RunDriven, RunInThreads, Schedule}
+use Rattle.s161_command.specs.Drives.{AsksDrive, Clashes, go_together, has_order, optional_rule, with_order_rules, with_pace_rules}
+use Rattle.s161_command.specs.Numbers.{IsNumberOf}
 
 -- The command line, in clap's own words.
 
@@ -32,17 +41,11 @@ show_log_rule =
 
 -- a number of Steps for each thread, at most 1,000,000
 abbrev pub threads_rule : Rule
-threads_rule =
-    record (number_rule (codes "threads") (codes "0")) {
-      parser = Some (Signed (pos 0) (pos 1000000));
-    }
+threads_rule = optional_rule (codes "threads") 0 1_000_000
 
 -- how many Steps a thread makes at most in one go, 1 to 1,024
 abbrev pub burst_rule : Rule
-burst_rule =
-    record (number_rule (codes "burst") (codes "1")) {
-      parser = Some (Signed (pos 1) (pos 1024));
-    }
+burst_rule = optional_rule (codes "burst") 1 1_024
 
 -- a command, with the options of a machine's size added; the last number is the log's default
 abbrev pub with_size_rules : Text → App → App
@@ -56,14 +59,24 @@ with_size_rules log command =
 abbrev pub on_image : Text → App
 on_image name = with_rule (new_app name) (file_rule (codes "image"))
 
--- the arguments of `run`: an image and options
-abbrev pub run_line : App
-run_line =
+-- the arguments of `run`, without those of an order: an image and options
+abbrev pub plain_run_line : App
+plain_run_line =
     with_rule (with_rule (with_rule
     (with_size_rules (codes "65536") (on_image (codes "run")))
     show_log_rule)
     threads_rule)
     burst_rule
+
+-- the arguments of `run`; a driven run has at most as many events as any run
+abbrev pub run_line : App
+run_line = with_pace_rules 9_223_372_036_854_775_807 (with_order_rules plain_run_line)
+
+-- the arguments of `schedule`: an image and options; a schedule has at most 16,777,216 events
+abbrev pub schedule_line : App
+schedule_line =
+    with_pace_rules 16_777_216 (with_order_rules
+    (with_size_rules (codes "65536") (on_image (codes "schedule"))))
 
 -- a command over an image and a text, with the options of a machine's size
 abbrev pub files_line : Text → Text → Text → App
@@ -89,19 +102,20 @@ as_line = new_app (codes "as")
 abbrev pub dis_line : App
 dis_line = on_image (codes "dis")
 
--- the program needs a command; `demo` has no arguments
+-- the program needs a command, and tells its version; `demo` has no arguments
 abbrev pub program_line : App
 program_line =
     with_subcommand
-    (on_top (λ s. record s { subcommand_required = true }) (new_app (codes "s161")))
+    (on_top (λ s. record s { subcommand_required = true; has_version = true }) (new_app (codes "s161")))
     (new_shape (codes "demo"))
 
 -- the program with all commands
 abbrev pub command_line : App
 command_line =
-    with_subcommand (with_subcommand (with_subcommand
+    with_subcommand (with_subcommand (with_subcommand (with_subcommand
     (with_subcommand (with_subcommand (with_subcommand program_line
     run_line.top)
+    schedule_line.top)
     replay_line.top)
     debug_line.top)
     audit_line.top)
@@ -112,20 +126,9 @@ command_line =
 unfoldable pub IsAccepted : List Text → Type 0
 IsAccepted words = fault_of command_line words ≡ []
 
--- a number of 32 bits in decimal digits, optionally after a plus
-abbrev pub IsNumber : Text → Type 0
-IsNumber text =
-    IsNumeral 10 (without_leading_plus text)
-    × (digits_value 10 (without_leading_plus text) < 2 ^ 32)
-
--- an option's number is that of clap's text, if it is a number, else the default
-pub record HasNumber (default : ℕ) (text : Text) (n : ℕ) : Type 0 where
-  pub number : IsNumber text → n ≡ digits_value 10 (without_leading_plus text)
-  pub other : ¬ IsNumber text → n ≡ default
-
-abbrev pub IsNumberOf : ℕ → Option Text → ℕ → Type 0
-IsNumberOf default None n = n ≡ default
-IsNumberOf default (Some text) n = HasNumber default text n
+-- a call for help or for the version, which clap answers by an error of its own kind
+abbrev pub IsHelp : ErrorKind → Type 0
+IsHelp kind = (kind ≡ DisplayHelp) ⊎ (kind ≡ DisplayVersion)
 
 abbrev pub IsFlag : Option Text → Bool → Type 0
 IsFlag None flag = flag ≡ false
@@ -156,11 +159,27 @@ pub record AsksThreads (rows : List Row) (task : ThreadsTask) : Type 0 where
   pub some : 0 < task.quota
   pub burst : IsNumberOf 1 (one_of (codes "burst") rows) task.burst
 
--- `run` asks for this: a run under a schedule, or one in threads if their number of Steps isn't 0
+-- `run` asks for this driven run
+pub record AsksDriven (rows : List Row) (task : DrivenTask) : Type 0 where
+  pub run : AsksRun rows task.run
+  pub drive : AsksDrive rows task.drive
+
+-- `run` asks for this: a driven run if an order is given, else a run under a schedule, or one in
+-- threads if their number of Steps isn't 0
 abbrev pub IsRunTask : List Row → Task → Type 0
-IsRunTask rows (Run task) = AsksRun rows task × IsNumberOf 0 (one_of (codes "threads") rows) 0
-IsRunTask rows (RunInThreads task) = AsksThreads rows task
+IsRunTask rows (Run task) =
+    (has_order rows ≡ false) × AsksRun rows task
+    × IsNumberOf 0 (one_of (codes "threads") rows) 0
+IsRunTask rows (RunInThreads task) = (has_order rows ≡ false) × AsksThreads rows task
+IsRunTask rows (RunDriven task) = (has_order rows ≡ true) × AsksDriven rows task
 IsRunTask rows _ = ⊥
+
+-- `schedule` asks for the events of this driven run
+pub record AsksSchedule (rows : List Row) (task : ScheduleTask) : Type 0 where
+  pub order : has_order rows ≡ true
+  pub image : task.image.now ≡ given_of (codes "image") rows
+  pub size : IsSize 65_536 rows task.size
+  pub drive : AsksDrive rows task.drive
 
 -- a command over an image and a text of this name asks for this; how many entries the log keeps has
 -- this default
@@ -172,8 +191,8 @@ pub record AsksFiles (name : Text) (log : ℕ) (rows : List Row) (task : FilesTa
 -- the words that ask for another task than the demo
 abbrev pub IsOther : Text → Type 0
 IsOther word =
-    (word ≡ codes "run") ⊎ (word ≡ codes "replay") ⊎ (word ≡ codes "debug") ⊎ (word ≡ codes "audit")
-    ⊎ (word ≡ codes "as") ⊎ (word ≡ codes "dis")
+    (word ≡ codes "run") ⊎ (word ≡ codes "schedule") ⊎ (word ≡ codes "replay")
+    ⊎ (word ≡ codes "debug") ⊎ (word ≡ codes "audit") ⊎ (word ≡ codes "as") ⊎ (word ≡ codes "dis")
 
 -- a command, with its arguments, asks for this
 abbrev pub IsTask : Option (Text × List Row) → Task → Type 0
@@ -182,6 +201,10 @@ IsTask command (Run task) =
     IsSomeAnd command (λ given. (given.0 ≡ codes "run") × IsRunTask given.1 (Run task))
 IsTask command (RunInThreads task) =
     IsSomeAnd command (λ given. (given.0 ≡ codes "run") × IsRunTask given.1 (RunInThreads task))
+IsTask command (RunDriven task) =
+    IsSomeAnd command (λ given. (given.0 ≡ codes "run") × IsRunTask given.1 (RunDriven task))
+IsTask command (Schedule task) =
+    IsSomeAnd command (λ given. (given.0 ≡ codes "schedule") × AsksSchedule given.1 task)
 IsTask command (Replay task) =
     IsSomeAnd command
     (λ given. (given.0 ≡ codes "replay") × AsksFiles (codes "entries") 65_536 given.1 task)
@@ -195,3 +218,32 @@ IsTask command Assemble = IsSomeAnd command (λ given. given.0 ≡ codes "as")
 IsTask command (Disassemble image) =
     IsSomeAnd command
     (λ given. (given.0 ≡ codes "dis") × (image.now ≡ given_of (codes "image") given.1))
+
+-- the options of a command go together
+abbrev pub GoTogether : Option (Text × List Row) → Type 0
+GoTogether command =
+    IfSome command (λ given.
+    (given.0 ≡ codes "run" → go_together false given.1 ≡ true)
+    × (given.0 ≡ codes "schedule" → go_together true given.1 ≡ true))
+
+-- the options of a command can't be followed: why
+abbrev pub ClashesIn : Option (Text × List Row) → Clash → Type 0
+ClashesIn command clash =
+    IsSomeAnd command (λ given.
+    ((given.0 ≡ codes "run") × Clashes false given.1 clash)
+    ⊎ ((given.0 ≡ codes "schedule") × Clashes true given.1 clash))
+
+-- the numbers of a task's order are within their limits
+abbrev pub HasLimits : Task → Type 0
+HasLimits (RunDriven task) = order_fault task.drive.order ≡ None
+HasLimits (Schedule task) = order_fault task.drive.order ≡ None
+HasLimits _ = Unit {0}
+
+-- a command line isn't followed: clap finds a fault of this kind; or it finds none, and the options
+-- can't be followed
+abbrev pub IsRejected : List Text → Rejection → Type 0
+IsRejected words (Words error) =
+    HasKind (fault_of command_line words) error
+    × (kind_of error ≢ OutOfMemory → ¬ IsAccepted words)
+IsRejected words (Options clash) =
+    IsAccepted words × ClashesIn (subcommand_of command_line words) clash

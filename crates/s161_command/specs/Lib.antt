@@ -1,2 +1,4 @@
+pub mod Numbers
+pub mod Drives
 pub mod Commands
 pub mod helpers

@@ -1,11 +1,20 @@
 //! The command line.
 
-ghost use Rattle.std.specs.Prelude.{◌≡◌, ◌≢◌, [], IfErr, IfOk, codes, false, map, unwrap_or};
+ghost use Rattle.std.specs.Prelude.{◌≡◌, ◌≢◌, [], IfErr, IfOk, codes, false, map, true, unwrap_or};
 ghost use Rattle.clap.specs.Words.{HasKind, app_of, fault_of, first_of, found_of, kind_of, one_of, rows_of, rule_of, subcommand_of, subcommand_rows_of, with_rule, with_subcommand};
 ghost use Rattle.clap.specs.declared.error.kind.ErrorKind.TheVariants.{OutOfMemory};
-ghost use Rattle.s161_command.specs.Commands.{AsksFiles, AsksRun, AsksThreads, IsAccepted, IsFlag, IsNumberOf, IsRunTask, IsSize, IsTask, as_line, audit_line, burst_rule, command_line, debug_line, dis_line, file_rule, files_line, number_rule, program_line, replay_line, run_line, show_log_rule, threads_rule, with_size_rules};
+ghost use Rattle.s161_command.specs.Commands.{AsksFiles, AsksRun, AsksSchedule, ClashesIn, GoTogether, HasLimits, IsAccepted, IsRejected, IsRunTask, IsSize, IsTask, as_line, audit_line, burst_rule, command_line, debug_line, dis_line, file_rule, files_line, number_rule, plain_run_line, program_line, replay_line, run_line, schedule_line, show_log_rule, threads_rule, with_size_rules};
+ghost use Rattle.s161_command.specs.Drives.{Clashes, go_together, has_order};
 ghost use Rattle.s161_command.specs.helpers.Commands.{IsLocal};
 
+use crate::drive::{
+    Clash, Drive, clash_of, drive_given, has_order, optional_number, with_order, with_pace,
+};
+use crate::given::{file_given, number_given, show_log_given};
+use crate::help::{
+    AFTER_AS_HELP, AFTER_AUDIT_HELP, AFTER_DEBUG_HELP, AFTER_DIS_HELP, AFTER_HELP,
+    AFTER_REPLAY_HELP, AFTER_RUN_HELP, AFTER_SCHEDULE_HELP, IMAGE_HELP,
+};
 use clap::{Arg, ArgAction, ArgMatches, Command, Error, value_parser};
 use std::alloc::{AllocError, Global};
 use std::convert::AsStr;
@@ -19,6 +28,10 @@ pub enum Task<'a> {
     Run(RunTask<'a>),
     /// Run an image in threads.
     RunInThreads(ThreadsTask<'a>),
+    /// Run an image by a policy.
+    RunDriven(DrivenTask<'a>),
+    /// Print the events that a policy chooses, as a schedule.
+    Schedule(ScheduleTask<'a>),
     /// Replay an image against a log.
     Replay(FilesTask<'a>),
     /// Debug an image under a schedule.
@@ -64,6 +77,35 @@ pub struct ThreadsTask<'a> {
     pub burst: u32,
 }
 
+/// The arguments of `run` by a policy.
+#[derive(Clone, Copy)]
+pub struct DrivenTask<'a> {
+    /// Those of any run.
+    pub run: RunTask<'a>,
+    /// What the driven run is asked for.
+    pub drive: Drive<'a>,
+}
+
+/// The arguments of `schedule`.
+#[derive(Clone, Copy)]
+pub struct ScheduleTask<'a> {
+    /// The image's name.
+    pub image: &'a str,
+    /// The machine's size.
+    pub size: Size,
+    /// What the driven run is asked for.
+    pub drive: Drive<'a>,
+}
+
+/// Why the words of a command line have no task.
+#[derive(Drop)]
+pub enum Rejection {
+    /// clap doesn't take them.
+    Words(Error),
+    /// clap takes them, and their options can't be followed.
+    Options(Clash),
+}
+
 /// The arguments of a command over an image and a text.
 #[derive(Clone, Copy)]
 pub struct FilesTask<'a> {
@@ -75,104 +117,8 @@ pub struct FilesTask<'a> {
     pub size: Size,
 }
 
-/// The help of the argument IMAGE.
-const IMAGE_HELP: &str = "An ELF file, or @sample, the built-in kernel of two processors";
-
-/// The end of the program's help.
-const AFTER_HELP: &str = "\
-Exit status:
-  0  a finished demo, debug, as or dis, a machine that switched itself off, a
-     log that agrees, or a clean run
-  1  a fault, named on standard error, or a refused event of run
-  2  a rejected command line, or a call for help
-  3  the schedule or the Steps of the threads ended
-  4  a log that differs, or a stale use";
-
-/// The end of the help of `run`.
-const AFTER_RUN_HELP: &str = "\
-The schedule is read from standard input, an event a line:
-  s P [N]  N Steps of processor P, 1 to 1000000; one where N is left out
-  k HH     a byte is typed at the console, two hexadecimal digits
-  o        the console has sent its byte
-  # ...    a comment; an empty line is ignored too
-
-With --threads each processor has a thread that makes Q Steps, unless the
-machine is switched off, and no schedule is read. A thread makes up to K Steps
-in one go (--burst); the host says which thread makes the next ones.
-
-The log keeps the last N entries (--log). Where entries before them were
-dropped, --show-log prints `m161 tail 1 DROPPED` in place of the log's first
-line, with their number. A log can be replayed, and its tail can't: the same
-run with a greater --log has the whole log.
-
-Exit status:
-  0  the machine switched itself off
-  1  a fault, named on standard error, or a refused event
-  3  the schedule or the Steps of the threads ended
-
-Example:
-  printf 's 0 1000\\nk 41\\ns 0 1000\\n' | s161 run kernel.elf --show-log";
-
-/// The end of the help of `replay`.
-const AFTER_REPLAY_HELP: &str = "\
-The log is what run --show-log prints from its line `m161 log 1` on, without the last line; it may
-be longer than --log. The answer is `agrees`, or `differs K` where entry K, from 0, is the first
-that another run makes otherwise.
-
-Exit status:
-  0  the log agrees
-  1  a fault, named on standard error
-  4  the log differs";
-
-/// The end of the help of `debug`.
-const AFTER_DEBUG_HELP: &str = "\
-The schedule is that of run, in a file. The commands are read from standard input, one a line:
-  b P ADDR  d P ADDR   sets or deletes a breakpoint of processor P
-  g  g N               makes the schedule's other events, or N of them, up to a breakpoint
-  s P  k HH  o         makes an event that isn't the schedule's
-  r P  c P  t P        shows registers, coprocessor 0, the TLB
-  m ADDR N  x ADDR N   shows N words of memory or of code, 1 to 1024
-  l N                  shows the log's last N entries, 1 to 1024, or all that it keeps
-An error of a command is printed as `? Name`, and the next one is done.
-
-Exit status:
-  0  the commands ended
-  1  a fault, named on standard error
-
-Example:
-  printf 'b 0 80000208\\ng\\nr 0\\n' | s161 debug kernel.elf schedule";
-
-/// The end of the help of `audit`.
-const AFTER_AUDIT_HELP: &str = "\
-The schedule is that of run, from standard input. The watches say what to look for, one a line:
-  w ID PAGE PTE DONE   the page PAGE of address space ID; its entry, in EntryLo's form, is the word
-                       at PTE, and the initiator of a shootdown writes the word at DONE when it is
-                       over: physical addresses
-ID is a decimal number, PAGE has five hexadecimal digits, PTE and DONE have eight. The answer is
-`clean`, or `stale PLACE PROCESSOR ADDRESS ROW`: the first event, from 0, whose Step used a row of
-the TLB that its page's entry doesn't allow any more, after the shootdown was over.
-
-Exit status:
-  0  the run is clean
-  1  a fault, named on standard error
-  4  a stale use
-
-Example:
-  printf 'w 5 00400 00003000 00003004\\n' > watches
-  s161 audit kernel.elf watches --cpus 2 < schedule";
-
-/// The end of the help of `as`.
-const AFTER_AS_HELP: &str = "\
-The text is read from standard input, and its ELF file is written to standard output. A fault is
-`s161: source LINE:COLUMN N Name`.
-
-Example:
-  s161 as < kernel.s > kernel.elf";
-
-/// The end of the help of `dis`.
-const AFTER_DIS_HELP: &str = "\
-For each segment that is loaded, a line a word: its address, the word, and its assembly text. The
-image is loaded into 16777216 bytes of RAM.";
+/// What `--version` tells.
+const VERSION: &str = "1.0";
 
 // An option with a number of 32 bits.
 fn number_option<'a>(alloc: Global, name: &'a str, help: &'a str, default: &'a str) -> Arg<'a>
@@ -214,12 +160,9 @@ fn threads_option<'a>(alloc: Global) -> Arg<'a>
     ensures rule { rule_of result ≡ threads_rule }
     ensures local { result.global ≡ false }
 {
-    Arg::new(alloc, "threads")
-        .long("threads")
-        .value_name("Q")
-        .help("Steps that each processor makes in a thread of its own, 0 to 1000000")
-        .value_parser(value_parser!(u32).range(0..=1_000_000))
-        .default_value("0")
+    let help =
+        "Steps that each processor makes in a thread of its own, 0 to 1000000; none where it is left out";
+    optional_number(alloc, "threads", "Q", help, 0, 1_000_000)
 }
 
 // The option of `run` that says how many Steps a thread makes in one go.
@@ -227,12 +170,8 @@ fn burst_option<'a>(alloc: Global) -> Arg<'a>
     ensures rule { rule_of result ≡ burst_rule }
     ensures local { result.global ≡ false }
 {
-    Arg::new(alloc, "burst")
-        .long("burst")
-        .value_name("K")
-        .help("Steps that a thread makes at most in one go, 1 to 1024")
-        .value_parser(value_parser!(u32).range(1..=1024))
-        .default_value("1")
+    let help = "Steps that a thread makes at most in one go, 1 to 1024; 1 where it is left out";
+    optional_number(alloc, "burst", "K", help, 1, 1024)
 }
 
 // A command, with the options of a machine's size added; the last one is the log's default.
@@ -272,19 +211,41 @@ fn with_files<'a>(
     with_size(alloc, command, log)
 }
 
-// The definition of `run`.
-fn run_definition<'a>(alloc: Global) -> Result<Command<'a>, AllocError>
-    ensures shape { IfOk result (λ command. app_of command ≡ run_line) }
+// The definition of `run`, without an order.
+fn plain_run_definition<'a>(alloc: Global) -> Result<Command<'a>, AllocError>
+    ensures shape { IfOk result (λ command. app_of command ≡ plain_run_line) }
     ensures local { IfOk result IsLocal }
 {
     let run = Command::new(alloc, "run")
-        .about("Runs an image under a schedule of events")
+        .about("Runs an image under a schedule of events, or by an order that chooses them")
         .after_help(AFTER_RUN_HELP)
         .arg(file_argument(alloc, "image", "IMAGE", IMAGE_HELP))?;
     with_size(alloc, run, "65536")?
         .arg(show_log_option(alloc))?
         .arg(threads_option(alloc))?
         .arg(burst_option(alloc))
+}
+
+// The definition of `run`.
+fn run_definition<'a>(alloc: Global) -> Result<Command<'a>, AllocError>
+    ensures shape { IfOk result (λ command. app_of command ≡ run_line) }
+    ensures local { IfOk result IsLocal }
+{
+    let run = plain_run_definition(alloc)?;
+    with_pace(alloc, with_order(alloc, run)?, 9_223_372_036_854_775_807)
+}
+
+// The definition of `schedule`.
+fn schedule_definition<'a>(alloc: Global) -> Result<Command<'a>, AllocError>
+    ensures shape { IfOk result (λ command. app_of command ≡ schedule_line) }
+    ensures local { IfOk result IsLocal }
+{
+    let schedule = Command::new(alloc, "schedule")
+        .about("Prints the events that an order chooses, as a schedule")
+        .after_help(AFTER_SCHEDULE_HELP)
+        .arg(file_argument(alloc, "image", "IMAGE", IMAGE_HELP))?;
+    let schedule = with_size(alloc, schedule, "65536")?;
+    with_pace(alloc, with_order(alloc, schedule)?, 16_777_216)
 }
 
 // The definition of `replay`.
@@ -351,6 +312,7 @@ fn program_definition<'a>(alloc: Global) -> Result<Command<'a>, AllocError>
     let demo = Command::new(alloc, "demo").about("Makes seven Steps of the built-in image");
     Command::new(alloc, "s161")
         .about("A proved emulator of System/161")
+        .version(VERSION)
         .after_help(AFTER_HELP)
         .subcommand_required(true)
         .subcommand(demo)
@@ -362,6 +324,15 @@ fn with_run<'a>(alloc: Global, program: Command<'a>) -> Result<Command<'a>, Allo
 {
     let run = run_definition(alloc)?;
     program.subcommand(run)
+}
+
+// A program with `schedule` added.
+fn with_schedule<'a>(alloc: Global, program: Command<'a>) -> Result<Command<'a>, AllocError>
+    ensures { IfOk result (λ more.
+        app_of more ≡ with_subcommand (app_of program.entry) schedule_line.top) }
+{
+    let schedule = schedule_definition(alloc)?;
+    program.subcommand(schedule)
 }
 
 // A program with `replay` added.
@@ -412,35 +383,12 @@ fn definition<'a>(alloc: Global) -> Result<Command<'a>, AllocError>
 {
     let program = program_definition(alloc)?;
     let program = with_run(alloc, program)?;
+    let program = with_schedule(alloc, program)?;
     let program = with_replay(alloc, program)?;
     let program = with_debug(alloc, program)?;
     let program = with_audit(alloc, program)?;
     let program = with_as(alloc, program)?;
     with_dis(alloc, program)
-}
-
-// The number of an option.
-fn number_given<'a>(given: &ArgMatches<'a>, name: &str, default: u32) -> u32
-    ensures { IsNumberOf default (one_of name.now (rows_of (found_of given.now))) result }
-{
-    given.get_one::<u32>(name).unwrap_or(default)
-}
-
-// A file's name.
-fn file_given<'a>(given: &ArgMatches<'a>, name: &str) -> &'a str
-    ensures { result.now ≡ unwrap_or (first_of name.now (rows_of (found_of given.now))) [] }
-{
-    match given.get_str(name) {
-        Some(name) => name,
-        None => "",
-    }
-}
-
-// Whether `run` is to show the log.
-fn show_log_given<'a>(given: &ArgMatches<'a>) -> bool
-    ensures { IsFlag (one_of (codes "show-log") (rows_of (found_of given.now))) result }
-{
-    given.get_flag("show-log")
 }
 
 // The size of a machine; the log's number of entries has this default.
@@ -465,9 +413,11 @@ fn run_task_of<'a>(given: &ArgMatches<'a>) -> RunTask<'a>
     }
 }
 
-// The task of the words of `run`, in threads or not.
-fn task_of_run<'a>(given: &ArgMatches<'a>) -> Task<'a>
-    ensures { IsRunTask (rows_of (found_of given.now)) result }
+// The task of `run` under a schedule, or in threads.
+fn task_without_order<'a>(given: &ArgMatches<'a>) -> Task<'a>
+    requires { has_order (rows_of (found_of given.now)) ≡ false }
+    ensures task { IsRunTask (rows_of (found_of given.now)) result }
+    ensures limits { HasLimits result }
 {
     let task = run_task_of(given);
     match number_given(given, "threads", 0) {
@@ -478,6 +428,54 @@ fn task_of_run<'a>(given: &ArgMatches<'a>) -> Task<'a>
             burst: number_given(given, "burst", 1),
         }),
     }
+}
+
+// The task of `run` by a policy.
+fn task_with_order<'a>(given: &ArgMatches<'a>) -> Result<Task<'a>, Clash>
+    requires { has_order (rows_of (found_of given.now)) ≡ true }
+    ensures task { IfOk result (IsRunTask (rows_of (found_of given.now))) }
+    ensures limits { IfOk result HasLimits }
+    ensures clash { IfErr result (Clashes false (rows_of (found_of given.now))) }
+{
+    let drive = drive_given(given)?;
+    Ok(Task::RunDriven(DrivenTask {
+        run: run_task_of(given),
+        drive,
+    }))
+}
+
+// The task of the words of `run`.
+fn task_of_run<'a>(given: &ArgMatches<'a>) -> Result<Task<'a>, Clash>
+    ensures task { IfOk result (IsRunTask (rows_of (found_of given.now))) }
+    ensures limits { IfOk result HasLimits }
+    ensures together { IfOk result (λ _. go_together false (rows_of (found_of given.now)) ≡ true) }
+    ensures clash { IfErr result (Clashes false (rows_of (found_of given.now))) }
+{
+    if let Some(clash) = clash_of(given, false) {
+        return Err(clash);
+    }
+    if has_order(given) {
+        task_with_order(given)
+    } else {
+        Ok(task_without_order(given))
+    }
+}
+
+// The task of the words of `schedule`.
+fn task_of_schedule<'a>(given: &ArgMatches<'a>) -> Result<ScheduleTask<'a>, Clash>
+    ensures task { IfOk result (AsksSchedule (rows_of (found_of given.now))) }
+    ensures together { IfOk result (λ _. go_together true (rows_of (found_of given.now)) ≡ true) }
+    ensures clash { IfErr result (Clashes true (rows_of (found_of given.now))) }
+{
+    if let Some(clash) = clash_of(given, true) {
+        return Err(clash);
+    }
+    let drive = drive_given(given)?;
+    Ok(ScheduleTask {
+        image: file_given(given, "image"),
+        size: size_given(given, 65_536),
+        drive,
+    })
 }
 
 // The arguments of a command over an image and a text: the name of the second one, and the default
@@ -493,29 +491,55 @@ fn files_task_of<'a>(given: &ArgMatches<'a>, text: &str, log: u32) -> FilesTask<
 }
 
 // The task of the words of a command line.
-fn task_of<'a>(matches: &ArgMatches<'a>) -> Task<'a>
-    ensures { IsTask (subcommand_rows_of matches.now) result }
+fn task_of<'a>(matches: &ArgMatches<'a>) -> Result<Task<'a>, Clash>
+    ensures task { IfOk result (IsTask (subcommand_rows_of matches.now)) }
+    ensures limits { IfOk result HasLimits }
+    ensures together { IfOk result (λ _. GoTogether (subcommand_rows_of matches.now)) }
+    ensures clash { IfErr result (ClashesIn (subcommand_rows_of matches.now)) }
 {
     match matches.subcommand() {
         Some(("run", given)) => task_of_run(given),
-        Some(("replay", given)) => Task::Replay(files_task_of(given, "entries", 65_536)),
-        Some(("debug", given)) => Task::Debug(files_task_of(given, "schedule", 65_536)),
-        Some(("audit", given)) => Task::Audit(files_task_of(given, "watches", 65_536)),
-        Some(("as", _)) => Task::Assemble,
-        Some(("dis", given)) => Task::Disassemble(file_given(given, "image")),
-        _ => Task::Demo,
+        Some(("schedule", given)) => Ok(Task::Schedule(task_of_schedule(given)?)),
+        Some(("replay", given)) => Ok(Task::Replay(files_task_of(given, "entries", 65_536))),
+        Some(("debug", given)) => Ok(Task::Debug(files_task_of(given, "schedule", 65_536))),
+        Some(("audit", given)) => Ok(Task::Audit(files_task_of(given, "watches", 65_536))),
+        Some(("as", _)) => Ok(Task::Assemble),
+        Some(("dis", given)) => Ok(Task::Disassemble(file_given(given, "image"))),
+        _ => Ok(Task::Demo),
     }
 }
 
 /// Reads the words of a command line; the first is the program's name.
-pub fn parse<'a, S: AsStr>(alloc: Global, words: &'a [S]) -> Result<Task<'a>, Error>
+///
+/// # Errors
+/// clap doesn't take the words; or it does, and their options can't be followed.
+pub fn parse<'a, S: AsStr>(alloc: Global, words: &'a [S]) -> Result<Task<'a>, Rejection>
+    ensures accepted { IfOk result (λ _. IsAccepted (map S.text words.now)) }
+    ensures together { IfOk result (λ _. GoTogether (subcommand_of command_line (map S.text words.now))) }
+    ensures rejected { IfErr result (IsRejected (map S.text words.now)) }
+    ensures task { IfOk result (IsTask (subcommand_of command_line (map S.text words.now))) }
+    ensures limits { IfOk result HasLimits }
+{
+    let matches = match matches_of(alloc, words) {
+        Ok(matches) => matches,
+        Err(error) => return Err(Rejection::Words(error)),
+    };
+    match task_of(&matches) {
+        Ok(task) => Ok(task),
+        Err(clash) => Err(Rejection::Options(clash)),
+    }
+}
+
+// What clap finds in the words of a command line.
+fn matches_of<'a, S: AsStr>(alloc: Global, words: &'a [S]) -> Result<ArgMatches<'a>, Error>
     ensures accepted { IfOk result (λ _. IsAccepted (map S.text words.now)) }
     ensures rejected { IfErr result (λ error. kind_of error ≢ OutOfMemory
         → ¬ IsAccepted (map S.text words.now)) }
     ensures kind { IfErr result (HasKind (fault_of command_line (map S.text words.now))) }
-    ensures task { IfOk result (IsTask (subcommand_of command_line (map S.text words.now))) }
+    ensures given { IfOk result (λ matches.
+        subcommand_rows_of matches ≡ subcommand_of command_line (map S.text words.now)) }
 {
     let command = definition(alloc)?;
     let matches = command.try_get_matches_from(words)?;
-    Ok(task_of(&matches))
+    Ok(matches)
 }

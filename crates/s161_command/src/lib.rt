@@ -2,5 +2,12 @@
 #![tactic(auto)]
 
 mod command;
+mod drive;
+mod given;
+mod help;
 
-pub use command::{FilesTask, RunTask, Size, Task, ThreadsTask, parse};
+pub use command::{
+    DrivenTask, FilesTask, Rejection, RunTask, ScheduleTask, Size, Task, ThreadsTask, parse,
+};
+pub use drive::{Clash, Drive};
+pub use m161_order::{Order, OrderError};

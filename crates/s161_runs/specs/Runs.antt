@@ -16,7 +16,7 @@ use Rattle.m161_text.specs.Parts.{◌␣◌}
 use Rattle.m161_steplog.specs.Schedule.{AreScheduleLines, IsSchedule}
 use Rattle.s161_command.specs.declared.command.RunTask.{RunTask}
 use Rattle.s161_runs.specs.declared.events.Stop.{Stop}
-use Rattle.s161_runs.specs.declared.events.Stop.TheVariants.{Off, End, Refused}
+use Rattle.s161_runs.specs.declared.events.Stop.TheVariants.{Off, End, Stuck, Refused}
 use Rattle.s161_base.specs.declared.fault.Fault.{Fault}
 use Rattle.s161_base.specs.declared.fault.Fault.TheVariants.{Conf, File, Image, Input, Memory, Schedule}
 use Rattle.s161_base.specs.Faults.{BootsTo}
@@ -36,10 +36,11 @@ abbrev pub IsSwitchedOff : History → History → Type 0
 IsSwitchedOff m n = (m.state.board.off ≡ false) × (n.state.board.off ≡ true)
 
 -- why this many of these events were made of m, which left n, and no more: they switched the
--- machine off; or they didn't, and there are no more, or the next is refused
+-- machine off; or they didn't, and there are no more, or the next is refused. Only a policy is stuck
 abbrev pub StopsAfter : History → List Event → ℕ → Stop → History → Type 0
 StopsAfter m events made Off n = IsSwitchedOff m n
 StopsAfter m events made End n = (n.state.board.off ≡ m.state.board.off) × (made ≡ length events)
+StopsAfter m events made Stuck n = ⊥
 StopsAfter m events made (Refused k refusal) n =
     (n.state.board.off ≡ m.state.board.off) × (made ≡ k) × IsRefusedAt events k n.state refusal
 
@@ -76,6 +77,7 @@ started_texts s n = flat_map (started_text s) (range_with_len 0 n)
 abbrev pub stop_line : Stop → List ℕ
 stop_line Off = codes "stop: off"
 stop_line End = codes "stop: end"
+stop_line Stuck = codes "stop: stuck"
 stop_line (Refused k refusal) =
     codes "stop: refused" ␣ decimal k ␣ decimal (number_of_refusal refusal)
     ␣ name_of_refusal refusal
@@ -96,6 +98,7 @@ abbrev pub status_of : Stop → ℕ
 status_of Off = 0
 status_of (Refused k refusal) = 1
 status_of End = 3
+status_of Stuck = 5
 
 -- a finished run: what it prints and its exit status; the image's file and standard input have
 -- these bytes, as far as they are known

@@ -16,6 +16,8 @@ pub enum Stop {
     Off,
     /// There were no more.
     End,
+    /// The policy that chooses them chose none.
+    Stuck,
     /// This event, counted from 0, was refused.
     Refused(usize, Refusal),
 }
@@ -27,6 +29,7 @@ impl fmt::Display for Stop {
         match self {
             Stop::Off => write!(f, "stop: off"),
             Stop::End => write!(f, "stop: end"),
+            Stop::Stuck => write!(f, "stop: stuck"),
             Stop::Refused(k, refusal) => {
                 let (k, number, name) = (*k, refusal.number(), refusal.name());
                 write!(f, "stop: refused {k} {number} {name}")

@@ -62,5 +62,6 @@ pub fn status(stop: Stop) -> u8
         Stop::Off => 0,
         Stop::Refused(_, _) => 1,
         Stop::End => 3,
+        Stop::Stuck => 5,
     }
 }

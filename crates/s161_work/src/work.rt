@@ -5,9 +5,10 @@ ghost use Rattle.std.specs.Io.KnownBytes.{Appends};
 ghost use Rattle.clap.specs.Words.{kind_of};
 ghost use Rattle.s161_texts.specs.Assemblies.{IsAssembled};
 ghost use Rattle.s161_work.specs.helpers.Assemblies.{IsAssemblyFault};
-ghost use Rattle.s161_command.specs.Commands.{IsAccepted};
-ghost use Rattle.s161_command.specs.helpers.Commands.{IsHelp};
+ghost use Rattle.s161_command.specs.Commands.{HasLimits, IsHelp};
 ghost use Rattle.s161_debug.specs.Debugs.{IsDebug, IsDebugFault};
+ghost use Rattle.s161_drive.specs.Driven.{IsDriven, IsDrivenFault};
+ghost use Rattle.s161_drive.specs.Schedules.{IsScheduled, IsScheduledFault};
 ghost use Rattle.s161_runs.specs.Demos.{IsDemo};
 ghost use Rattle.s161_texts.specs.Listings.{IsDisassembled};
 ghost use Rattle.s161_work.specs.helpers.Listings.{IsListingFault};
@@ -15,8 +16,8 @@ ghost use Rattle.s161_runs.specs.Replays.{IsReplayed, IsReplayFault};
 ghost use Rattle.s161_runs.specs.Runs.{IsFaultOf, IsRun};
 ghost use Rattle.s161_base.specs.Samples.{image_file};
 ghost use Rattle.s161_threads.specs.Threads.{IsRunInThreads, IsThreadsFault};
-ghost use Rattle.s161_work.specs.Works.{Does, Finishes, IsDone, IsResultOf, Prints, WithZero};
-ghost use Rattle.s161_work.specs.helpers.Works.{Fails, IsTaskFault};
+ghost use Rattle.s161_work.specs.Works.{Finishes, Follows, IsDone, IsRefused, IsResultOf, Prints, WithZero};
+ghost use Rattle.s161_work.specs.helpers.Works.{Fails, HasMore, IsHelped, IsSaid, IsTaskFault};
 
 use clap::Error;
 use clap::error::ErrorKind;
@@ -26,8 +27,10 @@ use s161_base::files::FileSource;
 use s161_base::finished::Finished;
 use s161_base::input::read_input;
 use s161_base::sample::read_image;
-use s161_command::{FilesTask, RunTask, Task, ThreadsTask, parse};
+use s161_command::{Clash, DrivenTask, FilesTask, Rejection, RunTask, ScheduleTask, Task, ThreadsTask, parse};
 use s161_debug::debug::debug;
+use s161_drive::driven::run_driven;
+use s161_drive::schedule::schedule;
 use s161_runs::demo::demo;
 use s161_runs::replay::replay;
 use s161_runs::run::run;
@@ -56,16 +59,14 @@ where
     I: Read,
     O: Write,
     E: Write,
-    ensures accepted { IsDone result
-        → IfOk words.entry (λ ws. IsAccepted (map string_bytes ws.items)) }
     ensures rejected { result ≡ 2
-        → IfOk words.entry (λ ws. ¬ IsAccepted (map string_bytes ws.items)) }
-    ensures finished { IsDone result → IfOk words.entry (λ ws. Does (map string_bytes ws.items)
-        (F.known files.old) (I.remaining input.old) (O.contents output.old)
-        (O.contents output.new) result) }
+        → IfOk words.entry (λ ws. IsRefused (map string_bytes ws.items)) }
+    ensures finished { IsDone result → IfOk words.entry (λ ws. Follows (map string_bytes ws.items)
+        (F.known files.old) (I.remaining input.old) (I.remaining input.new)
+        (O.contents output.old) (O.contents output.new) result) }
     ensures errors { IsDone result → E.contents errors.new ≡ E.contents errors.old }
     ensures unread { IfErr words.entry (λ _. result ≡ 1) }
-    ensures within { result ≤ 4 }
+    ensures within { result ≤ 5 }
 {
     match words {
         Ok(words) => work(rt, words.as_slice(), files, input, output, errors),
@@ -73,10 +74,11 @@ where
     }
 }
 
-/// Does the work of a command line. Returns the exit status: 0 for a finished demo, debug, as or
-/// dis, a machine that switched itself off, or a log that agrees; 1 for a fault, or a refused event
-/// of a run; 2 for a rejected command line; 3 if the schedule or the Steps of the threads ended; 4
-/// for a log that differs. The output is complete in memory before it is written.
+/// Does the work of a command line. Returns the exit status: 0 for a finished demo, schedule, debug,
+/// as or dis, a machine that switched itself off, a log that agrees, a clean run, or help; 1 for a
+/// fault, or a refused event of a run; 2 for a command line that isn't followed; 3 if the schedule,
+/// the events or the Steps of the threads ended; 4 for a log that differs or a stale use; 5 if a
+/// policy is stuck. The output is complete in memory before it is written.
 pub fn work<A, S, F, I, O, E>(
     rt: &A,
     words: &[S],
@@ -92,17 +94,17 @@ where
     I: Read,
     O: Write,
     E: Write,
-    ensures accepted { IsDone result → IsAccepted (map S.text words.now) }
-    ensures rejected { result ≡ 2 → ¬ IsAccepted (map S.text words.now) }
-    ensures finished { IsDone result → Does (map S.text words.now) (F.known files.old)
-        (I.remaining input.old) (O.contents output.old) (O.contents output.new) result }
+    ensures rejected { result ≡ 2 → IsRefused (map S.text words.now) }
+    ensures finished { IsDone result → Follows (map S.text words.now) (F.known files.old)
+        (I.remaining input.old) (I.remaining input.new) (O.contents output.old)
+        (O.contents output.new) result }
     ensures errors { IsDone result → E.contents errors.new ≡ E.contents errors.old }
-    ensures within { result ≤ 4 }
+    ensures within { result ≤ 5 }
 {
     let alloc = rt.alloc();
     let task = match parse(alloc, words) {
         Ok(task) => task,
-        Err(error) => return reject(alloc, &error, output, errors),
+        Err(rejection) => return refuse(alloc, rejection, output, errors),
     };
     match do_task(rt, alloc, task, files, input, output) {
         Ok(status) => status,
@@ -119,13 +121,14 @@ fn do_task<'a, R: Threads + Wait + Sync, F: FileSource, I: Read, O: Write>(
     input: &mut I,
     output: &mut O,
 ) -> Result<u8, Fault<'a>>
+    requires { HasLimits task }
     ensures finished { IfOk result (Finishes task.entry (F.known files.old)
         (I.remaining input.old) (O.contents output.old) (O.contents output.new)) }
     ensures fault { IfErr result (Fails
         (IsResultOf task.entry (F.known files.old) (I.remaining input.old))
         (IsTaskFault task.entry (F.known files.old) (I.remaining input.old))
         (O.contents output.old) (O.contents output.new)) }
-    ensures within { IfOk result (λ status. (status ≤ 4) × (status ≢ 2)) }
+    ensures within { IfOk result (λ status. (status ≤ 5) × (status ≢ 2)) }
 {
     let finished = finish(rt, alloc, task, files, input)?;
     put(output, &finished.text)?;
@@ -140,16 +143,19 @@ fn finish<'a, R: Threads + Wait + Sync, F: FileSource, I: Read>(
     files: &mut F,
     input: &mut I,
 ) -> Result<Finished, Fault<'a>>
+    requires { HasLimits task }
     ensures ok { IfOk result (λ done. IsResultOf task.entry (F.known files.old)
         (I.remaining input.old) done.text.items done.status) }
     ensures fault { IfErr result (IsTaskFault task.entry (F.known files.old)
         (I.remaining input.old)) }
-    ensures within { IfOk result (λ done. (done.status ≤ 4) × (done.status ≢ 2)) }
+    ensures within { IfOk result (λ done. (done.status ≤ 5) × (done.status ≢ 2)) }
 {
     match task {
         Task::Demo => Ok(Finished::done(demo(alloc)?.into_bytes())),
         Task::Run(task) => run(alloc, files, input, task),
         Task::RunInThreads(task) => run_in_threads(rt, alloc, files, task),
+        Task::RunDriven(task) => run_driven(alloc, files, task),
+        Task::Schedule(task) => Ok(Finished::done(schedule(alloc, files, task)?)),
         Task::Replay(task) => replay(alloc, files, task),
         Task::Debug(task) => debug(alloc, files, input, task),
         Task::Audit(task) => audit(alloc, files, input, task),
@@ -183,14 +189,32 @@ pub fn report<E: Write>(fault: Fault<'_>, errors: &mut E) -> u8
     1
 }
 
-// Writes clap's text of a rejected command line. Returns the exit status.
+// Says why a command line has no task, or prints the help that it asks for. Returns the exit status.
+fn refuse<O: Write, E: Write>(
+    alloc: Global,
+    rejection: Rejection,
+    output: &mut O,
+    errors: &mut E,
+) -> u8
+    ensures refused { result ≡ 2 → IsSaid rejection }
+    ensures help { result ≡ 0 → IsHelped rejection (O.contents output.old) (O.contents output.new)
+        × (E.contents errors.new ≡ E.contents errors.old) }
+    ensures within { result ≤ 2 }
+{
+    match rejection {
+        Rejection::Words(error) => reject(alloc, &error, output, errors),
+        Rejection::Options(clash) => report_clash(clash, errors),
+    }
+}
+
+// Writes clap's text of a command line that it doesn't take, or of help. Returns the exit status.
 fn reject<O: Write, E: Write>(alloc: Global, error: &Error, output: &mut O, errors: &mut E) -> u8
     ensures rejected { result ≡ 2 → kind_of error.now ≢ ErrorKind.OutOfMemory }
-    ensures help { result ≡ 2 → IsHelp (kind_of error.now)
-        → E.contents errors.new ≡ E.contents errors.old }
-    ensures usage { result ≡ 2 → ¬ IsHelp (kind_of error.now)
-        → O.contents output.new ≡ O.contents output.old }
-    ensures within { (1 ≤ result) × (result ≤ 2) }
+    ensures help { result ≡ 0 → IsHelp (kind_of error.now)
+        × HasMore (O.contents output.old) (O.contents output.new)
+        × (E.contents errors.new ≡ E.contents errors.old) }
+    ensures usage { result ≡ 2 → O.contents output.new ≡ O.contents output.old }
+    ensures within { result ≤ 2 }
 {
     if error.kind() == ErrorKind::OutOfMemory {
         return report(Fault::Memory, errors);
@@ -198,32 +222,43 @@ fn reject<O: Write, E: Write>(alloc: Global, error: &Error, output: &mut O, erro
     let Ok(text) = error.to_string(alloc) else {
         return report(Fault::Memory, errors);
     };
-    write_rejection(text.as_bytes(), !error.use_stderr(), output, errors)
+    if error.use_stderr() {
+        print_usage(text.as_bytes(), errors)
+    } else {
+        print_help(text.as_bytes(), output, errors)
+    }
 }
 
-// Writes a text to standard output if it is help, else to standard error. Returns the exit status:
-// 2 if all of it was written.
-fn write_rejection<O: Write, E: Write>(
-    text: &[u8],
-    is_help: bool,
-    output: &mut O,
-    errors: &mut E,
-) -> u8
-    ensures help { result ≡ 2 → is_help ≡ true
-        → Appends (O.contents output.old) (O.contents output.new) text.now
+// Writes the text of help to standard output. Returns the exit status: 0 if all of it was written.
+fn print_help<O: Write, E: Write>(text: &[u8], output: &mut O, errors: &mut E) -> u8
+    ensures help { result ≡ 0 → Appends (O.contents output.old) (O.contents output.new) text.now
         × (E.contents errors.new ≡ E.contents errors.old) }
-    ensures usage { result ≡ 2 → is_help ≡ false
-        → Appends (E.contents errors.old) (E.contents errors.new) text.now
-        × (O.contents output.new ≡ O.contents output.old) }
+    ensures within { result ≤ 1 }
+{
+    match put(output, text) {
+        Ok(()) => 0,
+        Err(fault) => report(fault, errors),
+    }
+}
+
+// Writes a text to standard error. Returns the exit status: 2 if all of it was written.
+fn print_usage<E: Write>(text: &[u8], errors: &mut E) -> u8
+    ensures usage { result ≡ 2 → Appends (E.contents errors.old) (E.contents errors.new) text.now }
     ensures within { (1 ≤ result) × (result ≤ 2) }
 {
-    let written = if is_help {
-        put(output, text)
-    } else {
-        put(errors, text)
-    };
-    match written {
+    match put(errors, text) {
         Ok(()) => 2,
         Err(fault) => report(fault, errors),
+    }
+}
+
+// Writes why options can't be followed to standard error. Returns the exit status: 2 if it was
+// written.
+fn report_clash<E: Write>(clash: Clash, errors: &mut E) -> u8
+    ensures { (1 ≤ result) × (result ≤ 2) }
+{
+    match writeln!(errors, "error: {clash}\n\nFor more information, try '--help'.") {
+        Ok(()) => 2,
+        Err(_) => 1,
     }
 }

@@ -1,12 +1,19 @@
-use Rattle.std.specs.Prelude.{◌≡◌, ◌⊎◌, ℕ, List, Option}
-use Rattle.clap.specs.Words.{Text}
+use Rattle.std.specs.Prelude.{◌≡◌, ◌≢◌, ◌⊎◌, ℕ, List, Option}
+use Rattle.std.specs.Io.KnownBytes.{Appends}
+use Rattle.clap.specs.Words.{Text, kind_of}
+use Rattle.clap.specs.declared.error.kind.ErrorKind.TheVariants.{OutOfMemory}
+use Rattle.s161_command.specs.declared.command.Rejection.{Rejection}
+use Rattle.s161_command.specs.declared.command.Rejection.TheVariants.{Words, Options}
+use Rattle.s161_command.specs.Commands.{IsHelp}
 use Rattle.s161_command.specs.declared.command.Task.{Task}
-use Rattle.s161_command.specs.declared.command.Task.TheVariants.{Assemble, Audit, Debug, Demo, Disassemble, Replay, Run, RunInThreads}
+use Rattle.s161_command.specs.declared.command.Task.TheVariants.{Assemble, Audit, Debug, Demo, Disassemble, Replay, Run, RunDriven, RunInThreads, Schedule}
 use Rattle.s161_base.specs.declared.fault.Fault.{Fault}
 use Rattle.s161_base.specs.declared.fault.Fault.TheVariants.{Memory, Output}
 use Rattle.s161_audit.specs.Audits.{IsAuditFault}
 use Rattle.s161_work.specs.helpers.Assemblies.{IsAssemblyFault}
 use Rattle.s161_debug.specs.Debugs.{IsDebugFault}
+use Rattle.s161_drive.specs.Driven.{IsDrivenFault}
+use Rattle.s161_drive.specs.Schedules.{IsScheduledFault}
 use Rattle.s161_work.specs.helpers.Listings.{IsListingFault}
 use Rattle.s161_runs.specs.Replays.{IsReplayFault}
 use Rattle.s161_runs.specs.Runs.{IsFaultOf}
@@ -20,6 +27,10 @@ IsTaskFault (Run task) files input fault =
     IsFaultOf task (image_file files task.image.now) input fault
 IsTaskFault (RunInThreads task) files input fault =
     IsThreadsFault task (image_file files task.run.image.now) fault
+IsTaskFault (RunDriven task) files input fault =
+    IsDrivenFault task (image_file files task.run.image.now) fault
+IsTaskFault (Schedule task) files input fault =
+    IsScheduledFault task (image_file files task.image.now) fault
 IsTaskFault (Replay task) files input fault =
     IsReplayFault task (image_file files task.image.now) (files task.text.now) fault
 IsTaskFault (Debug task) files input fault =
@@ -40,3 +51,17 @@ abbrev pub Fails :
     (List ℕ → ℕ → Type 0) → (Fault → Type 0) → Option (List ℕ) → Option (List ℕ) → Fault → Type 0
 Fails IsResult IsFault before after fault =
     ((fault ≡ Output) × Exists IsResult) ⊎ (IsFault fault × (after ≡ before))
+
+-- an output had the first bytes, and has some more
+abbrev pub HasMore : Option (List ℕ) → Option (List ℕ) → Type 0
+HasMore before after = (text : List ℕ) × Appends before after text
+
+-- a command line is refused, and not for want of memory
+abbrev pub IsSaid : Rejection → Type 0
+IsSaid (Words error) = kind_of error ≢ OutOfMemory
+IsSaid (Options clash) = Unit {0}
+
+-- help was asked for, and printed
+abbrev pub IsHelped : Rejection → Option (List ℕ) → Option (List ℕ) → Type 0
+IsHelped (Words error) before after = IsHelp (kind_of error) × HasMore before after
+IsHelped (Options clash) before after = ⊥

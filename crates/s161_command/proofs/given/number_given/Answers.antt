@@ -2,9 +2,9 @@ use Rattle.std.proofs.Common.{List, ℕ, Option, subst}
 use Rattle.std.specs.Str.Parse.{ParsesUnsigned, ExplainsUnsignedError, HasUnsignedDigitsIfOk}
 use Rattle.clap.specs.Words.{found_of, one_text}
 use Rattle.clap.proofs.WalkLemmas.{one_text-rows}
-use Rattle.s161_command.specs.Commands.{IsNumberOf}
+use Rattle.s161_command.specs.Numbers.{IsNumberOf}
 use Rattle.s161_command.proofs.Asked.{number_of}
-use Rattle.s161_command.proofs.command.number_given.Goals as goal
+use Rattle.s161_command.proofs.given.number_given.Goals as goal
 
 pub returns : goal.returns
 returns c =

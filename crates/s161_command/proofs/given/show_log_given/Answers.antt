@@ -3,7 +3,7 @@ use Rattle.clap.specs.Words.{found_of, one_text}
 use Rattle.clap.proofs.WalkLemmas.{one_text-rows}
 use Rattle.s161_command.specs.Commands.{IsFlag}
 use Rattle.s161_command.proofs.Asked.{flag_of}
-use Rattle.s161_command.proofs.command.show_log_given.Goals as goal
+use Rattle.s161_command.proofs.given.show_log_given.Goals as goal
 
 pub returns : goal.returns
 returns c =

@@ -1,6 +1,6 @@
 use Rattle.std.proofs.Common.{rules}
-use Rattle.s161_command.proofs.Accepting.{accepted, of_kind, rejected, tasked}
-use Rattle.s161_command.proofs.command.parse.Goals as goal
+use Rattle.s161_command.proofs.Accepting.{accepted, given_so, of_kind, rejected}
+use Rattle.s161_command.proofs.command.matches_of.Goals as goal
 
 pub returns-in_err-matches-clause-rejected : goal.returns-in_err-matches-clause-rejected
 returns-in_err-matches-clause-rejected g c =
@@ -15,5 +15,5 @@ returns-in_err-matches-clause-kind g c =
 pub returns-clause-accepted : goal.returns-clause-accepted
 returns-clause-accepted g c = accepted _ _ c.in_ok-command.ensures c.in_ok-matches.ensures.kinds
 
-pub returns-clause-task : goal.returns-clause-task
-returns-clause-task g c = tasked _ _ c.in_ok-matches.matches c.task_of.result c.in_ok-command.ensures c.in_ok-matches.ensures.matches c.task_of.ensures
+pub returns-clause-given : goal.returns-clause-given
+returns-clause-given g c = given_so _ _ c.in_ok-matches.matches c.in_ok-command.ensures c.in_ok-matches.ensures.matches

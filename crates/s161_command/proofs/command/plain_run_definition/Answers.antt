@@ -5,7 +5,7 @@ use Rattle.clap.specs.declared.builder.command.Command.TheViews.{out-Command}
 use Rattle.clap.specs.Simple.{app_of_fields}
 use Rattle.s161_command.specs.Commands.{with_size_rules}
 use Rattle.s161_command.proofs.Defining.{local_more}
-use Rattle.s161_command.proofs.command.run_definition.Goals as goal
+use Rattle.s161_command.proofs.command.plain_run_definition.Goals as goal
 
 pub returns-clause-shape : goal.returns-clause-shape
 returns-clause-shape c =

@@ -1,0 +1,318 @@
+//! The options of a driven run.
+
+ghost use Rattle.std.specs.Prelude.{◌≡◌, Bool, false, true, None, IfOk, MatchOption, MatchResult, codes, option_map};
+ghost use Rattle.clap.specs.Words.{app_of, first_of, found_of, one_of, rows_of, rule_of};
+ghost use Rattle.m161_order.specs.Order.{order_fault};
+ghost use Rattle.s161_command.specs.Drives.{AsksDrive, Clashes, IsBadGap, IsGap, IsLongNumberOf, IsOrder, changes_without_seed, go_together, half_priorities, has_order, has_pace, is_given, long_rule, optional_rule, order_in_threads, pace_without_order, text_rule, two_orders, with_order_rules, with_pace_rules};
+ghost use Rattle.s161_command.specs.helpers.Commands.{IsLocal};
+
+use crate::given::{long_given, number_given};
+use clap::builder::ValueParser;
+use clap::{Arg, ArgMatches, Command};
+use m161_order::{Order, OrderError};
+use std::alloc::{AllocError, Global};
+use thiserror::Error;
+
+/// What a driven run is asked for.
+#[derive(Clone, Copy)]
+pub struct Drive<'a> {
+    /// Which ready processor makes the next Step.
+    pub order: Order,
+    /// The most events that are made.
+    pub events: u64,
+    /// A byte in the console's latch is sent once so many events were accepted after the one that
+    /// put it there.
+    pub transfer: u32,
+    /// A key is typed once so many events were accepted after the last one; without, only where no
+    /// processor is ready.
+    pub gap: Option<u32>,
+    /// The name of the file whose bytes are typed, if there is one.
+    pub keys: Option<&'a str>,
+}
+
+/// Why options that clap takes can't be followed.
+#[derive(Clone, Copy, Debug, PartialEq, Eq, Error)]
+pub enum Clash {
+    #[error("--turns and --random are two orders, and a run has one")]
+    TwoOrders,
+    #[error("--changes and --within need each other")]
+    HalfPriorities,
+    #[error("--changes needs --random, whose seed draws the priorities")]
+    ChangesWithoutSeed,
+    #[error("an order is wanted: --turns N or --random SEED")]
+    NoOrder,
+    #[error("--events, --transfer, --keys and --gap need an order: --turns N or --random SEED")]
+    PaceWithoutOrder,
+    #[error("--threads and --burst leave the order to the host: --turns and --random are for runs without threads")]
+    OrderInThreads,
+    #[error("{0}")]
+    BadOrder(OrderError),
+    #[error("--gap is a number of events, 0 to 4294967295, or none")]
+    BadGap,
+}
+
+/// An option with a number of 32 bits that has no default.
+pub(crate) fn optional_number<'a>(
+    alloc: Global,
+    name: &'a str,
+    shown: &'a str,
+    help: &'a str,
+    low: u32,
+    high: u32,
+) -> Arg<'a>
+    ensures rule { rule_of result ≡ optional_rule name.entry.now low high }
+    ensures local { result.global ≡ false }
+{
+    Arg::new(alloc, name)
+        .long(name)
+        .value_name(shown)
+        .help(help)
+        .value_parser(ValueParser::signed(i64::from(low), i64::from(high)))
+}
+
+// An option with a number of 64 bits that has no default.
+fn optional_long<'a>(
+    alloc: Global,
+    name: &'a str,
+    shown: &'a str,
+    help: &'a str,
+    low: u64,
+    high: u64,
+) -> Arg<'a>
+    ensures rule { rule_of result ≡ long_rule name.entry.now low high }
+    ensures local { result.global ≡ false }
+{
+    Arg::new(alloc, name)
+        .long(name)
+        .value_name(shown)
+        .help(help)
+        .value_parser(ValueParser::unsigned(low, high))
+}
+
+// An option with a text that has no default.
+fn text_option<'a>(alloc: Global, name: &'a str, shown: &'a str, help: &'a str) -> Arg<'a>
+    ensures rule { rule_of result ≡ text_rule name.entry.now }
+    ensures local { result.global ≡ false }
+{
+    Arg::new(alloc, name)
+        .long(name)
+        .value_name(shown)
+        .help(help)
+}
+
+// The option of an order in turns.
+fn turns_option<'a>(alloc: Global) -> Arg<'a>
+    ensures rule { rule_of result ≡ optional_rule (codes "turns") 1 1_000_000 }
+    ensures local { result.global ≡ false }
+{
+    let help = "Chooses the events: each ready processor makes N Steps in turn, 1 to 1000000";
+    optional_number(alloc, "turns", "N", help, 1, 1_000_000)
+}
+
+// The option of an order at random.
+fn random_option<'a>(alloc: Global) -> Arg<'a>
+    ensures rule { rule_of result ≡ long_rule (codes "random") 0 18_446_744_073_709_551_615 }
+    ensures local { result.global ≡ false }
+{
+    let help =
+        "Chooses the events: the next Step is that of a ready processor at random, always the same for a SEED";
+    optional_long(alloc, "random", "SEED", help, 0, u64::MAX)
+}
+
+/// A command, with the options of an order added.
+pub(crate) fn with_order<'a>(alloc: Global, command: Command<'a>) -> Result<Command<'a>, AllocError>
+    ensures shape { IsLocal command.entry
+        → IfOk result (λ more. app_of more ≡ with_order_rules (app_of command.entry)) }
+    ensures local { IsLocal command.entry → IfOk result IsLocal }
+{
+    let changes_help =
+        "With --random: priorities in place of single choices; so many change in each stretch of Steps, 0 to 64";
+    let within_help = "With --changes: Steps of a stretch, 1 to 16777216";
+    command
+        .arg(turns_option(alloc))?
+        .arg(random_option(alloc))?
+        .arg(optional_number(alloc, "changes", "D", changes_help, 0, 64))?
+        .arg(optional_number(alloc, "within", "K", within_help, 1, 16_777_216))
+}
+
+/// A command, with the options added that say how long a driven run is, when bytes are sent, and
+/// which keys are typed, and when.
+pub(crate) fn with_pace<'a>(
+    alloc: Global,
+    command: Command<'a>,
+    most: u64,
+) -> Result<Command<'a>, AllocError>
+    ensures shape { IsLocal command.entry
+        → IfOk result (λ more. app_of more ≡ with_pace_rules most (app_of command.entry)) }
+    ensures local { IsLocal command.entry → IfOk result IsLocal }
+{
+    let events_help = "With an order: the most events, 1000000 where it is left out";
+    let transfer_help =
+        "With an order: events after which a byte is sent, 100 where it is left out";
+    let keys_help = "With an order: the bytes of this file are typed";
+    let gap_help =
+        "With an order: events between keys, 1000 where it is left out, or none: only where no processor is ready";
+    command
+        .arg(optional_long(alloc, "events", "N", events_help, 1, most))?
+        .arg(optional_number(alloc, "transfer", "N", transfer_help, 0, u32::MAX))?
+        .arg(text_option(alloc, "keys", "FILE", keys_help))?
+        .arg(text_option(alloc, "gap", "N", gap_help))
+}
+
+// Whether an option is given.
+fn is_given<'a>(given: &ArgMatches<'a>, name: &str) -> bool
+    ensures { result ≡ is_given name.now (rows_of (found_of given.now)) }
+{
+    given.get_str(name).is_some()
+}
+
+/// Whether an order is given.
+pub(crate) fn has_order<'a>(given: &ArgMatches<'a>) -> bool
+    ensures { result ≡ has_order (rows_of (found_of given.now)) }
+{
+    is_given(given, "turns") || is_given(given, "random")
+}
+
+// Whether an option is given that only a driven run has.
+fn has_pace<'a>(given: &ArgMatches<'a>) -> bool
+    ensures { result ≡ has_pace (rows_of (found_of given.now)) }
+{
+    is_given(given, "events")
+        || is_given(given, "transfer")
+        || is_given(given, "keys")
+        || is_given(given, "gap")
+}
+
+fn two_orders<'a>(given: &ArgMatches<'a>) -> bool
+    ensures { result ≡ two_orders (rows_of (found_of given.now)) }
+{
+    is_given(given, "turns") && is_given(given, "random")
+}
+
+fn half_priorities<'a>(given: &ArgMatches<'a>) -> bool
+    ensures { result ≡ half_priorities (rows_of (found_of given.now)) }
+{
+    let changes = is_given(given, "changes");
+    let within = is_given(given, "within");
+    (changes && !within) || (within && !changes)
+}
+
+fn changes_without_seed<'a>(given: &ArgMatches<'a>) -> bool
+    ensures { result ≡ changes_without_seed (rows_of (found_of given.now)) }
+{
+    is_given(given, "changes") && !is_given(given, "random")
+}
+
+fn pace_without_order<'a>(given: &ArgMatches<'a>) -> bool
+    ensures { result ≡ pace_without_order (rows_of (found_of given.now)) }
+{
+    has_pace(given) && !has_order(given)
+}
+
+fn order_in_threads<'a>(given: &ArgMatches<'a>) -> bool
+    ensures { result ≡ order_in_threads (rows_of (found_of given.now)) }
+{
+    has_order(given) && (is_given(given, "threads") || is_given(given, "burst"))
+}
+
+/// Why the options don't go together, if so. Whether an order is needed depends on the command.
+pub(crate) fn clash_of<'a>(given: &ArgMatches<'a>, needed: bool) -> Option<Clash>
+    ensures { MatchOption result (go_together needed (rows_of (found_of given.now)) ≡ true)
+        (λ clash. Clashes needed (rows_of (found_of given.now)) clash) }
+{
+    if two_orders(given) {
+        return Some(Clash::TwoOrders);
+    }
+    if half_priorities(given) {
+        return Some(Clash::HalfPriorities);
+    }
+    if changes_without_seed(given) {
+        return Some(Clash::ChangesWithoutSeed);
+    }
+    if needed && !has_order(given) {
+        return Some(Clash::NoOrder);
+    }
+    if pace_without_order(given) {
+        return Some(Clash::PaceWithoutOrder);
+    }
+    if order_in_threads(given) {
+        return Some(Clash::OrderInThreads);
+    }
+    None
+}
+
+// The order.
+fn order_given<'a>(given: &ArgMatches<'a>) -> Order
+    ensures { IsOrder (rows_of (found_of given.now)) result }
+{
+    if is_given(given, "turns") {
+        return Order::Turns(number_given(given, "turns", 1));
+    }
+    let seed = long_given(given, "random", 0);
+    if is_given(given, "changes") {
+        return Order::Priorities {
+            seed,
+            changes: number_given(given, "changes", 0),
+            within: number_given(given, "within", 1),
+        };
+    }
+    Order::Random(seed)
+}
+
+// The order, if its numbers are within their limits.
+fn valid_order<'a>(given: &ArgMatches<'a>) -> Result<Order, Clash>
+    ensures { MatchResult result
+        (λ order. IsOrder (rows_of (found_of given.now)) order × (order_fault order ≡ None))
+        (λ clash. (needed : Bool) → Clashes needed (rows_of (found_of given.now)) clash) }
+{
+    let order = order_given(given);
+    match order.fault() {
+        Some(error) => Err(Clash::BadOrder(error)),
+        None => Ok(order),
+    }
+}
+
+// A gap: a number, or `none`.
+fn gap_of(text: Option<&str>) -> Option<Option<u32>>
+    ensures { MatchOption result (IsBadGap (option_map (λ s. s.now) text.entry))
+        (IsGap (option_map (λ s. s.now) text.entry)) }
+{
+    match text {
+        None => Some(Some(1_000)),
+        Some("none") => Some(None),
+        Some(number) => match number.parse::<u32>() {
+            Ok(gap) => Some(Some(gap)),
+            Err(_) => None,
+        },
+    }
+}
+
+// The gap of the options.
+fn gap_given<'a>(given: &ArgMatches<'a>) -> Result<Option<u32>, Clash>
+    ensures { MatchResult result (IsGap (first_of (codes "gap") (rows_of (found_of given.now))))
+        (λ clash. (needed : Bool) → Clashes needed (rows_of (found_of given.now)) clash) }
+{
+    match gap_of(given.get_str("gap")) {
+        Some(gap) => Ok(gap),
+        None => Err(Clash::BadGap),
+    }
+}
+
+/// What a driven run is asked for.
+///
+/// # Errors
+/// The order's numbers are outside their limits, or the gap is neither a number nor `none`.
+pub(crate) fn drive_given<'a>(given: &ArgMatches<'a>) -> Result<Drive<'a>, Clash>
+    ensures { MatchResult result (AsksDrive (rows_of (found_of given.now)))
+        (λ clash. (needed : Bool) → Clashes needed (rows_of (found_of given.now)) clash) }
+{
+    let order = valid_order(given)?;
+    let gap = gap_given(given)?;
+    Ok(Drive {
+        order,
+        events: long_given(given, "events", 1_000_000),
+        transfer: number_given(given, "transfer", 100),
+        gap,
+        keys: given.get_str("keys"),
+    })
+}

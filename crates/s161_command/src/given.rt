@@ -1,0 +1,40 @@
+//! What clap gives for an argument.
+
+ghost use Rattle.std.specs.Prelude.{◌≡◌, [], codes, unwrap_or};
+ghost use Rattle.clap.specs.Words.{first_of, found_of, one_of, rows_of};
+ghost use Rattle.s161_command.specs.Commands.{IsFlag};
+ghost use Rattle.s161_command.specs.Drives.{IsLongNumberOf};
+ghost use Rattle.s161_command.specs.Numbers.{IsNumberOf};
+
+use clap::ArgMatches;
+
+/// The number of an option.
+pub(crate) fn number_given<'a>(given: &ArgMatches<'a>, name: &str, default: u32) -> u32
+    ensures { IsNumberOf default (one_of name.now (rows_of (found_of given.now))) result }
+{
+    given.get_one::<u32>(name).unwrap_or(default)
+}
+
+/// The number of 64 bits of an option.
+pub(crate) fn long_given<'a>(given: &ArgMatches<'a>, name: &str, default: u64) -> u64
+    ensures { IsLongNumberOf default (one_of name.now (rows_of (found_of given.now))) result }
+{
+    given.get_one::<u64>(name).unwrap_or(default)
+}
+
+/// A file's name.
+pub(crate) fn file_given<'a>(given: &ArgMatches<'a>, name: &str) -> &'a str
+    ensures { result.now ≡ unwrap_or (first_of name.now (rows_of (found_of given.now))) [] }
+{
+    match given.get_str(name) {
+        Some(name) => name,
+        None => "",
+    }
+}
+
+/// Whether `run` is to show the log.
+pub(crate) fn show_log_given<'a>(given: &ArgMatches<'a>) -> bool
+    ensures { IsFlag (one_of (codes "show-log") (rows_of (found_of given.now))) result }
+{
+    given.get_flag("show-log")
+}

@@ -1,0 +1,67 @@
+//! Running an image by a policy.
+
+ghost use Rattle.std.specs.Prelude.{◌≡◌, IfErr, IfOk, None};
+ghost use Rattle.m161_order.specs.Order.{order_fault};
+ghost use Rattle.s161_base.specs.Samples.{image_file};
+ghost use Rattle.s161_drive.specs.Driven.{IsDriven, IsDrivenFault, stop_of};
+
+use crate::policy::{make_driven, read_keys};
+use m161::Machine;
+use m161_drive::Driven;
+use m161_machine::Conf;
+use s161_base::fault::Fault;
+use s161_base::files::FileSource;
+use s161_base::finished::Finished;
+use s161_base::sample::read_image;
+use s161_command::DrivenTask;
+use s161_runs::events::Stop;
+use s161_runs::run::status;
+use s161_runs::summary::summary;
+use std::alloc::Global;
+
+/// Reads the image and then the keys, boots the image, and makes the events that the policy
+/// chooses.
+///
+/// # Errors
+/// The first fault.
+pub fn run_driven<'a, F: FileSource>(
+    alloc: Global,
+    files: &mut F,
+    task: DrivenTask<'a>,
+) -> Result<Finished, Fault<'a>>
+    requires { order_fault task.drive.order ≡ None }
+    ensures ok { IfOk result (λ done. IsDriven task.entry (F.known files.old)
+        (image_file (F.known files.old) task.entry.run.image.now) done.text.items done.status) }
+    ensures fault { IfErr result (IsDrivenFault task.entry
+        (image_file (F.known files.old) task.entry.run.image.now)) }
+{
+    let file = read_image(alloc, files, task.run.image)?;
+    let keys = read_keys(alloc, files, task.drive.keys)?;
+    let mut machine = Machine::boot(
+        alloc,
+        &file,
+        Conf {
+            ram: task.run.size.ram,
+            processors: task.run.size.processors,
+            log: task.run.size.log,
+        },
+    )?;
+    let driven = make_driven(&mut machine, task.drive, &keys);
+    let stop = stop_of(driven);
+    Ok(Finished {
+        text: summary(alloc, &machine, stop, task.run.show_log)?,
+        status: status(stop),
+    })
+}
+
+// How a driven run stopped, as a command tells it.
+fn stop_of(driven: Driven) -> Stop
+    ensures { result ≡ stop_of driven }
+{
+    match driven.stop {
+        m161_drive::Stop::Off => Stop::Off,
+        m161_drive::Stop::End => Stop::End,
+        m161_drive::Stop::Stuck => Stop::Stuck,
+        m161_drive::Stop::Refused(refusal) => Stop::Refused(driven.made as usize, refusal),
+    }
+}

@@ -1,0 +1,40 @@
+//! Driving a machine by the options of a command line.
+
+ghost use Rattle.std.specs.Prelude.{◌≡◌, ◌⊎◌, IfErr, IfOk, None, option_map};
+ghost use Rattle.m161_drive.specs.Drive.{Drives};
+ghost use Rattle.m161_order.specs.Order.{order_fault};
+ghost use Rattle.s161_drive.specs.Driven.{AreKeys, IsKeysFile, rules_of};
+
+use m161::Machine;
+use m161_drive::{Driven, Policy, drive};
+use s161_base::fault::Fault;
+use s161_base::files::FileSource;
+use s161_base::input::read_file;
+use s161_command::Drive;
+use std::alloc::Global;
+
+/// The bytes that are typed: those of the file of this name, or none.
+pub(crate) fn read_keys<'a, F: FileSource>(
+    alloc: Global,
+    files: &mut F,
+    name: Option<&'a str>,
+) -> Result<Vec<u8>, Fault<'a>>
+    ensures whole { IfOk result (λ keys. AreKeys name (F.known files.old) keys.items) }
+    ensures err { IfErr result (λ fault. IsKeysFile name fault ⊎ (fault ≡ Fault.Memory)) }
+{
+    match name {
+        Some(name) => read_file(alloc, files, name),
+        None => Ok(Vec::new(alloc)),
+    }
+}
+
+/// Makes the events that the options' policy chooses.
+pub(crate) fn make_driven(machine: &mut Machine, options: Drive<'_>, keys: &[u8]) -> Driven
+    requires { order_fault options.order ≡ None }
+    ensures { Drives (rules_of options keys.now) options.events machine.old result machine.new }
+{
+    let Ok(policy) = Policy::new(options.order, options.transfer, options.gap, keys) else {
+        unreachable!()
+    };
+    drive(machine, &policy, options.events)
+}

@@ -1,0 +1,76 @@
+//! The events that a policy chooses, as a schedule.
+
+ghost use Rattle.std.specs.Prelude.{◌≡◌, ◌≤◌, IfErr, IfOk, None, length, min};
+ghost use Rattle.m161_machine.specs.History.{events_of};
+ghost use Rattle.m161_order.specs.Order.{order_fault};
+ghost use Rattle.s161_base.specs.Samples.{image_file};
+ghost use Rattle.s161_drive.specs.Schedules.{IsScheduled, IsScheduledFault, log_for, schedule_conf};
+
+use crate::policy::{make_driven, read_keys};
+use m161::Machine;
+use m161_drive::Stop;
+use m161_machine::{Conf, Event};
+use m161_steplog::write_schedule;
+use s161_base::fault::Fault;
+use s161_base::files::FileSource;
+use s161_base::sample::read_image;
+use s161_command::ScheduleTask;
+use std::alloc::{AllocError, Global};
+
+/// Reads the image and then the keys, boots the image, makes the events that the policy chooses,
+/// and writes them down.
+///
+/// # Errors
+/// The first fault; an event that is refused is a want of memory.
+pub fn schedule<'a, F: FileSource>(
+    alloc: Global,
+    files: &mut F,
+    task: ScheduleTask<'a>,
+) -> Result<Vec<u8>, Fault<'a>>
+    requires { order_fault task.drive.order ≡ None }
+    ensures ok { IfOk result (λ text. IsScheduled task.entry (F.known files.old)
+        (image_file (F.known files.old) task.entry.image.now) text.items) }
+    ensures fault { IfErr result (IsScheduledFault task.entry
+        (image_file (F.known files.old) task.entry.image.now)) }
+{
+    let file = read_image(alloc, files, task.image)?;
+    let keys = read_keys(alloc, files, task.drive.keys)?;
+    let mut machine = Machine::boot(
+        alloc,
+        &file,
+        Conf {
+            ram: task.size.ram,
+            processors: task.size.processors,
+            log: log_for(task.size.log, task.drive.events),
+        },
+    )?;
+    let driven = make_driven(&mut machine, task.drive, &keys);
+    if let Stop::Refused(_) = driven.stop {
+        return Err(Fault::Memory);
+    }
+    let events = events_made(alloc, &machine)?;
+    let text = write_schedule(alloc, &events)?;
+    Ok(text.into_bytes())
+}
+
+// The entries that the log keeps: all of the run's, where the size that is asked for is one that a
+// machine can have.
+fn log_for(asked: u32, events: u64) -> u32
+    ensures { result ≡ log_for asked events }
+{
+    if asked == 0 || asked > 16_777_216 {
+        return asked;
+    }
+    events.min(u64::from(u32::MAX)) as u32
+}
+
+// The events of a machine's log.
+fn events_made(alloc: Global, machine: &Machine) -> Result<Vec<Event>, AllocError>
+    ensures { IfOk result (λ events. events.items ≡ events_of machine.now.log) }
+{
+    let mut events = Vec::with_capacity(alloc, machine.log_len())?;
+    for i in 0..machine.log_len() {
+        events.push_reserved(machine.log_at(i).event);
+    }
+    Ok(events)
+}
