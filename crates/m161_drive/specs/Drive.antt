@@ -12,7 +12,7 @@ use Rattle.m161_drive.specs.declared.run.Driven.{Driven}
 use Rattle.m161_drive.specs.declared.run.Stop.{Stop}
 use Rattle.m161_drive.specs.declared.run.Stop.TheVariants.{Off, End, Stuck, Refused}
 use Rattle.m161_drive.specs.Policy.{Rules}
-use Rattle.m161_drive.specs.Choice.{chosen, chosen_with, cursor_at, taken}
+use Rattle.m161_drive.specs.Choice.{chosen, chosen_with, cursor_at, taken, type_key, wants_key}
 use Rattle.m161_drive.specs.Ready.{is_asleep}
 
 -- Driven runs.
@@ -67,3 +67,25 @@ abbrev pub StaysAsleep : State → Type 0
 StaysAsleep s =
     (p : ℕ) (o : Outcome) (t : State) → is_asleep s ≡ true → next s (Step p) ≡ Ok (o, t) →
     (o ≡ Idle) × (is_asleep t ≡ true)
+
+-- the laws of keys, for a caller who asks for a key only where one is wanted: elsewhere the choice is
+-- the same whatever the next key is
+abbrev pub KeyIsUnread : Rules → Cursor → State → Type 0
+KeyIsUnread rules c s =
+    (j k : Option ℕ) → wants_key rules c s ≡ false →
+    chosen_with rules j c s ≡ chosen_with rules k c s
+
+-- where one is wanted it is typed, and without one a Step is next
+abbrev pub KeyIsTyped : Rules → Cursor → State → Type 0
+KeyIsTyped rules c s =
+    (key : Option ℕ) → wants_key rules c s ≡ true → chosen_with rules key c s ≡ type_key key c s
+
+-- without a key none is counted
+abbrev pub NoKeyIsCounted : Rules → Cursor → State → Type 0
+NoKeyIsCounted rules c s = (chosen_with rules None c s).1.typed ≡ c.typed
+
+-- and the policy's own keys don't matter
+abbrev pub KeysAreApart : Rules → Cursor → State → Type 0
+KeysAreApart rules c s =
+    (key : Option ℕ) (keys : List ℕ) →
+    chosen_with (record rules { keys = keys }) key c s ≡ chosen_with rules key c s

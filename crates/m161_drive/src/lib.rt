@@ -27,7 +27,9 @@ mod turns;
 mod words;
 
 pub use cursor::Cursor;
-pub use laws::{chooses_accepted, stays_asleep};
+pub use laws::{
+    chooses_accepted, key_is_typed, key_is_unread, keys_are_apart, no_key_is_counted, stays_asleep,
+};
 pub use m161_machine::{Event, Machine, Refusal};
 pub use m161_order::{Order, OrderError};
 pub use policy::Policy;
