@@ -3,4 +3,6 @@ mod LogLines
 mod Logs
 mod ScheduleLines
 mod Progress
+mod Blocks
+mod Reread
 mod Verdicts

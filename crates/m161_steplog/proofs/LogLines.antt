@@ -117,7 +117,7 @@ header_lacks_feed = search (rules, lacks_cons, lacks_nil)
 pub entry_some : (e : Entry) → 0 < length (entry_text e)
 entry_some e = simp length-append (omega arith)
 
-event_lacks_feed : (event : Event) → IsEvent event → Lacks 10 (event_text event)
+pub event_lacks_feed : (event : Event) → IsEvent event → Lacks 10 (event_text event)
 event_lacks_feed (events.Step p) fits = lacks_append 10 (codes "s ") (decimal p) (search (rules, lacks_cons, lacks_nil)) (decimal_lacks 10 p (omega arith) (omega arith))
 event_lacks_feed (events.Key b) fits = lacks_append 10 (codes "k ") (hex_text 2 b) (search (rules, lacks_cons, lacks_nil)) (hex_lacks 10 2 b (omega arith))
 event_lacks_feed events.Done fits = search (rules, lacks_cons, lacks_nil)

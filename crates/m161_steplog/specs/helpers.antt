@@ -3,3 +3,4 @@ pub mod Log
 pub mod Schedule
 pub mod Text
 pub mod Verdict
+pub mod Written

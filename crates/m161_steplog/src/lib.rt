@@ -16,6 +16,9 @@
 //!           k HH taken    o taken        an input was accepted
 //! ```
 //!
+//! A schedule is written with neighbouring Steps of one processor in one line: `s P` for one Step,
+//! else `s P N`; where there are more than 1,000,000, full lines come first, and then the rest.
+//!
 //! P, N and CODE are decimal without leading zeros, P below 2^32, CODE 0 to 12 as in Cause. HH is
 //! two and VECTOR eight lower case hexadecimal digits. One space separates the parts of a line,
 //! with no space before or after them. Each line ends with a line feed; the last one may lack it. A
@@ -25,14 +28,18 @@
 #![tactic(auto)]
 
 mod fault;
+mod laws;
 mod line;
 mod log;
 mod schedule;
 mod shown;
 mod verdict;
+mod written;
 
 pub use fault::Fault;
+pub use laws::written_schedule_is_read;
 pub use log::{entry_line, read_log, write_log, write_tail};
 pub use m161_machine::{BootError, Conf, Entry, Event, Events, Exception, Outcome};
 pub use schedule::read_schedule;
 pub use verdict::{Verdict, verify};
+pub use written::write_schedule;
