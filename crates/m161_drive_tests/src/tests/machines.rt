@@ -1,0 +1,123 @@
+//! Machines that are driven, and how the events that they made are compared.
+
+use super::same;
+use m161::Machine;
+use m161_drive::{Driven, Event, Order, OrderError, Policy, Stop, drive};
+use m161_machine::Conf;
+use m161_test_support::files::file_from;
+use m161_test_support::outcomes::ENTRY;
+use std::alloc::AllocGlobal;
+use std::process::Abort;
+use std::test::Fail;
+
+/// Where the first words of a kernel with a handler are.
+const HANDLERS: u32 = 0x8000_0080;
+
+/// Switches off.
+static HANDLER: [u32; 2] = [
+    0x3c1a_bfff, // lui $26, 0xbfff
+    0xaf40_7e08, // sw $0, 32264($26)
+];
+
+/// A kernel.
+pub(crate) struct Kernel {
+    /// The words from 80000200 on.
+    pub words: &'static [u32],
+    pub processors: u32,
+}
+
+/// Waits with Status 0.
+pub(crate) static WAIT: Kernel = Kernel {
+    words: &[0x4200_0020],
+    processors: 1,
+};
+
+/// Starts the second processor where the first one spins, by 7 Steps.
+pub(crate) static TWO: Kernel = Kernel {
+    words: &[
+        0x3c08_bfff, // lui $8, 0xbfff
+        0x3508_8400, // ori $8, $8, 0x8400
+        0x3c09_8000, // lui $9, 0x8000
+        0x3529_021c, // ori $9, $9, 0x021c
+        0xad09_0300, // sw $9, 768($8)
+        0x340a_0002, // ori $10, $0, 0x0002
+        0xad0a_fa14, // sw $10, -1516($8)
+        0x1000_ffff, // beq $0, $0, to itself
+        0, // nop
+    ],
+    processors: 2,
+};
+
+/// A machine with a kernel, and with a handler that switches off.
+#[inline(never)]
+pub(crate) fn booted(rt: &impl AllocGlobal, kernel: &Kernel) -> Result<Machine, Fail> {
+    let mut image = Vec::new(rt.alloc());
+    image.extend_from_slice(&HANDLER)?;
+    for _place in 2..96 {
+        image.push(0)?;
+    }
+    image.extend_from_slice(kernel.words)?;
+    let file = file_from(rt.alloc(), ENTRY, HANDLERS, image.as_slice())?;
+    let conf = Conf {
+        ram: 4096,
+        processors: kernel.processors,
+        log: 5000,
+    };
+    Ok(Machine::boot(rt.alloc(), &file, conf)?)
+}
+
+/// A policy without keys.
+pub(crate) fn policy(order: Order) -> Result<Policy<'static>, OrderError> {
+    Policy::new(order, 100, Some(1000), &[])
+}
+
+/// The event that a mark stands for: a digit for a Step of that processor, `!` for a byte that is
+/// sent, any other for a key.
+pub(crate) fn event_of(mark: u8) -> Event {
+    if mark == b'!' {
+        Event::Done
+    } else if mark < b'0' || mark > b'9' {
+        Event::Key(mark)
+    } else {
+        Event::Step(u32::from(mark - b'0'))
+    }
+}
+
+/// An event of the log, by its number behind the first ones.
+fn event_at(machine: &Machine, first: usize, i: usize) -> Option<Event> {
+    let place = first.saturating_add(i);
+    if place < machine.log_len() {
+        Some(machine.log_at(place).event)
+    } else {
+        None
+    }
+}
+
+/// Fails the test where a run ended otherwise.
+pub(crate) fn check_end(rt: &impl Abort, driven: Driven, made: u64, stop: Stop) {
+    same(rt, driven, Driven { made, stop });
+}
+
+/// Drives a machine, where the run has to make the marked events and to stop so. `more` events are
+/// asked for beyond those.
+pub(crate) fn check_run(
+    rt: &impl Abort,
+    machine: &mut Machine,
+    policy: &Policy,
+    marks: &[u8],
+    more: u32,
+    stop: Stop,
+) {
+    let first = machine.log_len();
+    let n = marks.len() as u64;
+    let driven = drive(machine, policy, n.saturating_add(u64::from(more)));
+    check_end(rt, driven, n, stop);
+    for (i, mark) in marks.iter().enumerate() {
+        same(rt, event_at(machine, first, i), Some(event_of(*mark)));
+    }
+}
+
+/// Drives a machine for as many events as are marked, which have to be these.
+pub(crate) fn check_events(rt: &impl Abort, machine: &mut Machine, policy: &Policy, marks: &[u8]) {
+    check_run(rt, machine, policy, marks, 0, Stop::End);
+}
