@@ -1,6 +1,5 @@
 use Rattle.std.specs.Prelude.{◌≡◌, ◌⊎◌, ℕ, false, List, [], Option, None, Some, IfSome}
 use Rattle.std.proofs.Common.{Bor}
-use Rattle.clap.specs.Words.{Text}
 use Rattle.m161_machine.specs.declared.conf.BootError.TheVariants.{Load}
 use Rattle.m161_machine.specs.Conf.{is_within_limits}
 use Rattle.m161_machine.specs.History.{History, boot_fault}
@@ -33,7 +32,7 @@ rules_of options keys = record {
 }
 
 -- the keys are the bytes of the file of a name, as far as they are known, or none without a name
-abbrev pub AreKeys : Option (Bor (List ℕ)) → (Text → Option (List ℕ)) → List ℕ → Type 0
+abbrev pub AreKeys : Option (Bor (List ℕ)) → (List ℕ → Option (List ℕ)) → List ℕ → Type 0
 AreKeys None files keys = keys ≡ []
 AreKeys (Some name) files keys = IfSome (files name.now) (λ bytes. keys ≡ bytes)
 
@@ -50,7 +49,7 @@ stop_of driven = told driven.made driven.stop
 -- a finished driven run: what it prints and its exit status; the files have these bytes, and that of
 -- the image, as far as they are known
 pub record IsDriven
-    (task : DrivenTask) (files : Text → Option (List ℕ)) (known : Option (List ℕ))
+    (task : DrivenTask) (files : List ℕ → Option (List ℕ)) (known : Option (List ℕ))
     (text : List ℕ) (status : ℕ) : Type 0 where
   pub file : List ℕ
   pub is_file : IfSome known (λ bytes. file ≡ bytes)

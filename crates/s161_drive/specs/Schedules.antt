@@ -1,13 +1,14 @@
 use Rattle.std.specs.Prelude.{◌≡◌, ◌≢◌, ◌⊎◌, ℕ, false, ◌==◌, ◌||◌, nat_lt, if◌then◌else◌, min, List, Option, Some, IfSome}
-use Rattle.clap.specs.Words.{Text}
 use Rattle.m161_machine.specs.declared.conf.Conf.{Conf as MachineConf}
 use Rattle.m161_machine.specs.declared.conf.BootError.TheVariants.{Load}
+use Rattle.m161_machine.specs.declared.event.Event.{Event}
 use Rattle.m161_machine.specs.declared.event.Refusal.{Refusal}
 use Rattle.m161_machine.specs.Conf.{is_within_limits}
 use Rattle.m161_machine.specs.History.{History, boot_fault}
 use Rattle.m161_drive.specs.declared.run.Driven.{Driven}
 use Rattle.m161_drive.specs.declared.run.Stop.TheVariants as drive
 use Rattle.m161_drive.specs.Drive.{Drives}
+use Rattle.m161_drive.specs.Policy.{Rules}
 use Rattle.m161_steplog.specs.Written.{schedule_text}
 use Rattle.s161_command.specs.declared.command.ScheduleTask.{ScheduleTask}
 use Rattle.s161_base.specs.declared.fault.Fault.{Fault}
@@ -32,10 +33,19 @@ schedule_conf task = record {
   log = log_for task.size.log task.drive.events;
 }
 
+-- from a machine these are the events that a policy chooses, at most n; each is accepted, and memory
+-- isn't refused
+pub record Chose (rules : Rules) (n : ℕ) (m : History) (events : List Event) : Type 0 where
+  pub driven : Driven
+  pub machine : History
+  pub drives : Drives rules n m driven machine
+  pub accepted : (refusal : Refusal) → driven.stop ≢ drive.Refused refusal
+  pub events_are : events ≡ drives.events
+
 -- a finished schedule: the text of the events that the policy chooses; the files have these bytes,
 -- and that of the image, as far as they are known
 pub record IsScheduled
-    (task : ScheduleTask) (files : Text → Option (List ℕ)) (known : Option (List ℕ))
+    (task : ScheduleTask) (files : List ℕ → Option (List ℕ)) (known : Option (List ℕ))
     (text : List ℕ) : Type 0 where
   pub file : List ℕ
   pub is_file : IfSome known (λ bytes. file ≡ bytes)
@@ -43,11 +53,9 @@ pub record IsScheduled
   pub are_keys : AreKeys task.drive.keys files keys
   pub booted : History
   pub boots : BootsTo file (schedule_conf task) booted
-  pub driven : Driven
-  pub machine : History
-  pub drives : Drives (rules_of task.drive keys) task.drive.events booted driven machine
-  pub accepted : (refusal : Refusal) → driven.stop ≢ drive.Refused refusal
-  pub text_is : text ≡ schedule_text drives.events
+  pub events : List Event
+  pub chose : Chose (rules_of task.drive keys) task.drive.events booted events
+  pub text_is : text ≡ schedule_text events
 
 -- what a fault that ends `schedule` says of its inputs, as for a driven run
 abbrev pub IsScheduledFault : ScheduleTask → Option (List ℕ) → Fault → Type 0

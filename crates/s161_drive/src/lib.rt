@@ -2,7 +2,6 @@
 //! events that the policy chooses.
 #![tactic(auto)]
 
-mod policy;
-
 pub mod driven;
+mod policy;
 pub mod schedule;

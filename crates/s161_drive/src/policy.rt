@@ -19,8 +19,8 @@ pub(crate) fn read_keys<'a, F: FileSource>(
     files: &mut F,
     name: Option<&'a str>,
 ) -> Result<Vec<u8>, Fault<'a>>
-    ensures whole { IfOk result (λ keys. AreKeys name (F.known files.old) keys.items) }
-    ensures err { IfErr result (λ fault. IsKeysFile name fault ⊎ (fault ≡ Fault.Memory)) }
+    ensures whole { IfOk result (λ keys. AreKeys name.entry (F.known files.old) keys.items) }
+    ensures err { IfErr result (λ fault. IsKeysFile name.entry fault ⊎ (fault ≡ Fault.Memory)) }
 {
     match name {
         Some(name) => read_file(alloc, files, name),
@@ -31,7 +31,7 @@ pub(crate) fn read_keys<'a, F: FileSource>(
 /// Makes the events that the options' policy chooses.
 pub(crate) fn make_driven(machine: &mut Machine, options: Drive<'_>, keys: &[u8]) -> Driven
     requires { order_fault options.order ≡ None }
-    ensures { Drives (rules_of options keys.now) options.events machine.old result machine.new }
+    ensures { Drives (rules_of options.entry keys.now) options.entry.events machine.old result machine.new }
 {
     let Ok(policy) = Policy::new(options.order, options.transfer, options.gap, keys) else {
         unreachable!()

@@ -1,20 +1,21 @@
 //! The events that a policy chooses, as a schedule.
 
-ghost use Rattle.std.specs.Prelude.{◌≡◌, ◌≤◌, IfErr, IfOk, None, length, min};
+ghost use Rattle.std.specs.Prelude.{◌≡◌, ◌≤◌, [], IfErr, IfOk, None};
 ghost use Rattle.m161_machine.specs.History.{events_of};
 ghost use Rattle.m161_order.specs.Order.{order_fault};
 ghost use Rattle.s161_base.specs.Samples.{image_file};
-ghost use Rattle.s161_drive.specs.Schedules.{IsScheduled, IsScheduledFault, log_for, schedule_conf};
+ghost use Rattle.s161_drive.specs.Driven.{rules_of};
+ghost use Rattle.s161_drive.specs.Schedules.{Chose, IsScheduled, IsScheduledFault, log_for};
 
 use crate::policy::{make_driven, read_keys};
 use m161::Machine;
 use m161_drive::Stop;
-use m161_machine::{Conf, Event};
+use m161_machine::{Conf, Entry, Event};
 use m161_steplog::write_schedule;
 use s161_base::fault::Fault;
 use s161_base::files::FileSource;
 use s161_base::sample::read_image;
-use s161_command::ScheduleTask;
+use s161_command::{Drive, ScheduleTask};
 use std::alloc::{AllocError, Global};
 
 /// Reads the image and then the keys, boots the image, makes the events that the policy chooses,
@@ -44,11 +45,9 @@ pub fn schedule<'a, F: FileSource>(
             log: log_for(task.size.log, task.drive.events),
         },
     )?;
-    let driven = make_driven(&mut machine, task.drive, &keys);
-    if let Stop::Refused(_) = driven.stop {
-        return Err(Fault::Memory);
-    }
-    let events = events_made(alloc, &machine)?;
+    // So that the proof knows that the log has its room.
+    machine.replay();
+    let events = chosen_events(alloc, &mut machine, task.drive, &keys)?;
     let text = write_schedule(alloc, &events)?;
     Ok(text.into_bytes())
 }
@@ -64,13 +63,36 @@ fn log_for(asked: u32, events: u64) -> u32
     events.min(u64::from(u32::MAX)) as u32
 }
 
-// The events of a machine's log.
-fn events_made(alloc: Global, machine: &Machine) -> Result<Vec<Event>, AllocError>
-    ensures { IfOk result (λ events. events.items ≡ events_of machine.now.log) }
+// Makes the events that the options' policy chooses, on a machine whose log is empty and has room for
+// them.
+fn chosen_events<'a>(
+    alloc: Global,
+    machine: &mut Machine,
+    options: Drive<'_>,
+    keys: &[u8],
+) -> Result<Vec<Event>, Fault<'a>>
+    requires limits { order_fault options.order ≡ None }
+    requires empty { machine.old.log ≡ [] }
+    requires room { options.events ≤ machine.old.start.conf.log }
+    ensures ok { IfOk result (λ events. Chose (rules_of options.entry keys.now) options.entry.events
+        machine.old events.items) }
+    ensures err { IfErr result (λ fault. fault ≡ Fault.Memory) }
 {
-    let mut events = Vec::with_capacity(alloc, machine.log_len())?;
-    for i in 0..machine.log_len() {
-        events.push_reserved(machine.log_at(i).event);
+    let driven = make_driven(machine, options, keys);
+    if let Stop::Refused(_) = driven.stop {
+        return Err(Fault::Memory);
+    }
+    let entries = machine.copy_log(alloc)?;
+    Ok(events_made(alloc, &entries)?)
+}
+
+// The events of these entries.
+fn events_made(alloc: Global, entries: &[Entry]) -> Result<Vec<Event>, AllocError>
+    ensures { IfOk result (λ events. events.items ≡ events_of entries.now) }
+{
+    let mut events = Vec::new(alloc);
+    for entry in entries {
+        events.push(entry.event)?;
     }
     Ok(events)
 }

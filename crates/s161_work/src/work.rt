@@ -27,7 +27,9 @@ use s161_base::files::FileSource;
 use s161_base::finished::Finished;
 use s161_base::input::read_input;
 use s161_base::sample::read_image;
-use s161_command::{Clash, DrivenTask, FilesTask, Rejection, RunTask, ScheduleTask, Task, ThreadsTask, parse};
+use s161_command::{
+    Clash, DrivenTask, FilesTask, Rejection, RunTask, ScheduleTask, Task, ThreadsTask, parse,
+};
 use s161_debug::debug::debug;
 use s161_drive::driven::run_driven;
 use s161_drive::schedule::schedule;
@@ -257,7 +259,10 @@ fn print_usage<E: Write>(text: &[u8], errors: &mut E) -> u8
 fn report_clash<E: Write>(clash: Clash, errors: &mut E) -> u8
     ensures { (1 ≤ result) × (result ≤ 2) }
 {
-    match writeln!(errors, "error: {clash}\n\nFor more information, try '--help'.") {
+    match writeln!(
+        errors,
+        "error: {clash}\n\nFor more information, try '--help'."
+    ) {
         Ok(()) => 2,
         Err(_) => 1,
     }

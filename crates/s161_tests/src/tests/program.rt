@@ -30,25 +30,28 @@ const HELP: &str = "A proved emulator of System/161
 Usage: s161 <COMMAND>
 
 Commands:
-  demo    Makes seven Steps of the built-in image
-  run     Runs an image under a schedule of events
-  replay  Makes a log's events once more, and compares their outcomes
-  debug   Does a debugger's commands on an image under a schedule
-  audit   Looks for a Step that uses a stale row of the TLB, after its shootdown
-  as      Assembles a text to an ELF file
-  dis     Prints the instructions of an image
-  help    Print this message or the help of the given subcommand(s)
+  demo      Makes seven Steps of the built-in image
+  run       Runs an image under a schedule of events, or by an order that chooses them
+  schedule  Prints the events that an order chooses, as a schedule
+  replay    Makes a log's events once more, and compares their outcomes
+  debug     Does a debugger's commands on an image under a schedule
+  audit     Looks for a Step that uses a stale row of the TLB, after its shootdown
+  as        Assembles a text to an ELF file
+  dis       Prints the instructions of an image
+  help      Print this message or the help of the given subcommand(s)
 
 Options:
-  -h, --help  Print help
+  -h, --help     Print help
+  -V, --version  Print version
 
 Exit status:
-  0  a finished demo, debug, as or dis, a machine that switched itself off, a
-     log that agrees, or a clean run
+  0  a finished demo, schedule, debug, as or dis, a machine that switched
+     itself off, a log that agrees, a clean run, or help
   1  a fault, named on standard error, or a refused event of run
-  2  a rejected command line, or a call for help
-  3  the schedule or the Steps of the threads ended
+  2  a rejected command line
+  3  the schedule, the events or the Steps of the threads ended
   4  a log that differs, or a stale use
+  5  no processor can go on, and no byte or key is left
 ";
 
 /// What clap writes on standard error for the word `foo`.
@@ -125,7 +128,7 @@ fn both_outputs_fail(rt: HostRuntime) {
 #[test]
 fn rejected_command_lines(rt: HostRuntime) {
     let found = run(&rt, &["s161", "--help"], [HELP, ""], FREE, true);
-    same(&rt, found, (2, all(HELP), all("")));
+    same(&rt, found, (0, all(HELP), all("")));
     let found = run(&rt, &["s161", "foo"], ["", USAGE], FREE, true);
     same(&rt, found, (2, all(""), all(USAGE)));
     let cases: [&[&str]; 2] = [&["s161"], &["s161", "demo", "x"]];
@@ -148,6 +151,24 @@ fn failing_rejections(rt: HostRuntime) {
             let found = run(&rt, &["s161", "foo"], ["", USAGE], rooms, fails);
             same(&rt, found, (1, all(""), (room, true)));
         }
+    }
+}
+
+/// Why options that clap takes can't be followed.
+const CLASH: &str = "error: an order is wanted: --turns N or --random SEED
+
+For more information, try '--help'.
+";
+
+#[test]
+fn clashing_options(rt: HostRuntime) {
+    let words: &[&str] = &["s161", "schedule", "x"];
+    let found = run(&rt, words, ["", CLASH], FREE, true);
+    same(&rt, found, (2, all(""), all(CLASH)));
+    for room in [0, CLASH.len() - 1] {
+        let rooms = [usize::MAX, room];
+        let found = run(&rt, words, ["", CLASH], rooms, true);
+        same(&rt, found, (1, all(""), (room, true)));
     }
 }
 

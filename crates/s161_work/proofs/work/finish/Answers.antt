@@ -7,6 +7,9 @@ returns-in-Run-clause-ok g c = rw c.in-Run.is c.run.ensures.ok
 pub returns-in-RunInThreads-clause-ok : goal.returns-in-RunInThreads-clause-ok
 returns-in-RunInThreads-clause-ok g c = rw c.in-RunInThreads.is c.run_in_threads.ensures.ok
 
+pub returns-in-RunDriven-clause-ok : goal.returns-in-RunDriven-clause-ok
+returns-in-RunDriven-clause-ok g c = rw c.in-RunDriven.is c.run_driven.ensures.ok
+
 pub returns-in-Replay-clause-ok : goal.returns-in-Replay-clause-ok
 returns-in-Replay-clause-ok g c = rw c.in-Replay.is c.replay.ensures.ok
 
