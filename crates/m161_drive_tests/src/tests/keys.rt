@@ -73,8 +73,9 @@ fn drive_transfer(rt: HostRuntime) -> Result<(), Fail> {
     check_kernel(&rt, &SENDS, 1, None, b"", b"0000!000", false)?;
     check_kernel(&rt, &SENDS, 0, None, b"", b"000!000", false)?;
     check_kernel(&rt, &SENDS_AND_WAITS, 100, None, b"", b"0000!", true)?;
-    // keys count as events, and come behind it where both are due
-    check_kernel(&rt, &SENDS, 2, Some(4), b"ab", b"0000a!000b0000", false)
+    // a key counts as an event, and is typed behind it where both are due
+    check_kernel(&rt, &SENDS, 2, Some(4), b"ab", b"0000a!000b0000", false)?;
+    check_kernel(&rt, &SENDS, 2, Some(5), b"ab", b"00000!a00000b0", false)
 }
 
 /// A byte that is in the latch at the start of a run counts as one that has just come.
