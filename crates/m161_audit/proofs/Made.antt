@@ -44,6 +44,10 @@ refused_passes watches s core new items after e r at h same kept =
           (record { core_is = same ∙ at.core_is; items_are = kept ∙ at.items_are; made = at.made }),
     )
 
+-- what didn't change is where it was
+pub still_at : (watches : List Watch) (s : StoreState) (core new : State) (items after : List Shootdown) → IsAt watches s core items → (new ≡ core) × (after ≡ items) → IsAt watches s new after
+still_at watches s core new items after at same = record { core_is = same.0 ∙ at.core_is; items_are = same.1 ∙ at.items_are; made = at.made }
+
 -- an accepted one leads to the state with its stores
 
 made_after : (watches : List Watch) (s : StoreState) (core new : State) (items after : List Shootdown) (e : Event) (o : Outcome) → IsAt watches s core items → next core e ≡ Ok (o, new) →

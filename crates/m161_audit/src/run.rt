@@ -1,6 +1,6 @@
 //! The audit of a run.
 
-ghost use Rattle.std.specs.Prelude.{◌≡◌, ◌<◌, ℕ, List, [], ◌∷◌, None, Some, IfOk, IfSome, MatchOption, length, replicate};
+ghost use Rattle.std.specs.Prelude.{◌≡◌, ◌<◌, ℕ, List, true, false, [], ◌∷◌, None, Some, IfOk, IfSome, MatchOption, length, replicate};
 ghost use Rattle.m161_machine.specs.declared.event.Event.TheVariants as events;
 ghost use Rattle.m161_machine.specs.History.{boot_fault};
 ghost use Rattle.m161_machine.specs.State.{refusal};
@@ -15,11 +15,10 @@ ghost use Rattle.m161_audit.specs.helpers.Run.{AuditsEvents, AuditsInputs, Audit
 
 use crate::finding::{AuditError, Finding};
 use crate::shootdown::Shootdowns;
-use crate::stale::{stale_use, uses_no_row};
+use crate::stale::{stale_use, uses_stale};
 use crate::watch::{Watch, is_bad};
 use m161_bus::Console;
 use m161_cpu::Via;
-use m161_isa::unmapped;
 use m161_machine::{BootError, Conf, Core, Event, Events, Machine, Refusal};
 use m161_tlb::Tlb;
 use std::alloc::Global;
@@ -56,9 +55,7 @@ fn make_step<T: Tlb, D: Console>(
 }
 
 // Audits a Step that no refusal holds of, and makes it if it is no stale use.
-#[cold]
-#[inline(never)]
-fn audit_step_of_rows<T: Tlb, D: Console>(
+fn audit_accepted_step<T: Tlb, D: Console>(
     core: &mut Core<T, D>,
     p: u32,
     shootdowns: &mut Shootdowns,
@@ -77,29 +74,9 @@ fn audit_step_of_rows<T: Tlb, D: Console>(
     None
 }
 
-// The same. One that uses no row needs no look at the watches.
-#[inline(always)]
-fn audit_accepted_step<T: Tlb, D: Console>(
-    core: &mut Core<T, D>,
-    p: u32,
-    shootdowns: &mut Shootdowns,
-) -> Option<Via>
-    requires place { p < length core.old.state.processors }
-    requires refusal { refusal core.old.state (events.Step p) ≡ None }
-    ensures { (watches : List Watch) (s : StoreState)
-        → IsAt watches s core.old.state shootdowns.old
-        → AuditsStep watches s p result core.new.state shootdowns.new }
-{
-    let direct = core.uses(p);
-    if !uses_no_row(core, p, &direct) {
-        return audit_step_of_rows(core, p, shootdowns);
-    }
-    make_step(core, p, direct.stored, shootdowns);
-    None
-}
-
 // Audits a Step, and makes it if it is no stale use. A refused one changes nothing.
-#[inline(always)]
+#[cold]
+#[inline(never)]
 fn audit_step<T: Tlb, D: Console>(
     core: &mut Core<T, D>,
     p: u32,
@@ -112,10 +89,32 @@ fn audit_step<T: Tlb, D: Console>(
     if let Some(_) = core.refusal(p) {
         return None;
     }
-    match unmapped(core.pc(p)) {
-        Some(_) => audit_accepted_step(core, p, shootdowns),
-        None => audit_step_of_rows(core, p, shootdowns),
+    audit_accepted_step(core, p, shootdowns)
+}
+
+// Makes a Step, if no refusal holds of it and it is no stale use, and says so; else changes nothing.
+// For LLVM: all that most Steps need, and no `Via` on the way.
+#[inline(always)]
+fn make_clean_step<T: Tlb, D: Console>(
+    core: &mut Core<T, D>,
+    p: u32,
+    shootdowns: &mut Shootdowns,
+) -> bool
+    ensures made { result ≡ true → (watches : List Watch) (s : StoreState)
+        → IsAt watches s core.old.state shootdowns.old
+        → AuditsStep watches s p None core.new.state shootdowns.new }
+    ensures kept { result ≡ false
+        → (core.new.state ≡ core.old.state) × (shootdowns.new ≡ shootdowns.old) }
+{
+    if let Some(_) = core.refusal(p) {
+        return false;
     }
+    let judged = core.uses(p);
+    if uses_stale(core, p, &judged, shootdowns) {
+        return false;
+    }
+    make_step(core, p, judged.stored, shootdowns);
+    true
 }
 
 // Audits Steps of a processor, and makes them up to the first stale use. Returns how many are
@@ -133,6 +132,9 @@ fn audit_steps<T: Tlb, D: Console>(
     ensures within { IfSome result (λ found. found.0 < times) }
 {
     for made in 0..times {
+        if make_clean_step(core, p, shootdowns) {
+            continue;
+        }
         if let Some(via) = audit_step(core, p, shootdowns) {
             return Some((made, via));
         }

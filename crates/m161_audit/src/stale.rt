@@ -51,7 +51,7 @@ fn is_stale_for<T: Tlb, D: Console>(
 }
 
 // Whether a use is stale for one of the watches from one place on and before another one.
-#[inline(never)]
+#[inline(always)]
 fn is_stale_among<T: Tlb, D: Console>(
     core: &Core<T, D>,
     p: u32,
@@ -102,7 +102,6 @@ fn is_stale<T: Tlb, D: Console>(
 }
 
 // A use, if there is one and it is stale.
-#[inline(always)]
 fn stale_via<T: Tlb, D: Console>(
     core: &Core<T, D>,
     p: u32,
@@ -124,7 +123,6 @@ fn stale_via<T: Tlb, D: Console>(
 }
 
 /// The stale use of a Step: that of its fetch, else that of its access.
-#[inline(always)]
 pub(crate) fn stale_use<T: Tlb, D: Console>(
     core: &Core<T, D>,
     p: u32,
@@ -144,19 +142,42 @@ pub(crate) fn stale_use<T: Tlb, D: Console>(
     }
 }
 
-/// Whether a Step uses no row; then it is no stale use.
+// Whether a use, if there is one, is stale.
 #[inline(always)]
-pub(crate) fn uses_no_row<T: Tlb, D: Console>(core: &Core<T, D>, p: u32, uses: &Uses) -> bool
+fn is_some_and_stale<T: Tlb, D: Console>(
+    core: &Core<T, D>,
+    p: u32,
+    via: &Option<Via>,
+    shootdowns: &Shootdowns,
+) -> bool
+    requires { p < length core.now.state.processors }
+    ensures { result ≡ false → (watches : List Watch) (s : StoreState)
+        → IsAt watches s core.now.state shootdowns.now
+        → (v : Via) → via.now ≡ Some v → IsStaleVia s watches p v → ⊥ }
+{
+    match via {
+        Some(via) => is_stale(core, p, via, shootdowns),
+        None => false,
+    }
+}
+
+/// Whether a use of a Step is stale. `stale_use` says which one. For LLVM: an answer of one bit, and
+/// none of a `Via`, whose parts the compiler would copy from place to place.
+#[inline(always)]
+pub(crate) fn uses_stale<T: Tlb, D: Console>(
+    core: &Core<T, D>,
+    p: u32,
+    uses: &Uses,
+    shootdowns: &Shootdowns,
+) -> bool
+    requires place { p < length core.now.state.processors }
     requires uses { uses.now ≡ uses_in p core.now.state }
-    ensures { result ≡ true → (watches : List Watch) (s : StoreState) (items : List Shootdown)
-        → IsAt watches s core.now.state items
+    ensures { result ≡ false → (watches : List Watch) (s : StoreState)
+        → IsAt watches s core.now.state shootdowns.now
         → (v : Via) → UsesStale s watches p v → ⊥ }
 {
-    match uses.fetch {
-        Some(_) => false,
-        None => match uses.access {
-            Some(_) => false,
-            None => true,
-        },
+    if is_some_and_stale(core, p, &uses.fetch, shootdowns) {
+        return true;
     }
+    is_some_and_stale(core, p, &uses.access, shootdowns)
 }
