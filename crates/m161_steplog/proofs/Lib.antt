@@ -1,8 +1,11 @@
 mod Codes
 mod LogLines
+mod Passing
 mod Logs
 mod ScheduleLines
 mod Progress
 mod Blocks
 mod Reread
+mod Machines
+mod Behind
 mod Verdicts

@@ -1,5 +1,5 @@
 -- A log's text and its lines.
-use Rattle.std.proofs.Common.{◌≡◌, ℕ, zero, suc, ◌<◌, ◌≤◌, List, [], ◌∷◌, ◌++◌, None, Some, Result, Ok, Err, IfOk, IsErrOf, Vec, Global, length, take, drop, map, refl, sym, ap, ap₂, ◌∙◌, arith, inl, inr, codes, length-append, append_assoc, flat_map}
+use Rattle.std.proofs.Common.{◌≡◌, ℕ, zero, suc, ◌<◌, ◌≤◌, List, [], ◌∷◌, ◌++◌, None, Some, Err, IsErrOf, Vec, Global, length, take, drop, map, refl, sym, ap, ap₂, subst, ◌+◌, ◌^◌, ◌∙◌, arith, inl, inr, codes, length-append, append_assoc, flat_map}
 use Rattle.std.proofs.lemmas.List.{take-append-le, take-map, length-map, map_push}
 use Rattle.std.proofs.lemmas.Option.{none-some, same_Some}
 use Rattle.std.specs.List.{AllByRecursion}
@@ -9,9 +9,10 @@ use Rattle.m161_steplog.specs.declared.fault.Fault.TheVariants as faults
 use Rattle.m161_text.specs.Parts.{Reads, Lacks}
 use Rattle.m161_steplog.specs.Text.{entry_text, IsProper}
 use Rattle.m161_text.specs.Lines.{lines_of, text_of, FirstBad}
-use Rattle.m161_steplog.specs.Read.{IsRead}
 use Rattle.m161_steplog.specs.Log.{log_text, log_lines, IsLogText, IsLog, AreLogLines}
-use Rattle.m161_steplog.specs.helpers.Log.{IsDistinct}
+use Rattle.m161_steplog.specs.Comments.{comment_count, behind_comments, IsLogFile, IsFirstBadOfLog}
+use Rattle.m161_steplog.specs.helpers.Log.{IsDistinct, fault_behind}
+use Rattle.m161_steplog.proofs.Passing.{bad_within}
 use Rattle.m161_text.proofs.Feeds.{IsSome, lines_of-ended, ended-lines_of, unended}
 use Rattle.m161_steplog.proofs.LogLines.{entry_some, entry_lacks_feed, header_lacks_feed}
 
@@ -122,12 +123,35 @@ goes_on line more es fs e push is =
 pub distinct_by : (line : List ℕ) (e : Entry) → Reads IsProper entry_text line (Some e) → IsDistinct e
 distinct_by line e one = record { proper = one.found.0; alone = λ x proper same. same_Some e x (one.only x proper (one.found.1 ∙ same)) }
 
-pub found_log : (text : List ℕ) (r : Result (Vec Entry Global) Fault) → IfOk r (λ v. AllByRecursion IsDistinct v.items × (lines_of text ≡ log_lines v.items)) → IfOk r (λ v. IsLog text v.items)
-found_log text (Ok v) found = (all_proper v.items found.0, is_log text v.items found.1)
-found_log text (Err f) found = tt
+-- the log behind comments
+pub file_found : (text rest : List ℕ) (es : List Entry) → rest ≡ behind_comments text → AllByRecursion IsDistinct es × (lines_of rest ≡ log_lines es) → IsLogFile text es
+file_found text rest es is found = subst (λ t. IsLog t es) is (all_proper es found.0, is_log rest es found.1)
 
-pub only_log : (text : List ℕ) (r : Result (Vec Entry Global) Fault) → IfOk r (λ v. AllByRecursion IsDistinct v.items × (lines_of text ≡ log_lines v.items)) → ((n : ℕ) → IsErrOf r (faults.Line n) → FirstBad AreLogLines text n)
-    → (es : List Entry) → AllByRecursion IsProper es → IsLogText text es → IsRead es r
-only_log text (Ok v) found line es proper log = log_same text v.items es found.0 found.1 proper log
-only_log text (Err faults.NoMemory) found line es proper log = refl
-only_log text (Err (faults.Line n)) found line es proper log = absurd (log_no_bad text es n proper log (line n refl))
+pub file_only : (text rest : List ℕ) (es fs : List Entry) → rest ≡ behind_comments text → AllByRecursion IsDistinct es × (lines_of rest ≡ log_lines es) → IsLogFile text fs → es ≡ fs
+file_only text rest es fs is found log =
+    let own : IsLog rest fs = subst (λ t. IsLog t fs) (sym is) log in
+    log_same rest es fs found.0 found.1 own.0 own.1
+
+pub file_bad : (text rest : List ℕ) (count n m : ℕ) → rest ≡ behind_comments text → count ≡ comment_count text → FirstBad AreLogLines rest n → m ≡ count + n → IsFirstBadOfLog text m
+file_bad text rest count n m is number bad sum = (n, sum ∙ ap (λ c. c + n) number, subst (λ t. FirstBad AreLogLines t n) is bad)
+
+pub file_no_bad : (text rest : List ℕ) (fs : List Entry) (n : ℕ) → rest ≡ behind_comments text → FirstBad AreLogLines rest n → IsLogFile text fs → ⊥
+file_no_bad text rest fs n is bad log =
+    let own : IsLog rest fs = subst (λ t. IsLog t fs) (sym is) log in
+    log_no_bad rest fs n own.0 own.1 bad
+
+-- a fault behind lines
+pub fault_fits : (rest : List ℕ) (count total : ℕ) (f : Fault) → ((n : ℕ) → IsErrOf {T = Vec Entry Global} {E = Fault} (Err f) (faults.Line n) → FirstBad AreLogLines rest n) → count + length rest ≤ total → total < 2 ^ 63 → (n : ℕ) → f ≡ faults.Line n → count + n < 2 ^ 64
+fault_fits rest count total f line room small n is = omega (arith, bad_within AreLogLines rest n (line n (ap (λ x. Err x) is)))
+
+pub file_line : (text rest : List ℕ) (count : ℕ) (f : Fault) → rest ≡ behind_comments text → count ≡ comment_count text → ((n : ℕ) → IsErrOf {T = Vec Entry Global} {E = Fault} (Err f) (faults.Line n) → FirstBad AreLogLines rest n)
+    → (n : ℕ) → IsErrOf {T = Vec Entry Global} {E = Fault} (Err (fault_behind count f)) (faults.Line n) → IsFirstBadOfLog text n
+file_line text rest count faults.NoMemory is number line n fault = absurd (cc)
+file_line text rest count (faults.Line k) is number line n fault =
+    let sum : n ≡ count + k = cc in
+    file_bad text rest count k n is number (line k refl) sum
+
+pub file_err : (text rest : List ℕ) (count : ℕ) (f : Fault) → rest ≡ behind_comments text → ((n : ℕ) → IsErrOf {T = Vec Entry Global} {E = Fault} (Err f) (faults.Line n) → FirstBad AreLogLines rest n)
+    → (es : List Entry) → IsLogFile text es → fault_behind count f ≡ faults.NoMemory
+file_err text rest count faults.NoMemory is line es log = refl
+file_err text rest count (faults.Line k) is line es log = absurd (file_no_bad text rest es k is (line k refl) log)

@@ -1,6 +1,8 @@
 pub mod Text
 pub mod Read
 pub mod Log
+pub mod Comments
+pub mod Machine
 pub mod Schedule
 pub mod Written
 pub mod Verdict

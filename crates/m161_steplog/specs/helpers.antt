@@ -1,5 +1,6 @@
 -- Definitions that only contracts of private functions, or proofs, use.
 pub mod Log
+pub mod Machine
 pub mod Schedule
 pub mod Text
 pub mod Verdict

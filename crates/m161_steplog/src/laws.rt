@@ -1,16 +1,35 @@
 //! Laws of the definitions. The functions do nothing: their contracts are the laws.
 
-ghost use Rattle.std.specs.Prelude.{◌≤◌, List, length};
+ghost use Rattle.std.specs.Prelude.{◌≡◌, ◌++◌, ◌≤◌, ℕ, List, length};
 ghost use Rattle.std.specs.List.{AllByRecursion};
 ghost use Rattle.m161_machine.specs.declared.event.Event.{Event};
-ghost use Rattle.m161_text.specs.Lines.{lines_of};
+ghost use Rattle.m161_machine.specs.declared.event.Entry.{Entry};
+ghost use Rattle.m161_text.specs.Lines.{lines_of, with_line_end};
 ghost use Rattle.m161_steplog.specs.Text.{IsEvent};
 ghost use Rattle.m161_steplog.specs.Schedule.{IsSchedule};
 ghost use Rattle.m161_steplog.specs.Written.{schedule_text};
+ghost use Rattle.m161_steplog.specs.Log.{IsLog};
+ghost use Rattle.m161_steplog.specs.Comments.{IsLogFile};
+ghost use Rattle.m161_steplog.specs.declared.machine.MachineLine.{MachineLine};
+ghost use Rattle.m161_steplog.specs.Machine.{machine_text, first_line, IsMachineLine};
 
 /// The law of written schedules: the text of at most 16,777,216 events whose numbers fit their
 /// types is the text of a schedule with these events, and so `read_schedule` gives them back.
 pub fn written_schedule_is_read()
     ensures { (es : List Event) → AllByRecursion IsEvent es → length es ≤ 16_777_216
         → IsSchedule (lines_of (schedule_text es)) es }
+{}
+
+/// The law of a log's text without comments: `read_log` reads it.
+pub fn log_without_comments()
+    ensures { (text : List ℕ) (es : List Entry) → IsLog text es → IsLogFile text es }
+{}
+
+/// The law of a text behind a machine line: `read_machine` reads that line, and `read_log` the text,
+/// if it is a log's.
+pub fn log_behind_machine_line()
+    ensures machine { (m : MachineLine) (text : List ℕ) → IsMachineLine m
+        → first_line (with_line_end (machine_text m) ++ text) ≡ machine_text m }
+    ensures log { (m : MachineLine) (text : List ℕ) (es : List Entry) → IsMachineLine m → IsLog text es
+        → IsLogFile (with_line_end (machine_text m) ++ text) es }
 {}

@@ -8,7 +8,9 @@
 //!           o          the console has sent its byte
 //!           #...       a comment; an empty line is ignored too
 //!
-//! log       m161 log 1                   the first line; then a line for each entry:
+//! log       # machine RAM CPUS DIGEST    the machine line, a comment; there may be none
+//!           #...                         any comments
+//!           m161 log 1                   then a line for each entry:
 //!           s P ran                      an instruction was executed
 //!           s P trap CODE VECTOR         a trap was entered
 //!           s P idle                     no instruction was executed
@@ -19,27 +21,31 @@
 //! A schedule is written with neighbouring Steps of one processor in one line: `s P` for one Step,
 //! else `s P N`; where there are more than 1,000,000, full lines come first, and then the rest.
 //!
-//! P, N and CODE are decimal without leading zeros, P below 2^32, CODE 0 to 12 as in Cause. HH is
-//! two and VECTOR eight lower case hexadecimal digits. One space separates the parts of a line,
-//! with no space before or after them. Each line ends with a line feed; the last one may lack it. A
-//! schedule has at most 16,777,216 events. A fault has the number of the first bad line, from 1;
-//! the line that exceeds the limit is bad, and so is line 1 of an empty log. The texts are this
-//! project's own.
+//! P, N, CODE, RAM and CPUS are decimal without leading zeros; P, RAM and CPUS are below 2^32, CODE
+//! is 0 to 12 as in Cause. HH is two, VECTOR eight and DIGEST 64 lower case hexadecimal digits. One
+//! space separates the parts of a line, with no space before or after them. Each line ends with a
+//! line feed; the last one may lack it. A schedule has at most 16,777,216 events. A fault has the
+//! number of the first bad line, from 1, where comments count; the line that exceeds the limit is
+//! bad, and so is the line after the end of a log's text without any line but comments. The texts
+//! are this project's own.
 #![tactic(auto)]
 
+mod comments;
 mod fault;
 mod laws;
 mod line;
 mod log;
+mod machine;
 mod schedule;
 mod shown;
 mod verdict;
 mod written;
 
 pub use fault::Fault;
-pub use laws::written_schedule_is_read;
+pub use laws::{log_behind_machine_line, log_without_comments, written_schedule_is_read};
 pub use log::{entry_line, read_log, write_log, write_tail};
 pub use m161_machine::{BootError, Conf, Entry, Event, Events, Exception, Outcome};
+pub use machine::{MachineLine, machine_line, read_machine};
 pub use schedule::read_schedule;
 pub use verdict::{Verdict, verify};
 pub use written::write_schedule;

@@ -1,15 +1,17 @@
 //! The text of a log.
 
-ghost use Rattle.std.specs.Prelude.{◌≡◌, ◌++◌, ℕ, List, IfOk, OnOk, IsErrOf, string_bytes};
+ghost use Rattle.std.specs.Prelude.{◌≡◌, ◌++◌, ◌+◌, ◌<◌, ◌^◌, ℕ, List, IfOk, OnOk, IsErrOf, string_bytes};
 ghost use Rattle.std.specs.List.{AllByRecursion};
 ghost use Rattle.m161_machine.specs.declared.event.Entry.{Entry};
 ghost use Rattle.m161_steplog.specs.declared.fault.Fault.TheVariants as faults;
 ghost use Rattle.m161_steplog.specs.Text.{entry_text};
 ghost use Rattle.m161_text.specs.Lines.{lines_of, FirstBad};
 ghost use Rattle.m161_steplog.specs.Read.{IsRead};
-ghost use Rattle.m161_steplog.specs.Log.{entry_lines, log_text, log_lines, tail_text, IsLog, AreLogLines};
-ghost use Rattle.m161_steplog.specs.helpers.Log.{IsDistinct};
+ghost use Rattle.m161_steplog.specs.Log.{entry_lines, log_text, log_lines, tail_text, AreLogLines};
+ghost use Rattle.m161_steplog.specs.Comments.{IsLogFile, IsFirstBadOfLog};
+ghost use Rattle.m161_steplog.specs.helpers.Log.{IsDistinct, fault_behind};
 
+use crate::comments::pass_comments;
 use crate::fault::Fault;
 use crate::line::parse_entry;
 use crate::shown::ShownEntry;
@@ -91,16 +93,31 @@ fn parse_entries(alloc: Global, text: &str) -> Result<Vec<Entry>, Fault>
     Ok(entries)
 }
 
-/// The entries of a log's text.
+// A fault of a text behind so many lines, as one of the whole text.
+fn fault_behind(fault: Fault, lines: u64) -> Fault
+    requires { (n : ℕ) → fault ≡ faults.Line n → lines + n < 2 ^ 64 }
+    ensures { result ≡ fault_behind lines fault }
+{
+    match fault {
+        Fault::Line(n) => Fault::Line(lines + n),
+        Fault::NoMemory => Fault::NoMemory,
+    }
+}
+
+/// The entries of a log's text, which may begin with comments: lines that begin with `#`.
 ///
 /// # Errors
-/// The first bad line; or memory was refused.
+/// The first bad line, counted from the beginning of the whole text; or memory was refused.
 pub fn read_log(alloc: Global, text: &str) -> Result<Vec<Entry>, Fault>
-    // The result is the log of this text.
-    ensures found { IfOk result (λ entries. IsLog text.now entries.items) }
-    // If the text is a log, it is read, unless memory is refused.
-    ensures only { (es : List Entry) → IsLog text.now es → IsRead es result }
-    ensures line { (n : ℕ) → IsErrOf result (faults.Line n) → FirstBad AreLogLines text.now n }
+    // Behind its comments the text is the log of the result.
+    ensures found { IfOk result (λ entries. IsLogFile text.now entries.items) }
+    // If the text is a log behind comments, it is read, unless memory is refused.
+    ensures only { (es : List Entry) → IsLogFile text.now es → IsRead es result }
+    ensures line { (n : ℕ) → IsErrOf result (faults.Line n) → IsFirstBadOfLog text.now n }
 {
-    parse_entries(alloc, text)
+    let (log, comments) = pass_comments(text);
+    match parse_entries(alloc, log) {
+        Ok(entries) => Ok(entries),
+        Err(fault) => Err(fault_behind(fault, comments)),
+    }
 }

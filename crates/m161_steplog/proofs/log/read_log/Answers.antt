@@ -1,8 +1,15 @@
-use Rattle.m161_steplog.proofs.Logs.{found_log, only_log}
+use Rattle.std.proofs.Common.{arith, ◌∙◌}
+use Rattle.m161_steplog.proofs.Logs.{file_found, file_only, fault_fits, file_err}
 use Rattle.m161_steplog.proofs.log.read_log.Goals as goal
 
-pub returns-clause-found : goal.returns-clause-found
-returns-clause-found c = found_log c.args.text.now c.parse_entries.result c.parse_entries.ensures.found
+pub returns-in-Ok-clause-found : goal.returns-in-Ok-clause-found
+returns-in-Ok-clause-found c = file_found c.args.text.now _ _ c.pass_comments-comments.ensures.behind c.in-Ok.ensures.found
 
-pub returns-clause-only : goal.returns-clause-only
-returns-clause-only c = λ es log. only_log c.args.text.now c.parse_entries.result c.parse_entries.ensures.found c.parse_entries.ensures.line es log.0 log.1
+pub returns-in-Ok-clause-only : goal.returns-in-Ok-clause-only
+returns-in-Ok-clause-only c = λ es log. file_only c.args.text.now _ _ es c.pass_comments-comments.ensures.behind c.in-Ok.ensures.found log
+
+pub fault_behind-requires : goal.fault_behind-requires
+fault_behind-requires c = fault_fits c.pass_comments-comments.result.0.now c.pass_comments-comments.result.1 _ c.in-Err.fault c.in-Err.ensures.line c.pass_comments-comments.ensures.room (omega arith)
+
+pub returns-in-Err-clause-only : goal.returns-in-Err-clause-only
+returns-in-Err-clause-only c = λ es log. c.fault_behind.ensures ∙ file_err c.args.text.now _ c.pass_comments-comments.result.1 c.in-Err.fault c.pass_comments-comments.ensures.behind c.in-Err.ensures.line es log
