@@ -2,7 +2,7 @@
 
 ghost use Rattle.std.specs.Prelude.{IfErr, IfOk};
 ghost use Rattle.m161_text.specs.Lines.{lines_of};
-ghost use Rattle.m161_steplog.specs.Log.{IsLog};
+ghost use Rattle.m161_steplog.specs.Comments.{IsLogFile};
 ghost use Rattle.m161_steplog.specs.Schedule.{IsSchedule};
 ghost use Rattle.s161_base.specs.Texts.{IsLogFault, IsScheduleFault};
 
@@ -30,7 +30,7 @@ pub fn events_of<'a>(alloc: Global, text: &str) -> Result<Events, Fault<'a>>
 /// # Errors
 /// Its first bad line; or memory was refused.
 pub fn entries_of<'a>(alloc: Global, text: &str) -> Result<Vec<Entry>, Fault<'a>>
-    ensures found { IfOk result (λ entries. IsLog text.now entries.items) }
+    ensures found { IfOk result (λ entries. IsLogFile text.now entries.items) }
     ensures fault { IfErr result (IsLogFault text.now) }
 {
     match read_log(alloc, text) {

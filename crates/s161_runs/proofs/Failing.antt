@@ -5,8 +5,7 @@ use Rattle.m161_machine.specs.declared.conf.Conf.{Conf as MachineConf}
 use Rattle.m161_machine.specs.declared.event.Entry.{Entry}
 use Rattle.m161_machine.specs.Conf.{is_within_limits}
 use Rattle.m161_machine.specs.History.{boot_fault}
-use Rattle.m161_text.specs.Lines.{FirstBad}
-use Rattle.m161_steplog.specs.Log.{AreLogLines}
+use Rattle.m161_steplog.specs.Comments.{IsFirstBadOfLog}
 use Rattle.m161_steplog.specs.Verdict.{Verifies}
 use Rattle.s161_base.proofs.Failing.{HasFault, boot_fails}
 use Rattle.s161_base.specs.Faults.{fault_of_boot}
@@ -17,7 +16,7 @@ use Rattle.s161_base.specs.declared.fault.Fault.TheVariants.{Conf, File, Image, 
 -- Why a replay ends early: `P` is what is said of its fault.
 
 -- a log's fault
-pub log_failed : (P : Fault → Type 0) (text : List ℕ) (fault : Fault) → ((n : ℕ) → FirstBad AreLogLines text n → P (Log n)) → P Memory →
+pub log_failed : (P : Fault → Type 0) (text : List ℕ) (fault : Fault) → ((n : ℕ) → IsFirstBadOfLog text n → P (Log n)) → P Memory →
     IsLogFault text fault → P fault
 log_failed P text (Log n) line memory h = line n h
 log_failed P text Memory line memory h = memory

@@ -5,8 +5,8 @@ use Rattle.m161_machine.specs.Conf.{is_within_limits}
 use Rattle.m161_machine.specs.History.{boot_fault}
 use Rattle.m161_steplog.specs.declared.verdict.Verdict.{Verdict}
 use Rattle.m161_steplog.specs.declared.verdict.Verdict.TheVariants.{Agrees, Differs}
-use Rattle.m161_text.specs.Lines.{FirstBad, with_line_end}
-use Rattle.m161_steplog.specs.Log.{AreLogLines, IsLog}
+use Rattle.m161_text.specs.Lines.{with_line_end}
+use Rattle.m161_steplog.specs.Comments.{IsFirstBadOfLog, IsLogFile}
 use Rattle.m161_text.specs.Parts.{◌␣◌}
 use Rattle.m161_steplog.specs.Verdict.{Verifies}
 use Rattle.s161_command.specs.declared.command.FilesTask.{FilesTask}
@@ -38,7 +38,7 @@ pub record IsReplayed
   pub is_file_of_entries : IfSome log (λ bytes. entries_text ≡ bytes)
   pub is_text : IsText entries_text
   pub entries : List Entry
-  pub is_log : IsLog entries_text entries
+  pub is_log : IsLogFile entries_text entries
   pub verdict : Verdict
   pub verifies : Verifies file (conf_of task.size) (boot_fault file (conf_of task.size)) entries (Ok verdict)
   pub text_is : text ≡ with_line_end (verdict_text verdict)
@@ -52,7 +52,7 @@ abbrev pub IsReplayFault : FilesTask → Option (List ℕ) → Option (List ℕ)
 IsReplayFault task image log (File name) =
     ((name.now ≡ task.image.now) × IsFileName task.image.now) ⊎ (name.now ≡ task.text.now)
 IsReplayFault task image log (Log n) =
-    OfText log (λ text. FirstBad AreLogLines text n)
+    OfText log (λ text. IsFirstBadOfLog text n)
 IsReplayFault task image log Conf = HasLog log × (is_within_limits (conf_of task.size) ≡ false)
 IsReplayFault task image log (Image e) =
     HasLog log × OfKnown image (λ file. boot_fault file (conf_of task.size) ≡ Some (Load e))

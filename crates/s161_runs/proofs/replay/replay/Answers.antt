@@ -1,7 +1,7 @@
 use Rattle.std.proofs.Common.{◌≡◌, List, ℕ, Option, IfSome, rules, subst, sym}
 use Rattle.std.proofs.lemmas.Result.{err_from_is_err_and}
 use Rattle.m161_machine.specs.declared.event.Entry.{Entry}
-use Rattle.m161_steplog.specs.Log.{IsLog}
+use Rattle.m161_steplog.specs.Comments.{IsLogFile}
 use Rattle.s161_runs.proofs.Failing.{log_failed, verify_failed}
 use Rattle.s161_base.specs.Texts.{HasLog}
 use Rattle.s161_runs.specs.Replays.{IsReplayFault}
@@ -18,7 +18,7 @@ returns-clause-ok g c =
     let P : List ℕ → Type 0 = λ file. IfSome image (λ bytes. file ≡ bytes) in
     let Q : Option (List ℕ) → Type 0 = λ log. IfSome log (λ bytes. c.as_str.result.now ≡ bytes) in
     let R : List ℕ → Type 0 = λ log. IfSome (g.F.FileSource.known c.read_image.new.files c.args.task.text.now) (λ bytes. log ≡ bytes) in
-    let S : List Entry → Type 0 = λ entries. IsLog c.as_str.result.now entries in
+    let S : List Entry → Type 0 = λ entries. IsLogFile c.as_str.result.now entries in
     record {
       file = c.deref.result.now;
       is_file = subst P (sym c.deref.ensures.value) c.in_ok-file.ensures.whole;
