@@ -55,7 +55,8 @@ pub fn schedule<'a, F: FileSource>(
 // The entries that the log keeps: all of the run's, where the size that is asked for is one that a
 // machine can have.
 fn log_for(asked: u32, events: u64) -> u32
-    ensures { result ≡ log_for asked events }
+    ensures value { result ≡ log_for asked events }
+    ensures room { 1 ≤ result → result ≤ 16_777_216 → events ≤ result }
 {
     if asked == 0 || asked > 16_777_216 {
         return asked;
