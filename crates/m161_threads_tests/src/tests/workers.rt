@@ -3,8 +3,8 @@
 
 ghost use Rattle.std.specs.Prelude.{◌≡◌, length};
 
-use super::listing::Left::{Count, Entries};
-use super::listing::{check_log, compare};
+use super::left::Left::{Count, Entries};
+use super::left::{check_log, compare};
 use super::same;
 use super::threads::{LOOP, Locked, boot, run_on};
 use m161::Machine;

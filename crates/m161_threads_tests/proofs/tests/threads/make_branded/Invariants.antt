@@ -1,4 +1,4 @@
-use Rattle.m161_tests.proofs.tests.threads.make_branded.Given as goal
+use Rattle.m161_threads_tests.proofs.tests.threads.make_branded.Given as goal
 
 abbrev pub ghosts-make_locked-L-Ledger : goal.ghosts-make_locked-L-Ledger
 ghosts-make_locked-L-Ledger g a = record { name = a.steps.name; parts = a.steps.parts }

@@ -1,4 +1,4 @@
-use Rattle.m161_tests.proofs.tests.bursts.burst_branded.Given as goal
+use Rattle.m161_threads_tests.proofs.tests.bursts.burst_branded.Given as goal
 
 abbrev pub ghosts-burst_in-L-Ledger : goal.ghosts-burst_in-L-Ledger
 ghosts-burst_in-L-Ledger g a = record { name = a.steps.name; parts = a.steps.parts }

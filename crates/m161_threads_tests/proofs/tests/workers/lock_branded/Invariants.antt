@@ -1,4 +1,4 @@
-use Rattle.m161_tests.proofs.tests.workers.lock_branded.Given as goal
+use Rattle.m161_threads_tests.proofs.tests.workers.lock_branded.Given as goal
 
 abbrev pub ghosts-lock_and_finish-L-Ledger : goal.ghosts-lock_and_finish-L-Ledger
 ghosts-lock_and_finish-L-Ledger g a = record { name = a.steps.name; parts = a.steps.parts }

@@ -3,8 +3,8 @@
 
 ghost use Rattle.std.specs.Prelude.{◌≡◌, length};
 
-use super::listing::Left::{Count, Entries, Memory, Output};
-use super::listing::{Left, check_log, compare, make};
+use super::left::Left::{Count, Entries, Memory, Output};
+use super::left::{Left, check_log, compare, make};
 use super::same;
 use m161::{Console, Machine, Tlb};
 use m161_machine::Event::{Done, Key, Step};
@@ -239,7 +239,7 @@ fn causes(rt: HostRuntime) {
 static FIRST_STEPS: [Times; 1] = [(Step(0), 11, RAN)];
 
 /// What the sample leaves where it has switched the machine off.
-static SAMPLE_LEFT: [(u32, Left); 1] = [(0, Memory(0x3010, 7))];
+static SAMPLE_LEFT: [(u32, Left); 1] = [(0, Memory(0x3010, Some(7)))];
 
 #[test]
 fn sample_in_threads(rt: HostRuntime) -> Result<(), Fail> {
@@ -251,7 +251,7 @@ fn sample_in_threads(rt: HostRuntime) -> Result<(), Fail> {
         log: 65_536,
     };
     let mut machine = Machine::boot(rt.alloc(), &file, conf)?;
-    make(&rt, name, &mut machine, &FIRST_STEPS)?;
+    make(&rt, name, &mut machine, &FIRST_STEPS);
     let gate = gate_but(NONE);
     match run(&rt, rt.alloc(), machine, &[2000, 2000], &gate) {
         Ok(report) => {

@@ -1,7 +1,7 @@
 //! Runs in threads whose workers meet: that they are started together, and work at the same time.
 
-use super::listing::Left::{Count, Entries};
-use super::listing::{check_log, compare};
+use super::left::Left::{Count, Entries};
+use super::left::{check_log, compare};
 use super::same;
 use super::threads::{LOOP, boot, run_on};
 use m161::Machine;

@@ -3,8 +3,8 @@
 
 ghost use Rattle.std.specs.Prelude.{◌≡◌, length};
 
-use super::listing::Left::{Count, Entries};
-use super::listing::{Left, check_log, compare};
+use super::left::Left::{Count, Entries};
+use super::left::{Left, check_log, compare};
 use super::same;
 use super::threads::{LOOP, Locked, POWER_OFF, boot};
 use super::window::{check_base, check_from, sent_and_dropped};
