@@ -9,7 +9,7 @@ use Rattle.m161_drive.specs.declared.run.Stop.TheVariants as drive
 use Rattle.m161_drive.specs.Drive.{Drives}
 use Rattle.m161_drive.specs.Policy.{Rules}
 use Rattle.s161_command.specs.declared.drive.Drive.{Drive}
-use Rattle.s161_command.specs.declared.command.DrivenTask.{DrivenTask}
+use Rattle.s161_command.specs.declared.task.DrivenTask.{DrivenTask}
 use Rattle.s161_runs.specs.declared.events.Stop.{Stop}
 use Rattle.s161_runs.specs.declared.events.Stop.TheVariants.{Off, End, Stuck, Refused}
 use Rattle.s161_runs.specs.Runs.{status_of, summary_text}

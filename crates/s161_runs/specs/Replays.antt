@@ -9,7 +9,7 @@ use Rattle.m161_text.specs.Lines.{with_line_end}
 use Rattle.m161_steplog.specs.Comments.{IsFirstBadOfLog, IsLogFile}
 use Rattle.m161_text.specs.Parts.{◌␣◌}
 use Rattle.m161_steplog.specs.Verdict.{Verifies}
-use Rattle.s161_command.specs.declared.command.FilesTask.{FilesTask}
+use Rattle.s161_command.specs.declared.task.FilesTask.{FilesTask}
 use Rattle.s161_base.specs.declared.fault.Fault.{Fault}
 use Rattle.s161_base.specs.declared.fault.Fault.TheVariants.{Conf, File, Image, Log, Memory}
 use Rattle.s161_base.specs.Known.{IsText, OfKnown, OfText}

@@ -14,7 +14,7 @@ use Rattle.m161_text.specs.Lines.{with_line_end, FirstBad, lines_of}
 use Rattle.m161_steplog.specs.Log.{log_text, tail_text}
 use Rattle.m161_text.specs.Parts.{◌␣◌}
 use Rattle.m161_steplog.specs.Schedule.{AreScheduleLines, IsSchedule}
-use Rattle.s161_command.specs.declared.command.RunTask.{RunTask}
+use Rattle.s161_command.specs.declared.task.RunTask.{RunTask}
 use Rattle.s161_runs.specs.declared.events.Stop.{Stop}
 use Rattle.s161_runs.specs.declared.events.Stop.TheVariants.{Off, End, Stuck, Refused}
 use Rattle.s161_base.specs.declared.fault.Fault.{Fault}

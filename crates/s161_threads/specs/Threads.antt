@@ -4,7 +4,7 @@ use Rattle.m161_machine.specs.Conf.{is_within_limits}
 use Rattle.m161_machine.specs.History.{History, boot_fault}
 use Rattle.m161_cause.specs.declared.cause.Cause.{Cause}
 use Rattle.m161_threads.specs.Runs.{Interleaves, IsOfRun, bad_call}
-use Rattle.s161_command.specs.declared.command.ThreadsTask.{ThreadsTask}
+use Rattle.s161_command.specs.declared.task.ThreadsTask.{ThreadsTask}
 use Rattle.s161_runs.specs.declared.events.Stop.{Stop}
 use Rattle.s161_runs.specs.declared.events.Stop.TheVariants.{End, Off}
 use Rattle.s161_base.specs.declared.fault.Fault.{Fault}

@@ -2,9 +2,8 @@ use Rattle.std.proofs.Common.{◌≡◌, ◌∙◌, ℕ, List, Bool, true, false
 use Rattle.std.specs.Prelude.{is_some, option_map, unwrap_or}
 use Rattle.std.specs.Str.Parse.{ParsesUnsigned}
 use Rattle.clap.specs.Words.{ReadsOne}
-use Rattle.s161_command.specs.Commands.{IsFlag}
 use Rattle.s161_command.specs.Drives.{IsLongNumberOf}
-use Rattle.s161_command.specs.Numbers.{IsNumberOf}
+use Rattle.s161_command.specs.Numbers.{IsNumberIf, IsNumberOf}
 
 -- What clap's getters answer, said of what is asked for.
 
@@ -32,10 +31,15 @@ long_number_of E G (Some t) None default n none value parses is =
     let error = value t refl in
     record { number = λ fits. absurd (parses t (Err error.0) error.1 fits); other = λ not. is }
 
-pub flag_of : (text : Option (List ℕ)) (flag : Bool) → (text ≡ None → flag ≡ false) → (text ≡ Some (codes "true") → flag ≡ true) →
-    (text ≡ Some (codes "false") → flag ≡ false) → IsFlag text flag
-flag_of None flag none on off = none refl
-flag_of (Some t) flag none on off = (λ is. on (ap (λ x. Some x) is), λ is. off (ap (λ x. Some x) is))
+-- the number that is read, if there is one
+pub number_if : (E : Type 0) (G : List ℕ → Result ℕ E → Type 0) (text : Option (List ℕ)) (read : Option ℕ) →
+    (text ≡ None → read ≡ None) → ((t : List ℕ) → text ≡ Some t → ReadsOne G t read) →
+    ((t : List ℕ) (x : Result ℕ E) → G t x → ParsesUnsigned 32 10 t x) → IsNumberIf text read
+number_if E G None read none value parses = none refl
+number_if E G (Some t) (Some v) none value parses = parses t (Ok v) (value t refl)
+number_if E G (Some t) None none value parses =
+    let error = value t refl in
+    parses t (Err error.0) error.1
 
 -- what has a text is given
 pub given_as : {A B : Type 0} (f : A → B) (o : Option A) → is_some o ≡ is_some (option_map f o)
