@@ -1,0 +1,21 @@
+/* Where a kernel's parts are. The loader puts a segment where its address in kseg0 says, and
+   fills with zeros up to its size in memory; it looks at nothing else of the file. */
+OUTPUT_ARCH(mips)
+ENTRY(start)
+PHDRS
+{
+    vectors PT_LOAD;
+    kernel PT_LOAD;
+}
+SECTIONS
+{
+    .vectors 0x80000000 : { *(.vectors) } :vectors
+    page_table = 0x80001000;
+    . = 0x80002000;
+    .text : { *(.text .text.*) } :kernel
+    .rodata : { *(.rodata .rodata.*) }
+    .data : { *(.data .data.*) }
+    .bss : { *(.bss .bss.* COMMON) }
+    end = .;
+    /DISCARD/ : { *(*) }
+}
