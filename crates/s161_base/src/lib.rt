@@ -2,9 +2,11 @@
 //! and standard input, the built-in sample, and the texts of schedules and logs.
 #![tactic(auto)]
 
+pub mod explained;
 pub mod fault;
 pub mod files;
 pub mod finished;
 pub mod input;
+mod line;
 pub mod sample;
 pub mod texts;

@@ -17,6 +17,7 @@ use Rattle.s161_base.specs.declared.fault.Fault.{Fault}
 use Rattle.s161_base.specs.declared.fault.Fault.TheVariants.{Conf, File, Image, Memory}
 use Rattle.s161_base.specs.Faults.{BootsTo}
 use Rattle.s161_base.specs.Known.{OfKnown}
+use Rattle.s161_base.specs.Reading.{IsFileUnread, IsOfBytes}
 use Rattle.s161_base.specs.Samples.{IsFileName}
 use Rattle.s161_base.specs.Sizes.{conf_of}
 
@@ -66,15 +67,15 @@ pub record IsDriven
 -- a fault is that of the file of the keys
 abbrev pub IsKeysFile : Option (Bor (List ℕ)) → Fault → Type 0
 IsKeysFile None fault = ⊥
-IsKeysFile (Some name) fault = fault ≡ File name
+IsKeysFile (Some name) fault = IsFileUnread name IsOfBytes fault
 
 -- what a fault that ends a driven run says of its inputs: of a file, that it is the image's or the
 -- keys'; of the configuration or the image, that the boot answers it. File and Memory hold whatever
 -- else is at fault
 abbrev pub IsDrivenFault : DrivenTask → Option (List ℕ) → Fault → Type 0
-IsDrivenFault task known (File name) =
-    ((name.now ≡ task.run.image.now) × IsFileName task.run.image.now)
-    ⊎ IsKeysFile task.drive.keys (File name)
+IsDrivenFault task known (File name why) =
+    ((name.now ≡ task.run.image.now) × IsFileName task.run.image.now × IsOfBytes why)
+    ⊎ IsKeysFile task.drive.keys (File name why)
 IsDrivenFault task known Conf = is_within_limits (conf_of task.run.size) ≡ false
 IsDrivenFault task known (Image e) =
     OfKnown known (λ file. boot_fault file (conf_of task.run.size) ≡ Some (Load e))

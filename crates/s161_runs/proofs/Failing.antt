@@ -11,7 +11,7 @@ use Rattle.s161_base.proofs.Failing.{HasFault, boot_fails}
 use Rattle.s161_base.specs.Faults.{fault_of_boot}
 use Rattle.s161_base.specs.Texts.{IsLogFault}
 use Rattle.s161_base.specs.declared.fault.Fault.{Fault}
-use Rattle.s161_base.specs.declared.fault.Fault.TheVariants.{Conf, File, Image, Input, Log, Memory, Output, Schedule, Source, Threads, Watch, Watches}
+use Rattle.s161_base.specs.declared.fault.Fault.TheVariants.{Conf, File, Image, Input, Log, LogImage, LogMachine, Memory, Output, Schedule, Source, Threads, Watch, Watches, Word}
 
 -- Why a replay ends early: `P` is what is said of its fault.
 
@@ -20,14 +20,17 @@ pub log_failed : (P : Fault → Type 0) (text : List ℕ) (fault : Fault) → ((
     IsLogFault text fault → P fault
 log_failed P text (Log n) line memory h = line n h
 log_failed P text Memory line memory h = memory
-log_failed P text (File name) line memory h = absurd h
+log_failed P text (File name why) line memory h = absurd h
 log_failed P text (Schedule n) line memory h = absurd h
 log_failed P text (Watches n) line memory h = absurd h
 log_failed P text (Watch k) line memory h = absurd h
 log_failed P text (Threads cause) line memory h = absurd h
 log_failed P text Conf line memory h = absurd h
 log_failed P text (Image e) line memory h = absurd h
-log_failed P text Input line memory h = absurd h
+log_failed P text (Input why) line memory h = absurd h
+log_failed P text Word line memory h = absurd h
+log_failed P text LogMachine line memory h = absurd h
+log_failed P text LogImage line memory h = absurd h
 log_failed P text Output line memory h = absurd h
 log_failed P text (Source e) line memory h = absurd h
 

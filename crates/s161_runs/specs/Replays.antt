@@ -13,6 +13,7 @@ use Rattle.s161_command.specs.declared.task.FilesTask.{FilesTask}
 use Rattle.s161_base.specs.declared.fault.Fault.{Fault}
 use Rattle.s161_base.specs.declared.fault.Fault.TheVariants.{Conf, File, Image, Log, Memory}
 use Rattle.s161_base.specs.Known.{IsText, OfKnown, OfText}
+use Rattle.s161_base.specs.Reading.{IsOfBytes, IsOfText}
 use Rattle.s161_base.specs.Samples.{IsFileName}
 use Rattle.s161_base.specs.Sizes.{conf_of}
 use Rattle.s161_base.specs.Texts.{HasLog}
@@ -46,11 +47,12 @@ pub record IsReplayed
 
 -- what a fault that ends a replay says of its inputs: of a file, that it is the image's or the
 -- log's; of the log, its first bad line; of the configuration or the image, that the log had no
--- fault. Nothing is said of reading: File and Memory hold whatever else is at fault. The order in
--- which files are read is tested: the image's, then the log's
+-- fault. File and Memory hold whatever else is at fault. The order in which files are read is tested:
+-- the image's, then the log's
 abbrev pub IsReplayFault : FilesTask → Option (List ℕ) → Option (List ℕ) → Fault → Type 0
-IsReplayFault task image log (File name) =
-    ((name.now ≡ task.image.now) × IsFileName task.image.now) ⊎ (name.now ≡ task.text.now)
+IsReplayFault task image log (File name why) =
+    ((name.now ≡ task.image.now) × IsFileName task.image.now × IsOfBytes why)
+    ⊎ ((name.now ≡ task.text.now) × IsOfText log why)
 IsReplayFault task image log (Log n) =
     OfText log (λ text. IsFirstBadOfLog text n)
 IsReplayFault task image log Conf = HasLog log × (is_within_limits (conf_of task.size) ≡ false)

@@ -21,6 +21,7 @@ use Rattle.s161_base.specs.declared.fault.Fault.{Fault}
 use Rattle.s161_base.specs.declared.fault.Fault.TheVariants.{Conf, File, Image, Input, Memory, Schedule}
 use Rattle.s161_base.specs.Faults.{BootsTo}
 use Rattle.s161_base.specs.Known.{IsText, OfKnown, OfText}
+use Rattle.s161_base.specs.Reading.{IsOfBytes, IsOfText}
 use Rattle.s161_base.specs.Samples.{IsFileName}
 use Rattle.s161_base.specs.Sizes.{conf_of}
 use Rattle.s161_base.specs.Texts.{HasSchedule}
@@ -122,12 +123,12 @@ pub record IsRun
 
 -- what a fault that ends a run says of its inputs: of a file, that it is the image's; of the
 -- schedule, its first bad line; of the configuration or the image, that the schedule had no fault.
--- Nothing is said of reading: File, Input and Memory hold whatever else is at fault. The order in
--- which inputs are read is tested: the image's file, then standard input
+-- File, Input and Memory hold whatever else is at fault. The order in which inputs are read is
+-- tested: the image's file, then standard input
 abbrev pub IsFaultOf : RunTask → Option (List ℕ) → Option (List ℕ) → Fault → Type 0
-IsFaultOf task known input (File name) =
-    (name.now ≡ task.image.now) × IsFileName task.image.now
-IsFaultOf task known input Input = Unit {0}
+IsFaultOf task known input (File name why) =
+    (name.now ≡ task.image.now) × IsFileName task.image.now × IsOfBytes why
+IsFaultOf task known input (Input why) = IsOfText input why
 IsFaultOf task known input (Schedule n) =
     OfText input (λ text. FirstBad AreScheduleLines text n)
 IsFaultOf task known input Conf = HasSchedule input × (is_within_limits (conf_of task.size) ≡ false)

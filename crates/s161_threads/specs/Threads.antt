@@ -12,6 +12,7 @@ use Rattle.s161_base.specs.declared.fault.Fault.TheVariants.{Conf, File, Image, 
 use Rattle.s161_runs.specs.Runs.{status_of, summary_text}
 use Rattle.s161_base.specs.Faults.{BootsTo}
 use Rattle.s161_base.specs.Known.{OfKnown}
+use Rattle.s161_base.specs.Reading.{IsOfBytes}
 use Rattle.s161_base.specs.Samples.{IsFileName}
 use Rattle.s161_base.specs.Sizes.{conf_of}
 
@@ -47,8 +48,8 @@ IsCause None cause = IsOfRun cause
 -- configuration or the image, that the boot answers it; of the threads, that the image has no fault,
 -- and when the cause comes. File and Memory hold whatever else is at fault
 abbrev pub IsThreadsFault : ThreadsTask → Option (List ℕ) → Fault → Type 0
-IsThreadsFault task known (File name) =
-    (name.now ≡ task.run.image.now) × IsFileName task.run.image.now
+IsThreadsFault task known (File name why) =
+    (name.now ≡ task.run.image.now) × IsFileName task.run.image.now × IsOfBytes why
 IsThreadsFault task known Conf = is_within_limits (conf_of task.run.size) ≡ false
 IsThreadsFault task known (Image e) =
     OfKnown known (λ file. boot_fault file (conf_of task.run.size) ≡ Some (Load e))
