@@ -14,7 +14,7 @@ use Rattle.m161_audit.specs.WatchText.{AreWatchLines, AreWatches}
 use Rattle.m161_text.specs.Lines.{with_line_end, FirstBad, lines_of}
 use Rattle.m161_text.specs.Parts.{◌␣◌, word_text}
 use Rattle.m161_steplog.specs.Schedule.{AreScheduleLines, IsSchedule}
-use Rattle.s161_command.specs.declared.command.FilesTask.{FilesTask}
+use Rattle.s161_command.specs.declared.task.FilesTask.{FilesTask}
 use Rattle.s161_base.specs.declared.fault.Fault.{Fault}
 use Rattle.s161_base.specs.declared.fault.Fault.TheVariants.{Conf, File, Image, Input, Memory, Schedule, Watch, Watches}
 use Rattle.s161_base.specs.Known.{IsText, OfKnown, OfText}

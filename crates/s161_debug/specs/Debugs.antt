@@ -10,7 +10,7 @@ use Rattle.m161_debug.specs.declared.command.CommandError.{CommandError}
 use Rattle.m161_debug.specs.Breakpoints.{SessionState}
 use Rattle.m161_debug.specs.Commands.{name_of_error}
 use Rattle.m161_debug.specs.Obeys.{Commands}
-use Rattle.s161_command.specs.declared.command.FilesTask.{FilesTask}
+use Rattle.s161_command.specs.declared.task.FilesTask.{FilesTask}
 use Rattle.s161_base.specs.declared.fault.Fault.{Fault}
 use Rattle.s161_base.specs.declared.fault.Fault.TheVariants.{Conf, File, Image, Input, Memory, Schedule}
 use Rattle.s161_base.specs.Texts.{HasSchedule}

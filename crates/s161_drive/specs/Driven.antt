@@ -9,7 +9,7 @@ use Rattle.m161_drive.specs.declared.run.Stop.TheVariants as drive
 use Rattle.m161_drive.specs.Drive.{Drives}
 use Rattle.m161_drive.specs.Policy.{Rules}
 use Rattle.s161_command.specs.declared.drive.Drive.{Drive}
-use Rattle.s161_command.specs.declared.command.DrivenTask.{DrivenTask}
+use Rattle.s161_command.specs.declared.task.DrivenTask.{DrivenTask}
 use Rattle.s161_runs.specs.declared.events.Stop.{Stop}
 use Rattle.s161_runs.specs.declared.events.Stop.TheVariants.{Off, End, Stuck, Refused}
 use Rattle.s161_runs.specs.Runs.{status_of, summary_text}
@@ -61,7 +61,7 @@ pub record IsDriven
   pub driven : Driven
   pub machine : History
   pub drives : Drives (rules_of task.drive keys) task.drive.events booted driven machine
-  pub text_is : text ≡ summary_text machine (stop_of driven) task.run.show_log
+  pub text_is : text ≡ summary_text machine file (stop_of driven) task.run.shown
   pub status_is : status ≡ status_of (stop_of driven)
 
 -- a fault is that of the file of the keys

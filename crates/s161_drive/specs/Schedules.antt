@@ -10,7 +10,7 @@ use Rattle.m161_drive.specs.declared.run.Stop.TheVariants as drive
 use Rattle.m161_drive.specs.Drive.{Drives}
 use Rattle.m161_drive.specs.Policy.{Rules}
 use Rattle.m161_steplog.specs.Written.{schedule_text}
-use Rattle.s161_command.specs.declared.command.ScheduleTask.{ScheduleTask}
+use Rattle.s161_command.specs.declared.task.ScheduleTask.{ScheduleTask}
 use Rattle.s161_base.specs.declared.fault.Fault.{Fault}
 use Rattle.s161_base.specs.declared.fault.Fault.TheVariants.{Conf, File, Image, Memory}
 use Rattle.s161_base.specs.Faults.{BootsTo}

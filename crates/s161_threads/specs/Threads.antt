@@ -4,7 +4,7 @@ use Rattle.m161_machine.specs.Conf.{is_within_limits}
 use Rattle.m161_machine.specs.History.{History, boot_fault}
 use Rattle.m161_cause.specs.declared.cause.Cause.{Cause}
 use Rattle.m161_threads.specs.Runs.{Interleaves, IsOfRun, bad_call}
-use Rattle.s161_command.specs.declared.command.ThreadsTask.{ThreadsTask}
+use Rattle.s161_command.specs.declared.task.ThreadsTask.{ThreadsTask}
 use Rattle.s161_runs.specs.declared.events.Stop.{Stop}
 use Rattle.s161_runs.specs.declared.events.Stop.TheVariants.{End, Off}
 use Rattle.s161_base.specs.declared.fault.Fault.{Fault}
@@ -36,7 +36,7 @@ pub record IsRunInThreads
   pub machine : History
   pub interleaves :
       Interleaves booted (replicate task.run.size.processors task.quota) made off machine
-  pub text_is : text ≡ summary_text machine (stop_of off) task.run.show_log
+  pub text_is : text ≡ summary_text machine file (stop_of off) task.run.shown
   pub status_is : status ≡ status_of (stop_of off)
 
 -- the cause of a run that doesn't begin for this reason; or of one that began
