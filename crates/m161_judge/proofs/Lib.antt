@@ -1,0 +1,9 @@
+mod Running
+mod Seeing
+mod Judging
+mod Choosing
+mod Finding
+mod Booting
+mod Driven
+mod Walking
+mod Unique
