@@ -7,3 +7,4 @@ mod Booting
 mod Driven
 mod Walking
 mod Unique
+mod Cutting
