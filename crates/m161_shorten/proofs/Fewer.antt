@@ -1,13 +1,12 @@
-use Rattle.std.proofs.Common.{◌≡◌, ◌∙◌, refl, sym, ap, subst, ℕ, zero, suc, ◌+◌, ◌≤◌, ◌<◌, Bool, true, false, cond, eqb, eqb-true, eq-eqb, List, [], ◌∷◌, ◌++◌, length, take, drop, replicate, length-append, arith}
-use Rattle.std.proofs.lemmas.Bool.{eqb-false}
+use Rattle.std.proofs.Common.{◌≡◌, ◌∙◌, refl, sym, ap, subst, ℕ, zero, suc, ◌+◌, ◌≤◌, Bool, true, false, cond, eqb, eq-eqb, List, [], ◌∷◌, ◌++◌, length, take, drop, length-append, arith}
 use Rattle.std.proofs.lemmas.List.{length-replicate, take-append-drop}
 use Rattle.std.specs.List.{AllByRecursion}
 use Rattle.m161_machine.specs.declared.event.Event.{Event}
 use Rattle.m161_machine.specs.declared.event.Event.TheVariants as events
-use Rattle.m161_shorten.specs.Blocks.{Block, Steps, Other, step_before, blocks, events_in, steps, block_events}
+use Rattle.m161_shorten.specs.Blocks.{Block, Steps, Other, step_before, blocks, events_in, steps}
 use Rattle.m161_shorten.specs.Trials.{joins, joins_first, trials}
 use Rattle.m161_shorten.specs.helpers.Ranges.{leading}
-use Rattle.m161_shorten.proofs.Blocks.{by_test, onto, beside, blocks_step, events_in_append, events_in_blocks}
+use Rattle.m161_shorten.proofs.Blocks.{by_test, blocks_step, events_in_append, events_in_blocks}
 
 -- How many blocks and events lists have.
 

@@ -1,14 +1,14 @@
-use Rattle.std.proofs.Common.{◌≡◌, ◌∙◌, ◌⊎◌, inl, inr, refl, sym, ap, subst, ℕ, zero, suc, ◌+◌, ◌-◌, ◌*◌, ◌<◌, ◌≤◌, Bool, true, false, cond, eqb, ltb, eqb-true, eq-eqb, List, [], ◌∷◌, length, take, arith}
+use Rattle.std.proofs.Common.{◌≡◌, ◌∙◌, ◌⊎◌, inl, inr, refl, sym, ap, subst, ℕ, zero, suc, ◌+◌, ◌-◌, ◌*◌, ◌<◌, ◌≤◌, Bool, true, false, cond, eqb, ltb, List, [], ◌∷◌, length, take, arith}
 use Rattle.std.proofs.Math.Nat.{mul-le-mul_right, suc-mul}
 use Rattle.std.proofs.lemmas.Bool.{eqb-false, ltb-true}
 use Rattle.std.proofs.lemmas.List.{length-take}
-use Rattle.std.specs.Prelude.{Option, None, Some, min, nat_lt, ◌==◌}
+use Rattle.std.specs.Prelude.{Option, None, Some}
 use Rattle.std.specs.List.{AllByRecursion}
 use Rattle.m161_machine.specs.declared.event.Event.{Event}
 use Rattle.m161_shorten.specs.Blocks.{blocks}
 use Rattle.m161_shorten.specs.Trials.{trials}
 use Rattle.m161_shorten.specs.Law.{EndsWithOne}
-use Rattle.m161_shorten.specs.Passes.{GoesOn, Place, Shortens, first_place, after_block, after_trials, taken_of, next_place, taken_or}
+use Rattle.m161_shorten.specs.Passes.{GoesOn, Place, first_place, after_block, after_trials, taken_of, next_place, taken_or}
 use Rattle.m161_shorten.specs.Verdicts.{KeepsCut, NeedsAll, needs_by}
 use Rattle.m161_shorten.specs.declared.judged.Judged.{Judged}
 use Rattle.m161_shorten.specs.helpers.Tries.{Moves}

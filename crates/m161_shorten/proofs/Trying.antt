@@ -1,4 +1,4 @@
-use Rattle.std.proofs.Common.{◌≡◌, ◌∙◌, ◌⊎◌, inl, inr, refl, sym, ap, subst, ℕ, zero, suc, ◌+◌, ◌<◌, ◌≤◌, Bool, true, false, List, [], ◌∷◌, take, arith}
+use Rattle.std.proofs.Common.{◌≡◌, ◌⊎◌, inl, inr, sym, ap, subst, ℕ, zero, suc, ◌<◌, Bool, true, false, List, [], ◌∷◌, take, arith}
 use Rattle.std.specs.Prelude.{Option, None, Some}
 use Rattle.m161_machine.specs.declared.event.Event.{Event}
 use Rattle.m161_shorten.specs.declared.trial.Tried.{Tried}

@@ -1,8 +1,7 @@
 use Rattle.std.proofs.Common.{◌≡◌, ◌≤◌, ◌∙◌, suc, length, List, ap, subst, sym}
-use Rattle.std.specs.Prelude.{Some}
 use Rattle.m161_machine.specs.declared.event.Event.{Event}
 use Rattle.m161_shorten.specs.Blocks.{blocks}
-use Rattle.m161_shorten.specs.Passes.{Place, first_place, next_place}
+use Rattle.m161_shorten.specs.Passes.{Place, first_place}
 use Rattle.m161_shorten.specs.Verdicts.{NeedsAll, needs_by}
 use Rattle.m161_shorten.proofs.Measures.{all_needed, all_shorter, goes_more, lighter, moved_on, stays_there, turns}
 use Rattle.m161_shorten.proofs.passes.shorten.Goals as goal

@@ -1,4 +1,4 @@
-use Rattle.std.proofs.Common.{◌≡◌, ◌∙◌, sym, drop}
+use Rattle.std.proofs.Common.{◌∙◌, sym, drop}
 use Rattle.m161_shorten.specs.helpers.Ranges.{find_step}
 use Rattle.m161_shorten.proofs.Finding.{before_none, before_some}
 use Rattle.m161_shorten.proofs.Pairs.{begins_step, pair_none, pair_some}

@@ -1,4 +1,4 @@
-use Rattle.std.proofs.Common.{◌≡◌, ◌∙◌, ◌+◌, ◌-◌, ap, sym}
+use Rattle.std.proofs.Common.{◌∙◌, ◌+◌, ◌-◌, ap, sym}
 use Rattle.m161_shorten.specs.Verdicts.{needs_by}
 use Rattle.m161_shorten.specs.helpers.Ranges.{swapped}
 use Rattle.m161_shorten.proofs.Swaps.{swapped_back}

@@ -1,4 +1,4 @@
-use Rattle.std.proofs.Common.{◌≡◌, ◌<◌, length, arith, ap, subst, sym, ◌∙◌}
+use Rattle.std.proofs.Common.{◌<◌, length, arith, ap, subst, sym, ◌∙◌}
 use Rattle.m161_shorten.specs.Passes.{Place}
 use Rattle.m161_shorten.specs.Blocks.{blocks}
 use Rattle.m161_shorten.proofs.Starts.{blocks_few, start_next}
