@@ -5,7 +5,6 @@
 //! processors.
 
 mod audit;
-mod bursts;
 mod bus;
 mod cop0;
 mod dis;
@@ -14,16 +13,12 @@ mod fetches;
 mod instructions;
 mod listing;
 mod machine;
-mod meeting;
 mod processors;
 mod programs;
 mod sample;
 mod steplog;
-mod threads;
 mod tlb;
 mod traps;
-mod window;
-mod workers;
 
 use std::fmt::Debug;
 use std::process::Abort;

@@ -14,7 +14,7 @@ use Rattle.m161_audit.specs.WatchText.{AreWatchLines}
 use Rattle.m161_text.specs.Lines.{FirstBad}
 use Rattle.s161_base.proofs.Failing.{HasFault, boot_fails}
 use Rattle.s161_base.specs.declared.fault.Fault.{Fault}
-use Rattle.s161_base.specs.declared.fault.Fault.TheVariants.{Conf, File, Image, Input, Log, Memory, Output, Schedule, Source, Threads, Watch, Watches}
+use Rattle.s161_base.specs.declared.fault.Fault.TheVariants.{Conf, File, Image, Input, Log, LogImage, LogMachine, Memory, Output, Schedule, Source, Threads, Watch, Watches, Word}
 use Rattle.s161_audit.specs.Audits.{fault_of_audit, IsWatchesFault}
 
 -- Why an audit ends early: `P` is what is said of its fault.
@@ -24,14 +24,17 @@ pub watches_failed : (P : Fault → Type 0) (text : List ℕ) (fault : Fault) �
     IsWatchesFault text fault → P fault
 watches_failed P text (Watches n) line memory h = line n h
 watches_failed P text Memory line memory h = memory
-watches_failed P text (File name) line memory h = absurd h
+watches_failed P text (File name why) line memory h = absurd h
 watches_failed P text (Schedule n) line memory h = absurd h
 watches_failed P text (Log n) line memory h = absurd h
 watches_failed P text (Watch k) line memory h = absurd h
 watches_failed P text (Threads cause) line memory h = absurd h
 watches_failed P text Conf line memory h = absurd h
 watches_failed P text (Image e) line memory h = absurd h
-watches_failed P text Input line memory h = absurd h
+watches_failed P text (Input why) line memory h = absurd h
+watches_failed P text Word line memory h = absurd h
+watches_failed P text LogMachine line memory h = absurd h
+watches_failed P text LogImage line memory h = absurd h
 watches_failed P text Output line memory h = absurd h
 watches_failed P text (Source e) line memory h = absurd h
 

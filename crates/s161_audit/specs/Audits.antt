@@ -14,10 +14,11 @@ use Rattle.m161_audit.specs.WatchText.{AreWatchLines, AreWatches}
 use Rattle.m161_text.specs.Lines.{with_line_end, FirstBad, lines_of}
 use Rattle.m161_text.specs.Parts.{◌␣◌, word_text}
 use Rattle.m161_steplog.specs.Schedule.{AreScheduleLines, IsSchedule}
-use Rattle.s161_command.specs.declared.command.FilesTask.{FilesTask}
+use Rattle.s161_command.specs.declared.task.FilesTask.{FilesTask}
 use Rattle.s161_base.specs.declared.fault.Fault.{Fault}
 use Rattle.s161_base.specs.declared.fault.Fault.TheVariants.{Conf, File, Image, Input, Memory, Schedule, Watch, Watches}
 use Rattle.s161_base.specs.Known.{IsText, OfKnown, OfText}
+use Rattle.s161_base.specs.Reading.{IsOfBytes, IsOfText}
 use Rattle.s161_base.specs.Faults.{fault_of_boot}
 use Rattle.s161_base.specs.Texts.{HasSchedule}
 use Rattle.s161_base.specs.Samples.{IsFileName}
@@ -78,14 +79,15 @@ HasWatches watches = OfWatches watches (λ watched. Unit {0})
 
 -- what a fault that ends an audit says of its inputs: of a file, that it is the image's or the
 -- watches'; of the watches or the schedule, its first bad line; of the configuration, the image or a
--- watch, that the watches and the schedule had no fault. Nothing is said of reading: File, Input and
--- Memory hold whatever else is at fault. The order in which inputs are read is tested: the image's
--- file, the watches' file, then standard input
+-- watch, that the watches and the schedule had no fault. File, Input and Memory hold whatever else is
+-- at fault. The order in which inputs are read is tested: the image's file, the watches' file, then
+-- standard input
 abbrev pub IsAuditFault :
     FilesTask → Option (List ℕ) → Option (List ℕ) → Option (List ℕ) → Fault → Type 0
-IsAuditFault task image watches input (File name) =
-    ((name.now ≡ task.image.now) × IsFileName task.image.now) ⊎ (name.now ≡ task.text.now)
-IsAuditFault task image watches input Input = Unit {0}
+IsAuditFault task image watches input (File name why) =
+    ((name.now ≡ task.image.now) × IsFileName task.image.now × IsOfBytes why)
+    ⊎ ((name.now ≡ task.text.now) × IsOfText watches why)
+IsAuditFault task image watches input (Input why) = IsOfText input why
 IsAuditFault task image watches input Memory = Unit {0}
 IsAuditFault task image watches input (Watches n) =
     OfText watches (λ text. FirstBad AreWatchLines text n)

@@ -10,7 +10,7 @@ use Rattle.m161_steplog.specs.Schedule.{AreScheduleLines}
 use Rattle.s161_base.specs.Faults.{fault_of_boot}
 use Rattle.s161_base.specs.Texts.{IsScheduleFault}
 use Rattle.s161_base.specs.declared.fault.Fault.{Fault}
-use Rattle.s161_base.specs.declared.fault.Fault.TheVariants.{Conf, File, Image, Input, Log, Memory, Output, Schedule, Source, Threads, Watch, Watches}
+use Rattle.s161_base.specs.declared.fault.Fault.TheVariants.{Conf, File, Image, Input, Log, LogImage, LogMachine, Memory, Output, Schedule, Source, Threads, Watch, Watches, Word}
 
 -- Why a command ends early: `P` is what is said of its fault.
 
@@ -19,14 +19,17 @@ pub schedule_failed : (P : Fault → Type 0) (text : List ℕ) (fault : Fault) �
     IsScheduleFault text fault → P fault
 schedule_failed P text (Schedule n) line memory h = line n h
 schedule_failed P text Memory line memory h = memory
-schedule_failed P text (File name) line memory h = absurd h
+schedule_failed P text (File name why) line memory h = absurd h
 schedule_failed P text (Log n) line memory h = absurd h
 schedule_failed P text (Watches n) line memory h = absurd h
 schedule_failed P text (Watch k) line memory h = absurd h
 schedule_failed P text (Threads cause) line memory h = absurd h
 schedule_failed P text Conf line memory h = absurd h
 schedule_failed P text (Image e) line memory h = absurd h
-schedule_failed P text Input line memory h = absurd h
+schedule_failed P text (Input why) line memory h = absurd h
+schedule_failed P text Word line memory h = absurd h
+schedule_failed P text LogMachine line memory h = absurd h
+schedule_failed P text LogImage line memory h = absurd h
 schedule_failed P text Output line memory h = absurd h
 schedule_failed P text (Source e) line memory h = absurd h
 

@@ -1,5 +1,9 @@
+pub mod Explained
+pub mod FaultLines
 pub mod Faults
 pub mod Known
+pub mod Machines
+pub mod Reading
 pub mod Samples
 pub mod Sizes
 pub mod Texts

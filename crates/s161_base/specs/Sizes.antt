@@ -1,5 +1,5 @@
 use Rattle.m161_machine.specs.declared.conf.Conf.{Conf}
-use Rattle.s161_command.specs.declared.command.Size.{Size}
+use Rattle.s161_command.specs.declared.task.Size.{Size}
 
 -- The machine of a command line.
 

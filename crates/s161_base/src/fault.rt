@@ -9,48 +9,55 @@ use m161_cause::Cause;
 use m161_elf::LoadError;
 use m161_machine::BootError;
 use std::alloc::AllocError;
-use thiserror::Error;
+use std::error::Error;
+
+/// Why a file or standard input isn't read.
+#[derive(Clone, Copy, Debug, PartialEq, Eq)]
+pub enum Unread {
+    /// It can't be read.
+    Failed,
+    /// It has more than 402,653,184 bytes, or hasn't ended after that number of read calls.
+    TooLong,
+    /// It is a text, and its bytes aren't UTF-8.
+    NotUtf8,
+}
 
 /// Why a command ends early; its text is the line on standard error.
-#[derive(Clone, Copy, Debug, Error)]
+#[derive(Clone, Copy, Debug)]
 pub enum Fault<'a> {
-    /// The file of this name can't be read, or its text isn't UTF-8.
-    #[error("s161: file {0}")]
-    File(&'a str),
+    /// The file of this name isn't read.
+    File(&'a str, Unread),
     /// This line of a schedule, from 1, is bad.
-    #[error("s161: schedule line {0}")]
     Schedule(u64),
     /// This line of a log, from 1, is bad.
-    #[error("s161: log line {0}")]
     Log(u64),
+    /// What is asked for isn't the machine that a log names.
+    LogMachine,
+    /// The image isn't the one that a log names.
+    LogImage,
     /// This line of a text of watches, from 1, is bad.
-    #[error("s161: watches line {0}")]
     Watches(u64),
     /// This watch, from 0, is the first that can't be watched.
-    #[error("s161: watch {0}")]
     Watch(usize),
     /// The machine's size is outside the limits.
-    #[error("s161: conf")]
     Conf,
     /// The image can't be loaded.
-    #[error("s161: image {} {}", .0.number(), .0.name())]
     Image(LoadError),
     /// The text can't be assembled.
-    #[error("s161: source {}:{} {} {}", .0.line, .0.column, .0.kind.number(), .0.kind.name())]
     Source(AsmError),
     /// A run in threads has no report.
-    #[error("s161: threads {}", .0.name())]
     Threads(Cause),
     /// Memory was refused.
-    #[error("s161: memory")]
     Memory,
-    /// Standard input or a word of the command line can't be read, or isn't UTF-8.
-    #[error("s161: input")]
-    Input,
+    /// Standard input isn't read.
+    Input(Unread),
+    /// A word of the command line isn't UTF-8.
+    Word,
     /// Standard output failed.
-    #[error("s161: output")]
     Output,
 }
+
+impl Error for Fault<'_> {}
 
 impl<'a> From<AllocError> for Fault<'a> {
     ghost from_gives = { λ _ fault. fault ≡ Memory };

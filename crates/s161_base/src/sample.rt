@@ -1,6 +1,7 @@
 //! The built-in sample kernel.
 
 ghost use Rattle.std.specs.Prelude.{◌≡◌, ◌⊎◌, ℕ, List, IfErr, IfOk, IfSome};
+ghost use Rattle.s161_base.specs.Reading.{IsFileUnread, IsOfBytes};
 ghost use Rattle.s161_base.specs.Samples.{image_file, sample_file, IsFileName};
 ghost use Rattle.s161_base.specs.helpers.Samples.{IsSample};
 
@@ -151,7 +152,7 @@ pub fn read_image<'a, F: FileSource>(
         (λ known. file.items ≡ known)) }
     ensures still { (other : List ℕ) → F.known files.new other ≡ F.known files.old other }
     ensures err { IfErr result (λ fault. (fault ≡ Fault.Memory)
-        ⊎ ((fault ≡ Fault.File name.entry) × IsFileName name.entry.now)) }
+        ⊎ (IsFileUnread name.entry IsOfBytes fault × IsFileName name.entry.now)) }
 {
     if name == NAME {
         sample_image(alloc)

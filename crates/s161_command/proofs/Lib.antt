@@ -1,3 +1,3 @@
 mod Accepting
-mod Asked
+mod Reading
 mod Defining

@@ -1,4 +1,4 @@
-use Rattle.std.specs.Prelude.{◌≡◌, ◌≢◌, ◌⊎◌, ℕ, ◌<◌, Bool, true, false, List, [], ◌∷◌, Option, None, Some, IfSome, IsSomeAnd, codes, pos, unwrap_or}
+use Rattle.std.specs.Prelude.{◌≡◌, ◌≢◌, ◌⊎◌, ℕ, ◌<◌, true, false, if◌then◌else◌, List, [], ◌∷◌, Option, None, Some, IfSome, IsSomeAnd, bytes_eq, codes, option_map, pos, unwrap_or}
 use Rattle.clap.specs.Words.{App, HasKind, Row, Rule, Text, fault_of, first_of, kind_of, new_app, new_rule, one_of, subcommand_of, with_rule, with_subcommand}
 use Rattle.clap.specs.Simple.{new_shape, on_top}
 use Rattle.clap.specs.declared.builder.action.ArgAction.TheVariants.{SetTrue}
@@ -7,18 +7,25 @@ use Rattle.clap.specs.declared.error.kind.ErrorKind.{ErrorKind}
 use Rattle.clap.specs.declared.error.kind.ErrorKind.TheVariants.{DisplayHelp, DisplayVersion, OutOfMemory}
 use Rattle.m161_order.specs.Order.{order_fault}
 use Rattle.s161_command.specs.declared.drive.Clash.{Clash}
-use Rattle.s161_command.specs.declared.command.DrivenTask.{DrivenTask}
-use Rattle.s161_command.specs.declared.command.FilesTask.{FilesTask}
-use Rattle.s161_command.specs.declared.command.Rejection.{Rejection}
-use Rattle.s161_command.specs.declared.command.Rejection.TheVariants.{Words, Options}
-use Rattle.s161_command.specs.declared.command.RunTask.{RunTask}
-use Rattle.s161_command.specs.declared.command.ScheduleTask.{ScheduleTask}
-use Rattle.s161_command.specs.declared.command.Size.{Size}
-use Rattle.s161_command.specs.declared.command.ThreadsTask.{ThreadsTask}
-use Rattle.s161_command.specs.declared.command.Task.{Task}
-use Rattle.s161_command.specs.declared.command.Task.TheVariants.{Assemble, Audit, Debug, Demo, Disassemble, Replay, Run, RunDriven, RunInThreads, Schedule}
-use Rattle.s161_command.specs.Drives.{AsksDrive, Clashes, go_together, has_order, optional_rule, with_order_rules, with_pace_rules}
-use Rattle.s161_command.specs.Numbers.{IsNumberOf}
+use Rattle.s161_command.specs.declared.drive.OrderUse.{OrderUse}
+use Rattle.s161_command.specs.declared.drive.OrderUse.TheVariants.{Optional, Needed, Assumed, Seeded}
+use Rattle.s161_command.specs.declared.task.ConsoleTask.{ConsoleTask}
+use Rattle.s161_command.specs.declared.task.DrivenTask.{DrivenTask}
+use Rattle.s161_command.specs.declared.task.FilesTask.{FilesTask}
+use Rattle.s161_command.specs.declared.task.Rejection.{Rejection}
+use Rattle.s161_command.specs.declared.task.Rejection.TheVariants.{Words, Options}
+use Rattle.s161_command.specs.declared.task.ReplayTask.{ReplayTask}
+use Rattle.s161_command.specs.declared.task.RunTask.{RunTask}
+use Rattle.s161_command.specs.declared.task.ScheduleTask.{ScheduleTask}
+use Rattle.s161_command.specs.declared.task.SearchTask.{SearchTask}
+use Rattle.s161_command.specs.declared.task.Shown.{Shown}
+use Rattle.s161_command.specs.declared.task.Shown.TheVariants.{Summary, SummaryAndLog, Log}
+use Rattle.s161_command.specs.declared.task.Size.{Size}
+use Rattle.s161_command.specs.declared.task.ThreadsTask.{ThreadsTask}
+use Rattle.s161_command.specs.declared.task.Task.{Task}
+use Rattle.s161_command.specs.declared.task.Task.TheVariants.{Assemble, Audit, Console, Debug, Demo, Disassemble, Replay, Run, RunDriven, RunInThreads, Schedule, Search}
+use Rattle.s161_command.specs.Drives.{AsksDrive, Clashes, go_together, has_order, long_rule, optional_rule, text_rule, with_console_pace_rules, with_order_rules, with_pace_rules, with_priority_rules}
+use Rattle.s161_command.specs.Numbers.{IsNumberIf, IsNumberOf, is_set}
 
 -- The command line, in clap's own words.
 
@@ -35,9 +42,9 @@ number_rule name default = record (new_rule name) {
 abbrev pub file_rule : Text → Rule
 file_rule name = record (new_rule name) { value_names = 1; required = true }
 
-abbrev pub show_log_rule : Rule
-show_log_rule =
-    record (new_rule (codes "show-log")) { long = Some (codes "show-log"); action = Some SetTrue }
+-- an option without a value
+abbrev pub flag_rule : Text → Rule
+flag_rule name = record (new_rule name) { long = Some name; action = Some SetTrue }
 
 -- a number of Steps for each thread, at most 1,000,000
 abbrev pub threads_rule : Rule
@@ -55,6 +62,14 @@ with_size_rules log command =
     (number_rule (codes "cpus") (codes "1")))
     (number_rule (codes "log") log)
 
+-- the same without defaults but the log's: what isn't given is a log's own
+abbrev pub with_asked_size_rules : Text → App → App
+with_asked_size_rules log command =
+    with_rule (with_rule (with_rule command
+    (optional_rule (codes "ram") 0 4_294_967_295))
+    (optional_rule (codes "cpus") 0 4_294_967_295))
+    (number_rule (codes "log") log)
+
 -- a command that takes an image
 abbrev pub on_image : Text → App
 on_image name = with_rule (new_app name) (file_rule (codes "image"))
@@ -62,15 +77,41 @@ on_image name = with_rule (new_app name) (file_rule (codes "image"))
 -- the arguments of `run`, without those of an order: an image and options
 abbrev pub plain_run_line : App
 plain_run_line =
-    with_rule (with_rule (with_rule
+    with_rule (with_rule (with_rule (with_rule
     (with_size_rules (codes "65536") (on_image (codes "run")))
-    show_log_rule)
+    (flag_rule (codes "show-log")))
+    (flag_rule (codes "only-log")))
     threads_rule)
     burst_rule
 
 -- the arguments of `run`; a driven run has at most as many events as any run
 abbrev pub run_line : App
 run_line = with_pace_rules 9_223_372_036_854_775_807 (with_order_rules plain_run_line)
+
+-- the arguments of `console`: an image and options
+abbrev pub console_line : App
+console_line =
+    with_console_pace_rules 9_223_372_036_854_775_807 (with_order_rules
+    (with_size_rules (codes "65536") (on_image (codes "console"))))
+
+-- how many seeds are tried, which is required
+abbrev pub seeds_rule : Rule
+seeds_rule = record (optional_rule (codes "seeds") 1 4_294_967_295) { required = true }
+
+-- the arguments of `search`, without those of a driven run: an image and options
+abbrev pub plain_search_line : App
+plain_search_line =
+    with_rule (with_rule (with_rule (with_rule (with_rule
+    (with_size_rules (codes "65536") (on_image (codes "search")))
+    seeds_rule)
+    (long_rule (codes "from") 0 18_446_744_073_709_551_615))
+    (text_rule (codes "watches")))
+    (text_rule (codes "output")))
+    (flag_rule (codes "whole"))
+
+-- the arguments of `search`; a schedule has at most 16,777,216 events
+abbrev pub search_line : App
+search_line = with_pace_rules 16_777_216 (with_priority_rules plain_search_line)
 
 -- the arguments of `schedule`: an image and options; a schedule has at most 16,777,216 events
 abbrev pub schedule_line : App
@@ -84,7 +125,9 @@ files_line name text log = with_size_rules log (with_rule (on_image name) (file_
 
 -- the arguments of `replay`: an image, a log and options
 abbrev pub replay_line : App
-replay_line = files_line (codes "replay") (codes "entries") (codes "65536")
+replay_line =
+    with_asked_size_rules (codes "65536")
+    (with_rule (on_image (codes "replay")) (file_rule (codes "entries")))
 
 -- the arguments of `debug`: an image, a schedule and options
 abbrev pub debug_line : App
@@ -112,10 +155,12 @@ program_line =
 -- the program with all commands
 abbrev pub command_line : App
 command_line =
-    with_subcommand (with_subcommand (with_subcommand (with_subcommand
-    (with_subcommand (with_subcommand (with_subcommand program_line
+    with_subcommand (with_subcommand (with_subcommand (with_subcommand (with_subcommand
+    (with_subcommand (with_subcommand (with_subcommand (with_subcommand program_line
     run_line.top)
+    console_line.top)
     schedule_line.top)
+    search_line.top)
     replay_line.top)
     debug_line.top)
     audit_line.top)
@@ -130,11 +175,6 @@ IsAccepted words = fault_of command_line words ≡ []
 abbrev pub IsHelp : ErrorKind → Type 0
 IsHelp kind = (kind ≡ DisplayHelp) ⊎ (kind ≡ DisplayVersion)
 
-abbrev pub IsFlag : Option Text → Bool → Type 0
-IsFlag None flag = flag ≡ false
-IsFlag (Some text) flag =
-    (text ≡ codes "true" → flag ≡ true) × (text ≡ codes "false" → flag ≡ false)
-
 -- the first text that is given for an argument
 abbrev pub given_of : Text → List Row → Text
 given_of name rows = unwrap_or (first_of name rows) []
@@ -146,11 +186,17 @@ pub record IsSize (kept : ℕ) (rows : List Row) (size : Size) : Type 0 where
   pub cpus : IsNumberOf 1 (one_of (codes "cpus") rows) size.processors
   pub log : IsNumberOf kept (one_of (codes "log") rows) size.log
 
+-- what `run` is asked to print
+abbrev pub shown_of : List Row → Shown
+shown_of rows =
+    if is_set (codes "only-log") rows then Log
+    else if is_set (codes "show-log") rows then SummaryAndLog else Summary
+
 -- `run` asks for this
 pub record AsksRun (rows : List Row) (task : RunTask) : Type 0 where
   pub image : task.image.now ≡ given_of (codes "image") rows
   pub size : IsSize 65_536 rows task.size
-  pub show_log : IsFlag (one_of (codes "show-log") rows) task.show_log
+  pub shown : task.shown ≡ shown_of rows
 
 -- `run` asks for this in threads: each of them makes some Steps
 pub record AsksThreads (rows : List Row) (task : ThreadsTask) : Type 0 where
@@ -162,7 +208,7 @@ pub record AsksThreads (rows : List Row) (task : ThreadsTask) : Type 0 where
 -- `run` asks for this driven run
 pub record AsksDriven (rows : List Row) (task : DrivenTask) : Type 0 where
   pub run : AsksRun rows task.run
-  pub drive : AsksDrive rows task.drive
+  pub drive : AsksDrive Optional rows task.drive
 
 -- `run` asks for this: a driven run if an order is given, else a run under a schedule, or one in
 -- threads if their number of Steps isn't 0
@@ -179,7 +225,31 @@ pub record AsksSchedule (rows : List Row) (task : ScheduleTask) : Type 0 where
   pub order : has_order rows ≡ true
   pub image : task.image.now ≡ given_of (codes "image") rows
   pub size : IsSize 65_536 rows task.size
-  pub drive : AsksDrive rows task.drive
+  pub drive : AsksDrive Needed rows task.drive
+
+-- `console` asks for this driven run
+pub record AsksConsole (rows : List Row) (task : ConsoleTask) : Type 0 where
+  pub image : task.image.now ≡ given_of (codes "image") rows
+  pub size : IsSize 65_536 rows task.size
+  pub drive : AsksDrive Assumed rows task.drive
+
+-- `search` asks for these driven runs
+pub record AsksSearch (rows : List Row) (task : SearchTask) : Type 0 where
+  pub image : task.image.now ≡ given_of (codes "image") rows
+  pub size : IsSize 65_536 rows task.size
+  pub drive : AsksDrive Seeded rows task.drive
+  pub seeds : IsNumberOf 1 (one_of (codes "seeds") rows) task.seeds
+  pub watches : option_map (λ name. name.now) task.watches ≡ first_of (codes "watches") rows
+  pub output : option_map (λ name. name.now) task.output ≡ first_of (codes "output") rows
+  pub whole : task.whole ≡ is_set (codes "whole") rows
+
+-- `replay` asks for this
+pub record AsksReplay (rows : List Row) (task : ReplayTask) : Type 0 where
+  pub image : task.image.now ≡ given_of (codes "image") rows
+  pub text : task.text.now ≡ given_of (codes "entries") rows
+  pub ram : IsNumberIf (one_of (codes "ram") rows) task.size.ram
+  pub cpus : IsNumberIf (one_of (codes "cpus") rows) task.size.processors
+  pub log : IsNumberOf 65_536 (one_of (codes "log") rows) task.size.log
 
 -- a command over an image and a text of this name asks for this; how many entries the log keeps has
 -- this default
@@ -191,8 +261,9 @@ pub record AsksFiles (name : Text) (log : ℕ) (rows : List Row) (task : FilesTa
 -- the words that ask for another task than the demo
 abbrev pub IsOther : Text → Type 0
 IsOther word =
-    (word ≡ codes "run") ⊎ (word ≡ codes "schedule") ⊎ (word ≡ codes "replay")
-    ⊎ (word ≡ codes "debug") ⊎ (word ≡ codes "audit") ⊎ (word ≡ codes "as") ⊎ (word ≡ codes "dis")
+    (word ≡ codes "run") ⊎ (word ≡ codes "console") ⊎ (word ≡ codes "schedule")
+    ⊎ (word ≡ codes "search") ⊎ (word ≡ codes "replay") ⊎ (word ≡ codes "debug")
+    ⊎ (word ≡ codes "audit") ⊎ (word ≡ codes "as") ⊎ (word ≡ codes "dis")
 
 -- a command, with its arguments, asks for this
 abbrev pub IsTask : Option (Text × List Row) → Task → Type 0
@@ -205,9 +276,12 @@ IsTask command (RunDriven task) =
     IsSomeAnd command (λ given. (given.0 ≡ codes "run") × IsRunTask given.1 (RunDriven task))
 IsTask command (Schedule task) =
     IsSomeAnd command (λ given. (given.0 ≡ codes "schedule") × AsksSchedule given.1 task)
+IsTask command (Console task) =
+    IsSomeAnd command (λ given. (given.0 ≡ codes "console") × AsksConsole given.1 task)
+IsTask command (Search task) =
+    IsSomeAnd command (λ given. (given.0 ≡ codes "search") × AsksSearch given.1 task)
 IsTask command (Replay task) =
-    IsSomeAnd command
-    (λ given. (given.0 ≡ codes "replay") × AsksFiles (codes "entries") 65_536 given.1 task)
+    IsSomeAnd command (λ given. (given.0 ≡ codes "replay") × AsksReplay given.1 task)
 IsTask command (Debug task) =
     IsSomeAnd command
     (λ given. (given.0 ≡ codes "debug") × AsksFiles (codes "schedule") 65_536 given.1 task)
@@ -219,24 +293,32 @@ IsTask command (Disassemble image) =
     IsSomeAnd command
     (λ given. (given.0 ≡ codes "dis") × (image.now ≡ given_of (codes "image") given.1))
 
+-- how a command takes an order, if it is one that may be driven
+abbrev pub order_use : Text → Option OrderUse
+order_use word =
+    if bytes_eq word (codes "run") then Some Optional
+    else if bytes_eq word (codes "schedule") then Some Needed
+    else if bytes_eq word (codes "console") then Some Assumed
+    else if bytes_eq word (codes "search") then Some Seeded else None
+
 -- the options of a command go together
 abbrev pub GoTogether : Option (Text × List Row) → Type 0
 GoTogether command =
     IfSome command (λ given.
-    (given.0 ≡ codes "run" → go_together false given.1 ≡ true)
-    × (given.0 ≡ codes "schedule" → go_together true given.1 ≡ true))
+    IfSome (order_use given.0) (λ orders. go_together orders given.1 ≡ true))
 
 -- the options of a command can't be followed: why
 abbrev pub ClashesIn : Option (Text × List Row) → Clash → Type 0
 ClashesIn command clash =
     IsSomeAnd command (λ given.
-    ((given.0 ≡ codes "run") × Clashes false given.1 clash)
-    ⊎ ((given.0 ≡ codes "schedule") × Clashes true given.1 clash))
+    IsSomeAnd (order_use given.0) (λ orders. Clashes orders given.1 clash))
 
 -- the numbers of a task's order are within their limits
 abbrev pub HasLimits : Task → Type 0
 HasLimits (RunDriven task) = order_fault task.drive.order ≡ None
 HasLimits (Schedule task) = order_fault task.drive.order ≡ None
+HasLimits (Console task) = order_fault task.drive.order ≡ None
+HasLimits (Search task) = order_fault task.drive.order ≡ None
 HasLimits _ = Unit {0}
 
 -- a command line isn't followed: clap finds a fault of this kind; or it finds none, and the options

@@ -6,11 +6,13 @@ use Rattle.m161_order.specs.declared.order.Order.{Order}
 use Rattle.m161_order.specs.declared.order.Order.TheVariants.{Turns, Random, Priorities}
 use Rattle.m161_order.specs.Order.{order_fault}
 use Rattle.s161_command.specs.declared.drive.Clash.{Clash}
-use Rattle.s161_command.specs.declared.drive.Clash.TheVariants.{TwoOrders, HalfPriorities, ChangesWithoutSeed, NoOrder, PaceWithoutOrder, OrderInThreads, BadOrder, BadGap}
+use Rattle.s161_command.specs.declared.drive.Clash.TheVariants.{TwoOrders, HalfPriorities, ChangesWithoutSeed, NoOrder, PaceWithoutOrder, OrderInThreads, LogTwice, BadOrder, BadGap}
+use Rattle.s161_command.specs.declared.drive.OrderUse.{OrderUse}
+use Rattle.s161_command.specs.declared.drive.OrderUse.TheVariants.{Optional, Needed, Assumed, Seeded}
 use Rattle.s161_command.specs.declared.drive.Drive.{Drive}
-use Rattle.s161_command.specs.Numbers.{IsNumber, IsNumberOf}
+use Rattle.s161_command.specs.Numbers.{IsNumber, IsNumberOf, is_set}
 
--- The options of a driven run: which of them go together, and what they ask for.
+-- The options of a driven run, and which options go together.
 
 -- an option `--name N`, a number of 32 bits from low to high; its absence counts, so it has no
 -- default in clap
@@ -31,14 +33,19 @@ long_rule name low high =
 abbrev pub text_rule : Text → Rule
 text_rule name = record (new_rule name) { long = Some name; value_names = 1 }
 
+-- a command, with the options of an order by priorities added
+abbrev pub with_priority_rules : App → App
+with_priority_rules command =
+    with_rule (with_rule command
+    (optional_rule (codes "changes") 0 64))
+    (optional_rule (codes "within") 1 16_777_216)
+
 -- a command, with the options of an order added
 abbrev pub with_order_rules : App → App
 with_order_rules command =
-    with_rule (with_rule (with_rule (with_rule command
+    with_priority_rules (with_rule (with_rule command
     (optional_rule (codes "turns") 1 1_000_000))
     (long_rule (codes "random") 0 18_446_744_073_709_551_615))
-    (optional_rule (codes "changes") 0 64))
-    (optional_rule (codes "within") 1 16_777_216)
 
 -- a command, with the options added that say how long a driven run is, when bytes are sent, and
 -- which keys are typed, and when
@@ -48,6 +55,14 @@ with_pace_rules most command =
     (long_rule (codes "events") 1 most))
     (optional_rule (codes "transfer") 0 4_294_967_295))
     (text_rule (codes "keys")))
+    (text_rule (codes "gap"))
+
+-- the same without a file of keys
+abbrev pub with_console_pace_rules : ℕ → App → App
+with_console_pace_rules most command =
+    with_rule (with_rule (with_rule command
+    (long_rule (codes "events") 1 most))
+    (optional_rule (codes "transfer") 0 4_294_967_295))
     (text_rule (codes "gap"))
 
 -- an option without a default is given
@@ -72,23 +87,43 @@ half_priorities rows =
     (is_given (codes "changes") rows && not (is_given (codes "within") rows))
     || (is_given (codes "within") rows && not (is_given (codes "changes") rows))
 
-abbrev pub changes_without_seed : List Row → Bool
-changes_without_seed rows =
-    is_given (codes "changes") rows && not (is_given (codes "random") rows)
+-- priorities have a seed
+abbrev pub has_seed : OrderUse → List Row → Bool
+has_seed Seeded rows = true
+has_seed _ rows = is_given (codes "random") rows
 
-abbrev pub pace_without_order : List Row → Bool
-pace_without_order rows = has_pace rows && not (has_order rows)
+-- the run is a driven one
+abbrev pub is_driven : OrderUse → List Row → Bool
+is_driven Optional rows = has_order rows
+is_driven Needed rows = has_order rows
+is_driven Assumed rows = true
+is_driven Seeded rows = true
+
+abbrev pub changes_without_seed : OrderUse → List Row → Bool
+changes_without_seed orders rows =
+    is_given (codes "changes") rows && not (has_seed orders rows)
+
+abbrev pub lacks_order : OrderUse → List Row → Bool
+lacks_order Needed rows = not (has_order rows)
+lacks_order _ rows = false
+
+abbrev pub pace_without_order : OrderUse → List Row → Bool
+pace_without_order orders rows = has_pace rows && not (is_driven orders rows)
 
 abbrev pub order_in_threads : List Row → Bool
 order_in_threads rows =
     has_order rows && (is_given (codes "threads") rows || is_given (codes "burst") rows)
 
--- options go together; an order is needed, or not
-abbrev pub go_together : Bool → List Row → Bool
-go_together needed rows =
-    not (two_orders rows) && not (half_priorities rows) && not (changes_without_seed rows)
-    && (has_order rows || not needed) && not (pace_without_order rows)
-    && not (order_in_threads rows)
+-- both ways to print the log are asked for
+abbrev pub shows_log_twice : List Row → Bool
+shows_log_twice rows = is_set (codes "show-log") rows && is_set (codes "only-log") rows
+
+-- options go together
+abbrev pub go_together : OrderUse → List Row → Bool
+go_together orders rows =
+    not (two_orders rows) && not (half_priorities rows) && not (changes_without_seed orders rows)
+    && not (lacks_order orders rows) && not (pace_without_order orders rows)
+    && not (order_in_threads rows) && not (shows_log_twice rows)
 
 -- a number of 64 bits in decimal digits, optionally after a plus
 abbrev pub IsLongNumber : Text → Type 0
@@ -105,46 +140,76 @@ abbrev pub IsLongNumberOf : ℕ → Option Text → ℕ → Type 0
 IsLongNumberOf default None n = n ≡ default
 IsLongNumberOf default (Some text) n = HasLongNumber default text n
 
--- the options ask for this order
-abbrev pub IsOrder : List Row → Order → Type 0
-IsOrder rows (Turns steps) =
-    (is_given (codes "turns") rows ≡ true) × IsNumberOf 1 (one_of (codes "turns") rows) steps
-IsOrder rows (Random seed) =
-    (is_given (codes "turns") rows ≡ false) × (is_given (codes "changes") rows ≡ false)
-    × IsLongNumberOf 0 (one_of (codes "random") rows) seed
-IsOrder rows (Priorities seed changes within) =
-    (is_given (codes "turns") rows ≡ false) × (is_given (codes "changes") rows ≡ true)
-    × IsLongNumberOf 0 (one_of (codes "random") rows) seed
+-- the options ask for this order, with the seed of this option
+abbrev pub IsSeeded : Text → List Row → Order → Type 0
+IsSeeded name rows (Turns steps) = ⊥
+IsSeeded name rows (Random seed) =
+    (is_given (codes "changes") rows ≡ false) × IsLongNumberOf 0 (one_of name rows) seed
+IsSeeded name rows (Priorities seed changes within) =
+    (is_given (codes "changes") rows ≡ true)
+    × IsLongNumberOf 0 (one_of name rows) seed
     × IsNumberOf 0 (one_of (codes "changes") rows) changes
     × IsNumberOf 1 (one_of (codes "within") rows) within
 
--- `--gap none`, or a number
-abbrev pub IsGap : Option Text → Option ℕ → Type 0
-IsGap None gap = gap ≡ Some 1_000
-IsGap (Some text) None = text ≡ codes "none"
-IsGap (Some text) (Some n) =
+-- the options ask for this order, by `--turns` or `--random`
+abbrev pub IsGivenOrder : List Row → Order → Type 0
+IsGivenOrder rows (Turns steps) =
+    (is_given (codes "turns") rows ≡ true) × IsNumberOf 1 (one_of (codes "turns") rows) steps
+IsGivenOrder rows order =
+    (is_given (codes "turns") rows ≡ false) × IsSeeded (codes "random") rows order
+
+-- turns of one Step where no order is given
+abbrev pub IsGivenOrTurns : Bool → List Row → Order → Type 0
+IsGivenOrTurns true rows order = IsGivenOrder rows order
+IsGivenOrTurns false rows order = order ≡ Turns 1
+
+-- the order of a driven run
+abbrev pub IsOrder : OrderUse → List Row → Order → Type 0
+IsOrder Optional rows order = IsGivenOrder rows order
+IsOrder Needed rows order = IsGivenOrder rows order
+IsOrder Assumed rows order = IsGivenOrTurns (has_order rows) rows order
+IsOrder Seeded rows order = IsSeeded (codes "from") rows order
+
+-- `--gap none`, or a number, or the default
+abbrev pub IsGap : Option ℕ → Option Text → Option ℕ → Type 0
+IsGap default None gap = gap ≡ default
+IsGap default (Some text) None = text ≡ codes "none"
+IsGap default (Some text) (Some n) =
     (text ≢ codes "none") × IsNumber text × (n ≡ digits_value 10 (without_leading_plus text))
 
 abbrev pub IsBadGap : Option Text → Type 0
 IsBadGap None = ⊥
 IsBadGap (Some text) = (text ≢ codes "none") × ¬ IsNumber text
 
+-- the most events where their number isn't given; `console` has no limit that a run could reach
+abbrev pub events_by_default : OrderUse → ℕ
+events_by_default Optional = 1_000_000
+events_by_default Needed = 1_000_000
+events_by_default Assumed = 18_446_744_073_709_551_615
+events_by_default Seeded = 100_000
+
+abbrev pub gap_by_default : OrderUse → Option ℕ
+gap_by_default Assumed = None
+gap_by_default _ = Some 1_000
+
 -- the options of a driven run ask for this
-pub record AsksDrive (rows : List Row) (drive : Drive) : Type 0 where
-  pub order : IsOrder rows drive.order
+pub record AsksDrive (orders : OrderUse) (rows : List Row) (drive : Drive) : Type 0 where
+  pub order : IsOrder orders rows drive.order
   pub limits : order_fault drive.order ≡ None
-  pub events : IsLongNumberOf 1_000_000 (one_of (codes "events") rows) drive.events
+  pub events : IsLongNumberOf (events_by_default orders) (one_of (codes "events") rows) drive.events
   pub transfer : IsNumberOf 100 (one_of (codes "transfer") rows) drive.transfer
-  pub gap : IsGap (first_of (codes "gap") rows) drive.gap
+  pub gap : IsGap (gap_by_default orders) (first_of (codes "gap") rows) drive.gap
   pub keys : option_map (λ name. name.now) drive.keys ≡ first_of (codes "keys") rows
 
--- options that clap takes, and that can't be followed: why. An order is needed, or not
-abbrev pub Clashes : Bool → List Row → Clash → Type 0
-Clashes needed rows TwoOrders = two_orders rows ≡ true
-Clashes needed rows HalfPriorities = half_priorities rows ≡ true
-Clashes needed rows ChangesWithoutSeed = changes_without_seed rows ≡ true
-Clashes needed rows NoOrder = (needed ≡ true) × (has_order rows ≡ false)
-Clashes needed rows PaceWithoutOrder = pace_without_order rows ≡ true
-Clashes needed rows OrderInThreads = order_in_threads rows ≡ true
-Clashes needed rows (BadOrder e) = (order : Order) × IsOrder rows order × (order_fault order ≡ Some e)
-Clashes needed rows BadGap = IsBadGap (first_of (codes "gap") rows)
+-- options that clap takes, and that can't be followed: why
+abbrev pub Clashes : OrderUse → List Row → Clash → Type 0
+Clashes orders rows TwoOrders = two_orders rows ≡ true
+Clashes orders rows HalfPriorities = half_priorities rows ≡ true
+Clashes orders rows ChangesWithoutSeed = changes_without_seed orders rows ≡ true
+Clashes orders rows NoOrder = lacks_order orders rows ≡ true
+Clashes orders rows PaceWithoutOrder = pace_without_order orders rows ≡ true
+Clashes orders rows OrderInThreads = order_in_threads rows ≡ true
+Clashes orders rows (BadOrder e) =
+    (order : Order) × IsOrder orders rows order × (order_fault order ≡ Some e)
+Clashes orders rows BadGap = IsBadGap (first_of (codes "gap") rows)
+Clashes orders rows LogTwice = shows_log_twice rows ≡ true

@@ -1,121 +1,29 @@
-//! The command line.
+//! The command line: its definition for clap, and its task.
 
-ghost use Rattle.std.specs.Prelude.{◌≡◌, ◌≢◌, [], IfErr, IfOk, codes, false, map, true, unwrap_or};
-ghost use Rattle.clap.specs.Words.{HasKind, app_of, fault_of, first_of, found_of, kind_of, one_of, rows_of, rule_of, subcommand_of, subcommand_rows_of, with_rule, with_subcommand};
+ghost use Rattle.std.specs.Prelude.{◌≡◌, ◌≢◌, IfErr, IfOk, codes, false, map};
+ghost use Rattle.clap.specs.Words.{HasKind, app_of, fault_of, kind_of, rule_of, subcommand_of, subcommand_rows_of, with_rule, with_subcommand};
 ghost use Rattle.clap.specs.declared.error.kind.ErrorKind.TheVariants.{OutOfMemory};
-ghost use Rattle.s161_command.specs.Commands.{AsksFiles, AsksRun, AsksSchedule, ClashesIn, GoTogether, HasLimits, IsAccepted, IsRejected, IsRunTask, IsSize, IsTask, as_line, audit_line, burst_rule, command_line, debug_line, dis_line, file_rule, files_line, number_rule, plain_run_line, program_line, replay_line, run_line, schedule_line, show_log_rule, threads_rule, with_size_rules};
-ghost use Rattle.s161_command.specs.Drives.{Clashes, go_together, has_order};
+ghost use Rattle.s161_command.specs.Commands.{GoTogether, HasLimits, IsAccepted, IsRejected, IsTask, as_line, audit_line, burst_rule, command_line, console_line, debug_line, dis_line, file_rule, files_line, flag_rule, number_rule, on_image, plain_run_line, plain_search_line, program_line, replay_line, run_line, schedule_line, search_line, seeds_rule, threads_rule, with_asked_size_rules, with_size_rules};
+ghost use Rattle.s161_command.specs.Drives.{long_rule, optional_rule, text_rule};
 ghost use Rattle.s161_command.specs.helpers.Commands.{IsLocal};
 
+use crate::asked::task_of;
 use crate::drive::{
-    Clash, Drive, clash_of, drive_given, has_order, optional_number, with_order, with_pace,
+    optional_long, optional_number, text_option, with_console_pace, with_order, with_pace,
+    with_priorities,
 };
-use crate::given::{file_given, number_given, show_log_given};
 use crate::help::{
-    AFTER_AS_HELP, AFTER_AUDIT_HELP, AFTER_DEBUG_HELP, AFTER_DIS_HELP, AFTER_HELP,
-    AFTER_REPLAY_HELP, AFTER_RUN_HELP, AFTER_SCHEDULE_HELP, IMAGE_HELP,
+    AFTER_AS_HELP, AFTER_AUDIT_HELP, AFTER_CONSOLE_HELP, AFTER_DEBUG_HELP, AFTER_DIS_HELP,
+    AFTER_HELP, AFTER_REPLAY_HELP, AFTER_RUN_HELP, AFTER_SCHEDULE_HELP, AFTER_SEARCH_HELP,
+    IMAGE_HELP,
 };
+use crate::task::{Rejection, Task};
 use clap::{Arg, ArgAction, ArgMatches, Command, Error, value_parser};
 use std::alloc::{AllocError, Global};
 use std::convert::AsStr;
 
-/// The task of a command line.
-#[derive(Clone, Copy)]
-pub enum Task<'a> {
-    /// Run the built-in image.
-    Demo,
-    /// Run an image under a schedule.
-    Run(RunTask<'a>),
-    /// Run an image in threads.
-    RunInThreads(ThreadsTask<'a>),
-    /// Run an image by a policy.
-    RunDriven(DrivenTask<'a>),
-    /// Print the events that a policy chooses, as a schedule.
-    Schedule(ScheduleTask<'a>),
-    /// Replay an image against a log.
-    Replay(FilesTask<'a>),
-    /// Debug an image under a schedule.
-    Debug(FilesTask<'a>),
-    /// Look for stale uses of an image's run under a schedule, by the watches of a text.
-    Audit(FilesTask<'a>),
-    /// Assemble a text into its file.
-    Assemble,
-    /// List the instructions of the image of this name.
-    Disassemble(&'a str),
-}
-
-/// The size of the machine that is asked for.
-#[derive(Clone, Copy)]
-pub struct Size {
-    /// Bytes of RAM.
-    pub ram: u32,
-    /// Processors.
-    pub processors: u32,
-    /// Entries that the log keeps.
-    pub log: u32,
-}
-
-/// The arguments of `run`.
-#[derive(Clone, Copy)]
-pub struct RunTask<'a> {
-    /// The image's name.
-    pub image: &'a str,
-    /// The machine's size.
-    pub size: Size,
-    /// Whether the log is shown.
-    pub show_log: bool,
-}
-
-/// The arguments of `run` in threads.
-#[derive(Clone, Copy)]
-pub struct ThreadsTask<'a> {
-    /// Those of any run.
-    pub run: RunTask<'a>,
-    /// How many Steps each thread makes.
-    pub quota: u32,
-    /// How many of them it makes at most before another thread may go on.
-    pub burst: u32,
-}
-
-/// The arguments of `run` by a policy.
-#[derive(Clone, Copy)]
-pub struct DrivenTask<'a> {
-    /// Those of any run.
-    pub run: RunTask<'a>,
-    /// What the driven run is asked for.
-    pub drive: Drive<'a>,
-}
-
-/// The arguments of `schedule`.
-#[derive(Clone, Copy)]
-pub struct ScheduleTask<'a> {
-    /// The image's name.
-    pub image: &'a str,
-    /// The machine's size.
-    pub size: Size,
-    /// What the driven run is asked for.
-    pub drive: Drive<'a>,
-}
-
-/// Why the words of a command line have no task.
-#[derive(Drop)]
-pub enum Rejection {
-    /// clap doesn't take them.
-    Words(Error),
-    /// clap takes them, and their options can't be followed.
-    Options(Clash),
-}
-
-/// The arguments of a command over an image and a text.
-#[derive(Clone, Copy)]
-pub struct FilesTask<'a> {
-    /// The image's name.
-    pub image: &'a str,
-    /// The name of the text's file.
-    pub text: &'a str,
-    /// The machine's size.
-    pub size: Size,
-}
+// The help of `--log`.
+const LOG_HELP: &str = "Entries that the log keeps, the last ones, 1 to 16777216";
 
 /// What `--version` tells.
 const VERSION: &str = "1.0";
@@ -144,14 +52,14 @@ fn file_argument<'a>(alloc: Global, name: &'a str, shown: &'a str, help: &'a str
         .required(true)
 }
 
-// The option of `run` that shows the log.
-fn show_log_option<'a>(alloc: Global) -> Arg<'a>
-    ensures rule { rule_of result ≡ show_log_rule }
+// An option without a value.
+fn flag_option<'a>(alloc: Global, name: &'a str, help: &'a str) -> Arg<'a>
+    ensures rule { rule_of result ≡ flag_rule name.entry.now }
     ensures local { result.global ≡ false }
 {
-    Arg::new(alloc, "show-log")
-        .long("show-log")
-        .help("Prints the log too")
+    Arg::new(alloc, name)
+        .long(name)
+        .help(help)
         .action(ArgAction::SetTrue)
 }
 
@@ -185,11 +93,29 @@ fn with_size<'a>(
     ensures local { IsLocal command.entry → IfOk result IsLocal }
 {
     let ram_help = "Bytes of RAM, 4096 to 16777216 in pages of 4096";
-    let log_help = "Entries that the log keeps, the last ones, 1 to 16777216";
     command
         .arg(number_option(alloc, "ram", ram_help, "1048576"))?
         .arg(number_option(alloc, "cpus", "Processors, 1 to 32", "1"))?
-        .arg(number_option(alloc, "log", log_help, log))
+        .arg(number_option(alloc, "log", LOG_HELP, log))
+}
+
+// The same without defaults but the log's: what isn't given is a log's own.
+fn with_asked_size<'a>(
+    alloc: Global,
+    command: Command<'a>,
+    log: &'a str,
+) -> Result<Command<'a>, AllocError>
+    ensures shape { IsLocal command.entry → IfOk result (λ more.
+        app_of more ≡ with_asked_size_rules log.entry.now (app_of command.entry)) }
+    ensures local { IsLocal command.entry → IfOk result IsLocal }
+{
+    let ram_help =
+        "Bytes of RAM, 4096 to 16777216 in pages of 4096; the log's own where it is left out";
+    let cpus_help = "Processors, 1 to 32; the log's own where it is left out";
+    command
+        .arg(optional_number(alloc, "ram", "N", ram_help, 0, u32::MAX))?
+        .arg(optional_number(alloc, "cpus", "N", cpus_help, 0, u32::MAX))?
+        .arg(number_option(alloc, "log", LOG_HELP, log))
 }
 
 // The arguments of a command over an image and a text: the text's argument, and the log's default.
@@ -221,7 +147,8 @@ fn plain_run_definition<'a>(alloc: Global) -> Result<Command<'a>, AllocError>
         .after_help(AFTER_RUN_HELP)
         .arg(file_argument(alloc, "image", "IMAGE", IMAGE_HELP))?;
     with_size(alloc, run, "65536")?
-        .arg(show_log_option(alloc))?
+        .arg(flag_option(alloc, "show-log", "Prints the log too"))?
+        .arg(flag_option(alloc, "only-log", "Prints the log alone"))?
         .arg(threads_option(alloc))?
         .arg(burst_option(alloc))
 }
@@ -233,6 +160,61 @@ fn run_definition<'a>(alloc: Global) -> Result<Command<'a>, AllocError>
 {
     let run = plain_run_definition(alloc)?;
     with_pace(alloc, with_order(alloc, run)?, 9_223_372_036_854_775_807)
+}
+
+// The definition of `console`.
+fn console_definition<'a>(alloc: Global) -> Result<Command<'a>, AllocError>
+    ensures shape { IfOk result (λ command. app_of command ≡ console_line) }
+    ensures local { IfOk result IsLocal }
+{
+    let console = Command::new(alloc, "console")
+        .about("Runs a kernel at the terminal: its console is standard input and output")
+        .after_help(AFTER_CONSOLE_HELP)
+        .arg(file_argument(alloc, "image", "IMAGE", IMAGE_HELP))?;
+    let console = with_size(alloc, console, "65536")?;
+    with_console_pace(
+        alloc,
+        with_order(alloc, console)?,
+        9_223_372_036_854_775_807,
+    )
+}
+
+// The option of `search` that says how many seeds are tried.
+fn seeds_option<'a>(alloc: Global) -> Arg<'a>
+    ensures rule { rule_of result ≡ seeds_rule }
+    ensures local { result.global ≡ false }
+{
+    let help = "How many seeds are tried, 1 to 4294967295";
+    optional_number(alloc, "seeds", "N", help, 1, u32::MAX).required(true)
+}
+
+// The definition of `search`, without the options of a driven run.
+fn plain_search_definition<'a>(alloc: Global) -> Result<Command<'a>, AllocError>
+    ensures shape { IfOk result (λ command. app_of command ≡ plain_search_line) }
+    ensures local { IfOk result IsLocal }
+{
+    let from_help = "The first seed, 0 where it is left out; the others follow, modulo 2^64";
+    let watches_help = "Looks for a stale use of the TLB, by the watches of this file";
+    let output_help = "Looks for a run whose console doesn't send the bytes of this file";
+    let search = Command::new(alloc, "search")
+        .about("Looks for a seed whose run goes wrong, and prints a short schedule of it")
+        .after_help(AFTER_SEARCH_HELP)
+        .arg(file_argument(alloc, "image", "IMAGE", IMAGE_HELP))?;
+    with_size(alloc, search, "65536")?
+        .arg(seeds_option(alloc))?
+        .arg(optional_long(alloc, "from", "SEED", from_help, 0, u64::MAX))?
+        .arg(text_option(alloc, "watches", "FILE", watches_help))?
+        .arg(text_option(alloc, "output", "FILE", output_help))?
+        .arg(flag_option(alloc, "whole", "Prints the schedule as it was found"))
+}
+
+// The definition of `search`.
+fn search_definition<'a>(alloc: Global) -> Result<Command<'a>, AllocError>
+    ensures shape { IfOk result (λ command. app_of command ≡ search_line) }
+    ensures local { IfOk result IsLocal }
+{
+    let search = plain_search_definition(alloc)?;
+    with_pace(alloc, with_priorities(alloc, search)?, 16_777_216)
 }
 
 // The definition of `schedule`.
@@ -256,8 +238,10 @@ fn replay_definition<'a>(alloc: Global) -> Result<Command<'a>, AllocError>
     let replay = Command::new(alloc, "replay")
         .about("Makes a log's events once more, and compares their outcomes")
         .after_help(AFTER_REPLAY_HELP);
-    let log = file_argument(alloc, "entries", "LOG", "A log's file");
-    with_files(alloc, replay, log, "65536")
+    let replay = replay
+        .arg(file_argument(alloc, "image", "IMAGE", IMAGE_HELP))?
+        .arg(file_argument(alloc, "entries", "LOG", "A log's file"))?;
+    with_asked_size(alloc, replay, "65536")
 }
 
 // The definition of `debug`.
@@ -326,6 +310,15 @@ fn with_run<'a>(alloc: Global, program: Command<'a>) -> Result<Command<'a>, Allo
     program.subcommand(run)
 }
 
+// A program with `console` added.
+fn with_console<'a>(alloc: Global, program: Command<'a>) -> Result<Command<'a>, AllocError>
+    ensures { IfOk result (λ more.
+        app_of more ≡ with_subcommand (app_of program.entry) console_line.top) }
+{
+    let console = console_definition(alloc)?;
+    program.subcommand(console)
+}
+
 // A program with `schedule` added.
 fn with_schedule<'a>(alloc: Global, program: Command<'a>) -> Result<Command<'a>, AllocError>
     ensures { IfOk result (λ more.
@@ -333,6 +326,15 @@ fn with_schedule<'a>(alloc: Global, program: Command<'a>) -> Result<Command<'a>,
 {
     let schedule = schedule_definition(alloc)?;
     program.subcommand(schedule)
+}
+
+// A program with `search` added.
+fn with_search<'a>(alloc: Global, program: Command<'a>) -> Result<Command<'a>, AllocError>
+    ensures { IfOk result (λ more.
+        app_of more ≡ with_subcommand (app_of program.entry) search_line.top) }
+{
+    let search = search_definition(alloc)?;
+    program.subcommand(search)
 }
 
 // A program with `replay` added.
@@ -383,130 +385,14 @@ fn definition<'a>(alloc: Global) -> Result<Command<'a>, AllocError>
 {
     let program = program_definition(alloc)?;
     let program = with_run(alloc, program)?;
+    let program = with_console(alloc, program)?;
     let program = with_schedule(alloc, program)?;
+    let program = with_search(alloc, program)?;
     let program = with_replay(alloc, program)?;
     let program = with_debug(alloc, program)?;
     let program = with_audit(alloc, program)?;
     let program = with_as(alloc, program)?;
     with_dis(alloc, program)
-}
-
-// The size of a machine; the log's number of entries has this default.
-fn size_given<'a>(given: &ArgMatches<'a>, log: u32) -> Size
-    ensures { IsSize log (rows_of (found_of given.now)) result }
-{
-    Size {
-        ram: number_given(given, "ram", 1_048_576),
-        processors: number_given(given, "cpus", 1),
-        log: number_given(given, "log", log),
-    }
-}
-
-// The arguments of `run`.
-fn run_task_of<'a>(given: &ArgMatches<'a>) -> RunTask<'a>
-    ensures { AsksRun (rows_of (found_of given.now)) result }
-{
-    RunTask {
-        image: file_given(given, "image"),
-        size: size_given(given, 65_536),
-        show_log: show_log_given(given),
-    }
-}
-
-// The task of `run` under a schedule, or in threads.
-fn task_without_order<'a>(given: &ArgMatches<'a>) -> Task<'a>
-    requires { has_order (rows_of (found_of given.now)) ≡ false }
-    ensures task { IsRunTask (rows_of (found_of given.now)) result }
-    ensures limits { HasLimits result }
-{
-    let task = run_task_of(given);
-    match number_given(given, "threads", 0) {
-        0 => Task::Run(task),
-        quota => Task::RunInThreads(ThreadsTask {
-            run: task,
-            quota,
-            burst: number_given(given, "burst", 1),
-        }),
-    }
-}
-
-// The task of `run` by a policy.
-fn task_with_order<'a>(given: &ArgMatches<'a>) -> Result<Task<'a>, Clash>
-    requires { has_order (rows_of (found_of given.now)) ≡ true }
-    ensures task { IfOk result (IsRunTask (rows_of (found_of given.now))) }
-    ensures limits { IfOk result HasLimits }
-    ensures clash { IfErr result (Clashes false (rows_of (found_of given.now))) }
-{
-    let drive = drive_given(given)?;
-    Ok(Task::RunDriven(DrivenTask {
-        run: run_task_of(given),
-        drive,
-    }))
-}
-
-// The task of the words of `run`.
-fn task_of_run<'a>(given: &ArgMatches<'a>) -> Result<Task<'a>, Clash>
-    ensures task { IfOk result (IsRunTask (rows_of (found_of given.now))) }
-    ensures limits { IfOk result HasLimits }
-    ensures together { IfOk result (λ _. go_together false (rows_of (found_of given.now)) ≡ true) }
-    ensures clash { IfErr result (Clashes false (rows_of (found_of given.now))) }
-{
-    if let Some(clash) = clash_of(given, false) {
-        return Err(clash);
-    }
-    if has_order(given) {
-        task_with_order(given)
-    } else {
-        Ok(task_without_order(given))
-    }
-}
-
-// The task of the words of `schedule`.
-fn task_of_schedule<'a>(given: &ArgMatches<'a>) -> Result<ScheduleTask<'a>, Clash>
-    ensures task { IfOk result (AsksSchedule (rows_of (found_of given.now))) }
-    ensures together { IfOk result (λ _. go_together true (rows_of (found_of given.now)) ≡ true) }
-    ensures clash { IfErr result (Clashes true (rows_of (found_of given.now))) }
-{
-    if let Some(clash) = clash_of(given, true) {
-        return Err(clash);
-    }
-    let drive = drive_given(given)?;
-    Ok(ScheduleTask {
-        image: file_given(given, "image"),
-        size: size_given(given, 65_536),
-        drive,
-    })
-}
-
-// The arguments of a command over an image and a text: the name of the second one, and the default
-// of the log's number of entries.
-fn files_task_of<'a>(given: &ArgMatches<'a>, text: &str, log: u32) -> FilesTask<'a>
-    ensures { AsksFiles text.now log (rows_of (found_of given.now)) result }
-{
-    FilesTask {
-        image: file_given(given, "image"),
-        text: file_given(given, text),
-        size: size_given(given, log),
-    }
-}
-
-// The task of the words of a command line.
-fn task_of<'a>(matches: &ArgMatches<'a>) -> Result<Task<'a>, Clash>
-    ensures task { IfOk result (IsTask (subcommand_rows_of matches.now)) }
-    ensures limits { IfOk result HasLimits }
-    ensures together { IfOk result (λ _. GoTogether (subcommand_rows_of matches.now)) }
-    ensures clash { IfErr result (ClashesIn (subcommand_rows_of matches.now)) }
-{
-    match matches.subcommand() {
-        Some(("run", given)) => task_of_run(given),
-        Some(("schedule", given)) => Ok(Task::Schedule(task_of_schedule(given)?)),
-        Some(("replay", given)) => Ok(Task::Replay(files_task_of(given, "entries", 65_536))),
-        Some(("debug", given)) => Ok(Task::Debug(files_task_of(given, "schedule", 65_536))),
-        Some(("audit", given)) => Ok(Task::Audit(files_task_of(given, "watches", 65_536))),
-        Some(("as", _)) => Ok(Task::Assemble),
-        Some(("dis", given)) => Ok(Task::Disassemble(file_given(given, "image"))),
-        _ => Ok(Task::Demo),
-    }
 }
 
 /// Reads the words of a command line; the first is the program's name.

@@ -1,12 +1,12 @@
 //! The options of a driven run.
 
-ghost use Rattle.std.specs.Prelude.{◌≡◌, Bool, false, true, None, IfOk, MatchOption, MatchResult, codes, option_map};
+ghost use Rattle.std.specs.Prelude.{◌≡◌, false, true, None, IfOk, MatchOption, MatchResult, codes, option_map};
 ghost use Rattle.clap.specs.Words.{app_of, first_of, found_of, one_of, rows_of, rule_of};
 ghost use Rattle.m161_order.specs.Order.{order_fault};
-ghost use Rattle.s161_command.specs.Drives.{AsksDrive, Clashes, IsBadGap, IsGap, IsLongNumberOf, IsOrder, changes_without_seed, go_together, half_priorities, has_order, has_pace, is_given, long_rule, optional_rule, order_in_threads, pace_without_order, text_rule, two_orders, with_order_rules, with_pace_rules};
+ghost use Rattle.s161_command.specs.Drives.{AsksDrive, Clashes, IsBadGap, IsGap, IsGivenOrder, IsLongNumberOf, IsOrder, IsSeeded, changes_without_seed, events_by_default, gap_by_default, go_together, half_priorities, has_order, has_pace, has_seed, is_driven, is_given, lacks_order, long_rule, optional_rule, order_in_threads, pace_without_order, shows_log_twice, text_rule, two_orders, with_console_pace_rules, with_order_rules, with_pace_rules, with_priority_rules};
 ghost use Rattle.s161_command.specs.helpers.Commands.{IsLocal};
 
-use crate::given::{long_given, number_given};
+use crate::given::{is_set, long_given, number_given};
 use clap::builder::ValueParser;
 use clap::{Arg, ArgMatches, Command};
 use m161_order::{Order, OrderError};
@@ -30,6 +30,19 @@ pub struct Drive<'a> {
     pub keys: Option<&'a str>,
 }
 
+/// How a command takes an order.
+#[derive(Clone, Copy, Debug, PartialEq, Eq)]
+pub enum OrderUse {
+    /// `run`: without one no policy chooses the events.
+    Optional,
+    /// `schedule`: one is wanted.
+    Needed,
+    /// `console`: without one it is that of turns of one Step.
+    Assumed,
+    /// `search`: it is one at random or by priorities, with each seed from `--from` on.
+    Seeded,
+}
+
 /// Why options that clap takes can't be followed.
 #[derive(Clone, Copy, Debug, PartialEq, Eq, Error)]
 pub enum Clash {
@@ -45,6 +58,8 @@ pub enum Clash {
     PaceWithoutOrder,
     #[error("--threads and --burst leave the order to the host: --turns and --random are for runs without threads")]
     OrderInThreads,
+    #[error("--only-log prints the log alone, and --show-log the rest too: give one of them")]
+    LogTwice,
     #[error("{0}")]
     BadOrder(OrderError),
     #[error("--gap is a number of events, 0 to 4294967295, or none")]
@@ -70,8 +85,8 @@ pub(crate) fn optional_number<'a>(
         .value_parser(ValueParser::signed(i64::from(low), i64::from(high)))
 }
 
-// An option with a number of 64 bits that has no default.
-fn optional_long<'a>(
+/// An option with a number of 64 bits that has no default.
+pub(crate) fn optional_long<'a>(
     alloc: Global,
     name: &'a str,
     shown: &'a str,
@@ -89,8 +104,13 @@ fn optional_long<'a>(
         .value_parser(ValueParser::unsigned(low, high))
 }
 
-// An option with a text that has no default.
-fn text_option<'a>(alloc: Global, name: &'a str, shown: &'a str, help: &'a str) -> Arg<'a>
+/// An option with a text that has no default.
+pub(crate) fn text_option<'a>(
+    alloc: Global,
+    name: &'a str,
+    shown: &'a str,
+    help: &'a str,
+) -> Arg<'a>
     ensures rule { rule_of result ≡ text_rule name.entry.now }
     ensures local { result.global ≡ false }
 {
@@ -119,20 +139,60 @@ fn random_option<'a>(alloc: Global) -> Arg<'a>
     optional_long(alloc, "random", "SEED", help, 0, u64::MAX)
 }
 
+/// A command, with the options of an order by priorities added.
+pub(crate) fn with_priorities<'a>(
+    alloc: Global,
+    command: Command<'a>,
+) -> Result<Command<'a>, AllocError>
+    ensures shape { IsLocal command.entry
+        → IfOk result (λ more. app_of more ≡ with_priority_rules (app_of command.entry)) }
+    ensures local { IsLocal command.entry → IfOk result IsLocal }
+{
+    let changes_help =
+        "Priorities in place of single choices at random; so many change in each stretch of Steps, 0 to 64";
+    let within_help = "With --changes: Steps of a stretch, 1 to 16777216";
+    command
+        .arg(optional_number(alloc, "changes", "D", changes_help, 0, 64))?
+        .arg(optional_number(alloc, "within", "K", within_help, 1, 16_777_216))
+}
+
 /// A command, with the options of an order added.
 pub(crate) fn with_order<'a>(alloc: Global, command: Command<'a>) -> Result<Command<'a>, AllocError>
     ensures shape { IsLocal command.entry
         → IfOk result (λ more. app_of more ≡ with_order_rules (app_of command.entry)) }
     ensures local { IsLocal command.entry → IfOk result IsLocal }
 {
-    let changes_help =
-        "With --random: priorities in place of single choices; so many change in each stretch of Steps, 0 to 64";
-    let within_help = "With --changes: Steps of a stretch, 1 to 16777216";
-    command
-        .arg(turns_option(alloc))?
-        .arg(random_option(alloc))?
-        .arg(optional_number(alloc, "changes", "D", changes_help, 0, 64))?
-        .arg(optional_number(alloc, "within", "K", within_help, 1, 16_777_216))
+    let command = command.arg(turns_option(alloc))?.arg(random_option(alloc))?;
+    with_priorities(alloc, command)
+}
+
+// The option that says how many events a driven run has at most.
+fn events_option<'a>(alloc: Global, most: u64) -> Arg<'a>
+    ensures rule { rule_of result ≡ long_rule (codes "events") 1 most }
+    ensures local { result.global ≡ false }
+{
+    let help =
+        "The most events of a driven run; 1000000 where it is left out, 100000 in search, no limit in console";
+    optional_long(alloc, "events", "N", help, 1, most)
+}
+
+// The option that says when a byte is sent.
+fn transfer_option<'a>(alloc: Global) -> Arg<'a>
+    ensures rule { rule_of result ≡ optional_rule (codes "transfer") 0 4_294_967_295 }
+    ensures local { result.global ≡ false }
+{
+    let help = "Events of a driven run after which a byte is sent, 100 where it is left out";
+    optional_number(alloc, "transfer", "N", help, 0, u32::MAX)
+}
+
+// The option that says when keys are typed.
+fn gap_option<'a>(alloc: Global) -> Arg<'a>
+    ensures rule { rule_of result ≡ text_rule (codes "gap") }
+    ensures local { result.global ≡ false }
+{
+    let help =
+        "Events of a driven run between keys, 1000 where it is left out, or none: only where no processor is ready, as in console";
+    text_option(alloc, "gap", "N", help)
 }
 
 /// A command, with the options added that say how long a driven run is, when bytes are sent, and
@@ -146,17 +206,28 @@ pub(crate) fn with_pace<'a>(
         → IfOk result (λ more. app_of more ≡ with_pace_rules most (app_of command.entry)) }
     ensures local { IsLocal command.entry → IfOk result IsLocal }
 {
-    let events_help = "With an order: the most events, 1000000 where it is left out";
-    let transfer_help =
-        "With an order: events after which a byte is sent, 100 where it is left out";
-    let keys_help = "With an order: the bytes of this file are typed";
-    let gap_help =
-        "With an order: events between keys, 1000 where it is left out, or none: only where no processor is ready";
+    let keys_help = "The bytes of this file are typed in a driven run";
     command
-        .arg(optional_long(alloc, "events", "N", events_help, 1, most))?
-        .arg(optional_number(alloc, "transfer", "N", transfer_help, 0, u32::MAX))?
+        .arg(events_option(alloc, most))?
+        .arg(transfer_option(alloc))?
         .arg(text_option(alloc, "keys", "FILE", keys_help))?
-        .arg(text_option(alloc, "gap", "N", gap_help))
+        .arg(gap_option(alloc))
+}
+
+/// The same without a file of keys.
+pub(crate) fn with_console_pace<'a>(
+    alloc: Global,
+    command: Command<'a>,
+    most: u64,
+) -> Result<Command<'a>, AllocError>
+    ensures shape { IsLocal command.entry
+        → IfOk result (λ more. app_of more ≡ with_console_pace_rules most (app_of command.entry)) }
+    ensures local { IsLocal command.entry → IfOk result IsLocal }
+{
+    command
+        .arg(events_option(alloc, most))?
+        .arg(transfer_option(alloc))?
+        .arg(gap_option(alloc))
 }
 
 // Whether an option is given.
@@ -197,16 +268,45 @@ fn half_priorities<'a>(given: &ArgMatches<'a>) -> bool
     (changes && !within) || (within && !changes)
 }
 
-fn changes_without_seed<'a>(given: &ArgMatches<'a>) -> bool
-    ensures { result ≡ changes_without_seed (rows_of (found_of given.now)) }
+// Whether priorities have a seed.
+fn has_seed<'a>(given: &ArgMatches<'a>, orders: OrderUse) -> bool
+    ensures { result ≡ has_seed orders (rows_of (found_of given.now)) }
 {
-    is_given(given, "changes") && !is_given(given, "random")
+    match orders {
+        OrderUse::Seeded => true,
+        OrderUse::Optional | OrderUse::Needed | OrderUse::Assumed => is_given(given, "random"),
+    }
 }
 
-fn pace_without_order<'a>(given: &ArgMatches<'a>) -> bool
-    ensures { result ≡ pace_without_order (rows_of (found_of given.now)) }
+// Whether the run is a driven one.
+fn is_driven<'a>(given: &ArgMatches<'a>, orders: OrderUse) -> bool
+    ensures { result ≡ is_driven orders (rows_of (found_of given.now)) }
 {
-    has_pace(given) && !has_order(given)
+    match orders {
+        OrderUse::Optional | OrderUse::Needed => has_order(given),
+        OrderUse::Assumed | OrderUse::Seeded => true,
+    }
+}
+
+fn changes_without_seed<'a>(given: &ArgMatches<'a>, orders: OrderUse) -> bool
+    ensures { result ≡ changes_without_seed orders (rows_of (found_of given.now)) }
+{
+    is_given(given, "changes") && !has_seed(given, orders)
+}
+
+fn lacks_order<'a>(given: &ArgMatches<'a>, orders: OrderUse) -> bool
+    ensures { result ≡ lacks_order orders (rows_of (found_of given.now)) }
+{
+    match orders {
+        OrderUse::Needed => !has_order(given),
+        OrderUse::Optional | OrderUse::Assumed | OrderUse::Seeded => false,
+    }
+}
+
+fn pace_without_order<'a>(given: &ArgMatches<'a>, orders: OrderUse) -> bool
+    ensures { result ≡ pace_without_order orders (rows_of (found_of given.now)) }
+{
+    has_pace(given) && !is_driven(given, orders)
 }
 
 fn order_in_threads<'a>(given: &ArgMatches<'a>) -> bool
@@ -215,10 +315,16 @@ fn order_in_threads<'a>(given: &ArgMatches<'a>) -> bool
     has_order(given) && (is_given(given, "threads") || is_given(given, "burst"))
 }
 
-/// Why the options don't go together, if so. Whether an order is needed depends on the command.
-pub(crate) fn clash_of<'a>(given: &ArgMatches<'a>, needed: bool) -> Option<Clash>
-    ensures { MatchOption result (go_together needed (rows_of (found_of given.now)) ≡ true)
-        (λ clash. Clashes needed (rows_of (found_of given.now)) clash) }
+fn shows_log_twice<'a>(given: &ArgMatches<'a>) -> bool
+    ensures { result ≡ shows_log_twice (rows_of (found_of given.now)) }
+{
+    is_set(given, "show-log") && is_set(given, "only-log")
+}
+
+/// Why the options don't go together, if so.
+pub(crate) fn clash_of<'a>(given: &ArgMatches<'a>, orders: OrderUse) -> Option<Clash>
+    ensures { MatchOption result (go_together orders (rows_of (found_of given.now)) ≡ true)
+        (λ clash. Clashes orders (rows_of (found_of given.now)) clash) }
 {
     if two_orders(given) {
         return Some(Clash::TwoOrders);
@@ -226,29 +332,29 @@ pub(crate) fn clash_of<'a>(given: &ArgMatches<'a>, needed: bool) -> Option<Clash
     if half_priorities(given) {
         return Some(Clash::HalfPriorities);
     }
-    if changes_without_seed(given) {
+    if changes_without_seed(given, orders) {
         return Some(Clash::ChangesWithoutSeed);
     }
-    if needed && !has_order(given) {
+    if lacks_order(given, orders) {
         return Some(Clash::NoOrder);
     }
-    if pace_without_order(given) {
+    if pace_without_order(given, orders) {
         return Some(Clash::PaceWithoutOrder);
     }
     if order_in_threads(given) {
         return Some(Clash::OrderInThreads);
     }
+    if shows_log_twice(given) {
+        return Some(Clash::LogTwice);
+    }
     None
 }
 
-// The order.
-fn order_given<'a>(given: &ArgMatches<'a>) -> Order
-    ensures { IsOrder (rows_of (found_of given.now)) result }
+// The order with the seed of this option.
+fn seeded_order<'a>(given: &ArgMatches<'a>, name: &str) -> Order
+    ensures { IsSeeded name.now (rows_of (found_of given.now)) result }
 {
-    if is_given(given, "turns") {
-        return Order::Turns(number_given(given, "turns", 1));
-    }
-    let seed = long_given(given, "random", 0);
+    let seed = long_given(given, name, 0);
     if is_given(given, "changes") {
         return Order::Priorities {
             seed,
@@ -259,13 +365,40 @@ fn order_given<'a>(given: &ArgMatches<'a>) -> Order
     Order::Random(seed)
 }
 
-// The order, if its numbers are within their limits.
-fn valid_order<'a>(given: &ArgMatches<'a>) -> Result<Order, Clash>
-    ensures { MatchResult result
-        (λ order. IsOrder (rows_of (found_of given.now)) order × (order_fault order ≡ None))
-        (λ clash. (needed : Bool) → Clashes needed (rows_of (found_of given.now)) clash) }
+// The order that is given.
+fn given_order<'a>(given: &ArgMatches<'a>) -> Order
+    ensures { IsGivenOrder (rows_of (found_of given.now)) result }
 {
-    let order = order_given(given);
+    if is_given(given, "turns") {
+        return Order::Turns(number_given(given, "turns", 1));
+    }
+    seeded_order(given, "random")
+}
+
+// The order.
+fn order_of<'a>(given: &ArgMatches<'a>, orders: OrderUse) -> Order
+    ensures { IsOrder orders (rows_of (found_of given.now)) result }
+{
+    match orders {
+        OrderUse::Seeded => seeded_order(given, "from"),
+        OrderUse::Optional | OrderUse::Needed => given_order(given),
+        OrderUse::Assumed => {
+            if has_order(given) {
+                given_order(given)
+            } else {
+                Order::Turns(1)
+            }
+        }
+    }
+}
+
+// The order, if its numbers are within their limits.
+fn valid_order<'a>(given: &ArgMatches<'a>, orders: OrderUse) -> Result<Order, Clash>
+    ensures { MatchResult result
+        (λ order. IsOrder orders (rows_of (found_of given.now)) order × (order_fault order ≡ None))
+        (λ clash. Clashes orders (rows_of (found_of given.now)) clash) }
+{
+    let order = order_of(given, orders);
     match order.fault() {
         Some(error) => Err(Clash::BadOrder(error)),
         None => Ok(order),
@@ -273,12 +406,12 @@ fn valid_order<'a>(given: &ArgMatches<'a>) -> Result<Order, Clash>
 }
 
 // A gap: a number, or `none`.
-fn gap_of(text: Option<&str>) -> Option<Option<u32>>
+fn gap_of(text: Option<&str>, default: Option<u32>) -> Option<Option<u32>>
     ensures { MatchOption result (IsBadGap (option_map (λ s. s.now) text.entry))
-        (IsGap (option_map (λ s. s.now) text.entry)) }
+        (IsGap default (option_map (λ s. s.now) text.entry)) }
 {
     match text {
-        None => Some(Some(1_000)),
+        None => Some(default),
         Some("none") => Some(None),
         Some(number) => match number.parse::<u32>() {
             Ok(gap) => Some(Some(gap)),
@@ -287,14 +420,36 @@ fn gap_of(text: Option<&str>) -> Option<Option<u32>>
     }
 }
 
-// The gap of the options.
-fn gap_given<'a>(given: &ArgMatches<'a>) -> Result<Option<u32>, Clash>
-    ensures { MatchResult result (IsGap (first_of (codes "gap") (rows_of (found_of given.now))))
-        (λ clash. (needed : Bool) → Clashes needed (rows_of (found_of given.now)) clash) }
+// The gap where none is given.
+fn gap_by_default(orders: OrderUse) -> Option<u32>
+    ensures { result ≡ gap_by_default orders }
 {
-    match gap_of(given.get_str("gap")) {
+    match orders {
+        OrderUse::Assumed => None,
+        OrderUse::Optional | OrderUse::Needed | OrderUse::Seeded => Some(1_000),
+    }
+}
+
+// The gap of the options.
+fn gap_given<'a>(given: &ArgMatches<'a>, orders: OrderUse) -> Result<Option<u32>, Clash>
+    ensures { MatchResult result
+        (IsGap (gap_by_default orders) (first_of (codes "gap") (rows_of (found_of given.now))))
+        (λ clash. Clashes orders (rows_of (found_of given.now)) clash) }
+{
+    match gap_of(given.get_str("gap"), gap_by_default(orders)) {
         Some(gap) => Ok(gap),
         None => Err(Clash::BadGap),
+    }
+}
+
+// The most events where their number isn't given.
+fn events_by_default(orders: OrderUse) -> u64
+    ensures { result ≡ events_by_default orders }
+{
+    match orders {
+        OrderUse::Optional | OrderUse::Needed => 1_000_000,
+        OrderUse::Assumed => u64::MAX,
+        OrderUse::Seeded => 100_000,
     }
 }
 
@@ -302,15 +457,15 @@ fn gap_given<'a>(given: &ArgMatches<'a>) -> Result<Option<u32>, Clash>
 ///
 /// # Errors
 /// The order's numbers are outside their limits, or the gap is neither a number nor `none`.
-pub(crate) fn drive_given<'a>(given: &ArgMatches<'a>) -> Result<Drive<'a>, Clash>
-    ensures { MatchResult result (AsksDrive (rows_of (found_of given.now)))
-        (λ clash. (needed : Bool) → Clashes needed (rows_of (found_of given.now)) clash) }
+pub(crate) fn drive_given<'a>(given: &ArgMatches<'a>, orders: OrderUse) -> Result<Drive<'a>, Clash>
+    ensures { MatchResult result (AsksDrive orders (rows_of (found_of given.now)))
+        (λ clash. Clashes orders (rows_of (found_of given.now)) clash) }
 {
-    let order = valid_order(given)?;
-    let gap = gap_given(given)?;
+    let order = valid_order(given, orders)?;
+    let gap = gap_given(given, orders)?;
     Ok(Drive {
         order,
-        events: long_given(given, "events", 1_000_000),
+        events: long_given(given, "events", events_by_default(orders)),
         transfer: number_given(given, "transfer", 100),
         gap,
         keys: given.get_str("keys"),

@@ -2,9 +2,8 @@
 
 ghost use Rattle.std.specs.Prelude.{◌≡◌, [], codes, unwrap_or};
 ghost use Rattle.clap.specs.Words.{first_of, found_of, one_of, rows_of};
-ghost use Rattle.s161_command.specs.Commands.{IsFlag};
 ghost use Rattle.s161_command.specs.Drives.{IsLongNumberOf};
-ghost use Rattle.s161_command.specs.Numbers.{IsNumberOf};
+ghost use Rattle.s161_command.specs.Numbers.{IsNumberIf, IsNumberOf, is_set};
 
 use clap::ArgMatches;
 
@@ -32,9 +31,19 @@ pub(crate) fn file_given<'a>(given: &ArgMatches<'a>, name: &str) -> &'a str
     }
 }
 
-/// Whether `run` is to show the log.
-pub(crate) fn show_log_given<'a>(given: &ArgMatches<'a>) -> bool
-    ensures { IsFlag (one_of (codes "show-log") (rows_of (found_of given.now))) result }
+/// The number of an option, if it is given.
+pub(crate) fn number_if_given<'a>(given: &ArgMatches<'a>, name: &str) -> Option<u32>
+    ensures { IsNumberIf (one_of name.now (rows_of (found_of given.now))) result }
 {
-    given.get_flag("show-log")
+    given.get_one::<u32>(name)
+}
+
+/// Whether an option without a value is given.
+pub(crate) fn is_set<'a>(given: &ArgMatches<'a>, name: &str) -> bool
+    ensures { result ≡ is_set name.now (rows_of (found_of given.now)) }
+{
+    match given.get_str(name) {
+        Some(text) => text == "true",
+        None => false,
+    }
 }

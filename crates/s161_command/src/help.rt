@@ -8,16 +8,17 @@ pub(crate) const IMAGE_HELP: &str =
 pub(crate) const AFTER_HELP: &str = "\
 Exit status:
   0  a finished demo, schedule, debug, as or dis, a machine that switched
-     itself off, a log that agrees, a clean run, or help
-  1  a fault, named on standard error, or a refused event of run
+     itself off, a log that agrees, a clean run or search, or help
+  1  a fault, named on standard error, or a refused event of run or console
   2  a rejected command line
   3  the schedule, the events or the Steps of the threads ended
-  4  a log that differs, or a stale use
+  4  a log that differs, a stale use, or a run that goes wrong in search
   5  no processor can go on, and no byte or key is left";
 
 /// The end of the help of `run`.
 pub(crate) const AFTER_RUN_HELP: &str = "\
-The schedule is read from standard input, an event a line:
+The schedule is read from standard input, an event a line; the image and the
+schedule have at most 402653184 bytes:
   s P [N]  N Steps of processor P, 1 to 1000000; one where N is left out
   k HH     a byte is typed at the console, two hexadecimal digits
   o        the console has sent its byte
@@ -36,9 +37,11 @@ each stretch of K Steps. A byte is sent once --transfer events were accepted
 after it was written; a key of --keys is typed once --gap events were accepted
 after the last one; both also where no processor is ready.
 
-The log keeps the last N entries (--log). Where entries before them were
-dropped, --show-log prints `m161 tail 1 DROPPED` in place of the log's first
-line, with their number. A log can be replayed, and its tail can't: the same
+The log keeps the last N entries (--log). --show-log prints it before the last
+line, --only-log prints it alone; its first line names the machine and the
+image. Where entries before them were
+dropped, `m161 tail 1 DROPPED` stands in place of `m161 log 1`, with their
+number. A log can be replayed, and its tail can't: the same
 run with a greater --log has the whole log.
 
 Exit status:
@@ -51,11 +54,50 @@ Example:
   s161 run kernel.elf --turns 1
   printf 's 0 1000\\nk 41\\ns 0 1000\\n' | s161 run kernel.elf --show-log";
 
+/// The end of the help of `console`.
+pub(crate) const AFTER_CONSOLE_HELP: &str = "\
+Each byte that the kernel's console sends goes to standard output before the next event, and the
+bytes of standard input are its keys. A key is read only where the run would have it typed: where no
+processor is ready, or every --gap events. So a kernel that polls for keys needs --gap N. The events
+are chosen as by run, by turns of one Step if no order is given; the same bytes make the same run.
+There is no limit for the length of the input.
+
+A terminal hands over whole lines, and shows what is typed itself, unless it is told not to:
+  stty -icanon -echo; s161 console kernel.elf; stty sane
+
+Why the run stopped goes to standard error. Exit status:
+  0  the machine switched itself off
+  1  a fault, named on standard error, or a refused event
+  3  --events events were made
+  5  no processor can go on, and the input has ended (stop: stuck)";
+
+/// The end of the help of `search`.
+pub(crate) const AFTER_SEARCH_HELP: &str = "\
+For each of N seeds, from --from on, a run is made whose order is drawn from the seed: at random, or
+by priorities with --changes and --within. The first run that goes wrong ends the search:
+  stale PLACE PROCESSOR ADDRESS ROW   as audit says it, by the watches of --watches
+  stuck     no processor can go on, and no byte or key is left; with --output only where
+            the console's bytes aren't the file's
+  output    with --output: the machine is off, and the console's bytes aren't the file's
+  end       with --output: the machine is neither off nor stuck after --events events
+Its schedule is printed, shortened unless --whole is given, behind two comments: its seed, and what
+is wrong. `clean N` says that no run goes wrong; `clean N cut M` that M of them weren't over after
+--events events. A file has at most 402653184 bytes.
+
+Exit status:
+  0  no run goes wrong
+  1  a fault, named on standard error
+  4  a run goes wrong, and its schedule was printed
+
+Example:
+  s161 search kernel.elf --cpus 2 --seeds 1000 --watches watches > bad.schedule
+  s161 audit kernel.elf watches --cpus 2 < bad.schedule";
+
 /// The end of the help of `schedule`.
 pub(crate) const AFTER_SCHEDULE_HELP: &str = "\
 An order is needed, --turns or --random, as for run. What is printed is a schedule of the events
 that were made, at most 16777216: run over it prints what the same run by its order prints, but for
-the last line where that says why no more events were chosen.
+the last line where that says why no more events were chosen. A file has at most 402653184 bytes.
 
 Exit status:
   0  the events were made
@@ -67,14 +109,20 @@ Example:
 
 /// The end of the help of `replay`.
 pub(crate) const AFTER_REPLAY_HELP: &str = "\
-The log is what run --show-log prints from its line `m161 log 1` on, without the last line; it may
-be longer than --log. The answer is `agrees`, or `differs K` where entry K, from 0, is the first
-that another run makes otherwise.
+The log is what run --only-log prints; it may be longer than --log. Its first line names the size of
+the machine and the image's SHA-256: a size that isn't given is taken from it, one that is given has
+to be the same, and so has the image. A log without this line is replayed with the size that is
+given, 1048576 bytes and 1 processor where nothing is. The answer is `agrees`, or `differs K` where
+entry K, from 0, is the first that another run makes otherwise. A file has at most 402653184 bytes.
 
 Exit status:
   0  the log agrees
   1  a fault, named on standard error
-  4  the log differs";
+  4  the log differs
+
+Example:
+  s161 run kernel.elf --cpus 2 --random 7 --only-log > seed-7.log
+  s161 replay kernel.elf seed-7.log";
 
 /// The end of the help of `debug`.
 pub(crate) const AFTER_DEBUG_HELP: &str = "\
@@ -85,7 +133,8 @@ The schedule is that of run, in a file. The commands are read from standard inpu
   r P  c P  t P        shows registers, coprocessor 0, the TLB
   m ADDR N  x ADDR N   shows N words of memory or of code, 1 to 1024
   l N                  shows the log's last N entries, 1 to 1024, or all that it keeps
-An error of a command is printed as `? Name`, and the next one is done.
+An error of a command is printed as `? Name`, and the next one is done. A file and the input have at
+most 402653184 bytes.
 
 Exit status:
   0  the commands ended
@@ -102,7 +151,8 @@ The schedule is that of run, from standard input. The watches say what to look f
                        over: physical addresses
 ID is a decimal number, PAGE has five hexadecimal digits, PTE and DONE have eight. The answer is
 `clean`, or `stale PLACE PROCESSOR ADDRESS ROW`: the first event, from 0, whose Step used a row of
-the TLB that its page's entry doesn't allow any more, after the shootdown was over.
+the TLB that its page's entry doesn't allow any more, after the shootdown was over. A file and the
+input have at most 402653184 bytes.
 
 Exit status:
   0  the run is clean
@@ -116,7 +166,7 @@ Example:
 /// The end of the help of `as`.
 pub(crate) const AFTER_AS_HELP: &str = "\
 The text is read from standard input, and its ELF file is written to standard output. A fault is
-`s161: source LINE:COLUMN N Name`.
+`s161: source LINE:COLUMN N Name (..)`. The text has at most 402653184 bytes.
 
 Example:
   s161 as < kernel.s > kernel.elf";
@@ -124,4 +174,4 @@ Example:
 /// The end of the help of `dis`.
 pub(crate) const AFTER_DIS_HELP: &str = "\
 For each segment that is loaded, a line a word: its address, the word, and its assembly text. The
-image is loaded into 16777216 bytes of RAM.";
+image is loaded into 16777216 bytes of RAM; its file has at most 402653184 bytes.";

@@ -1,13 +1,17 @@
 //! The command line of the program: its definition for clap, and the task that its words ask for.
 #![tactic(auto)]
 
+mod asked;
 mod command;
 mod drive;
 mod given;
 mod help;
+mod task;
 
-pub use command::{
-    DrivenTask, FilesTask, Rejection, RunTask, ScheduleTask, Size, Task, ThreadsTask, parse,
-};
-pub use drive::{Clash, Drive};
+pub use command::parse;
+pub use drive::{Clash, Drive, OrderUse};
 pub use m161_order::{Order, OrderError};
+pub use task::{
+    AskedSize, ConsoleTask, DrivenTask, FilesTask, Rejection, ReplayTask, RunTask, ScheduleTask,
+    SearchTask, Shown, Size, Task, ThreadsTask,
+};

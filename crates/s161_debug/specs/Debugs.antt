@@ -10,12 +10,13 @@ use Rattle.m161_debug.specs.declared.command.CommandError.{CommandError}
 use Rattle.m161_debug.specs.Breakpoints.{SessionState}
 use Rattle.m161_debug.specs.Commands.{name_of_error}
 use Rattle.m161_debug.specs.Obeys.{Commands}
-use Rattle.s161_command.specs.declared.command.FilesTask.{FilesTask}
+use Rattle.s161_command.specs.declared.task.FilesTask.{FilesTask}
 use Rattle.s161_base.specs.declared.fault.Fault.{Fault}
 use Rattle.s161_base.specs.declared.fault.Fault.TheVariants.{Conf, File, Image, Input, Memory, Schedule}
 use Rattle.s161_base.specs.Texts.{HasSchedule}
 use Rattle.s161_base.specs.Faults.{BootsTo}
 use Rattle.s161_base.specs.Known.{IsText, OfKnown, OfText}
+use Rattle.s161_base.specs.Reading.{IsOfBytes, IsOfText}
 use Rattle.s161_base.specs.Samples.{IsFileName}
 use Rattle.s161_base.specs.Sizes.{conf_of}
 
@@ -74,13 +75,13 @@ pub record IsDebug
 
 -- what a fault that ends a debugged run says of its inputs: of a file, that it is the image's or the
 -- schedule's; of the schedule, its first bad line; of the configuration or the image, that the
--- schedule had no fault. Nothing is said of reading: File, Input and Memory hold whatever else is at
--- fault. The order in which inputs are read is tested: the image's file, the schedule's file, then
--- standard input
+-- schedule had no fault. File, Input and Memory hold whatever else is at fault. The order in which
+-- inputs are read is tested: the image's file, the schedule's file, then standard input
 abbrev pub IsDebugFault : FilesTask → Option (List ℕ) → Option (List ℕ) → Fault → Type 0
-IsDebugFault task image schedule (File name) =
-    ((name.now ≡ task.image.now) × IsFileName task.image.now) ⊎ (name.now ≡ task.text.now)
-IsDebugFault task image schedule Input = Unit {0}
+IsDebugFault task image schedule (File name why) =
+    ((name.now ≡ task.image.now) × IsFileName task.image.now × IsOfBytes why)
+    ⊎ ((name.now ≡ task.text.now) × IsOfText schedule why)
+IsDebugFault task image schedule (Input why) = Unit {0}
 IsDebugFault task image schedule (Schedule n) =
     OfText schedule (λ text. FirstBad AreScheduleLines text n)
 IsDebugFault task image schedule Conf = HasSchedule schedule × (is_within_limits (conf_of task.size) ≡ false)

@@ -9,7 +9,7 @@ use Rattle.m161_drive.specs.declared.run.Stop.TheVariants as drive
 use Rattle.m161_drive.specs.Drive.{Drives}
 use Rattle.m161_drive.specs.Policy.{Rules}
 use Rattle.s161_command.specs.declared.drive.Drive.{Drive}
-use Rattle.s161_command.specs.declared.command.DrivenTask.{DrivenTask}
+use Rattle.s161_command.specs.declared.task.DrivenTask.{DrivenTask}
 use Rattle.s161_runs.specs.declared.events.Stop.{Stop}
 use Rattle.s161_runs.specs.declared.events.Stop.TheVariants.{Off, End, Stuck, Refused}
 use Rattle.s161_runs.specs.Runs.{status_of, summary_text}
@@ -17,6 +17,7 @@ use Rattle.s161_base.specs.declared.fault.Fault.{Fault}
 use Rattle.s161_base.specs.declared.fault.Fault.TheVariants.{Conf, File, Image, Memory}
 use Rattle.s161_base.specs.Faults.{BootsTo}
 use Rattle.s161_base.specs.Known.{OfKnown}
+use Rattle.s161_base.specs.Reading.{IsFileUnread, IsOfBytes}
 use Rattle.s161_base.specs.Samples.{IsFileName}
 use Rattle.s161_base.specs.Sizes.{conf_of}
 
@@ -60,21 +61,21 @@ pub record IsDriven
   pub driven : Driven
   pub machine : History
   pub drives : Drives (rules_of task.drive keys) task.drive.events booted driven machine
-  pub text_is : text ≡ summary_text machine (stop_of driven) task.run.show_log
+  pub text_is : text ≡ summary_text machine file (stop_of driven) task.run.shown
   pub status_is : status ≡ status_of (stop_of driven)
 
 -- a fault is that of the file of the keys
 abbrev pub IsKeysFile : Option (Bor (List ℕ)) → Fault → Type 0
 IsKeysFile None fault = ⊥
-IsKeysFile (Some name) fault = fault ≡ File name
+IsKeysFile (Some name) fault = IsFileUnread name IsOfBytes fault
 
 -- what a fault that ends a driven run says of its inputs: of a file, that it is the image's or the
 -- keys'; of the configuration or the image, that the boot answers it. File and Memory hold whatever
 -- else is at fault
 abbrev pub IsDrivenFault : DrivenTask → Option (List ℕ) → Fault → Type 0
-IsDrivenFault task known (File name) =
-    ((name.now ≡ task.run.image.now) × IsFileName task.run.image.now)
-    ⊎ IsKeysFile task.drive.keys (File name)
+IsDrivenFault task known (File name why) =
+    ((name.now ≡ task.run.image.now) × IsFileName task.run.image.now × IsOfBytes why)
+    ⊎ IsKeysFile task.drive.keys (File name why)
 IsDrivenFault task known Conf = is_within_limits (conf_of task.run.size) ≡ false
 IsDrivenFault task known (Image e) =
     OfKnown known (λ file. boot_fault file (conf_of task.run.size) ≡ Some (Load e))

@@ -10,11 +10,12 @@ use Rattle.m161_drive.specs.declared.run.Stop.TheVariants as drive
 use Rattle.m161_drive.specs.Drive.{Drives}
 use Rattle.m161_drive.specs.Policy.{Rules}
 use Rattle.m161_steplog.specs.Written.{schedule_text}
-use Rattle.s161_command.specs.declared.command.ScheduleTask.{ScheduleTask}
+use Rattle.s161_command.specs.declared.task.ScheduleTask.{ScheduleTask}
 use Rattle.s161_base.specs.declared.fault.Fault.{Fault}
 use Rattle.s161_base.specs.declared.fault.Fault.TheVariants.{Conf, File, Image, Memory}
 use Rattle.s161_base.specs.Faults.{BootsTo}
 use Rattle.s161_base.specs.Known.{OfKnown}
+use Rattle.s161_base.specs.Reading.{IsOfBytes}
 use Rattle.s161_base.specs.Samples.{IsFileName}
 use Rattle.s161_drive.specs.Driven.{AreKeys, IsKeysFile, rules_of}
 
@@ -59,9 +60,9 @@ pub record IsScheduled
 
 -- what a fault that ends `schedule` says of its inputs, as for a driven run
 abbrev pub IsScheduledFault : ScheduleTask → Option (List ℕ) → Fault → Type 0
-IsScheduledFault task known (File name) =
-    ((name.now ≡ task.image.now) × IsFileName task.image.now)
-    ⊎ IsKeysFile task.drive.keys (File name)
+IsScheduledFault task known (File name why) =
+    ((name.now ≡ task.image.now) × IsFileName task.image.now × IsOfBytes why)
+    ⊎ IsKeysFile task.drive.keys (File name why)
 IsScheduledFault task known Conf = is_within_limits (schedule_conf task) ≡ false
 IsScheduledFault task known (Image e) =
     OfKnown known (λ file. boot_fault file (schedule_conf task) ≡ Some (Load e))

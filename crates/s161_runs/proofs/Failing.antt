@@ -1,17 +1,18 @@
-use Rattle.std.proofs.Common.{◌≡◌, ◌⊎◌, ℕ, List, false, Option, None, Some, IfSome, Err, ap, inl, inr, sym}
+use Rattle.std.proofs.Common.{◌≡◌, ◌⊎◌, ℕ, List, false, Option, None, Some, Err, ap, inl, inr, refl, subst, sym}
 use Rattle.m161_elf.specs.declared.image.LoadError.{LoadError}
 use Rattle.m161_machine.specs.declared.conf.BootError.{BootError}
+use Rattle.m161_machine.specs.declared.conf.BootError.TheVariants.{Load}
 use Rattle.m161_machine.specs.declared.conf.Conf.{Conf as MachineConf}
 use Rattle.m161_machine.specs.declared.event.Entry.{Entry}
 use Rattle.m161_machine.specs.Conf.{is_within_limits}
 use Rattle.m161_machine.specs.History.{boot_fault}
 use Rattle.m161_steplog.specs.Comments.{IsFirstBadOfLog}
 use Rattle.m161_steplog.specs.Verdict.{Verifies}
-use Rattle.s161_base.proofs.Failing.{HasFault, boot_fails}
+use Rattle.s161_base.proofs.Failing.{boot_fails}
 use Rattle.s161_base.specs.Faults.{fault_of_boot}
 use Rattle.s161_base.specs.Texts.{IsLogFault}
 use Rattle.s161_base.specs.declared.fault.Fault.{Fault}
-use Rattle.s161_base.specs.declared.fault.Fault.TheVariants.{Conf, File, Image, Input, Log, Memory, Output, Schedule, Source, Threads, Watch, Watches}
+use Rattle.s161_base.specs.declared.fault.Fault.TheVariants.{Conf, File, Image, Input, Log, LogImage, LogMachine, Memory, Output, Schedule, Source, Threads, Watch, Watches, Word}
 
 -- Why a replay ends early: `P` is what is said of its fault.
 
@@ -20,14 +21,17 @@ pub log_failed : (P : Fault → Type 0) (text : List ℕ) (fault : Fault) → ((
     IsLogFault text fault → P fault
 log_failed P text (Log n) line memory h = line n h
 log_failed P text Memory line memory h = memory
-log_failed P text (File name) line memory h = absurd h
+log_failed P text (File name why) line memory h = absurd h
 log_failed P text (Schedule n) line memory h = absurd h
 log_failed P text (Watches n) line memory h = absurd h
 log_failed P text (Watch k) line memory h = absurd h
 log_failed P text (Threads cause) line memory h = absurd h
 log_failed P text Conf line memory h = absurd h
 log_failed P text (Image e) line memory h = absurd h
-log_failed P text Input line memory h = absurd h
+log_failed P text (Input why) line memory h = absurd h
+log_failed P text Word line memory h = absurd h
+log_failed P text LogMachine line memory h = absurd h
+log_failed P text LogImage line memory h = absurd h
 log_failed P text Output line memory h = absurd h
 log_failed P text (Source e) line memory h = absurd h
 
@@ -37,8 +41,10 @@ why_unverified file conf (Some first) log e h = inl (ap (λ x. Some x) (sym h))
 why_unverified file conf None log e h = inr h
 
 -- a replay's, which boots first
-pub verify_failed : (P : Fault → Type 0) (image : Option (List ℕ)) (conf : MachineConf) (file : List ℕ) (log : List Entry) (e : BootError) → IfSome image (λ bytes. file ≡ bytes) →
-    (is_within_limits conf ≡ false → P Conf) → ((x : LoadError) → HasFault image conf x → P (Image x)) → P Memory →
+pub verify_failed : (P : Fault → Type 0) (conf : MachineConf) (file : List ℕ) (log : List Entry) (e : BootError) →
+    (is_within_limits conf ≡ false → P Conf) → ((x : LoadError) → boot_fault file conf ≡ Some (Load x) → P (Image x)) → P Memory →
     Verifies file conf (boot_fault file conf) log (Err e) → P (fault_of_boot e)
-verify_failed P image conf file log e is limits load memory h =
-    boot_fails P image conf file e is limits load memory (why_unverified file conf (boot_fault file conf) log e h)
+verify_failed P conf file log e limits load memory h =
+    boot_fails P (Some file) conf file e refl limits
+    (λ x has. load x (subst (λ f. boot_fault f conf ≡ Some (Load x)) has.1 has.2)) memory
+    (why_unverified file conf (boot_fault file conf) log e h)

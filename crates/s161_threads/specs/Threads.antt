@@ -4,7 +4,7 @@ use Rattle.m161_machine.specs.Conf.{is_within_limits}
 use Rattle.m161_machine.specs.History.{History, boot_fault}
 use Rattle.m161_cause.specs.declared.cause.Cause.{Cause}
 use Rattle.m161_threads.specs.Runs.{Interleaves, IsOfRun, bad_call}
-use Rattle.s161_command.specs.declared.command.ThreadsTask.{ThreadsTask}
+use Rattle.s161_command.specs.declared.task.ThreadsTask.{ThreadsTask}
 use Rattle.s161_runs.specs.declared.events.Stop.{Stop}
 use Rattle.s161_runs.specs.declared.events.Stop.TheVariants.{End, Off}
 use Rattle.s161_base.specs.declared.fault.Fault.{Fault}
@@ -12,6 +12,7 @@ use Rattle.s161_base.specs.declared.fault.Fault.TheVariants.{Conf, File, Image, 
 use Rattle.s161_runs.specs.Runs.{status_of, summary_text}
 use Rattle.s161_base.specs.Faults.{BootsTo}
 use Rattle.s161_base.specs.Known.{OfKnown}
+use Rattle.s161_base.specs.Reading.{IsOfBytes}
 use Rattle.s161_base.specs.Samples.{IsFileName}
 use Rattle.s161_base.specs.Sizes.{conf_of}
 
@@ -35,7 +36,7 @@ pub record IsRunInThreads
   pub machine : History
   pub interleaves :
       Interleaves booted (replicate task.run.size.processors task.quota) made off machine
-  pub text_is : text ≡ summary_text machine (stop_of off) task.run.show_log
+  pub text_is : text ≡ summary_text machine file (stop_of off) task.run.shown
   pub status_is : status ≡ status_of (stop_of off)
 
 -- the cause of a run that doesn't begin for this reason; or of one that began
@@ -47,8 +48,8 @@ IsCause None cause = IsOfRun cause
 -- configuration or the image, that the boot answers it; of the threads, that the image has no fault,
 -- and when the cause comes. File and Memory hold whatever else is at fault
 abbrev pub IsThreadsFault : ThreadsTask → Option (List ℕ) → Fault → Type 0
-IsThreadsFault task known (File name) =
-    (name.now ≡ task.run.image.now) × IsFileName task.run.image.now
+IsThreadsFault task known (File name why) =
+    (name.now ≡ task.run.image.now) × IsFileName task.run.image.now × IsOfBytes why
 IsThreadsFault task known Conf = is_within_limits (conf_of task.run.size) ≡ false
 IsThreadsFault task known (Image e) =
     OfKnown known (λ file. boot_fault file (conf_of task.run.size) ≡ Some (Load e))

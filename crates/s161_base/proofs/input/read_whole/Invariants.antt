@@ -5,4 +5,4 @@ use Rattle.s161_base.proofs.input.read_whole.Given as goal
 -- the bytes so far are those that the reader no longer has
 abbrev pub invariant-loop-call : goal.invariant-loop-call
 invariant-loop-call g l = Consumes (g.R.Read.remaining l.fn.reader) (g.R.Read.remaining l.reader) l.bytes.items
-    × (length l.bytes.items ≤ 33_554_432)
+    × (length l.bytes.items ≤ 402_653_184)

@@ -13,15 +13,17 @@ returns-clause-shape c =
     let base_local : (out-Command c.after_help.result).has_globals ≡ false = ap (λ f. f.has_globals) c.after_help.ensures ∙ ap (λ f. f.has_globals) c.about.ensures ∙ c.new.ensures.local in
     let one = c.in_ok-run.ensures.shape c.file_argument.ensures.local ∙ ap₂ with_rule base c.file_argument.ensures.rule in
     let two = c.in_ok-with_size.ensures.shape (local_more c.in_ok-run.ensures base_local c.file_argument.ensures.local) ∙ ap (with_size_rules _) one in
-    let three = c.in_ok-arg.ensures.shape c.show_log_option.ensures.local ∙ ap₂ with_rule two c.show_log_option.ensures.rule in
-    let four = c.in_ok-arg-2.ensures.shape c.threads_option.ensures.local ∙ ap₂ with_rule three c.threads_option.ensures.rule in
-    IfOk-weaker c.arg-4.result _ _ (λ command h. h.shape c.burst_option.ensures.local ∙ ap₂ with_rule four c.burst_option.ensures.rule) c.arg-4.ensures
+    let three = c.in_ok-arg.ensures.shape c.flag_option.ensures.local ∙ ap₂ with_rule two c.flag_option.ensures.rule in
+    let four = c.in_ok-arg-2.ensures.shape c.flag_option-2.ensures.local ∙ ap₂ with_rule three c.flag_option-2.ensures.rule in
+    let five = c.in_ok-arg-3.ensures.shape c.threads_option.ensures.local ∙ ap₂ with_rule four c.threads_option.ensures.rule in
+    IfOk-weaker c.arg-5.result _ _ (λ command h. h.shape c.burst_option.ensures.local ∙ ap₂ with_rule five c.burst_option.ensures.rule) c.arg-5.ensures
 
 pub returns-clause-local : goal.returns-clause-local
 returns-clause-local c =
     let base : (out-Command c.after_help.result).has_globals ≡ false = ap (λ f. f.has_globals) c.after_help.ensures ∙ ap (λ f. f.has_globals) c.about.ensures ∙ c.new.ensures.local in
     let one = local_more c.in_ok-run.ensures base c.file_argument.ensures.local in
     let two = c.in_ok-with_size.ensures.local one in
-    let three = local_more c.in_ok-arg.ensures two c.show_log_option.ensures.local in
-    let four = local_more c.in_ok-arg-2.ensures three c.threads_option.ensures.local in
-    IfOk-weaker c.arg-4.result _ _ (λ command h. local_more h four c.burst_option.ensures.local) c.arg-4.ensures
+    let three = local_more c.in_ok-arg.ensures two c.flag_option.ensures.local in
+    let four = local_more c.in_ok-arg-2.ensures three c.flag_option-2.ensures.local in
+    let five = local_more c.in_ok-arg-3.ensures four c.threads_option.ensures.local in
+    IfOk-weaker c.arg-5.result _ _ (λ command h. local_more h five c.burst_option.ensures.local) c.arg-5.ensures

@@ -3,7 +3,7 @@ use Rattle.std.specs.Str.Parse.{ParsesUnsigned, ExplainsUnsignedError, HasUnsign
 use Rattle.clap.specs.Words.{found_of, one_text}
 use Rattle.clap.proofs.WalkLemmas.{one_text-rows}
 use Rattle.s161_command.specs.Drives.{IsLongNumberOf}
-use Rattle.s161_command.proofs.Asked.{long_number_of}
+use Rattle.s161_command.proofs.Reading.{long_number_of}
 use Rattle.s161_command.proofs.given.long_given.Goals as goal
 
 pub returns : goal.returns

@@ -3,7 +3,7 @@ use Rattle.std.specs.Str.Parse.{ParsesUnsigned, ExplainsUnsignedError, HasUnsign
 use Rattle.clap.specs.Words.{found_of, one_text}
 use Rattle.clap.proofs.WalkLemmas.{one_text-rows}
 use Rattle.s161_command.specs.Numbers.{IsNumberOf}
-use Rattle.s161_command.proofs.Asked.{number_of}
+use Rattle.s161_command.proofs.Reading.{number_of}
 use Rattle.s161_command.proofs.given.number_given.Goals as goal
 
 pub returns : goal.returns

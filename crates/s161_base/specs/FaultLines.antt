@@ -1,0 +1,55 @@
+use Rattle.std.specs.Prelude.{ℕ, Bool, ◌==◌, ◌||◌, nat_lt, if◌then◌else◌, List, [], ◌∷◌, ◌++◌, Option, None, Some, codes, decimal, flat_map}
+use Rattle.m161_asm.specs.declared.error.AsmError.{AsmError}
+use Rattle.m161_asm.specs.Kinds.{name_of_kind, number_of_kind}
+use Rattle.m161_cause.specs.Cause.{name_of_cause}
+use Rattle.m161_elf.specs.LoadError.{name_of_fault, number_of_fault}
+use Rattle.m161_text.specs.Parts.{◌␣◌, hex_text}
+use Rattle.s161_base.specs.declared.fault.Fault.{Fault}
+use Rattle.s161_base.specs.declared.fault.Fault.TheVariants.{Conf, File, Image, Input, Log, LogImage, LogMachine, Memory, Output, Schedule, Source, Threads, Watch, Watches, Word}
+use Rattle.s161_base.specs.Explained.{explanation_of}
+
+-- The line of a fault on standard error.
+
+-- a byte below 32, 127, an opening bracket or a backslash
+abbrev pub is_marked : ℕ → Bool
+is_marked b = nat_lt b 32 || b == 127 || b == 40 || b == 92
+
+-- such a byte of a file's name is shown by its number, every other one as it is
+abbrev pub shown_byte : ℕ → List ℕ
+shown_byte b = if is_marked b then codes "\\x" ++ hex_text 2 b else b ∷ []
+
+abbrev pub shown_name : List ℕ → List ℕ
+shown_name name = flat_map shown_byte name
+
+-- a text's error: its place, number and name
+abbrev pub source_text : AsmError → List ℕ
+source_text e =
+    (decimal e.line ++ codes ":" ++ decimal e.column) ␣ decimal (number_of_kind e.kind)
+    ␣ name_of_kind e.kind
+
+-- what stands before the explanation: what a script reads
+abbrev pub fault_head : Fault → List ℕ
+fault_head (File name why) = codes "s161: file" ␣ shown_name name.now
+fault_head (Schedule n) = codes "s161: schedule line" ␣ decimal n
+fault_head (Log n) = codes "s161: log line" ␣ decimal n
+fault_head LogMachine = codes "s161: log machine"
+fault_head LogImage = codes "s161: log image"
+fault_head (Watches n) = codes "s161: watches line" ␣ decimal n
+fault_head (Watch k) = codes "s161: watch" ␣ decimal k
+fault_head Conf = codes "s161: conf"
+fault_head (Image e) = codes "s161: image" ␣ decimal (number_of_fault e) ␣ name_of_fault e
+fault_head (Source e) = codes "s161: source" ␣ source_text e
+fault_head (Threads cause) = codes "s161: threads" ␣ name_of_cause cause
+fault_head Memory = codes "s161: memory"
+fault_head (Input why) = codes "s161: input"
+fault_head Word = codes "s161: input"
+fault_head Output = codes "s161: output"
+
+-- an explanation, in brackets
+abbrev pub in_brackets : Option (List ℕ) → List ℕ
+in_brackets None = []
+in_brackets (Some why) = codes " (" ++ why ++ codes ")"
+
+-- the line, without its end
+abbrev pub fault_line : Fault → List ℕ
+fault_line fault = fault_head fault ++ in_brackets (explanation_of fault)

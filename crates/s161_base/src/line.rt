@@ -1,0 +1,139 @@
+//! The line of a fault.
+
+ghost use Rattle.std.specs.Prelude.{◌≡◌, ◌<◌, Some};
+ghost use Rattle.std.specs.Fmt.{WritesOnOk};
+ghost use Rattle.s161_base.specs.FaultLines.{fault_head, fault_line, is_marked, shown_name, source_text};
+ghost use Rattle.s161_base.specs.helpers.FaultLines.{image_text, place_text, shown_char};
+
+use crate::explained::explanation;
+use crate::fault::Fault;
+use m161_asm::AsmError;
+use m161_elf::LoadError;
+use m161_text::Byte;
+use std::fmt;
+
+// A file's name, without the bytes that would end a line or begin an explanation.
+#[derive(Drop)]
+struct Name<'a>(&'a str);
+
+impl fmt::Display for Name<'_> {
+    ghost output = { λ name. Some (shown_name name.0.now) };
+
+    fn fmt<W: fmt::Write>(&self, f: &mut fmt::Formatter<W>) -> fmt::Result {
+        let mut rest = self.0.chars();
+        while let Some(c) = rest.next() {
+            write_char(f, c)?;
+        }
+        Ok(())
+    }
+}
+
+// A character of a name.
+fn write_char<W: fmt::Write>(f: &mut fmt::Formatter<W>, c: char) -> fmt::Result
+    ensures { WritesOnOk W.write_str_gives f.old result (shown_char c) f.new }
+{
+    if is_marked(c) {
+        let byte = Byte(c as u8);
+        write!(f, "\\x{byte}")
+    } else {
+        f.write_char(c)
+    }
+}
+
+// Whether a character is written by its number.
+fn is_marked(c: char) -> bool
+    ensures { result ≡ is_marked c }
+{
+    c < ' ' || c == '\x7f' || c == '(' || c == '\\'
+}
+
+// What is read of an image that can't be loaded.
+#[derive(Drop)]
+struct ImageText(LoadError);
+
+impl fmt::Display for ImageText {
+    ghost output = { λ image. Some (image_text image.0) };
+
+    fn fmt<W: fmt::Write>(&self, f: &mut fmt::Formatter<W>) -> fmt::Result {
+        let (number, name) = (self.0.number(), self.0.name());
+        write!(f, "{number} {name}")
+    }
+}
+
+// The place of a source's error.
+#[derive(Drop)]
+struct Place(AsmError);
+
+impl fmt::Display for Place {
+    ghost output = { λ place. Some (place_text place.0) };
+
+    fn fmt<W: fmt::Write>(&self, f: &mut fmt::Formatter<W>) -> fmt::Result {
+        let (line, column) = (self.0.line, self.0.column);
+        write!(f, "{line}:{column}")
+    }
+}
+
+// What is read of a text that can't be assembled.
+#[derive(Drop)]
+struct SourceText(AsmError);
+
+impl fmt::Display for SourceText {
+    ghost output = { λ source. Some (source_text source.0) };
+
+    fn fmt<W: fmt::Write>(&self, f: &mut fmt::Formatter<W>) -> fmt::Result {
+        let place = Place(self.0);
+        let (number, name) = (self.0.kind.number(), self.0.kind.name());
+        write!(f, "{place} {number} {name}")
+    }
+}
+
+// The line of a fault, without its explanation.
+#[derive(Drop)]
+struct Head<'a>(Fault<'a>);
+
+impl fmt::Display for Head<'_> {
+    ghost output = { λ head. Some (fault_head head.0) };
+
+    fn fmt<W: fmt::Write>(&self, f: &mut fmt::Formatter<W>) -> fmt::Result {
+        match self.0 {
+            Fault::File(name, _) => {
+                let name = Name(name);
+                write!(f, "s161: file {name}")
+            }
+            Fault::Schedule(n) => write!(f, "s161: schedule line {n}"),
+            Fault::Log(n) => write!(f, "s161: log line {n}"),
+            Fault::LogMachine => write!(f, "s161: log machine"),
+            Fault::LogImage => write!(f, "s161: log image"),
+            Fault::Watches(n) => write!(f, "s161: watches line {n}"),
+            Fault::Watch(k) => write!(f, "s161: watch {k}"),
+            Fault::Conf => write!(f, "s161: conf"),
+            Fault::Image(error) => {
+                let image = ImageText(error);
+                write!(f, "s161: image {image}")
+            }
+            Fault::Source(error) => {
+                let source = SourceText(error);
+                write!(f, "s161: source {source}")
+            }
+            Fault::Threads(cause) => {
+                let name = cause.name();
+                write!(f, "s161: threads {name}")
+            }
+            Fault::Memory => write!(f, "s161: memory"),
+            Fault::Input(_) | Fault::Word => write!(f, "s161: input"),
+            Fault::Output => write!(f, "s161: output"),
+        }
+    }
+}
+
+impl fmt::Display for Fault<'_> {
+    ghost output = { λ fault. Some (fault_line fault) };
+
+    fn fmt<W: fmt::Write>(&self, f: &mut fmt::Formatter<W>) -> fmt::Result {
+        let head = Head(*self);
+        match explanation(self) {
+            Some(why) => write!(f, "{head} ({why})"),
+            None => write!(f, "{head}"),
+        }
+    }
+}

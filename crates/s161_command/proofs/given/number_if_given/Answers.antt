@@ -1,0 +1,16 @@
+use Rattle.std.proofs.Common.{List, ℕ, Option, subst}
+use Rattle.std.specs.Str.Parse.{ParsesUnsigned, ExplainsUnsignedError, HasUnsignedDigitsIfOk}
+use Rattle.clap.specs.Words.{found_of, one_text}
+use Rattle.clap.proofs.WalkLemmas.{one_text-rows}
+use Rattle.s161_command.specs.Numbers.{IsNumberIf}
+use Rattle.s161_command.proofs.Reading.{number_if}
+use Rattle.s161_command.proofs.given.number_if_given.Goals as goal
+
+pub returns : goal.returns
+returns c =
+    let found = found_of c.args.given.now in
+    let P : Option (List ℕ) → Type 0 = λ text. IsNumberIf text c.get_one.result in
+    subst P (one_text-rows found c.args.name.now)
+    (number_if _ (λ bs r. ParsesUnsigned 32 10 bs r × ExplainsUnsignedError 10 bs r × HasUnsignedDigitsIfOk bs r)
+    (one_text found c.args.name.now) c.get_one.result
+    c.get_one.ensures.none c.get_one.ensures.value (λ t x g. g.0))

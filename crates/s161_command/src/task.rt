@@ -1,0 +1,169 @@
+//! The tasks that a command line can ask for.
+
+use crate::drive::{Clash, Drive};
+use clap::Error;
+
+/// The task of a command line.
+#[derive(Clone, Copy)]
+pub enum Task<'a> {
+    /// Run the built-in image.
+    Demo,
+    /// Run an image under a schedule.
+    Run(RunTask<'a>),
+    /// Run an image in threads.
+    RunInThreads(ThreadsTask<'a>),
+    /// Run an image by a policy.
+    RunDriven(DrivenTask<'a>),
+    /// Print the events that a policy chooses, as a schedule.
+    Schedule(ScheduleTask<'a>),
+    /// Run an image at the terminal.
+    Console(ConsoleTask<'a>),
+    /// Look for a seed whose run goes wrong.
+    Search(SearchTask<'a>),
+    /// Replay an image against a log.
+    Replay(ReplayTask<'a>),
+    /// Debug an image under a schedule.
+    Debug(FilesTask<'a>),
+    /// Look for stale uses of an image's run under a schedule, by the watches of a text.
+    Audit(FilesTask<'a>),
+    /// Assemble a text into its file.
+    Assemble,
+    /// List the instructions of the image of this name.
+    Disassemble(&'a str),
+}
+
+/// The size of the machine that is asked for.
+#[derive(Clone, Copy)]
+pub struct Size {
+    /// Bytes of RAM.
+    pub ram: u32,
+    /// Processors.
+    pub processors: u32,
+    /// Entries that the log keeps.
+    pub log: u32,
+}
+
+/// What `run` prints.
+#[derive(Clone, Copy, Debug, PartialEq, Eq)]
+pub enum Shown {
+    /// The console's output, each started processor, and why the run stopped.
+    Summary,
+    /// The same, with the log before the last line.
+    SummaryAndLog,
+    /// The log alone.
+    Log,
+}
+
+/// The arguments of `run`.
+#[derive(Clone, Copy)]
+pub struct RunTask<'a> {
+    /// The image's name.
+    pub image: &'a str,
+    /// The machine's size.
+    pub size: Size,
+    /// What is printed.
+    pub shown: Shown,
+}
+
+/// The arguments of `run` in threads.
+#[derive(Clone, Copy)]
+pub struct ThreadsTask<'a> {
+    /// Those of any run.
+    pub run: RunTask<'a>,
+    /// How many Steps each thread makes.
+    pub quota: u32,
+    /// How many of them it makes at most before another thread may go on.
+    pub burst: u32,
+}
+
+/// The arguments of `run` by a policy.
+#[derive(Clone, Copy)]
+pub struct DrivenTask<'a> {
+    /// Those of any run.
+    pub run: RunTask<'a>,
+    /// What the driven run is asked for.
+    pub drive: Drive<'a>,
+}
+
+/// The arguments of `schedule`.
+#[derive(Clone, Copy)]
+pub struct ScheduleTask<'a> {
+    /// The image's name.
+    pub image: &'a str,
+    /// The machine's size.
+    pub size: Size,
+    /// What the driven run is asked for.
+    pub drive: Drive<'a>,
+}
+
+/// The arguments of `console`.
+#[derive(Clone, Copy)]
+pub struct ConsoleTask<'a> {
+    /// The image's name.
+    pub image: &'a str,
+    /// The machine's size.
+    pub size: Size,
+    /// What the driven run is asked for. It has no file of keys: they come from standard input.
+    pub drive: Drive<'a>,
+}
+
+/// The arguments of `search`.
+#[derive(Clone, Copy)]
+pub struct SearchTask<'a> {
+    /// The image's name.
+    pub image: &'a str,
+    /// The machine's size.
+    pub size: Size,
+    /// What each driven run is asked for; the order's seed is that of the first one.
+    pub drive: Drive<'a>,
+    /// How many seeds are tried, at least 1.
+    pub seeds: u32,
+    /// The name of the watches' file, if there is one.
+    pub watches: Option<&'a str>,
+    /// The name of the file whose bytes the console should send, if there is one.
+    pub output: Option<&'a str>,
+    /// Whether a schedule that is found stays as it is, and isn't shortened.
+    pub whole: bool,
+}
+
+/// The size of the machine that `replay` asks for.
+#[derive(Clone, Copy)]
+pub struct AskedSize {
+    /// Bytes of RAM, if they are given.
+    pub ram: Option<u32>,
+    /// Processors, if they are given.
+    pub processors: Option<u32>,
+    /// Entries that the log keeps.
+    pub log: u32,
+}
+
+/// The arguments of `replay`.
+#[derive(Clone, Copy)]
+pub struct ReplayTask<'a> {
+    /// The image's name.
+    pub image: &'a str,
+    /// The name of the log's file.
+    pub text: &'a str,
+    /// The machine's size.
+    pub size: AskedSize,
+}
+
+/// Why the words of a command line have no task.
+#[derive(Drop)]
+pub enum Rejection {
+    /// clap doesn't take them.
+    Words(Error),
+    /// clap takes them, and their options can't be followed.
+    Options(Clash),
+}
+
+/// The arguments of a command over an image and a text.
+#[derive(Clone, Copy)]
+pub struct FilesTask<'a> {
+    /// The image's name.
+    pub image: &'a str,
+    /// The name of the text's file.
+    pub text: &'a str,
+    /// The machine's size.
+    pub size: Size,
+}
