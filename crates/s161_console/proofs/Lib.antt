@@ -1,0 +1,4 @@
+mod Booting
+mod Sending
+mod Choosing
+mod Running
