@@ -12,12 +12,14 @@ use Rattle.m161_drive.specs.Choice.{chosen, wants_key}
 use Rattle.m161_drive.specs.Drive.{Drives}
 use Rattle.m161_drive.specs.Policy.{Rules}
 use Rattle.s161_command.specs.declared.drive.Drive.{Drive}
-use Rattle.s161_command.specs.declared.command.ScheduleTask.{ScheduleTask as ConsoleTask}
+use Rattle.s161_command.specs.declared.task.ConsoleTask.{ConsoleTask}
 use Rattle.s161_runs.specs.declared.events.Stop.{Stop}
 use Rattle.s161_base.specs.declared.fault.Fault.{Fault}
 use Rattle.s161_base.specs.declared.fault.Fault.TheVariants.{Conf, File, Image, Input, Memory, Output}
+use Rattle.s161_base.specs.declared.fault.Unread.TheVariants.{Failed}
 use Rattle.s161_base.specs.Faults.{BootsTo}
 use Rattle.s161_base.specs.Known.{OfKnown}
+use Rattle.s161_base.specs.Reading.{IsOfBytes}
 use Rattle.s161_base.specs.Samples.{IsFileName}
 use Rattle.s161_base.specs.Sizes.{conf_of}
 use Rattle.s161_drive.specs.Driven.{rules_of, stop_of}
@@ -87,7 +89,7 @@ pub record OutputFails (options : Drive) (m : History) (x : Streams) : Type 0 wh
 
 -- which stream a fault is of, and how it fails
 abbrev pub Fails : Drive → History → Streams → Fault → Type 0
-Fails options m x Input = InputFails options m x
+Fails options m x (Input why) = (why ≡ Failed) × InputFails options m x
 Fails options m x Output = OutputFails options m x
 Fails options m x _ = ⊥
 
@@ -109,7 +111,8 @@ pub record IsConsoleRun
 
 -- what a fault before the run says of its inputs. File and Memory hold whatever else is at fault
 abbrev pub IsEarlyFault : ConsoleTask → Option (List ℕ) → Fault → Type 0
-IsEarlyFault task known (File name) = (name.now ≡ task.image.now) × IsFileName task.image.now
+IsEarlyFault task known (File name why) =
+    (name.now ≡ task.image.now) × IsFileName task.image.now × IsOfBytes why
 IsEarlyFault task known Conf = is_within_limits (conf_of task.size) ≡ false
 IsEarlyFault task known (Image e) =
     OfKnown known (λ file. boot_fault file (conf_of task.size) ≡ Some (Load e))

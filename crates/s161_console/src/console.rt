@@ -13,7 +13,7 @@ use m161_machine::Conf;
 use s161_base::fault::Fault;
 use s161_base::files::FileSource;
 use s161_base::sample::read_image;
-use s161_command::ScheduleTask as ConsoleTask;
+use s161_command::ConsoleTask;
 use s161_runs::events::Stop;
 use std::alloc::Global;
 use std::io::{Read, Write};

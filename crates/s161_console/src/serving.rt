@@ -10,7 +10,7 @@ ghost use Rattle.s161_console.specs.helpers.Consoles.{AppendsSome, GivesKey, Goe
 use crate::streams::{read_key, send};
 use m161::Machine;
 use m161_drive::{Cursor, Driven, Policy, Stop};
-use s161_base::fault::Fault;
+use s161_base::fault::{Fault, Unread};
 use s161_command::Drive;
 use std::io::{Read, Write};
 
@@ -26,7 +26,7 @@ fn next_key<'a, I: Read>(
     ensures ok { IfOk result (λ key.
         GivesKey (wants_key policy.now cursor.now machine.now.state) ended.old
         (I.remaining input.old) key ended.new (I.remaining input.new)) }
-    ensures err { IfErr result (λ fault. (fault ≡ Fault.Input)
+    ensures err { IfErr result (λ fault. (fault ≡ Fault.Input Unread.Failed)
         × (wants_key policy.now cursor.now machine.now.state ≡ true) × (ended.old ≡ false)
         × Consumes (I.remaining input.old) (I.remaining input.new) []) }
 {

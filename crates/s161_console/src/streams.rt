@@ -4,13 +4,13 @@ ghost use Rattle.std.specs.Prelude.{◌≡◌, false, true, [], IfErr, IfOk, OnO
 ghost use Rattle.std.specs.Io.KnownBytes.{Appends, Consumes, IsAtEnd};
 ghost use Rattle.s161_console.specs.helpers.Consoles.{AppendsSome, GivesKey, ReadsByte};
 
-use s161_base::fault::Fault;
+use s161_base::fault::{Fault, Unread};
 use std::io::{ErrorKind, Read, Write};
 
 // The next byte of an input, if there is one.
 fn read_byte<'a, I: Read>(input: &mut I) -> Result<Option<u8>, Fault<'a>>
     ensures ok { IfOk result (λ byte. ReadsByte (I.remaining input.old) byte (I.remaining input.new)) }
-    ensures err { IfErr result (λ fault. (fault ≡ Fault.Input)
+    ensures err { IfErr result (λ fault. (fault ≡ Fault.Input Unread.Failed)
         × Consumes (I.remaining input.old) (I.remaining input.new) []) }
 {
     for _call in 0..u64::MAX {
@@ -19,10 +19,10 @@ fn read_byte<'a, I: Read>(input: &mut I) -> Result<Option<u8>, Fault<'a>>
             Ok(0) => return Ok(None),
             Ok(_) => return Ok(Some(byte[0])),
             Err(error) if error.kind() == ErrorKind::Interrupted => continue,
-            Err(_) => return Err(Fault::Input),
+            Err(_) => return Err(Fault::Input(Unread::Failed)),
         }
     }
-    Err(Fault::Input)
+    Err(Fault::Input(Unread::Failed))
 }
 
 /// The next byte of an input. There is none once it has ended, and then it isn't read again.
@@ -36,7 +36,7 @@ pub(crate) fn read_key<'a, I: Read>(
     requires { ended.old ≡ true → IsAtEnd (I.remaining input.old) }
     ensures ok { IfOk result (λ key. GivesKey true ended.old (I.remaining input.old)
         key ended.new (I.remaining input.new)) }
-    ensures err { IfErr result (λ fault. (fault ≡ Fault.Input) × (ended.old ≡ false)
+    ensures err { IfErr result (λ fault. (fault ≡ Fault.Input Unread.Failed) × (ended.old ≡ false)
         × Consumes (I.remaining input.old) (I.remaining input.new) []) }
 {
     if *ended {

@@ -10,7 +10,7 @@ use Rattle.m161_text.specs.Lines.{with_line_end}
 use Rattle.s161_texts.specs.Assemblies.{IsAssembled}
 use Rattle.s161_audit.specs.Audits.{IsAudited}
 use Rattle.s161_command.specs.Commands.{ClashesIn, GoTogether, IsAccepted, IsHelp, IsTask, command_line}
-use Rattle.s161_console.specs.Consoles.{IsConsole, streams}
+use Rattle.s161_console.specs.Consoles.{IsConsoleRun, streams}
 use Rattle.s161_debug.specs.Debugs.{IsDebug}
 use Rattle.s161_drive.specs.Driven.{IsDriven}
 use Rattle.s161_drive.specs.Schedules.{IsScheduled}
@@ -74,7 +74,7 @@ pub record IsServed
     (task : ConsoleTask) (files : Text → Option (List ℕ)) (before after : Standard) (status : ℕ)
     : Type 0 where
   pub stop : Stop
-  pub ran : IsConsole task (image_file files task.image.now)
+  pub ran : IsConsoleRun task (image_file files task.image.now)
       (streams before.input after.input before.output after.output) stop
   pub is_told : Appends before.errors after.errors (with_line_end (stop_line stop))
   pub status_is : status ≡ status_of stop

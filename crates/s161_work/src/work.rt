@@ -7,7 +7,7 @@ ghost use Rattle.s161_texts.specs.Assemblies.{IsAssembled};
 ghost use Rattle.s161_work.specs.helpers.Assemblies.{IsAssemblyFault};
 ghost use Rattle.s161_command.specs.Commands.{HasLimits, IsHelp};
 ghost use Rattle.m161_order.specs.Order.{order_fault};
-ghost use Rattle.s161_console.specs.Consoles.{IsConsole, IsConsoleFault, streams};
+ghost use Rattle.s161_console.specs.Consoles.{IsConsoleFault, IsConsoleRun, streams};
 ghost use Rattle.s161_debug.specs.Debugs.{IsDebug, IsDebugFault};
 ghost use Rattle.s161_drive.specs.Driven.{IsDriven, IsDrivenFault};
 ghost use Rattle.s161_drive.specs.Schedules.{IsScheduled, IsScheduledFault};
@@ -20,7 +20,7 @@ ghost use Rattle.s161_base.specs.Samples.{image_file};
 ghost use Rattle.s161_search.specs.Searches.{IsSearched, IsSearchFault};
 ghost use Rattle.s161_threads.specs.Threads.{IsRunInThreads, IsThreadsFault};
 ghost use Rattle.s161_work.specs.Works.{Finishes, Follows, IsDone, IsRefused, IsResultOf, IsServed, Prints, WithZero, console_of, standard};
-ghost use Rattle.s161_work.specs.helpers.Works.{Fails, HasMore, IsHelped, IsSaid, IsTaskFault};
+ghost use Rattle.s161_work.specs.helpers.Works.{Fails, FailsAs, FailsToServe, HasMore, IsHelped, IsSaid, IsTaskFault};
 
 use clap::Error;
 use clap::error::ErrorKind;
@@ -134,6 +134,9 @@ fn do_task<'a, R: Threads + Wait + Sync, F: FileSource, I: Read, O: Write, E: Wr
     ensures finished { IfOk result (Finishes task.entry (F.known files.old)
         (standard (I.remaining input.old) (O.contents output.old) (E.contents errors.old))
         (standard (I.remaining input.new) (O.contents output.new) (E.contents errors.new))) }
+    ensures fault { IfErr result (FailsAs (console_of task.entry) task.entry (F.known files.old)
+        (standard (I.remaining input.old) (O.contents output.old) (E.contents errors.old))
+        (standard (I.remaining input.new) (O.contents output.new) (E.contents errors.new))) }
     ensures within { IfOk result (λ status. (status ≤ 5) × (status ≢ 2)) }
 {
     match task {
@@ -163,6 +166,9 @@ fn serve<'a, F: FileSource, I: Read, O: Write, E: Write>(
 ) -> Result<u8, Fault<'a>>
     requires { order_fault task.drive.order ≡ None }
     ensures served { IfOk result (IsServed task.entry (F.known files.old)
+        (standard (I.remaining input.old) (O.contents output.old) (E.contents errors.old))
+        (standard (I.remaining input.new) (O.contents output.new) (E.contents errors.new))) }
+    ensures fault { IfErr result (FailsToServe task.entry (F.known files.old)
         (standard (I.remaining input.old) (O.contents output.old) (E.contents errors.old))
         (standard (I.remaining input.new) (O.contents output.new) (E.contents errors.new))) }
     ensures within { IfOk result (λ status. (status ≤ 5) × (status ≢ 2)) }

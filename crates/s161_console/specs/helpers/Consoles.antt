@@ -11,6 +11,7 @@ use Rattle.m161_drive.specs.Choice.{chosen_with, taken, wants_key}
 use Rattle.m161_drive.specs.Policy.{Rules}
 use Rattle.s161_base.specs.declared.fault.Fault.{Fault}
 use Rattle.s161_base.specs.declared.fault.Fault.TheVariants.{Input, Output}
+use Rattle.s161_base.specs.declared.fault.Unread.TheVariants.{Failed}
 
 -- The next event of a run at a terminal.
 
@@ -104,7 +105,7 @@ IsOff p stop q =
 -- the input fails, and nothing else is changed
 abbrev pub FailsToRead : Rules → Place → Fault → Place → Type 0
 FailsToRead rules p fault q =
-    (fault ≡ Input) × (p.machine.state.board.off ≡ false)
+    (fault ≡ Input Failed) × (p.machine.state.board.off ≡ false)
     × (wants_key rules p.cursor p.machine.state ≡ true) × (p.ended ≡ false)
     × Consumes p.left q.left [] × (q.output ≡ p.output)
 

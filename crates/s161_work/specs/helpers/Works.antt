@@ -1,22 +1,26 @@
-use Rattle.std.specs.Prelude.{◌≡◌, ◌≢◌, ◌⊎◌, ℕ, List, Option}
+use Rattle.std.specs.Prelude.{◌≡◌, ◌≢◌, ◌⊎◌, ℕ, List, Option, None, Some}
 use Rattle.std.specs.Io.KnownBytes.{Appends}
 use Rattle.clap.specs.Words.{Text, kind_of}
 use Rattle.clap.specs.declared.error.kind.ErrorKind.TheVariants.{OutOfMemory}
 use Rattle.s161_command.specs.declared.task.Rejection.{Rejection}
 use Rattle.s161_command.specs.declared.task.Rejection.TheVariants.{Words, Options}
 use Rattle.s161_command.specs.Commands.{IsHelp}
+use Rattle.s161_command.specs.declared.task.ConsoleTask.{ConsoleTask}
 use Rattle.s161_command.specs.declared.task.Task.{Task}
 use Rattle.s161_command.specs.declared.task.Task.TheVariants.{Assemble, Audit, Console, Debug, Demo, Disassemble, Replay, Run, RunDriven, RunInThreads, Schedule, Search}
 use Rattle.s161_base.specs.declared.fault.Fault.{Fault}
 use Rattle.s161_base.specs.declared.fault.Fault.TheVariants.{Memory, Output}
 use Rattle.s161_audit.specs.Audits.{IsAuditFault}
 use Rattle.s161_work.specs.helpers.Assemblies.{IsAssemblyFault}
+use Rattle.s161_console.specs.Consoles.{IsConsoleFault, IsConsoleRun, streams}
 use Rattle.s161_debug.specs.Debugs.{IsDebugFault}
 use Rattle.s161_drive.specs.Driven.{IsDrivenFault}
 use Rattle.s161_drive.specs.Schedules.{IsScheduledFault}
 use Rattle.s161_work.specs.helpers.Listings.{IsListingFault}
 use Rattle.s161_runs.specs.Replays.{IsReplayFault}
 use Rattle.s161_runs.specs.Runs.{IsFaultOf}
+use Rattle.s161_runs.specs.declared.events.Stop.{Stop}
+use Rattle.s161_work.specs.Works.{IsResultOf, Standard}
 use Rattle.s161_base.specs.Samples.{image_file}
 use Rattle.s161_search.specs.Searches.{IsSearchFault}
 use Rattle.s161_threads.specs.Threads.{IsThreadsFault}
@@ -69,3 +73,23 @@ IsSaid (Options clash) = Unit {0}
 abbrev pub IsHelped : Rejection → Option (List ℕ) → Option (List ℕ) → Type 0
 IsHelped (Words error) before after = IsHelp (kind_of error) × HasMore before after
 IsHelped (Options clash) before after = ⊥
+
+-- a kernel at the terminal was ended by this fault; or it ran, and then memory was refused or standard
+-- error failed before it was told why it stopped
+abbrev pub FailsToServe :
+    ConsoleTask → (Text → Option (List ℕ)) → Standard → Standard → Fault → Type 0
+FailsToServe task files before after fault =
+    let known = image_file files task.image.now in
+    let x = streams before.input after.input before.output after.output in
+    IsConsoleFault task known x fault
+    ⊎ (((fault ≡ Memory) ⊎ (fault ≡ Output)) × ((stop : Stop) × IsConsoleRun task known x stop))
+
+-- a task is ended by this fault: at the terminal; or before or while its text is printed, and nothing
+-- was written to standard error
+abbrev pub FailsAs :
+    Option ConsoleTask → Task → (Text → Option (List ℕ)) → Standard → Standard → Fault → Type 0
+FailsAs (Some console) task files before after fault = FailsToServe console files before after fault
+FailsAs None task files before after fault =
+    Fails (IsResultOf task files before.input) (IsTaskFault task files before.input)
+    before.output after.output fault
+    × (after.errors ≡ before.errors)
