@@ -39,10 +39,8 @@ fn by_hand(machine: &mut Machine, events: u32) {
         return;
     }
     let _ = machine.steps(0, 7);
-    let mut next = 1;
-    for _ in 7..events {
-        let _ = machine.steps(next, 1);
-        next = 1 - next;
+    for k in 7..events {
+        let _ = machine.steps(k % 2, 1);
     }
 }
 
