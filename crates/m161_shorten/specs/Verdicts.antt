@@ -1,0 +1,25 @@
+use Rattle.std.specs.Prelude.{◌≡◌, ℕ, Bool, if◌then◌else◌, List, length, take, Option, None, Some}
+use Rattle.m161_machine.specs.declared.event.Event.{Event}
+use Rattle.m161_shorten.specs.declared.judged.Judged.{Judged}
+
+-- Verdicts of one kind.
+
+-- how many events a verdict needs, if it is of the kind
+abbrev pub needs_of : {K : Type 0} → (K → Bool) → Option (Judged K) → Option ℕ
+needs_of is_kind None = None
+needs_of is_kind (Some judged) = if is_kind judged.kind then Some judged.needs else None
+
+-- the same of the verdict on a list
+abbrev pub needs_by : {K : Type 0} → (K → Bool) → (List Event → Option (Judged K)) → List Event → Option ℕ
+needs_by is_kind judges es = needs_of is_kind (judges es)
+
+-- below, and where the passes are defined, `needs es` is how many of the events es their verdict
+-- needs, if they have one of the kind
+
+-- all of the events are needed
+abbrev pub NeedsAll : (List Event → Option ℕ) → List Event → Type 0
+NeedsAll needs es = needs es ≡ Some (length es)
+
+-- a list that is cut behind its verdict keeps it
+abbrev pub KeepsCut : (List Event → Option ℕ) → Type 0
+KeepsCut needs = (es : List Event) (n : ℕ) → needs es ≡ Some n → NeedsAll needs (take n es)

@@ -1,0 +1,30 @@
+//! Judges.
+
+ghost use Rattle.std.specs.Prelude.{◌≡◌, IfOk};
+
+use crate::judged::Judged;
+use m161_machine::Event;
+
+/// A judge of lists of events. Its verdict on a list is the same each time, or it fails.
+pub trait Judge {
+    ghost use Rattle.std.specs.Prelude.{List, Option};
+    ghost use Rattle.m161_machine.specs.declared.event.Event.{Event};
+    ghost use Rattle.m161_shorten.specs.declared.judged.Judged.{Judged};
+
+    /// What verdicts are compared by.
+    type Kind: Copy + Eq;
+
+    /// Why a list can't be judged.
+    type Error;
+
+    // The verdict on each list, if it has one.
+    ghost judges: { Self → List Event → Option (Judged Self.Kind) };
+
+    /// The verdict on a list, if it has one.
+    ///
+    /// # Errors
+    /// The list can't be judged.
+    fn judge(&mut self, events: &[Event]) -> Result<Option<Judged<Self::Kind>>, Self::Error>
+        ensures verdict { IfOk result (λ verdict. verdict ≡ judges self.old events.now) }
+        ensures same { judges self.new ≡ judges self.old };
+}
