@@ -1,9 +1,11 @@
 use Rattle.std.proofs.Common.{◌≡◌, ◌⊎◌, inl, inr, sym, ap, subst, ℕ, zero, suc, ◌<◌, Bool, true, false, List, [], ◌∷◌, take, arith}
 use Rattle.std.specs.Prelude.{Option, None, Some}
 use Rattle.m161_machine.specs.declared.event.Event.{Event}
+use Rattle.m161_shorten.specs.declared.judged.Judged.{Judged}
 use Rattle.m161_shorten.specs.declared.trial.Tried.{Tried}
 use Rattle.m161_shorten.specs.Passes.{taken_of, taken_or}
-use Rattle.m161_shorten.specs.helpers.Tries.{Leaves, Tries}
+use Rattle.m161_shorten.specs.Verdicts.{AreSame, IsTold}
+use Rattle.m161_shorten.specs.helpers.Tries.{CutsIf, Leaves, Tries}
 
 -- Trials, one after the other.
 
@@ -30,5 +32,14 @@ first_enough needs t u es fs tried (suc left) tries some (inl was) = by (needs t
         absurd cc
 
 -- where none is taken the list stays
-pub stays_untaken : (found : Option (List Event)) (es fs : List Event) (taken : Bool) → taken ≡ false → Leaves found es taken fs → fs ≡ es
-stays_untaken found es fs taken is leaves = let left : Leaves found es false fs = subst (λ b. Leaves found es b fs) is leaves in left.1
+pub stays_uncut : (trials : List (List Event)) (es fs : List Event) (taken : Bool) (judged : ℕ) → taken ≡ false → CutsIf taken trials es judged fs → fs ≡ es
+stays_uncut trials es fs taken judged is cuts = subst (λ b. CutsIf b trials es judged fs) is cuts
+
+-- judges with the same verdicts
+
+pub same_after : {K : Type 0} (a b c : List Event → Option (Judged K) → Type 0) → AreSame a b → AreSame b c → AreSame a c
+same_after a b c first second es verdict = ((λ h. (second es verdict).0 ((first es verdict).0 h)), (λ h. (first es verdict).1 ((second es verdict).1 h)))
+
+-- a function that tells the verdicts of one tells those of the other
+pub told_still : {K : Type 0} (a b : List Event → Option (Judged K) → Type 0) (tells : List Event → Option (Judged K)) → AreSame a b → IsTold a tells → IsTold b tells
+told_still a b tells same told es verdict h = told es verdict ((same es verdict).1 h)

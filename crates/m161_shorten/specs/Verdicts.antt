@@ -13,6 +13,17 @@ needs_of is_kind (Some judged) = if is_kind judged.kind then Some judged.needs e
 abbrev pub needs_by : {K : Type 0} → (K → Bool) → (List Event → Option (Judged K)) → List Event → Option ℕ
 needs_by is_kind judges es = needs_of is_kind (judges es)
 
+-- the function tells the verdict on each list that has one
+abbrev pub IsTold : {K : Type 0} → (List Event → Option (Judged K) → Type 0) → (List Event → Option (Judged K)) → Type 0
+IsTold {K} judges tells =
+    (es : List Event) (verdict : Option (Judged K)) → judges es verdict → verdict ≡ tells es
+
+-- a list has a verdict by the one as it has by the other
+abbrev pub AreSame : {K : Type 0} → (judges others : List Event → Option (Judged K) → Type 0) → Type 0
+AreSame {K} judges others =
+    (es : List Event) (verdict : Option (Judged K))
+    → (judges es verdict → others es verdict) × (others es verdict → judges es verdict)
+
 -- below, and where the passes are defined, `needs es` is how many of the events es their verdict
 -- needs, if they have one of the kind
 
