@@ -11,14 +11,22 @@ needs_of is_kind (Some judged) = if is_kind judged.kind then Some judged.needs e
 
 -- the same of the verdict on a list
 abbrev pub needs_by : {K : Type 0} → (K → Bool) → (List Event → Option (Judged K)) → List Event → Option ℕ
-needs_by is_kind judges es = needs_of is_kind (judges es)
+needs_by is_kind tells es = needs_of is_kind (tells es)
 
--- the function tells the verdict on each list that has one
-abbrev pub IsTold : {K : Type 0} → (List Event → Option (Judged K) → Type 0) → (List Event → Option (Judged K)) → Type 0
+-- the function tells the verdict on each list that is judged
+abbrev pub IsTold :
+    {K : Type 0} → (List Event → Option (Judged K) → Type 0) → (List Event → Option (Judged K)) → Type 0
 IsTold {K} judges tells =
     (es : List Event) (verdict : Option (Judged K)) → judges es verdict → verdict ≡ tells es
 
--- a list has a verdict by the one as it has by the other
+-- something holds by the verdicts of a kind, whatever function tells them
+abbrev pub ByVerdicts :
+    {K : Type 0} → (K → Bool) → (List Event → Option (Judged K) → Type 0)
+    → ((List Event → Option ℕ) → Type 0) → Type 0
+ByVerdicts {K} is_kind judges Holds =
+    (tells : List Event → Option (Judged K)) → IsTold judges tells → Holds (needs_by is_kind tells)
+
+-- both judge alike: a list has the same verdicts by the one as by the other
 abbrev pub AreSame : {K : Type 0} → (judges others : List Event → Option (Judged K) → Type 0) → Type 0
 AreSame {K} judges others =
     (es : List Event) (verdict : Option (Judged K))

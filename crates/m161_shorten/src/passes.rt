@@ -1,11 +1,9 @@
 //! The passes over the blocks of a list.
 
-ghost use Rattle.std.specs.Prelude.{◌≡◌, ◌≤◌, ◌<◌, true, false, nat_lt, length, IfOk, List, OnOk, OnErr, Option};
-ghost use Rattle.m161_machine.specs.declared.event.Event.{Event as EventValue};
-ghost use Rattle.m161_shorten.specs.declared.judged.Judged.{Judged};
+ghost use Rattle.std.specs.Prelude.{◌≡◌, ◌≤◌, ◌<◌, true, false, nat_lt, length, IfOk, OnOk, OnErr};
 ghost use Rattle.m161_shorten.specs.Blocks.{blocks};
 ghost use Rattle.m161_shorten.specs.Passes.{after_block, first_place, Shortens};
-ghost use Rattle.m161_shorten.specs.Verdicts.{needs_by, AreSame, IsTold, KeepsCut, NeedsAll};
+ghost use Rattle.m161_shorten.specs.Verdicts.{AreSame, ByVerdicts, KeepsCut, NeedsAll};
 ghost use Rattle.m161_shorten.specs.helpers.Tries.{CutsAt, GoesFurther, Moves};
 
 use crate::judge::Judge;
@@ -70,9 +68,8 @@ impl Passes {
     fn try_block<J: Judge>(&mut self, judge: &mut J, kind: J::Kind) -> Result<(), J::Error>
         requires left { 0 < self.old.left }
         requires some { self.old.block < length (blocks self.old.events) }
-        ensures tried { (tells : List EventValue → Option (Judged J.Kind)) → IsTold (J.judges judge.old) tells →
-            OnOk result
-            (self.new ≡ after_block (needs_by (J.Kind.eq kind) tells) self.old) }
+        ensures tried { OnOk result (ByVerdicts (J.Kind.eq kind) (J.judges judge.old)
+            (λ needs. self.new ≡ after_block needs self.old)) }
         ensures cuts { OnOk result (CutsAt self.old self.new) }
         ensures same { AreSame (J.judges judge.old) (J.judges judge.new) }
     {
@@ -100,9 +97,8 @@ impl Passes {
     // Goes on to the next place; false if there is none.
     #[tactic(auto, unfolding(crate::specs::Passes::next_place))]
     fn go_on<J: Judge>(&mut self, judge: &mut J, kind: J::Kind) -> Result<bool, J::Error>
-        ensures moves { (tells : List EventValue → Option (Judged J.Kind)) → IsTold (J.judges judge.old) tells →
-            IfOk result (λ more.
-            Moves (needs_by (J.Kind.eq kind) tells) self.old more self.new) }
+        ensures moves { IfOk result (λ more. ByVerdicts (J.Kind.eq kind) (J.judges judge.old)
+            (λ needs. Moves needs self.old more self.new)) }
         ensures ends { IfOk result (λ more. more ≡ false → self.new ≡ self.old) }
         ensures further { IfOk result (λ more. more ≡ true → GoesFurther self.old self.new) }
         ensures same { AreSame (J.judges judge.old) (J.judges judge.new) }
@@ -133,15 +129,13 @@ pub fn shorten<J: Judge>(
     kind: J::Kind,
     events: Vec<Event>,
 ) -> Result<Vec<Event>, J::Error>
-    ensures passes { (tells : List EventValue → Option (Judged J.Kind)) → IsTold (J.judges judge.old) tells →
-        IfOk result (λ shorter.
-        Shortens (needs_by (J.Kind.eq kind) tells) events.items shorter.items) }
+    ensures passes { IfOk result (λ shorter. ByVerdicts (J.Kind.eq kind) (J.judges judge.old)
+        (λ needs. Shortens needs events.items shorter.items)) }
     ensures blocks { IfOk result (λ shorter. length (blocks shorter.items) ≤ length (blocks events.items)) }
     ensures events { IfOk result (λ shorter. length shorter.items ≤ length events.items) }
     // A list that goes wrong at its end still does.
-    ensures needed { (tells : List EventValue → Option (Judged J.Kind)) → IsTold (J.judges judge.old) tells →
-        IfOk result (λ shorter. let needs = needs_by (J.Kind.eq kind) tells in
-        KeepsCut needs → NeedsAll needs events.items → NeedsAll needs shorter.items) }
+    ensures needed { IfOk result (λ shorter. ByVerdicts (J.Kind.eq kind) (J.judges judge.old)
+        (λ needs. KeepsCut needs → NeedsAll needs events.items → NeedsAll needs shorter.items)) }
     ensures same { AreSame (J.judges judge.old) (J.judges judge.new) }
 {
     let mut passes = Passes::new(events);

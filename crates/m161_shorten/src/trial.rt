@@ -1,10 +1,8 @@
 //! Trials.
 
-ghost use Rattle.std.specs.Prelude.{◌≡◌, ◌≤◌, ◌<◌, [], ◌∷◌, length, take, IfOk, List, OnErr, Option};
-ghost use Rattle.m161_machine.specs.declared.event.Event.{Event as EventValue};
-ghost use Rattle.m161_shorten.specs.declared.judged.Judged.{Judged};
+ghost use Rattle.std.specs.Prelude.{◌≡◌, ◌≤◌, ◌<◌, [], ◌∷◌, length, take, IfOk, OnErr};
 ghost use Rattle.m161_shorten.specs.Passes.{taken_of};
-ghost use Rattle.m161_shorten.specs.Verdicts.{needs_by, AreSame, IsTold};
+ghost use Rattle.m161_shorten.specs.Verdicts.{AreSame, ByVerdicts};
 ghost use Rattle.m161_shorten.specs.helpers.Ranges.{pair_trials, swapped, trials_at, IsPair};
 ghost use Rattle.m161_shorten.specs.helpers.Tries.{Cuts, Tries};
 
@@ -27,8 +25,8 @@ fn needs<J: Judge>(
     kind: J::Kind,
     events: &[Event],
 ) -> Result<Option<usize>, J::Error>
-    ensures needs { (tells : List EventValue → Option (Judged J.Kind)) → IsTold (J.judges judge.old) tells →
-        IfOk result (λ n. n ≡ needs_by (J.Kind.eq kind) tells events.now) }
+    ensures needs { IfOk result (λ n. ByVerdicts (J.Kind.eq kind) (J.judges judge.old)
+        (λ needs. n ≡ needs events.now)) }
     ensures same { AreSame (J.judges judge.old) (J.judges judge.new) }
 {
     match judge.judge(events)? {
@@ -49,10 +47,9 @@ fn try_swapped<J: Judge>(
     requires first { a ≤ b }
     requires second { b ≤ c }
     requires within { c ≤ length events.old.items }
-    ensures tries { (tells : List EventValue → Option (Judged J.Kind)) → IsTold (J.judges judge.old) tells →
-        IfOk result (λ tried. Tries
-        (taken_of (needs_by (J.Kind.eq kind) tells) (swapped a b c events.old.items ∷ []))
-        events.old.items tried events.new.items) }
+    ensures tries { IfOk result (λ tried. ByVerdicts (J.Kind.eq kind) (J.judges judge.old)
+        (λ needs. Tries (taken_of needs (swapped a b c events.old.items ∷ []))
+        events.old.items tried events.new.items)) }
     ensures cuts { IfOk result (λ tried. Cuts (swapped a b c events.old.items ∷ [])
         events.old.items tried events.new.items) }
     ensures one { IfOk result (λ tried. tried.judged ≡ 1) }
@@ -92,10 +89,9 @@ fn try_pair<J: Judge>(
 ) -> Result<Tried, J::Error>
     requires some { 0 < left }
     requires pair { IsPair pair events.old.items }
-    ensures tries { (tells : List EventValue → Option (Judged J.Kind)) → IsTold (J.judges judge.old) tells →
-        IfOk result (λ tried. Tries
-        (taken_of (needs_by (J.Kind.eq kind) tells) (take left (pair_trials pair events.old.items)))
-        events.old.items tried events.new.items) }
+    ensures tries { IfOk result (λ tried. ByVerdicts (J.Kind.eq kind) (J.judges judge.old)
+        (λ needs. Tries (taken_of needs (take left (pair_trials pair events.old.items)))
+        events.old.items tried events.new.items)) }
     ensures cuts { IfOk result (λ tried. Cuts (take left (pair_trials pair events.old.items))
         events.old.items tried events.new.items) }
     ensures few { IfOk result (λ tried. tried.judged ≤ left) }
@@ -123,10 +119,9 @@ pub(crate) fn try_start<J: Judge>(
 ) -> Result<Tried, J::Error>
     requires some { 0 < left }
     requires start { start ≤ length events.old.items }
-    ensures tries { (tells : List EventValue → Option (Judged J.Kind)) → IsTold (J.judges judge.old) tells →
-        IfOk result (λ tried. Tries
-        (taken_of (needs_by (J.Kind.eq kind) tells) (take left (trials_at start events.old.items)))
-        events.old.items tried events.new.items) }
+    ensures tries { IfOk result (λ tried. ByVerdicts (J.Kind.eq kind) (J.judges judge.old)
+        (λ needs. Tries (taken_of needs (take left (trials_at start events.old.items)))
+        events.old.items tried events.new.items)) }
     ensures cuts { IfOk result (λ tried. Cuts (take left (trials_at start events.old.items))
         events.old.items tried events.new.items) }
     ensures few { IfOk result (λ tried. tried.judged ≤ left) }
