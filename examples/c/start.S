@@ -107,6 +107,9 @@ enter_user:
         .balign 4
         .globl  user, user_end
 user:   .incbin "user.bin"
+        .if     . - user > 4096
+        .error  "the process has one page"
+        .endif
         .balign 4
 user_end:
 

@@ -2,6 +2,7 @@ pub mod Explained
 pub mod FaultLines
 pub mod Faults
 pub mod Known
+pub mod Machines
 pub mod Reading
 pub mod Samples
 pub mod Sizes

@@ -1,5 +1,6 @@
 //! What the commands of the program share: the fault that ends one, what a finished one prints, files
-//! and standard input, the built-in sample, and the texts of schedules and logs.
+//! and standard input, the built-in sample, the texts of schedules and logs, and the machine that a
+//! log names.
 #![tactic(auto)]
 
 pub mod explained;
@@ -8,5 +9,6 @@ pub mod files;
 pub mod finished;
 pub mod input;
 mod line;
+pub mod machines;
 pub mod sample;
 pub mod texts;

@@ -61,7 +61,7 @@ pub record IsDriven
   pub driven : Driven
   pub machine : History
   pub drives : Drives (rules_of task.drive keys) task.drive.events booted driven machine
-  pub text_is : text ≡ summary_text machine (stop_of driven) task.run.show_log
+  pub text_is : text ≡ summary_text machine file (stop_of driven) task.run.shown
   pub status_is : status ≡ status_of (stop_of driven)
 
 -- a fault is that of the file of the keys

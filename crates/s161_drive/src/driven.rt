@@ -36,10 +36,11 @@ pub fn run_driven<'a, F: FileSource>(
         (image_file (F.known files.old) task.entry.run.image.now)) }
 {
     let file = read_image(alloc, files, task.run.image)?;
+    let image = file.as_slice();
     let keys = read_keys(alloc, files, task.drive.keys)?;
     let mut machine = Machine::boot(
         alloc,
-        &file,
+        image,
         Conf {
             ram: task.run.size.ram,
             processors: task.run.size.processors,
@@ -49,7 +50,7 @@ pub fn run_driven<'a, F: FileSource>(
     let driven = make_driven(&mut machine, task.drive, &keys);
     let stop = stop_of(driven);
     Ok(Finished {
-        text: summary(alloc, &machine, stop, task.run.show_log)?,
+        text: summary(alloc, &machine, image, stop, task.run.shown)?,
         status: status(stop),
     })
 }

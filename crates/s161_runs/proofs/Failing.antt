@@ -1,13 +1,14 @@
-use Rattle.std.proofs.Common.{◌≡◌, ◌⊎◌, ℕ, List, false, Option, None, Some, IfSome, Err, ap, inl, inr, sym}
+use Rattle.std.proofs.Common.{◌≡◌, ◌⊎◌, ℕ, List, false, Option, None, Some, Err, ap, inl, inr, refl, subst, sym}
 use Rattle.m161_elf.specs.declared.image.LoadError.{LoadError}
 use Rattle.m161_machine.specs.declared.conf.BootError.{BootError}
+use Rattle.m161_machine.specs.declared.conf.BootError.TheVariants.{Load}
 use Rattle.m161_machine.specs.declared.conf.Conf.{Conf as MachineConf}
 use Rattle.m161_machine.specs.declared.event.Entry.{Entry}
 use Rattle.m161_machine.specs.Conf.{is_within_limits}
 use Rattle.m161_machine.specs.History.{boot_fault}
 use Rattle.m161_steplog.specs.Comments.{IsFirstBadOfLog}
 use Rattle.m161_steplog.specs.Verdict.{Verifies}
-use Rattle.s161_base.proofs.Failing.{HasFault, boot_fails}
+use Rattle.s161_base.proofs.Failing.{boot_fails}
 use Rattle.s161_base.specs.Faults.{fault_of_boot}
 use Rattle.s161_base.specs.Texts.{IsLogFault}
 use Rattle.s161_base.specs.declared.fault.Fault.{Fault}
@@ -40,8 +41,10 @@ why_unverified file conf (Some first) log e h = inl (ap (λ x. Some x) (sym h))
 why_unverified file conf None log e h = inr h
 
 -- a replay's, which boots first
-pub verify_failed : (P : Fault → Type 0) (image : Option (List ℕ)) (conf : MachineConf) (file : List ℕ) (log : List Entry) (e : BootError) → IfSome image (λ bytes. file ≡ bytes) →
-    (is_within_limits conf ≡ false → P Conf) → ((x : LoadError) → HasFault image conf x → P (Image x)) → P Memory →
+pub verify_failed : (P : Fault → Type 0) (conf : MachineConf) (file : List ℕ) (log : List Entry) (e : BootError) →
+    (is_within_limits conf ≡ false → P Conf) → ((x : LoadError) → boot_fault file conf ≡ Some (Load x) → P (Image x)) → P Memory →
     Verifies file conf (boot_fault file conf) log (Err e) → P (fault_of_boot e)
-verify_failed P image conf file log e is limits load memory h =
-    boot_fails P image conf file e is limits load memory (why_unverified file conf (boot_fault file conf) log e h)
+verify_failed P conf file log e limits load memory h =
+    boot_fails P (Some file) conf file e refl limits
+    (λ x has. load x (subst (λ f. boot_fault f conf ≡ Some (Load x)) has.1 has.2)) memory
+    (why_unverified file conf (boot_fault file conf) log e h)

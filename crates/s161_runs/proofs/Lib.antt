@@ -1,3 +1,4 @@
 mod Failing
 mod Making
+mod Replaying
 mod Shown

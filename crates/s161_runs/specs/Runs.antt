@@ -1,5 +1,6 @@
-use Rattle.std.specs.Prelude.{◌≡◌, ℕ, ◌-◌, ◌==◌, Bool, true, false, if◌then◌else◌, List, [], ◌∷◌, ◌++◌, Option, None, Some, IsSomeAnd, IfSome, codes, decimal, flat_map, length, slice_get, take}
+use Rattle.std.specs.Prelude.{◌≡◌, ℕ, ◌-◌, ◌==◌, true, false, if◌then◌else◌, List, [], ◌∷◌, ◌++◌, Option, None, Some, IsSomeAnd, IfSome, codes, decimal, flat_map, length, slice_get, take}
 use Rattle.std.specs.List.{range_with_len}
+use Rattle.sha2.specs.Sha256.{sha256}
 use Rattle.m161_cpu.specs.declared.processor.ProcessorState.{ProcessorState}
 use Rattle.m161_cpu.specs.declared.processor.ProcessorState.TheVariants.{Stopped, Running, Waiting}
 use Rattle.m161_machine.specs.declared.conf.BootError.TheVariants.{Load}
@@ -11,10 +12,14 @@ use Rattle.m161_machine.specs.State.{State, next, processor_at}
 use Rattle.m161_machine.specs.History.{History, Continues, Refuses, boot_fault}
 use Rattle.m161_display.specs.Shows.{show_regs_text}
 use Rattle.m161_text.specs.Lines.{with_line_end, FirstBad, lines_of}
+use Rattle.m161_steplog.specs.declared.machine.MachineLine.{MachineLine}
 use Rattle.m161_steplog.specs.Log.{log_text, tail_text}
+use Rattle.m161_steplog.specs.Machine.{machine_text}
 use Rattle.m161_text.specs.Parts.{◌␣◌}
 use Rattle.m161_steplog.specs.Schedule.{AreScheduleLines, IsSchedule}
 use Rattle.s161_command.specs.declared.task.RunTask.{RunTask}
+use Rattle.s161_command.specs.declared.task.Shown.{Shown}
+use Rattle.s161_command.specs.declared.task.Shown.TheVariants as shown
 use Rattle.s161_runs.specs.declared.events.Stop.{Stop}
 use Rattle.s161_runs.specs.declared.events.Stop.TheVariants.{Off, End, Stuck, Refused}
 use Rattle.s161_base.specs.declared.fault.Fault.{Fault}
@@ -83,17 +88,33 @@ stop_line (Refused k refusal) =
     codes "stop: refused" ␣ decimal k ␣ decimal (number_of_refusal refusal)
     ␣ name_of_refusal refusal
 
--- the text of a machine's log, or of its end if entries were dropped
-abbrev pub shown_log : History → List ℕ
-shown_log m = if m.base.made == 0 then log_text m.log else tail_text m.base.made m.log
+-- the size of a machine, and the digest of the file that it was booted from
+abbrev pub line_of : History → List ℕ → MachineLine
+line_of m file = record {
+  ram = m.start.conf.ram;
+  processors = m.start.conf.processors;
+  digest = sha256 file;
+}
 
--- what `run` prints of a machine, and of its log if that was asked for
-abbrev pub summary_text : History → Stop → Bool → List ℕ
-summary_text m stop show_log =
+-- the machine line, and the text of the log, or of its end if entries were dropped
+abbrev pub shown_log : History → List ℕ → List ℕ
+shown_log m file =
+    with_line_end (machine_text (line_of m file))
+    ++ (if m.base.made == 0 then log_text m.log else tail_text m.base.made m.log)
+
+-- what a machine shows, with the text of a log before the last line
+abbrev pub summary_with : List ℕ → History → Stop → List ℕ
+summary_with log m stop =
     output_text m.state.board.console.output
     ++ started_texts m.state (length m.state.processors)
-    ++ (if show_log then shown_log m else [])
+    ++ log
     ++ with_line_end (stop_line stop)
+
+-- what `run` prints of a machine that was booted from this file
+abbrev pub summary_text : History → List ℕ → Stop → Shown → List ℕ
+summary_text m file stop shown.Summary = summary_with [] m stop
+summary_text m file stop shown.SummaryAndLog = summary_with (shown_log m file) m stop
+summary_text m file stop shown.Log = shown_log m file
 
 abbrev pub status_of : Stop → ℕ
 status_of Off = 0
@@ -118,7 +139,7 @@ pub record IsRun
   pub machine : History
   pub stop : Stop
   pub makes : MakesEvents booted events stop machine
-  pub text_is : text ≡ summary_text machine stop task.show_log
+  pub text_is : text ≡ summary_text machine file stop task.shown
   pub status_is : status ≡ status_of stop
 
 -- what a fault that ends a run says of its inputs: of a file, that it is the image's; of the

@@ -6,26 +6,27 @@ ghost use Rattle.s161_runs.specs.Replays.{IsReplayed, IsReplayFault, status_of_v
 ghost use Rattle.s161_base.specs.Samples.{image_file};
 
 use m161::{Console, Tlb};
-use m161_machine::Conf;
-use m161_steplog::{Verdict, verify};
+use m161_steplog::{Verdict, read_machine, verify};
 use s161_base::fault::Fault;
 use s161_base::files::FileSource;
 use s161_base::finished::Finished;
 use s161_base::input::read_text;
+use s161_base::machines::{asked_conf, machine_fault};
 use s161_base::sample::read_image;
 use s161_base::texts::entries_of;
-use s161_command::FilesTask;
+use s161_command::ReplayTask;
 use std::alloc::{AllocError, Global};
 
-/// Reads the image and then the log, boots the image, and makes the log's events until one is
-/// refused or its outcome differs from its entry's.
+/// Reads the image and then the log, boots the image, on the machine that the log names if it has a
+/// machine line, and makes the log's events until one is refused or its outcome differs from its
+/// entry's.
 ///
 /// # Errors
 /// The first fault.
 pub fn replay<'a, F: FileSource>(
     alloc: Global,
     files: &mut F,
-    task: FilesTask<'a>,
+    task: ReplayTask<'a>,
 ) -> Result<Finished, Fault<'a>>
     ensures ok { IfOk result (λ done. IsReplayed task.entry
         (image_file (F.known files.old) task.entry.image.now)
@@ -35,21 +36,19 @@ pub fn replay<'a, F: FileSource>(
         (F.known files.old task.entry.text.now)) }
 {
     let file = read_image(alloc, files, task.image)?;
+    let image = file.as_slice();
     let log = read_text(alloc, files, task.text)?;
-    let entries = entries_of(alloc, log.as_str())?;
-    let verdict = verify::<Tlb, Console>(
-        alloc,
-        &file,
-        Conf {
-            ram: task.size.ram,
-            processors: task.size.processors,
-            log: task.size.log,
-        },
-        &entries,
-    )?;
-    let line = verdict_line(alloc, verdict)?;
+    let text = log.as_str();
+    let entries = entries_of(alloc, text)?;
+    let line = read_machine(text);
+    if let Some(fault) = machine_fault(task.size, image, line) {
+        return Err(fault);
+    }
+    let conf = asked_conf(task.size, line);
+    let verdict = verify::<Tlb, Console>(alloc, image, conf, &entries)?;
+    let shown = verdict_line(alloc, verdict)?;
     Ok(Finished {
-        text: line.into_bytes(),
+        text: shown.into_bytes(),
         status: status(verdict),
     })
 }

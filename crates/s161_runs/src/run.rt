@@ -36,11 +36,12 @@ pub fn run<'a, F: FileSource, I: Read>(
         (image_file (F.known files.old) task.entry.image.now) (I.remaining input.old)) }
 {
     let file = read_image(alloc, files, task.image)?;
+    let image = file.as_slice();
     let schedule = read_input(alloc, input)?;
     let events = events_of(alloc, schedule.as_str())?;
     let mut machine = Machine::boot(
         alloc,
-        &file,
+        image,
         Conf {
             ram: task.size.ram,
             processors: task.size.processors,
@@ -49,7 +50,7 @@ pub fn run<'a, F: FileSource, I: Read>(
     )?;
     let stop = make_events(&mut machine, &events);
     Ok(Finished {
-        text: summary(alloc, &machine, stop, task.show_log)?,
+        text: summary(alloc, &machine, image, stop, task.shown)?,
         status: status(stop),
     })
 }

@@ -1,33 +1,54 @@
 //! The text that `run` prints.
 
-ghost use Rattle.std.specs.Prelude.{◌≡◌, ◌++◌, ◌<◌, length, IfOk, OnOk};
-ghost use Rattle.s161_runs.specs.Runs.{output_text, shown_log, started_text, summary_text};
+ghost use Rattle.std.specs.Prelude.{◌≡◌, ◌++◌, ◌<◌, length, string_bytes, IfOk, OnOk};
+ghost use Rattle.s161_runs.specs.Runs.{output_text, shown_log, started_text, summary_text, summary_with};
 
 use crate::events::Stop;
 use m161::Machine;
 use m161_display::show_regs;
 use m161_machine::ProcessorState;
-use m161_steplog::{write_log, write_tail};
+use m161_steplog::{machine_line, write_log, write_tail};
+use s161_base::machines::image_digest;
+use s161_command::Shown;
 use std::alloc::{AllocError, Global};
 
-/// The console's output, each started processor, the log if it was asked for, and why the events
-/// ended.
+/// What is shown of a machine that was booted from this file: the console's output, each started
+/// processor, and why the events ended, with the log before that line if it is asked for; or the log
+/// alone.
 pub fn summary(
     alloc: Global,
     machine: &Machine,
+    file: &[u8],
     stop: Stop,
-    show_log: bool,
+    shown: Shown,
 ) -> Result<Vec<u8>, AllocError>
-    ensures { IfOk result (λ text. text.items ≡ summary_text machine.now stop show_log) }
+    ensures { IfOk result (λ text. text.items ≡ summary_text machine.now file.now stop shown) }
+{
+    match shown {
+        Shown::Summary => summary_with(alloc, b"", machine, stop),
+        Shown::SummaryAndLog => {
+            let log = shown_log(alloc, machine, file)?;
+            summary_with(alloc, log.as_bytes(), machine, stop)
+        }
+        Shown::Log => Ok(shown_log(alloc, machine, file)?.into_bytes()),
+    }
+}
+
+// What a machine shows, with the text of a log before the last line.
+fn summary_with(
+    alloc: Global,
+    log: &[u8],
+    machine: &Machine,
+    stop: Stop,
+) -> Result<Vec<u8>, AllocError>
+    ensures { IfOk result (λ text. text.items ≡ summary_with log.now machine.now stop) }
 {
     let mut text = Vec::new(alloc);
     push_output(&mut text, machine.output())?;
     for p in 0..machine.processors() {
         push_processor(alloc, &mut text, machine, p)?;
     }
-    if show_log {
-        push_log(alloc, &mut text, machine)?;
-    }
+    text.extend_from_slice(log)?;
     let line = format!(in alloc; "{stop}\n")?;
     text.extend_from_slice(line.as_bytes())?;
     Ok(text)
@@ -66,13 +87,17 @@ fn push_processor(
     }
 }
 
-fn push_log(alloc: Global, text: &mut Vec<u8>, machine: &Machine) -> Result<(), AllocError>
-    ensures { OnOk result (text.new.items ≡ text.old.items ++ shown_log machine.now) }
+// The machine line, and the log's text.
+fn shown_log(alloc: Global, machine: &Machine, file: &[u8]) -> Result<String, AllocError>
+    ensures { IfOk result (λ text. string_bytes text ≡ shown_log machine.now file.now) }
 {
+    let conf = machine.conf();
+    let mut text = machine_line(alloc, conf.ram, conf.processors, &image_digest(file))?;
     let entries = machine.copy_log(alloc)?;
     let log = match machine.base().made() {
         0 => write_log(alloc, &entries)?,
         dropped => write_tail(alloc, dropped, &entries)?,
     };
-    text.extend_from_slice(log.as_bytes())
+    text.push_str(log.as_str())?;
+    Ok(text)
 }

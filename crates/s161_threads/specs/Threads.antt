@@ -36,7 +36,7 @@ pub record IsRunInThreads
   pub machine : History
   pub interleaves :
       Interleaves booted (replicate task.run.size.processors task.quota) made off machine
-  pub text_is : text ≡ summary_text machine (stop_of off) task.run.show_log
+  pub text_is : text ≡ summary_text machine file (stop_of off) task.run.shown
   pub status_is : status ≡ status_of (stop_of off)
 
 -- the cause of a run that doesn't begin for this reason; or of one that began

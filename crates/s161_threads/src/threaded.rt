@@ -12,7 +12,7 @@ use s161_base::fault::Fault;
 use s161_base::files::FileSource;
 use s161_base::finished::Finished;
 use s161_base::sample::read_image;
-use s161_command::ThreadsTask;
+use s161_command::{Shown, ThreadsTask};
 use s161_runs::events::Stop;
 use s161_runs::run::status;
 use s161_runs::summary::summary;
@@ -48,9 +48,10 @@ pub fn run_in_threads<'a, R: Threads + Wait + Sync, F: FileSource>(
 {
     let ThreadsTask { run, quota, burst } = task;
     let file = read_image(alloc, files, run.image)?;
+    let image = file.as_slice();
     let machine = Machine::boot(
         alloc,
-        &file,
+        image,
         Conf {
             ram: run.size.ram,
             processors: run.size.processors,
@@ -63,7 +64,7 @@ pub fn run_in_threads<'a, R: Threads + Wait + Sync, F: FileSource>(
         Ok(report) => report,
         Err(fault) => return Err(Fault::Threads(fault.cause)),
     };
-    let done = finish(alloc, report, run.show_log)?;
+    let done = finish(alloc, report, image, run.shown)?;
     Ok(done)
 }
 
@@ -85,10 +86,11 @@ fn stop_of(off: bool) -> Stop
 fn finish<'a>(
     alloc: Global,
     report: Report<Tlb, Console>,
-    show_log: bool,
+    file: &[u8],
+    shown: Shown,
 ) -> Result<Finished, Fault<'a>>
     ensures text { IfOk result (λ done.
-        done.text.items ≡ summary_text report.machine (stop_of report.off) show_log) }
+        done.text.items ≡ summary_text report.machine file.now (stop_of report.off) shown) }
     ensures status { IfOk result (λ done. done.status ≡ status_of (stop_of report.off)) }
     ensures err { IfErr result (λ fault. fault ≡ Fault.Memory) }
 {
@@ -99,7 +101,7 @@ fn finish<'a>(
     } = report;
     let stop = stop_of(off);
     Ok(Finished {
-        text: summary(alloc, &machine, stop, show_log)?,
+        text: summary(alloc, &machine, file, stop, shown)?,
         status: status(stop),
     })
 }

@@ -1,7 +1,7 @@
 use Rattle.std.proofs.Common.{List, inl, inr}
 use Rattle.clap.specs.Words.{Text}
-use Rattle.s161_command.specs.declared.command.Rejection.{Rejection}
-use Rattle.s161_command.specs.declared.command.Rejection.TheVariants.{Words, Options}
+use Rattle.s161_command.specs.declared.task.Rejection.{Rejection}
+use Rattle.s161_command.specs.declared.task.Rejection.TheVariants.{Words, Options}
 use Rattle.s161_command.specs.Commands.{IsRejected}
 use Rattle.s161_work.specs.Works.{IsRefused}
 use Rattle.s161_work.specs.helpers.Works.{IsSaid}

@@ -1,24 +1,39 @@
-use Rattle.std.specs.Prelude.{◌≡◌, ◌⊎◌, ℕ, List, Option}
+use Rattle.std.specs.Prelude.{◌≡◌, ◌⊎◌, ℕ, List, Option, None, Some}
 use Rattle.std.specs.Io.KnownBytes.{Appends}
 use Rattle.clap.specs.Words.{IsAmong, Text, fault_of, subcommand_of}
 use Rattle.clap.specs.declared.error.kind.ErrorKind.{ErrorKind}
 use Rattle.s161_command.specs.declared.drive.Clash.{Clash}
-use Rattle.s161_command.specs.declared.command.Task.{Task}
-use Rattle.s161_command.specs.declared.command.Task.TheVariants.{Assemble, Audit, Debug, Demo, Disassemble, Replay, Run, RunDriven, RunInThreads, Schedule}
+use Rattle.s161_command.specs.declared.task.ConsoleTask.{ConsoleTask}
+use Rattle.s161_command.specs.declared.task.Task.{Task}
+use Rattle.s161_command.specs.declared.task.Task.TheVariants.{Assemble, Audit, Console, Debug, Demo, Disassemble, Replay, Run, RunDriven, RunInThreads, Schedule, Search}
+use Rattle.m161_text.specs.Lines.{with_line_end}
 use Rattle.s161_texts.specs.Assemblies.{IsAssembled}
 use Rattle.s161_audit.specs.Audits.{IsAudited}
 use Rattle.s161_command.specs.Commands.{ClashesIn, GoTogether, IsAccepted, IsHelp, IsTask, command_line}
+use Rattle.s161_console.specs.Consoles.{IsConsole, streams}
 use Rattle.s161_debug.specs.Debugs.{IsDebug}
 use Rattle.s161_drive.specs.Driven.{IsDriven}
 use Rattle.s161_drive.specs.Schedules.{IsScheduled}
 use Rattle.s161_runs.specs.Demos.{IsDemo}
 use Rattle.s161_texts.specs.Listings.{IsDisassembled}
 use Rattle.s161_runs.specs.Replays.{IsReplayed}
-use Rattle.s161_runs.specs.Runs.{IsRun}
+use Rattle.s161_runs.specs.Runs.{IsRun, status_of, stop_line}
+use Rattle.s161_runs.specs.declared.events.Stop.{Stop}
+use Rattle.s161_search.specs.Searches.{IsSearched}
 use Rattle.s161_base.specs.Samples.{image_file}
 use Rattle.s161_threads.specs.Threads.{IsRunInThreads}
 
 -- The effect of a command line.
+
+-- what is known of the bytes that standard input has left, and that standard output and standard
+-- error hold
+pub record Standard : Type 0 where
+  pub input : Option (List ℕ)
+  pub output : Option (List ℕ)
+  pub errors : Option (List ℕ)
+
+abbrev pub standard : Option (List ℕ) → Option (List ℕ) → Option (List ℕ) → Standard
+standard input output errors = record { input = input; output = output; errors = errors }
 
 -- there is such a text with this exit status, and it was written to an output, which had the first
 -- bytes and has the second
@@ -31,7 +46,8 @@ Prints IsResult before after status =
 abbrev pub WithZero : (List ℕ → Type 0) → List ℕ → ℕ → Type 0
 WithZero IsResult text status = (status ≡ 0) × IsResult text
 
--- a finished task's text and exit status, over files and a standard input with these bytes
+-- a finished task's text and exit status, over files and a standard input with these bytes; a task
+-- at the terminal has no such text
 abbrev pub IsResultOf :
     Task → (Text → Option (List ℕ)) → Option (List ℕ) → List ℕ → ℕ → Type 0
 IsResultOf Demo files input = WithZero IsDemo
@@ -42,6 +58,8 @@ IsResultOf (RunDriven task) files input =
     IsDriven task files (image_file files task.run.image.now)
 IsResultOf (Schedule task) files input =
     WithZero (IsScheduled task files (image_file files task.image.now))
+IsResultOf (Console task) files input text status = ⊥
+IsResultOf (Search task) files input = IsSearched task files (image_file files task.image.now)
 IsResultOf (Replay task) files input =
     IsReplayed task (image_file files task.image.now) (files task.text.now)
 IsResultOf (Debug task) files input =
@@ -51,41 +69,62 @@ IsResultOf (Audit task) files input =
 IsResultOf Assemble files input = WithZero (IsAssembled input)
 IsResultOf (Disassemble image) files input = WithZero (IsDisassembled (image_file files image.now))
 
--- a task was finished with this exit status, and printed its text
-abbrev pub Finishes :
-    Task → (Text → Option (List ℕ)) → Option (List ℕ) → Option (List ℕ) → Option (List ℕ) → ℕ →
-    Type 0
-Finishes task files input before after status =
-    Prints (IsResultOf task files input) before after status
+-- a kernel ran at the terminal, and why it stopped was written to standard error
+pub record IsServed
+    (task : ConsoleTask) (files : Text → Option (List ℕ)) (before after : Standard) (status : ℕ)
+    : Type 0 where
+  pub stop : Stop
+  pub ran : IsConsole task (image_file files task.image.now)
+      (streams before.input after.input before.output after.output) stop
+  pub is_told : Appends before.errors after.errors (with_line_end (stop_line stop))
+  pub status_is : status ≡ status_of stop
+
+-- the task at the terminal
+abbrev pub console_of : Task → Option ConsoleTask
+console_of (Console task) = Some task
+console_of _ = None
+
+-- a task was finished with this exit status: at the terminal; or it printed its text, and nothing
+-- was written to standard error
+abbrev pub FinishesAs :
+    Option ConsoleTask → Task → (Text → Option (List ℕ)) → Standard → Standard → ℕ → Type 0
+FinishesAs (Some console) task files before after status =
+    IsServed console files before after status
+FinishesAs None task files before after status =
+    Prints (IsResultOf task files before.input) before.output after.output status
+    × (after.errors ≡ before.errors)
+
+abbrev pub Finishes : Task → (Text → Option (List ℕ)) → Standard → Standard → ℕ → Type 0
+Finishes task files before after status =
+    FinishesAs (console_of task) task files before after status
 
 -- clap gives help or the version for these words of a command line
 abbrev pub GivesHelp : List Text → Type 0
 GivesHelp words =
     (kind : ErrorKind) × IsHelp kind × IsAmong kind (fault_of command_line words)
 
--- a command line's task was finished, over files and a standard input with these bytes, and a
--- standard output that had the first bytes and has the second
+-- a command line's task was finished, over these files and streams
 abbrev pub Does :
-    List Text → (Text → Option (List ℕ)) → Option (List ℕ) → Option (List ℕ) → Option (List ℕ) →
-    ℕ → Type 0
-Does words files input before after status =
+    List Text → (Text → Option (List ℕ)) → Standard → Standard → ℕ → Type 0
+Does words files before after status =
     (task : Task) × IsTask (subcommand_of command_line words) task
-    × Finishes task files input before after status
+    × Finishes task files before after status
 
 -- the exit status of a command that finished without a fault and without a refused event
 abbrev pub IsDone : ℕ → Type 0
 IsDone status = (status ≡ 0) ⊎ (status ≡ 3) ⊎ (status ≡ 4) ⊎ (status ≡ 5)
 
 -- a command line was followed, and its task finished as `Does` says; or it asks for help or for the
--- version, which was printed, with the status 0, and nothing was read of standard input
+-- version, which was printed, with the status 0, and nothing was read of standard input or written
+-- to standard error
 abbrev pub Follows :
-    List Text → (Text → Option (List ℕ)) → Option (List ℕ) → Option (List ℕ) →
-    Option (List ℕ) → Option (List ℕ) → ℕ → Type 0
-Follows words files input input_after before after status =
+    List Text → (Text → Option (List ℕ)) → Standard → Standard → ℕ → Type 0
+Follows words files before after status =
     (IsAccepted words × GoTogether (subcommand_of command_line words)
-    × Does words files input before after status)
-    ⊎ (GivesHelp words × (status ≡ 0) × (input_after ≡ input)
-    × ((text : List ℕ) × Appends before after text))
+    × Does words files before after status)
+    ⊎ (GivesHelp words × (status ≡ 0) × (after.input ≡ before.input)
+    × ((text : List ℕ) × Appends before.output after.output text)
+    × (after.errors ≡ before.errors))
 
 -- a command line isn't followed: clap doesn't take the words, or the options can't be followed
 abbrev pub IsRefused : List Text → Type 0

@@ -1,11 +1,13 @@
 //! The work of a command line.
 
-ghost use Rattle.std.specs.Prelude.{◌≡◌, ◌≢◌, ◌⊎◌, ◌≤◌, true, false, IfErr, IfOk, OnOk, map, string_bytes};
+ghost use Rattle.std.specs.Prelude.{◌≡◌, ◌≢◌, ◌⊎◌, ◌≤◌, true, false, IfErr, IfOk, None, OnOk, map, string_bytes};
 ghost use Rattle.std.specs.Io.KnownBytes.{Appends};
 ghost use Rattle.clap.specs.Words.{kind_of};
 ghost use Rattle.s161_texts.specs.Assemblies.{IsAssembled};
 ghost use Rattle.s161_work.specs.helpers.Assemblies.{IsAssemblyFault};
 ghost use Rattle.s161_command.specs.Commands.{HasLimits, IsHelp};
+ghost use Rattle.m161_order.specs.Order.{order_fault};
+ghost use Rattle.s161_console.specs.Consoles.{IsConsole, IsConsoleFault, streams};
 ghost use Rattle.s161_debug.specs.Debugs.{IsDebug, IsDebugFault};
 ghost use Rattle.s161_drive.specs.Driven.{IsDriven, IsDrivenFault};
 ghost use Rattle.s161_drive.specs.Schedules.{IsScheduled, IsScheduledFault};
@@ -15,8 +17,9 @@ ghost use Rattle.s161_work.specs.helpers.Listings.{IsListingFault};
 ghost use Rattle.s161_runs.specs.Replays.{IsReplayed, IsReplayFault};
 ghost use Rattle.s161_runs.specs.Runs.{IsFaultOf, IsRun};
 ghost use Rattle.s161_base.specs.Samples.{image_file};
+ghost use Rattle.s161_search.specs.Searches.{IsSearched, IsSearchFault};
 ghost use Rattle.s161_threads.specs.Threads.{IsRunInThreads, IsThreadsFault};
-ghost use Rattle.s161_work.specs.Works.{Finishes, Follows, IsDone, IsRefused, IsResultOf, Prints, WithZero};
+ghost use Rattle.s161_work.specs.Works.{Finishes, Follows, IsDone, IsRefused, IsResultOf, IsServed, Prints, WithZero, console_of, standard};
 ghost use Rattle.s161_work.specs.helpers.Works.{Fails, HasMore, IsHelped, IsSaid, IsTaskFault};
 
 use clap::Error;
@@ -28,14 +31,17 @@ use s161_base::finished::Finished;
 use s161_base::input::read_input;
 use s161_base::sample::read_image;
 use s161_command::{
-    Clash, DrivenTask, FilesTask, Rejection, RunTask, ScheduleTask, Task, ThreadsTask, parse,
+    Clash, ConsoleTask, DrivenTask, FilesTask, Rejection, ReplayTask, RunTask, ScheduleTask,
+    SearchTask, Task, ThreadsTask, parse,
 };
+use s161_console::console::console;
 use s161_debug::debug::debug;
 use s161_drive::driven::run_driven;
 use s161_drive::schedule::schedule;
 use s161_runs::demo::demo;
 use s161_runs::replay::replay;
-use s161_runs::run::run;
+use s161_runs::run::{run, status};
+use s161_search::search::search;
 use s161_texts::assembly::assembly;
 use s161_texts::disassembly::disassembly;
 use s161_threads::threaded::run_in_threads;
@@ -64,9 +70,9 @@ where
     ensures rejected { result ≡ 2
         → IfOk words.entry (λ ws. IsRefused (map string_bytes ws.items)) }
     ensures finished { IsDone result → IfOk words.entry (λ ws. Follows (map string_bytes ws.items)
-        (F.known files.old) (I.remaining input.old) (I.remaining input.new)
-        (O.contents output.old) (O.contents output.new) result) }
-    ensures errors { IsDone result → E.contents errors.new ≡ E.contents errors.old }
+        (F.known files.old)
+        (standard (I.remaining input.old) (O.contents output.old) (E.contents errors.old))
+        (standard (I.remaining input.new) (O.contents output.new) (E.contents errors.new)) result) }
     ensures unread { IfErr words.entry (λ _. result ≡ 1) }
     ensures within { result ≤ 5 }
 {
@@ -77,10 +83,11 @@ where
 }
 
 /// Does the work of a command line. Returns the exit status: 0 for a finished demo, schedule, debug,
-/// as or dis, a machine that switched itself off, a log that agrees, a clean run, or help; 1 for a
-/// fault, or a refused event of a run; 2 for a command line that isn't followed; 3 if the schedule,
-/// the events or the Steps of the threads ended; 4 for a log that differs or a stale use; 5 if a
-/// policy is stuck. The output is complete in memory before it is written.
+/// as or dis, a machine that switched itself off, a log that agrees, a clean run or search, or help;
+/// 1 for a fault, or a refused event of a run; 2 for a command line that isn't followed; 3 if the
+/// schedule, the events or the Steps of the threads ended; 4 for a log that differs, a stale use or a
+/// run that goes wrong in a search; 5 if a policy is stuck. The output is complete in memory before it
+/// is written, but for `console`'s.
 pub fn work<A, S, F, I, O, E>(
     rt: &A,
     words: &[S],
@@ -98,9 +105,8 @@ where
     E: Write,
     ensures rejected { result ≡ 2 → IsRefused (map S.text words.now) }
     ensures finished { IsDone result → Follows (map S.text words.now) (F.known files.old)
-        (I.remaining input.old) (I.remaining input.new) (O.contents output.old)
-        (O.contents output.new) result }
-    ensures errors { IsDone result → E.contents errors.new ≡ E.contents errors.old }
+        (standard (I.remaining input.old) (O.contents output.old) (E.contents errors.old))
+        (standard (I.remaining input.new) (O.contents output.new) (E.contents errors.new)) result }
     ensures within { result ≤ 5 }
 {
     let alloc = rt.alloc();
@@ -108,14 +114,67 @@ where
         Ok(task) => task,
         Err(rejection) => return refuse(alloc, rejection, output, errors),
     };
-    match do_task(rt, alloc, task, files, input, output) {
+    match do_task(rt, alloc, task, files, input, output, errors) {
         Ok(status) => status,
         Err(fault) => report(fault, errors),
     }
 }
 
 // Does a task. Returns the exit status.
-fn do_task<'a, R: Threads + Wait + Sync, F: FileSource, I: Read, O: Write>(
+fn do_task<'a, R: Threads + Wait + Sync, F: FileSource, I: Read, O: Write, E: Write>(
+    rt: &R,
+    alloc: Global,
+    task: Task<'a>,
+    files: &mut F,
+    input: &mut I,
+    output: &mut O,
+    errors: &mut E,
+) -> Result<u8, Fault<'a>>
+    requires { HasLimits task }
+    ensures finished { IfOk result (Finishes task.entry (F.known files.old)
+        (standard (I.remaining input.old) (O.contents output.old) (E.contents errors.old))
+        (standard (I.remaining input.new) (O.contents output.new) (E.contents errors.new))) }
+    ensures within { IfOk result (λ status. (status ≤ 5) × (status ≢ 2)) }
+{
+    match task {
+        Task::Console(task) => serve(alloc, task, files, input, output, errors),
+        Task::Demo
+        | Task::Run(_)
+        | Task::RunInThreads(_)
+        | Task::RunDriven(_)
+        | Task::Schedule(_)
+        | Task::Search(_)
+        | Task::Replay(_)
+        | Task::Debug(_)
+        | Task::Audit(_)
+        | Task::Assemble
+        | Task::Disassemble(_) => print_task(rt, alloc, task, files, input, output),
+    }
+}
+
+// Runs a kernel at the terminal, and says on standard error why it stopped. Returns the exit status.
+fn serve<'a, F: FileSource, I: Read, O: Write, E: Write>(
+    alloc: Global,
+    task: ConsoleTask<'a>,
+    files: &mut F,
+    input: &mut I,
+    output: &mut O,
+    errors: &mut E,
+) -> Result<u8, Fault<'a>>
+    requires { order_fault task.drive.order ≡ None }
+    ensures served { IfOk result (IsServed task.entry (F.known files.old)
+        (standard (I.remaining input.old) (O.contents output.old) (E.contents errors.old))
+        (standard (I.remaining input.new) (O.contents output.new) (E.contents errors.new))) }
+    ensures within { IfOk result (λ status. (status ≤ 5) × (status ≢ 2)) }
+{
+    let stop = console(alloc, files, input, output, task)?;
+    let line = format!(in alloc; "{stop}\n")?;
+    put(errors, line.as_bytes())?;
+    Ok(status(stop))
+}
+
+// Prints the text of a task that isn't at the terminal. Returns the exit status.
+fn print_task<'a, R: Threads + Wait + Sync, F: FileSource, I: Read, O: Write>(
     rt: &R,
     alloc: Global,
     task: Task<'a>,
@@ -123,9 +182,10 @@ fn do_task<'a, R: Threads + Wait + Sync, F: FileSource, I: Read, O: Write>(
     input: &mut I,
     output: &mut O,
 ) -> Result<u8, Fault<'a>>
-    requires { HasLimits task }
-    ensures finished { IfOk result (Finishes task.entry (F.known files.old)
-        (I.remaining input.old) (O.contents output.old) (O.contents output.new)) }
+    requires limits { HasLimits task }
+    requires text { console_of task.entry ≡ None }
+    ensures finished { IfOk result (Prints (IsResultOf task.entry (F.known files.old)
+        (I.remaining input.old)) (O.contents output.old) (O.contents output.new)) }
     ensures fault { IfErr result (Fails
         (IsResultOf task.entry (F.known files.old) (I.remaining input.old))
         (IsTaskFault task.entry (F.known files.old) (I.remaining input.old))
@@ -145,7 +205,8 @@ fn finish<'a, R: Threads + Wait + Sync, F: FileSource, I: Read>(
     files: &mut F,
     input: &mut I,
 ) -> Result<Finished, Fault<'a>>
-    requires { HasLimits task }
+    requires limits { HasLimits task }
+    requires text { console_of task.entry ≡ None }
     ensures ok { IfOk result (λ done. IsResultOf task.entry (F.known files.old)
         (I.remaining input.old) done.text.items done.status) }
     ensures fault { IfErr result (IsTaskFault task.entry (F.known files.old)
@@ -158,6 +219,8 @@ fn finish<'a, R: Threads + Wait + Sync, F: FileSource, I: Read>(
         Task::RunInThreads(task) => run_in_threads(rt, alloc, files, task),
         Task::RunDriven(task) => run_driven(alloc, files, task),
         Task::Schedule(task) => Ok(Finished::done(schedule(alloc, files, task)?)),
+        Task::Console(_) => unreachable!(),
+        Task::Search(task) => search(alloc, files, task),
         Task::Replay(task) => replay(alloc, files, task),
         Task::Debug(task) => debug(alloc, files, input, task),
         Task::Audit(task) => audit(alloc, files, input, task),

@@ -34,19 +34,37 @@ fn as_demo(rt: HostRuntime) -> Result<(), Fail> {
 
 /// Texts, each with the line of its fault.
 static FAULTS: [(&str, &str); 8] = [
-    ("addi $1, $2, 0x", "s161: source 1:14 1 BadToken"),
-    ("foo $1", "s161: source 1:1 2 UnknownWord"),
-    ("jr 5", "s161: source 1:4 3 BadOperand"),
-    ("addi $1, $2, 40000", "s161: source 1:14 4 OutOfRange"),
-    ("beq $0, $0, nowhere", "s161: source 1:13 5 UnknownLabel"),
-    ("a:\na:", "s161: source 2:1 6 DoubleLabel"),
+    (
+        "addi $1, $2, 0x",
+        "s161: source 1:14 1 BadToken (these bytes form no token)",
+    ),
+    (
+        "foo $1",
+        "s161: source 1:1 2 UnknownWord (a statement begins with a directive or the name of an instruction)",
+    ),
+    (
+        "jr 5",
+        "s161: source 1:4 3 BadOperand (another operand or mark is wanted)",
+    ),
+    (
+        "addi $1, $2, 40000",
+        "s161: source 1:14 4 OutOfRange (a number, an address, or the number of words or segments is outside its range)",
+    ),
+    (
+        "beq $0, $0, nowhere",
+        "s161: source 1:13 5 UnknownLabel (no line has this label)",
+    ),
+    (
+        "a:\na:",
+        "s161: source 2:1 6 DoubleLabel (an earlier line has this label)",
+    ),
     (
         ".org 0x80000200\nj 0x90000000",
-        "s161: source 2:3 7 BranchTooFar",
+        "s161: source 2:3 7 BranchTooFar (the branch or the jump doesn't reach its target)",
     ),
     (
         ".org 0x80000200\nnop\n.org 0x80000200\nnop\n",
-        "s161: source 4:1 8 Overlap",
+        "s161: source 4:1 8 Overlap (an address of the statement is filled already)",
     ),
 ];
 

@@ -29,6 +29,19 @@ s 1 idle
 s 0 ran
 ";
 
+/// The same behind its machine line. The SHA-256 is that of Python's hashlib.
+const TWO_WITH_MACHINE: &str =
+    "# machine 1048576 2 e6ec51dc5abde77f019250c2dec06f12480265fd72b4cf0d3bd9748e203fc382
+m161 log 1
+s 0 ran
+s 0 ran
+s 0 ran
+s 0 ran
+s 0 ran
+s 1 idle
+s 0 ran
+";
+
 /// A command over the files `image` and `text`, and what it leaves.
 struct Case {
     words: &'static [&'static str],
@@ -61,7 +74,7 @@ fn check(
     Ok(())
 }
 
-static VERDICTS: [Case; 8] = [
+static VERDICTS: [Case; 9] = [
     Case {
         words: &["s161", "replay", "image", "text"],
         program: &POWER_OFF,
@@ -117,6 +130,16 @@ static VERDICTS: [Case; 8] = [
         output: &["agrees\n"],
         errors: "",
     },
+    // the log's machine
+    Case {
+        words: &["s161", "replay", "image", "text"],
+        program: &START_OTHER,
+        text: TWO_WITH_MACHINE,
+        input: "",
+        status: 0,
+        output: &["agrees\n"],
+        errors: "",
+    },
     // one processor; a log that is longer than the machine's
     Case {
         words: &["s161", "replay", "image", "text"],
@@ -138,7 +161,7 @@ static VERDICTS: [Case; 8] = [
     },
 ];
 
-static REPLAY_FAULTS: [Case; 8] = [
+static REPLAY_FAULTS: [Case; 10] = [
     Case {
         words: &["s161", "replay", "other", "none"],
         program: &POWER_OFF,
@@ -146,7 +169,7 @@ static REPLAY_FAULTS: [Case; 8] = [
         input: "",
         status: 1,
         output: &[],
-        errors: "s161: file other\n",
+        errors: "s161: file other (the file can't be read)\n",
     },
     Case {
         words: &["s161", "replay", "image", "none"],
@@ -155,7 +178,26 @@ static REPLAY_FAULTS: [Case; 8] = [
         input: "",
         status: 1,
         output: &[],
-        errors: "s161: file none\n",
+        errors: "s161: file none (the file can't be read)\n",
+    },
+    // another machine than the log's, and another image
+    Case {
+        words: &["s161", "replay", "image", "text", "--cpus=1"],
+        program: &POWER_OFF,
+        text: TWO_WITH_MACHINE,
+        input: "",
+        status: 1,
+        output: &[],
+        errors: "s161: log machine (an option that is given isn't that of the log's machine)\n",
+    },
+    Case {
+        words: &["s161", "replay", "image", "text"],
+        program: &POWER_OFF,
+        text: TWO_WITH_MACHINE,
+        input: "",
+        status: 1,
+        output: &[],
+        errors: "s161: log image (the log is that of another image)\n",
     },
     // no UTF-8
     Case {
@@ -165,7 +207,7 @@ static REPLAY_FAULTS: [Case; 8] = [
         input: "",
         status: 1,
         output: &[],
-        errors: "s161: file image\n",
+        errors: "s161: file image (the file isn't UTF-8)\n",
     },
     Case {
         words: &["s161", "replay", "image", "text"],
@@ -174,7 +216,7 @@ static REPLAY_FAULTS: [Case; 8] = [
         input: "",
         status: 1,
         output: &[],
-        errors: "s161: log line 1\n",
+        errors: "s161: log line 1 (after m161 log 1 a line is s P ran, s P trap CODE VECTOR, s P idle, s P off, k HH taken or o taken)\n",
     },
     // the end of a log
     Case {
@@ -184,7 +226,7 @@ static REPLAY_FAULTS: [Case; 8] = [
         input: "",
         status: 1,
         output: &[],
-        errors: "s161: log line 1\n",
+        errors: "s161: log line 1 (after m161 log 1 a line is s P ran, s P trap CODE VECTOR, s P idle, s P off, k HH taken or o taken)\n",
     },
     // a log's fault comes before the machine's
     Case {
@@ -194,7 +236,7 @@ static REPLAY_FAULTS: [Case; 8] = [
         input: "",
         status: 1,
         output: &[],
-        errors: "s161: log line 3\n",
+        errors: "s161: log line 3 (after m161 log 1 a line is s P ran, s P trap CODE VECTOR, s P idle, s P off, k HH taken or o taken)\n",
     },
     Case {
         words: &["s161", "replay", "image", "text", "--ram", "4097"],
@@ -203,7 +245,7 @@ static REPLAY_FAULTS: [Case; 8] = [
         input: "",
         status: 1,
         output: &[],
-        errors: "s161: conf\n",
+        errors: "s161: conf (RAM has 1 to 4096 pages of 4096 bytes, there are 1 to 32 processors, and a log has 1 to 16777216 entries)\n",
     },
     Case {
         words: &["s161", "replay", "text", "text"],
@@ -212,7 +254,7 @@ static REPLAY_FAULTS: [Case; 8] = [
         input: "",
         status: 1,
         output: &[],
-        errors: "s161: image 1 Truncated\n",
+        errors: "s161: image 1 Truncated (the file is shorter than an ELF header)\n",
     },
 ];
 
@@ -297,7 +339,7 @@ static DEBUG_FAULTS: [Case; 5] = [
         input: "",
         status: 1,
         output: &[],
-        errors: "s161: file other\n",
+        errors: "s161: file other (the file can't be read)\n",
     },
     Case {
         words: &["s161", "debug", "image", "none"],
@@ -306,7 +348,7 @@ static DEBUG_FAULTS: [Case; 5] = [
         input: "",
         status: 1,
         output: &[],
-        errors: "s161: file none\n",
+        errors: "s161: file none (the file can't be read)\n",
     },
     // nothing is printed of the commands before a fault
     Case {
@@ -316,7 +358,7 @@ static DEBUG_FAULTS: [Case; 5] = [
         input: "g\n",
         status: 1,
         output: &[],
-        errors: "s161: schedule line 2\n",
+        errors: "s161: schedule line 2 (a line is s P, s P N, k HH, o, blank or # ..)\n",
     },
     Case {
         words: &["s161", "debug", "image", "text", "--cpus", "0"],
@@ -325,7 +367,7 @@ static DEBUG_FAULTS: [Case; 5] = [
         input: "g\n",
         status: 1,
         output: &[],
-        errors: "s161: conf\n",
+        errors: "s161: conf (RAM has 1 to 4096 pages of 4096 bytes, there are 1 to 32 processors, and a log has 1 to 16777216 entries)\n",
     },
     Case {
         words: &["s161", "debug", "text", "text"],
@@ -334,7 +376,7 @@ static DEBUG_FAULTS: [Case; 5] = [
         input: "g\n",
         status: 1,
         output: &[],
-        errors: "s161: image 1 Truncated\n",
+        errors: "s161: image 1 Truncated (the file is shorter than an ELF header)\n",
     },
 ];
 
@@ -362,7 +404,7 @@ fn debug_faults(rt: HostRuntime) -> Result<(), Fail> {
 fn commands_that_are_not_read(rt: HostRuntime) -> Result<(), Fail> {
     let image = file_at(rt.alloc(), ENTRY, &POWER_OFF)?;
     let words = ["s161", "debug", "image", "text"];
-    let line = "s161: input\n";
+    let line = "s161: input (standard input isn't UTF-8)\n";
     // the commands are read before the schedule's text
     let mut files = TwoFiles {
         image: &image,
@@ -371,6 +413,7 @@ fn commands_that_are_not_read(rt: HostRuntime) -> Result<(), Fail> {
     let mut input: &[u8] = b"g\n\xff\n";
     let found = work_over(&rt, &words, &mut files, &mut input, ["", line]);
     same(&rt, found, (1, all(""), all(line)));
+    let line = "s161: input (standard input can't be read)\n";
     let mut input = Failing(ErrorKind::BrokenPipe);
     let found = work_over(&rt, &words, &mut files, &mut input, ["", line]);
     same(&rt, found, (1, all(""), all(line)));

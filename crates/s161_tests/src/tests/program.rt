@@ -204,7 +204,10 @@ fn starts(rt: HostRuntime) -> Result<(), Fail> {
     let found = start_on(&rt, Ok(words), [DEMO, ""]);
     same(&rt, found, (0, all(DEMO), all("")));
     for &(fault, line) in &[
-        (Fault::Input, "s161: input\n"),
+        (
+            Fault::Word,
+            "s161: input (a word of the command line isn't UTF-8)\n",
+        ),
         (Fault::Memory, "s161: memory\n"),
     ] {
         let found = start_on(&rt, Err(fault), ["", line]);

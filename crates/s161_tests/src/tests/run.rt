@@ -46,6 +46,10 @@ r4 00000000 r5 00000000 r6 00000000 r7 00000000
 /// `lui $8, 0xbfff`, and a store that switches the machine off.
 pub(crate) const POWER_OFF: [u32; 2] = [0x3c08_bfff, 0xad00_7e08];
 
+/// The machine line of its run: the size, and the SHA-256 of the file as Python's hashlib gives it.
+const POWER_OFF_MACHINE: &str =
+    "# machine 1048576 1 3eed35d58a898e032690f2f327d45c9a1ff9719b88617d91833eb596d41720a9\n";
+
 /// After it.
 const POWERED_OFF: [&str; 4] = [
     "cpu 0 running pc 80000208\n",
@@ -65,6 +69,9 @@ const HALF_WAY: [&str; 4] = [
 /// A loop that leaves the registers alone: `beq $0, $0, 0x80000200`, `nop`.
 const STAND_STILL: [u32; 2] = [0x1000_ffff, 0x0000_0000];
 
+const STAND_STILL_MACHINE: &str =
+    "# machine 1048576 1 fa3b050d2482a05e95dc602587fe3a39152519cd77a6cad097fda85189f92d30\n";
+
 /// A byte for the console: `lui $8, 0xbfe0`, `ori $9, $0, BYTE`, `sw $9, 0($8)`.
 const SEND_H: [u32; 3] = [0x3c08_bfe0, 0x3409_0048, 0xad09_0000];
 
@@ -82,6 +89,9 @@ pub(crate) const START_OTHER: [u32; 9] = [
     0,
     0x340c_0007,
 ];
+
+const START_OTHER_MACHINE: &str =
+    "# machine 1048576 2 e6ec51dc5abde77f019250c2dec06f12480265fd72b4cf0d3bd9748e203fc382\n";
 
 /// Both processors after eight Steps.
 const TWO: [&str; 7] = [
@@ -204,7 +214,10 @@ static STOPS: [Case; 6] = [
         status: 0,
         output: &[
             &POWERED_OFF,
-            &["m161 log 1\nk 41 taken\ns 0 ran\ns 0 off\n"],
+            &[
+                POWER_OFF_MACHINE,
+                "m161 log 1\nk 41 taken\ns 0 ran\ns 0 off\n",
+            ],
             &["stop: off\n"],
         ],
         errors: "",
@@ -243,7 +256,10 @@ static WINDOWS: [Case; 4] = [
         program: &POWER_OFF,
         schedule: "s 0 2\n",
         status: 0,
-        output: &[&POWERED_OFF, &["m161 tail 1 1\ns 0 off\n", "stop: off\n"]],
+        output: &[
+            &POWERED_OFF,
+            &[POWER_OFF_MACHINE, "m161 tail 1 1\ns 0 off\n", "stop: off\n"],
+        ],
         errors: "",
     },
     Case {
@@ -253,7 +269,11 @@ static WINDOWS: [Case; 4] = [
         status: 0,
         output: &[
             &POWERED_OFF,
-            &["m161 log 1\ns 0 ran\ns 0 off\n", "stop: off\n"],
+            &[
+                POWER_OFF_MACHINE,
+                "m161 log 1\ns 0 ran\ns 0 off\n",
+                "stop: off\n",
+            ],
         ],
         errors: "",
     },
@@ -263,7 +283,7 @@ static WINDOWS: [Case; 4] = [
         schedule: "s 0 12\nk 41\n",
         status: 3,
         output: &[
-            &[AT_ENTRY, "m161 tail 1 10\n"],
+            &[AT_ENTRY, STAND_STILL_MACHINE, "m161 tail 1 10\n"],
             &["s 0 ran\ns 0 ran\nk 41 taken\n", "stop: end\n"],
         ],
         errors: "",
@@ -284,12 +304,29 @@ static EMPTY_SCHEDULES: [Case; 2] = [
         program: &POWER_OFF,
         schedule: "",
         status: 3,
-        output: &[&[AT_ENTRY, "m161 log 1\n", "stop: end\n"]],
+        output: &[&[AT_ENTRY, POWER_OFF_MACHINE, "m161 log 1\n", "stop: end\n"]],
         errors: "",
     },
 ];
 
-static OUTPUTS: [Case; 5] = [
+static OUTPUTS: [Case; 7] = [
+    // the log alone, and a schedule
+    Case {
+        words: &["s161", "run", "image", "--only-log"],
+        program: &POWER_OFF,
+        schedule: "s 0 2\n",
+        status: 0,
+        output: &[&[POWER_OFF_MACHINE, "m161 log 1\ns 0 ran\ns 0 off\n"]],
+        errors: "",
+    },
+    Case {
+        words: &["s161", "schedule", "image", "--turns", "1"],
+        program: &POWER_OFF,
+        schedule: "",
+        status: 0,
+        output: &[&["s 0 2\n"]],
+        errors: "",
+    },
     // a line end is added where one lacks
     Case {
         words: &["s161", "run", "image"],
@@ -331,7 +368,10 @@ static OUTPUTS: [Case; 5] = [
         status: 3,
         output: &[
             &ONE,
-            &["m161 log 1\ns 0 ran\ns 0 ran\ns 0 ran\ns 0 ran\ns 0 ran\n"],
+            &[
+                START_OTHER_MACHINE,
+                "m161 log 1\ns 0 ran\ns 0 ran\ns 0 ran\ns 0 ran\ns 0 ran\n",
+            ],
             &["s 1 idle\ns 0 ran\nstop: end\n"],
         ],
         errors: "",
@@ -354,7 +394,7 @@ static FAULTS: [Case; 8] = [
         schedule: "bad\n",
         status: 1,
         output: &[],
-        errors: "s161: file other\n",
+        errors: "s161: file other (the file can't be read)\n",
     },
     // a schedule's fault comes before the machine's
     Case {
@@ -363,7 +403,7 @@ static FAULTS: [Case; 8] = [
         schedule: "s 0\n\ns 0 0\n",
         status: 1,
         output: &[],
-        errors: "s161: schedule line 3\n",
+        errors: "s161: schedule line 3 (a line is s P, s P N, k HH, o, blank or # ..)\n",
     },
     Case {
         words: &["s161", "run", "image", "--ram", "4097"],
@@ -371,7 +411,7 @@ static FAULTS: [Case; 8] = [
         schedule: "s 0 2\n",
         status: 1,
         output: &[],
-        errors: "s161: conf\n",
+        errors: "s161: conf (RAM has 1 to 4096 pages of 4096 bytes, there are 1 to 32 processors, and a log has 1 to 16777216 entries)\n",
     },
     Case {
         words: &["s161", "run", "image", "--cpus", "33"],
@@ -379,7 +419,7 @@ static FAULTS: [Case; 8] = [
         schedule: "",
         status: 1,
         output: &[],
-        errors: "s161: conf\n",
+        errors: "s161: conf (RAM has 1 to 4096 pages of 4096 bytes, there are 1 to 32 processors, and a log has 1 to 16777216 entries)\n",
     },
     Case {
         words: &["s161", "run", "image", "--log", "0"],
@@ -387,7 +427,7 @@ static FAULTS: [Case; 8] = [
         schedule: "",
         status: 1,
         output: &[],
-        errors: "s161: conf\n",
+        errors: "s161: conf (RAM has 1 to 4096 pages of 4096 bytes, there are 1 to 32 processors, and a log has 1 to 16777216 entries)\n",
     },
     // no segment fits so little RAM
     Case {
@@ -396,7 +436,7 @@ static FAULTS: [Case; 8] = [
         schedule: "",
         status: 1,
         output: &[],
-        errors: "s161: image 7 SegmentOutsideRam\n",
+        errors: "s161: image 7 SegmentOutsideRam (a segment isn't in RAM, by kseg0 or by kseg1)\n",
     },
     Case {
         words: &["s161", "run", "image", "--ram", "0"],
@@ -404,7 +444,7 @@ static FAULTS: [Case; 8] = [
         schedule: "",
         status: 1,
         output: &[],
-        errors: "s161: conf\n",
+        errors: "s161: conf (RAM has 1 to 4096 pages of 4096 bytes, there are 1 to 32 processors, and a log has 1 to 16777216 entries)\n",
     },
     Case {
         words: &["s161", "run", "image"],
@@ -412,7 +452,7 @@ static FAULTS: [Case; 8] = [
         schedule: "s 0 2\r\n",
         status: 1,
         output: &[],
-        errors: "s161: schedule line 1\n",
+        errors: "s161: schedule line 1 (a line is s P, s P N, k HH, o, blank or # ..)\n",
     },
 ];
 
@@ -501,7 +541,11 @@ static THREADED: [Case; 11] = [
         status: 0,
         output: &[
             &POWERED_OFF,
-            &["m161 log 1\ns 0 ran\ns 0 off\n", "stop: off\n"],
+            &[
+                POWER_OFF_MACHINE,
+                "m161 log 1\ns 0 ran\ns 0 off\n",
+                "stop: off\n",
+            ],
         ],
         errors: "",
     },
@@ -553,7 +597,11 @@ static THREADED: [Case; 11] = [
         status: 3,
         output: &[
             &[AT_ENTRY],
-            &["m161 tail 1 2\ns 0 ran\ns 0 ran\n", "stop: end\n"],
+            &[
+                STAND_STILL_MACHINE,
+                "m161 tail 1 2\ns 0 ran\ns 0 ran\n",
+                "stop: end\n",
+            ],
         ],
         errors: "",
     },
@@ -607,9 +655,15 @@ r28 00000000 r29 bfff8800 r30 00000000 r31 00000000
 hi 00000000 lo 00000000
 ";
 
-/// The text of a log of these events.
+/// The machine line of the sample's run on two processors. The SHA-256 is that of Python's hashlib, of
+/// a file that a script made of its words.
+const SAMPLE_MACHINE: &str =
+    "# machine 1048576 2 a9a152a2b26a7bf9458e36927e54ed3288f0245c74468080736159f5f3010d6c\n";
+
+/// The text of the sample's log of these events.
 fn log_of(alloc: Global, events: &[Times]) -> Result<String, Fail> {
-    let mut text = String::from_str(alloc, "m161 log 1\n")?;
+    let mut text = String::from_str(alloc, SAMPLE_MACHINE)?;
+    text.push_str("m161 log 1\n")?;
     for (event, times, answer) in events {
         let Ok(outcome) = *answer else {
             continue;
@@ -658,7 +712,10 @@ fn slow_reader(rt: HostRuntime) -> Result<(), Fail> {
 #[test]
 fn failing_readers(rt: HostRuntime) -> Result<(), Fail> {
     for &(kind, line) in &[
-        (ErrorKind::BrokenPipe, "s161: input\n"),
+        (
+            ErrorKind::BrokenPipe,
+            "s161: input (standard input can't be read)\n",
+        ),
         (ErrorKind::OutOfMemory, "s161: memory\n"),
     ] {
         let found = over(&rt, &mut Failing(kind), ["", line])?;
@@ -669,10 +726,11 @@ fn failing_readers(rt: HostRuntime) -> Result<(), Fail> {
 
 #[test]
 fn inputs_that_are_no_text(rt: HostRuntime) -> Result<(), Fail> {
-    let line = "s161: input\n";
+    let line = "s161: input (standard input isn't UTF-8)\n";
     let mut input: &[u8] = b"s 0 2\n# \xff\n";
     let found = over(&rt, &mut input, ["", line])?;
     same(&rt, found, (1, all(""), all(line)));
+    let line = "s161: input (at most 402653184 bytes are read)\n";
     let found = over(&rt, &mut Endless, ["", line])?;
     same(&rt, found, (1, all(""), all(line)));
     Ok(())
@@ -681,7 +739,10 @@ fn inputs_that_are_no_text(rt: HostRuntime) -> Result<(), Fail> {
 #[test]
 fn failing_files(rt: HostRuntime) {
     for &(kind, line) in &[
-        (ErrorKind::PermissionDenied, "s161: file image\n"),
+        (
+            ErrorKind::PermissionDenied,
+            "s161: file image (the file can't be read)\n",
+        ),
         (ErrorKind::OutOfMemory, "s161: memory\n"),
     ] {
         let mut input: &[u8] = b"bad\n";
@@ -698,7 +759,7 @@ fn truncated_image(rt: HostRuntime) -> Result<(), Fail> {
         bytes: file.get(..51).unwrap_or(&[]),
     };
     let mut input: &[u8] = b"s 0 2\n";
-    let line = "s161: image 1 Truncated\n";
+    let line = "s161: image 1 Truncated (the file is shorter than an ELF header)\n";
     let found = work_over(&rt, &WORDS, &mut files, &mut input, ["", line]);
     same(&rt, found, (1, all(""), all(line)));
     Ok(())

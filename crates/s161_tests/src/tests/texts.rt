@@ -85,11 +85,19 @@ fn no_whole_word(rt: HostRuntime) -> Result<(), Fail> {
 #[test]
 fn image_without_listing(rt: HostRuntime) -> Result<(), Fail> {
     let text = list(rt.alloc(), &IMAGE[..51])?;
-    same(&rt, text.as_str(), "s161: image 1 Truncated");
+    same(
+        &rt,
+        text.as_str(),
+        "s161: image 1 Truncated (the file is shorter than an ELF header)",
+    );
     let mut file = IMAGE;
     file[60] = 0;
     let text = list(rt.alloc(), &file)?;
-    same(&rt, text.as_str(), "s161: image 7 SegmentOutsideRam");
+    same(
+        &rt,
+        text.as_str(),
+        "s161: image 7 SegmentOutsideRam (a segment isn't in RAM, by kseg0 or by kseg1)",
+    );
     Ok(())
 }
 
@@ -158,7 +166,11 @@ fn images_by_name(rt: HostRuntime) -> Result<(), Fail> {
     let text = image_of(rt.alloc(), &mut NoFiles, "@sample")?;
     same(&rt, text.as_str(), "492");
     let text = image_of(rt.alloc(), &mut NoFiles, "sample")?;
-    same(&rt, text.as_str(), "s161: file sample");
+    same(
+        &rt,
+        text.as_str(),
+        "s161: file sample (the file can't be read)",
+    );
     let mut files = OneFile {
         name: "@sample",
         bytes: &[1, 2, 3],

@@ -2,11 +2,11 @@ use Rattle.std.specs.Prelude.{◌≡◌, ◌≢◌, ◌⊎◌, ℕ, List, Option
 use Rattle.std.specs.Io.KnownBytes.{Appends}
 use Rattle.clap.specs.Words.{Text, kind_of}
 use Rattle.clap.specs.declared.error.kind.ErrorKind.TheVariants.{OutOfMemory}
-use Rattle.s161_command.specs.declared.command.Rejection.{Rejection}
-use Rattle.s161_command.specs.declared.command.Rejection.TheVariants.{Words, Options}
+use Rattle.s161_command.specs.declared.task.Rejection.{Rejection}
+use Rattle.s161_command.specs.declared.task.Rejection.TheVariants.{Words, Options}
 use Rattle.s161_command.specs.Commands.{IsHelp}
-use Rattle.s161_command.specs.declared.command.Task.{Task}
-use Rattle.s161_command.specs.declared.command.Task.TheVariants.{Assemble, Audit, Debug, Demo, Disassemble, Replay, Run, RunDriven, RunInThreads, Schedule}
+use Rattle.s161_command.specs.declared.task.Task.{Task}
+use Rattle.s161_command.specs.declared.task.Task.TheVariants.{Assemble, Audit, Console, Debug, Demo, Disassemble, Replay, Run, RunDriven, RunInThreads, Schedule, Search}
 use Rattle.s161_base.specs.declared.fault.Fault.{Fault}
 use Rattle.s161_base.specs.declared.fault.Fault.TheVariants.{Memory, Output}
 use Rattle.s161_audit.specs.Audits.{IsAuditFault}
@@ -18,9 +18,10 @@ use Rattle.s161_work.specs.helpers.Listings.{IsListingFault}
 use Rattle.s161_runs.specs.Replays.{IsReplayFault}
 use Rattle.s161_runs.specs.Runs.{IsFaultOf}
 use Rattle.s161_base.specs.Samples.{image_file}
+use Rattle.s161_search.specs.Searches.{IsSearchFault}
 use Rattle.s161_threads.specs.Threads.{IsThreadsFault}
 
--- a task's work is ended by this fault, before anything is printed
+-- a task's work is ended by this fault, before anything is printed; one at the terminal isn't meant
 abbrev pub IsTaskFault : Task → (Text → Option (List ℕ)) → Option (List ℕ) → Fault → Type 0
 IsTaskFault Demo files input fault = fault ≡ Memory
 IsTaskFault (Run task) files input fault =
@@ -31,6 +32,9 @@ IsTaskFault (RunDriven task) files input fault =
     IsDrivenFault task (image_file files task.run.image.now) fault
 IsTaskFault (Schedule task) files input fault =
     IsScheduledFault task (image_file files task.image.now) fault
+IsTaskFault (Console task) files input fault = ⊥
+IsTaskFault (Search task) files input fault =
+    IsSearchFault task files (image_file files task.image.now) fault
 IsTaskFault (Replay task) files input fault =
     IsReplayFault task (image_file files task.image.now) (files task.text.now) fault
 IsTaskFault (Debug task) files input fault =

@@ -19,16 +19,16 @@ returns-clause-ok g c =
     let R : List ℕ → Type 0 = λ file. IfSome known (λ bytes. file ≡ bytes) in
     let machine = c.make_driven-driven.new.machine in
     record {
-      file = c.deref.result.now;
-      is_file = subst R (sym c.deref.ensures.value) c.in_ok-file.ensures.whole;
-      keys = c.deref-2.result.now;
-      are_keys = subst (AreKeys c.args.task.drive.keys files) (sym c.deref-2.ensures.value)
+      file = c.as_slice-image.result.now;
+      is_file = subst R (sym c.as_slice-image.ensures.value) c.in_ok-file.ensures.whole;
+      keys = c.deref.result.now;
+      are_keys = subst (AreKeys c.args.task.drive.keys files) (sym c.deref.ensures.value)
           (keys_are c.args.task.drive.keys (g.F.FileSource.known c.read_image.new.files) files c.in_ok-keys.keys.items c.in_ok-file.ensures.still c.in_ok-keys.ensures.whole);
       booted = c.in_ok-machine.machine;
       boots = c.in_ok-machine.ensures.answer;
       driven = c.make_driven-driven.result;
       machine = machine;
       drives = c.make_driven-driven.ensures;
-      text_is = c.in_ok-summary.ensures ∙ ap (λ (stop : Stop). summary_text machine stop c.args.task.run.show_log) c.stop_of-stop.ensures;
+      text_is = c.in_ok-summary.ensures ∙ ap (λ (stop : Stop). summary_text machine c.as_slice-image.result.now stop c.args.task.run.shown) c.stop_of-stop.ensures;
       status_is = c.status.ensures ∙ ap status_of c.stop_of-stop.ensures;
     }

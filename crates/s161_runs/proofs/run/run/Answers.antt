@@ -15,8 +15,8 @@ returns-clause-ok g c =
     let file_known = image_file (g.F.FileSource.known c.args.files.now) c.args.task.image.now in
     let R : List ℕ → Type 0 = λ file. IfSome file_known (λ bytes. file ≡ bytes) in
     record {
-      file = c.deref.result.now;
-      is_file = subst R (sym c.deref.ensures.value) c.in_ok-file.ensures.whole;
+      file = c.as_slice-image.result.now;
+      is_file = subst R (sym c.as_slice-image.ensures.value) c.in_ok-file.ensures.whole;
       booted = c.in_ok-machine.machine;
       boots = c.in_ok-machine.ensures.answer;
       schedule = c.as_str.result.now;
@@ -52,8 +52,8 @@ returns-in_err-machine-clause-fault g c =
     let made = err_from_is_err_and c.from_residual-in_err-machine.result c.from_residual-in_err-machine.ensures.1 in
     let utf8 = subst IsText (sym c.as_str.ensures.value) c.in_ok-schedule.schedule.ok in
     let schedule : HasSchedule input = (c.as_str.result.now, subst P (sym c.as_str.ensures.value) c.in_ok-schedule.ensures.whole, (utf8, (c.in_ok-events.events, c.in_ok-events.ensures.found))) in
-    let failed = boot_failed (IsFaultOf c.args.task known input) known (conf_of c.args.task.size) c.deref.result.now c.in_err-machine.field-0.0
-    (subst R (sym c.deref.ensures.value) c.in_ok-file.ensures.whole) (λ outside. (schedule, outside)) (λ e has. (schedule, has)) tt c.in_err-machine.ensures.answer in
+    let failed = boot_failed (IsFaultOf c.args.task known input) known (conf_of c.args.task.size) c.as_slice-image.result.now c.in_err-machine.field-0.0
+    (subst R (sym c.as_slice-image.ensures.value) c.in_ok-file.ensures.whole) (λ outside. (schedule, outside)) (λ e has. (schedule, has)) tt c.in_err-machine.ensures.answer in
     rw (made.1, made.2) failed
 
 pub returns-in_err-summary-clause-fault : goal.returns-in_err-summary-clause-fault

@@ -15,7 +15,7 @@ returns-clause-ok g c =
     let R : List ℕ → Type 0 = λ file. IfSome known (λ bytes. file ≡ bytes) in
     let conf = (conf_of c.args.task.run.size) in
     let booted = c.in_ok-machine.machine in
-    let is_booted = booted_ok c.deref.result.now conf (boot_fault c.deref.result.now conf) booted c.in_ok-machine.ensures.answer in
+    let is_booted = booted_ok c.as_slice-image.result.now conf (boot_fault c.as_slice-image.result.now conf) booted c.in_ok-machine.ensures.answer in
     let number : c.processors.result ≡ conf.processors =
     c.processors.ensures ∙ c.replay.ensures.processors ∙ ap (λ (x : Conf). x.processors) is_booted.conf_is in
     let quotas : c.as_slice.result.now ≡ replicate conf.processors c.args.task.quota =
@@ -25,8 +25,8 @@ returns-clause-ok g c =
     let given : length c.as_slice.result.now ≡ conf.processors = ap length quotas ∙ length-replicate conf.processors c.args.task.quota in
     let report = c.in-Ok.report in
     record {
-      file = c.deref.result.now;
-      is_file = subst R (sym c.deref.ensures.value) c.in_ok-file.ensures.whole;
+      file = c.as_slice-image.result.now;
+      is_file = subst R (sym c.as_slice-image.ensures.value) c.in_ok-file.ensures.whole;
       booted = booted;
       boots = c.in_ok-machine.ensures.answer;
       begins = subst (λ (n : ℕ). bad_call n conf.processors c.args.task.burst ≡ None) given
@@ -46,16 +46,16 @@ returns-in-Err-clause-fault g c =
     let conf = (conf_of c.args.task.run.size) in
     let booted = c.in_ok-machine.machine in
     let cause = c.in-Err.fault.cause in
-    let is_booted = booted_ok c.deref.result.now conf (boot_fault c.deref.result.now conf) booted c.in_ok-machine.ensures.answer in
+    let is_booted = booted_ok c.as_slice-image.result.now conf (boot_fault c.as_slice-image.result.now conf) booted c.in_ok-machine.ensures.answer in
     let there : length booted.state.processors ≡ conf.processors =
     c.replay.ensures.processors ∙ ap (λ (x : Conf). x.processors) is_booted.conf_is in
     let quotas : length c.as_slice.result.now ≡ conf.processors =
     ap length (c.as_slice.ensures.value ∙ c.in_ok-quotas.ensures) ∙ length-replicate c.processors.result c.args.task.quota
     ∙ c.processors.ensures ∙ there in
-    let clear : boot_fault c.deref.result.now conf ≡ None =
-    booted_clear c.deref.result.now conf (boot_fault c.deref.result.now conf) booted c.in_ok-machine.ensures.answer in
+    let clear : boot_fault c.as_slice-image.result.now conf ≡ None =
+    booted_clear c.as_slice-image.result.now conf (boot_fault c.as_slice-image.result.now conf) booted c.in_ok-machine.ensures.answer in
     let why : IsCause (bad_call conf.processors conf.processors c.args.task.burst) cause =
     subst (λ (n : ℕ). IsCause (bad_call n conf.processors c.args.task.burst) cause) quotas
     (subst (λ (n : ℕ). IsCause (bad_call (length c.as_slice.result.now) n c.args.task.burst) cause) there
     (failed_cause (bad_call (length c.as_slice.result.now) (length booted.state.processors) c.args.task.burst) booted cause c.in-Err.fault.machine c.in-Err.ensures.err)) in
-    ((c.deref.result.now, subst R (sym c.deref.ensures.value) c.in_ok-file.ensures.whole, clear), why)
+    ((c.as_slice-image.result.now, subst R (sym c.as_slice-image.ensures.value) c.in_ok-file.ensures.whole, clear), why)

@@ -1,6 +1,6 @@
 use Rattle.std.proofs.Common.{◌≡◌, ◌++◌}
 use Rattle.s161_runs.specs.Runs.{output_text, started_texts}
-use Rattle.s161_runs.proofs.summary.summary.Given as goal
+use Rattle.s161_runs.proofs.summary.summary_with.Given as goal
 
 abbrev pub invariant-loop-p : goal.invariant-loop-p
 invariant-loop-p l =

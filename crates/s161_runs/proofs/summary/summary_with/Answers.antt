@@ -1,7 +1,7 @@
 use Rattle.std.proofs.Common.{◌∙◌, ◌++◌, ap, sym, append_assoc}
 use Rattle.s161_runs.specs.Runs.{output_text, started_text, started_texts}
 use Rattle.s161_runs.proofs.Shown.{started_more}
-use Rattle.s161_runs.proofs.summary.summary.Goals as goal
+use Rattle.s161_runs.proofs.summary.summary_with.Goals as goal
 
 pub loop-p-preserved : goal.loop-p-preserved
 loop-p-preserved c =

@@ -1,0 +1,82 @@
+use Rattle.std.proofs.Common.{◌≡◌, ◌∙◌, refl, sym, ap, subst, ℕ, zero, suc, ◌+◌, ◌<◌, true, false, List, [], ◌∷◌, length, take, arith}
+use Rattle.std.specs.Prelude.{Option, None, count_by, is_some, nat_lt, slice_get}
+use Rattle.std.proofs.lemmas.Bool.Decides.{nat_tests}
+use Rattle.std.proofs.lemmas.List.{take_all}
+use Rattle.m161_audit.specs.declared.watch.Watch.{Watch}
+use Rattle.m161_machine.specs.declared.event.Event.{Event}
+use Rattle.m161_machine.specs.History.{History}
+use Rattle.m161_machine.specs.State.{State}
+use Rattle.m161_drive.specs.declared.cursor.Cursor.{Cursor}
+use Rattle.m161_drive.specs.Choice.{cursor_at}
+use Rattle.m161_drive.specs.declared.run.Driven.{Driven}
+use Rattle.m161_drive.specs.Drive.{Chooses, Drives}
+use Rattle.m161_drive.specs.Policy.{Rules}
+use Rattle.m161_judge.specs.declared.seen.Seen.{Seen}
+use Rattle.m161_judge.specs.Run.{criteria}
+use Rattle.m161_judge.specs.Verdict.{LeadsTo, after, has_keys, is_key, is_stuck}
+use Rattle.m161_judge.specs.helpers.Walk.{Ends, HasSeen}
+use Rattle.m161_judge.proofs.Choosing.{chooses_leads, not_stuck_on_the_way}
+
+-- Driven runs.
+
+-- where a driven run leads
+pub driven_leads : (rules : Rules) (es : List Event) (c d : Cursor) (s t : State) → Chooses rules c s es d t → LeadsTo s es (length es) t
+driven_leads rules es c d s t h =
+    let all : take (length es) es ≡ es = take_all (length es) es (omega arith) in
+    (omega arith, ap (after s) all ∙ chooses_leads rules es c d s t h)
+
+pub driven_ends : (rules : Rules) (es : List Event) (c d : Cursor) (s t : State) → Chooses rules c s es d t → Ends s es (length es) t
+driven_ends rules es c d s t h = record { leads = driven_leads rules es c d s t h; is_last = λ on. refl }
+
+-- on the way it isn't stuck
+stuck_on_the_way : (rules : Rules) (es : List Event) (d : Cursor) (s t : State) (k : ℕ) (u : State) → Chooses rules (cursor_at rules s) s es d t →
+    k < length es → LeadsTo s es k u → is_stuck (has_keys rules.keys (take k es)) u ≡ true → ⊥
+stuck_on_the_way rules es d s t k u h less at stuck =
+    let typed : count_by is_key (take k es) ≡ 0 + count_by is_key (take k es) = omega arith in
+    not_stuck_on_the_way rules es (cursor_at rules s) d s t k u h less at.1
+    (subst (λ n. is_stuck (nat_lt n (length rules.keys)) u ≡ true) typed stuck)
+
+pub driven_seen : (rules : Rules) (watches : List Watch) (output : Option (List ℕ)) (es : List Event) (d : Cursor) (s t : State) →
+    Chooses rules (cursor_at rules s) s es d t →
+    HasSeen (criteria watches output rules) s es (length es) (record { stuck = None; was_stuck = false })
+driven_seen rules watches output es d s t h = (
+  λ k less bad. stuck_on_the_way rules es d s t k bad.0 h less bad.1.0 bad.1.1,
+  λ k u less at. stuck_on_the_way rules es d s t k u h less at.0 at.1,
+)
+
+-- a key is left exactly where there is a next one
+none_left : (n : ℕ) → false ≡ nat_lt n 0
+none_left n = grind (arith, nat_tests)
+
+first_left : (n : ℕ) → true ≡ nat_lt 0 (suc n)
+first_left n = grind (arith, nat_tests)
+
+next_left : (n m : ℕ) → nat_lt n m ≡ nat_lt (suc n) (suc m)
+next_left n m = grind (arith, nat_tests)
+
+pub key_is_left : (keys : List ℕ) (n : ℕ) → is_some (slice_get keys n) ≡ nat_lt n (length keys)
+key_is_left [] n = none_left n
+key_is_left (x ∷ xs) zero = first_left (length xs)
+key_is_left (x ∷ xs) (suc n) = key_is_left xs n ∙ next_left n (length xs)
+
+-- of the run that was made, and its events
+pub run_ends : (rules : Rules) (n : ℕ) (m k : History) (driven : Driven) (drives : Drives rules n m driven k) (events : List Event) (made : ℕ) →
+    events ≡ drives.events → made ≡ length events → Ends m.state events made k.state
+run_ends rules n m k driven drives events made same all =
+    subst (λ j. Ends m.state events j k.state) (sym all)
+    (subst (λ es. Ends m.state es (length es) k.state) (sym same)
+    (driven_ends rules drives.events (cursor_at rules m.state) drives.cursor m.state k.state drives.chosen_are))
+
+pub run_seen : (rules : Rules) (n : ℕ) (m k : History) (driven : Driven) (drives : Drives rules n m driven k) (events : List Event) (made : ℕ)
+    (watches : List Watch) (output : Option (List ℕ)) → events ≡ drives.events → made ≡ length events →
+    HasSeen (criteria watches output rules) m.state events made (record { stuck = None; was_stuck = false })
+run_seen rules n m k driven drives events made watches output same all =
+    let goal = criteria watches output rules in
+    let none : Seen = record { stuck = None; was_stuck = false } in
+    subst (λ j. HasSeen goal m.state events j none) (sym all)
+    (subst (λ es. HasSeen goal m.state es (length es) none) (sym same)
+    (driven_seen rules watches output drives.events drives.cursor m.state k.state drives.chosen_are))
+
+-- all of the events
+pub all_keys : (keys : List ℕ) (events : List Event) (made : ℕ) → made ≡ length events → has_keys keys events ≡ has_keys keys (take made events)
+all_keys keys events made all = ap (has_keys keys) (sym (take_all made events (omega (arith, all))))

@@ -1,0 +1,156 @@
+use Rattle.std.proofs.Common.{◌≡◌, ◌∙◌, sym, ap, subst, ℕ, ◌≤◌, arith, inl, List, [], length}
+use Rattle.std.specs.Prelude.{Option, None, Some, Result, Ok, Err, IfOk}
+use Rattle.m161_machine.specs.declared.conf.BootError.{BootError}
+use Rattle.m161_machine.specs.declared.conf.BootError.TheVariants.{NoMemory}
+use Rattle.m161_machine.specs.declared.conf.Conf.{Conf}
+use Rattle.m161_machine.specs.declared.event.Event.{Event}
+use Rattle.m161_machine.specs.History.{Boots, History, boot_state}
+use Rattle.m161_machine.specs.State.{State}
+use Rattle.m161_machine.specs.StoreHistory.{without_stores}
+use Rattle.m161_audit.specs.declared.finding.AuditError.{AuditError}
+use Rattle.m161_audit.specs.declared.finding.AuditError.TheVariants.{Boot, BadWatch}
+use Rattle.m161_audit.specs.declared.finding.Finding.{Finding}
+use Rattle.m161_audit.specs.declared.finding.Finding.TheVariants as finding
+use Rattle.m161_audit.specs.declared.watch.Watch.{Watch}
+use Rattle.m161_audit.specs.Audit.{Audits}
+use Rattle.m161_audit.specs.Stale.{IsFinding}
+use Rattle.m161_drive.specs.Policy.{Rules}
+use Rattle.m161_judge.specs.declared.run.Run.{Run}
+use Rattle.m161_judge.specs.declared.verdict.Judged.{Judged}
+use Rattle.m161_judge.specs.declared.walk.Walk.{Walk}
+use Rattle.m161_judge.specs.declared.walk.Walk.TheVariants as walk
+use Rattle.m161_judge.specs.Judge.{Judges}
+use Rattle.m161_judge.specs.Run.{Runs, criteria}
+use Rattle.m161_judge.specs.Verdict.{Criteria}
+use Rattle.m161_judge.specs.helpers.Walk.{BootsRun, DrivesRun, FindsStale, IsBelow, Joins, Walks}
+use Rattle.m161_judge.proofs.Booting.{booted_as_one}
+use Rattle.m161_judge.proofs.Judging.{place_is_below}
+
+-- The audit, as it is used.
+
+the_error : (a b : AuditError) → ◌≡◌ {A = Result Finding AuditError} (Err a) (Err b) → a ≡ b
+the_error a b h = cc
+
+-- the finding of an audit is that of every machine that was booted so
+pub finds : (file : List ℕ) (conf : Conf) (fault : Option BootError) (events : List Event) (watches : List Watch) (result : Result Finding AuditError) →
+    Audits file conf fault events watches result → FindsStale file conf fault events watches result
+finds file conf (Some first) events watches (Ok found) h = tt
+finds file conf (Some first) events watches (Err error) h = the_error error (Boot first) h
+finds file conf None events watches (Ok found) h = (
+  h.0,
+  λ m booted. subst (λ s. IsFinding (without_stores s) events watches found)
+      (sym h.1.1.state_is ∙ booted_as_one file conf h.1.0 m h.1.1 booted) h.1.2,
+)
+finds file conf None events watches (Err (Boot e)) h = h
+finds file conf None events watches (Err (BadWatch k)) h = h
+
+not_error : (found : Finding) (error : AuditError) → ◌≡◌ {A = Result Finding AuditError} (Ok found) (Err error) → ⊥
+not_error found error h = cc
+
+pub found_below : (file : List ℕ) (conf : Conf) (fault : Option BootError) (events : List Event) (watches : List Watch) (result : Result Finding AuditError) →
+    Audits file conf fault events watches result → IfOk result (IsBelow (length events))
+found_below file conf (Some first) events watches (Ok found) h = absurd (not_error found (Boot first) h)
+found_below file conf (Some first) events watches (Err error) h = tt
+found_below file conf None events watches (Ok found) h =
+    place_is_below (record { watches = watches; output = None; keys = [] }) (boot_state h.1.0.start) events found h.1.2
+found_below file conf None events watches (Err error) h = tt
+
+boot_is : (a b : BootError) → ◌≡◌ {A = AuditError} (Boot a) (Boot b) → a ≡ b
+boot_is a b h = cc
+
+not_watch : (k : ℕ) (b : BootError) → ◌≡◌ {A = AuditError} (BadWatch k) (Boot b) → ⊥
+not_watch k b h = cc
+
+pub below_more : (n m : ℕ) (found : Finding) → n ≤ m → IsBelow n found → IsBelow m found
+below_more n m finding.Clean few h = tt
+below_more n m (finding.Stale place p address row) few h = omega (arith, few, h)
+
+pub result_below : (n m : ℕ) (result : Result Finding AuditError) → n ≤ m → IfOk result (IsBelow n) → IfOk result (IsBelow m)
+result_below n m (Ok found) few h = below_more n m found few h
+result_below n m (Err error) few h = tt
+
+-- the results
+
+pub unfound : (file : List ℕ) (conf : Conf) (fault : Option BootError) (events : List Event) (goal : Criteria) (error : AuditError) →
+    FindsStale file conf fault events goal.watches (Err error) → Judges file conf fault events goal (Err error)
+unfound file conf (Some first) events goal error h = ap Err h
+unfound file conf None events goal error h = h
+
+pub unbooted : (file : List ℕ) (conf : Conf) (fault : Option BootError) (events : List Event) (goal : Criteria) (error : BootError) →
+    Boots file conf fault (Err error) → Judges file conf fault events goal (Err (Boot error))
+unbooted file conf (Some first) events goal error h = ap (λ e. Err (Boot e)) h
+unbooted file conf None events goal error h = h
+
+pub unwalked : (file : List ℕ) (conf : Conf) (events : List Event) (goal : Criteria) (error : AuditError) → error ≡ Boot NoMemory →
+    Judges file conf None events goal (Err error)
+unwalked file conf events goal (Boot e) h = boot_is e NoMemory h
+unwalked file conf events goal (BadWatch k) h = absurd (not_watch k NoMemory h)
+
+-- of a list of events
+
+pub unwalked_booted : (file : List ℕ) (conf : Conf) (fault : Option BootError) (events : List Event) (goal : Criteria) (m : History) (error : AuditError) →
+    Boots file conf fault (Ok m) → error ≡ Boot NoMemory → Judges file conf fault events goal (Err error)
+unwalked_booted file conf (Some first) events goal m error boots h = absurd boots
+unwalked_booted file conf None events goal m error boots h = unwalked file conf events goal error h
+
+pub refused_list : (file : List ℕ) (conf : Conf) (fault : Option BootError) (events : List Event) (goal : Criteria) (m : History) (found : Finding) (w : Walk) →
+    Boots file conf fault (Ok m) → FindsStale file conf fault events goal.watches (Ok found) → Walks goal m.state events (Ok w) → w ≡ walk.Refused →
+    Judges file conf fault events goal (Ok None)
+refused_list file conf (Some first) events goal m found w boots finds h is = absurd boots
+refused_list file conf None events goal m found w boots finds h is =
+    let refused : Walks goal m.state events (Ok walk.Refused) = subst (λ x. Walks goal m.state events (Ok x)) is h in
+    (finds.0, (m, boots, inl refused))
+
+pub made_list : (file : List ℕ) (conf : Conf) (fault : Option BootError) (events : List Event) (goal : Criteria) (m : History) (found : Finding) (w : Walk)
+    (beside judged : Option Judged) →
+    Boots file conf fault (Ok m) → FindsStale file conf fault events goal.watches (Ok found) → Walks goal m.state events (Ok w) → w ≡ walk.Made beside →
+    Joins goal m.state events found beside judged → Judges file conf fault events goal (Ok judged)
+made_list file conf (Some first) events goal m found w beside judged boots finds h is joins = absurd boots
+made_list file conf None events goal m found w beside judged boots finds h is joins =
+    let made : Walks goal m.state events (Ok (walk.Made beside)) = subst (λ x. Walks goal m.state events (Ok x)) is h in
+    (finds.0, (m, boots, joins made.0 (finds.1 m boots) made.1))
+
+-- of a driven run
+
+pub boots_run : (file : List ℕ) (conf : Conf) (fault : Option BootError) (rules : Rules) (n : ℕ) (output : Option (List ℕ)) (m : History) (result : Result Run AuditError) →
+    Boots file conf fault (Ok m) → DrivesRun rules n output m result → BootsRun file conf fault rules n output result
+boots_run file conf (Some first) rules n output m result boots h = absurd boots
+boots_run file conf None rules n output m (Ok run) boots h = (m, boots, h)
+boots_run file conf None rules n output m (Err error) boots h = h
+
+pub run_unmade : (file : List ℕ) (conf : Conf) (fault : Option BootError) (rules : Rules) (n : ℕ) (watches : List Watch) (output : Option (List ℕ)) (error : AuditError) →
+    BootsRun file conf fault rules n output (Err error) → Runs file conf fault rules n (criteria watches output rules) (Err error)
+run_unmade file conf (Some first) rules n watches output error h = h
+run_unmade file conf None rules n watches output (Boot e) h = boot_is e NoMemory h
+run_unmade file conf None rules n watches output (BadWatch k) h = absurd (not_watch k NoMemory h)
+
+pub run_unfound : (file : List ℕ) (conf : Conf) (fault : Option BootError) (rules : Rules) (n : ℕ) (events : List Event) (watches : List Watch) (output : Option (List ℕ)) (error : AuditError) →
+    FindsStale file conf fault events watches (Err error) → Runs file conf fault rules n (criteria watches output rules) (Err error)
+run_unfound file conf (Some first) rules n events watches output error h = ap Err h
+run_unfound file conf None rules n events watches output error h = h
+
+no_run : (run : Run) (error : AuditError) → ◌≡◌ {A = Result Run AuditError} (Ok run) (Err error) → ⊥
+no_run run error h = cc
+
+pub runs : (file : List ℕ) (conf : Conf) (fault : Option BootError) (rules : Rules) (n : ℕ) (watches : List Watch) (output : Option (List ℕ)) (run : Run)
+    (found : Finding) (judged : Option Judged) →
+    BootsRun file conf fault rules n output (Ok run) → FindsStale file conf fault run.events.items watches (Ok found) →
+    ((goal : Criteria) (s : State) (events : List Event) → Joins goal s events found run.judged judged) →
+    Runs file conf fault rules n (criteria watches output rules) (Ok (record { events = run.events; judged = judged; is_cut = run.is_cut }))
+runs file conf (Some first) rules n watches output run found judged h finds joins = absurd (no_run run (Boot first) h)
+runs file conf None rules n watches output run found judged h finds joins =
+    let goal = criteria watches output rules in
+    let m = h.0 in
+    let d = h.2 in
+    record {
+      good = finds.0;
+      booted = m;
+      is_booted = h.1;
+      driven = d.driven;
+      machine = d.machine;
+      drives = d.drives;
+      accepted = d.accepted;
+      events_are = d.events_are;
+      judged = joins goal m.state run.events.items d.made (finds.1 m h.1) (d.beside watches);
+      cut = d.cut;
+    }

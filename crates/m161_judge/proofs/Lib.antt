@@ -1,0 +1,10 @@
+mod Running
+mod Seeing
+mod Judging
+mod Choosing
+mod Finding
+mod Booting
+mod Driven
+mod Walking
+mod Unique
+mod Cutting

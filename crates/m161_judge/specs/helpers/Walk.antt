@@ -1,0 +1,133 @@
+use Rattle.std.specs.Prelude.{◌≡◌, ℕ, ◌≢◌, ◌-◌, ◌<◌, Bool, true, false, List, length, Option, None, Some, Result, Ok, Err}
+use Rattle.m161_cpu.specs.declared.processor.Outcome.{Outcome}
+use Rattle.m161_machine.specs.declared.conf.Conf.{Conf}
+use Rattle.m161_machine.specs.declared.conf.BootError.{BootError}
+use Rattle.m161_machine.specs.declared.conf.BootError.TheVariants.{NoMemory}
+use Rattle.m161_machine.specs.declared.event.Event.{Event}
+use Rattle.m161_machine.specs.declared.event.Event.TheVariants.{Step, Key, Done}
+use Rattle.m161_machine.specs.declared.event.Refusal.{Refusal}
+use Rattle.m161_machine.specs.State.{State, next}
+use Rattle.m161_machine.specs.History.{History, IsBooted}
+use Rattle.m161_machine.specs.StoreHistory.{without_stores}
+use Rattle.m161_audit.specs.declared.finding.AuditError.{AuditError}
+use Rattle.m161_audit.specs.declared.finding.AuditError.TheVariants.{Boot}
+use Rattle.m161_audit.specs.declared.finding.Finding.{Finding}
+use Rattle.m161_audit.specs.declared.finding.Finding.TheVariants as finding
+use Rattle.m161_audit.specs.declared.watch.Watch.{Watch}
+use Rattle.m161_audit.specs.Stale.{IsFinding}
+use Rattle.m161_audit.specs.Watch.{AreGood}
+use Rattle.m161_drive.specs.declared.run.Driven.{Driven}
+use Rattle.m161_drive.specs.declared.run.Stop.TheVariants as drive
+use Rattle.m161_drive.specs.Drive.{Drives}
+use Rattle.m161_drive.specs.Policy.{Rules}
+use Rattle.m161_judge.specs.declared.run.Run.{Run}
+use Rattle.m161_judge.specs.declared.seen.Seen.{Seen}
+use Rattle.m161_judge.specs.declared.verdict.Judged.{Judged}
+use Rattle.m161_judge.specs.declared.verdict.Verdict.{Verdict}
+use Rattle.m161_judge.specs.declared.walk.Walk.{Walk}
+use Rattle.m161_judge.specs.declared.walk.Walk.TheVariants as walk
+use Rattle.m161_judge.specs.Judge.{IsUnjudged}
+use Rattle.m161_judge.specs.Run.{criteria, is_cut}
+use Rattle.m161_judge.specs.Verdict.{Criteria, Holds, IsJudged, IsRefused, IsStuckAfter, IsStuckBadly, LeadsTo, has_keys, rank}
+
+-- How the code judges a run: it looks at each of its states.
+
+-- the least number below n after which the run is stuck badly, if there is one
+abbrev pub IsFirstBad : Criteria → State → List Event → ℕ → Option ℕ → Type 0
+IsFirstBad goal s events n None = (k : ℕ) → k < n → IsStuckBadly goal s events k → ⊥
+IsFirstBad goal s events n (Some first) =
+    (first < n) × IsStuckBadly goal s events first
+    × ((k : ℕ) → k < first → IsStuckBadly goal s events k → ⊥)
+
+-- whether the run is stuck after fewer than n events
+abbrev pub WasStuck : Criteria → State → List Event → ℕ → Bool → Type 0
+WasStuck goal s events n false =
+    (k : ℕ) (t : State) → k < n → IsStuckAfter goal s events k t → ⊥
+WasStuck goal s events n true = (k : ℕ) × (t : State) × IsStuckAfter goal s events k t
+
+-- what was seen after each number of events below n
+abbrev pub HasSeen : Criteria → State → List Event → ℕ → Seen → Type 0
+HasSeen goal s events n seen =
+    IsFirstBad goal s events n seen.stuck × WasStuck goal s events n seen.was_stuck
+
+-- the first verdict but Stale
+abbrev pub IsJudgedBeside : Criteria → State → List Event → Option Judged → Type 0
+IsJudgedBeside goal s events None =
+    (v : Verdict) (n : ℕ) → 0 < rank v → Holds goal s events v n → ⊥
+IsJudgedBeside goal s events (Some judged) =
+    (0 < rank judged.verdict) × Holds goal s events judged.verdict judged.events
+    × ((v : Verdict) (n : ℕ) → 0 < rank v → rank v < rank judged.verdict
+    → Holds goal s events v n → ⊥)
+
+-- the run ends after n events: the machine is off, or there are no more
+pub record Ends (s : State) (events : List Event) (n : ℕ) (t : State) : Type 0 where
+  pub leads : LeadsTo s events n t
+  pub is_last : t.board.off ≡ false → n ≡ length events
+
+-- an event is made, or refused; or memory was refused
+abbrev pub MakesEvent : State → Event → Result Bool AuditError → State → Type 0
+MakesEvent s e (Ok true) t = (o : Outcome) × (next s e ≡ Ok (o, t))
+MakesEvent s e (Ok false) t = (refusal : Refusal) × (next s e ≡ Err refusal)
+MakesEvent s e (Err error) t = error ≡ Boot NoMemory
+
+abbrev pub left_after : ℕ → Event → ℕ
+left_after left (Step p) = left
+left_after left (Key byte) = left - 1
+left_after left Done = left
+
+-- all events are made; or memory was refused
+abbrev pub Walks : Criteria → State → List Event → Result Walk AuditError → Type 0
+Walks goal s events (Ok walk.Refused) = IsRefused s events
+Walks goal s events (Ok (walk.Made judged)) =
+    (IsRefused s events → ⊥) × IsJudgedBeside goal s events judged
+Walks goal s events (Err error) = error ≡ Boot NoMemory
+
+-- the place of a finding is below n
+abbrev pub IsBelow : ℕ → Finding → Type 0
+IsBelow n finding.Clean = Unit {0}
+IsBelow n (finding.Stale place p address row) = place < n
+
+-- the first stale use: of the run of any machine that was booted so; or why it isn't looked for
+abbrev pub FindsStale :
+    List ℕ → Conf → Option BootError → List Event → List Watch → Result Finding AuditError → Type 0
+FindsStale file conf (Some first) events watches (Ok finding) = Unit {0}
+FindsStale file conf (Some first) events watches (Err error) = error ≡ Boot first
+FindsStale file conf None events watches (Ok finding) =
+    ((k : ℕ) → AreGood conf.ram watches k)
+    × ((m : History) → IsBooted file conf m → IsFinding (without_stores m.state) events watches finding)
+FindsStale file conf None events watches (Err error) = IsUnjudged conf watches error
+
+-- a finding, and the first verdict but Stale, give the verdict
+abbrev pub Joins :
+    Criteria → State → List Event → Finding → Option Judged → Option Judged → Type 0
+Joins goal s events finding beside judged =
+    (IsRefused s events → ⊥) → IsFinding (without_stores s) events goal.watches finding
+    → IsJudgedBeside goal s events beside → IsJudged goal s events judged
+
+-- a driven run, judged but for a stale use
+pub record IsDrivenRun (rules : Rules) (n : ℕ) (output : Option (List ℕ)) (m : History) (run : Run)
+    : Type 0 where
+  pub driven : Driven
+  pub machine : History
+  pub drives : Drives rules n m driven machine
+  pub accepted : (refusal : Refusal) → driven.stop ≢ drive.Refused refusal
+  pub events_are : run.events.items ≡ drives.events
+  pub made : IsRefused m.state run.events.items → ⊥
+  pub beside :
+      (watches : List Watch)
+      → IsJudgedBeside (criteria watches output rules) m.state run.events.items run.judged
+  pub cut : run.is_cut ≡ is_cut driven.stop (has_keys rules.keys run.events.items) machine.state
+
+-- or memory was refused
+abbrev pub DrivesRun :
+    Rules → ℕ → Option (List ℕ) → History → Result Run AuditError → Type 0
+DrivesRun rules n output m (Ok run) = IsDrivenRun rules n output m run
+DrivesRun rules n output m (Err error) = error ≡ Boot NoMemory
+
+-- from boot on, by the first reason not to boot
+abbrev pub BootsRun :
+    List ℕ → Conf → Option BootError → Rules → ℕ → Option (List ℕ) → Result Run AuditError → Type 0
+BootsRun file conf (Some first) rules n output result = result ≡ Err (Boot first)
+BootsRun file conf None rules n output (Ok run) =
+    (m : History) × IsBooted file conf m × IsDrivenRun rules n output m run
+BootsRun file conf None rules n output (Err error) = error ≡ Boot NoMemory

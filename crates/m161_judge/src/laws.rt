@@ -1,0 +1,26 @@
+//! Laws of the definitions. The functions do nothing: their contracts are the laws.
+
+ghost use Rattle.std.specs.Prelude.{List};
+ghost use Rattle.m161_machine.specs.declared.event.Event.{Event};
+ghost use Rattle.m161_machine.specs.State.{State};
+ghost use Rattle.m161_drive.specs.declared.cursor.Cursor.{Cursor};
+ghost use Rattle.m161_drive.specs.Policy.{Rules};
+ghost use Rattle.m161_judge.specs.declared.verdict.Judged.{Judged};
+ghost use Rattle.m161_judge.specs.Laws.{CutKeepsVerdict, IsOneVerdict, StuckChoosesNone};
+ghost use Rattle.m161_judge.specs.Verdict.{Criteria};
+
+/// The law of being stuck: no policy chooses an event, whatever it has chosen before.
+pub fn stuck_chooses_none()
+    ensures { (rules : Rules) (c : Cursor) (s : State) → StuckChoosesNone rules c s }
+{}
+
+/// The law of the definition: a run has one verdict, or none.
+pub fn one_verdict()
+    ensures { (goal : Criteria) (s : State) (events : List Event) → IsOneVerdict goal s events }
+{}
+
+/// The law of the number of events: a run that is cut behind those that its verdict needs has the
+/// same verdict, which needs as many.
+pub fn cut_keeps_verdict()
+    ensures { (goal : Criteria) (s : State) (events : List Event) (judged : Judged) → CutKeepsVerdict goal s events judged }
+{}

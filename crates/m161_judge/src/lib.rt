@@ -1,0 +1,33 @@
+//! Verdicts on runs: whether a list of events, made from boot, goes wrong.
+//!
+//! ```text
+//! stale    a Step uses an old row of the TLB, as the audit finds it
+//! stuck    after some events no policy has an event to choose
+//! output   the machine is off, and the console hasn't sent what is asked for
+//! end      there are no more events, and the machine isn't off
+//! ```
+//!
+//! The verdict is the first of these that holds, in this order, and says how many of the events it
+//! needs. The last two are only for a run whose output is asked for. A list of which an event is
+//! refused before the machine is off has none. All of this is this project's own.
+#![tactic(auto)]
+
+mod events;
+mod goal;
+mod laws;
+mod list;
+mod run;
+mod seen;
+mod stale;
+mod stuck;
+mod verdict;
+mod walk;
+
+pub use goal::Goal;
+pub use laws::{cut_keeps_verdict, one_verdict, stuck_chooses_none};
+pub use list::judge;
+pub use m161_audit::{AuditError, Watch};
+pub use m161_drive::Policy;
+pub use m161_machine::{BootError, Conf, Event};
+pub use run::{Run, judge_run};
+pub use verdict::{Judged, Verdict};

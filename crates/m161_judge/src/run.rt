@@ -1,0 +1,113 @@
+//! The verdict of a driven run.
+
+ghost use Rattle.std.specs.Prelude.{◌≡◌, ◌≤◌, []};
+ghost use Rattle.m161_machine.specs.History.{boot_fault};
+ghost use Rattle.m161_judge.specs.Judge.{bytes_of};
+ghost use Rattle.m161_judge.specs.Run.{Runs, criteria, is_cut};
+ghost use Rattle.m161_judge.specs.helpers.Walk.{BootsRun, DrivesRun};
+
+use crate::events::{count_keys, events_made};
+use crate::seen::nothing_seen;
+use crate::stale::{find_stale, first_verdict};
+use crate::stuck::is_stuck;
+use crate::verdict::Judged;
+use m161_audit::{AuditError, Watch};
+use m161_bus::Console;
+use m161_drive::{Policy, Stop, drive};
+use m161_machine::{BootError, Conf, Event, Machine};
+use m161_tlb::Tlb;
+use std::alloc::Global;
+
+/// A driven run, and its verdict.
+#[derive(Drop)]
+pub struct Run {
+    /// The events that the policy chose.
+    pub events: Vec<Event>,
+    /// Their verdict, if they have one.
+    pub judged: Option<Judged>,
+    /// Whether the run ended only because no more events were asked for.
+    pub is_cut: bool,
+}
+
+// Whether a run ended only because no more events were asked for.
+fn is_cut<T: Tlb, D: Console>(machine: &Machine<T, D>, stop: Stop, keys_left: bool) -> bool
+    ensures { result ≡ is_cut stop keys_left machine.now.state }
+{
+    match stop {
+        Stop::End => !is_stuck(machine, keys_left),
+        Stop::Off | Stop::Stuck | Stop::Refused(_) => false,
+    }
+}
+
+// Drives a machine that was just booted, and judges the run, but for a stale use.
+fn drive_run<T: Tlb, D: Console>(
+    alloc: Global,
+    machine: &mut Machine<T, D>,
+    policy: &Policy,
+    n: u64,
+    output: Option<&[u8]>,
+) -> Result<Run, AuditError>
+    requires empty { machine.old.log ≡ [] }
+    requires room { n ≤ machine.old.start.conf.log }
+    ensures { DrivesRun policy.now n (bytes_of output.entry) machine.old result }
+{
+    let driven = drive(machine, policy, n);
+    if let Stop::Refused(_) = driven.stop {
+        return Err(AuditError::Boot(BootError::NoMemory));
+    }
+    let entries = machine.copy_log(alloc)?;
+    let events = events_made(alloc, &entries)?;
+    let keys_left = policy.key(count_keys(&events)).is_some();
+    let made = events.len();
+    let seen = nothing_seen().look(machine, made, keys_left, output);
+    Ok(Run {
+        events,
+        judged: seen.verdict(machine, made, output),
+        is_cut: is_cut(machine, driven.stop, keys_left),
+    })
+}
+
+// The same, of a machine that is booted for it.
+fn boot_and_drive<T: Tlb, D: Console>(
+    alloc: Global,
+    file: &[u8],
+    conf: Conf,
+    policy: &Policy,
+    n: u64,
+    output: Option<&[u8]>,
+) -> Result<Run, AuditError>
+    requires { n ≤ conf.log }
+    ensures { BootsRun file.now conf (boot_fault file.now conf) policy.now n
+        (bytes_of output.entry) result }
+{
+    let mut machine: Machine<T, D> = Machine::boot(alloc, file, conf)?;
+    drive_run(alloc, &mut machine, policy, n, output)
+}
+
+/// Drives a machine that is booted from a file, over any TLB and any console, for at most `n` events
+/// that a policy chooses, and judges the run. The machine's log has room for all of them.
+///
+/// # Errors
+/// The machine can't be booted; or the first bad watch; or memory was refused, also at an event
+/// `Done`.
+pub fn judge_run<T: Tlb, D: Console>(
+    alloc: Global,
+    file: &[u8],
+    conf: Conf,
+    policy: &Policy,
+    n: u64,
+    watches: &[Watch],
+    output: Option<&[u8]>,
+) -> Result<Run, AuditError>
+    requires { n ≤ conf.log }
+    ensures { Runs file.now conf (boot_fault file.now conf) policy.now n
+        (criteria watches.now (bytes_of output.entry) policy.now) result }
+{
+    let run = boot_and_drive::<T, D>(alloc, file, conf, policy, n, output)?;
+    let finding = find_stale::<T, D>(alloc, file, conf, &run.events, watches)?;
+    Ok(Run {
+        events: run.events,
+        judged: first_verdict(finding, run.judged),
+        is_cut: run.is_cut,
+    })
+}

@@ -1,0 +1,70 @@
+//! The walk along a list of events.
+
+ghost use Rattle.std.specs.Prelude.{◌≡◌};
+ghost use Rattle.m161_judge.specs.helpers.Walk.{MakesEvent, Walks, left_after};
+
+use crate::goal::Goal;
+use crate::seen::nothing_seen;
+use crate::verdict::Judged;
+use m161_audit::AuditError;
+use m161_bus::Console;
+use m161_machine::{BootError, Event, Machine, Refusal};
+use m161_tlb::Tlb;
+
+/// How a walk along a list of events ends.
+pub(crate) enum Walk {
+    /// An event is refused before the machine is off.
+    Refused,
+    /// None is. The first verdict but Stale.
+    Made(Option<Judged>),
+}
+
+// Makes an event. Returns whether it was accepted.
+fn make<T: Tlb, D: Console>(machine: &mut Machine<T, D>, event: Event) -> Result<bool, AuditError>
+    ensures { MakesEvent machine.old.state event result machine.new.state }
+{
+    match machine.event(event) {
+        Ok(_) => Ok(true),
+        Err(refusal) => {
+            if refusal == Refusal::NoMemory {
+                Err(AuditError::Boot(BootError::NoMemory))
+            } else {
+                Ok(false)
+            }
+        }
+    }
+}
+
+// How many keys are left after an event.
+fn left_after(left: usize, event: Event) -> usize
+    ensures { result ≡ left_after left event }
+{
+    match event {
+        Event::Key(_) => left.saturating_sub(1),
+        Event::Step(_) | Event::Done => left,
+    }
+}
+
+/// Makes the events, and looks at each state.
+pub(crate) fn walk_along<T: Tlb, D: Console>(
+    machine: &mut Machine<T, D>,
+    events: &[Event],
+    goal: &Goal,
+) -> Result<Walk, AuditError>
+    ensures { Walks goal.now machine.old.state events.now result }
+{
+    let mut seen = nothing_seen();
+    let mut left = goal.keys.len();
+    for (made, event) in events.iter().enumerate() {
+        seen = seen.look(machine, made, left > 0, goal.output);
+        if machine.is_off() {
+            return Ok(Walk::Made(seen.verdict(machine, made, goal.output)));
+        }
+        if !make(machine, *event)? {
+            return Ok(Walk::Refused);
+        }
+        left = left_after(left, *event);
+    }
+    seen = seen.look(machine, events.len(), left > 0, goal.output);
+    Ok(Walk::Made(seen.verdict(machine, events.len(), goal.output)))
+}

@@ -1,0 +1,140 @@
+//! Verdicts of driven runs.
+
+use super::kernels::{HELLO, LETTER, LOOP, ONE, WAIT, file_with};
+use super::same;
+use m161::{Console, Tlb};
+use m161_drive::Order;
+use m161_judge::{Conf, Judged, Policy, Run, Verdict, Watch, judge_run};
+use m161_test_support::kernel::kernel_with;
+use std::alloc::{AllocGlobal, Global};
+use std::process::Abort;
+use std::test::Fail;
+
+// Drives a kernel for at most ten or a thousand events.
+fn driven(
+    alloc: Global,
+    words: &[u32],
+    keys: &[u8],
+    n: u64,
+    output: Option<&[u8]>,
+) -> Result<Run, Fail> {
+    let file = file_with(alloc, words)?;
+    let policy = Policy::new(Order::Turns(1), 100, Some(1000), keys)?;
+    let n = n.min(1000);
+    Ok(judge_run::<Tlb, Console>(alloc, &file, ONE, &policy, n, &[], output)?)
+}
+
+// Checks how many events a run makes, its verdict, and whether it is cut.
+fn check(
+    rt: &(impl Abort + AllocGlobal),
+    words: &[u32],
+    n: u64,
+    output: Option<&[u8]>,
+    expected: (usize, Option<Judged>, bool),
+) -> Result<(), Fail> {
+    let run = driven(rt.alloc(), words, b"", n, output)?;
+    same(rt, (run.events.len(), run.judged, run.is_cut), expected);
+    Ok(())
+}
+
+fn judged(verdict: Verdict, events: usize) -> Option<Judged> {
+    Some(Judged { verdict, events })
+}
+
+#[test]
+fn outputs(rt: HostRuntime) -> Result<(), Fail> {
+    let made = driven(rt.alloc(), &HELLO, b"", 1000, None)?.events.len();
+    check(&rt, &HELLO, 1000, Some(b"hi"), (made, None, false))?;
+    check(
+        &rt,
+        &HELLO,
+        1000,
+        Some(b"ho"),
+        (made, judged(Verdict::Output, made), false),
+    )
+}
+
+#[test]
+fn ends(rt: HostRuntime) -> Result<(), Fail> {
+    check(&rt, &LOOP, 10, None, (10, None, true))?;
+    let end = judged(Verdict::End, 10);
+    check(&rt, &LOOP, 10, Some(b""), (10, end, true))
+}
+
+#[test]
+fn stuck(rt: HostRuntime) -> Result<(), Fail> {
+    let first = judged(Verdict::Stuck, 1);
+    check(&rt, &WAIT, 10, None, (1, first, false))?;
+    check(&rt, &WAIT, 1, None, (1, first, false))?;
+    check(&rt, &WAIT, 0, None, (0, None, true))?;
+    check(&rt, &WAIT, 10, Some(b""), (1, None, false))?;
+    check(
+        &rt,
+        &LETTER,
+        10,
+        None,
+        (5, judged(Verdict::Stuck, 5), false),
+    )?;
+    check(&rt, &LETTER, 10, Some(b"h"), (5, None, false))?;
+    let keys = driven(rt.alloc(), &WAIT, b"AB", 10, None)?;
+    same(&rt, keys.judged, judged(Verdict::Stuck, 3));
+    let cut = driven(rt.alloc(), &WAIT, b"AB", 2, None)?;
+    same(&rt, (cut.judged, cut.is_cut), (None, true));
+    Ok(())
+}
+
+/// No branch that waits for the acknowledgement.
+const WITHOUT_WAIT: [(u32, u32); 1] = [(0x248, 0)];
+
+/// The sample kernel's watch.
+const WATCH: Watch = Watch {
+    id: 5,
+    page: 0x400,
+    pte: 0x3000,
+    done: 0x3004,
+};
+
+// The verdict of the sample kernel, or a variant of it, under an order.
+fn sample(alloc: Global, changes: &[(u32, u32)], order: Order) -> Result<Run, Fail> {
+    let file = kernel_with(alloc, changes)?;
+    let conf = Conf {
+        ram: 1_048_576,
+        processors: 2,
+        log: 10_000,
+    };
+    let policy = Policy::new(order, 100, Some(1000), &[])?;
+    Ok(judge_run::<Tlb, Console>(alloc, &file, conf, &policy, 10_000, &[WATCH], None)?)
+}
+
+// Checks that a run is stale where one is expected, and that the verdict needs the events up to it.
+fn check_stale(rt: &impl Abort, run: &Run, expected: bool) {
+    match run.judged {
+        Some(
+            Judged {
+                verdict: Verdict::Stale { place, .. },
+                events,
+            },
+        ) => same(rt, (true, events), (expected, place.saturating_add(1))),
+        _ => same(rt, (run.judged, run.is_cut, expected), (None, false, false)),
+    }
+}
+
+#[test]
+fn seeds(rt: HostRuntime) -> Result<(), Fail> {
+    let alloc = rt.alloc();
+    check_stale(&rt, &sample(alloc, &[], Order::Turns(1))?, false);
+    for seed in 0..4 {
+        check_stale(&rt, &sample(alloc, &[], Order::Random(seed))?, false);
+    }
+    for seed in 0..3 {
+        let run = sample(alloc, &WITHOUT_WAIT, Order::Random(seed))?;
+        check_stale(&rt, &run, seed == 2);
+    }
+    let order = Order::Priorities {
+        seed: 0,
+        changes: 2,
+        within: 100,
+    };
+    check_stale(&rt, &sample(alloc, &WITHOUT_WAIT, order)?, true);
+    Ok(())
+}
