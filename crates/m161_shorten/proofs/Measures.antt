@@ -196,18 +196,37 @@ one_like P trial (t ∷ ts) all (inr later) = one_like P trial ts all.1 later
 abbrev pub Turned : Place → Place → Type 0
 Turned s t = (needs : List Event → Option ℕ) × Turns needs s t
 
-cuts_turn : (s t : Place) (taken : Bool) (judged : ℕ) (fs : List Event) → 0 < s.left → s.block < length (blocks s.events) →
-    CutsIf taken (take s.left (trials s.block s.events)) s.events judged fs → t ≡ after_trials (if_taken taken fs) judged s → Turned s t
-cuts_turn s t true judged fs some block cuts is =
+cuts_turn : (NeedsOf : List Event → ℕ → Type 0) (s t : Place) (taken : Bool) (judged : ℕ) (fs : List Event) → 0 < s.left → s.block < length (blocks s.events) →
+    CutsIf NeedsOf taken (take s.left (trials s.block s.events)) s.events judged fs → t ≡ after_trials (if_taken taken fs) judged s → Turned s t
+cuts_turn NeedsOf s t true judged fs some block cuts is =
     let like = all_front (IsLike (length s.events) (length (blocks s.events))) s.left (trials s.block s.events) (trials_like s.block s.events) in
     let one = one_like (IsLike (length s.events) (length (blocks s.events))) cuts.0 (take s.left (trials s.block s.events)) like cuts.2 in
-    let takes : Takes (λ es. Some cuts.1) (length s.events) (length (blocks s.events)) fs = record { trial = cuts.0; needed = cuts.1; needs_are = refl; cut = cuts.3; like = one } in
-    ((λ es. Some cuts.1), record { some = some; how = inl (block, (fs, judged, takes, cuts.4, is)) })
-cuts_turn s t false judged fs some block cuts is = ((λ es. None), record { some = some; how = inr (inl (block, (judged, is))) })
+    let takes : Takes (λ es. Some cuts.1) (length s.events) (length (blocks s.events)) fs = record { trial = cuts.0; needed = cuts.1; needs_are = refl; cut = cuts.4; like = one } in
+    ((λ es. Some cuts.1), record { some = some; how = inl (block, (fs, judged, takes, cuts.5, is)) })
+cuts_turn NeedsOf s t false judged fs some block cuts is = ((λ es. None), record { some = some; how = inr (inl (block, (judged, is))) })
 
-pub further : (s t : Place) → GoesFurther s t → Turned s t
-further s t (some, inl (block, cuts)) = cuts_turn s t cuts.0.taken cuts.0.judged cuts.1 some block cuts.2 cuts.3
-further s t (some, inr (taken, is)) = ((λ es. None), record { some = some; how = inr (inr (taken, is)) })
+pub further : (NeedsOf : List Event → ℕ → Type 0) (s t : Place) → GoesFurther NeedsOf s t → Turned s t
+further NeedsOf s t (some, inl (block, cuts)) = cuts_turn NeedsOf s t cuts.0.taken cuts.0.judged cuts.1 some block cuts.2 cuts.3
+further NeedsOf s t (some, inr (taken, is)) = ((λ es. None), record { some = some; how = inr (inr (taken, is)) })
+
+-- a list with a property, or one that was cut
+abbrev pub IsFrom : (List Event → ℕ → Type 0) → List Event → List Event → Type 0
+IsFrom NeedsOf es fs = (fs ≡ es) ⊎ ((trial : List Event) × (n : ℕ) × NeedsOf trial n × (fs ≡ take n trial))
+
+cut_from : (NeedsOf : List Event → ℕ → Type 0) (es : List Event) (s t : Place) (taken : Bool) (judged : ℕ) (trials : List (List Event)) (fs : List Event) → IsFrom NeedsOf es s.events →
+    CutsIf NeedsOf taken trials s.events judged fs → t ≡ after_trials (if_taken taken fs) judged s → IsFrom NeedsOf es t.events
+cut_from NeedsOf es s t true judged trials fs was cuts is =
+    subst (λ (x : Place). IsFrom NeedsOf es x.events) (sym is) (inr (cuts.0, cuts.1, cuts.3, cuts.4))
+cut_from NeedsOf es s t false judged trials fs was cuts is = subst (λ (x : Place). IsFrom NeedsOf es x.events) (sym is) was
+
+pub still_from : (NeedsOf : List Event → ℕ → Type 0) (es : List Event) (s t : Place) → IsFrom NeedsOf es s.events → GoesFurther NeedsOf s t → IsFrom NeedsOf es t.events
+still_from NeedsOf es s t was (some, inl (block, cuts)) =
+    cut_from NeedsOf es s t cuts.0.taken cuts.0.judged (take s.left (trials s.block s.events)) cuts.1 was cuts.2 cuts.3
+still_from NeedsOf es s t was (some, inr (taken, is)) = subst (λ (x : Place). IsFrom NeedsOf es x.events) (sym is) was
+
+pub from_as : (NeedsOf Others : List Event → ℕ → Type 0) (es fs : List Event) → ((xs : List Event) (n : ℕ) → NeedsOf xs n → Others xs n) → IsFrom NeedsOf es fs → IsFrom Others es fs
+from_as NeedsOf Others es fs into (inl h) = inl h
+from_as NeedsOf Others es fs into (inr h) = inr (h.0, h.1, into h.0 h.1 h.2, h.3)
 
 -- where the passes go on by the verdicts
 pub moved_on : (needs : List Event → Option ℕ) (s t : Place) (more : Bool) → more ≡ true → Moves needs s more t → next_place needs s ≡ Some t

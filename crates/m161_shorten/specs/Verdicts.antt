@@ -1,4 +1,4 @@
-use Rattle.std.specs.Prelude.{◌≡◌, ℕ, Bool, if◌then◌else◌, List, length, take, Option, None, Some}
+use Rattle.std.specs.Prelude.{◌≡◌, ◌↔◌, ℕ, Bool, true, if◌then◌else◌, List, length, take, Option, None, Some}
 use Rattle.m161_machine.specs.declared.event.Event.{Event}
 use Rattle.m161_shorten.specs.declared.judged.Judged.{Judged}
 
@@ -26,11 +26,23 @@ abbrev pub ByVerdicts :
 ByVerdicts {K} is_kind judges Holds =
     (tells : List Event → Option (Judged K)) → IsTold judges tells → Holds (needs_by is_kind tells)
 
+-- by a judge, the list has a verdict of the kind, which needs n events
+abbrev pub Needs :
+    {K : Type 0} → (K → Bool) → (List Event → Option (Judged K) → Type 0) → List Event → ℕ → Type 0
+Needs {K} is_kind judges es n =
+    (kind : K) × judges es (Some (record { kind = kind; needs = n })) × (is_kind kind ≡ true)
+
+-- the events are those that such a verdict on a list needs
+abbrev pub AreNeeded :
+    {K : Type 0} → (K → Bool) → (List Event → Option (Judged K) → Type 0) → List Event → Type 0
+AreNeeded is_kind judges fs =
+    (es : List Event) × (n : ℕ) × Needs is_kind judges es n × (fs ≡ take n es)
+
 -- both judge alike: a list has the same verdicts by the one as by the other
 abbrev pub AreSame : {K : Type 0} → (judges others : List Event → Option (Judged K) → Type 0) → Type 0
 AreSame {K} judges others =
     (es : List Event) (verdict : Option (Judged K))
-    → (judges es verdict → others es verdict) × (others es verdict → judges es verdict)
+    → judges es verdict ↔ others es verdict
 
 -- below, and where the passes are defined, `needs es` is how many of the events es their verdict
 -- needs, if they have one of the kind

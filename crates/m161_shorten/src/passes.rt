@@ -1,9 +1,9 @@
 //! The passes over the blocks of a list.
 
-ghost use Rattle.std.specs.Prelude.{◌≡◌, ◌≤◌, ◌<◌, true, false, nat_lt, length, IfOk, OnOk, OnErr};
+ghost use Rattle.std.specs.Prelude.{◌≡◌, ◌⊎◌, ◌≤◌, ◌<◌, true, false, nat_lt, length, IfOk, OnOk, OnErr};
 ghost use Rattle.m161_shorten.specs.Blocks.{blocks};
 ghost use Rattle.m161_shorten.specs.Passes.{after_block, first_place, Shortens};
-ghost use Rattle.m161_shorten.specs.Verdicts.{AreSame, ByVerdicts, KeepsCut, NeedsAll};
+ghost use Rattle.m161_shorten.specs.Verdicts.{AreNeeded, AreSame, ByVerdicts, KeepsCut, Needs, NeedsAll};
 ghost use Rattle.m161_shorten.specs.helpers.Tries.{CutsAt, GoesFurther, Moves};
 
 use crate::judge::Judge;
@@ -70,7 +70,7 @@ impl Passes {
         requires some { self.old.block < length (blocks self.old.events) }
         ensures tried { OnOk result (ByVerdicts (J.Kind.eq kind) (J.judges judge.old)
             (λ needs. self.new ≡ after_block needs self.old)) }
-        ensures cuts { OnOk result (CutsAt self.old self.new) }
+        ensures cuts { OnOk result (CutsAt (Needs (J.Kind.eq kind) (J.judges judge.old)) self.old self.new) }
         ensures same { AreSame (J.judges judge.old) (J.judges judge.new) }
     {
         let tried = try_start(judge, kind, &mut self.events, self.start, self.left)?;
@@ -100,7 +100,7 @@ impl Passes {
         ensures moves { IfOk result (λ more. ByVerdicts (J.Kind.eq kind) (J.judges judge.old)
             (λ needs. Moves needs self.old more self.new)) }
         ensures ends { IfOk result (λ more. more ≡ false → self.new ≡ self.old) }
-        ensures further { IfOk result (λ more. more ≡ true → GoesFurther self.old self.new) }
+        ensures further { IfOk result (λ more. more ≡ true → GoesFurther (Needs (J.Kind.eq kind) (J.judges judge.old)) self.old self.new) }
         ensures same { AreSame (J.judges judge.old) (J.judges judge.new) }
     {
         if self.left == 0 {
@@ -131,6 +131,9 @@ pub fn shorten<J: Judge>(
 ) -> Result<Vec<Event>, J::Error>
     ensures passes { IfOk result (λ shorter. ByVerdicts (J.Kind.eq kind) (J.judges judge.old)
         (λ needs. Shortens needs events.items shorter.items)) }
+    // Either nothing was taken, or the events are what the verdict on a list that was judged needs.
+    ensures judged { IfOk result (λ shorter. (shorter.items ≡ events.items)
+        ⊎ AreNeeded (J.Kind.eq kind) (J.judges judge.old) shorter.items) }
     ensures blocks { IfOk result (λ shorter. length (blocks shorter.items) ≤ length (blocks events.items)) }
     ensures events { IfOk result (λ shorter. length shorter.items ≤ length events.items) }
     // A list that goes wrong at its end still does.

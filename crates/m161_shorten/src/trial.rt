@@ -1,8 +1,8 @@
 //! Trials.
 
-ghost use Rattle.std.specs.Prelude.{◌≡◌, ◌≤◌, ◌<◌, [], ◌∷◌, length, take, IfOk, OnErr};
+ghost use Rattle.std.specs.Prelude.{◌≡◌, ◌≤◌, ◌<◌, [], ◌∷◌, length, take, IfOk, IfSome, OnErr};
 ghost use Rattle.m161_shorten.specs.Passes.{taken_of};
-ghost use Rattle.m161_shorten.specs.Verdicts.{AreSame, ByVerdicts};
+ghost use Rattle.m161_shorten.specs.Verdicts.{AreSame, ByVerdicts, Needs};
 ghost use Rattle.m161_shorten.specs.helpers.Ranges.{pair_trials, swapped, trials_at, IsPair};
 ghost use Rattle.m161_shorten.specs.helpers.Tries.{Cuts, Tries};
 
@@ -27,6 +27,7 @@ fn needs<J: Judge>(
 ) -> Result<Option<usize>, J::Error>
     ensures needs { IfOk result (λ n. ByVerdicts (J.Kind.eq kind) (J.judges judge.old)
         (λ needs. n ≡ needs events.now)) }
+    ensures has { IfOk result (λ n. IfSome n (Needs (J.Kind.eq kind) (J.judges judge.old) events.now)) }
     ensures same { AreSame (J.judges judge.old) (J.judges judge.new) }
 {
     match judge.judge(events)? {
@@ -50,7 +51,7 @@ fn try_swapped<J: Judge>(
     ensures tries { IfOk result (λ tried. ByVerdicts (J.Kind.eq kind) (J.judges judge.old)
         (λ needs. Tries (taken_of needs (swapped a b c events.old.items ∷ []))
         events.old.items tried events.new.items)) }
-    ensures cuts { IfOk result (λ tried. Cuts (swapped a b c events.old.items ∷ [])
+    ensures cuts { IfOk result (λ tried. Cuts (Needs (J.Kind.eq kind) (J.judges judge.old)) (swapped a b c events.old.items ∷ [])
         events.old.items tried events.new.items) }
     ensures one { IfOk result (λ tried. tried.judged ≡ 1) }
     ensures err { OnErr result (events.new.items ≡ events.old.items) }
@@ -92,7 +93,7 @@ fn try_pair<J: Judge>(
     ensures tries { IfOk result (λ tried. ByVerdicts (J.Kind.eq kind) (J.judges judge.old)
         (λ needs. Tries (taken_of needs (take left (pair_trials pair events.old.items)))
         events.old.items tried events.new.items)) }
-    ensures cuts { IfOk result (λ tried. Cuts (take left (pair_trials pair events.old.items))
+    ensures cuts { IfOk result (λ tried. Cuts (Needs (J.Kind.eq kind) (J.judges judge.old)) (take left (pair_trials pair events.old.items))
         events.old.items tried events.new.items) }
     ensures few { IfOk result (λ tried. tried.judged ≤ left) }
     ensures err { OnErr result (events.new.items ≡ events.old.items) }
@@ -122,7 +123,7 @@ pub(crate) fn try_start<J: Judge>(
     ensures tries { IfOk result (λ tried. ByVerdicts (J.Kind.eq kind) (J.judges judge.old)
         (λ needs. Tries (taken_of needs (take left (trials_at start events.old.items)))
         events.old.items tried events.new.items)) }
-    ensures cuts { IfOk result (λ tried. Cuts (take left (trials_at start events.old.items))
+    ensures cuts { IfOk result (λ tried. Cuts (Needs (J.Kind.eq kind) (J.judges judge.old)) (take left (trials_at start events.old.items))
         events.old.items tried events.new.items) }
     ensures few { IfOk result (λ tried. tried.judged ≤ left) }
     ensures err { OnErr result (events.new.items ≡ events.old.items) }

@@ -23,30 +23,35 @@ abbrev pub IsOneOf : List Event → List (List Event) → Type 0
 IsOneOf es [] = ⊥
 IsOneOf es (fs ∷ others) = (es ≡ fs) ⊎ IsOneOf es others
 
--- it is one of the trials that was taken, cut, and some were judged; or the list stays
-abbrev pub CutsIf : Bool → List (List Event) → List Event → ℕ → List Event → Type 0
-CutsIf true trials es judged fs =
-    (trial : List Event) × (n : ℕ) × IsOneOf trial trials × (fs ≡ take n trial) × (1 ≤ judged)
-CutsIf false trials es judged fs = fs ≡ es
+-- it is one of the trials that was taken, cut behind what it needs, and some were judged; or the
+-- list stays
+abbrev pub CutsIf :
+    (List Event → ℕ → Type 0) → Bool → List (List Event) → List Event → ℕ → List Event → Type 0
+CutsIf NeedsOf true trials es judged fs =
+    (trial : List Event) × (n : ℕ) × IsOneOf trial trials × NeedsOf trial n × (fs ≡ take n trial)
+    × (1 ≤ judged)
+CutsIf NeedsOf false trials es judged fs = fs ≡ es
 
-abbrev pub Cuts : List (List Event) → List Event → Tried → List Event → Type 0
-Cuts trials es tried fs = CutsIf tried.taken trials es tried.judged fs
+abbrev pub Cuts :
+    (List Event → ℕ → Type 0) → List (List Event) → List Event → Tried → List Event → Type 0
+Cuts NeedsOf trials es tried fs = CutsIf NeedsOf tried.taken trials es tried.judged fs
 
 abbrev pub if_taken : Bool → List Event → Option (List Event)
 if_taken true fs = Some fs
 if_taken false fs = None
 
 -- trials were made at the block
-abbrev pub CutsAt : Place → Place → Type 0
-CutsAt s t =
-    (tried : Tried) × (fs : List Event) × Cuts (take s.left (trials s.block s.events)) s.events tried fs
+abbrev pub CutsAt : (List Event → ℕ → Type 0) → Place → Place → Type 0
+CutsAt NeedsOf s t =
+    (tried : Tried) × (fs : List Event)
+    × Cuts NeedsOf (take s.left (trials s.block s.events)) s.events tried fs
     × (t ≡ after_trials (if_taken tried.taken fs) tried.judged s)
 
 -- the passes go on: trials were made, or another pass begins
-abbrev pub GoesFurther : Place → Place → Type 0
-GoesFurther s t =
+abbrev pub GoesFurther : (List Event → ℕ → Type 0) → Place → Place → Type 0
+GoesFurther NeedsOf s t =
     (0 < s.left)
-    × (((s.block < length (blocks s.events)) × CutsAt s t)
+    × (((s.block < length (blocks s.events)) × CutsAt NeedsOf s t)
     ⊎ ((s.taken ≡ true) × (t ≡ record s { block = 0; taken = false })))
 
 -- by the verdicts, they go on or end
