@@ -12,13 +12,12 @@ use Rattle.m161_drive.specs.declared.cursor.Cursor.{Cursor}
 use Rattle.m161_drive.specs.declared.turns.Turns.{Turns}
 use Rattle.m161_drive.specs.declared.orders.OrderState.{OrderState}
 use Rattle.m161_drive.specs.declared.orders.OrderState.TheVariants.{InTurns, AtRandom, ByPriority}
-use Rattle.m161_drive.specs.Choice.{chosen_with, gap_is_over, next_step, ordered, since_filled, tick, transfer_ends, type_key, wants_key}
+use Rattle.m161_drive.specs.Choice.{chosen, chosen_with, gap_is_over, next_step, ordered, since_filled, tick, transfer_ends, type_key, wants_key}
 use Rattle.m161_drive.specs.Drive.{Chooses, Goes}
 use Rattle.m161_drive.specs.Orders.{at_place, begun, by_order, by_ranks, by_turns, by_words, goes_on, interrupted, one_of}
 use Rattle.m161_drive.specs.Policy.{Rules}
 use Rattle.m161_drive.specs.Priorities.{Ranks, higher, highest}
 use Rattle.m161_drive.specs.Ready.{cyclic, is_asleep, is_ready, is_sending, is_ticking, next_behind, place_behind, some_ready, some_ticking}
-use Rattle.m161_judge.specs.Laws.{StuckChoosesNone}
 use Rattle.m161_judge.specs.Verdict.{after, going_on, is_key, is_stuck}
 use Rattle.m161_judge.proofs.Running.{none_is_not, some_is_one}
 
@@ -163,7 +162,7 @@ key_none : (left : Bool) (n : ℕ) → (not left || nat_le 256 n) ≡ true → n
 key_none false n h k = refl
 key_none true n h k = let full : nat_lt n 256 ≡ false = lt_or_le n h in let bad : true ≡ false = sym k ∙ full in absurd cc
 
-pub stuck_chooses_none : (rules : Rules) (c : Cursor) (s : State) → StuckChoosesNone rules c s
+pub stuck_chooses_none : (rules : Rules) (c : Cursor) (s : State) → is_stuck (nat_lt c.typed (length rules.keys)) s ≡ true → (chosen rules c s).0 ≡ None
 unfolding chosen_with
 stuck_chooses_none rules c s h =
     let left = nat_lt c.typed (length rules.keys) in

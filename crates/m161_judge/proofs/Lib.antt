@@ -8,3 +8,4 @@ mod Driven
 mod Walking
 mod Unique
 mod Cutting
+mod Exact

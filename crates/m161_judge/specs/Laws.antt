@@ -1,4 +1,4 @@
-use Rattle.std.specs.Prelude.{◌≡◌, List, nat_lt, true, length, take, None, Some, Option}
+use Rattle.std.specs.Prelude.{◌≡◌, ◌↔◌, ℕ, true, false, nat_lt, List, length, take, Option, None, Some}
 use Rattle.m161_machine.specs.declared.event.Event.{Event}
 use Rattle.m161_machine.specs.State.{State}
 use Rattle.m161_drive.specs.declared.cursor.Cursor.{Cursor}
@@ -9,10 +9,16 @@ use Rattle.m161_judge.specs.Verdict.{Criteria, IsJudged, is_stuck}
 
 -- Laws of the verdict.
 
--- where a state is stuck, no policy chooses an event, wherever its cursor is
-abbrev pub StuckChoosesNone : Rules → Cursor → State → Type 0
-StuckChoosesNone rules c s =
-    is_stuck (nat_lt c.typed (length rules.keys)) s ≡ true → (chosen rules c s).0 ≡ None
+-- no policy with these keys, of which so many are typed, chooses an event, wherever its cursor is
+abbrev pub NoPolicyChooses : List ℕ → ℕ → State → Type 0
+NoPolicyChooses keys typed s =
+    (rules : Rules) (c : Cursor) → rules.keys ≡ keys → c.typed ≡ typed → (chosen rules c s).0 ≡ None
+
+-- in a state that isn't off, that is so exactly where it is stuck
+abbrev pub StuckIsNoChoice : List ℕ → ℕ → State → Type 0
+StuckIsNoChoice keys typed s =
+    s.board.off ≡ false
+    → (is_stuck (nat_lt typed (length keys)) s ≡ true) ↔ NoPolicyChooses keys typed s
 
 -- a run has one verdict
 abbrev pub IsOneVerdict : Criteria → State → List Event → Type 0

@@ -1,17 +1,16 @@
 //! Laws of the definitions. The functions do nothing: their contracts are the laws.
 
-ghost use Rattle.std.specs.Prelude.{List};
+ghost use Rattle.std.specs.Prelude.{ℕ, List};
 ghost use Rattle.m161_machine.specs.declared.event.Event.{Event};
 ghost use Rattle.m161_machine.specs.State.{State};
-ghost use Rattle.m161_drive.specs.declared.cursor.Cursor.{Cursor};
-ghost use Rattle.m161_drive.specs.Policy.{Rules};
 ghost use Rattle.m161_judge.specs.declared.verdict.Judged.{Judged};
-ghost use Rattle.m161_judge.specs.Laws.{CutKeepsVerdict, IsOneVerdict, StuckChoosesNone};
+ghost use Rattle.m161_judge.specs.Laws.{CutKeepsVerdict, IsOneVerdict, StuckIsNoChoice};
 ghost use Rattle.m161_judge.specs.Verdict.{Criteria};
 
-/// The law of being stuck: no policy chooses an event, whatever it has chosen before.
-pub fn stuck_chooses_none()
-    ensures { (rules : Rules) (c : Cursor) (s : State) → StuckChoosesNone rules c s }
+/// The law of being stuck: in a state that isn't off, it is so exactly where no policy with these
+/// keys, of which it has typed so many, chooses an event.
+pub fn stuck_is_no_choice()
+    ensures { (keys : List ℕ) (typed : ℕ) (s : State) → StuckIsNoChoice keys typed s }
 {}
 
 /// The law of the definition: a run has one verdict, or none.

@@ -24,7 +24,7 @@ mod verdict;
 mod walk;
 
 pub use goal::Goal;
-pub use laws::{cut_keeps_verdict, one_verdict, stuck_chooses_none};
+pub use laws::{cut_keeps_verdict, one_verdict, stuck_is_no_choice};
 pub use list::judge;
 pub use m161_audit::{AuditError, Watch};
 pub use m161_drive::Policy;

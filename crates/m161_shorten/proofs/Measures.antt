@@ -8,10 +8,9 @@ use Rattle.m161_machine.specs.declared.event.Event.{Event}
 use Rattle.m161_shorten.specs.Blocks.{blocks}
 use Rattle.m161_shorten.specs.Trials.{trials}
 use Rattle.m161_shorten.specs.Law.{EndsWithOne}
-use Rattle.m161_shorten.specs.Passes.{GoesOn, Place, first_place, after_block, after_trials, taken_of, next_place, taken_or}
-use Rattle.m161_shorten.specs.Verdicts.{KeepsCut, NeedsAll, needs_by}
-use Rattle.m161_shorten.specs.declared.judged.Judged.{Judged}
-use Rattle.m161_shorten.specs.helpers.Tries.{Moves}
+use Rattle.m161_shorten.specs.Passes.{GoesOn, Place, first_place, after_block, after_trials, taken_of, next_place, taken_or, Shortens}
+use Rattle.m161_shorten.specs.Verdicts.{KeepsCut, NeedsAll}
+use Rattle.m161_shorten.specs.helpers.Tries.{CutsIf, GoesFurther, IsOneOf, Moves, if_taken}
 use Rattle.m161_shorten.proofs.Fewer.{IsLike, blocks_take, trials_like}
 use Rattle.m161_shorten.proofs.Starts.{blocks_few}
 
@@ -183,15 +182,62 @@ all_needed needs zero s t keeps all goes = subst (λ (u : Place). NeedsAll needs
 all_needed needs (suc n) s t keeps all goes =
     all_needed needs n goes.0 t keeps (still_needed needs s goes.0 keeps all (turns needs s goes.0 goes.1)) goes.2
 
--- what a call that goes on leaves; the judge is the same before it
-pub moved_on : {K : Type 0} (is_kind : K → Bool) (judges first : List Event → Option (Judged K)) (s t : Place) (more : Bool) → judges ≡ first →
-    more ≡ true → Moves (needs_by is_kind judges) s more t → next_place (needs_by is_kind first) s ≡ Some t
-moved_on is_kind judges first s t more same on moves =
-    let there : next_place (needs_by is_kind judges) s ≡ Some t = subst (λ b. Moves (needs_by is_kind judges) s b t) on moves in
-    subst (λ j. next_place (needs_by is_kind j) s ≡ Some t) same there
+pub end_needed : (needs : List Event → Option ℕ) (es fs : List Event) → KeepsCut needs → NeedsAll needs es → Shortens needs es fs → NeedsAll needs fs
+end_needed needs es fs keeps all short =
+    subst (NeedsAll needs) (sym short.events_are) (all_needed needs short.places (first_place es) short.last keeps all short.goes_on)
 
-pub stays_there : (needs : List Event → Option ℕ) (s t : Place) (more : Bool) → more ≡ false → Moves needs s more t → t ≡ s
-stays_there needs s t more on moves = let there : Moves needs s false t = subst (λ b. Moves needs s b t) on moves in there.1
+-- passes that go on by some verdicts, whatever these are
+
+one_like : (P : List Event → Type 0) (trial : List Event) (ts : List (List Event)) → AllByRecursion P ts → IsOneOf trial ts → P trial
+one_like P trial [] all one = absurd one
+one_like P trial (t ∷ ts) all (inl is) = subst P (sym is) all.0
+one_like P trial (t ∷ ts) all (inr later) = one_like P trial ts all.1 later
+
+abbrev pub Turned : Place → Place → Type 0
+Turned s t = (needs : List Event → Option ℕ) × Turns needs s t
+
+cuts_turn : (NeedsOf : List Event → ℕ → Type 0) (s t : Place) (taken : Bool) (judged : ℕ) (fs : List Event) → 0 < s.left → s.block < length (blocks s.events) →
+    CutsIf NeedsOf taken (take s.left (trials s.block s.events)) s.events judged fs → t ≡ after_trials (if_taken taken fs) judged s → Turned s t
+cuts_turn NeedsOf s t true judged fs some block cuts is =
+    let like = all_front (IsLike (length s.events) (length (blocks s.events))) s.left (trials s.block s.events) (trials_like s.block s.events) in
+    let one = one_like (IsLike (length s.events) (length (blocks s.events))) cuts.0 (take s.left (trials s.block s.events)) like cuts.2 in
+    let takes : Takes (λ es. Some cuts.1) (length s.events) (length (blocks s.events)) fs = record { trial = cuts.0; needed = cuts.1; needs_are = refl; cut = cuts.4; like = one } in
+    ((λ es. Some cuts.1), record { some = some; how = inl (block, (fs, judged, takes, cuts.5, is)) })
+cuts_turn NeedsOf s t false judged fs some block cuts is = ((λ es. None), record { some = some; how = inr (inl (block, (judged, is))) })
+
+pub further : (NeedsOf : List Event → ℕ → Type 0) (s t : Place) → GoesFurther NeedsOf s t → Turned s t
+further NeedsOf s t (some, inl (block, cuts)) = cuts_turn NeedsOf s t cuts.0.taken cuts.0.judged cuts.1 some block cuts.2 cuts.3
+further NeedsOf s t (some, inr (taken, is)) = ((λ es. None), record { some = some; how = inr (inr (taken, is)) })
+
+-- a list with a property, or one that was cut
+abbrev pub IsFrom : (List Event → ℕ → Type 0) → List Event → List Event → Type 0
+IsFrom NeedsOf es fs = (fs ≡ es) ⊎ ((trial : List Event) × (n : ℕ) × NeedsOf trial n × (fs ≡ take n trial))
+
+cut_from : (NeedsOf : List Event → ℕ → Type 0) (es : List Event) (s t : Place) (taken : Bool) (judged : ℕ) (trials : List (List Event)) (fs : List Event) → IsFrom NeedsOf es s.events →
+    CutsIf NeedsOf taken trials s.events judged fs → t ≡ after_trials (if_taken taken fs) judged s → IsFrom NeedsOf es t.events
+cut_from NeedsOf es s t true judged trials fs was cuts is =
+    subst (λ (x : Place). IsFrom NeedsOf es x.events) (sym is) (inr (cuts.0, cuts.1, cuts.3, cuts.4))
+cut_from NeedsOf es s t false judged trials fs was cuts is = subst (λ (x : Place). IsFrom NeedsOf es x.events) (sym is) was
+
+pub still_from : (NeedsOf : List Event → ℕ → Type 0) (es : List Event) (s t : Place) → IsFrom NeedsOf es s.events → GoesFurther NeedsOf s t → IsFrom NeedsOf es t.events
+still_from NeedsOf es s t was (some, inl (block, cuts)) =
+    cut_from NeedsOf es s t cuts.0.taken cuts.0.judged (take s.left (trials s.block s.events)) cuts.1 was cuts.2 cuts.3
+still_from NeedsOf es s t was (some, inr (taken, is)) = subst (λ (x : Place). IsFrom NeedsOf es x.events) (sym is) was
+
+pub from_as : (NeedsOf Others : List Event → ℕ → Type 0) (es fs : List Event) → ((xs : List Event) (n : ℕ) → NeedsOf xs n → Others xs n) → IsFrom NeedsOf es fs → IsFrom Others es fs
+from_as NeedsOf Others es fs into (inl h) = inl h
+from_as NeedsOf Others es fs into (inr h) = inr (h.0, h.1, into h.0 h.1 h.2, h.3)
+
+-- where the passes go on by the verdicts
+pub moved_on : (needs : List Event → Option ℕ) (s t : Place) (more : Bool) → more ≡ true → Moves needs s more t → next_place needs s ≡ Some t
+moved_on needs s t more on moves = subst (λ b. Moves needs s b t) on moves
+
+-- where they end by the verdicts
+pub ended : (needs : List Event → Option ℕ) (n : ℕ) (es fs : List Event) (s t : Place) (more : Bool) → more ≡ false → GoesOn needs n (first_place es) s →
+    Moves needs s more t → t ≡ s → fs ≡ t.events → Shortens needs es fs
+ended needs n es fs s t more on goes moves stays events =
+    let there : Moves needs s false t = subst (λ b. Moves needs s b t) on moves in
+    record { places = n; last = s; goes_on = goes; ends = there.0; events_are = events ∙ ap (λ (x : Place). x.events) stays }
 
 -- the passes end
 

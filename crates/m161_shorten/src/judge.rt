@@ -1,6 +1,6 @@
 //! Judges.
 
-ghost use Rattle.std.specs.Prelude.{◌≡◌, IfOk};
+ghost use Rattle.std.specs.Prelude.{IfOk};
 
 use crate::judged::Judged;
 use m161_machine::Event;
@@ -10,6 +10,7 @@ pub trait Judge {
     ghost use Rattle.std.specs.Prelude.{List, Option};
     ghost use Rattle.m161_machine.specs.declared.event.Event.{Event};
     ghost use Rattle.m161_shorten.specs.declared.judged.Judged.{Judged};
+    ghost use Rattle.m161_shorten.specs.Verdicts.{AreSame};
 
     /// What verdicts are compared by.
     type Kind: Copy + Eq;
@@ -17,14 +18,14 @@ pub trait Judge {
     /// Why a list can't be judged.
     type Error;
 
-    // The verdict on each list, if it has one.
-    ghost judges: { Self → List Event → Option (Judged Self.Kind) };
+    // A list has this verdict, or none.
+    ghost judges: { Self → List Event → Option (Judged Self.Kind) → Type 0 };
 
     /// The verdict on a list, if it has one.
     ///
     /// # Errors
     /// The list can't be judged.
     fn judge(&mut self, events: &[Event]) -> Result<Option<Judged<Self::Kind>>, Self::Error>
-        ensures verdict { IfOk result (λ verdict. verdict ≡ judges self.old events.now) }
-        ensures same { judges self.new ≡ judges self.old };
+        ensures verdict { IfOk result (judges self.old events.now) }
+        ensures same { AreSame (judges self.old) (judges self.new) };
 }

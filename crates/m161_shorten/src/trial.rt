@@ -1,10 +1,10 @@
 //! Trials.
 
-ghost use Rattle.std.specs.Prelude.{◌≡◌, ◌≤◌, ◌<◌, [], ◌∷◌, length, take, IfOk, OnErr};
+ghost use Rattle.std.specs.Prelude.{◌≡◌, ◌≤◌, ◌<◌, [], ◌∷◌, length, take, IfOk, IfSome, OnErr};
 ghost use Rattle.m161_shorten.specs.Passes.{taken_of};
-ghost use Rattle.m161_shorten.specs.Verdicts.{needs_by};
+ghost use Rattle.m161_shorten.specs.Verdicts.{AreSame, ByVerdicts, Needs};
 ghost use Rattle.m161_shorten.specs.helpers.Ranges.{pair_trials, swapped, trials_at, IsPair};
-ghost use Rattle.m161_shorten.specs.helpers.Tries.{Tries};
+ghost use Rattle.m161_shorten.specs.helpers.Tries.{Cuts, Tries};
 
 use crate::judge::Judge;
 use crate::ranges::{Pair, find_pair, swap_parts};
@@ -25,8 +25,10 @@ fn needs<J: Judge>(
     kind: J::Kind,
     events: &[Event],
 ) -> Result<Option<usize>, J::Error>
-    ensures needs { IfOk result (λ n. n ≡ needs_by (J.Kind.eq kind) (J.judges judge.old) events.now) }
-    ensures same { J.judges judge.new ≡ J.judges judge.old }
+    ensures needs { IfOk result (λ n. ByVerdicts (J.Kind.eq kind) (J.judges judge.old)
+        (λ needs. n ≡ needs events.now)) }
+    ensures has { IfOk result (λ n. IfSome n (Needs (J.Kind.eq kind) (J.judges judge.old) events.now)) }
+    ensures same { AreSame (J.judges judge.old) (J.judges judge.new) }
 {
     match judge.judge(events)? {
         Some(judged) if kind == judged.kind => Ok(Some(judged.needs)),
@@ -46,11 +48,14 @@ fn try_swapped<J: Judge>(
     requires first { a ≤ b }
     requires second { b ≤ c }
     requires within { c ≤ length events.old.items }
-    ensures tries { IfOk result (λ tried. Tries
-        (taken_of (needs_by (J.Kind.eq kind) (J.judges judge.old)) (swapped a b c events.old.items ∷ []))
+    ensures tries { IfOk result (λ tried. ByVerdicts (J.Kind.eq kind) (J.judges judge.old)
+        (λ needs. Tries (taken_of needs (swapped a b c events.old.items ∷ []))
+        events.old.items tried events.new.items)) }
+    ensures cuts { IfOk result (λ tried. Cuts (Needs (J.Kind.eq kind) (J.judges judge.old)) (swapped a b c events.old.items ∷ [])
         events.old.items tried events.new.items) }
+    ensures one { IfOk result (λ tried. tried.judged ≡ 1) }
     ensures err { OnErr result (events.new.items ≡ events.old.items) }
-    ensures same { J.judges judge.new ≡ J.judges judge.old }
+    ensures same { AreSame (J.judges judge.old) (J.judges judge.new) }
 {
     swap_parts(events, a, b, c);
     match needs(judge, kind, events) {
@@ -85,12 +90,14 @@ fn try_pair<J: Judge>(
 ) -> Result<Tried, J::Error>
     requires some { 0 < left }
     requires pair { IsPair pair events.old.items }
-    ensures tries { IfOk result (λ tried. Tries
-        (taken_of (needs_by (J.Kind.eq kind) (J.judges judge.old)) (take left (pair_trials pair events.old.items)))
+    ensures tries { IfOk result (λ tried. ByVerdicts (J.Kind.eq kind) (J.judges judge.old)
+        (λ needs. Tries (taken_of needs (take left (pair_trials pair events.old.items)))
+        events.old.items tried events.new.items)) }
+    ensures cuts { IfOk result (λ tried. Cuts (Needs (J.Kind.eq kind) (J.judges judge.old)) (take left (pair_trials pair events.old.items))
         events.old.items tried events.new.items) }
     ensures few { IfOk result (λ tried. tried.judged ≤ left) }
     ensures err { OnErr result (events.new.items ≡ events.old.items) }
-    ensures same { J.judges judge.new ≡ J.judges judge.old }
+    ensures same { AreSame (J.judges judge.old) (J.judges judge.new) }
 {
     let first = try_swapped(judge, kind, events, pair.between, pair.next, pair.behind)?;
     if first.taken || left == 1 {
@@ -113,12 +120,14 @@ pub(crate) fn try_start<J: Judge>(
 ) -> Result<Tried, J::Error>
     requires some { 0 < left }
     requires start { start ≤ length events.old.items }
-    ensures tries { IfOk result (λ tried. Tries
-        (taken_of (needs_by (J.Kind.eq kind) (J.judges judge.old)) (take left (trials_at start events.old.items)))
+    ensures tries { IfOk result (λ tried. ByVerdicts (J.Kind.eq kind) (J.judges judge.old)
+        (λ needs. Tries (taken_of needs (take left (trials_at start events.old.items)))
+        events.old.items tried events.new.items)) }
+    ensures cuts { IfOk result (λ tried. Cuts (Needs (J.Kind.eq kind) (J.judges judge.old)) (take left (trials_at start events.old.items))
         events.old.items tried events.new.items) }
     ensures few { IfOk result (λ tried. tried.judged ≤ left) }
     ensures err { OnErr result (events.new.items ≡ events.old.items) }
-    ensures same { J.judges judge.new ≡ J.judges judge.old }
+    ensures same { AreSame (J.judges judge.old) (J.judges judge.new) }
 {
     match find_pair(events, start) {
         Some(pair) => try_pair(judge, kind, events, pair, left),

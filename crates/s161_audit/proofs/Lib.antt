@@ -1,1 +1,1 @@
-mod Failing
+pub mod Failing

@@ -57,9 +57,9 @@ impl fmt::Display for ShownUse {
     }
 }
 
-// A finding, as text.
+/// A finding, as text.
 #[derive(Drop)]
-struct ShownFinding(Finding);
+pub struct ShownFinding(pub Finding);
 
 impl fmt::Display for ShownFinding {
     ghost output = { λ finding. Some (finding_text finding.0) };

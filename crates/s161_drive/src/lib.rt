@@ -3,5 +3,5 @@
 #![tactic(auto)]
 
 pub mod driven;
-mod policy;
+pub mod policy;
 pub mod schedule;

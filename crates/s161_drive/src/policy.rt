@@ -1,6 +1,6 @@
 //! Driving a machine by the options of a command line.
 
-ghost use Rattle.std.specs.Prelude.{◌≡◌, ◌⊎◌, IfErr, IfOk, None, option_map};
+ghost use Rattle.std.specs.Prelude.{◌≡◌, ◌⊎◌, ℕ, IfErr, IfOk, List, None};
 ghost use Rattle.m161_drive.specs.Drive.{Drives};
 ghost use Rattle.m161_order.specs.Order.{order_fault};
 ghost use Rattle.s161_drive.specs.Driven.{AreKeys, IsKeysFile, rules_of};
@@ -14,12 +14,16 @@ use s161_command::Drive;
 use std::alloc::Global;
 
 /// The bytes that are typed: those of the file of this name, or none.
-pub(crate) fn read_keys<'a, F: FileSource>(
+///
+/// # Errors
+/// The file can't be read or is too long; or memory was refused.
+pub fn read_keys<'a, F: FileSource>(
     alloc: Global,
     files: &mut F,
     name: Option<&'a str>,
 ) -> Result<Vec<u8>, Fault<'a>>
     ensures whole { IfOk result (λ keys. AreKeys name.entry (F.known files.old) keys.items) }
+    ensures still { (other : List ℕ) → F.known files.new other ≡ F.known files.old other }
     ensures err { IfErr result (λ fault. IsKeysFile name.entry fault ⊎ (fault ≡ Fault.Memory)) }
 {
     match name {

@@ -52,9 +52,9 @@ pub fn schedule<'a, F: FileSource>(
     Ok(text.into_bytes())
 }
 
-// The entries that the log keeps: all of the run's, where the size that is asked for is one that a
-// machine can have.
-fn log_for(asked: u32, events: u64) -> u32
+/// The entries that the log keeps: all of the run's, where the size that is asked for is one that a
+/// machine can have.
+pub fn log_for(asked: u32, events: u64) -> u32
     ensures value { result ≡ log_for asked events }
     ensures room { 1 ≤ result → result ≤ 16_777_216 → events ≤ result }
 {

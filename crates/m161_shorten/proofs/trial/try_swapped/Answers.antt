@@ -6,15 +6,25 @@ use Rattle.m161_shorten.proofs.Trying.{not_taken}
 use Rattle.m161_shorten.proofs.trial.try_swapped.Goals as goal
 
 pub returns-in-Ok-None-clause-tries : goal.returns-in-Ok-None-clause-tries
-returns-in-Ok-None-clause-tries g c =
+returns-in-Ok-None-clause-tries g c tells told =
+    let needs = needs_by (g.J.Kind.PartialEq.eq c.args.kind) tells in
     let es = c.args.events.now.items in
     let a = c.args.a in
     let b = c.args.b in
     let d = c.args.c in
     let back = c.swap_parts-in-Ok-None.ensures ∙ ap (swapped a (a + (d - b)) d) c.swap_parts.ensures
     ∙ swapped_back a b d es c.requires.first c.requires.second c.requires.within in
-    not_taken (needs_by (g.J.Kind.PartialEq.eq c.args.kind) (g.J.Judge.judges c.args.judge.now)) (swapped a b d es) es c.swap_parts-in-Ok-None.new.events.items
-    (sym c.in-Ok-None.field-0-is ∙ c.in-Ok-None.ensures.needs ∙ ap (needs_by (g.J.Kind.PartialEq.eq c.args.kind) (g.J.Judge.judges c.args.judge.now)) (c.deref.ensures.value ∙ c.swap_parts.ensures)) back
+    not_taken needs (swapped a b d es) es c.swap_parts-in-Ok-None.new.events.items
+    (sym c.in-Ok-None.field-0-is ∙ c.in-Ok-None.ensures.needs tells told ∙ ap needs (c.deref.ensures.value ∙ c.swap_parts.ensures)) back
+
+pub returns-in-Ok-None-clause-cuts : goal.returns-in-Ok-None-clause-cuts
+returns-in-Ok-None-clause-cuts g c =
+    let es = c.args.events.now.items in
+    let a = c.args.a in
+    let b = c.args.b in
+    let d = c.args.c in
+    c.swap_parts-in-Ok-None.ensures ∙ ap (swapped a (a + (d - b)) d) c.swap_parts.ensures
+    ∙ swapped_back a b d es c.requires.first c.requires.second c.requires.within
 
 pub returns-in-Err-clause-err : goal.returns-in-Err-clause-err
 returns-in-Err-clause-err g c =

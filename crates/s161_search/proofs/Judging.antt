@@ -1,0 +1,81 @@
+use Rattle.std.proofs.Common.{◌≡◌, ◌⊎◌, ◌∙◌, ℕ, Bool, true, List, take, Option, None, Some, Ok, ap, inl, inr, refl, sym, subst}
+use Rattle.std.specs.Prelude.{◌==◌, option_map}
+use Rattle.std.proofs.lemmas.Bool.{eqb-true}
+use Rattle.m161_judge.specs.declared.run.Run.{Run}
+use Rattle.m161_judge.specs.declared.verdict.Judged.{Judged}
+use Rattle.m161_judge.specs.Judge.{Judges}
+use Rattle.m161_judge.specs.Laws.{CutKeepsVerdict, IsOneVerdict}
+use Rattle.m161_judge.specs.Run.{IsRun, Runs}
+use Rattle.m161_judge.specs.Verdict.{Criteria, IsJudged, rank}
+use Rattle.m161_drive.specs.Policy.{Rules}
+use Rattle.m161_machine.specs.declared.conf.BootError.{BootError}
+use Rattle.m161_machine.specs.declared.event.Event.{Event}
+use Rattle.m161_machine.specs.History.{History}
+use Rattle.m161_machine.specs.State.{State}
+use Rattle.m161_shorten.specs.declared.judged.Judged.{Judged as KindJudged}
+use Rattle.m161_shorten.specs.Verdicts.{AreNeeded}
+use Rattle.s161_command.specs.declared.task.SearchTask.{SearchTask}
+use Rattle.s161_search.specs.Given.{Given, criteria_of}
+use Rattle.s161_search.specs.Seeds.{IsRunAt, search_conf}
+use Rattle.s161_search.specs.Searches.{HasKind, IsJudgedAt, kind_of}
+use Rattle.s161_search.proofs.Booting.{booted_as_one}
+
+-- Verdicts of runs and of lists of events.
+
+-- a run that was made
+pub run_made : (task : SearchTask) (given : Given) (rules : Rules) (fault : Option BootError) (run : Run) →
+    Runs given.file (search_conf task) fault rules task.drive.events (criteria_of given) (Ok run) →
+    IsRun given.file (search_conf task) rules task.drive.events (criteria_of given) run
+run_made task given rules (Some first) run h = absurd cc
+run_made task given rules None run h = h
+
+-- the verdict of a run
+pub run_judged : (task : SearchTask) (given : Given) (k : ℕ) (run : Run) (judged : Judged) → IsRunAt task given k run → run.judged ≡ Some judged →
+    IsJudgedAt task given run.events.items (Some judged)
+run_judged task given k run judged is wrong =
+    (is.booted, is.is_booted, subst (λ v. IsJudged (criteria_of given) is.booted.state run.events.items v) wrong is.judged)
+
+-- the verdict of a list
+pub list_judged : (task : SearchTask) (given : Given) (events : List Event) (fault : Option BootError) (judged : Option Judged) →
+    Judges given.file (search_conf task) fault events (criteria_of given) (Ok judged) → IsJudgedAt task given events judged
+list_judged task given events (Some first) judged h = absurd cc
+list_judged task given events None judged h = h.1
+
+-- a list has one verdict
+pub one_judged : (task : SearchTask) (given : Given) (events : List Event) (a b : Option Judged) →
+    ((goal : Criteria) (s : State) (es : List Event) → IsOneVerdict goal s es) →
+    IsJudgedAt task given events a → IsJudgedAt task given events b → a ≡ b
+one_judged task given events a b one h k =
+    let same = booted_as_one given.file (search_conf task) h.0 k.0 h.1 k.1 in
+    one (criteria_of given) k.0.state events a b
+    (subst (λ s. IsJudged (criteria_of given) s events a) same h.2) k.2
+
+cut_judged : (task : SearchTask) (given : Given) (events : List Event) (judged : Judged) →
+    ((goal : Criteria) (s : State) (es : List Event) (j : Judged) → CutKeepsVerdict goal s es j) →
+    IsJudgedAt task given events (Some judged) → IsJudgedAt task given (take judged.events events) (Some judged)
+cut_judged task given events judged cut h = (h.0, h.1, cut (criteria_of given) h.0.state events judged h.2)
+
+-- a verdict of a kind, on what was cut behind it
+abbrev pub HasSuch : SearchTask → Given → List Event → ℕ → Type 0
+HasSuch task given events kind =
+    (final : Judged) × IsJudgedAt task given events (Some final) × (rank final.verdict ≡ kind)
+
+such : (task : SearchTask) (given : Given) (es : List Event) (kind needs : ℕ) (judged : Option Judged) →
+    ((goal : Criteria) (s : State) (xs : List Event) (j : Judged) → CutKeepsVerdict goal s xs j) → IsJudgedAt task given es judged →
+    Some (record { kind = kind; needs = needs }) ≡ option_map kind_of judged → HasSuch task given (take needs es) kind
+such task given es kind needs None cut h is = absurd cc
+such task given es kind needs (Some judged) cut h is =
+    let same : kind_of judged ≡ record { kind = kind; needs = needs } = cc in
+    let as_many : judged.events ≡ needs = ap (λ (k : KindJudged ℕ). k.needs) same in
+    (judged, subst (λ n. IsJudgedAt task given (take n es) (Some judged)) as_many (cut_judged task given es judged cut h), ap (λ (k : KindJudged ℕ). k.kind) same)
+
+-- what the passes leave has a verdict of the kind
+pub left_judged : (task : SearchTask) (given : Given) (events fs : List Event) (judged : Judged) →
+    ((goal : Criteria) (s : State) (xs : List Event) (j : Judged) → CutKeepsVerdict goal s xs j) → IsJudgedAt task given events (Some judged) →
+    (fs ≡ take judged.events events) ⊎ AreNeeded (λ kind. rank judged.verdict == kind) (HasKind task given) fs → HasSuch task given fs (rank judged.verdict)
+left_judged task given events fs judged cut h (inl is) =
+    subst (λ es. HasSuch task given es (rank judged.verdict)) (sym is) (judged, cut_judged task given events judged cut h, refl)
+left_judged task given events fs judged cut h (inr (es, n, (kind, has, same), is)) =
+    let kinds : rank judged.verdict ≡ kind = eqb-true (rank judged.verdict) kind same in
+    subst (λ k. HasSuch task given fs k) (sym kinds)
+    (subst (λ xs. HasSuch task given xs kind) (sym is) (such task given es kind n has.0 cut has.1 has.2))

@@ -1,0 +1,4 @@
+pub mod Booting
+pub mod Reading
+pub mod Failing
+pub mod Judging

@@ -1,0 +1,66 @@
+use Rattle.std.specs.Prelude.{◌≡◌, ℕ, List, [], Option, None, Some, IfSome, option_map}
+use Rattle.std.proofs.Common.{Bor}
+use Rattle.m161_audit.specs.declared.watch.Watch.{Watch}
+use Rattle.m161_audit.specs.WatchText.{AreWatchLines}
+use Rattle.m161_judge.specs.Verdict.{Criteria}
+use Rattle.m161_text.specs.Lines.{FirstBad}
+use Rattle.s161_command.specs.declared.task.SearchTask.{SearchTask}
+use Rattle.s161_base.specs.declared.fault.Fault.{Fault}
+use Rattle.s161_base.specs.Known.{OfKnown, OfText}
+use Rattle.s161_base.specs.Reading.{IsFileUnread, IsOfText}
+use Rattle.s161_audit.specs.Audits.{OfWatches}
+use Rattle.s161_drive.specs.Driven.{AreKeys}
+use Rattle.s161_search.specs.declared.inputs.Inputs.{Inputs}
+
+-- What a search reads.
+
+-- the image, the keys that are typed, and by what runs are judged
+pub record Given : Type 0 where
+  pub file : List ℕ
+  pub keys : List ℕ
+  pub watches : List Watch
+  pub output : Option (List ℕ)
+
+abbrev pub criteria_of : Given → Criteria
+criteria_of given = record { watches = given.watches; output = given.output; keys = given.keys }
+
+abbrev pub given_of : Inputs → Given
+given_of inputs = record {
+  file = inputs.file.items;
+  keys = inputs.keys.items;
+  watches = inputs.watches.items;
+  output = option_map (λ bytes. bytes.items) inputs.output;
+}
+
+-- the watches are those of the file of a name, as far as its bytes are known, or none without a name
+abbrev pub AreWatchesOf :
+    Option (Bor (List ℕ)) → (List ℕ → Option (List ℕ)) → List Watch → Type 0
+AreWatchesOf None files watches = watches ≡ []
+AreWatchesOf (Some name) files watches = OfWatches (files name.now) (λ watched. watches ≡ watched)
+
+-- the output that is asked for is that of the file of a name
+abbrev pub IsOutputOf :
+    Option (Bor (List ℕ)) → (List ℕ → Option (List ℕ)) → Option (List ℕ) → Type 0
+IsOutputOf None files output = output ≡ None
+IsOutputOf (Some name) files output = OfKnown (files name.now) (λ bytes. output ≡ Some bytes)
+
+-- all of it; the files have these bytes, and that of the image, as far as they are known
+pub record IsGiven
+    (task : SearchTask) (files : List ℕ → Option (List ℕ)) (image : Option (List ℕ)) (given : Given)
+    : Type 0 where
+  pub is_file : IfSome image (λ bytes. given.file ≡ bytes)
+  pub are_keys : AreKeys task.drive.keys files given.keys
+  pub are_watches : AreWatchesOf task.watches files given.watches
+  pub is_output : IsOutputOf task.output files given.output
+
+-- a fault is that of the file of the watches, which is a text
+abbrev pub IsWatchesFile :
+    Option (Bor (List ℕ)) → (List ℕ → Option (List ℕ)) → Fault → Type 0
+IsWatchesFile None files fault = ⊥
+IsWatchesFile (Some name) files fault = IsFileUnread name (IsOfText (files name.now)) fault
+
+-- the text of the watches has this first bad line
+abbrev pub IsBadLine : Option (Bor (List ℕ)) → (List ℕ → Option (List ℕ)) → ℕ → Type 0
+IsBadLine None files n = ⊥
+IsBadLine (Some name) files n =
+    OfText (files name.now) (λ text. FirstBad AreWatchLines text n)

@@ -1,0 +1,5 @@
+pub mod Given
+pub mod Seeds
+pub mod Texts
+pub mod Searches
+pub mod helpers

@@ -1,0 +1,105 @@
+use Rattle.std.specs.Prelude.{◌≡◌, ◌⊎◌, ℕ, ◌==◌, Bool, true, false, List, take, Option, Some, option_map}
+use Rattle.m161_judge.specs.declared.run.Run.{Run}
+use Rattle.m161_judge.specs.declared.verdict.Judged.{Judged}
+use Rattle.m161_judge.specs.declared.verdict.Verdict.{Verdict}
+use Rattle.m161_judge.specs.declared.verdict.Verdict.TheVariants.{Stale, Stuck, Output as OutputVerdict, End}
+use Rattle.m161_judge.specs.Verdict.{IsJudged, rank}
+use Rattle.m161_machine.specs.declared.event.Event.{Event}
+use Rattle.m161_machine.specs.History.{History, IsBooted}
+use Rattle.m161_shorten.specs.declared.judged.Judged.{Judged as KindJudged}
+use Rattle.m161_shorten.specs.Passes.{Shortens}
+use Rattle.m161_shorten.specs.Verdicts.{ByVerdicts}
+use Rattle.m161_text.specs.Lines.{with_line_end}
+use Rattle.s161_base.specs.declared.fault.Fault.{Fault}
+use Rattle.s161_base.specs.declared.fault.Fault.TheVariants.{Conf, File, Image, Memory, Watch, Watches}
+use Rattle.s161_base.specs.Reading.{IsOfBytes}
+use Rattle.s161_base.specs.Samples.{IsFileName}
+use Rattle.s161_command.specs.declared.task.SearchTask.{SearchTask}
+use Rattle.s161_drive.specs.Driven.{IsKeysFile}
+use Rattle.s161_search.specs.Given.{Given, IsBadLine, IsGiven, IsWatchesFile, criteria_of}
+use Rattle.s161_search.specs.Seeds.{AreClean, IsFirstWrong, IsRunFault, search_conf, seed_at}
+use Rattle.s161_search.specs.Texts.{clean_text, found_text}
+
+-- The output and the exit status of `search`.
+
+-- the verdict of a list of events, made on a machine of the search
+abbrev pub IsJudgedAt : SearchTask → Given → List Event → Option Judged → Type 0
+IsJudgedAt task given events judged =
+    (booted : History) × IsBooted given.file (search_conf task) booted
+    × IsJudged (criteria_of given) booted.state events judged
+
+-- a verdict, of which only the kind matters
+abbrev pub kind_of : Judged → KindJudged ℕ
+kind_of judged = record { kind = rank judged.verdict; needs = judged.events }
+
+abbrev pub HasKind : SearchTask → Given → List Event → Option (KindJudged ℕ) → Type 0
+HasKind task given events verdict =
+    (judged : Option Judged) × IsJudgedAt task given events judged
+    × (verdict ≡ option_map kind_of judged)
+
+-- all events of a run are printed where that is asked for, and where the verdict is `end`
+abbrev pub is_whole : Bool → Verdict → Bool
+is_whole whole (Stale place processor address row) = whole
+is_whole whole Stuck = whole
+is_whole whole OutputVerdict = whole
+is_whole whole End = true
+
+-- the events that are printed of a run with this verdict: all; or what the passes leave of those that
+-- the verdict needs, by verdicts of its kind
+abbrev pub ArePrinted : Bool → SearchTask → Given → List Event → Judged → List Event → Type 0
+ArePrinted true task given events judged printed = printed ≡ events
+ArePrinted false task given events judged printed =
+    ByVerdicts (λ kind. rank judged.verdict == kind) (HasKind task given)
+    (λ needs. Shortens needs (take judged.events events) printed)
+
+-- the schedule of the first run that goes wrong, behind its seed and its verdict; the printed verdict
+-- is that of the printed events, and is of the run's kind
+pub record IsFound (task : SearchTask) (given : Given) (text : List ℕ) : Type 0 where
+  pub place : ℕ
+  pub run : Run
+  pub judged : Judged
+  pub first : IsFirstWrong task given place run judged
+  pub events : List Event
+  pub are_printed :
+      ArePrinted (is_whole task.whole judged.verdict) task given run.events.items judged events
+  pub final : Judged
+  pub is_judged : IsJudgedAt task given events (Some final)
+  pub same_kind : rank final.verdict ≡ rank judged.verdict
+  pub text_is : text ≡ found_text (seed_at task.drive.order place) final.verdict events
+
+-- none of the runs goes wrong
+abbrev pub IsClean : SearchTask → Given → List ℕ → Type 0
+IsClean task given text =
+    (cut : ℕ) × AreClean task given task.seeds cut
+    × (text ≡ with_line_end (clean_text task.seeds cut))
+
+-- a finished search: what it prints and its exit status; the files have these bytes, and that of the
+-- image, as far as they are known
+abbrev pub IsSearched :
+    SearchTask → (List ℕ → Option (List ℕ)) → Option (List ℕ) → List ℕ → ℕ → Type 0
+IsSearched task files image text status =
+    (given : Given) × IsGiven task files image given
+    × (((status ≡ 0) × IsClean task given text) ⊎ ((status ≡ 4) × IsFound task given text))
+
+-- a run isn't made, of what was read
+abbrev pub IsNotRun :
+    SearchTask → (List ℕ → Option (List ℕ)) → Option (List ℕ) → Fault → Type 0
+IsNotRun task files image fault =
+    (given : Given) × IsGiven task files image given × IsRunFault task given fault
+
+-- what a fault that ends a search says of its inputs: of a file, that it is the image's, the keys',
+-- the watches' or the output's; of the watches, their first bad line; of the configuration, the image
+-- or a watch, that all files were read. File and Memory hold whatever else is at fault
+abbrev pub IsSearchFault :
+    SearchTask → (List ℕ → Option (List ℕ)) → Option (List ℕ) → Fault → Type 0
+IsSearchFault task files image (File name why) =
+    ((name.now ≡ task.image.now) × IsFileName task.image.now × IsOfBytes why)
+    ⊎ (IsKeysFile task.drive.keys (File name why)
+    ⊎ (IsWatchesFile task.watches files (File name why)
+    ⊎ IsKeysFile task.output (File name why)))
+IsSearchFault task files image (Watches n) = IsBadLine task.watches files n
+IsSearchFault task files image Conf = IsNotRun task files image Conf
+IsSearchFault task files image (Image e) = IsNotRun task files image (Image e)
+IsSearchFault task files image (Watch k) = IsNotRun task files image (Watch k)
+IsSearchFault task files image Memory = Unit {0}
+IsSearchFault task files image _ = ⊥

@@ -1,0 +1,83 @@
+use Rattle.std.specs.Prelude.{◌≡◌, ℕ, zero, suc, ◌+◌, ◌%◌, ◌^◌, ◌<◌, Bool, if◌then◌else◌, false, List, Option, None, Some}
+use Rattle.m161_audit.specs.Watch.{AreGood, IsBad}
+use Rattle.m161_judge.specs.declared.run.Run.{Run}
+use Rattle.m161_judge.specs.declared.verdict.Judged.{Judged}
+use Rattle.m161_judge.specs.Run.{IsRun}
+use Rattle.m161_machine.specs.declared.conf.Conf.{Conf as MachineConf}
+use Rattle.m161_machine.specs.declared.conf.BootError.TheVariants.{Load}
+use Rattle.m161_machine.specs.Conf.{is_within_limits}
+use Rattle.m161_machine.specs.History.{boot_fault}
+use Rattle.m161_order.specs.declared.order.Order.{Order}
+use Rattle.m161_order.specs.declared.order.Order.TheVariants.{Turns, Random, Priorities}
+use Rattle.s161_base.specs.declared.fault.Fault.{Fault}
+use Rattle.s161_base.specs.declared.fault.Fault.TheVariants.{Conf, Image, Memory, Watch}
+use Rattle.s161_command.specs.declared.drive.Drive.{Drive}
+use Rattle.s161_command.specs.declared.task.SearchTask.{SearchTask}
+use Rattle.s161_drive.specs.Driven.{rules_of}
+use Rattle.s161_drive.specs.Schedules.{log_for}
+use Rattle.s161_search.specs.Given.{Given, criteria_of}
+
+-- The seeds that a search tries.
+
+-- the seed of an order; one by turns has none
+abbrev pub seed_of : Order → ℕ
+seed_of (Turns steps) = 0
+seed_of (Random seed) = seed
+seed_of (Priorities seed changes within) = seed
+
+-- the same order with another seed
+abbrev pub with_seed : ℕ → Order → Order
+with_seed seed (Turns steps) = Turns steps
+with_seed seed (Random first) = Random seed
+with_seed seed (Priorities first changes within) = Priorities seed changes within
+
+-- the seed k places behind that of the order, modulo 2^64
+abbrev pub seed_at : Order → ℕ → ℕ
+seed_at order k = (seed_of order + k) % 2 ^ 64
+
+-- the options of run k, from 0
+abbrev pub drive_at : Drive → ℕ → Drive
+drive_at drive k = record drive { order = with_seed (seed_at drive.order k) drive.order }
+
+-- the machine of each run: its log keeps all of the run's entries, as that of `schedule`
+abbrev pub search_conf : SearchTask → MachineConf
+search_conf task = record {
+  ram = task.size.ram;
+  processors = task.size.processors;
+  log = log_for task.size.log task.drive.events;
+}
+
+-- run k, and its verdict
+abbrev pub IsRunAt : SearchTask → Given → ℕ → Run → Type 0
+IsRunAt task given k run =
+    IsRun given.file (search_conf task) (rules_of (drive_at task.drive k) given.keys)
+    task.drive.events (criteria_of given) run
+
+-- why a run isn't made. Memory holds whatever else is at fault
+abbrev pub IsRunFault : SearchTask → Given → Fault → Type 0
+IsRunFault task given Conf = is_within_limits (search_conf task) ≡ false
+IsRunFault task given (Image e) = boot_fault given.file (search_conf task) ≡ Some (Load e)
+IsRunFault task given (Watch k) =
+    (boot_fault given.file (search_conf task) ≡ None)
+    × IsBad task.size.ram given.watches k × AreGood task.size.ram given.watches k
+IsRunFault task given Memory = Unit {0}
+IsRunFault task given _ = ⊥
+
+abbrev pub one_if : Bool → ℕ
+one_if b = if b then 1 else 0
+
+-- none of the first n runs goes wrong, and so many of them are cut
+abbrev pub AreClean : SearchTask → Given → ℕ → ℕ → Type 0
+AreClean task given zero cut = cut ≡ 0
+AreClean task given (suc n) cut =
+    (before : ℕ) × (run : Run) × AreClean task given n before × IsRunAt task given n run
+    × (run.judged ≡ None) × (cut ≡ before + one_if run.is_cut)
+
+-- the first run that goes wrong, and its verdict
+pub record IsFirstWrong
+    (task : SearchTask) (given : Given) (place : ℕ) (run : Run) (judged : Judged) : Type 0 where
+  pub within : place < task.seeds
+  pub cut : ℕ
+  pub before : AreClean task given place cut
+  pub is_run : IsRunAt task given place run
+  pub wrong : run.judged ≡ Some judged

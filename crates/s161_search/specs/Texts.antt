@@ -1,0 +1,31 @@
+use Rattle.std.specs.Prelude.{ℕ, ◌==◌, if◌then◌else◌, List, ◌++◌, codes, decimal}
+use Rattle.m161_audit.specs.declared.finding.Finding.TheVariants as finding
+use Rattle.m161_judge.specs.declared.verdict.Verdict.{Verdict}
+use Rattle.m161_judge.specs.declared.verdict.Verdict.TheVariants.{Stale, Stuck, Output, End}
+use Rattle.m161_machine.specs.declared.event.Event.{Event}
+use Rattle.m161_steplog.specs.Written.{schedule_text}
+use Rattle.m161_text.specs.Lines.{with_line_end}
+use Rattle.m161_text.specs.Parts.{◌␣◌}
+use Rattle.s161_audit.specs.Audits.{finding_text}
+
+-- What a search prints.
+
+-- a stale use as the audit prints it, else the verdict's name
+abbrev pub verdict_text : Verdict → List ℕ
+verdict_text (Stale place processor address row) =
+    finding_text (finding.Stale place processor address row)
+verdict_text Stuck = codes "stuck"
+verdict_text Output = codes "output"
+verdict_text End = codes "end"
+
+-- none of n runs goes wrong, and so many of them are cut
+abbrev pub clean_text : ℕ → ℕ → List ℕ
+clean_text n cut =
+    if cut == 0 then codes "clean" ␣ decimal n
+    else codes "clean" ␣ decimal n ␣ codes "cut" ␣ decimal cut
+
+-- a schedule that goes wrong: its first two lines, which are comments, tell the seed and the verdict
+abbrev pub found_text : ℕ → Verdict → List Event → List ℕ
+found_text seed verdict events =
+    with_line_end (codes "# seed" ␣ decimal seed) ++ with_line_end (codes "#" ␣ verdict_text verdict)
+    ++ schedule_text events

@@ -1,0 +1,29 @@
+use Rattle.std.specs.Prelude.{◌≡◌, ℕ, List, Some}
+use Rattle.m161_judge.specs.declared.verdict.Judged.{Judged}
+use Rattle.m161_judge.specs.Verdict.{rank}
+use Rattle.m161_machine.specs.declared.event.Event.{Event}
+use Rattle.s161_command.specs.declared.task.SearchTask.{SearchTask}
+use Rattle.s161_search.specs.declared.found.Printed.{Printed}
+use Rattle.s161_search.specs.declared.seeds.Tried.{Tried}
+use Rattle.s161_search.specs.declared.seeds.Tried.TheVariants.{Clean, Wrong}
+use Rattle.s161_search.specs.declared.seeds.FirstWrong.{FirstWrong}
+use Rattle.s161_search.specs.Given.{Given}
+use Rattle.s161_search.specs.Searches.{ArePrinted, IsJudgedAt, is_whole}
+use Rattle.s161_search.specs.Seeds.{AreClean, IsFirstWrong}
+
+-- What came of the seeds, and what is printed of it.
+
+abbrev pub IsTried : SearchTask → Given → Tried → Type 0
+IsTried task given (Clean cut) = AreClean task given task.seeds cut
+IsTried task given (Wrong wrong) = IsFirstWrong task given wrong.place wrong.run wrong.judged
+
+-- the events that are printed of a run with this verdict, and the verdict that is printed
+pub record ArePrintedWith
+    (task : SearchTask) (given : Given) (events : List Event) (judged : Judged) (printed : Printed)
+    : Type 0 where
+  pub are_printed :
+      ArePrinted (is_whole task.whole judged.verdict) task given events judged printed.events.items
+  pub final : Judged
+  pub verdict_is : printed.verdict ≡ final.verdict
+  pub is_judged : IsJudgedAt task given printed.events.items (Some final)
+  pub same_kind : rank final.verdict ≡ rank judged.verdict

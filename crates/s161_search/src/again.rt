@@ -1,0 +1,81 @@
+//! Judging a list of events again, whose run was judged before: only memory can be refused.
+
+ghost use Rattle.std.specs.Prelude.{◌≡◌, IfOk};
+ghost use Rattle.m161_judge.specs.Verdict.{rank};
+ghost use Rattle.s161_search.specs.Given.{given_of};
+ghost use Rattle.s161_search.specs.Searches.{IsJudgedAt};
+
+use crate::inputs::Inputs;
+use crate::seeds::conf_of;
+use m161::{Console, Tlb};
+use m161_judge::{Goal, Judged, Verdict, judge};
+use m161_machine::Event;
+use m161_shorten::Judge;
+use s161_command::SearchTask;
+use std::alloc::{AllocError, Global};
+
+/// The verdict of a list of events.
+///
+/// # Errors
+/// Memory was refused.
+pub(crate) fn judge_again(
+    alloc: Global,
+    task: SearchTask<'_>,
+    inputs: &Inputs,
+    events: &[Event],
+) -> Result<Option<Judged>, AllocError>
+    ensures { IfOk result (IsJudgedAt task.entry (given_of inputs.now) events.now) }
+{
+    let goal = Goal {
+        watches: &inputs.watches,
+        output: inputs.output(),
+        keys: &inputs.keys,
+    };
+    match judge::<Tlb, Console>(alloc, &inputs.file, conf_of(task), events, &goal) {
+        Ok(judged) => Ok(judged),
+        Err(_) => Err(AllocError),
+    }
+}
+
+/// The number of a verdict's kind.
+pub(crate) fn rank(verdict: Verdict) -> u8
+    ensures { result ≡ rank verdict }
+{
+    match verdict {
+        Verdict::Stale { .. } => 0,
+        Verdict::Stuck => 1,
+        Verdict::Output => 2,
+        Verdict::End => 3,
+    }
+}
+
+/// Judges lists of events by the kinds of their verdicts.
+pub(crate) struct KindJudge<'a> {
+    /// Where memory comes from.
+    pub alloc: Global,
+    /// What is asked for.
+    pub task: SearchTask<'a>,
+    /// What was read.
+    pub inputs: &'a Inputs,
+}
+
+impl<'a> Judge for KindJudge<'a> {
+    ghost use Rattle.s161_search.specs.Given.{given_of};
+    ghost use Rattle.s161_search.specs.Searches.{HasKind};
+
+    type Kind = u8;
+
+    type Error = AllocError;
+
+    ghost judges = { λ judge. HasKind judge.task (given_of judge.inputs.now) };
+
+    fn judge(&mut self, events: &[Event]) -> Result<Option<m161_shorten::Judged<u8>>, AllocError> {
+        match judge_again(self.alloc, self.task, self.inputs, events)? {
+            Some(judged) => Ok(Some(m161_shorten::Judged {
+                kind: rank(judged.verdict),
+                needs: judged.events,
+            })),
+            None => Ok(None),
+        }
+    }
+}

@@ -1,0 +1,118 @@
+//! What a search reads.
+
+ghost use Rattle.std.specs.Prelude.{◌≡◌, ◌⊎◌, ℕ, [], List, IfErr, IfOk, None, Some, option_map, string_bytes};
+ghost use Rattle.m161_judge.specs.Judge.{bytes_of};
+ghost use Rattle.s161_base.specs.Samples.{image_file};
+ghost use Rattle.s161_drive.specs.Driven.{IsKeysFile};
+ghost use Rattle.s161_search.specs.Given.{given_of, IsGiven, IsOutputOf, IsWatchesFile};
+ghost use Rattle.s161_search.specs.Searches.{IsSearchFault};
+ghost use Rattle.s161_search.specs.helpers.Watches.{AreWatchesIn, IsFaultIn, IsTextOf};
+
+use m161_audit::Watch;
+use s161_audit::watches::watches_of;
+use s161_base::fault::{Fault, Unread};
+use s161_base::files::FileSource;
+use s161_base::input::{read_file, read_text};
+use s161_base::sample::read_image;
+use s161_command::SearchTask;
+use s161_drive::policy::read_keys;
+use std::alloc::Global;
+
+/// What a search reads: the image, the keys, and by what runs are judged.
+#[derive(Drop)]
+pub(crate) struct Inputs {
+    /// The image's bytes.
+    pub file: Vec<u8>,
+    /// The bytes that are typed.
+    pub keys: Vec<u8>,
+    /// The watches.
+    pub watches: Vec<Watch>,
+    /// The bytes that the console should send, if any are asked for.
+    pub output: Option<Vec<u8>>,
+}
+
+impl Inputs {
+    /// The bytes that the console should send, if any are asked for.
+    pub(crate) fn output(&self) -> Option<&[u8]>
+        ensures { bytes_of result ≡ (given_of self.now).output }
+    {
+        match &self.output {
+            Some(bytes) => Some(bytes.as_slice()),
+            None => None,
+        }
+    }
+}
+
+// The text of the watches, if there is one.
+fn read_watches<'a, F: FileSource>(
+    alloc: Global,
+    files: &mut F,
+    name: Option<&'a str>,
+) -> Result<Option<String>, Fault<'a>>
+    ensures whole { IfOk result (λ text.
+        IsTextOf name.entry (F.known files.old) (option_map string_bytes text)) }
+    ensures still { (other : List ℕ) → F.known files.new other ≡ F.known files.old other }
+    ensures err { IfErr result (λ fault. IsWatchesFile name.entry (F.known files.old) fault
+        ⊎ (fault ≡ Fault.Memory)) }
+{
+    let Some(name) = name else { return Ok(None) };
+    let bytes = read_file(alloc, files, name)?;
+    match String::from_utf8(bytes) {
+        Ok(text) => Ok(Some(text)),
+        Err(_) => Err(Fault::File(name, Unread::NotUtf8)),
+    }
+}
+
+// The bytes that the console should send, if any are asked for.
+fn read_output<'a, F: FileSource>(
+    alloc: Global,
+    files: &mut F,
+    name: Option<&'a str>,
+) -> Result<Option<Vec<u8>>, Fault<'a>>
+    ensures whole { IfOk result (λ output. IsOutputOf name.entry (F.known files.old)
+        (option_map (λ bytes. bytes.items) output)) }
+    ensures err { IfErr result (λ fault. IsKeysFile name.entry fault ⊎ (fault ≡ Fault.Memory)) }
+{
+    match name {
+        Some(name) => Ok(Some(read_file(alloc, files, name)?)),
+        None => Ok(None),
+    }
+}
+
+// The watches of the text.
+fn watches_in<'a>(alloc: Global, text: Option<String>) -> Result<Vec<Watch>, Fault<'a>>
+    ensures found { IfOk result (λ watches. AreWatchesIn (option_map string_bytes text) watches.items) }
+    ensures fault { IfErr result (IsFaultIn (option_map string_bytes text)) }
+{
+    match text {
+        Some(text) => watches_of(alloc, text.as_str()),
+        None => Ok(Vec::new(alloc)),
+    }
+}
+
+/// Reads the files: the image, the keys, the watches, the output; and then the lines of the watches.
+///
+/// # Errors
+/// The first fault.
+pub(crate) fn read_inputs<'a, F: FileSource>(
+    alloc: Global,
+    files: &mut F,
+    task: SearchTask<'a>,
+) -> Result<Inputs, Fault<'a>>
+    ensures ok { IfOk result (λ inputs. IsGiven task.entry (F.known files.old)
+        (image_file (F.known files.old) task.entry.image.now) (given_of inputs)) }
+    ensures fault { IfErr result (IsSearchFault task.entry (F.known files.old)
+        (image_file (F.known files.old) task.entry.image.now)) }
+{
+    let file = read_image(alloc, files, task.image)?;
+    let keys = read_keys(alloc, files, task.drive.keys)?;
+    let text = read_watches(alloc, files, task.watches)?;
+    let output = read_output(alloc, files, task.output)?;
+    let watches = watches_in(alloc, text)?;
+    Ok(Inputs {
+        file,
+        keys,
+        watches,
+        output,
+    })
+}
