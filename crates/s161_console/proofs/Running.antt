@@ -303,7 +303,7 @@ module _ (options : Drive) (m : History) (input before : Option (List ℕ)) (mad
       Fails options m (streams input q.left before q.output) f
   failed q f less (inl x) =
       subst (Fails options m (streams input q.left before q.output)) (sym x.0)
-      (input_fails q less x.1 x.2 x.3 x.4 x.5)
+      (refl, input_fails q less x.1 x.2 x.3 x.4 x.5)
   failed q f less (inr x) =
       subst (Fails options m (streams input q.left before q.output)) (sym x.fault_is)
       (output_fails x.key q.ended q.left x.gives q.cursor q.machine x.is_on x.makes q.output x.appends.0 x.appends.1 less)
