@@ -6,22 +6,23 @@
 //! s161 run IMAGE          boots an ELF file, makes the events of the schedule on standard input,
 //!                         and prints the console's output, the started processors and why it
 //!                         stopped; with --threads Q each processor has a thread that makes Q Steps,
-//!                         and no schedule is read
+//!                         and no schedule is read; with an order a policy chooses the events
+//! s161 console IMAGE      runs an ELF file by a policy, with the terminal as its console
+//! s161 schedule IMAGE     prints the events that a policy chooses
+//! s161 search IMAGE       looks for a seed whose run goes wrong, and prints a schedule of it
 //! s161 replay IMAGE LOG   boots an ELF file, makes the events of a log, and prints whether their
 //!                         outcomes are the log's
 //! s161 debug IMAGE SCHEDULE
 //!                         boots an ELF file, and executes debugger commands from standard input
 //!                         over the schedule's events
+//! s161 audit IMAGE WATCHES
+//!                         looks for a stale use of the TLB under the schedule on standard input
 //! s161 as                 assembles the text on standard input, and writes its ELF file to
 //!                         standard output
 //! s161 dis IMAGE          prints the instructions of an ELF file's segments
-//!
-//! exit                    0 a finished demo, debug, as or dis, a machine that switched itself off,
-//!                         or a log that agrees; 1 a fault, named in one line on standard error,
-//!                         or a refused event of run; 2 a rejected command line, or a call for
-//!                         help; 3 the schedule or the Steps of the threads ended; 4 a log that
-//!                         differs
 //! ```
+//!
+//! `s161 --help` says what the exit status is.
 //!
 //! `main` only collects the arguments and passes the streams to `start`, which does all work over
 //! any source of files, reader and writers.
@@ -50,7 +51,7 @@ fn main(rt: HostRuntime) -> ExitCode {
 
 // The words of the command line.
 fn arguments(rt: &HostRuntime) -> Result<Vec<String>, Fault<'static>>
-    ensures { IfErr result (λ fault. (fault ≡ Fault.Input) ⊎ (fault ≡ Fault.Memory)) }
+    ensures { IfErr result (λ fault. (fault ≡ Fault.Word) ⊎ (fault ≡ Fault.Memory)) }
 {
     let words = env::args(rt).map_err(fault_of_words)?;
     Ok(words.collect(rt.alloc())?)
@@ -58,11 +59,11 @@ fn arguments(rt: &HostRuntime) -> Result<Vec<String>, Fault<'static>>
 
 // Why the words can't be read: one of them isn't UTF-8, or memory was refused.
 fn fault_of_words(error: io::Error) -> Fault<'static>
-    ensures input { error_kind error ≡ ErrorKind.InvalidData → result ≡ Fault.Input }
+    ensures word { error_kind error ≡ ErrorKind.InvalidData → result ≡ Fault.Word }
     ensures memory { error_kind error ≢ ErrorKind.InvalidData → result ≡ Fault.Memory }
 {
     if error.kind() == ErrorKind::InvalidData {
-        Fault::Input
+        Fault::Word
     } else {
         Fault::Memory
     }
