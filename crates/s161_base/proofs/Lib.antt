@@ -1,3 +1,4 @@
 pub mod Failing
 mod Named
+mod Plain
 mod Sampled

@@ -1,4 +1,5 @@
-use Rattle.std.specs.Prelude.{ℕ, Bool, ◌==◌, ◌||◌, nat_lt, if◌then◌else◌, List, [], ◌∷◌, ◌++◌, Option, None, Some, codes, decimal, flat_map}
+use Rattle.std.specs.Prelude.{◌≡◌, ℕ, Bool, true, not, ◌==◌, ◌&&◌, ◌||◌, nat_lt, if◌then◌else◌, List, [], ◌∷◌, ◌++◌, Option, None, Some, codes, decimal, flat_map}
+use Rattle.std.specs.List.{list_all}
 use Rattle.m161_asm.specs.declared.error.AsmError.{AsmError}
 use Rattle.m161_asm.specs.Kinds.{name_of_kind, number_of_kind}
 use Rattle.m161_cause.specs.Cause.{name_of_cause}
@@ -53,3 +54,11 @@ in_brackets (Some why) = codes " (" ++ why ++ codes ")"
 -- the line, without its end
 abbrev pub fault_line : Fault → List ℕ
 fault_line fault = fault_head fault ++ in_brackets (explanation_of fault)
+
+-- a byte doesn't end a line, and is no opening bracket
+abbrev pub is_plain : ℕ → Bool
+is_plain b = not (nat_lt b 32) && not (b == 40)
+
+-- each byte of a text is so
+abbrev pub IsPlain : List ℕ → Type 0
+IsPlain text = list_all is_plain text ≡ true

@@ -8,7 +8,10 @@ pub mod fault;
 pub mod files;
 pub mod finished;
 pub mod input;
+mod laws;
 mod line;
 pub mod machines;
 pub mod sample;
 pub mod texts;
+
+pub use laws::faults_stay_on_a_line;

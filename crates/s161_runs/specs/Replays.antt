@@ -50,7 +50,8 @@ pub record IsReplayed
   pub text_is : text ≡ with_line_end (verdict_text verdict)
   pub status_is : status ≡ status_of_verdict verdict
 
--- the image has bytes, and the log is one, with a machine line or without, with this property
+-- this holds of the image's bytes and of the machine line of the log, if it has one; as far as the
+-- files are known
 abbrev pub OfReplay :
     Option (List ℕ) → Option (List ℕ) → (List ℕ → Option MachineLine → Type 0) → Type 0
 OfReplay image log IsSo =
