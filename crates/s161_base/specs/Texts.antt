@@ -1,7 +1,6 @@
 use Rattle.std.specs.Prelude.{ℕ, List, Option}
-use Rattle.m161_machine.specs.declared.event.Entry.{Entry}
 use Rattle.m161_text.specs.Lines.{FirstBad, lines_of}
-use Rattle.m161_steplog.specs.Comments.{IsFirstBadOfLog, IsLogFile}
+use Rattle.m161_steplog.specs.Comments.{IsFirstBadOfLog}
 use Rattle.m161_steplog.specs.Schedule.{AreScheduleLines}
 use Rattle.s161_base.specs.declared.fault.Fault.{Fault}
 use Rattle.s161_base.specs.declared.fault.Fault.TheVariants.{Log, Memory, Schedule}
@@ -24,7 +23,3 @@ abbrev pub IsLogFault : List ℕ → Fault → Type 0
 IsLogFault text (Log n) = IsFirstBadOfLog text n
 IsLogFault text Memory = Unit {0}
 IsLogFault text _ = ⊥
-
--- a file has a log
-abbrev pub HasLog : Option (List ℕ) → Type 0
-HasLog log = OfText log (λ text. (entries : List Entry) × IsLogFile text entries)
