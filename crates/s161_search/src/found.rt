@@ -36,7 +36,7 @@ fn is_whole(whole: bool, verdict: Verdict) -> bool
 ///
 /// # Errors
 /// Memory was refused.
-pub(crate) fn printed(
+pub(crate) fn print_of(
     alloc: Global,
     task: SearchTask<'_>,
     inputs: &Inputs,
