@@ -43,7 +43,7 @@ pub(crate) fn print_of(
     judged: Judged,
     mut events: Vec<Event>,
 ) -> Result<Printed, AllocError>
-    requires { IsJudgedAt task (given_of inputs.old) events.items (Some judged) }
+    requires { IsJudgedAt task (given_of inputs.now) events.items (Some judged) }
     ensures { IfOk result (ArePrintedWith task.entry (given_of inputs.now) events.items judged) }
 {
     if is_whole(task.whole, judged.verdict) {

@@ -57,7 +57,7 @@ fn found_text(
     inputs: &Inputs,
     wrong: FirstWrong,
 ) -> Result<Vec<u8>, AllocError>
-    requires { IsFirstWrong task (given_of inputs.old) wrong.place wrong.run wrong.judged }
+    requires { IsFirstWrong task (given_of inputs.now) wrong.place wrong.run wrong.judged }
     ensures { IfOk result (λ text. IsFound task.entry (given_of inputs.now) text.items) }
 {
     let seed = seed_at(task.drive.order, wrong.place);
