@@ -1,26 +1,54 @@
 use Rattle.std.proofs.Common.{◌≡◌, ◌⊎◌, ◌∙◌, ℕ, Bool, true, List, take, Option, None, Some, Ok, ap, inl, inr, refl, sym, subst}
-use Rattle.std.specs.Prelude.{◌==◌, option_map}
+use Rattle.std.specs.Prelude.{◌==◌, Result, option_map}
 use Rattle.std.proofs.lemmas.Bool.{eqb-true}
 use Rattle.m161_judge.specs.declared.run.Run.{Run}
 use Rattle.m161_judge.specs.declared.verdict.Judged.{Judged}
 use Rattle.m161_judge.specs.Judge.{Judges}
 use Rattle.m161_judge.specs.Laws.{CutKeepsVerdict, IsOneVerdict}
-use Rattle.m161_judge.specs.Run.{IsRun, Runs}
+use Rattle.m161_judge.specs.Run.{IsRun, Runs, criteria}
+use Rattle.m161_audit.specs.declared.finding.AuditError.{AuditError}
+use Rattle.m161_audit.specs.declared.watch.Watch.{Watch}
+use Rattle.m161_machine.specs.declared.conf.Conf.{Conf}
+use Rattle.m161_order.specs.declared.order.Order.{Order}
+use Rattle.s161_command.specs.declared.drive.Drive.{Drive}
+use Rattle.s161_drive.specs.Driven.{rules_of}
 use Rattle.m161_judge.specs.Verdict.{Criteria, IsJudged, rank}
 use Rattle.m161_drive.specs.Policy.{Rules}
 use Rattle.m161_machine.specs.declared.conf.BootError.{BootError}
 use Rattle.m161_machine.specs.declared.event.Event.{Event}
-use Rattle.m161_machine.specs.History.{History}
+use Rattle.m161_machine.specs.History.{History, boot_fault}
 use Rattle.m161_machine.specs.State.{State}
 use Rattle.m161_shorten.specs.declared.judged.Judged.{Judged as KindJudged}
 use Rattle.m161_shorten.specs.Verdicts.{AreNeeded}
 use Rattle.s161_command.specs.declared.task.SearchTask.{SearchTask}
 use Rattle.s161_search.specs.Given.{Given, criteria_of}
-use Rattle.s161_search.specs.Seeds.{IsRunAt, search_conf}
+use Rattle.s161_search.specs.Seeds.{IsRunAt, drive_at, search_conf, seed_at, with_seed}
 use Rattle.s161_search.specs.Searches.{HasKind, IsJudgedAt, kind_of}
 use Rattle.s161_search.proofs.Booting.{booted_as_one}
 
 -- Verdicts of runs and of lists of events.
+
+-- the policy of a run
+pub rules_are : (drive : Drive) (k seed : ℕ) (order : Order) (policy : Rules) (bytes keys : List ℕ) →
+    policy ≡ record { order = order; transfer = drive.transfer; gap = drive.gap; keys = bytes } → order ≡ with_seed seed drive.order → seed ≡ seed_at drive.order k →
+    bytes ≡ keys → policy ≡ rules_of (drive_at drive k) keys
+rules_are drive k seed order policy bytes keys is order_is seed_is keys_are =
+    let by_order : Order → Rules = λ o. record { order = o; transfer = drive.transfer; gap = drive.gap; keys = bytes } in
+    is ∙ ap by_order (order_is ∙ ap (λ s. with_seed s drive.order) seed_is) ∙ ap (λ b. rules_of (drive_at drive k) b) keys_are
+
+-- a run of what was read
+pub same_run : (task : SearchTask) (given : Given) (k : ℕ) (file : List ℕ) (conf : Conf) (rules : Rules) (watches : List Watch) (output : Option (List ℕ)) (result : Result Run AuditError) →
+    file ≡ given.file → conf ≡ search_conf task → rules ≡ rules_of (drive_at task.drive k) given.keys → watches ≡ given.watches → output ≡ given.output →
+    Runs file conf (boot_fault file conf) rules task.drive.events (criteria watches output rules) result →
+    Runs given.file (search_conf task) (boot_fault given.file (search_conf task)) (rules_of (drive_at task.drive k) given.keys) task.drive.events (criteria_of given) result
+same_run task given k file conf rules watches output result file_is conf_is rules_is watches_is output_is h =
+    let n = task.drive.events in
+    let R = rules_of (drive_at task.drive k) given.keys in
+    subst (λ f. Runs f (search_conf task) (boot_fault f (search_conf task)) R n (criteria given.watches given.output R) result) file_is
+    (subst (λ x. Runs file x (boot_fault file x) R n (criteria given.watches given.output R) result) conf_is
+    (subst (λ r. Runs file conf (boot_fault file conf) r n (criteria given.watches given.output r) result) rules_is
+    (subst (λ w. Runs file conf (boot_fault file conf) rules n (criteria w given.output rules) result) watches_is
+    (subst (λ o. Runs file conf (boot_fault file conf) rules n (criteria watches o rules) result) output_is h))))
 
 -- a run that was made
 pub run_made : (task : SearchTask) (given : Given) (rules : Rules) (fault : Option BootError) (run : Run) →
