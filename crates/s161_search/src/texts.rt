@@ -56,13 +56,30 @@ impl fmt::Display for ShownCut {
     }
 }
 
+// Runs of which none goes wrong and some are cut, as text.
+#[derive(Drop)]
+struct ShownClean {
+    runs: u32,
+    cut: u32,
+}
+
+impl fmt::Display for ShownClean {
+    ghost output = { λ clean. Some (codes "clean" ␣ decimal clean.runs ␣ codes "cut" ␣ decimal clean.cut) };
+
+    fn fmt<W: fmt::Write>(&self, f: &mut fmt::Formatter<W>) -> fmt::Result {
+        let runs = self.runs;
+        let cut = ShownCut(self.cut);
+        write!(f, "clean {runs} {cut}")
+    }
+}
+
 // The line where no run goes wrong, and some are cut.
 fn cut_line(alloc: Global, runs: u32, cut: u32) -> Result<String, AllocError>
     ensures { IfOk result (λ line. string_bytes line
         ≡ with_line_end (codes "clean" ␣ decimal runs ␣ codes "cut" ␣ decimal cut)) }
 {
-    let shown = ShownCut(cut);
-    format!(in alloc; "clean {runs} {shown}\n")
+    let shown = ShownClean { runs, cut };
+    format!(in alloc; "{shown}\n")
 }
 
 /// The line where no run goes wrong: how many there are, and how many are cut, if any.
