@@ -117,11 +117,11 @@ down goal s events n Stuck few h =
 down goal s events n Output few h =
     (h.0, (h.1.0, leads_down s events n n h.1.0 few (omega arith) h.1.1, h.1.2, h.1.3))
 down goal s events n End few h = (
-      h.0,
-      sym (cut_length events n few),
-      (h.2.0, leads_down s events n n h.2.0 few (omega arith) h.2.1, h.2.2),
-      λ k t stuck. h.3 k t (stuck_up goal s events n k t few stuck).1,
-    )
+  h.0,
+  sym (cut_length events n few),
+  (h.2.0, leads_down s events n n h.2.0 few (omega arith) h.2.1, h.2.2),
+  λ k t stuck. h.3 k t (stuck_up goal s events n k t few stuck).1,
+)
 
 -- it needs no more events than there are
 few_enough : (goal : Criteria) (s : State) (events : List Event) (v : Verdict) (n : ℕ) → Holds goal s events v n → n ≤ length events

@@ -113,7 +113,7 @@ no_choice_is_stuck keys typed s on none =
     let free : is_sending s ≡ false = elim (true_or_false (is_sending s)) as (λ _. is_sending s ≡ false) [
       | inr f ↦ f
       | inl t ↦ absurd (some_event Done (first_is ends (Some Done, c) (if wants then type_key key c s else step)
-        (ap (λ b. b && (nat_le 0 0 || not (some_ready s))) t) none))
+          (ap (λ b. b && (nat_le 0 0 || not (some_ready s))) t) none))
     ] in
     let not_ends : ends ≡ false = ap (λ b. b && (nat_le 0 0 || not (some_ready s))) free in
     let rest = second_is ends (Some Done, c) (if wants then type_key key c s else step) not_ends none in
@@ -138,6 +138,6 @@ stuck_is_no_choice_of keys typed s h rules c same so_many =
 
 pub stuck_is_no_choice : (keys : List ℕ) (typed : ℕ) (s : State) → StuckIsNoChoice keys typed s
 stuck_is_no_choice keys typed s on = (
-      stuck_is_no_choice_of keys typed s,
-      λ none. no_choice_is_stuck keys typed s on (none (eager keys) (start typed) refl refl),
-    )
+  stuck_is_no_choice_of keys typed s,
+  λ none. no_choice_is_stuck keys typed s on (none (eager keys) (start typed) refl refl),
+)
