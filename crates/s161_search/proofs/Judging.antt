@@ -1,26 +1,57 @@
-use Rattle.std.proofs.Common.{◌≡◌, ◌⊎◌, ◌∙◌, ℕ, Bool, true, List, take, Option, None, Some, Ok, ap, inl, inr, refl, sym, subst}
-use Rattle.std.specs.Prelude.{◌==◌, option_map}
+use Rattle.std.proofs.Common.{◌≡◌, ◌⊎◌, ◌∙◌, ℕ, suc, ◌+◌, ◌≤◌, arith, Bool, true, false, List, take, Option, None, Some, Ok, ap, inl, inr, refl, sym, subst}
+use Rattle.std.specs.Prelude.{◌==◌, Result, option_map}
 use Rattle.std.proofs.lemmas.Bool.{eqb-true}
 use Rattle.m161_judge.specs.declared.run.Run.{Run}
 use Rattle.m161_judge.specs.declared.verdict.Judged.{Judged}
 use Rattle.m161_judge.specs.Judge.{Judges}
 use Rattle.m161_judge.specs.Laws.{CutKeepsVerdict, IsOneVerdict}
-use Rattle.m161_judge.specs.Run.{IsRun, Runs}
+use Rattle.m161_judge.specs.Run.{IsRun, Runs, criteria}
+use Rattle.m161_audit.specs.declared.finding.AuditError.{AuditError}
+use Rattle.m161_audit.specs.declared.watch.Watch.{Watch}
+use Rattle.m161_machine.specs.declared.conf.Conf.{Conf}
+use Rattle.m161_order.specs.declared.order.Order.{Order}
+use Rattle.s161_command.specs.declared.drive.Drive.{Drive}
+use Rattle.s161_drive.specs.Driven.{rules_of}
 use Rattle.m161_judge.specs.Verdict.{Criteria, IsJudged, rank}
 use Rattle.m161_drive.specs.Policy.{Rules}
 use Rattle.m161_machine.specs.declared.conf.BootError.{BootError}
 use Rattle.m161_machine.specs.declared.event.Event.{Event}
-use Rattle.m161_machine.specs.History.{History}
+use Rattle.m161_machine.specs.History.{History, boot_fault}
 use Rattle.m161_machine.specs.State.{State}
 use Rattle.m161_shorten.specs.declared.judged.Judged.{Judged as KindJudged}
-use Rattle.m161_shorten.specs.Verdicts.{AreNeeded}
+use Rattle.m161_shorten.specs.Verdicts.{AreNeeded, ByVerdicts}
+use Rattle.m161_shorten.specs.Passes.{Shortens}
 use Rattle.s161_command.specs.declared.task.SearchTask.{SearchTask}
 use Rattle.s161_search.specs.Given.{Given, criteria_of}
-use Rattle.s161_search.specs.Seeds.{IsRunAt, search_conf}
-use Rattle.s161_search.specs.Searches.{HasKind, IsJudgedAt, kind_of}
+use Rattle.s161_search.specs.Seeds.{AreClean, IsRunAt, one_if, drive_at, search_conf, seed_at, with_seed}
+use Rattle.s161_search.specs.Searches.{ArePrinted, HasKind, IsJudgedAt, is_whole, kind_of}
+use Rattle.s161_search.specs.declared.found.Printed.{Printed}
+use Rattle.s161_search.specs.helpers.Tried.{ArePrintedWith}
 use Rattle.s161_search.proofs.Booting.{booted_as_one}
 
 -- Verdicts of runs and of lists of events.
+
+-- the policy of a run
+pub rules_are : (drive : Drive) (k seed : ℕ) (order : Order) (policy : Rules) (bytes keys : List ℕ) →
+    policy ≡ record { order = order; transfer = drive.transfer; gap = drive.gap; keys = bytes } → order ≡ with_seed seed drive.order → seed ≡ seed_at drive.order k →
+    bytes ≡ keys → policy ≡ rules_of (drive_at drive k) keys
+rules_are drive k seed order policy bytes keys is order_is seed_is keys_are =
+    let by_order : Order → Rules = λ o. record { order = o; transfer = drive.transfer; gap = drive.gap; keys = bytes } in
+    is ∙ ap by_order (order_is ∙ ap (λ s. with_seed s drive.order) seed_is) ∙ ap (λ b. rules_of (drive_at drive k) b) keys_are
+
+-- a run of what was read
+pub same_run : (task : SearchTask) (given : Given) (k : ℕ) (file : List ℕ) (conf : Conf) (rules : Rules) (watches : List Watch) (output : Option (List ℕ)) (result : Result Run AuditError) →
+    file ≡ given.file → conf ≡ search_conf task → rules ≡ rules_of (drive_at task.drive k) given.keys → watches ≡ given.watches → output ≡ given.output →
+    Runs file conf (boot_fault file conf) rules task.drive.events (criteria watches output rules) result →
+    Runs given.file (search_conf task) (boot_fault given.file (search_conf task)) (rules_of (drive_at task.drive k) given.keys) task.drive.events (criteria_of given) result
+same_run task given k file conf rules watches output result file_is conf_is rules_is watches_is output_is h =
+    let n = task.drive.events in
+    let R = rules_of (drive_at task.drive k) given.keys in
+    subst (λ f. Runs f (search_conf task) (boot_fault f (search_conf task)) R n (criteria given.watches given.output R) result) file_is
+    (subst (λ x. Runs file x (boot_fault file x) R n (criteria given.watches given.output R) result) conf_is
+    (subst (λ r. Runs file conf (boot_fault file conf) r n (criteria given.watches given.output r) result) rules_is
+    (subst (λ w. Runs file conf (boot_fault file conf) rules n (criteria w given.output rules) result) watches_is
+    (subst (λ o. Runs file conf (boot_fault file conf) rules n (criteria watches o rules) result) output_is h))))
 
 -- a run that was made
 pub run_made : (task : SearchTask) (given : Given) (rules : Rules) (fault : Option BootError) (run : Run) →
@@ -79,3 +110,72 @@ left_judged task given events fs judged cut h (inr (es, n, (kind, has, same), is
     let kinds : rank judged.verdict ≡ kind = eqb-true (rank judged.verdict) kind same in
     subst (λ k. HasSuch task given fs k) (sym kinds)
     (subst (λ xs. HasSuch task given xs kind) (sym is) (such task given es kind n has.0 cut has.1 has.2))
+
+-- what is printed
+
+-- all events of a run
+pub whole_printed : (task : SearchTask) (given : Given) (events : List Event) (judged : Judged) (printed : Printed) → is_whole task.whole judged.verdict ≡ true →
+    printed.events.items ≡ events → printed.verdict ≡ judged.verdict → IsJudgedAt task given events (Some judged) → ArePrintedWith task given events judged printed
+whole_printed task given events judged printed whole same verdict h = record {
+  are_printed = subst (λ b. ArePrinted b task given events judged printed.events.items) (sym whole) same;
+  final = judged;
+  verdict_is = verdict;
+  is_judged = subst (λ es. IsJudgedAt task given es (Some judged)) (sym same) h;
+  same_kind = refl;
+}
+
+-- what the passes leave
+pub left_printed : (task : SearchTask) (given : Given) (events : List Event) (judged last : Judged) (printed : Printed) →
+    ((goal : Criteria) (s : State) (xs : List Event) (j : Judged) → CutKeepsVerdict goal s xs j) →
+    ((goal : Criteria) (s : State) (es : List Event) → IsOneVerdict goal s es) → is_whole task.whole judged.verdict ≡ false →
+    ArePrinted false task given events judged printed.events.items → printed.verdict ≡ last.verdict → IsJudgedAt task given events (Some judged) →
+    (printed.events.items ≡ take judged.events events) ⊎ AreNeeded (λ kind. rank judged.verdict == kind) (HasKind task given) printed.events.items →
+    IsJudgedAt task given printed.events.items (Some last) → ArePrintedWith task given events judged printed
+left_printed task given events judged last printed cut one part short verdict h left again =
+    let such = left_judged task given events printed.events.items judged cut h left in
+    let same : Some last ≡ Some such.0 = one_judged task given printed.events.items (Some last) (Some such.0) one again such.1 in
+    let is : last ≡ such.0 = cc in
+    record {
+      are_printed = subst (λ b. ArePrinted b task given events judged printed.events.items) (sym part) short;
+      final = last;
+      verdict_is = verdict;
+      is_judged = again;
+      same_kind = ap (λ (j : Judged). rank j.verdict) is ∙ such.2;
+    }
+
+-- they have a verdict
+pub left_has_one : (task : SearchTask) (given : Given) (events fs : List Event) (judged : Judged) →
+    ((goal : Criteria) (s : State) (xs : List Event) (j : Judged) → CutKeepsVerdict goal s xs j) →
+    ((goal : Criteria) (s : State) (es : List Event) → IsOneVerdict goal s es) → IsJudgedAt task given events (Some judged) →
+    (fs ≡ take judged.events events) ⊎ AreNeeded (λ kind. rank judged.verdict == kind) (HasKind task given) fs → IsJudgedAt task given fs None → ⊥
+left_has_one task given events fs judged cut one h left again =
+    let such = left_judged task given events fs judged cut h left in
+    let same : None ≡ Some such.0 = one_judged task given fs None (Some such.0) one again such.1 in
+    cc
+
+-- by the verdict's kind, and of the events that it needs
+
+pub left_as : (task : SearchTask) (given : Given) (fs es gs : List Event) (k r : ℕ) → es ≡ gs → k ≡ r →
+    (fs ≡ es) ⊎ AreNeeded (λ kind. k == kind) (HasKind task given) fs → (fs ≡ gs) ⊎ AreNeeded (λ kind. r == kind) (HasKind task given) fs
+left_as task given fs es gs k r same kind h =
+    subst (λ xs. (fs ≡ xs) ⊎ AreNeeded (λ kind. r == kind) (HasKind task given) fs) same
+    (subst (λ n. (fs ≡ es) ⊎ AreNeeded (λ kind. n == kind) (HasKind task given) fs) kind h)
+
+pub short_as : (task : SearchTask) (given : Given) (fs es gs : List Event) (k r : ℕ) → es ≡ gs → k ≡ r →
+    ByVerdicts (λ kind. k == kind) (HasKind task given) (λ needs. Shortens needs es fs) → ByVerdicts (λ kind. r == kind) (HasKind task given) (λ needs. Shortens needs gs fs)
+short_as task given fs es gs k r same kind h =
+    subst (λ xs. ByVerdicts (λ kind. r == kind) (HasKind task given) (λ needs. Shortens needs xs fs)) same
+    (subst (λ n. ByVerdicts (λ kind. n == kind) (HasKind task given) (λ needs. Shortens needs es fs)) kind h)
+
+-- one run more
+
+pub one_small : (b : Bool) → one_if b ≤ 1
+one_small true = omega arith
+one_small false = omega arith
+
+pub clean_more : (task : SearchTask) (given : Given) (n before cut : ℕ) (run : Run) → AreClean task given n before → IsRunAt task given n run → run.judged ≡ None →
+    cut ≡ before + one_if run.is_cut → AreClean task given (n + 1) cut
+clean_more task given n before cut run clean is none cut_is =
+    let next : suc n ≡ n + 1 = omega arith in
+    let all : AreClean task given (suc n) cut = (before, run, clean, is, none, cut_is) in
+    subst (λ m. AreClean task given m cut) next all

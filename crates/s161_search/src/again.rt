@@ -50,6 +50,7 @@ pub(crate) fn rank(verdict: Verdict) -> u8
 }
 
 /// Judges lists of events by the kinds of their verdicts.
+#[derive(Drop)]
 pub(crate) struct KindJudge<'a> {
     /// Where memory comes from.
     pub alloc: Global,

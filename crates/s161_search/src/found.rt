@@ -36,14 +36,14 @@ fn is_whole(whole: bool, verdict: Verdict) -> bool
 ///
 /// # Errors
 /// Memory was refused.
-pub(crate) fn printed(
+pub(crate) fn print_of(
     alloc: Global,
     task: SearchTask<'_>,
     inputs: &Inputs,
     judged: Judged,
     mut events: Vec<Event>,
 ) -> Result<Printed, AllocError>
-    requires { IsJudgedAt task (given_of inputs.old) events.items (Some judged) }
+    requires { IsJudgedAt task (given_of inputs.now) events.items (Some judged) }
     ensures { IfOk result (ArePrintedWith task.entry (given_of inputs.now) events.items judged) }
 {
     if is_whole(task.whole, judged.verdict) {

@@ -1,7 +1,8 @@
 //! What a search reads.
 
-ghost use Rattle.std.specs.Prelude.{◌≡◌, ◌⊎◌, ℕ, [], List, IfErr, IfOk, None, Some, option_map, string_bytes};
+ghost use Rattle.std.specs.Prelude.{◌≡◌, ◌⊎◌, ℕ, [], List, IfErr, IfOk, MatchOption, None, Some, option_map, string_bytes};
 ghost use Rattle.m161_judge.specs.Judge.{bytes_of};
+ghost use Rattle.s161_base.specs.Known.{IsText};
 ghost use Rattle.s161_base.specs.Samples.{image_file};
 ghost use Rattle.s161_drive.specs.Driven.{IsKeysFile};
 ghost use Rattle.s161_search.specs.Given.{given_of, IsGiven, IsOutputOf, IsWatchesFile};
@@ -43,7 +44,18 @@ impl Inputs {
     }
 }
 
+// The text of these bytes, if they are UTF-8.
+fn text_of(bytes: Vec<u8>) -> Option<String>
+    ensures { MatchOption result (¬ IsText bytes.items) (λ text. string_bytes text ≡ bytes.items) }
+{
+    match String::from_utf8(bytes) {
+        Ok(text) => Some(text),
+        Err(_) => None,
+    }
+}
+
 // The text of the watches, if there is one.
+#[tactic(auto, using(crate::proofs::Reading::unread_text))]
 fn read_watches<'a, F: FileSource>(
     alloc: Global,
     files: &mut F,
@@ -57,9 +69,9 @@ fn read_watches<'a, F: FileSource>(
 {
     let Some(name) = name else { return Ok(None) };
     let bytes = read_file(alloc, files, name)?;
-    match String::from_utf8(bytes) {
-        Ok(text) => Ok(Some(text)),
-        Err(_) => Err(Fault::File(name, Unread::NotUtf8)),
+    match text_of(bytes) {
+        Some(text) => Ok(Some(text)),
+        None => Err(Fault::File(name, Unread::NotUtf8)),
     }
 }
 

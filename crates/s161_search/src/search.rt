@@ -7,7 +7,7 @@ ghost use Rattle.s161_search.specs.Given.{given_of};
 ghost use Rattle.s161_search.specs.Searches.{IsFound, IsSearched, IsSearchFault};
 ghost use Rattle.s161_search.specs.Seeds.{IsFirstWrong};
 
-use crate::found::printed;
+use crate::found::print_of;
 use crate::inputs::{Inputs, read_inputs};
 use crate::seeds::{FirstWrong, Tried, has_room, seed_at, try_seeds};
 use crate::texts::{clean_line, found_lines};
@@ -57,11 +57,11 @@ fn found_text(
     inputs: &Inputs,
     wrong: FirstWrong,
 ) -> Result<Vec<u8>, AllocError>
-    requires { IsFirstWrong task (given_of inputs.old) wrong.place wrong.run wrong.judged }
+    requires { IsFirstWrong task (given_of inputs.now) wrong.place wrong.run wrong.judged }
     ensures { IfOk result (λ text. IsFound task.entry (given_of inputs.now) text.items) }
 {
     let seed = seed_at(task.drive.order, wrong.place);
-    let printed = printed(alloc, task, inputs, wrong.judged, wrong.run.events)?;
+    let printed = print_of(alloc, task, inputs, wrong.judged, wrong.run.events)?;
     let text = found_lines(alloc, seed, printed.verdict, &printed.events)?;
     Ok(text.into_bytes())
 }

@@ -1,7 +1,8 @@
 //! What a search prints.
 
-ghost use Rattle.std.specs.Prelude.{◌≡◌, IfOk, Some, string_bytes};
+ghost use Rattle.std.specs.Prelude.{◌≡◌, codes, decimal, IfOk, Some, string_bytes};
 ghost use Rattle.m161_text.specs.Lines.{with_line_end};
+ghost use Rattle.m161_text.specs.Parts.{◌␣◌};
 ghost use Rattle.s161_search.specs.Texts.{clean_text, found_text, verdict_text};
 
 use m161_audit::Finding;
@@ -42,6 +43,45 @@ impl fmt::Display for ShownVerdict {
     }
 }
 
+// How many runs are cut, as text.
+#[derive(Drop)]
+struct ShownCut(u32);
+
+impl fmt::Display for ShownCut {
+    ghost output = { λ cut. Some (codes "cut" ␣ decimal cut.0) };
+
+    fn fmt<W: fmt::Write>(&self, f: &mut fmt::Formatter<W>) -> fmt::Result {
+        let cut = self.0;
+        write!(f, "cut {cut}")
+    }
+}
+
+// Runs of which none goes wrong and some are cut, as text.
+#[derive(Drop)]
+struct ShownClean {
+    runs: u32,
+    cut: u32,
+}
+
+impl fmt::Display for ShownClean {
+    ghost output = { λ clean. Some (codes "clean" ␣ decimal clean.runs ␣ codes "cut" ␣ decimal clean.cut) };
+
+    fn fmt<W: fmt::Write>(&self, f: &mut fmt::Formatter<W>) -> fmt::Result {
+        let runs = self.runs;
+        let cut = ShownCut(self.cut);
+        write!(f, "clean {runs} {cut}")
+    }
+}
+
+// The line where no run goes wrong, and some are cut.
+fn cut_line(alloc: Global, runs: u32, cut: u32) -> Result<String, AllocError>
+    ensures { IfOk result (λ line. string_bytes line
+        ≡ with_line_end (codes "clean" ␣ decimal runs ␣ codes "cut" ␣ decimal cut)) }
+{
+    let shown = ShownClean { runs, cut };
+    format!(in alloc; "{shown}\n")
+}
+
 /// The line where no run goes wrong: how many there are, and how many are cut, if any.
 ///
 /// # Errors
@@ -50,10 +90,24 @@ pub(crate) fn clean_line(alloc: Global, runs: u32, cut: u32) -> Result<String, A
     ensures { IfOk result (λ line. string_bytes line ≡ with_line_end (clean_text runs cut)) }
 {
     if cut == 0 {
-        format!(in alloc; "clean {runs}\n")
-    } else {
-        format!(in alloc; "clean {runs} cut {cut}\n")
+        return format!(in alloc; "clean {runs}\n");
     }
+    cut_line(alloc, runs, cut)
+}
+
+// The line of a seed.
+fn seed_line(alloc: Global, seed: u64) -> Result<String, AllocError>
+    ensures { IfOk result (λ line. string_bytes line ≡ with_line_end (codes "# seed" ␣ decimal seed)) }
+{
+    format!(in alloc; "# seed {seed}\n")
+}
+
+// The line of a verdict.
+fn verdict_line(alloc: Global, verdict: Verdict) -> Result<String, AllocError>
+    ensures { IfOk result (λ line. string_bytes line ≡ with_line_end (codes "#" ␣ verdict_text verdict)) }
+{
+    let shown = ShownVerdict(verdict);
+    format!(in alloc; "# {shown}\n")
 }
 
 /// The schedule of a run that goes wrong, behind its seed and its verdict.
@@ -68,7 +122,10 @@ pub(crate) fn found_lines(
 ) -> Result<String, AllocError>
     ensures { IfOk result (λ text. string_bytes text ≡ found_text seed verdict events.now) }
 {
-    let shown = ShownVerdict(verdict);
+    let mut text = seed_line(alloc, seed)?;
+    let verdict = verdict_line(alloc, verdict)?;
     let schedule = write_schedule(alloc, events)?;
-    format!(in alloc; "# seed {seed}\n# {shown}\n{schedule}")
+    text.push_str(verdict.as_str())?;
+    text.push_str(schedule.as_str())?;
+    Ok(text)
 }

@@ -13,7 +13,7 @@ use std::test::Fail;
 /// No branch that waits for the acknowledgement.
 const WITHOUT_WAIT: [(u32, u32); 1] = [(0x248, 0)];
 
-/// A run of the sample kernel's variant that doesn't wait, which a stale use ends, and one more Step.
+/// A run of the sample kernel's variant that doesn't wait: a stale use, and one more Step.
 const HASTY: &str = "s 0 11\ns 1 16\ns 0 10\ns 1 2\n";
 
 /// The sample kernel's watch.
@@ -49,7 +49,7 @@ fn judged(verdict: Verdict, events: usize) -> Option<Judged> {
     Some(Judged { verdict, events })
 }
 
-// Checks the verdict of a schedule that leads a kernel to what it prints, or is asked to.
+// Checks the verdict of a schedule on a kernel, without watches and keys.
 fn check(
     rt: &(impl Abort + AllocGlobal),
     words: &[u32],
@@ -62,7 +62,7 @@ fn check(
     Ok(())
 }
 
-/// The kernel is off after its twenty-first event.
+/// Behind its nineteenth event the kernel that prints `hi` is off.
 const TO_OFF: &str = "s 0 3\no\ns 0 7\no\ns 0 8\n";
 
 #[test]

@@ -10,7 +10,7 @@ use std::alloc::{AllocGlobal, Global};
 use std::process::Abort;
 use std::test::Fail;
 
-// Drives a kernel for at most ten or a thousand events.
+// Drives a kernel in turns of one Step, for at most `n` events, for which its log has room.
 fn driven(
     alloc: Global,
     words: &[u32],

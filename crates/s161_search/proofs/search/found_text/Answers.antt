@@ -1,0 +1,25 @@
+use Rattle.std.proofs.Common.{◌∙◌, ap}
+use Rattle.s161_search.specs.Seeds.{seed_at}
+use Rattle.s161_search.specs.Texts.{found_text}
+use Rattle.s161_search.proofs.search.found_text.Goals as goal
+
+pub returns : goal.returns
+returns c =
+    let made = c.in_ok-printed.ensures in
+    let printed = c.in_ok-printed.printed in
+    record {
+      place = c.args.wrong.place;
+      run = c.args.wrong.run;
+      judged = c.args.wrong.judged;
+      first = c.requires;
+      events = printed.events.items;
+      are_printed = made.are_printed;
+      final = made.final;
+      is_judged = made.is_judged;
+      same_kind = made.same_kind;
+      text_is =
+          ap (λ v. v.items) c.into_bytes.ensures.value ∙ c.in_ok-text.ensures
+          ∙ ap (λ n. found_text n printed.verdict c.deref.result.now) c.seed_at-seed.ensures
+          ∙ ap (λ v. found_text (seed_at c.args.task.drive.order c.args.wrong.place) v c.deref.result.now) made.verdict_is
+          ∙ ap (λ es. found_text (seed_at c.args.task.drive.order c.args.wrong.place) made.final.verdict es) c.deref.ensures.value;
+    }
