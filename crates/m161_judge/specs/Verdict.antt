@@ -54,12 +54,12 @@ is_key (Step p) = false
 is_key (Key byte) = true
 is_key Done = false
 
--- keys are left: these events type fewer than there are
+-- these events type fewer keys than there are
 abbrev pub has_keys : List ℕ → List Event → Bool
 has_keys keys events = nat_lt (count_by is_key events) (length keys)
 
--- no policy chooses an event, if keys are left or not: the machine isn't off, the console isn't
--- sending, no key is left or 256 wait, and no processor is ready or ticking
+-- no policy chooses an event, if keys are left or not: the console isn't sending, no key is left or
+-- 256 wait, and no processor is ready or ticking
 abbrev pub is_stuck : Bool → State → Bool
 is_stuck keys_left s =
     not s.board.off && not (is_sending s)
@@ -70,7 +70,7 @@ abbrev pub IsStuckAfter : Criteria → State → List Event → ℕ → State �
 IsStuckAfter goal s events n t =
     LeadsTo s events n t × (is_stuck (has_keys goal.keys (take n events)) t ≡ true)
 
--- the console has sent what is asked for, no more and no less
+-- what the console has sent is what is asked for
 abbrev pub HasSent : Criteria → State → Type 0
 HasSent goal t = goal.output ≡ Some t.board.console.output
 
@@ -79,9 +79,9 @@ abbrev pub IsStuckBadly : Criteria → State → List Event → ℕ → Type 0
 IsStuckBadly goal s events n =
     (t : State) × IsStuckAfter goal s events n t × (HasSent goal t → ⊥)
 
--- the verdict holds of a run from s, and needs its first n events: up to and with the first stale
--- use; up to where it is stuck badly for the first time; up to and with the event that switches the
--- machine off, since none is accepted behind it; or all of them
+-- the verdict holds of a run from s, and needs its first n events: up to the first stale use; up to
+-- where it is stuck badly for the first time; up to the event that switches the machine off, which
+-- is the last one to be accepted; or all
 abbrev pub Holds : Criteria → State → List Event → Verdict → ℕ → Type 0
 Holds goal s events (Stale place p address row) n =
     IsFinding (without_stores s) events goal.watches (finding.Stale place p address row)

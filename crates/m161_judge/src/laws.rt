@@ -21,6 +21,5 @@ pub fn one_verdict()
 /// The law of the number of events: a run that is cut behind those that its verdict needs has the
 /// same verdict, which needs as many.
 pub fn cut_keeps_verdict()
-    ensures { (goal : Criteria) (s : State) (events : List Event) (judged : Judged)
-        → CutKeepsVerdict goal s events judged }
+    ensures { (goal : Criteria) (s : State) (events : List Event) (judged : Judged) → CutKeepsVerdict goal s events judged }
 {}

@@ -84,8 +84,8 @@ fn boot_and_drive<T: Tlb, D: Console>(
     drive_run(alloc, &mut machine, policy, n, output)
 }
 
-/// Drives a machine that is booted from a file, over any TLB and any console, for at most `n`
-/// events that a policy chooses, and judges the run. The machine's log has room for all of them.
+/// Drives a machine that is booted from a file, over any TLB and any console, for at most `n` events
+/// that a policy chooses, and judges the run. The machine's log has room for all of them.
 ///
 /// # Errors
 /// The machine can't be booted; or the first bad watch; or memory was refused, also at an event

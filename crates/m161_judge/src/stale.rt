@@ -22,8 +22,7 @@ pub(crate) fn find_stale<T: Tlb, D: Console>(
     events: &[Event],
     watches: &[Watch],
 ) -> Result<Finding, AuditError>
-    ensures found { FindsStale file.now conf (boot_fault file.now conf)
-        events.now watches.now result }
+    ensures found { FindsStale file.now conf (boot_fault file.now conf) events.now watches.now result }
     ensures within { IfOk result (IsBelow (2 ^ 64 - 1)) }
 {
     if watches.is_empty() {

@@ -22,10 +22,8 @@ pub(crate) fn is_stuck<T: Tlb, D: Console>(machine: &Machine<T, D>, keys_left: b
 
 /// Whether the console has sent what is asked for.
 pub(crate) fn has_sent<T: Tlb, D: Console>(machine: &Machine<T, D>, output: Option<&[u8]>) -> bool
-    ensures yes { result ≡ true
-        → bytes_of output.entry ≡ Some machine.now.state.board.console.output }
-    ensures no { result ≡ false
-        → bytes_of output.entry ≢ Some machine.now.state.board.console.output }
+    ensures yes { result ≡ true → bytes_of output.entry ≡ Some machine.now.state.board.console.output }
+    ensures no { result ≡ false → bytes_of output.entry ≢ Some machine.now.state.board.console.output }
 {
     match output {
         Some(bytes) => machine.output() == bytes,

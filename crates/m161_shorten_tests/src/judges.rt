@@ -68,13 +68,14 @@ pub struct InOrder {
 }
 
 impl Judge for InOrder {
+    ghost use Rattle.std.specs.Prelude.{◌≡◌};
     ghost use Rattle.m161_shorten_tests.specs.Judges.{in_order};
 
     type Kind = Wrong;
 
     type Error = Tired;
 
-    ghost judges = { λ judge es. in_order 0 0 es };
+    ghost judges = { λ judge es verdict. verdict ≡ in_order 0 0 es };
 
     fn judge(&mut self, events: &[Event]) -> Result<Option<Judged<Wrong>>, Tired> {
         if self.judged >= self.most {
@@ -126,13 +127,14 @@ pub struct UnlessAlone {
 }
 
 impl Judge for UnlessAlone {
+    ghost use Rattle.std.specs.Prelude.{◌≡◌};
     ghost use Rattle.m161_shorten_tests.specs.Judges.{unless_alone};
 
     type Kind = Wrong;
 
     type Error = Tired;
 
-    ghost judges = { λ judge es. unless_alone es };
+    ghost judges = { λ judge es verdict. verdict ≡ unless_alone es };
 
     fn judge(&mut self, events: &[Event]) -> Result<Option<Judged<Wrong>>, Tired> {
         if self.judged >= self.most {

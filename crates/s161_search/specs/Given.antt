@@ -1,4 +1,4 @@
-use Rattle.std.specs.Prelude.{◌≡◌, ℕ, List, [], Option, None, Some, IfSome, option_map}
+use Rattle.std.specs.Prelude.{◌≡◌, ℕ, List, [], Option, None, Some, IfSome}
 use Rattle.std.proofs.Common.{Bor}
 use Rattle.m161_audit.specs.declared.watch.Watch.{Watch}
 use Rattle.m161_audit.specs.WatchText.{AreWatchLines}
@@ -10,7 +10,6 @@ use Rattle.s161_base.specs.Known.{OfKnown, OfText}
 use Rattle.s161_base.specs.Reading.{IsFileUnread, IsOfText}
 use Rattle.s161_audit.specs.Audits.{OfWatches}
 use Rattle.s161_drive.specs.Driven.{AreKeys}
-use Rattle.s161_search.specs.declared.inputs.Inputs.{Inputs}
 
 -- What a search reads.
 
@@ -23,14 +22,6 @@ pub record Given : Type 0 where
 
 abbrev pub criteria_of : Given → Criteria
 criteria_of given = record { watches = given.watches; output = given.output; keys = given.keys }
-
-abbrev pub given_of : Inputs → Given
-given_of inputs = record {
-  file = inputs.file.items;
-  keys = inputs.keys.items;
-  watches = inputs.watches.items;
-  output = option_map (λ bytes. bytes.items) inputs.output;
-}
 
 -- the watches are those of the file of a name, as far as its bytes are known, or none without a name
 abbrev pub AreWatchesOf :

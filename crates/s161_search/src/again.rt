@@ -2,7 +2,7 @@
 
 ghost use Rattle.std.specs.Prelude.{◌≡◌, IfOk};
 ghost use Rattle.m161_judge.specs.Verdict.{rank};
-ghost use Rattle.s161_search.specs.Given.{given_of};
+ghost use Rattle.s161_search.specs.helpers.Inputs.{given_of};
 ghost use Rattle.s161_search.specs.Searches.{IsJudgedAt};
 
 use crate::inputs::Inputs;
@@ -61,7 +61,7 @@ pub(crate) struct KindJudge<'a> {
 }
 
 impl<'a> Judge for KindJudge<'a> {
-    ghost use Rattle.s161_search.specs.Given.{given_of};
+    ghost use Rattle.s161_search.specs.helpers.Inputs.{given_of};
     ghost use Rattle.s161_search.specs.Searches.{HasKind};
 
     type Kind = u8;

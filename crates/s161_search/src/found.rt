@@ -1,7 +1,7 @@
 //! The schedule of a run that goes wrong.
 
 ghost use Rattle.std.specs.Prelude.{◌≡◌, IfOk, Some};
-ghost use Rattle.s161_search.specs.Given.{given_of};
+ghost use Rattle.s161_search.specs.helpers.Inputs.{given_of};
 ghost use Rattle.s161_search.specs.Searches.{IsJudgedAt, is_whole};
 ghost use Rattle.s161_search.specs.helpers.Tried.{ArePrintedWith};
 

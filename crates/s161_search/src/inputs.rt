@@ -5,7 +5,8 @@ ghost use Rattle.m161_judge.specs.Judge.{bytes_of};
 ghost use Rattle.s161_base.specs.Known.{IsText};
 ghost use Rattle.s161_base.specs.Samples.{image_file};
 ghost use Rattle.s161_drive.specs.Driven.{IsKeysFile};
-ghost use Rattle.s161_search.specs.Given.{given_of, IsGiven, IsOutputOf, IsWatchesFile};
+ghost use Rattle.s161_search.specs.Given.{IsGiven, IsOutputOf, IsWatchesFile};
+ghost use Rattle.s161_search.specs.helpers.Inputs.{given_of};
 ghost use Rattle.s161_search.specs.Searches.{IsSearchFault};
 ghost use Rattle.s161_search.specs.helpers.Watches.{AreWatchesIn, IsFaultIn, IsTextOf};
 

@@ -3,7 +3,7 @@
 ghost use Rattle.std.specs.Prelude.{◌≡◌, ◌≢◌, ◌≤◌, IfErr, IfOk, None};
 ghost use Rattle.m161_order.specs.Order.{order_fault};
 ghost use Rattle.s161_base.specs.Samples.{image_file};
-ghost use Rattle.s161_search.specs.Given.{given_of};
+ghost use Rattle.s161_search.specs.helpers.Inputs.{given_of};
 ghost use Rattle.s161_search.specs.Searches.{IsFound, IsSearched, IsSearchFault};
 ghost use Rattle.s161_search.specs.Seeds.{IsFirstWrong};
 

@@ -3,7 +3,7 @@
 ghost use Rattle.std.specs.Prelude.{◌≡◌, ◌≤◌, ◌%◌, ◌+◌, ◌^◌, true, false, IfErr, IfOk, None};
 ghost use Rattle.m161_machine.specs.Conf.{is_within_limits};
 ghost use Rattle.m161_order.specs.Order.{order_fault};
-ghost use Rattle.s161_search.specs.Given.{given_of};
+ghost use Rattle.s161_search.specs.helpers.Inputs.{given_of};
 ghost use Rattle.s161_search.specs.Seeds.{IsRunAt, IsRunFault, search_conf, seed_at, seed_of, with_seed};
 ghost use Rattle.s161_search.specs.helpers.Tried.{IsTried};
 

@@ -94,8 +94,7 @@ FindsStale file conf (Some first) events watches (Ok finding) = Unit {0}
 FindsStale file conf (Some first) events watches (Err error) = error ≡ Boot first
 FindsStale file conf None events watches (Ok finding) =
     ((k : ℕ) → AreGood conf.ram watches k)
-    × ((m : History) → IsBooted file conf m
-    → IsFinding (without_stores m.state) events watches finding)
+    × ((m : History) → IsBooted file conf m → IsFinding (without_stores m.state) events watches finding)
 FindsStale file conf None events watches (Err error) = IsUnjudged conf watches error
 
 -- a finding, and the first verdict but Stale, give the verdict

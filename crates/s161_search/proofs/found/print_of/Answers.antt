@@ -1,6 +1,6 @@
 use Rattle.std.proofs.Common.{◌≡◌, ◌∙◌, take, None, Some, refl, subst, sym}
 use Rattle.m161_judge.specs.Verdict.{rank}
-use Rattle.s161_search.specs.Given.{given_of}
+use Rattle.s161_search.specs.helpers.Inputs.{given_of}
 use Rattle.s161_search.specs.Searches.{IsJudgedAt}
 use Rattle.s161_search.proofs.Judging.{left_as, left_has_one, left_printed, short_as}
 use Rattle.s161_search.proofs.found.print_of.Goals as goal

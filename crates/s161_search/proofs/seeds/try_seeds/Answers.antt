@@ -1,5 +1,5 @@
 use Rattle.std.proofs.Common.{◌≡◌, ◌∙◌, ◌+◌, ap, arith, sym}
-use Rattle.s161_search.specs.Given.{given_of}
+use Rattle.s161_search.specs.helpers.Inputs.{given_of}
 use Rattle.s161_search.specs.Seeds.{one_if}
 use Rattle.s161_search.proofs.Judging.{clean_more, one_small}
 use Rattle.s161_search.proofs.seeds.try_seeds.Goals as goal

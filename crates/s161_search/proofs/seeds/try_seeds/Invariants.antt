@@ -1,5 +1,5 @@
 use Rattle.std.proofs.Common.{◌≤◌}
-use Rattle.s161_search.specs.Given.{given_of}
+use Rattle.s161_search.specs.helpers.Inputs.{given_of}
 use Rattle.s161_search.specs.Seeds.{AreClean}
 use Rattle.s161_search.proofs.seeds.try_seeds.Given as goal
 

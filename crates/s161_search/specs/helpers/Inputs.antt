@@ -1,0 +1,12 @@
+use Rattle.std.specs.Prelude.{option_map}
+use Rattle.s161_search.specs.declared.inputs.Inputs.{Inputs}
+use Rattle.s161_search.specs.Given.{Given}
+
+-- what was read, as contracts see it
+abbrev pub given_of : Inputs → Given
+given_of inputs = record {
+  file = inputs.file.items;
+  keys = inputs.keys.items;
+  watches = inputs.watches.items;
+  output = option_map (λ bytes. bytes.items) inputs.output;
+}
