@@ -58,7 +58,7 @@ IsResultOf (RunDriven task) files input =
     IsDriven task files (image_file files task.run.image.now)
 IsResultOf (Schedule task) files input =
     WithZero (IsScheduled task files (image_file files task.image.now))
-IsResultOf (Console task) files input text status = ⊥
+IsResultOf (Console task) files input = λ text status. ⊥
 IsResultOf (Search task) files input = IsSearched task files (image_file files task.image.now)
 IsResultOf (Replay task) files input =
     IsReplayed task (image_file files task.image.now) (files task.text.now)

@@ -189,7 +189,7 @@ fn print_task<'a, R: Threads + Wait + Sync, F: FileSource, I: Read, O: Write>(
     output: &mut O,
 ) -> Result<u8, Fault<'a>>
     requires limits { HasLimits task }
-    requires text { console_of task.entry ≡ None }
+    requires text { console_of task ≡ None }
     ensures finished { IfOk result (Prints (IsResultOf task.entry (F.known files.old)
         (I.remaining input.old)) (O.contents output.old) (O.contents output.new)) }
     ensures fault { IfErr result (Fails
@@ -212,7 +212,7 @@ fn finish<'a, R: Threads + Wait + Sync, F: FileSource, I: Read>(
     input: &mut I,
 ) -> Result<Finished, Fault<'a>>
     requires limits { HasLimits task }
-    requires text { console_of task.entry ≡ None }
+    requires text { console_of task ≡ None }
     ensures ok { IfOk result (λ done. IsResultOf task.entry (F.known files.old)
         (I.remaining input.old) done.text.items done.status) }
     ensures fault { IfErr result (IsTaskFault task.entry (F.known files.old)

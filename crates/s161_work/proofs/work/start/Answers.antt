@@ -1,7 +1,7 @@
 use Rattle.std.proofs.Common.{List, map, string_bytes, subst}
 use Rattle.std.specs.Prelude.{String}
 use Rattle.std.specs.Global.{Global}
-use Rattle.s161_work.specs.Works.{Follows, IsRefused}
+use Rattle.s161_work.specs.Works.{Follows, IsRefused, standard}
 use Rattle.s161_work.proofs.work.start.Goals as goal
 
 pub returns-in-Ok-clause-rejected : goal.returns-in-Ok-clause-rejected
@@ -11,5 +11,7 @@ returns-in-Ok-clause-rejected g c = λ two.
 
 pub returns-in-Ok-clause-finished : goal.returns-in-Ok-clause-finished
 returns-in-Ok-clause-finished g c = λ done.
-    let P : List (String Global) → Type 0 = λ words. Follows (map string_bytes words) (g.F.FileSource.known c.args.files.now) (g.I.Read.remaining c.args.input.now) (g.I.Read.remaining c.work.new.input) (g.O.Write.contents c.args.output.now) (g.O.Write.contents c.work.new.output) c.work.result in
+    let P : List (String Global) → Type 0 = λ words. Follows (map string_bytes words) (g.F.FileSource.known c.args.files.now)
+    (standard (g.I.Read.remaining c.args.input.now) (g.O.Write.contents c.args.output.now) (g.E.Write.contents c.args.errors.now))
+    (standard (g.I.Read.remaining c.work.new.input) (g.O.Write.contents c.work.new.output) (g.E.Write.contents c.work.new.errors)) c.work.result in
     rw c.in-Ok.is (subst P c.as_slice.ensures.value (c.work.ensures.finished done))
