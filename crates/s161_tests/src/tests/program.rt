@@ -4,7 +4,7 @@ use super::same;
 use super::streams::{FREE, Left, Memory, NoFiles, all};
 use m161_elf::LoadError;
 use m161_machine::BootError;
-use s161_work::fault::Fault;
+use s161_work::fault::{Fault, Unread};
 use s161_work::work::{start, work};
 use std::process::Abort;
 use std::sync::Wait;
@@ -216,24 +216,44 @@ fn starts(rt: HostRuntime) -> Result<(), Fail> {
     Ok(())
 }
 
+/// A machine outside the limits.
+const CONF_LINE: &str =
+    "s161: conf (RAM has 1 to 4096 pages of 4096 bytes, there are 1 to 32 processors, and a log has 1 to 16777216 entries)";
+
 #[test]
 fn fault_texts(rt: HostRuntime) -> Result<(), Fail> {
     for (fault, text) in [
-        (Fault::File("a.elf"), "s161: file a.elf"),
-        (Fault::Schedule(12), "s161: schedule line 12"),
-        (Fault::Log(3), "s161: log line 3"),
-        (Fault::Conf, "s161: conf"),
+        (
+            Fault::File("a.elf", Unread::Failed),
+            "s161: file a.elf (the file can't be read)",
+        ),
+        (
+            Fault::File("a (b)\\\n\x7f", Unread::NotUtf8),
+            "s161: file a \\x28b)\\x5c\\x0a\\x7f (the file isn't UTF-8)",
+        ),
+        (
+            Fault::Schedule(12),
+            "s161: schedule line 12 (a line is s P, s P N, k HH, o, blank or # ..)",
+        ),
+        (
+            Fault::Log(3),
+            "s161: log line 3 (after m161 log 1 a line is s P ran, s P trap CODE VECTOR, s P idle, s P off, k HH taken or o taken)",
+        ),
+        (Fault::Conf, CONF_LINE),
         (
             Fault::Image(LoadError::Truncated),
-            "s161: image 1 Truncated",
+            "s161: image 1 Truncated (the file is shorter than an ELF header)",
         ),
         (Fault::Memory, "s161: memory"),
-        (Fault::Input, "s161: input"),
+        (
+            Fault::Input(Unread::TooLong),
+            "s161: input (at most 402653184 bytes are read)",
+        ),
         (Fault::Output, "s161: output"),
-        (Fault::from(BootError::BadConf), "s161: conf"),
+        (Fault::from(BootError::BadConf), CONF_LINE),
         (
             Fault::from(BootError::Load(LoadError::BadEntry)),
-            "s161: image 9 BadEntry",
+            "s161: image 9 BadEntry (the entry isn't a multiple of 4 in RAM, by kseg0 or by kseg1)",
         ),
         (Fault::from(BootError::NoMemory), "s161: memory"),
     ] {
