@@ -32,7 +32,9 @@ Usage: s161 <COMMAND>
 Commands:
   demo      Makes seven Steps of the built-in image
   run       Runs an image under a schedule of events, or by an order that chooses them
+  console   Runs a kernel at the terminal: its console is standard input and output
   schedule  Prints the events that an order chooses, as a schedule
+  search    Looks for a seed whose run goes wrong, and prints a short schedule of it
   replay    Makes a log's events once more, and compares their outcomes
   debug     Does a debugger's commands on an image under a schedule
   audit     Looks for a Step that uses a stale row of the TLB, after its shootdown
@@ -46,11 +48,11 @@ Options:
 
 Exit status:
   0  a finished demo, schedule, debug, as or dis, a machine that switched
-     itself off, a log that agrees, a clean run, or help
-  1  a fault, named on standard error, or a refused event of run
+     itself off, a log that agrees, a clean run or search, or help
+  1  a fault, named on standard error, or a refused event of run or console
   2  a rejected command line
   3  the schedule, the events or the Steps of the threads ended
-  4  a log that differs, or a stale use
+  4  a log that differs, a stale use, or a run that goes wrong in search
   5  no processor can go on, and no byte or key is left
 ";
 
