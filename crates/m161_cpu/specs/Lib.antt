@@ -5,6 +5,7 @@ pub mod Fault
 pub mod Translation
 pub mod Effect
 pub mod Step
+pub mod Fetch
 pub mod Resting
 pub mod Uses
 pub mod UsesLaw

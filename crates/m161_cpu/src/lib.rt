@@ -34,6 +34,7 @@ mod compute;
 mod control;
 mod execute;
 mod fault;
+mod fetch;
 mod flow;
 mod links;
 mod memory;

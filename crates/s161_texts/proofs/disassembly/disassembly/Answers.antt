@@ -16,8 +16,10 @@ listing-requires c =
 
 pub returns-clause-ok : goal.returns-clause-ok
 returns-clause-ok c =
-    is_listing c.args.file.now _ c.in_ok-image.image c.in_ok-spans.spans _ _ c.in_ok-image.ensures.answer c.in_ok-spans.ensures.answer
-    c.deref.ensures.value c.deref-2.ensures.value c.in_ok-listing.ensures
+    let P : Naming → Type 0 = λ naming. IsListing naming c.args.file.now (string_bytes c.in_ok-listing.value) in
+    subst P c.naming_of.ensures
+    (is_listing c.naming_of.result c.args.file.now _ c.in_ok-image.image c.in_ok-spans.spans _ _ c.in_ok-image.ensures.answer c.in_ok-spans.ensures.answer
+    c.deref.ensures.value c.deref-2.ensures.value c.in_ok-listing.ensures)
 
 pub returns-in_err-image-clause-fault : goal.returns-in_err-image-clause-fault
 returns-in_err-image-clause-fault c =

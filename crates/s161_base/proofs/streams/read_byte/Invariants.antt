@@ -1,6 +1,6 @@
 use Rattle.std.proofs.Common.{[]}
 use Rattle.std.specs.Io.KnownBytes.{Consumes}
-use Rattle.s161_console.proofs.streams.read_byte.Given as goal
+use Rattle.s161_base.proofs.streams.read_byte.Given as goal
 
 -- no byte was read so far
 abbrev pub invariant-loop-call : goal.invariant-loop-call

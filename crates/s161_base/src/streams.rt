@@ -1,14 +1,18 @@
-//! The streams of a run: one byte is read at a time, and what is written is out at once.
+//! Standard streams that are read and written as a task goes on: one byte is read at a time, and what
+//! is written is out at once.
 
-ghost use Rattle.std.specs.Prelude.{◌≡◌, false, true, [], IfErr, IfOk, OnOk};
-ghost use Rattle.std.specs.Io.KnownBytes.{Appends, Consumes, IsAtEnd};
-ghost use Rattle.s161_console.specs.helpers.Consoles.{AppendsSome, GivesKey, ReadsByte};
+ghost use Rattle.std.specs.Prelude.{◌≡◌, [], IfErr, IfOk, OnOk};
+ghost use Rattle.std.specs.Io.KnownBytes.{Appends, Consumes};
+ghost use Rattle.s161_base.specs.Streams.{AppendsSome, ReadsByte};
 
-use s161_base::fault::{Fault, Unread};
+use crate::fault::{Fault, Unread};
 use std::io::{ErrorKind, Read, Write};
 
-// The next byte of an input, if there is one.
-fn read_byte<'a, I: Read>(input: &mut I) -> Result<Option<u8>, Fault<'a>>
+/// The next byte of an input, if there is one.
+///
+/// # Errors
+/// The input can't be read.
+pub fn read_byte<'a, I: Read>(input: &mut I) -> Result<Option<u8>, Fault<'a>>
     ensures ok { IfOk result (λ byte. ReadsByte (I.remaining input.old) byte (I.remaining input.new)) }
     ensures err { IfErr result (λ fault. (fault ≡ Fault.Input Unread.Failed)
         × Consumes (I.remaining input.old) (I.remaining input.new) []) }
@@ -23,28 +27,6 @@ fn read_byte<'a, I: Read>(input: &mut I) -> Result<Option<u8>, Fault<'a>>
         }
     }
     Err(Fault::Input(Unread::Failed))
-}
-
-/// The next byte of an input. There is none once it has ended, and then it isn't read again.
-///
-/// # Errors
-/// The input can't be read.
-pub(crate) fn read_key<'a, I: Read>(
-    input: &mut I,
-    ended: &mut bool,
-) -> Result<Option<u8>, Fault<'a>>
-    requires { ended.old ≡ true → IsAtEnd (I.remaining input.old) }
-    ensures ok { IfOk result (λ key. GivesKey true ended.old (I.remaining input.old)
-        key ended.new (I.remaining input.new)) }
-    ensures err { IfErr result (λ fault. (fault ≡ Fault.Input Unread.Failed) × (ended.old ≡ false)
-        × Consumes (I.remaining input.old) (I.remaining input.new) []) }
-{
-    if *ended {
-        return Ok(None);
-    }
-    let key = read_byte(input)?;
-    *ended = key.is_none();
-    Ok(key)
 }
 
 // Writes all of these bytes.
@@ -72,7 +54,7 @@ fn write_whole<'a, O: Write>(output: &mut O, bytes: &[u8]) -> Result<(), Fault<'
 ///
 /// # Errors
 /// The output failed.
-pub(crate) fn send<'a, O: Write>(output: &mut O, bytes: &[u8]) -> Result<(), Fault<'a>>
+pub fn send<'a, O: Write>(output: &mut O, bytes: &[u8]) -> Result<(), Fault<'a>>
     ensures ok { OnOk result (Appends (O.contents output.old) (O.contents output.new) bytes.now) }
     ensures err { IfErr result (λ fault. (fault ≡ Fault.Output)
         × AppendsSome (O.contents output.old) (O.contents output.new) bytes.now) }

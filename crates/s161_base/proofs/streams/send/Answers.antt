@@ -2,7 +2,7 @@ use Rattle.std.proofs.Common.{refl, subst, sym, length}
 use Rattle.std.proofs.Math.Seq.{take-length}
 use Rattle.std.proofs.KnownBytes.{Appends-kept}
 use Rattle.std.specs.Io.KnownBytes.{Appends}
-use Rattle.s161_console.proofs.streams.send.Goals as goal
+use Rattle.s161_base.proofs.streams.send.Goals as goal
 
 pub returns-in-Err-clause-err : goal.returns-in-Err-clause-err
 returns-in-Err-clause-err g c =

@@ -1,4 +1,4 @@
-use Rattle.s161_work.proofs.work.finish.Goals as goal
+use Rattle.s161_work.proofs.printing.finish.Goals as goal
 
 -- the task is the arm's
 pub returns-in-Run-clause-ok : goal.returns-in-Run-clause-ok

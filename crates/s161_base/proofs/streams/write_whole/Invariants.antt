@@ -1,6 +1,6 @@
 use Rattle.std.proofs.Common.{◌≤◌, length, take}
 use Rattle.std.specs.Io.KnownBytes.{Appends}
-use Rattle.s161_console.proofs.streams.write_whole.Given as goal
+use Rattle.s161_base.proofs.streams.write_whole.Given as goal
 
 -- so many bytes are written so far
 abbrev pub invariant-loop-call : goal.invariant-loop-call
