@@ -382,7 +382,8 @@ fn machine_at_boot<T: Tlb, D: Console>(
 
 // The same image again.
 fn image_again(alloc: Global, image: &Image) -> Result<Image, AllocError>
-    ensures { IfOk result (λ copy. copy ≡ image.now) }
+    ensures { IfOk result (λ copy. (copy.entry ≡ image.now.entry)
+        × (copy.bytes.items ≡ image.now.bytes.items)) }
 {
     Ok(Image {
         entry: image.entry,

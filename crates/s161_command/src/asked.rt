@@ -279,6 +279,7 @@ fn files_task_of<'a>(given: &ArgMatches<'a>, text: &str, log: u32) -> FilesTask<
 }
 
 /// The task of the words of a command line.
+#[tactic(auto, using(crate::proofs::Undriven::undriven))]
 pub(crate) fn task_of<'a>(matches: &ArgMatches<'a>) -> Result<Task<'a>, Clash>
     ensures task { IfOk result (IsTask (subcommand_rows_of matches.now)) }
     ensures limits { IfOk result HasLimits }
@@ -296,6 +297,7 @@ pub(crate) fn task_of<'a>(matches: &ArgMatches<'a>) -> Result<Task<'a>, Clash>
         Some(("audit", given)) => Ok(Task::Audit(files_task_of(given, "watches", 65_536))),
         Some(("as", _)) => Ok(Task::Assemble),
         Some(("dis", given)) => Ok(Task::Disassemble(listing_task_of(given))),
-        _ => Ok(Task::Demo),
+        Some(_) => Ok(Task::Demo),
+        None => Ok(Task::Demo),
     }
 }
