@@ -35,6 +35,7 @@ mod control;
 mod execute;
 mod fault;
 mod flow;
+mod kept;
 mod links;
 mod memory;
 mod processor;
