@@ -3,6 +3,7 @@ pub mod Scene
 pub mod Links
 pub mod Fault
 pub mod Translation
+pub mod Kept
 pub mod Effect
 pub mod Step
 pub mod Fetch

@@ -36,6 +36,7 @@ mod execute;
 mod fault;
 mod fetch;
 mod flow;
+mod kept;
 mod links;
 mod memory;
 mod processor;
