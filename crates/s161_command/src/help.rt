@@ -9,7 +9,8 @@ pub(crate) const AFTER_HELP: &str = "\
 Exit status:
   0  a finished demo, schedule, debug, as or dis, a machine that switched
      itself off, a log that agrees, a clean run or search, or help
-  1  a fault, named on standard error, or a refused event of run or console
+  1  a fault, named on standard error, or a refused event of run, trace or
+     console
   2  a rejected command line
   3  the schedule, the events or the Steps of the threads ended
   4  a log that differs, a stale use, or a run that goes wrong in search
