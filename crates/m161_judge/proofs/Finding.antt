@@ -20,10 +20,10 @@ use Rattle.m161_judge.specs.declared.verdict.Judged.{Judged}
 use Rattle.m161_judge.specs.declared.walk.Walk.{Walk}
 use Rattle.m161_judge.specs.declared.walk.Walk.TheVariants as walk
 use Rattle.m161_judge.specs.Judge.{Judges}
-use Rattle.m161_judge.specs.Run.{Runs, criteria}
-use Rattle.m161_judge.specs.Verdict.{Criteria}
+use Rattle.m161_judge.specs.Run.{Runs, criteria, is_cut}
+use Rattle.m161_judge.specs.Verdict.{Criteria, has_keys}
 use Rattle.m161_judge.specs.helpers.Walk.{BootsRun, DrivesRun, FindsStale, IsBelow, Joins, Walks}
-use Rattle.m161_judge.proofs.Booting.{booted_as_one}
+use Rattle.m161_judge.proofs.Booting.{booted_as_one, drives_machine}
 use Rattle.m161_judge.proofs.Judging.{place_is_below}
 
 -- The audit, as it is used.
@@ -113,7 +113,7 @@ made_list file conf None events goal m found w beside judged boots finds h is jo
 -- of a driven run
 
 pub boots_run : (file : List ℕ) (conf : Conf) (fault : Option BootError) (rules : Rules) (n : ℕ) (output : Option (List ℕ)) (m : History) (result : Result Run AuditError) →
-    Boots file conf fault (Ok m) → DrivesRun rules n output m result → BootsRun file conf fault rules n output result
+    Boots file conf fault (Ok m) → DrivesRun rules n output m.state result → BootsRun file conf fault rules n output result
 boots_run file conf (Some first) rules n output m result boots h = absurd boots
 boots_run file conf None rules n output m (Ok run) boots h = (m, boots, h)
 boots_run file conf None rules n output m (Err error) boots h = h
@@ -133,24 +133,26 @@ no_run : (run : Run) (error : AuditError) → ◌≡◌ {A = Result Run AuditErr
 no_run run error h = cc
 
 pub runs : (file : List ℕ) (conf : Conf) (fault : Option BootError) (rules : Rules) (n : ℕ) (watches : List Watch) (output : Option (List ℕ)) (run : Run)
-    (found : Finding) (judged : Option Judged) →
+    (found : Finding) (judged : Option Judged) → n ≤ conf.log →
     BootsRun file conf fault rules n output (Ok run) → FindsStale file conf fault run.events.items watches (Ok found) →
     ((goal : Criteria) (s : State) (events : List Event) → Joins goal s events found run.judged judged) →
     Runs file conf fault rules n (criteria watches output rules) (Ok (record { events = run.events; judged = judged; is_cut = run.is_cut }))
-runs file conf (Some first) rules n watches output run found judged h finds joins = absurd (no_run run (Boot first) h)
-runs file conf None rules n watches output run found judged h finds joins =
+runs file conf (Some first) rules n watches output run found judged room h finds joins = absurd (no_run run (Boot first) h)
+runs file conf None rules n watches output run found judged room h finds joins =
     let goal = criteria watches output rules in
     let m = h.0 in
     let d = h.2 in
+    let fits : n ≤ m.start.conf.log = subst (λ (x : Conf). n ≤ x.log) (sym h.1.conf_is) room in
+    let k = drives_machine rules n m d.driven run.events.items d.state h.1.log_is fits d.drives in
     record {
       good = finds.0;
       booted = m;
       is_booted = h.1;
       driven = d.driven;
-      machine = d.machine;
-      drives = d.drives;
+      machine = k.0;
+      drives = k.1;
       accepted = d.accepted;
-      events_are = d.events_are;
+      events_are = k.3;
       judged = joins goal m.state run.events.items d.made (finds.1 m h.1) (d.beside watches);
-      cut = d.cut;
+      cut = d.cut ∙ ap (is_cut d.driven.stop (has_keys rules.keys run.events.items)) (sym k.2);
     }

@@ -1,20 +1,20 @@
 //! The verdict of a driven run.
 
-ghost use Rattle.std.specs.Prelude.{◌≡◌, ◌≤◌, []};
+ghost use Rattle.std.specs.Prelude.{◌≡◌, ◌≤◌};
 ghost use Rattle.m161_machine.specs.History.{boot_fault};
 ghost use Rattle.m161_judge.specs.Judge.{bytes_of};
 ghost use Rattle.m161_judge.specs.Run.{Runs, criteria, is_cut};
 ghost use Rattle.m161_judge.specs.helpers.Walk.{BootsRun, DrivesRun};
 
-use crate::events::{count_keys, events_made};
+use crate::events::count_keys;
 use crate::seen::nothing_seen;
 use crate::stale::{find_stale, first_verdict};
 use crate::stuck::is_stuck;
 use crate::verdict::Judged;
 use m161_audit::{AuditError, Watch};
 use m161_bus::Console;
-use m161_drive::{Policy, Stop, drive};
-use m161_machine::{BootError, Conf, Event, Machine};
+use m161_drive::{Policy, Stop, View, drive_core};
+use m161_machine::{BootError, Conf, Core, Event, Machine};
 use m161_tlb::Tlb;
 use std::alloc::Global;
 
@@ -30,8 +30,8 @@ pub struct Run {
 }
 
 // Whether a run ended only because no more events were asked for.
-fn is_cut<T: Tlb, D: Console>(machine: &Machine<T, D>, stop: Stop, keys_left: bool) -> bool
-    ensures { result ≡ is_cut stop keys_left machine.now.state }
+fn is_cut<V: View>(machine: &V, stop: Stop, keys_left: bool) -> bool
+    ensures { result ≡ is_cut stop keys_left (V.state machine.now) }
 {
     match stop {
         Stop::End => !is_stuck(machine, keys_left),
@@ -39,35 +39,31 @@ fn is_cut<T: Tlb, D: Console>(machine: &Machine<T, D>, stop: Stop, keys_left: bo
     }
 }
 
-// Drives a machine that was just booted, and judges the run, but for a stale use.
+// Drives a state, and judges the run, but for a stale use.
 fn drive_run<T: Tlb, D: Console>(
     alloc: Global,
-    machine: &mut Machine<T, D>,
+    core: &mut Core<T, D>,
     policy: &Policy,
     n: u64,
     output: Option<&[u8]>,
 ) -> Result<Run, AuditError>
-    requires empty { machine.old.log ≡ [] }
-    requires room { n ≤ machine.old.start.conf.log }
-    ensures { DrivesRun policy.now n (bytes_of output.entry) machine.old result }
+    ensures { DrivesRun policy.now n (bytes_of output.entry) core.old.state result }
 {
-    let driven = drive(machine, policy, n);
-    if let Stop::Refused(_) = driven.stop {
+    let chosen = drive_core(alloc, core, policy, n)?;
+    if let Stop::Refused(_) = chosen.driven.stop {
         return Err(AuditError::Boot(BootError::NoMemory));
     }
-    let entries = machine.copy_log(alloc)?;
-    let events = events_made(alloc, &entries)?;
-    let keys_left = policy.key(count_keys(&events)).is_some();
-    let made = events.len();
-    let seen = nothing_seen().look(machine, made, keys_left, output);
+    let keys_left = policy.key(count_keys(&chosen.events)).is_some();
+    let made = chosen.events.len();
+    let seen = nothing_seen().look(core, made, keys_left, output);
     Ok(Run {
-        events,
-        judged: seen.verdict(machine, made, output),
-        is_cut: is_cut(machine, driven.stop, keys_left),
+        events: chosen.events,
+        judged: seen.verdict(core, made, output),
+        is_cut: is_cut(core, chosen.driven.stop, keys_left),
     })
 }
 
-// The same, of a machine that is booted for it.
+// The same, of the state of a machine that is booted for it.
 fn boot_and_drive<T: Tlb, D: Console>(
     alloc: Global,
     file: &[u8],
@@ -80,8 +76,9 @@ fn boot_and_drive<T: Tlb, D: Console>(
     ensures { BootsRun file.now conf (boot_fault file.now conf) policy.now n
         (bytes_of output.entry) result }
 {
-    let mut machine: Machine<T, D> = Machine::boot(alloc, file, conf)?;
-    drive_run(alloc, &mut machine, policy, n, output)
+    let machine: Machine<T, D> = Machine::boot(alloc, file, conf)?;
+    let mut core = machine.into_core();
+    drive_run(alloc, &mut core, policy, n, output)
 }
 
 /// Drives a machine that is booted from a file, over any TLB and any console, for at most `n` events
