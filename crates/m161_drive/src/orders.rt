@@ -28,7 +28,9 @@ fn by_words<V: View>(generator: &mut Pcg32, machine: &V) -> Option<u32>
     ensures processor { result ≡ (by_words generator.old (V.state machine.now)).0 }
     ensures after { generator.new ≡ (by_words generator.old (V.state machine.now)).1 }
 {
-    let (places, count) = list_ready(machine);
+    // For LLVM: room of this function, since bytes that were just written would be slow to copy.
+    let mut places = [0; 32];
+    let count = list_ready(machine, &mut places);
     if count == 0 {
         return None;
     }

@@ -96,15 +96,14 @@ fn some_ticking<V: View>(machine: &V) -> bool
     ticking_between(machine, 0, machine.processors()).is_some()
 }
 
-/// The ready processors in ascending order: so many of the first places.
+/// Writes the ready processors into the first places, in ascending order. Returns how many there are.
 #[inline(always)]
-pub(crate) fn list_ready<V: View>(machine: &V) -> ([u8; 32], usize)
-    ensures places { take result.1 result.0 ≡ ready (V.state machine.now) }
-    ensures within { result.1 ≤ 32 }
-    ensures length { length result.0 ≡ 32 }
+pub(crate) fn list_ready<V: View>(machine: &V, places: &mut [u8; 32]) -> usize
+    ensures places { take result places.new ≡ ready (V.state machine.now) }
+    ensures within { result ≤ 32 }
+    ensures length { length places.new ≡ 32 }
 {
     machine.has_few_processors();
-    let mut places = [0; 32];
     let mut count = 0;
     for p in 0..machine.processors() {
         if is_ready(machine, p) {
@@ -112,7 +111,7 @@ pub(crate) fn list_ready<V: View>(machine: &V) -> ([u8; 32], usize)
             count += 1;
         }
     }
-    (places, count)
+    count
 }
 
 /// Whether no processor is ready, and none waits for its timer: until a key is typed or a byte is
