@@ -1,0 +1,5 @@
+mod Faults
+mod Numbers
+mod Serving
+mod Texts
+mod Words
