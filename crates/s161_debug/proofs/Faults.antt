@@ -13,7 +13,8 @@ use Rattle.s161_base.specs.declared.fault.Fault.{Fault}
 use Rattle.s161_base.specs.declared.fault.Fault.TheVariants.{Conf, File, Image, Input, Log, LogImage, LogMachine, Memory, Output, Schedule, Source, Threads, Watch, Watches, Word}
 use Rattle.s161_base.specs.Machines.{is_other, machine_fault}
 use Rattle.s161_base.specs.Texts.{IsLogFault}
-use Rattle.s161_debug.specs.helpers.Debugs.{BootFails, MachineFails}
+use Rattle.s161_debug.specs.Debugs.{IsMachineFault}
+use Rattle.s161_debug.specs.helpers.Debugs.{IsBootFault}
 
 -- Why a session isn't opened.
 
@@ -47,15 +48,15 @@ chosen P false true fault machine image is = absurd (cc)
 chosen P false false fault machine image is = let found : LogImage ≡ fault = cc in subst P found (image refl)
 
 pub refused : (IsBooted : MachineConf → Type 0) (asked : AskedSize) (file : List ℕ) (line : Option MachineLine) (fault : Fault) →
-    machine_fault asked file line ≡ Some fault → MachineFails asked file line IsBooted fault
+    machine_fault asked file line ≡ Some fault → IsMachineFault asked file line IsBooted fault
 refused IsBooted asked file None fault is = absurd (cc)
 refused IsBooted asked file (Some m) fault is =
-    chosen (MachineFails asked file (Some m) IsBooted) (is_other asked.ram m.ram || is_other asked.processors m.processors) (bytes_eq (sha256 file) m.digest) fault
+    chosen (IsMachineFault asked file (Some m) IsBooted) (is_other asked.ram m.ram || is_other asked.processors m.processors) (bytes_eq (sha256 file) m.digest) fault
     (λ e. e) (λ e. e) is
 
 -- the machine isn't booted
 pub not_booted : (IsBooted : MachineConf → Type 0) (asked : AskedSize) (file : List ℕ) (line : Option MachineLine) (conf : MachineConf) (fault : Fault) →
-    machine_fault asked file line ≡ None → IsBooted conf → BootFails file conf fault → MachineFails asked file line IsBooted fault
+    machine_fault asked file line ≡ None → IsBooted conf → IsBootFault file conf fault → IsMachineFault asked file line IsBooted fault
 not_booted IsBooted asked file line conf Conf none is h = (none, (conf, is, h))
 not_booted IsBooted asked file line conf (Image e) none is h = (none, (conf, is, h))
 not_booted IsBooted asked file line conf Memory none is h = tt

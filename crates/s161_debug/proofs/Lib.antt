@@ -1,5 +1,6 @@
 mod Faults
 mod Numbers
+mod Results
 mod Serving
 mod Texts
 mod Words

@@ -16,12 +16,11 @@ use Rattle.s161_command.specs.declared.task.DebugTask.{DebugTask}
 use Rattle.s161_command.specs.declared.task.Source.{Source}
 use Rattle.s161_command.specs.declared.task.Source.TheVariants as source
 use Rattle.s161_base.specs.declared.fault.Fault.{Fault}
-use Rattle.s161_base.specs.declared.fault.Fault.TheVariants.{Conf, File, Image, Log, LogImage, LogMachine, Memory, Schedule}
-use Rattle.s161_base.specs.declared.fault.Unread.{Unread}
+use Rattle.s161_base.specs.declared.fault.Fault.TheVariants.{Conf, Image, Log, LogImage, LogMachine, Memory, Schedule}
 use Rattle.s161_base.specs.Faults.{BootsTo}
 use Rattle.s161_base.specs.Known.{OfKnown, OfText}
 use Rattle.s161_base.specs.Machines.{NamesMachine, asked_conf, machine_fault}
-use Rattle.s161_base.specs.Reading.{IsOfBytes, IsOfText}
+use Rattle.s161_base.specs.Reading.{IsFileUnread, IsOfBytes, IsOfText}
 use Rattle.s161_base.specs.Samples.{IsFileName}
 use Rattle.s161_base.specs.Streams.{AreUntouched, Streams}
 use Rattle.s161_drive.specs.Driven.{AreKeys, IsKeysFile, rules_of}
@@ -72,17 +71,23 @@ ComesFrom (source.Driven drive) size files file events line =
     ((keys : List ℕ) × AreKeys drive.keys files keys × ChoseFrom file size drive keys events)
     × (line ≡ None)
 
--- the session of a task: its machine was booted, and these are its events; the files have these
--- bytes, and that of the image, as far as they are known
+-- a session's machine was booted from a file, and these are its events
+pub record IsOpened
+    (from : Source) (size : AskedSize) (files : List ℕ → Option (List ℕ)) (file : List ℕ)
+    (booted : History) (events : List Event) : Type 0 where
+  pub line : Option MachineLine
+  pub come : ComesFrom from size files file events line
+  pub is_that : machine_fault size file line ≡ None
+  pub boots : BootsTo file (asked_conf size line) booted
+
+-- the session of a task: its image's file was booted; the files have these bytes, and that of the
+-- image, as far as they are known
 pub record Opens
     (task : DebugTask) (files : List ℕ → Option (List ℕ)) (image : Option (List ℕ))
     (booted : History) (events : List Event) : Type 0 where
   pub file : List ℕ
   pub is_file : IfSome image (λ bytes. file ≡ bytes)
-  pub line : Option MachineLine
-  pub come : ComesFrom task.source task.size files file events line
-  pub is_that : machine_fault task.size file line ≡ None
-  pub boots : BootsTo file (asked_conf task.size line) booted
+  pub opened : IsOpened task.source task.size files file booted events
 
 -- a finished session
 pub record IsDebug
@@ -93,68 +98,53 @@ pub record IsDebug
   pub opens : Opens task files image booted events
   pub ends : Ends (session_of booted) events x
 
--- a fault is that of the file from which the events come, or from which the keys come
-abbrev pub IsSourceFile :
-    Source → (List ℕ → Option (List ℕ)) → List ℕ → Fault → Unread → Type 0
-IsSourceFile (source.File own) files name fault why =
-    (name ≡ own.now) × IsOfText (files own.now) why
-IsSourceFile (source.Driven drive) files name fault why = IsKeysFile drive.keys fault
+-- a text lists no events, by its first bad line; or memory was refused
+abbrev pub IsListFault : List ℕ → Fault → Type 0
+IsListFault text (Schedule n) = (is_log text ≡ false) × FirstBad AreScheduleLines text n
+IsListFault text (Log n) = (is_log text ≡ true) × IsFirstBadOfLog text n
+IsListFault text Memory = Unit {0}
+IsListFault text _ = ⊥
 
--- the events come from a text, which is so
-abbrev pub OfSourceText :
-    Source → (List ℕ → Option (List ℕ)) → (List ℕ → Type 0) → Type 0
-OfSourceText (source.File name) files IsSo = OfText (files name.now) IsSo
-OfSourceText (source.Driven drive) files IsSo = ⊥
+-- a file, in the size that is asked for, isn't the machine of a machine line; or it is, and isn't
+-- booted in one of these sizes; or memory was refused
+abbrev pub IsMachineFault :
+    AskedSize → List ℕ → Option MachineLine → (MachineConf → Type 0) → Fault → Type 0
+IsMachineFault size file line IsBooted LogMachine =
+    machine_fault size file line ≡ Some LogMachine
+IsMachineFault size file line IsBooted LogImage = machine_fault size file line ≡ Some LogImage
+IsMachineFault size file line IsBooted Conf =
+    (machine_fault size file line ≡ None)
+    × ((conf : MachineConf) × IsBooted conf × (is_within_limits conf ≡ false))
+IsMachineFault size file line IsBooted (Image e) =
+    (machine_fault size file line ≡ None)
+    × ((conf : MachineConf) × IsBooted conf × (boot_fault file conf ≡ Some (Load e)))
+IsMachineFault size file line IsBooted Memory = Unit {0}
+IsMachineFault size file line IsBooted _ = ⊥
 
--- the machine line of the text from which the events come, which has no fault; there is none of a
--- driven run
-abbrev pub HasLine : Source → (List ℕ → Option (List ℕ)) → Option MachineLine → Type 0
-HasLine (source.File name) files line =
-    OfText (files name.now) (λ text. (events : List Event) × Lists text events line)
-HasLine (source.Driven drive) files line = line ≡ None
+-- why a session isn't opened over an image's file. A text isn't read, or lists no events; or else
+-- the machine's fault. Or the keys of a driven run aren't read; or else a machine's fault, that of the
+-- run's or the session's
+abbrev pub IsSourceFault :
+    Source → AskedSize → (List ℕ → Option (List ℕ)) → List ℕ → Fault → Type 0
+IsSourceFault (source.File name) size files file fault =
+    IsFileUnread name (IsOfText (files name.now)) fault
+    ⊎ OfText (files name.now) (λ text. IsListFault text fault)
+    ⊎ OfText (files name.now) (λ text.
+    (events : List Event) × (line : Option MachineLine) × Lists text events line
+    × IsMachineFault size file line (λ conf. conf ≡ asked_conf size line) fault)
+IsSourceFault (source.Driven drive) size files file fault =
+    IsKeysFile drive.keys fault
+    ⊎ IsMachineFault size file None
+    (λ conf. (conf ≡ driven_conf size drive) ⊎ (conf ≡ asked_conf size None)) fault
 
--- this holds of the image's bytes and of the machine line
-abbrev pub OfInputs :
-    Source → (List ℕ → Option (List ℕ)) → Option (List ℕ) →
-    (List ℕ → Option MachineLine → Type 0) → Type 0
-OfInputs from files image IsSo =
-    OfKnown image (λ file. (line : Option MachineLine) × HasLine from files line × IsSo file line)
-
--- a machine of this size is booted: the session's, or that of the driven run before it
-abbrev pub IsBootConf : DebugTask → Option MachineLine → MachineConf → Type 0
-IsBootConf task line conf =
-    (conf ≡ asked_conf task.size line)
-    ⊎ ((drive : Drive) × (task.source ≡ source.Driven drive) × (conf ≡ driven_conf task.size drive))
-
--- what a fault before the session says of the inputs: of a file, that it is the image's, or the one
--- from which the events or the keys come; of a log or a schedule, its first bad line; then, that the
--- text has none, and that the machine isn't the one that the log names; of the configuration or the
--- image, that it is. File and Memory hold whatever else is at fault. The order in which files are
--- read is tested: the image's, then the other
+-- a fault before the session: memory was refused, whatever else is at fault; or the image's file
+-- isn't read; or the source's fault. The order in which files are read is tested: the image's, then
+-- that of the events or the keys
 abbrev pub IsEarlyFault :
     DebugTask → (List ℕ → Option (List ℕ)) → Option (List ℕ) → Fault → Type 0
-IsEarlyFault task files image (File name why) =
-    ((name.now ≡ task.image.now) × IsFileName task.image.now × IsOfBytes why)
-    ⊎ IsSourceFile task.source files name.now (File name why) why
-IsEarlyFault task files image (Schedule n) =
-    OfSourceText task.source files
-    (λ text. (is_log text ≡ false) × FirstBad AreScheduleLines text n)
-IsEarlyFault task files image (Log n) =
-    OfSourceText task.source files (λ text. (is_log text ≡ true) × IsFirstBadOfLog text n)
-IsEarlyFault task files image LogMachine =
-    OfInputs task.source files image
-    (λ file line. machine_fault task.size file line ≡ Some LogMachine)
-IsEarlyFault task files image LogImage =
-    OfInputs task.source files image
-    (λ file line. machine_fault task.size file line ≡ Some LogImage)
-IsEarlyFault task files image Conf =
-    OfInputs task.source files image (λ file line. (machine_fault task.size file line ≡ None)
-    × ((conf : MachineConf) × IsBootConf task line conf × (is_within_limits conf ≡ false)))
-IsEarlyFault task files image (Image e) =
-    OfInputs task.source files image (λ file line. (machine_fault task.size file line ≡ None)
-    × ((conf : MachineConf) × IsBootConf task line conf × (boot_fault file conf ≡ Some (Load e))))
-IsEarlyFault task files image Memory = Unit {0}
-IsEarlyFault task files image _ = ⊥
+IsEarlyFault task files image fault =
+    (fault ≡ Memory) ⊎ (IsFileUnread task.image IsOfBytes fault × IsFileName task.image.now)
+    ⊎ OfKnown image (λ file. IsSourceFault task.source task.size files file fault)
 
 -- a fault in the session
 abbrev pub FailsInSession :

@@ -1,15 +1,16 @@
 //! What a session's lines do.
 
-ghost use Rattle.std.specs.Prelude.{◌≡◌, IfOk, string_bytes};
+ghost use Rattle.std.specs.Prelude.{◌≡◌, ◌+◌, ◌≤◌, [], length, string_bytes, vec_capacity, IfNone, IfOk};
 ghost use Rattle.m161_debug.specs.Jumps.{jump_fault};
 ghost use Rattle.s161_debug.specs.Lines.{asked_by, error_line, name_of_jump_error, Does, DoesCommand, DoesJump, DoesJumpIf};
 ghost use Rattle.s161_debug.specs.helpers.Lines.{Jumped};
 
 use crate::Session;
 use crate::asked::{Asked, asked_by, event_of_jump};
-use crate::help::HELP;
+use crate::help::help;
 use crate::left::Left;
 use m161_debug::JumpError;
+use m161_machine::Event;
 use std::alloc::{AllocError, Global};
 use std::fmt::Write;
 
@@ -28,7 +29,7 @@ pub(crate) fn answer(
 {
     match asked_by(line) {
         Asked::Nothing | Asked::Quit => Ok(String::new(alloc)),
-        Asked::Help => String::from_str(alloc, HELP),
+        Asked::Help => String::from_str(alloc, help()),
         Asked::Jump => jump_if_asked(alloc, session, event_of_jump(line), left),
         Asked::Command => command(alloc, session, line, left),
     }
@@ -120,15 +121,27 @@ fn go_back(
         return Err(error);
     }
     let undone = session.machine().log_len() - k as usize;
-    let room = Vec::with_capacity(alloc, undone + left.as_slice().len())?;
+    let room = room_for(alloc, undone, left.as_slice().len())?;
     let undone = session.jump(alloc, k)?;
     left.put_before(&undone, room);
     Ok(())
 }
 
+// A list with room for so many events.
+fn room_for(alloc: Global, first: usize, others: usize) -> Result<Vec<Event>, AllocError>
+    ensures empty { IfOk result (λ events. events.items ≡ []) }
+    ensures room { IfOk result (λ events. first + others ≤ vec_capacity events) }
+{
+    match first.checked_add(others) {
+        Some(number) => Vec::with_capacity(alloc, number),
+        None => Err(AllocError),
+    }
+}
+
 // Why a session can't go to the state before event k.
 fn fault_of(session: &Session, k: u64) -> Option<JumpError>
-    ensures { result ≡ jump_fault k session.now.machine }
+    ensures fault { result ≡ jump_fault k session.now.machine }
+    ensures within { IfNone result (k ≤ length session.now.machine.log) }
 {
     let machine = session.machine();
     if k > machine.made() {

@@ -1,9 +1,10 @@
 //! The list of the commands.
 
 ghost use Rattle.std.specs.Prelude.{◌≡◌};
+ghost use Rattle.s161_debug.specs.Helps.{help_text};
 
-/// A line for each command, its forms first.
-pub(crate) const HELP: &str = "\
+// A line for each command, its forms first.
+const HELP: &str = "\
 b P ADDR                   sets a breakpoint of processor P
 d P ADDR                   deletes it
 s P | s P N                makes a Step of processor P; N Steps, up to a stop
@@ -26,3 +27,11 @@ l N                        the last N entries of the log
 help                       prints this
 quit                       ends
 ";
+
+/// The list of the commands.
+#[tactic(auto, unfolding(crate::specs::Helps::help_text))]
+pub(crate) fn help() -> &'static str
+    ensures { result.now ≡ help_text }
+{
+    HELP
+}

@@ -35,11 +35,13 @@ pub(crate) fn read_line<'a, I: Read>(
 {
     let mut bytes = Vec::new(alloc);
     for _byte in 0..LIMIT + 1 {
-        match read_byte(input)? {
-            Some(b'\n') => return Ok(Some(Line { bytes, ended: true })),
-            Some(byte) => bytes.extend_from_slice(&[byte])?,
-            None => return Ok(last_line(bytes)),
+        let Some(byte) = read_byte(input)? else {
+            return Ok(last_line(bytes));
+        };
+        if byte == b'\n' {
+            return Ok(Some(Line { bytes, ended: true }));
         }
+        bytes.extend_from_slice(&[byte])?;
     }
     Err(Fault::Input(Unread::TooLong))
 }

@@ -5,12 +5,12 @@ ghost use Rattle.m161_order.specs.Order.{order_fault};
 ghost use Rattle.m161_text.specs.Lines.{lines_of};
 ghost use Rattle.s161_command.specs.Commands.{HasSourceLimits};
 ghost use Rattle.s161_base.specs.Faults.{BootsTo};
-ghost use Rattle.s161_base.specs.Known.{OfText};
 ghost use Rattle.s161_base.specs.Machines.{asked_conf, machine_fault};
 ghost use Rattle.s161_base.specs.Samples.{image_file};
 ghost use Rattle.s161_base.specs.Texts.{IsLogFault, IsScheduleFault};
-ghost use Rattle.s161_debug.specs.Debugs.{driven_conf, first_plain, is_log, ChoseFrom, IsEarlyFault, Lists, ListsAs, Opens};
-ghost use Rattle.s161_debug.specs.helpers.Debugs.{BootFails, IsListFault, IsTextFault, MachineFails};
+ghost use Rattle.s161_command.specs.declared.task.Source.TheVariants as sources;
+ghost use Rattle.s161_debug.specs.Debugs.{driven_conf, first_plain, is_log, ChoseFrom, IsEarlyFault, IsListFault, IsMachineFault, IsOpened, IsSourceFault, Lists, ListsAs, Opens};
+ghost use Rattle.s161_debug.specs.helpers.Debugs.{IsBootFault};
 
 use m161::Machine;
 use m161_machine::{Conf, Event};
@@ -58,16 +58,63 @@ pub(crate) fn open<'a, F: FileSource>(
         (image_file (F.known files.old) task.entry.image.now)) }
 {
     let file = read_image(alloc, files, task.image)?;
-    match task.source {
-        Source::File(name) => {
-            let listed = read_events(alloc, files, name)?;
-            open_listed(alloc, &file, task.size, listed)
-        }
-        Source::Driven(drive) => {
-            let keys = read_keys(alloc, files, drive.keys)?;
-            open_driven(alloc, &file, task.size, drive, &keys)
-        }
+    open_image(alloc, files, file.as_slice(), task.size, task.source)
+}
+
+// Boots an image, with the events of a source.
+fn open_image<'a, F: FileSource>(
+    alloc: Global,
+    files: &mut F,
+    image: &[u8],
+    size: AskedSize,
+    source: Source<'a>,
+) -> Result<Opened, Fault<'a>>
+    requires { HasSourceLimits source }
+    ensures ok { IfOk result (λ opened. IsOpened source.entry size (F.known files.old) image.now
+        opened.machine opened.events.items) }
+    ensures fault { IfErr result (λ fault. (fault ≡ Fault.Memory)
+        ⊎ IsSourceFault source.entry size (F.known files.old) image.now fault) }
+{
+    match source {
+        Source::File(name) => open_file(alloc, files, image, size, name),
+        Source::Driven(drive) => open_driven(alloc, files, image, size, drive),
     }
+}
+
+// Boots an image, with the events of a file.
+fn open_file<'a, F: FileSource>(
+    alloc: Global,
+    files: &mut F,
+    image: &[u8],
+    size: AskedSize,
+    name: &'a str,
+) -> Result<Opened, Fault<'a>>
+    ensures ok { IfOk result (λ opened. IsOpened (sources.File name.entry) size (F.known files.old)
+        image.now opened.machine opened.events.items) }
+    ensures fault { IfErr result (λ fault. (fault ≡ Fault.Memory)
+        ⊎ IsSourceFault (sources.File name.entry) size (F.known files.old) image.now fault) }
+{
+    let text = read_text(alloc, files, name)?;
+    let listed = list_text(alloc, text.as_str())?;
+    open_listed(alloc, image, size, listed)
+}
+
+// Boots an image, with the events of a driven run.
+fn open_driven<'a, F: FileSource>(
+    alloc: Global,
+    files: &mut F,
+    image: &[u8],
+    size: AskedSize,
+    drive: Drive<'a>,
+) -> Result<Opened, Fault<'a>>
+    requires { order_fault drive.order ≡ None }
+    ensures ok { IfOk result (λ opened. IsOpened (sources.Driven drive.entry) size
+        (F.known files.old) image.now opened.machine opened.events.items) }
+    ensures fault { IfErr result (λ fault. (fault ≡ Fault.Memory)
+        ⊎ IsSourceFault (sources.Driven drive.entry) size (F.known files.old) image.now fault) }
+{
+    let keys = read_keys(alloc, files, drive.keys)?;
+    open_chosen(alloc, image, size, drive, &keys)
 }
 
 // Boots the machine that is asked for, if the log's machine line names no other.
@@ -80,7 +127,7 @@ fn open_listed<'a>(
     ensures ok { IfOk result (λ opened. (machine_fault size image.now listed.line ≡ None)
         × BootsTo image.now (asked_conf size listed.line) opened.machine
         × (opened.events ≡ listed.events)) }
-    ensures fault { IfErr result (MachineFails size image.now listed.line
+    ensures fault { IfErr result (IsMachineFault size image.now listed.line
         (λ conf. conf ≡ asked_conf size listed.line)) }
 {
     if let Some(fault) = machine_fault(size, image, listed.line) {
@@ -94,7 +141,7 @@ fn open_listed<'a>(
 }
 
 // Makes the driven run, and then boots the machine that is asked for.
-fn open_driven<'a>(
+fn open_chosen<'a>(
     alloc: Global,
     image: &[u8],
     size: AskedSize,
@@ -105,8 +152,8 @@ fn open_driven<'a>(
     ensures ok { IfOk result (λ opened.
         ChoseFrom image.now size drive.entry keys.now opened.events.items
         × BootsTo image.now (asked_conf size None) opened.machine) }
-    ensures fault { IfErr result (MachineFails size image.now None
-        (λ conf. (conf ≡ asked_conf size None) ⊎ (conf ≡ driven_conf size drive.entry))) }
+    ensures fault { IfErr result (IsMachineFault size image.now None
+        (λ conf. (conf ≡ driven_conf size drive.entry) ⊎ (conf ≡ asked_conf size None))) }
 {
     let events = drive_events(alloc, image, size, drive, keys)?;
     let machine = boot(alloc, image, asked_conf(size, None))?;
@@ -124,7 +171,7 @@ fn drive_events<'a>(
     requires { order_fault drive.order ≡ None }
     ensures ok { IfOk result (λ events.
         ChoseFrom image.now size drive.entry keys.now events.items) }
-    ensures fault { IfErr result (BootFails image.now (driven_conf size drive.entry)) }
+    ensures fault { IfErr result (IsBootFault image.now (driven_conf size drive.entry)) }
 {
     let conf = asked_conf(size, None);
     let log = log_for(conf.log, drive.events);
@@ -137,24 +184,10 @@ fn drive_events<'a>(
 // Boots an image.
 fn boot<'a>(alloc: Global, image: &[u8], conf: Conf) -> Result<Machine, Fault<'a>>
     ensures ok { IfOk result (BootsTo image.now conf) }
-    ensures fault { IfErr result (BootFails image.now conf) }
+    ensures fault { IfErr result (IsBootFault image.now conf) }
 {
     let machine = Machine::boot(alloc, image, conf)?;
     Ok(machine)
-}
-
-// Reads the file of a log or a schedule.
-fn read_events<'a, F: FileSource>(
-    alloc: Global,
-    files: &mut F,
-    name: &'a str,
-) -> Result<Listed, Fault<'a>>
-    ensures ok { IfOk result (λ listed. OfText (F.known files.old name.entry.now)
-        (λ text. Lists text listed.events.items listed.line)) }
-    ensures fault { IfErr result (IsTextFault name.entry (F.known files.old name.entry.now)) }
-{
-    let text = read_text(alloc, files, name)?;
-    list_text(alloc, text.as_str())
 }
 
 // The events of a text, which is a log or a schedule.

@@ -35,7 +35,8 @@ pub(crate) fn serve<'a, I: Read, O: Write>(
     let mut session = session;
     let mut left = left;
     for _line in 0..u64::MAX {
-        if !serve_line(alloc, &mut session, &mut left, input, output)? {
+        let goes_on = serve_line(alloc, &mut session, &mut left, input, output)?;
+        if !goes_on {
             return Ok(());
         }
     }
