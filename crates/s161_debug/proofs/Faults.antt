@@ -12,8 +12,10 @@ use Rattle.s161_command.specs.declared.task.AskedSize.{AskedSize}
 use Rattle.s161_base.specs.declared.fault.Fault.{Fault}
 use Rattle.s161_base.specs.declared.fault.Fault.TheVariants.{Conf, File, Image, Input, Log, LogImage, LogMachine, Memory, Output, Schedule, Source, Threads, Watch, Watches, Word}
 use Rattle.s161_base.specs.Machines.{is_other, machine_fault}
-use Rattle.s161_base.specs.Texts.{IsLogFault}
-use Rattle.s161_debug.specs.Debugs.{IsMachineFault}
+use Rattle.s161_base.specs.Faults.{fault_of_boot}
+use Rattle.s161_base.specs.Texts.{IsLogFault, IsScheduleFault}
+use Rattle.s161_base.proofs.Failing.{boot_failed, schedule_failed}
+use Rattle.s161_debug.specs.Debugs.{IsListFault, IsMachineFault, is_log}
 use Rattle.s161_debug.specs.helpers.Debugs.{IsBootFault}
 
 -- Why a session isn't opened.
@@ -36,6 +38,18 @@ log_failed P text LogMachine line memory h = absurd h
 log_failed P text LogImage line memory h = absurd h
 log_failed P text Output line memory h = absurd h
 log_failed P text (Source e) line memory h = absurd h
+
+pub log_unlisted : (text : List ℕ) (fault : Fault) → is_log text ≡ true → IsLogFault text fault → IsListFault text fault
+log_unlisted text fault is h = log_failed (IsListFault text) text fault (λ n bad. (is, bad)) tt h
+
+pub schedule_unlisted : (text : List ℕ) (fault : Fault) → is_log text ≡ false → IsScheduleFault text fault → IsListFault text fault
+schedule_unlisted text fault is h = schedule_failed (IsListFault text) text fault (λ n bad. (is, bad)) tt h
+
+-- an image isn't booted
+pub boot_refused : (file : List ℕ) (conf : MachineConf) (e : BootError) → Boots file conf (boot_fault file conf) (Err e) → IsBootFault file conf (fault_of_boot e)
+boot_refused file conf e h =
+    boot_failed (IsBootFault file conf) (Some file) conf file e refl (λ outside. outside)
+    (λ x has. subst (λ f. boot_fault f conf ≡ Some (Load x)) has.1 has.2) tt h
 
 -- the machine that is asked for isn't the one that a log names
 abbrev choice : Bool → Bool → Option Fault

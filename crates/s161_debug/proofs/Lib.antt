@@ -1,6 +1,8 @@
 mod Faults
+mod Jumping
 mod Numbers
+mod Passing
+mod Reading
 mod Results
-mod Serving
 mod Texts
 mod Words

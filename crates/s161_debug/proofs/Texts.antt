@@ -20,9 +20,9 @@ text_more [] line = append-nil (with_line_end line)
 text_more (first ∷ lines) line =
     ap (λ text. with_line_end first ++ text) (text_more lines line) ∙ sym (append_assoc (with_line_end first) (text_of lines) (with_line_end line))
 
-pub all_more : {P : List ℕ → Type 0} (lines : List (List ℕ)) (line : List ℕ) → AllByRecursion P lines → P line → AllByRecursion P (lines ++ line ∷ [])
-all_more [] line each last = (last, tt)
-all_more (first ∷ lines) line each last = (each.0, all_more lines line each.1 last)
+pub all_more : (P : List ℕ → Type 0) (lines : List (List ℕ)) (line : List ℕ) → AllByRecursion P lines → P line → AllByRecursion P (lines ++ line ∷ [])
+all_more P [] line each last = (last, tt)
+all_more P (first ∷ lines) line each last = (each.0, all_more P lines line each.1 last)
 
 -- a line that was read is one line
 pub one_line : (ended : Bool) (line : List ℕ) → Lacks 10 line → (ended ≡ false → 0 < length line) → lines_of (bytes_of ended line) ≡ line ∷ []

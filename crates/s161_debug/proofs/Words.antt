@@ -1,9 +1,21 @@
-use Rattle.std.proofs.Common.{◌≡◌, ℕ, List, [], ◌∷◌, refl, ap, arith, ne_eqb}
+use Rattle.std.proofs.Common.{◌≡◌, ℕ, ◌<◌, true, List, [], ◌∷◌, length, get_or, eqb, refl, ap, arith, ne_eqb}
 use Rattle.m161_text.specs.Parts.{◌␣◌, Lacks}
 use Rattle.m161_text.proofs.Parts.{rest_lacks}
 use Rattle.m161_debug.specs.Commands.{first_word}
+use Rattle.s161_debug.specs.Lines.{is_silent}
 
--- The first word of a line.
+-- What a line asks for.
+
+-- whether a line answers nothing, as the code tests it
+pub silent_empty : (line : List ℕ) → length line ≡ 0 → true ≡ is_silent line
+silent_empty [] none = refl
+silent_empty (b ∷ bs) none = absurd (omega (arith, none))
+
+pub silent_test : (line : List ℕ) → 0 < length line → is_silent line ≡ eqb (get_or line 0 0) 35
+silent_test [] some = absurd (omega (arith, some))
+silent_test (b ∷ bs) some = refl
+
+-- its first word
 
 pub first_word_alone : (line : List ℕ) → Lacks 32 line → line ≡ first_word line
 first_word_alone [] lacks = refl

@@ -1,4 +1,5 @@
 use Rattle.std.specs.Prelude.{◌≡◌, ℕ, ◌<◌, ◌^◌, Bool, true, ◌==◌, if◌then◌else◌, bytes_eq, List, [], ◌∷◌, ◌++◌, drop, Option, None, Some, Result, Ok, Err, Vec, codes, decimal}
+use Rattle.std.specs.Global.{Global}
 use Rattle.m161_machine.specs.declared.event.Event.{Event}
 use Rattle.m161_text.specs.Lines.{with_line_end}
 use Rattle.m161_text.specs.Parts.{◌␣◌, Reads}
@@ -68,12 +69,12 @@ name_of_jump_error jump.Dropped = codes "Dropped"
 name_of_jump_error jump.NoMemory = codes "NoMemory"
 
 -- the remaining events after a jump: those that are undone come again, before the others
-abbrev pub left_by_jump : Result (Vec Event) JumpError → List Event → List Event
+abbrev pub left_by_jump : Result (Vec Event Global) JumpError → List Event → List Event
 left_by_jump (Ok undone) events = undone.items ++ events
 left_by_jump (Err e) events = events
 
 -- what a jump prints
-abbrev pub jump_shown : ℕ → Result (Vec Event) JumpError → List ℕ
+abbrev pub jump_shown : ℕ → Result (Vec Event Global) JumpError → List ℕ
 jump_shown k (Ok undone) = with_line_end (codes "at" ␣ decimal k)
 jump_shown k (Err e) = error_line (name_of_jump_error e)
 
@@ -81,7 +82,7 @@ jump_shown k (Err e) = error_line (name_of_jump_error e)
 pub record DoesJump
     (k : ℕ) (s : SessionState) (events : List Event)
     (t : SessionState) (left : List Event) (printed : List ℕ) : Type 0 where
-  pub answer : Result (Vec Event) JumpError
+  pub answer : Result (Vec Event Global) JumpError
   pub jumps : Jumps (jump_fault k s.machine) k s answer t
   pub left_is : left ≡ left_by_jump answer events
   pub printed_is : printed ≡ jump_shown k answer

@@ -1,6 +1,6 @@
 //! What a session's lines do.
 
-ghost use Rattle.std.specs.Prelude.{◌≡◌, ◌+◌, ◌≤◌, [], length, string_bytes, vec_capacity, IfNone, IfOk};
+ghost use Rattle.std.specs.Prelude.{◌≡◌, ◌+◌, ◌-◌, ◌≤◌, [], length, string_bytes, vec_capacity, IfNone, IfOk};
 ghost use Rattle.m161_debug.specs.Jumps.{jump_fault};
 ghost use Rattle.s161_debug.specs.Lines.{asked_by, error_line, name_of_jump_error, Does, DoesCommand, DoesJump, DoesJumpIf};
 ghost use Rattle.s161_debug.specs.helpers.Lines.{Jumped};
@@ -73,12 +73,7 @@ fn jump_if_asked(
 }
 
 // Goes to the state before event k. Returns what that prints.
-fn jump(
-    alloc: Global,
-    session: &mut Session,
-    k: u64,
-    left: &mut Left,
-) -> Result<String, AllocError>
+fn jump(alloc: Global, session: &mut Session, k: u64, left: &mut Left) -> Result<String, AllocError>
     ensures { IfOk result (λ text. DoesJump k session.old left.old session.new left.new
         (string_bytes text)) }
 {
@@ -109,30 +104,27 @@ fn name_of(error: JumpError) -> &'static str
 
 // Goes to the state before event k, and puts the events that are undone before those that are left.
 // Room for all of them is taken first, since a jump can't be taken back.
-fn go_back(
-    alloc: Global,
-    session: &mut Session,
-    k: u64,
-    left: &mut Left,
-) -> Result<(), JumpError>
+fn go_back(alloc: Global, session: &mut Session, k: u64, left: &mut Left) -> Result<(), JumpError>
     ensures { Jumped k session.old left.old result session.new left.new }
 {
     if let Some(error) = fault_of(session, k) {
         return Err(error);
     }
-    let undone = session.machine().log_len() - k as usize;
-    let room = room_for(alloc, undone, left.as_slice().len())?;
+    let room = room_for(alloc, session, k, left)?;
     let undone = session.jump(alloc, k)?;
     left.put_before(&undone, room);
     Ok(())
 }
 
-// A list with room for so many events.
-fn room_for(alloc: Global, first: usize, others: usize) -> Result<Vec<Event>, AllocError>
+// A list with room for the events from event k on, and for those that are left.
+fn room_for(alloc: Global, session: &Session, k: u64, left: &Left) -> Result<Vec<Event>, AllocError>
+    requires { k ≤ length session.now.machine.log }
     ensures empty { IfOk result (λ events. events.items ≡ []) }
-    ensures room { IfOk result (λ events. first + others ≤ vec_capacity events) }
+    ensures room { IfOk result (λ events.
+        (length session.now.machine.log - k) + length left.now ≤ vec_capacity events) }
 {
-    match first.checked_add(others) {
+    let undone = session.machine().log_len() - k as usize;
+    match undone.checked_add(left.as_slice().len()) {
         Some(number) => Vec::with_capacity(alloc, number),
         None => Err(AllocError),
     }

@@ -43,7 +43,10 @@ pub(crate) fn asked_by(line: &str) -> Asked
 fn is_silent(line: &str) -> bool
     ensures { result ≡ is_silent line.now }
 {
-    line.is_empty() || line.starts_with('#')
+    if line.is_empty() {
+        return true;
+    }
+    line.starts_with('#')
 }
 
 // The part of a line before its first space.

@@ -8,11 +8,11 @@ ghost use Rattle.s161_debug.specs.Debugs.{IsDebug, IsDebugFault};
 
 use crate::Session;
 use crate::left::Left;
-use crate::opening::{Opened, open};
+use crate::opening::open;
 use crate::serving::serve;
+use s161_command::DebugTask;
 use s161_base::fault::Fault;
 use s161_base::files::FileSource;
-use s161_command::DebugTask;
 use std::alloc::Global;
 use std::io::{Read, Write};
 
@@ -43,8 +43,8 @@ pub fn debug<'a, F: FileSource, I: Read, O: Write>(
         (streams (I.remaining input.old) (I.remaining input.new) (O.contents output.old)
         (O.contents output.new))) }
 {
-    let Opened { machine, events } = open(alloc, files, task)?;
-    let session = Session::new(machine);
-    let left = Left::new(events);
+    let opened = open(alloc, files, task)?;
+    let session = Session::new(opened.machine);
+    let left = Left::new(opened.events);
     serve(alloc, session, left, input, output)
 }

@@ -41,8 +41,7 @@ impl Left {
     pub(crate) fn use_up(&mut self, number: usize)
         ensures { self.new ≡ drop number self.old }
     {
-        let left = self.events.len() - self.used;
-        self.used += number.min(left);
+        self.used = used_after(&self.events, self.used, number);
     }
 
     /// Puts events before them, into a list that has room for all.
@@ -53,6 +52,20 @@ impl Left {
     {
         self.events = joined(first, self.as_slice(), room);
         self.used = 0;
+    }
+}
+
+// How many events are used up once this number more are, or all.
+fn used_after(events: &[Event], used: usize, number: usize) -> usize
+    requires { used ≤ length events.now }
+    ensures within { result ≤ length events.now }
+    ensures left { drop result events.now ≡ drop number (drop used events.now) }
+{
+    let left = events.len() - used;
+    if number < left {
+        used + number
+    } else {
+        events.len()
     }
 }
 

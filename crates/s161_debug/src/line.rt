@@ -4,8 +4,8 @@
 ghost use Rattle.std.specs.Prelude.{◌≡◌, ◌<◌, [], false, length, IfErr, IfNone, IfOk, IfSome};
 ghost use Rattle.s161_debug.specs.helpers.Sessions.{IsUnfinished, ReadsLine};
 
-use s161_base::fault::{Fault, Unread};
 use s161_base::streams::read_byte;
+use s161_base::fault::{Fault, Unread};
 use std::alloc::Global;
 use std::io::Read;
 

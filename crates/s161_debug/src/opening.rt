@@ -1,6 +1,6 @@
 //! The machine and the events of a session.
 
-ghost use Rattle.std.specs.Prelude.{◌≡◌, ◌⊎◌, false, true, IfErr, IfOk, None};
+ghost use Rattle.std.specs.Prelude.{◌≡◌, ◌⊎◌, ◌≤◌, false, true, IfErr, IfOk, None};
 ghost use Rattle.m161_order.specs.Order.{order_fault};
 ghost use Rattle.m161_text.specs.Lines.{lines_of};
 ghost use Rattle.s161_command.specs.Commands.{HasSourceLimits};
@@ -12,6 +12,7 @@ ghost use Rattle.s161_command.specs.declared.task.Source.TheVariants as sources;
 ghost use Rattle.s161_debug.specs.Debugs.{driven_conf, first_plain, is_log, ChoseFrom, IsEarlyFault, IsListFault, IsMachineFault, IsOpened, IsSourceFault, Lists, ListsAs, Opens};
 ghost use Rattle.s161_debug.specs.helpers.Debugs.{IsBootFault};
 
+use crate::task::{DebugTask, Source};
 use m161::Machine;
 use m161_machine::{Conf, Event};
 use m161_steplog::{MachineLine, read_machine};
@@ -22,7 +23,7 @@ use s161_base::input::read_text;
 use s161_base::machines::{asked_conf, machine_fault};
 use s161_base::sample::read_image;
 use s161_base::texts::{entries_of, events_of};
-use s161_command::{AskedSize, DebugTask, Drive, Source};
+use s161_command::{AskedSize, Drive};
 use s161_drive::policy::read_keys;
 use s161_drive::schedule::{chosen_events, events_made, log_for};
 use std::alloc::Global;
@@ -126,7 +127,7 @@ fn open_listed<'a>(
 ) -> Result<Opened, Fault<'a>>
     ensures ok { IfOk result (λ opened. (machine_fault size image.now listed.line ≡ None)
         × BootsTo image.now (asked_conf size listed.line) opened.machine
-        × (opened.events ≡ listed.events)) }
+        × (opened.events.items ≡ listed.events.items)) }
     ensures fault { IfErr result (IsMachineFault size image.now listed.line
         (λ conf. conf ≡ asked_conf size listed.line)) }
 {
@@ -173,12 +174,24 @@ fn drive_events<'a>(
         ChoseFrom image.now size drive.entry keys.now events.items) }
     ensures fault { IfErr result (IsBootFault image.now (driven_conf size drive.entry)) }
 {
-    let conf = asked_conf(size, None);
-    let log = log_for(conf.log, drive.events);
-    let mut machine = boot(alloc, image, Conf { log, ..conf })?;
+    let conf = driven_conf(size, drive);
+    let mut machine = boot(alloc, image, conf)?;
     // So that the proof knows that the log has its room.
     machine.replay();
     chosen_events(alloc, &mut machine, drive, keys)
+}
+
+// The machine of a driven run.
+fn driven_conf(size: AskedSize, drive: Drive<'_>) -> Conf
+    ensures value { result ≡ driven_conf size drive.entry }
+    ensures room { 1 ≤ result.log → result.log ≤ 16_777_216 → drive.entry.events ≤ result.log }
+{
+    let conf = asked_conf(size, None);
+    Conf {
+        ram: conf.ram,
+        processors: conf.processors,
+        log: log_for(size.log, drive.events),
+    }
 }
 
 // Boots an image.

@@ -9,8 +9,8 @@ use crate::Session;
 use crate::answer::answer;
 use crate::left::Left;
 use crate::line::{Line, read_line};
-use s161_base::fault::{Fault, Unread};
 use s161_base::streams::send;
+use s161_base::fault::{Fault, Unread};
 use std::alloc::Global;
 use std::io::{Read, Write};
 

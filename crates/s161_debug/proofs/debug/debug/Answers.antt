@@ -1,22 +1,36 @@
-use Rattle.std.proofs.Common.{◌≡◌, inl, inr, refl, subst, sym}
+use Rattle.std.proofs.Common.{◌≡◌, inl, inr, refl, subst, sym, List}
 use Rattle.std.proofs.lemmas.Result.{err_from_is_err_and}
+use Rattle.m161_machine.specs.declared.event.Event.{Event}
+use Rattle.m161_debug.specs.Breakpoints.{SessionState}
+use Rattle.s161_base.specs.Streams.{streams}
+use Rattle.s161_debug.specs.Sessions.{Breaks, Ends}
 use Rattle.s161_debug.proofs.Results.{if_err, on_ok}
 use Rattle.s161_debug.proofs.debug.debug.Goals as goal
 
-pub returns-in_err-clause-fault : goal.returns-in_err-clause-fault
-returns-in_err-clause-fault g c =
+pub returns-in_err-opened-clause-fault : goal.returns-in_err-opened-clause-fault
+returns-in_err-opened-clause-fault g c =
     let made = err_from_is_err_and c.from_residual.result c.from_residual.ensures.1 in
-    rw (made.1, made.2) (inl (c.in_err.ensures.fault, (refl, refl)))
+    rw (made.1, made.2) (inl (c.in_err-opened.ensures.fault, (refl, refl)))
 
 pub returns-clause-ok : goal.returns-clause-ok
 returns-clause-ok g c =
+    let opened = c.in_ok-opened.opened in
+    let x = streams (g.I.Read.remaining c.args.input.now) (g.I.Read.remaining c.serve.new.input) (g.O.Write.contents c.args.output.now) (g.O.Write.contents c.serve.new.output) in
+    let S : SessionState → Type 0 = λ s. Ends s opened.events.items x in
+    let L : List Event → Type 0 = λ left. Ends c.new-session.result left x in
     on_ok c.serve.result (λ ends. record {
-      booted = c.in_ok.machine;
-      events = c.in_ok.events.items;
-      opens = c.in_ok.ensures.ok;
-      ends = ends;
+      booted = opened.machine;
+      events = opened.events.items;
+      opens = c.in_ok-opened.ensures.ok;
+      ends = subst S c.new-session.ensures (subst L c.new-left.ensures ends);
     }) c.serve.ensures.ok
 
 pub returns-clause-fault : goal.returns-clause-fault
 returns-clause-fault g c =
-    if_err c.serve.result (λ fault breaks. inr (c.in_ok.machine, c.in_ok.events.items, c.in_ok.ensures.ok, breaks)) c.serve.ensures.err
+    let opened = c.in_ok-opened.opened in
+    let x = streams (g.I.Read.remaining c.args.input.now) (g.I.Read.remaining c.serve.new.input) (g.O.Write.contents c.args.output.now) (g.O.Write.contents c.serve.new.output) in
+    if_err c.serve.result (λ fault breaks.
+    let S : SessionState → Type 0 = λ s. Breaks s opened.events.items x fault in
+    let L : List Event → Type 0 = λ left. Breaks c.new-session.result left x fault in
+    inr (opened.machine, opened.events.items, c.in_ok-opened.ensures.ok, subst S c.new-session.ensures (subst L c.new-left.ensures breaks)))
+    c.serve.ensures.err

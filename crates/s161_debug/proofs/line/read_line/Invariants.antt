@@ -8,5 +8,5 @@ abbrev pub invariant-loop-byte : goal.invariant-loop-byte
 invariant-loop-byte g l = record {
   are_read : Consumes (g.I.Read.remaining l.fn.input) (g.I.Read.remaining l.input) l.bytes.items;
   lacks : Lacks 10 l.bytes.items;
-  many : length l.bytes.items ≡ l.byte;
+  many : length l.bytes.items ≡ l._byte;
 }

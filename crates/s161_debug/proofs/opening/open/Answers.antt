@@ -7,7 +7,7 @@ use Rattle.s161_debug.proofs.opening.open.Goals as goal
 
 pub returns-in_err-file-clause-fault : goal.returns-in_err-file-clause-fault
 returns-in_err-file-clause-fault g c =
-    let made = err_from_is_err_and c.from_residual-in_err-file.result c.from_residual-in_err-file.ensures.1 in
+    let made = err_from_is_err_and c.from_residual.result c.from_residual.ensures.1 in
     rw (made.1, made.2) (elim c.in_err-file.ensures.err [
       | inl is ↦ inl is
       | inr x ↦ inr (inl x)
@@ -16,7 +16,7 @@ returns-in_err-file-clause-fault g c =
 pub returns-clause-ok : goal.returns-clause-ok
 returns-clause-ok g c =
     let known = g.F.FileSource.known c.args.files.now in
-    let same : g.F.FileSource.known c.read_image-file.new.files ≡ known = λ i other. c.in_ok-file.ensures.still other i in
+    let same : g.F.FileSource.known c.read_image.new.files ≡ known = λ i other. c.in_ok-file.ensures.still other i in
     let P : List ℕ → Type 0 = λ file. IfSome (image_file known c.args.task.image.now) (λ bytes. file ≡ bytes) in
     if_ok c.open_image.result (λ opened is. record {
       file = c.as_slice.result.now;
@@ -27,7 +27,7 @@ returns-clause-ok g c =
 pub returns-clause-fault : goal.returns-clause-fault
 returns-clause-fault g c =
     let known = g.F.FileSource.known c.args.files.now in
-    let same : g.F.FileSource.known c.read_image-file.new.files ≡ known = λ i other. c.in_ok-file.ensures.still other i in
+    let same : g.F.FileSource.known c.read_image.new.files ≡ known = λ i other. c.in_ok-file.ensures.still other i in
     let P : List ℕ → Type 0 = λ file. IfSome (image_file known c.args.task.image.now) (λ bytes. file ≡ bytes) in
     let is_file = subst P (sym c.as_slice.ensures.value) c.in_ok-file.ensures.whole in
     if_err c.open_image.result (λ fault h. elim h [

@@ -1,5 +1,5 @@
 use Rattle.s161_debug.specs.helpers.Sessions.{place}
-use Rattle.s161_debug.proofs.Serving.{Serving}
+use Rattle.s161_debug.proofs.Passing.{Serving}
 use Rattle.s161_debug.proofs.serving.serve.Given as goal
 
 -- the session so far

@@ -48,7 +48,10 @@ parts true false is = (refl, refl)
 parts true true is = absurd (cc)
 parts false b is = absurd (cc)
 
--- the last line has no end, or is `quit`
+unended : (ended : Bool) → false ≡ (ended && true) → ended ≡ false
+unended true is = absurd (cc)
+unended false is = refl
+
 module _ (s : SessionState) (events : List Event) (input before left : Option (List ℕ)) (p : Place)
     (so_far : Serving s events input before left p) where
   abbrev bytes : List ℕ
@@ -96,9 +99,9 @@ module _ (s : SessionState) (events : List Event) (input before left : Option (L
     goes_on : ended ≡ true → bytes_eq line (codes "quit") ≡ false → Answers line p q Appends → Serving s events input before l q
     goes_on is other x = record {
       lines = so_far.lines ++ line ∷ [];
-      are_lines = all_more so_far.lines line so_far.are_lines lacks;
+      are_lines = all_more (Lacks 10) so_far.lines line so_far.are_lines lacks;
       are_passed =
-          all_more so_far.lines line so_far.are_passed
+          all_more IsPassed so_far.lines line so_far.are_passed
           (x.utf8, λ same. let bad : false ≡ true = sym other ∙ (bytes_eq-Decides line (codes "quit")).1 same in absurd (cc));
       are_read =
           subst (Consumes input l) (sym (text_more so_far.lines line))
@@ -116,9 +119,8 @@ module _ (s : SessionState) (events : List Event) (input before left : Option (L
     last_here true is utf8 ends =
         inr (so_far.lines, so_far.are_passed, lines_here ∙ ap (λ x. so_far.lines ++ x ∷ []) ((bytes_eq-Decides line (codes "quit")).0 is))
     last_here false is utf8 ends =
-        let unended : ended ≡ false = cc in
         let passed : IsPassed line = (utf8, λ same. let bad : false ≡ true = sym is ∙ (bytes_eq-Decides line (codes "quit")).1 same in absurd (cc)) in
-        inl (subst (AllByRecursion IsPassed) (sym lines_here) (all_more so_far.lines line so_far.are_passed passed), (last unended).1)
+        inl (subst (AllByRecursion IsPassed) (sym lines_here) (all_more IsPassed so_far.lines line so_far.are_passed passed), (last (unended ended ends)).1)
 
     ends_here : false ≡ (ended && not (bytes_eq line (codes "quit"))) → Answers line p q Appends → Ends s events (streams input l before q.output)
     ends_here is x = record {
