@@ -12,7 +12,6 @@ ghost use Rattle.s161_command.specs.declared.task.Source.TheVariants as sources;
 ghost use Rattle.s161_debug.specs.Debugs.{driven_conf, first_plain, is_log, ChoseFrom, IsEarlyFault, IsListFault, IsMachineFault, IsOpened, IsSourceFault, Lists, ListsAs, Opens};
 ghost use Rattle.s161_debug.specs.helpers.Debugs.{IsBootFault};
 
-use crate::task::{DebugTask, Source};
 use m161::Machine;
 use m161_machine::{Conf, Event};
 use m161_steplog::{MachineLine, read_machine};
@@ -23,7 +22,7 @@ use s161_base::input::read_text;
 use s161_base::machines::{asked_conf, machine_fault};
 use s161_base::sample::read_image;
 use s161_base::texts::{entries_of, events_of};
-use s161_command::{AskedSize, Drive};
+use s161_command::{AskedSize, DebugTask, Drive, Source};
 use s161_drive::policy::read_keys;
 use s161_drive::schedule::{chosen_events, events_made, log_for};
 use std::alloc::Global;
