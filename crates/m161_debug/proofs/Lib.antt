@@ -1,6 +1,9 @@
 mod Sets
 mod Going
 mod Asked
+mod Parts
 mod Numerals
 mod Obeying
 mod Decimals
+mod Fetching
+mod Repeating

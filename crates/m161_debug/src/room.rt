@@ -151,6 +151,10 @@ pub(crate) fn put_stop(text: &mut String, stop: Stop)
             put(text, "off ");
             put_decimal(text, k as u64);
         }
+        Stop::Until(k) => {
+            put(text, "until ");
+            put_decimal(text, k as u64);
+        }
         Stop::End(n) => {
             put(text, "end ");
             put_decimal(text, n as u64);

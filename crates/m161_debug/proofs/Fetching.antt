@@ -1,0 +1,15 @@
+-- Words that a processor would fetch.
+use Rattle.std.proofs.Common.{◌≡◌, ◌∙◌, ℕ, ◌+◌, ◌<◌, ◌≤◌, Bool, true, false, ◌&&◌, List, [], ◌∷◌, ◌++◌, ap, arith, length, refl}
+use Rattle.std.specs.List.{list_all, range_with_len}
+use Rattle.std.proofs.lemmas.List.Folds.{list_all-append, list_all_at}
+use Rattle.std.proofs.lemmas.List.FromFn.{length-range_with_len, get_or-range_with_len}
+use Rattle.m161_display.proofs.Shown.{range_more}
+
+-- one more passes
+pub passes_more : (test : ℕ → Bool) (n : ℕ) → list_all test (range_with_len 0 n) ≡ true → test n ≡ true → list_all test (range_with_len 0 (n + 1)) ≡ true
+passes_more test n before here = ap (list_all test) (range_more n) ∙ list_all-append test (range_with_len 0 n) (n ∷ []) ∙ rw (before, here) refl
+
+-- one doesn't
+pub fails_at : (test : ℕ → Bool) (n i : ℕ) → i < n → test i ≡ false → list_all test (range_with_len 0 n) ≡ false
+fails_at test n i lt here =
+    list_all_at test (range_with_len 0 n) i 0 (omega (arith, lt, length-range_with_len 0 n)) (ap test (get_or-range_with_len 0 n i 0 lt) ∙ here)
