@@ -7,14 +7,14 @@ mod code;
 mod cop0;
 mod fetched;
 mod memory;
-mod places;
 mod regs;
+mod started;
 mod tlb;
 
 pub use code::show_code;
 pub use cop0::show_cop0;
 pub use fetched::show_fetched;
 pub use memory::show_mem;
-pub use places::show_where;
 pub use regs::show_regs;
+pub use started::show_where;
 pub use tlb::show_tlb;

@@ -2,7 +2,7 @@ use Rattle.std.proofs.Common.{◌≡◌, ◌∙◌, ◌++◌, ap, flat_map, leng
 use Rattle.std.specs.List.{range_with_len}
 use Rattle.m161_display.specs.Shows.{show_where_text, where_text}
 use Rattle.m161_display.proofs.Shown.{each_more}
-use Rattle.m161_display.proofs.places.show_where.Goals as goal
+use Rattle.m161_display.proofs.started.show_where.Goals as goal
 
 pub loop-p-preserved : goal.loop-p-preserved
 loop-p-preserved g c =

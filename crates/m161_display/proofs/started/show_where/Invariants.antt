@@ -1,7 +1,7 @@
 use Rattle.std.proofs.Common.{◌≡◌, flat_map, string_bytes}
 use Rattle.std.specs.List.{range_with_len}
 use Rattle.m161_display.specs.Shows.{where_text}
-use Rattle.m161_display.proofs.places.show_where.Given as goal
+use Rattle.m161_display.proofs.started.show_where.Given as goal
 
 abbrev pub invariant-loop-p : goal.invariant-loop-p
 invariant-loop-p g l =
