@@ -1,11 +1,19 @@
 -- What a line asks for.
-use Rattle.std.proofs.Common.{◌≡◌, ℕ, List, [], ◌∷◌, refl, sym, ap, subst, arith, ne_eqb, Option, None, Some, Result}
+use Rattle.std.proofs.Common.{◌≡◌, ◌∙◌, ℕ, List, [], ◌∷◌, refl, sym, ap, subst, arith, codes, ne_eqb, Option, None, Some, Result, Err}
 use Rattle.m161_text.specs.Parts.{◌␣◌, Lacks}
 use Rattle.m161_text.proofs.Parts.{rest_lacks}
+use Rattle.m161_machine.specs.declared.event.Event.TheVariants as events
+use Rattle.m161_debug.specs.declared.command.Area.TheVariants.{Memory, Code}
+use Rattle.m161_debug.specs.declared.command.Change.{Change}
+use Rattle.m161_debug.specs.declared.command.Change.TheVariants.{Set, Delete}
 use Rattle.m161_debug.specs.declared.command.Command.{Command}
+use Rattle.m161_debug.specs.declared.command.Command.TheVariants.{Breakpoint, Make, Steps, Go, GoFirst, Until, Show, Where, Words, Fetched, Log}
 use Rattle.m161_debug.specs.declared.command.CommandError.{CommandError}
+use Rattle.m161_debug.specs.declared.command.CommandError.TheVariants.{BadArgument}
+use Rattle.m161_debug.specs.declared.command.Display.TheVariants.{Regs, Cop0, Tlb}
 use Rattle.m161_debug.specs.declared.condition.Condition.{Condition}
-use Rattle.m161_debug.specs.Commands.{arguments_of, first_word, IsAsked, IsAskedOf, IsCondition, IsConditionOf}
+use Rattle.m161_debug.specs.declared.condition.Condition.TheVariants as conditions
+use Rattle.m161_debug.specs.Commands.{arguments_of, change_word, condition_word, first_word, word_of, AreNumbers, AreParts, HasArguments, IsAddress, IsAsked, IsAskedOf, IsCondition, IsConditionOf, IsConditionWith, IsNumber}
 use Rattle.m161_debug.specs.helpers.Reading.{Finds}
 
 first_word_alone : (line : List ℕ) → Lacks 32 line → first_word line ≡ line
@@ -61,3 +69,157 @@ condition_cut line word rest r cut finds =
 
 pub condition_alone : (line : List ℕ) (r : Option Condition) → Lacks 32 line → Finds (λ c text. IsConditionOf line None c) line r → Finds IsCondition line r
 condition_alone line r lacks finds = both_sides r (λ c is. alone_is (λ w a. IsConditionOf w a c) line lacks is) (back_alone line lacks) finds
+
+-- `s` with what is neither a processor nor a processor and a number
+pub no_steps : (text : List ℕ) → Finds IsNumber text None → Finds AreNumbers text None → IsAskedOf (codes "s") (Some text) (Err BadArgument)
+no_steps text one two = (λ unknown. unknown.1.1.0 refl, λ command is. by command is.0 is.1)
+  where
+    by : (command : Command) → word_of command ≡ codes "s" → HasArguments command text → ⊥
+    by (Breakpoint Set p address) word is = absurd (cc)
+    by (Breakpoint Delete p address) word is = absurd (cc)
+    by (Make (events.Step p)) word is = one.none p is
+    by (Make (events.Key byte)) word is = absurd (cc)
+    by (Make events.Done) word is = absurd is
+    by (Steps p n) word is = two.none (p, n) is
+    by Go word is = absurd is
+    by (GoFirst n) word is = absurd (cc)
+    by (Until condition) word is = absurd (cc)
+    by (Show Regs p) word is = absurd (cc)
+    by (Show Cop0 p) word is = absurd (cc)
+    by (Show Tlb p) word is = absurd (cc)
+    by Where word is = absurd is
+    by (Words Memory address n) word is = absurd (cc)
+    by (Words Code address n) word is = absurd (cc)
+    by (Fetched address n p) word is = absurd (cc)
+    by (Log n) word is = absurd (cc)
+
+-- `b` with what is no processor and address
+pub no_break : (text : List ℕ) → Finds (AreParts IsNumber IsAddress) text None → IsAskedOf (codes "b") (Some text) (Err BadArgument)
+no_break text none = (λ unknown. unknown.0 refl, λ command is. by command is.0 is.1)
+  where
+    by : (command : Command) → word_of command ≡ codes "b" → HasArguments command text → ⊥
+    by (Breakpoint Set p address) word is = none.none (p, address) is
+    by (Breakpoint Delete p address) word is = absurd (cc)
+    by (Make (events.Step p)) word is = absurd (cc)
+    by (Make (events.Key byte)) word is = absurd (cc)
+    by (Make events.Done) word is = absurd is
+    by (Steps p n) word is = absurd (cc)
+    by Go word is = absurd is
+    by (GoFirst n) word is = absurd (cc)
+    by (Until condition) word is = absurd (cc)
+    by (Show Regs p) word is = absurd (cc)
+    by (Show Cop0 p) word is = absurd (cc)
+    by (Show Tlb p) word is = absurd (cc)
+    by Where word is = absurd is
+    by (Words Memory address n) word is = absurd (cc)
+    by (Words Code address n) word is = absurd (cc)
+    by (Fetched address n p) word is = absurd (cc)
+    by (Log n) word is = absurd (cc)
+
+-- and `d`
+pub no_delete : (text : List ℕ) → Finds (AreParts IsNumber IsAddress) text None → IsAskedOf (codes "d") (Some text) (Err BadArgument)
+no_delete text none = (λ unknown. unknown.1.0 refl, λ command is. by command is.0 is.1)
+  where
+    by : (command : Command) → word_of command ≡ codes "d" → HasArguments command text → ⊥
+    by (Breakpoint Set p address) word is = absurd (cc)
+    by (Breakpoint Delete p address) word is = none.none (p, address) is
+    by (Make (events.Step p)) word is = absurd (cc)
+    by (Make (events.Key byte)) word is = absurd (cc)
+    by (Make events.Done) word is = absurd is
+    by (Steps p n) word is = absurd (cc)
+    by Go word is = absurd is
+    by (GoFirst n) word is = absurd (cc)
+    by (Until condition) word is = absurd (cc)
+    by (Show Regs p) word is = absurd (cc)
+    by (Show Cop0 p) word is = absurd (cc)
+    by (Show Tlb p) word is = absurd (cc)
+    by Where word is = absurd is
+    by (Words Memory address n) word is = absurd (cc)
+    by (Words Code address n) word is = absurd (cc)
+    by (Fetched address n p) word is = absurd (cc)
+    by (Log n) word is = absurd (cc)
+
+-- `m` with what is no address and number
+pub no_memory : (text : List ℕ) → Finds (AreParts IsAddress IsNumber) text None → IsAskedOf (codes "m") (Some text) (Err BadArgument)
+no_memory text none = (λ unknown. unknown.1.1.1.1.1.1.1.1.1.0 refl, λ command is. by command is.0 is.1)
+  where
+    by : (command : Command) → word_of command ≡ codes "m" → HasArguments command text → ⊥
+    by (Breakpoint Set p address) word is = absurd (cc)
+    by (Breakpoint Delete p address) word is = absurd (cc)
+    by (Make (events.Step p)) word is = absurd (cc)
+    by (Make (events.Key byte)) word is = absurd (cc)
+    by (Make events.Done) word is = absurd is
+    by (Steps p n) word is = absurd (cc)
+    by Go word is = absurd is
+    by (GoFirst n) word is = absurd (cc)
+    by (Until condition) word is = absurd (cc)
+    by (Show Regs p) word is = absurd (cc)
+    by (Show Cop0 p) word is = absurd (cc)
+    by (Show Tlb p) word is = absurd (cc)
+    by Where word is = absurd is
+    by (Words Memory address n) word is = none.none (address, n) is
+    by (Words Code address n) word is = absurd (cc)
+    by (Fetched address n p) word is = absurd (cc)
+    by (Log n) word is = absurd (cc)
+
+-- `x` with what is neither this, nor an address, a number and a processor
+pub no_code : (text : List ℕ) → Finds (AreParts IsAddress IsNumber) text None → Finds (AreParts IsAddress AreNumbers) text None → IsAskedOf (codes "x") (Some text) (Err BadArgument)
+no_code text none more = (λ unknown. unknown.1.1.1.1.1.1.1.1.1.1.0 refl, λ command is. by command is.0 is.1)
+  where
+    by : (command : Command) → word_of command ≡ codes "x" → HasArguments command text → ⊥
+    by (Breakpoint Set p address) word is = absurd (cc)
+    by (Breakpoint Delete p address) word is = absurd (cc)
+    by (Make (events.Step p)) word is = absurd (cc)
+    by (Make (events.Key byte)) word is = absurd (cc)
+    by (Make events.Done) word is = absurd is
+    by (Steps p n) word is = absurd (cc)
+    by Go word is = absurd is
+    by (GoFirst n) word is = absurd (cc)
+    by (Until condition) word is = absurd (cc)
+    by (Show Regs p) word is = absurd (cc)
+    by (Show Cop0 p) word is = absurd (cc)
+    by (Show Tlb p) word is = absurd (cc)
+    by Where word is = absurd is
+    by (Words Memory address n) word is = absurd (cc)
+    by (Words Code address n) word is = none.none (address, n) is
+    by (Fetched address n p) word is = more.none (address, (n, p)) is
+    by (Log n) word is = absurd (cc)
+
+pub no_change : (change : Change) (text : List ℕ) → Finds (AreParts IsNumber IsAddress) text None → IsAskedOf (change_word change) (Some text) (Err BadArgument)
+no_change Set text none = no_break text none
+no_change Delete text none = no_delete text none
+
+-- conditions whose arguments aren't read
+
+abbrev NoCondition : List ℕ → List ℕ → Type 0
+NoCondition word text = Finds (λ condition arguments. IsConditionOf word (Some arguments) condition) text None
+
+pub no_word_of_memory : (word text : List ℕ) → word ≡ codes "m" → Finds IsAddress text None → NoCondition word text
+no_word_of_memory word text same none = record { found = tt; none = λ condition is. by condition (is.0 ∙ same) is.1 }
+  where
+    by : (condition : Condition) → condition_word condition ≡ codes "m" → IsConditionWith condition (Some text) → ⊥
+    by (conditions.Memory address) w is = none.none address is
+    by (conditions.Trap p) w is = absurd (cc)
+    by (conditions.Register p r) w is = absurd (cc)
+    by (conditions.Row p i) w is = absurd (cc)
+    by conditions.Output w is = absurd is
+
+pub no_register : (word text : List ℕ) → word ≡ codes "r" → Finds AreNumbers text None → NoCondition word text
+no_register word text same none = record { found = tt; none = λ condition is. by condition (is.0 ∙ same) is.1 }
+  where
+    by : (condition : Condition) → condition_word condition ≡ codes "r" → IsConditionWith condition (Some text) → ⊥
+    by (conditions.Memory address) w is = absurd (cc)
+    by (conditions.Trap p) w is = absurd (cc)
+    by (conditions.Register p r) w is = none.none (p, r) is
+    by (conditions.Row p i) w is = absurd (cc)
+    by conditions.Output w is = absurd is
+
+pub no_row : (word text : List ℕ) → word ≡ codes "i" → Finds AreNumbers text None → NoCondition word text
+no_row word text same none = record { found = tt; none = λ condition is. by condition (is.0 ∙ same) is.1 }
+  where
+    by : (condition : Condition) → condition_word condition ≡ codes "i" → IsConditionWith condition (Some text) → ⊥
+    by (conditions.Memory address) w is = absurd (cc)
+    by (conditions.Trap p) w is = absurd (cc)
+    by (conditions.Register p r) w is = absurd (cc)
+    by (conditions.Row p i) w is = none.none (p, i) is
+    by conditions.Output w is = absurd is

@@ -132,23 +132,24 @@ ends aw bs m n es k all made no_stop = record {
 
 -- a run that waits for what never holds
 
+same_made : (b : Bool) (k : ℕ) (t : State) (f g : State → Stop × State) → ((u : State) → f u ≡ g u) → (if b then (Off k, t) else f t) ≡ (if b then (Off k, t) else g t)
+same_made true k t f g same = refl
+same_made false k t f g same = same t
+
 same_after : (k : ℕ) (s : State) (e : Event) (x : Result (Outcome × State) Refusal) (f g : State → Stop × State) → ((t : State) → f t ≡ g t)
     → wait_after never k s e x f ≡ stop_after k s x g
 same_after k s e (Err refusal) f g same = refl
-same_after k s e (Ok r) f g same = by (is_power_off r.0)
-  where
-    by : (b : Bool) → (if b then (Off k, r.1) else f r.1) ≡ (if b then (Off k, r.1) else g r.1)
-    by true = refl
-    by false = same r.1
+same_after k s e (Ok r) f g same = same_made (is_power_off r.0) k r.1 f g same
+
+same_event : (b : Bool) (k : ℕ) (s : State) (e : Event) (x : Result (Outcome × State) Refusal) (f g : State → Stop × State) → ((t : State) → f t ≡ g t)
+    → (if b then (Break k, s) else wait_after never k s e x f) ≡ (if b then (Break k, s) else stop_after k s x g)
+same_event true k s e x f g same = refl
+same_event false k s e x f g same = same_after k s e x f g same
 
 pub waits_for_nothing : (bs : List Breakpoint) (k : ℕ) (s : State) (es : List Event) → wait_from never bs k s es ≡ stop_from bs k s es
 waits_for_nothing bs k s [] = refl
-waits_for_nothing bs k s (e ∷ es) = by (nat_lt 0 k && is_break bs s e)
-  where
-    by : (b : Bool) → (if b then (Break k, s) else wait_after never k s e (next s e) (λ t. wait_from never bs (k + 1) t es))
-        ≡ (if b then (Break k, s) else stop_after k s (next s e) (λ t. stop_from bs (k + 1) t es))
-    by true = refl
-    by false = same_after k s e (next s e) (λ t. wait_from never bs (k + 1) t es) (λ t. stop_from bs (k + 1) t es) (λ t. waits_for_nothing bs (k + 1) t es)
+waits_for_nothing bs k s (e ∷ es) =
+    same_event (nat_lt 0 k && is_break bs s e) k s e (next s e) (λ t. wait_from never bs (k + 1) t es) (λ t. stop_from bs (k + 1) t es) (λ t. waits_for_nothing bs (k + 1) t es)
 
 -- stops by definitions that agree
 pub stops_alike : (f g : ℕ → State → List Event → Stop × State) (m n : History) (es : List Event) (stop : Stop) →

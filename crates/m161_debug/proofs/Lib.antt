@@ -7,3 +7,5 @@ mod Obeying
 mod Decimals
 mod Fetching
 mod Repeating
+mod Jumping
+mod Marking

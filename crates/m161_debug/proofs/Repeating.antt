@@ -1,14 +1,15 @@
 -- Events of a log that are made again.
 use Rattle.std.proofs.Common.{◌≡◌, ◌∙◌, refl, sym, ap, subst, ℕ, zero, suc, ◌+◌, ◌-◌, ◌<◌, ◌≤◌, List, [], ◌∷◌, ◌++◌, length, map, take, drop, replicate, get_or, slice_get, Option, None, Some, Result, Ok, Err, arith}
 use Rattle.std.specs.List.{take-map, drop-map}
-use Rattle.std.proofs.lemmas.List.{at_drop_more, drop-drop, drop-take, length-drop, length-take, length-map, replicate-append-replicate, take-append-drop, take-replicate, take-take, take_more}
+use Rattle.std.proofs.lemmas.List.{at_drop_more, drop-append-le, drop-drop, drop_all, get_or-drop, get_or-map, length-drop, length-map, length-take, replicate-append-replicate, take-append-drop, take-replicate, take-take, take_all, take_more}
+use Rattle.std.proofs.lemmas.Option.{get_or_from_slice_get, slice_get-get_or}
 use Rattle.m161_cpu.specs.declared.processor.Outcome.{Outcome}
 use Rattle.m161_machine.specs.declared.event.Event.{Event}
 use Rattle.m161_machine.specs.declared.event.Event.TheVariants.{Step}
 use Rattle.m161_machine.specs.declared.event.Entry.{Entry}
 use Rattle.m161_machine.specs.declared.event.Refusal.{Refusal}
 use Rattle.m161_machine.specs.State.{State, next}
-use Rattle.m161_machine.specs.History.{Answers, Continues, Ends, History, Leads, events_of}
+use Rattle.m161_machine.specs.History.{Answers, Continues, Ends, History, Leads, entry, events_of}
 use Rattle.m161_machine.proofs.Continuing.{continues_on}
 use Rattle.m161_machine.proofs.Leading.{leads_split}
 use Rattle.m161_debug.specs.helpers.Repeat.{Repeats}
@@ -91,3 +92,68 @@ event_repeats log t first e old new leads within here run =
       again = subst (λ es. Continues old es new) (sym here) run;
       rest = subst (λ l. Leads new.state l t) (drop-drop 1 first log) (leads_after (drop first log) 1 (e ∷ []) old new t leads run (sym (ap (take 1) (sym same) ∙ here)));
     }
+
+-- an event that was accepted
+pub event_made : (old new : History) (e : Event) (o : Outcome) → Answers old e (Ok o) new → Continues old (e ∷ []) new
+event_made old new e o answer = record {
+  entries = entry e o ∷ [];
+  events_are = refl;
+  run_is = (new.state, answer.0, refl);
+  slides = answer.1;
+}
+
+-- the events of entries, one by one
+
+event_at : (log : List Entry) (i : ℕ) (x : Entry) → i < length log → slice_get log i ≡ Some x → get_or (events_of log) i x.event ≡ x.event
+event_at log i x lt here = get_or-map (λ (e : Entry). e.event) log i x x.event lt ∙ ap (λ (e : Entry). e.event) (get_or_from_slice_get log i x x here)
+
+pub event_got : (log : List Entry) (i : ℕ) (x : Entry) → i < length log → slice_get log i ≡ Some x → slice_get (events_of log) i ≡ Some x.event
+event_got log i x lt here =
+    slice_get-get_or (events_of log) i x.event (omega (arith, lt, length-map log (λ (e : Entry). e.event))) ∙ ap (λ e. Some e) (event_at log i x lt here)
+
+pub none_kept : (log : List Entry) (first : ℕ) → [] ≡ drop first (take first (events_of log))
+none_kept log first = sym (drop_all first (take first (events_of log)) (omega (arith, length-take first (events_of log))))
+
+pub kept_more : (log : List Entry) (first i : ℕ) (x : Entry) → first ≤ i → i < length log → slice_get log i ≡ Some x
+    → drop first (take (i + 1) (events_of log)) ≡ drop first (take i (events_of log)) ++ x.event ∷ []
+kept_more log first i x le lt here =
+    let long : i < length (events_of log) = omega (arith, lt, length-map log (λ (e : Entry). e.event)) in
+    ap (drop first) (take_more (events_of log) i x.event long ∙ ap (λ e. take i (events_of log) ++ e ∷ []) (event_at log i x lt here))
+    ∙ drop-append-le first (take i (events_of log)) (x.event ∷ []) (omega (arith, long, le, length-take i (events_of log)))
+
+pub all_kept : (log : List Entry) (first i : ℕ) → length log ≤ i → drop first (take i (events_of log)) ≡ drop first (events_of log)
+all_kept log first i le = ap (drop first) (take_all i (events_of log) (omega (arith, le, length-map log (λ (e : Entry). e.event))))
+
+-- a run of the same event, from a place on
+
+first_of : (es : List Event) (k : ℕ) (e : Event) → k < length es → slice_get es k ≡ Some e → drop k es ≡ e ∷ drop (k + 1) es
+first_of es k e lt here = at_drop_more (λ l. l) es k e lt ∙ ap (λ x. x ∷ drop (k + 1) es) (get_or_from_slice_get es k e e here)
+
+pub run_of_one : (log : List Entry) (first : ℕ) (e : Event) → first < length log → slice_get (events_of log) first ≡ Some e → take 1 (drop first (events_of log)) ≡ e ∷ []
+run_of_one log first e lt here = ap (take 1) (first_of (events_of log) first e (omega (arith, lt, length-map log (λ (x : Entry). x.event))) here)
+
+pub run_more : (log : List Entry) (first last : ℕ) (e : Event) → first ≤ last → last < length log → slice_get (events_of log) last ≡ Some e
+    → take (last - first) (drop first (events_of log)) ≡ replicate (last - first) e → take (last + 1 - first) (drop first (events_of log)) ≡ replicate (last + 1 - first) e
+run_more log first last e le lt here so_far =
+    let es = drop first (events_of log) in
+    let long : last < length (events_of log) = omega (arith, lt, length-map log (λ (x : Entry). x.event)) in
+    let n : last + 1 - first ≡ (last - first) + 1 = omega (arith, le) in
+    let back : first + (last - first) ≡ last = omega (arith, le) in
+    let inside : last - first < length es = omega (arith, long, le, length-drop first (events_of log)) in
+    let got : get_or es (last - first) e ≡ e = get_or-drop first (events_of log) (last - first) e ∙ ap (λ i. get_or (events_of log) i e) back ∙ get_or_from_slice_get (events_of log) last e e here in
+    ap (λ k. take k es) n ∙ take_more es (last - first) e inside ∙ (λ i. so_far i ++ got i ∷ [])
+    ∙ replicate-append-replicate (last - first) 1 e ∙ ap (λ k. replicate k e) (sym n)
+
+-- more of a log's events are made again
+pub repeats_on : (log : List Entry) (t : State) (made n : ℕ) (m old new : History) → Continues m (take made (events_of log)) old → Repeats log t made n old new
+    → Continues m (take (made + n) (events_of log)) new
+repeats_on log t made n m old new before r =
+    let P : List Event → Type 0 = λ es. Continues m es new in
+    subst P (taken made n (events_of log)) (continues_on m old new (take made (events_of log)) (take n (drop made (events_of log))) before r.again)
+  where
+    taken : (i n : ℕ) (es : List Event) → take i es ++ take n (drop i es) ≡ take (i + n) es
+    taken zero n es = ap (λ k. take k es) (let same : n ≡ 0 + n = omega arith in same)
+    taken (suc i) n [] = cc
+    taken (suc i) n (e ∷ es) =
+        let same : suc (i + n) ≡ suc i + n = omega arith in
+        ap (λ l. e ∷ l) (taken i n es) ∙ ap (λ k. take k (e ∷ es)) same

@@ -1,4 +1,5 @@
 use Rattle.std.specs.Prelude.{◌≡◌, ℕ, nat_lt, if◌then◌else◌, List, length, take, drop, Option, None, Some, Result, Ok, Err, Vec}
+use Rattle.std.specs.declared.alloc.Global.{Global}
 use Rattle.m161_machine.specs.declared.event.Event.{Event}
 use Rattle.m161_machine.specs.History.{Continues, History, events_of, history_at_boot}
 use Rattle.m161_debug.specs.declared.jump.JumpError.{JumpError}
@@ -25,7 +26,7 @@ pub record JumpsTo (k : ℕ) (s : SessionState) (undone : List Event) (t : Sessi
 -- the result, by the first reason not to: that; or without one the events that are undone, or that
 -- memory was refused. After an error the session is as it was
 abbrev pub Jumps :
-    Option JumpError → ℕ → SessionState → Result (Vec Event) JumpError → SessionState → Type 0
+    Option JumpError → ℕ → SessionState → Result (Vec Event Global) JumpError → SessionState → Type 0
 Jumps (Some fault) k s (Ok undone) t = ⊥
 Jumps (Some fault) k s (Err e) t = (e ≡ fault) × (t ≡ s)
 Jumps None k s (Ok undone) t = JumpsTo k s undone.items t

@@ -15,7 +15,7 @@ pub(crate) enum Batch<'a> {
 impl<'a> Batch<'a> {
     /// How many they are.
     pub(crate) fn len(self) -> usize
-        ensures { result ≡ length (events_in self) }
+        ensures { result ≡ length (events_in self.entry) }
     {
         match self {
             Batch::Listed(events) => events.len(),
@@ -26,7 +26,7 @@ impl<'a> Batch<'a> {
     /// The event of a place.
     pub(crate) fn at(self, k: usize) -> Event
         requires { k < length (events_in self) }
-        ensures { slice_get (events_in self) k ≡ Some result }
+        ensures { slice_get (events_in self.entry) k ≡ Some result }
     {
         match self {
             Batch::Listed(events) => events[k],

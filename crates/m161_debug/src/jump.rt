@@ -76,7 +76,7 @@ pub(crate) fn repeat<T: Tlb, D: Console>(
     again: &mut Machine<T, D>,
     number: usize,
 ) -> Result<(), AllocError>
-    requires { number ≤ length past.now.log }
+    requires inside { number ≤ length past.now.log }
     requires before { Leads again.old.state past.now.log past.now.state }
     ensures { OnOk result (Continues again.old (take number (events_of past.now.log)) again.new) }
 {
@@ -106,11 +106,27 @@ fn repeat_next<T: Tlb, D: Console>(
     match past.log_at(first).event {
         Event::Step(p) => Ok(repeat_steps(past, again, p, first, end)),
         event => {
-            if again.event(event).is_err() {
-                return Err(AllocError);
-            }
+            repeat_event(past, again, event, first)?;
             Ok(1)
         }
+    }
+}
+
+// Makes the event of a place again.
+fn repeat_event<T: Tlb, D: Console>(
+    past: &Machine<T, D>,
+    again: &mut Machine<T, D>,
+    event: Event,
+    first: usize,
+) -> Result<(), AllocError>
+    requires inside { first < length past.now.log }
+    requires event { slice_get (events_of past.now.log) first ≡ Some event }
+    requires before { Leads again.old.state (drop first past.now.log) past.now.state }
+    ensures { OnOk result (Repeats past.now.log past.now.state first 1 again.old again.new) }
+{
+    match again.event(event) {
+        Ok(_) => Ok(()),
+        Err(_) => Err(AllocError),
     }
 }
 

@@ -1,6 +1,6 @@
 //! Whether the arguments of a command are within its limits.
 
-ghost use Rattle.std.specs.Prelude.{◌≡◌, ◌+◌, ◌*◌, ◌^◌, ◌<◌, ◌≤◌, length};
+ghost use Rattle.std.specs.Prelude.{◌≡◌, ◌+◌, ◌*◌, ◌^◌, ◌<◌, ◌≤◌, ◌&&◌, nat_le, length};
 ghost use Rattle.m161_debug.specs.Conditions.{has_processor, is_of_kind};
 ghost use Rattle.m161_debug.specs.Obeys.{is_fetched, is_span};
 
@@ -9,6 +9,9 @@ use crate::mark::physical_of;
 use m161_bus::Console;
 use m161_machine::Machine;
 use m161_tlb::Tlb;
+
+/// The most Steps that one command makes.
+const MOST_STEPS: u32 = 1_000_000;
 
 /// Whether a condition is of this kind of machine, whatever its processor.
 pub(crate) fn is_of_kind<T: Tlb, D: Console>(machine: &Machine<T, D>, condition: Condition) -> bool
@@ -43,6 +46,13 @@ pub(crate) fn is_span(address: u32, n: u32) -> bool
     ensures { result ≡ is_span address n }
 {
     1 <= n && n <= 1024 && address % 4 == 0
+}
+
+/// Whether one command makes so many Steps.
+pub(crate) fn is_number_of_steps(n: u32) -> bool
+    ensures { result ≡ (nat_le 1 n && nat_le n 1000000) }
+{
+    1 <= n && n <= MOST_STEPS
 }
 
 /// Whether a processor would fetch a word at each of `n` places from an address on; none of them is

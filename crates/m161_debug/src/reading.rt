@@ -1,6 +1,6 @@
 //! Reading the parts of a command.
 
-ghost use Rattle.std.specs.Prelude.{◌<◌, ◌≤◌, ◌≡◌, ◌^◌, length, true, false, get_or};
+ghost use Rattle.std.specs.Prelude.{◌<◌, ◌≤◌, ◌≡◌, ◌↔◌, ◌^◌, ℕ, length, true, false, get_or};
 ghost use Rattle.std.specs.Str.Parse.{AllDigits};
 ghost use Rattle.m161_text.specs.Parts.{Reads, hex_digit, hex_text};
 ghost use Rattle.m161_debug.specs.Commands.{AreNumbers, AreParts, IsAddress, IsByteText, IsCount, IsDecimal, IsHex, IsNumber};
@@ -56,15 +56,24 @@ fn digits_of(text: &str) -> &str
     }
 }
 
+// Whether a text has one to eight bytes.
+fn is_short(text: &str) -> bool
+    ensures yes { result ≡ true → (1 ≤ length text.now) × (length text.now ≤ 8) }
+    ensures no { result ≡ false → 1 ≤ length text.now → length text.now ≤ 8 → ⊥ }
+{
+    1 <= text.len() && text.len() <= 8
+}
+
 /// An address.
 pub(crate) fn address(text: &str) -> Option<u32>
     ensures { Finds IsAddress text.now result }
 {
     let digits = digits_of(text);
-    if digits.is_empty() || digits.len() > 8 {
-        return None;
+    if is_short(digits) {
+        parse_hex(digits.as_bytes())
+    } else {
+        None
     }
-    parse_hex(digits.as_bytes())
 }
 
 /// Two numbers.

@@ -286,9 +286,9 @@ impl<T: Tlb, D: Console> Session<T, D> {
     fn run(&mut self, condition: Option<Condition>, events: Batch<'_>) -> Stop
         requires { IfSome condition (λ c. is_watchable c self.old.machine.state ≡ true) }
         ensures stop { StopsBy (wait_from (holds_if condition self.old.machine.state)
-            self.old.breakpoints) self.old.machine (events_in events) result self.new.machine }
+            self.old.breakpoints) self.old.machine (events_in events.entry) result self.new.machine }
         ensures breakpoints { self.new.breakpoints ≡ self.old.breakpoints }
-        ensures within { used_by result ≤ length (events_in events) }
+        ensures within { used_by result ≤ length (events_in events.entry) }
     {
         self.machine.replay();
         let mark = mark_of(&self.machine, condition);
@@ -325,6 +325,8 @@ impl<T: Tlb, D: Console> Session<T, D> {
         if let Some(fault) = jump_fault(&self.machine, k) {
             return Err(fault);
         }
+        // So that the proof knows what a log begins with that has all events.
+        self.machine.replay();
         let undone = events_from(alloc, &self.machine, k as usize)?;
         self.machine = booted_again(alloc, &self.machine, k as usize)?;
         Ok(undone)

@@ -11,7 +11,7 @@ ghost use Rattle.m161_debug.specs.Obeys.{area_text, condition_fault, display_tex
 use crate::breakpoints::Breakpoint;
 use crate::command::{Area, Change, Command, CommandError, Display, command_of};
 use crate::condition::Condition;
-use crate::limits::{are_fetched, has_processor, is_of_kind, is_span};
+use crate::limits::{are_fetched, has_processor, is_number_of_steps, is_of_kind, is_span};
 use crate::mark::physical_of;
 use crate::room::{put, put_event, put_outcome, put_refusal, put_stop};
 use crate::session::Session;
@@ -25,9 +25,6 @@ use std::fmt::Write;
 
 /// The longest line that a run or an event prints, with its end.
 const LONGEST: usize = 64;
-
-/// The most Steps that one command makes.
-const MOST_STEPS: u32 = 1_000_000;
 
 impl<T: Tlb, D: Console> Session<T, D> {
     /// Does a command and appends what it prints; `rest` are the remaining events of a schedule.
@@ -164,7 +161,7 @@ impl<T: Tlb, D: Console> Session<T, D> {
         ensures { (rest : List Event) → Obeys (Ok (commands.Steps p n)) self.old rest result
             self.new (string_bytes text.old) (string_bytes text.new) }
     {
-        if n < 1 || n > MOST_STEPS {
+        if !is_number_of_steps(n) {
             return Err(CommandError::BadArgument);
         }
         text.reserve(LONGEST)?;

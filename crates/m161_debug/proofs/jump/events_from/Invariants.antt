@@ -6,5 +6,6 @@ use Rattle.m161_debug.proofs.jump.events_from.Given as goal
 abbrev pub invariant-loop-i : goal.invariant-loop-i
 invariant-loop-i g l = record {
   items : l.events.items ≡ drop l.first (take l.i (events_of l.machine.log));
+  number : length l.events.items + l.first ≡ l.i;
   room : length l.machine.log ≤ vec_capacity l.events + l.first;
 }

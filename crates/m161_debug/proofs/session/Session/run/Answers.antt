@@ -1,30 +1,13 @@
-use Rattle.std.proofs.Common.{◌≡◌, ◌∙◌, ◌≤◌, ap, subst, refl, length, get_or, arith, rules}
-use Rattle.m161_machine.specs.declared.event.Event.TheVariants as events
+use Rattle.std.proofs.Common.{◌≡◌, ◌∙◌, ◌≤◌, ◌&&◌, ap, false, nat_lt, sym, true, subst, refl, length, arith, rules}
 use Rattle.m161_machine.specs.History.{History}
-use Rattle.m161_debug.proofs.Going.{Passes, refused, goes_on, made_more, switches_off}
 use Rattle.m161_machine.proofs.Continuing.{continues_none}
-use Rattle.m161_debug.proofs.session.Session.go.Goals as goal
-use Rattle.m161_debug.proofs.session.Session.go.Goals.{else-k-gt0-via-then-k-gt0+else-is_at_break, else-k-gt0-via-else-k-gt0}
-
-pub returns-in-Err-clause-stop : goal.returns-in-Err-clause-stop
-returns-in-Err-clause-stop g c =
-    let passes : Passes c.args.self.now.breakpoints c.loop-k.k c.loop-k.self.machine.state (get_or c.args.events.now c.loop-k.k (events.Step 0)) = elim c.else-k-gt0.branch [
-      | else-k-gt0-via-then-k-gt0+else-is_at_break w ↦ search rules
-      | else-k-gt0-via-else-k-gt0 w ↦ search rules
-    ] in
-    refused _ _ _ _ _ _ _ _ (omega arith) c.loop-k.invariant.made c.loop-k.invariant.no_stop passes c.in-Err.ensures.answers
-
-pub loop-k-preserved : goal.loop-k-preserved
-loop-k-preserved g c =
-    let passes : Passes c.args.self.now.breakpoints c.loop-k.k c.loop-k.self.machine.state (get_or c.args.events.now c.loop-k.k (events.Step 0)) = elim c.else-k-gt0.branch [
-      | else-k-gt0-via-then-k-gt0+else-is_at_break w ↦ search rules
-      | else-k-gt0-via-else-k-gt0 w ↦ search rules
-    ] in
-    record {
-      made = made_more _ _ _ _ _ _ _ (omega arith) c.loop-k.invariant.made c.in-Ok.ensures.answers;
-      no_stop = goes_on _ c.args.self.now.machine c.loop-k.self.machine c.step.new.self.machine _ _ _ _ (omega arith) c.loop-k.invariant.no_stop passes c.in-Ok.ensures.answers (search rules);
-      same = c.in-Ok.ensures.breakpoints ∙ c.loop-k.invariant.same;
-    }
+use Rattle.m161_debug.specs.Conditions.{holds_if}
+use Rattle.m161_debug.specs.Stops.{is_break}
+use Rattle.m161_debug.specs.helpers.Batch.{events_in}
+use Rattle.m161_debug.proofs.Going.{breaks, ends, goes_on, made_more, refused, switches_off, waits_no_more, IsAt, Passes}
+use Rattle.m161_debug.proofs.Marking.{found_by, stays_mark}
+use Rattle.m161_debug.proofs.session.Session.run.Goals as goal
+use Rattle.m161_debug.proofs.session.Session.run.Goals.{else-k-gt0-via-then-k-gt0+else-is_at_break, else-k-gt0-via-else-k-gt0}
 
 pub loop-k-init : goal.loop-k-init
 loop-k-init g c =
@@ -36,11 +19,56 @@ loop-k-init g c =
       same = refl;
     }
 
-pub returns-then-eq-clause-stop : goal.returns-then-eq-clause-stop
-returns-then-eq-clause-stop g c =
-    let passes : Passes c.args.self.now.breakpoints c.loop-k.k c.loop-k.self.machine.state (get_or c.args.events.now c.loop-k.k (events.Step 0)) = elim c.else-k-gt0.branch [
+pub returns-then-is_at_break-clause-stop : goal.returns-then-is_at_break-clause-stop
+returns-then-is_at_break-clause-stop g c =
+    let at : IsAt (events_in c.args.events) c.loop-k.k c.at.result = (omega arith, c.at.ensures) in
+    let here : (nat_lt 0 c.loop-k.k && is_break c.args.self.now.breakpoints c.loop-k.self.machine.state c.at.result) ≡ true = search rules in
+    breaks _ _ _ c.loop-k.self.machine _ _ _ at c.loop-k.invariant.made c.loop-k.invariant.no_stop here
+
+pub returns-in-Err-clause-stop : goal.returns-in-Err-clause-stop
+returns-in-Err-clause-stop g c =
+    let at : IsAt (events_in c.args.events) c.loop-k.k c.at.result = (omega arith, c.at.ensures) in
+    let passes : Passes c.args.self.now.breakpoints c.loop-k.k c.loop-k.self.machine.state c.at.result = elim c.else-k-gt0.branch [
       | else-k-gt0-via-then-k-gt0+else-is_at_break w ↦ search rules
       | else-k-gt0-via-else-k-gt0 w ↦ search rules
     ] in
-    switches_off _ c.args.self.now.machine c.loop-k.self.machine c.step.new.self.machine _ _ _ _ (omega arith) c.loop-k.invariant.made c.loop-k.invariant.no_stop passes
+    refused _ _ _ _ _ _ _ _ _ at c.loop-k.invariant.made c.loop-k.invariant.no_stop passes c.in-Err.ensures.answers
+
+pub returns-then-eq-clause-stop : goal.returns-then-eq-clause-stop
+returns-then-eq-clause-stop g c =
+    let at : IsAt (events_in c.args.events) c.loop-k.k c.at.result = (omega arith, c.at.ensures) in
+    let passes : Passes c.args.self.now.breakpoints c.loop-k.k c.loop-k.self.machine.state c.at.result = elim c.else-k-gt0.branch [
+      | else-k-gt0-via-then-k-gt0+else-is_at_break w ↦ search rules
+      | else-k-gt0-via-else-k-gt0 w ↦ search rules
+    ] in
+    switches_off _ _ c.args.self.now.machine c.loop-k.self.machine c.step.new.self.machine _ _ _ _ at c.loop-k.invariant.made c.loop-k.invariant.no_stop passes
     c.in-Ok.ensures.answers (search rules)
+
+pub is_met-requires : goal.is_met-requires
+is_met-requires g c = stays_mark c.mark_of-mark.result c.args.self.now.machine c.loop-k.self.machine c.step.new.self.machine _ c.at.result c.in-Ok.outcome c.mark_of-mark.ensures.sound c.loop-k.invariant.made c.in-Ok.ensures.answers
+
+pub returns-then-is_met-clause-stop : goal.returns-then-is_met-clause-stop
+returns-then-is_met-clause-stop g c =
+    let at : IsAt (events_in c.args.events) c.loop-k.k c.at.result = (omega arith, c.at.ensures) in
+    let passes : Passes c.args.self.now.breakpoints c.loop-k.k c.loop-k.self.machine.state c.at.result = elim c.else-k-gt0.branch [
+      | else-k-gt0-via-then-k-gt0+else-is_at_break w ↦ search rules
+      | else-k-gt0-via-else-k-gt0 w ↦ search rules
+    ] in
+    let found = found_by c.args.condition c.args.self.now.machine.state c.mark_of-mark.result c.at.result c.in-Ok.outcome c.step.new.self.machine.state c.is_met.result c.mark_of-mark.ensures.value c.is_met.ensures in
+    let met : c.is_met.result ≡ true = search rules in
+    waits_no_more _ _ c.args.self.now.machine c.loop-k.self.machine c.step.new.self.machine _ _ _ _ at c.loop-k.invariant.made c.loop-k.invariant.no_stop passes c.in-Ok.ensures.answers (search rules) (found ∙ met)
+
+pub loop-k-preserved : goal.loop-k-preserved
+loop-k-preserved g c =
+    let at : IsAt (events_in c.args.events) c.loop-k.k c.at.result = (omega arith, c.at.ensures) in
+    let passes : Passes c.args.self.now.breakpoints c.loop-k.k c.loop-k.self.machine.state c.at.result = elim c.else-k-gt0.branch [
+      | else-k-gt0-via-then-k-gt0+else-is_at_break w ↦ search rules
+      | else-k-gt0-via-else-k-gt0 w ↦ search rules
+    ] in
+    let found = found_by c.args.condition c.args.self.now.machine.state c.mark_of-mark.result c.at.result c.in-Ok.outcome c.step.new.self.machine.state c.is_met.result c.mark_of-mark.ensures.value c.is_met.ensures in
+    let unmet : c.is_met.result ≡ false = search rules in
+    record {
+      made = made_more _ _ _ _ _ _ _ at c.loop-k.invariant.made c.in-Ok.ensures.answers;
+      no_stop = goes_on _ _ c.args.self.now.machine c.loop-k.self.machine c.step.new.self.machine _ _ _ _ at c.loop-k.invariant.no_stop passes c.in-Ok.ensures.answers (search rules) (found ∙ unmet);
+      same = c.in-Ok.ensures.breakpoints ∙ c.loop-k.invariant.same;
+    }

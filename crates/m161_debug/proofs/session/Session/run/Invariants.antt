@@ -7,7 +7,7 @@ use Rattle.m161_debug.proofs.session.Session.run.Given as goal
 
 abbrev pub invariant-loop-k : goal.invariant-loop-k
 invariant-loop-k g l =
-    let awaited = holds_if l.condition l.initial.self.machine.state in
+    let awaited = holds_if l.fn.condition l.initial.self.machine.state in
     record {
       made : Continues l.initial.self.machine (take l.k (events_in l.events)) l.self.machine;
       no_stop : wait_from awaited l.initial.self.breakpoints 0 l.initial.self.machine.state (events_in l.events)
