@@ -1,5 +1,5 @@
 -- What a line asks for.
-use Rattle.std.proofs.Common.{◌≡◌, ◌∙◌, ℕ, List, [], ◌∷◌, refl, sym, ap, subst, arith, codes, ne_eqb, Option, None, Some, Result, Err}
+use Rattle.std.proofs.Common.{◌≡◌, ◌∙◌, ℕ, List, [], ◌∷◌, refl, sym, ap, subst, arith, codes, get_or, ne_eqb, Option, None, Some, Result, Err}
 use Rattle.m161_text.specs.Parts.{◌␣◌, Lacks}
 use Rattle.m161_text.proofs.Parts.{rest_lacks}
 use Rattle.m161_machine.specs.declared.event.Event.TheVariants as events
@@ -75,23 +75,23 @@ pub no_steps : (text : List ℕ) → Finds IsNumber text None → Finds AreNumbe
 no_steps text one two = (λ unknown. unknown.1.1.0 refl, λ command is. by command is.0 is.1)
   where
     by : (command : Command) → word_of command ≡ codes "s" → HasArguments command text → ⊥
-    by (Breakpoint Set p address) word is = absurd (cc)
-    by (Breakpoint Delete p address) word is = absurd (cc)
+    by (Breakpoint Set p address) word is = omega (arith, ap (λ ds. get_or ds 0 0) word)
+    by (Breakpoint Delete p address) word is = omega (arith, ap (λ ds. get_or ds 0 0) word)
     by (Make (events.Step p)) word is = one.none p is
-    by (Make (events.Key byte)) word is = absurd (cc)
+    by (Make (events.Key byte)) word is = omega (arith, ap (λ ds. get_or ds 0 0) word)
     by (Make events.Done) word is = absurd is
     by (Steps p n) word is = two.none (p, n) is
     by Go word is = absurd is
-    by (GoFirst n) word is = absurd (cc)
-    by (Until condition) word is = absurd (cc)
-    by (Show Regs p) word is = absurd (cc)
-    by (Show Cop0 p) word is = absurd (cc)
-    by (Show Tlb p) word is = absurd (cc)
+    by (GoFirst n) word is = omega (arith, ap (λ ds. get_or ds 0 0) word)
+    by (Until condition) word is = omega (arith, ap (λ ds. get_or ds 0 0) word)
+    by (Show Regs p) word is = omega (arith, ap (λ ds. get_or ds 0 0) word)
+    by (Show Cop0 p) word is = omega (arith, ap (λ ds. get_or ds 0 0) word)
+    by (Show Tlb p) word is = omega (arith, ap (λ ds. get_or ds 0 0) word)
     by Where word is = absurd is
-    by (Words Memory address n) word is = absurd (cc)
-    by (Words Code address n) word is = absurd (cc)
-    by (Fetched address n p) word is = absurd (cc)
-    by (Log n) word is = absurd (cc)
+    by (Words Memory address n) word is = omega (arith, ap (λ ds. get_or ds 0 0) word)
+    by (Words Code address n) word is = omega (arith, ap (λ ds. get_or ds 0 0) word)
+    by (Fetched address n p) word is = omega (arith, ap (λ ds. get_or ds 0 0) word)
+    by (Log n) word is = omega (arith, ap (λ ds. get_or ds 0 0) word)
 
 -- `b` with what is no processor and address
 pub no_break : (text : List ℕ) → Finds (AreParts IsNumber IsAddress) text None → IsAskedOf (codes "b") (Some text) (Err BadArgument)
@@ -99,91 +99,91 @@ no_break text none = (λ unknown. unknown.0 refl, λ command is. by command is.0
   where
     by : (command : Command) → word_of command ≡ codes "b" → HasArguments command text → ⊥
     by (Breakpoint Set p address) word is = none.none (p, address) is
-    by (Breakpoint Delete p address) word is = absurd (cc)
-    by (Make (events.Step p)) word is = absurd (cc)
-    by (Make (events.Key byte)) word is = absurd (cc)
+    by (Breakpoint Delete p address) word is = omega (arith, ap (λ ds. get_or ds 0 0) word)
+    by (Make (events.Step p)) word is = omega (arith, ap (λ ds. get_or ds 0 0) word)
+    by (Make (events.Key byte)) word is = omega (arith, ap (λ ds. get_or ds 0 0) word)
     by (Make events.Done) word is = absurd is
-    by (Steps p n) word is = absurd (cc)
+    by (Steps p n) word is = omega (arith, ap (λ ds. get_or ds 0 0) word)
     by Go word is = absurd is
-    by (GoFirst n) word is = absurd (cc)
-    by (Until condition) word is = absurd (cc)
-    by (Show Regs p) word is = absurd (cc)
-    by (Show Cop0 p) word is = absurd (cc)
-    by (Show Tlb p) word is = absurd (cc)
+    by (GoFirst n) word is = omega (arith, ap (λ ds. get_or ds 0 0) word)
+    by (Until condition) word is = omega (arith, ap (λ ds. get_or ds 0 0) word)
+    by (Show Regs p) word is = omega (arith, ap (λ ds. get_or ds 0 0) word)
+    by (Show Cop0 p) word is = omega (arith, ap (λ ds. get_or ds 0 0) word)
+    by (Show Tlb p) word is = omega (arith, ap (λ ds. get_or ds 0 0) word)
     by Where word is = absurd is
-    by (Words Memory address n) word is = absurd (cc)
-    by (Words Code address n) word is = absurd (cc)
-    by (Fetched address n p) word is = absurd (cc)
-    by (Log n) word is = absurd (cc)
+    by (Words Memory address n) word is = omega (arith, ap (λ ds. get_or ds 0 0) word)
+    by (Words Code address n) word is = omega (arith, ap (λ ds. get_or ds 0 0) word)
+    by (Fetched address n p) word is = omega (arith, ap (λ ds. get_or ds 0 0) word)
+    by (Log n) word is = omega (arith, ap (λ ds. get_or ds 0 0) word)
 
 -- and `d`
 pub no_delete : (text : List ℕ) → Finds (AreParts IsNumber IsAddress) text None → IsAskedOf (codes "d") (Some text) (Err BadArgument)
 no_delete text none = (λ unknown. unknown.1.0 refl, λ command is. by command is.0 is.1)
   where
     by : (command : Command) → word_of command ≡ codes "d" → HasArguments command text → ⊥
-    by (Breakpoint Set p address) word is = absurd (cc)
+    by (Breakpoint Set p address) word is = omega (arith, ap (λ ds. get_or ds 0 0) word)
     by (Breakpoint Delete p address) word is = none.none (p, address) is
-    by (Make (events.Step p)) word is = absurd (cc)
-    by (Make (events.Key byte)) word is = absurd (cc)
+    by (Make (events.Step p)) word is = omega (arith, ap (λ ds. get_or ds 0 0) word)
+    by (Make (events.Key byte)) word is = omega (arith, ap (λ ds. get_or ds 0 0) word)
     by (Make events.Done) word is = absurd is
-    by (Steps p n) word is = absurd (cc)
+    by (Steps p n) word is = omega (arith, ap (λ ds. get_or ds 0 0) word)
     by Go word is = absurd is
-    by (GoFirst n) word is = absurd (cc)
-    by (Until condition) word is = absurd (cc)
-    by (Show Regs p) word is = absurd (cc)
-    by (Show Cop0 p) word is = absurd (cc)
-    by (Show Tlb p) word is = absurd (cc)
+    by (GoFirst n) word is = omega (arith, ap (λ ds. get_or ds 0 0) word)
+    by (Until condition) word is = omega (arith, ap (λ ds. get_or ds 0 0) word)
+    by (Show Regs p) word is = omega (arith, ap (λ ds. get_or ds 0 0) word)
+    by (Show Cop0 p) word is = omega (arith, ap (λ ds. get_or ds 0 0) word)
+    by (Show Tlb p) word is = omega (arith, ap (λ ds. get_or ds 0 0) word)
     by Where word is = absurd is
-    by (Words Memory address n) word is = absurd (cc)
-    by (Words Code address n) word is = absurd (cc)
-    by (Fetched address n p) word is = absurd (cc)
-    by (Log n) word is = absurd (cc)
+    by (Words Memory address n) word is = omega (arith, ap (λ ds. get_or ds 0 0) word)
+    by (Words Code address n) word is = omega (arith, ap (λ ds. get_or ds 0 0) word)
+    by (Fetched address n p) word is = omega (arith, ap (λ ds. get_or ds 0 0) word)
+    by (Log n) word is = omega (arith, ap (λ ds. get_or ds 0 0) word)
 
 -- `m` with what is no address and number
 pub no_memory : (text : List ℕ) → Finds (AreParts IsAddress IsNumber) text None → IsAskedOf (codes "m") (Some text) (Err BadArgument)
 no_memory text none = (λ unknown. unknown.1.1.1.1.1.1.1.1.1.0 refl, λ command is. by command is.0 is.1)
   where
     by : (command : Command) → word_of command ≡ codes "m" → HasArguments command text → ⊥
-    by (Breakpoint Set p address) word is = absurd (cc)
-    by (Breakpoint Delete p address) word is = absurd (cc)
-    by (Make (events.Step p)) word is = absurd (cc)
-    by (Make (events.Key byte)) word is = absurd (cc)
+    by (Breakpoint Set p address) word is = omega (arith, ap (λ ds. get_or ds 0 0) word)
+    by (Breakpoint Delete p address) word is = omega (arith, ap (λ ds. get_or ds 0 0) word)
+    by (Make (events.Step p)) word is = omega (arith, ap (λ ds. get_or ds 0 0) word)
+    by (Make (events.Key byte)) word is = omega (arith, ap (λ ds. get_or ds 0 0) word)
     by (Make events.Done) word is = absurd is
-    by (Steps p n) word is = absurd (cc)
+    by (Steps p n) word is = omega (arith, ap (λ ds. get_or ds 0 0) word)
     by Go word is = absurd is
-    by (GoFirst n) word is = absurd (cc)
-    by (Until condition) word is = absurd (cc)
-    by (Show Regs p) word is = absurd (cc)
-    by (Show Cop0 p) word is = absurd (cc)
-    by (Show Tlb p) word is = absurd (cc)
+    by (GoFirst n) word is = omega (arith, ap (λ ds. get_or ds 0 0) word)
+    by (Until condition) word is = omega (arith, ap (λ ds. get_or ds 0 0) word)
+    by (Show Regs p) word is = omega (arith, ap (λ ds. get_or ds 0 0) word)
+    by (Show Cop0 p) word is = omega (arith, ap (λ ds. get_or ds 0 0) word)
+    by (Show Tlb p) word is = omega (arith, ap (λ ds. get_or ds 0 0) word)
     by Where word is = absurd is
     by (Words Memory address n) word is = none.none (address, n) is
-    by (Words Code address n) word is = absurd (cc)
-    by (Fetched address n p) word is = absurd (cc)
-    by (Log n) word is = absurd (cc)
+    by (Words Code address n) word is = omega (arith, ap (λ ds. get_or ds 0 0) word)
+    by (Fetched address n p) word is = omega (arith, ap (λ ds. get_or ds 0 0) word)
+    by (Log n) word is = omega (arith, ap (λ ds. get_or ds 0 0) word)
 
 -- `x` with what is neither this, nor an address, a number and a processor
 pub no_code : (text : List ℕ) → Finds (AreParts IsAddress IsNumber) text None → Finds (AreParts IsAddress AreNumbers) text None → IsAskedOf (codes "x") (Some text) (Err BadArgument)
 no_code text none more = (λ unknown. unknown.1.1.1.1.1.1.1.1.1.1.0 refl, λ command is. by command is.0 is.1)
   where
     by : (command : Command) → word_of command ≡ codes "x" → HasArguments command text → ⊥
-    by (Breakpoint Set p address) word is = absurd (cc)
-    by (Breakpoint Delete p address) word is = absurd (cc)
-    by (Make (events.Step p)) word is = absurd (cc)
-    by (Make (events.Key byte)) word is = absurd (cc)
+    by (Breakpoint Set p address) word is = omega (arith, ap (λ ds. get_or ds 0 0) word)
+    by (Breakpoint Delete p address) word is = omega (arith, ap (λ ds. get_or ds 0 0) word)
+    by (Make (events.Step p)) word is = omega (arith, ap (λ ds. get_or ds 0 0) word)
+    by (Make (events.Key byte)) word is = omega (arith, ap (λ ds. get_or ds 0 0) word)
     by (Make events.Done) word is = absurd is
-    by (Steps p n) word is = absurd (cc)
+    by (Steps p n) word is = omega (arith, ap (λ ds. get_or ds 0 0) word)
     by Go word is = absurd is
-    by (GoFirst n) word is = absurd (cc)
-    by (Until condition) word is = absurd (cc)
-    by (Show Regs p) word is = absurd (cc)
-    by (Show Cop0 p) word is = absurd (cc)
-    by (Show Tlb p) word is = absurd (cc)
+    by (GoFirst n) word is = omega (arith, ap (λ ds. get_or ds 0 0) word)
+    by (Until condition) word is = omega (arith, ap (λ ds. get_or ds 0 0) word)
+    by (Show Regs p) word is = omega (arith, ap (λ ds. get_or ds 0 0) word)
+    by (Show Cop0 p) word is = omega (arith, ap (λ ds. get_or ds 0 0) word)
+    by (Show Tlb p) word is = omega (arith, ap (λ ds. get_or ds 0 0) word)
     by Where word is = absurd is
-    by (Words Memory address n) word is = absurd (cc)
+    by (Words Memory address n) word is = omega (arith, ap (λ ds. get_or ds 0 0) word)
     by (Words Code address n) word is = none.none (address, n) is
     by (Fetched address n p) word is = more.none (address, (n, p)) is
-    by (Log n) word is = absurd (cc)
+    by (Log n) word is = omega (arith, ap (λ ds. get_or ds 0 0) word)
 
 pub no_change : (change : Change) (text : List ℕ) → Finds (AreParts IsNumber IsAddress) text None → IsAskedOf (change_word change) (Some text) (Err BadArgument)
 no_change Set text none = no_break text none
@@ -199,27 +199,27 @@ no_word_of_memory word text same none = record { found = tt; none = λ condition
   where
     by : (condition : Condition) → condition_word condition ≡ codes "m" → IsConditionWith condition (Some text) → ⊥
     by (conditions.Memory address) w is = none.none address is
-    by (conditions.Trap p) w is = absurd (cc)
-    by (conditions.Register p r) w is = absurd (cc)
-    by (conditions.Row p i) w is = absurd (cc)
+    by (conditions.Trap p) w is = omega (arith, ap (λ ds. get_or ds 0 0) w)
+    by (conditions.Register p r) w is = omega (arith, ap (λ ds. get_or ds 0 0) w)
+    by (conditions.Row p i) w is = omega (arith, ap (λ ds. get_or ds 0 0) w)
     by conditions.Output w is = absurd is
 
 pub no_register : (word text : List ℕ) → word ≡ codes "r" → Finds AreNumbers text None → NoCondition word text
 no_register word text same none = record { found = tt; none = λ condition is. by condition (is.0 ∙ same) is.1 }
   where
     by : (condition : Condition) → condition_word condition ≡ codes "r" → IsConditionWith condition (Some text) → ⊥
-    by (conditions.Memory address) w is = absurd (cc)
-    by (conditions.Trap p) w is = absurd (cc)
+    by (conditions.Memory address) w is = omega (arith, ap (λ ds. get_or ds 0 0) w)
+    by (conditions.Trap p) w is = omega (arith, ap (λ ds. get_or ds 0 0) w)
     by (conditions.Register p r) w is = none.none (p, r) is
-    by (conditions.Row p i) w is = absurd (cc)
+    by (conditions.Row p i) w is = omega (arith, ap (λ ds. get_or ds 0 0) w)
     by conditions.Output w is = absurd is
 
 pub no_row : (word text : List ℕ) → word ≡ codes "i" → Finds AreNumbers text None → NoCondition word text
 no_row word text same none = record { found = tt; none = λ condition is. by condition (is.0 ∙ same) is.1 }
   where
     by : (condition : Condition) → condition_word condition ≡ codes "i" → IsConditionWith condition (Some text) → ⊥
-    by (conditions.Memory address) w is = absurd (cc)
-    by (conditions.Trap p) w is = absurd (cc)
-    by (conditions.Register p r) w is = absurd (cc)
+    by (conditions.Memory address) w is = omega (arith, ap (λ ds. get_or ds 0 0) w)
+    by (conditions.Trap p) w is = omega (arith, ap (λ ds. get_or ds 0 0) w)
+    by (conditions.Register p r) w is = omega (arith, ap (λ ds. get_or ds 0 0) w)
     by (conditions.Row p i) w is = none.none (p, i) is
     by conditions.Output w is = absurd is

@@ -12,7 +12,8 @@ passes_more test n before here = ap (list_all test) (range_more n) ∙ list_all-
 -- one doesn't
 pub fails_at : (test : ℕ → Bool) (n i : ℕ) → i < n → test i ≡ false → list_all test (range_with_len 0 n) ≡ false
 fails_at test n i lt here =
-    list_all_at test (range_with_len 0 n) i 0 (omega (arith, lt, length-range_with_len 0 n)) (ap test (get_or-range_with_len 0 n i 0 lt) ∙ here)
+    let same : 0 + i ≡ i = omega arith in
+    list_all_at test (range_with_len 0 n) i 0 (omega (arith, lt, length-range_with_len 0 n)) (ap test (get_or-range_with_len 0 n i 0 lt ∙ same) ∙ here)
 
 -- tests of words
 
@@ -25,5 +26,5 @@ some_there None some = absurd (cc)
 some_there (Some w) some = refl
 
 pub and_fails : (a b : Bool) → b ≡ false → false ≡ (a && b)
-and_fails true b no = cc
-and_fails false b no = refl
+and_fails true b h = cc
+and_fails false b h = refl

@@ -36,8 +36,8 @@ set_done s t p address rest before after (Some breaks.TooMany) none is text = ab
 -- Steps are made up to a stop, and its line appended
 
 pub no_fault_if : (b : Bool) → b ≡ true → ◌≡◌ {A = Option CommandError} (if b then None else Some BadArgument) None
-no_fault_if true yes = refl
-no_fault_if false yes = absurd (cc)
+no_fault_if true h = refl
+no_fault_if false h = absurd (cc)
 
 pub steps_done : (s t : SessionState) (p n : ℕ) (rest : List Event) (stop : Stop) (before after : List ℕ) (fault : Option CommandError) → fault ≡ None
     → Stops s.breakpoints s.machine (replicate n (Step p)) stop t.machine → t.breakpoints ≡ s.breakpoints
@@ -46,6 +46,6 @@ pub steps_done : (s t : SessionState) (p n : ℕ) (rest : List Event) (stop : St
 steps_done s t p n rest stop before after None none stops same text = (
   with_line_end (stop_text stop),
   text,
-  (refl, used_by stop, record { stop = stop; stops = stops; breakpoints = same; used_is = refl; printed_is = refl }),
+  (refl, (used_by stop, record { stop = stop; stops = stops; breakpoints = same; used_is = refl; printed_is = refl })),
 )
 steps_done s t p n rest stop before after (Some fault) none stops same text = absurd (cc)

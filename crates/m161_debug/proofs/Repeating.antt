@@ -1,5 +1,5 @@
 -- Events of a log that are made again.
-use Rattle.std.proofs.Common.{◌≡◌, ◌∙◌, refl, sym, ap, subst, ℕ, zero, suc, ◌+◌, ◌-◌, ◌<◌, ◌≤◌, List, [], ◌∷◌, ◌++◌, length, map, take, drop, replicate, get_or, slice_get, Option, None, Some, Result, Ok, Err, arith}
+use Rattle.std.proofs.Common.{take-add, ◌≡◌, ◌∙◌, refl, sym, ap, subst, ℕ, zero, suc, ◌+◌, ◌-◌, ◌<◌, ◌≤◌, List, [], ◌∷◌, ◌++◌, length, map, take, drop, replicate, get_or, slice_get, Option, None, Some, Result, Ok, Err, arith}
 use Rattle.std.specs.List.{take-map, drop-map}
 use Rattle.std.proofs.lemmas.List.{at_drop_more, drop-append-le, drop-drop, drop_all, get_or-drop, get_or-map, length-drop, length-map, length-take, replicate-append-replicate, take-append-drop, take-replicate, take-take, take_all, take_more}
 use Rattle.std.proofs.lemmas.Option.{get_or_from_slice_get, slice_get-get_or}
@@ -17,7 +17,8 @@ use Rattle.m161_debug.specs.helpers.Repeat.{Repeats}
 same_given : (x : Result (Outcome × State) Refusal) (a b : Outcome × State) → x ≡ Ok a → x ≡ Ok b → a.1 ≡ b.1
 same_given x a b is_a is_b =
     let same : ◌≡◌ {A = Result (Outcome × State) Refusal} (Ok a) (Ok b) = sym is_a ∙ is_b in
-    ap (λ (p : Outcome × State). p.1) (cc)
+    let pair : a ≡ b = cc in
+    ap (λ (p : Outcome × State). p.1) pair
 
 -- the same events lead from a state to one state alone
 alike : (es fs : List Entry) (s t u : State) → Leads s es t → Leads s fs u → events_of es ≡ events_of fs → t ≡ u
@@ -149,11 +150,4 @@ pub repeats_on : (log : List Entry) (t : State) (made n : ℕ) (m old new : Hist
     → Continues m (take (made + n) (events_of log)) new
 repeats_on log t made n m old new before r =
     let P : List Event → Type 0 = λ es. Continues m es new in
-    subst P (taken made n (events_of log)) (continues_on m old new (take made (events_of log)) (take n (drop made (events_of log))) before r.again)
-  where
-    taken : (i n : ℕ) (es : List Event) → take i es ++ take n (drop i es) ≡ take (i + n) es
-    taken zero n es = ap (λ k. take k es) (let same : n ≡ 0 + n = omega arith in same)
-    taken (suc i) n [] = cc
-    taken (suc i) n (e ∷ es) =
-        let same : suc (i + n) ≡ suc i + n = omega arith in
-        ap (λ l. e ∷ l) (taken i n es) ∙ ap (λ k. take k (e ∷ es)) same
+    subst P (sym (take-add made n (events_of log))) (continues_on m old new (take made (events_of log)) (take n (drop made (events_of log))) before r.again)

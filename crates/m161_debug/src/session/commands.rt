@@ -13,7 +13,7 @@ use crate::command::{Area, Change, Command, CommandError, Display, command_of};
 use crate::condition::Condition;
 use crate::limits::{are_fetched, has_processor, is_number_of_steps, is_of_kind, is_span};
 use crate::mark::physical_of;
-use crate::room::{put, put_event, put_outcome, put_refusal, put_stop};
+use crate::room::{put, put_event, put_outcome, put_refusal, put_stop_line};
 use crate::session::Session;
 use m161_bus::Console;
 use m161_elf::is_in_ram;
@@ -139,8 +139,7 @@ impl<T: Tlb, D: Console> Session<T, D> {
     {
         text.reserve(LONGEST)?;
         let stop = self.go(rest);
-        put_stop(text, stop);
-        put(text, "\n");
+        put_stop_line(text, stop);
         Ok(stop.events_used())
     }
 
@@ -166,8 +165,7 @@ impl<T: Tlb, D: Console> Session<T, D> {
         }
         text.reserve(LONGEST)?;
         let stop = self.go_steps(p, n);
-        put_stop(text, stop);
-        put(text, "\n");
+        put_stop_line(text, stop);
         Ok(0)
     }
 
@@ -199,8 +197,7 @@ impl<T: Tlb, D: Console> Session<T, D> {
         }
         text.reserve(LONGEST)?;
         let stop = self.until(condition, rest);
-        put_stop(text, stop);
-        put(text, "\n");
+        put_stop_line(text, stop);
         Ok(stop.events_used())
     }
 

@@ -4,6 +4,7 @@ use Rattle.m161_machine.proofs.Continuing.{continues_none}
 use Rattle.m161_debug.specs.Conditions.{holds_if}
 use Rattle.m161_debug.specs.Stops.{is_break}
 use Rattle.m161_debug.specs.helpers.Batch.{events_in}
+use Rattle.m161_debug.specs.helpers.Marks.{is_met, mark_of, IsMark}
 use Rattle.m161_debug.proofs.Going.{breaks, ends, goes_on, made_more, refused, switches_off, waits_no_more, IsAt, Passes}
 use Rattle.m161_debug.proofs.Marking.{found_by, stays_mark}
 use Rattle.m161_debug.proofs.session.Session.run.Goals as goal
@@ -45,7 +46,12 @@ returns-then-eq-clause-stop g c =
     c.in-Ok.ensures.answers (search rules)
 
 pub is_met-requires : goal.is_met-requires
-is_met-requires g c = stays_mark c.mark_of-mark.result c.args.self.now.machine c.loop-k.self.machine c.step.new.self.machine _ c.at.result c.in-Ok.outcome c.mark_of-mark.ensures.sound c.loop-k.invariant.made c.in-Ok.ensures.answers
+is_met-requires g c =
+    let same : c.self.inside.machine ≡ c.args.self.now.machine = ap (λ s. s.machine) c.self.view_is in
+    let sound = subst (λ (m : History). IsMark m.start.conf c.mark_of-mark.result) same c.mark_of-mark.ensures.sound in
+    let after : c.self-in-loop-k.inside.machine ≡ c.step.new.self.machine = ap (λ s. s.machine) c.self-in-loop-k.view_is in
+    subst (λ (m : History). IsMark m.start.conf c.mark_of-mark.result) (sym after)
+    (stays_mark c.mark_of-mark.result c.args.self.now.machine c.loop-k.self.machine c.step.new.self.machine _ c.at.result c.in-Ok.outcome sound c.loop-k.invariant.made c.in-Ok.ensures.answers)
 
 pub returns-then-is_met-clause-stop : goal.returns-then-is_met-clause-stop
 returns-then-is_met-clause-stop g c =
@@ -54,7 +60,11 @@ returns-then-is_met-clause-stop g c =
       | else-k-gt0-via-then-k-gt0+else-is_at_break w ↦ search rules
       | else-k-gt0-via-else-k-gt0 w ↦ search rules
     ] in
-    let found = found_by c.args.condition c.args.self.now.machine.state c.mark_of-mark.result c.at.result c.in-Ok.outcome c.step.new.self.machine.state c.is_met.result c.mark_of-mark.ensures.value c.is_met.ensures in
+    let same : c.self.inside.machine ≡ c.args.self.now.machine = ap (λ s. s.machine) c.self.view_is in
+    let value = c.mark_of-mark.ensures.value ∙ ap (λ (m : History). mark_of c.args.condition m.state) same in
+    let after : c.self-in-loop-k.inside.machine ≡ c.step.new.self.machine = ap (λ s. s.machine) c.self-in-loop-k.view_is in
+    let seen = c.is_met.ensures ∙ ap (λ (m : History). is_met c.mark_of-mark.result c.at.result c.in-Ok.outcome m.state) after in
+    let found = found_by c.args.condition c.args.self.now.machine.state c.mark_of-mark.result c.at.result c.in-Ok.outcome c.step.new.self.machine.state c.is_met.result value seen in
     let met : c.is_met.result ≡ true = search rules in
     waits_no_more _ _ c.args.self.now.machine c.loop-k.self.machine c.step.new.self.machine _ _ _ _ at c.loop-k.invariant.made c.loop-k.invariant.no_stop passes c.in-Ok.ensures.answers (search rules) (found ∙ met)
 
@@ -65,7 +75,11 @@ loop-k-preserved g c =
       | else-k-gt0-via-then-k-gt0+else-is_at_break w ↦ search rules
       | else-k-gt0-via-else-k-gt0 w ↦ search rules
     ] in
-    let found = found_by c.args.condition c.args.self.now.machine.state c.mark_of-mark.result c.at.result c.in-Ok.outcome c.step.new.self.machine.state c.is_met.result c.mark_of-mark.ensures.value c.is_met.ensures in
+    let same : c.self.inside.machine ≡ c.args.self.now.machine = ap (λ s. s.machine) c.self.view_is in
+    let value = c.mark_of-mark.ensures.value ∙ ap (λ (m : History). mark_of c.args.condition m.state) same in
+    let after : c.self-in-loop-k.inside.machine ≡ c.step.new.self.machine = ap (λ s. s.machine) c.self-in-loop-k.view_is in
+    let seen = c.is_met.ensures ∙ ap (λ (m : History). is_met c.mark_of-mark.result c.at.result c.in-Ok.outcome m.state) after in
+    let found = found_by c.args.condition c.args.self.now.machine.state c.mark_of-mark.result c.at.result c.in-Ok.outcome c.step.new.self.machine.state c.is_met.result value seen in
     let unmet : c.is_met.result ≡ false = search rules in
     record {
       made = made_more _ _ _ _ _ _ _ at c.loop-k.invariant.made c.in-Ok.ensures.answers;
