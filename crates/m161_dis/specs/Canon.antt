@@ -1,8 +1,11 @@
-use Rattle.std.specs.Prelude.{ℕ, ◌+◌, ◌-◌, ◌*◌, ◌/◌, ◌%◌, ◌^◌, ◌==◌, nat_lt, if◌then◌else◌, List, [], ◌∷◌, ◌++◌, Option, None, Some, codes, decimal}
+use Rattle.std.specs.Prelude.{ℕ, ◌+◌, ◌-◌, ◌*◌, ◌/◌, ◌%◌, ◌^◌, ◌==◌, nat_lt, if◌then◌else◌, List, [], ◌∷◌, ◌++◌, slice_index_or, Option, None, Some, codes, decimal}
 use Rattle.m161_isa.specs.declared.table.Row.{Row}
 use Rattle.m161_isa.specs.declared.operand.Operand.{Operand}
 use Rattle.m161_isa.specs.declared.operand.Operand.TheVariants as operand
+use Rattle.m161_asm.specs.Tokens.{register_names}
 use Rattle.m161_text.specs.Parts.{hex_text}
+use Rattle.m161_dis.specs.declared.naming.Naming.{Naming}
+use Rattle.m161_dis.specs.declared.naming.Naming.TheVariants.{Numbers, Names}
 use Rattle.m161_isa.specs.Table.{table, row_that_fits, number_of, numbers_of, word_with}
 
 -- The one text of a word at an address, by the instruction table.
@@ -73,3 +76,45 @@ canon_by word at (Some r) = instruction_text word at r
 
 abbrev pub canon : ℕ → ℕ → List ℕ
 canon word at = if word == 0 then codes "nop" else canon_by word at (canonical_row word)
+
+-- The same text with the names of the general registers, as an assembler's source may have them.
+
+-- a general register by its name
+abbrev pub register_name_text : ℕ → List ℕ
+register_name_text n = codes "$" ++ slice_index_or register_names n []
+
+-- a register of coprocessor 0 keeps its number
+abbrev pub named_operand_text : ℕ → Operand → ℕ → List ℕ
+named_operand_text at operand.Rd n = register_name_text n
+named_operand_text at operand.Rs n = register_name_text n
+named_operand_text at operand.Rt n = register_name_text n
+named_operand_text at operand.Base n = codes "(" ++ register_name_text n ++ codes ")"
+named_operand_text at operand.Cop0 n = operand_text at operand.Cop0 n
+named_operand_text at operand.Amount n = operand_text at operand.Amount n
+named_operand_text at operand.Signed n = operand_text at operand.Signed n
+named_operand_text at operand.Offset n = operand_text at operand.Offset n
+named_operand_text at operand.Unsigned n = operand_text at operand.Unsigned n
+named_operand_text at operand.Branch n = operand_text at operand.Branch n
+named_operand_text at operand.Jump n = operand_text at operand.Jump n
+
+abbrev pub named_operands_text : ℕ → ℕ → List ℕ → List Operand → List ℕ
+named_operands_text word at lead [] = []
+named_operands_text word at lead (o ∷ os) =
+    lead_of o lead ++ named_operand_text at o (number_of word o)
+    ++ named_operands_text word at (codes ", ") os
+
+abbrev pub named_instruction_text : ℕ → ℕ → Row → List ℕ
+named_instruction_text word at r =
+    (table r).name ++ named_operands_text word at (codes " ") (table r).operands
+
+abbrev pub named_by : ℕ → ℕ → Option Row → List ℕ
+named_by word at None = data_text word
+named_by word at (Some r) = named_instruction_text word at r
+
+abbrev pub canon_named : ℕ → ℕ → List ℕ
+canon_named word at = if word == 0 then codes "nop" else named_by word at (canonical_row word)
+
+-- the text in either naming
+abbrev pub canon_as : Naming → ℕ → ℕ → List ℕ
+canon_as Numbers word at = canon word at
+canon_as Names word at = canon_named word at

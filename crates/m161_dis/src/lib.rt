@@ -10,20 +10,25 @@
 //! ```
 //!
 //! Each word has one text at an address, which is assembled there to that word and to no other.
-//! Numbers are in lower case and registers in decimal. The form is this project's own, in the
-//! syntax of MIPS assemblers.
+//! Numbers are in lower case and registers in decimal. With names the general registers stand as
+//! `$t0` and so on, and those of coprocessor 0 keep their numbers. The form is this project's own,
+//! in the syntax of MIPS assemblers.
 #![tactic(auto)]
 
-ghost use Rattle.std.specs.Prelude.{◌≡◌, ◌≤◌, ◌<◌, ◌^◌, ◌++◌, IfOk, OnOk, false, string_bytes};
+ghost use Rattle.std.specs.Prelude.{◌≡◌, ◌≤◌, ◌<◌, ◌^◌, ◌++◌, IfOk, OnOk, Some, false, slice_get, string_bytes};
 ghost use Rattle.m161_isa.specs.Table.{width_of};
-ghost use Rattle.m161_dis.specs.Canon.{canon, canon_by, canonical_row, operands_text, operand_text, lead_of, hex_number, signed_text, branch_target, jump_target};
+ghost use Rattle.m161_dis.specs.Canon.{canon, canon_as, canon_named, canonical_row, lead_of, hex_number, signed_text, branch_target, jump_target};
+ghost use Rattle.m161_dis.specs.helpers.Naming.{canon_as_by, operand_as, operands_as, register_as};
 
 mod laws;
+mod naming;
 
 pub use laws::survives_disassembling;
+use m161_asm::register_name;
 use m161_decode::{is_canonical, row_that_fits};
 use m161_isa::{Operand, Row};
 use m161_text::push_hex;
+pub use naming::Naming;
 use std::alloc::{AllocError, Global};
 use std::fmt::Write;
 
@@ -35,23 +40,46 @@ pub fn line(alloc: Global, word: u32, at: u32) -> Result<String, AllocError>
     ensures { IfOk result (λ text. string_bytes text ≡ canon word at) }
 {
     let mut text = String::new(alloc);
-    if word == 0 {
-        text.push_str("nop")?;
-    } else {
-        write_word(&mut text, word, at)?;
-    }
+    push_line(&mut text, Naming::Numbers, word, at)?;
     Ok(text)
 }
 
-// A word other than `nop`: by its row, or as data.
-fn write_word(text: &mut String, word: u32, at: u32) -> Result<(), AllocError>
+/// The same text with the names of the general registers.
+///
+/// # Errors
+/// Memory was refused.
+pub fn named_line(alloc: Global, word: u32, at: u32) -> Result<String, AllocError>
+    ensures { IfOk result (λ text. string_bytes text ≡ canon_named word at) }
+{
+    let mut text = String::new(alloc);
+    push_line(&mut text, Naming::Names, word, at)?;
+    Ok(text)
+}
+
+/// Appends the text of the word at an address, in either naming.
+///
+/// # Errors
+/// Memory was refused; a part of the text may have been appended then.
+pub fn push_line(text: &mut String, naming: Naming, word: u32, at: u32) -> Result<(), AllocError>
     ensures { OnOk result (string_bytes text.new
-        ≡ string_bytes text.old ++ canon_by word at (canonical_row word)) }
+        ≡ string_bytes text.old ++ canon_as naming word at) }
+{
+    if word == 0 {
+        text.push_str("nop")
+    } else {
+        write_word(text, naming, word, at)
+    }
+}
+
+// A word other than `nop`: by its row, or as data.
+fn write_word(text: &mut String, naming: Naming, word: u32, at: u32) -> Result<(), AllocError>
+    ensures { OnOk result (string_bytes text.new
+        ≡ string_bytes text.old ++ canon_as_by naming word at (canonical_row word)) }
 {
     match row_if_canonical(word) {
         Some(row) => {
             text.push_str(row.name())?;
-            write_operands(text, row.operands(), " ", word, at)
+            write_operands(text, naming, row.operands(), " ", word, at)
         }
         None => {
             text.push_str(".word ")?;
@@ -75,19 +103,20 @@ fn row_if_canonical(word: u32) -> Option<Row>
 // Operands, with `lead` before the first.
 fn write_operands(
     text: &mut String,
+    naming: Naming,
     operands: &[Operand],
     lead: &str,
     word: u32,
     at: u32,
 ) -> Result<(), AllocError>
     ensures { OnOk result (string_bytes text.new
-        ≡ string_bytes text.old ++ operands_text word at lead.now operands.now) }
+        ≡ string_bytes text.old ++ operands_as naming word at lead.now operands.now) }
 {
     match operands {
         [] => Ok(()),
         [first, rest @ ..] => {
-            write_operand(text, *first, lead, first.number(word), at)?;
-            write_operands(text, rest, ", ", word, at)
+            write_operand(text, naming, *first, lead, first.number(word), at)?;
+            write_operands(text, naming, rest, ", ", word, at)
         }
     }
 }
@@ -95,6 +124,7 @@ fn write_operands(
 // An operand, with `lead` before it unless it is a base.
 fn write_operand(
     text: &mut String,
+    naming: Naming,
     operand: Operand,
     lead: &str,
     number: u32,
@@ -102,10 +132,14 @@ fn write_operand(
 ) -> Result<(), AllocError>
     requires { number < 2 ^ width_of operand }
     ensures { OnOk result (string_bytes text.new
-        ≡ string_bytes text.old ++ lead_of operand lead.now ++ operand_text at operand number) }
+        ≡ string_bytes text.old ++ lead_of operand lead.now ++ operand_as naming at operand number) }
 {
     match operand {
-        Operand::Rd | Operand::Rs | Operand::Rt | Operand::Cop0 => write!(text, "{lead}${number}"),
+        Operand::Rd | Operand::Rs | Operand::Rt => {
+            text.push_str(lead)?;
+            write_register(text, naming, number)
+        }
+        Operand::Cop0 => write!(text, "{lead}${number}"),
         Operand::Amount => write!(text, "{lead}{number}"),
         Operand::Signed | Operand::Offset => {
             text.push_str(lead)?;
@@ -115,7 +149,11 @@ fn write_operand(
             text.push_str(lead)?;
             write_hex_number(text, 4, number)
         }
-        Operand::Base => write!(text, "(${number})"),
+        Operand::Base => {
+            text.push_str("(")?;
+            write_register(text, naming, number)?;
+            text.push_str(")")
+        }
         Operand::Branch => {
             text.push_str(lead)?;
             write_hex_number(text, 8, branch_target(at, number))
@@ -124,6 +162,18 @@ fn write_operand(
             text.push_str(lead)?;
             write_hex_number(text, 8, jump_target(at, number))
         }
+    }
+}
+
+// A general register.
+fn write_register(text: &mut String, naming: Naming, number: u32) -> Result<(), AllocError>
+    requires { number < 32 }
+    ensures { OnOk result (string_bytes text.new
+        ≡ string_bytes text.old ++ register_as naming number) }
+{
+    match naming {
+        Naming::Numbers => write!(text, "${number}"),
+        Naming::Names => write!(text, "${}", register_name(number)),
     }
 }
 

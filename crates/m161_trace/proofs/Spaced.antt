@@ -1,0 +1,54 @@
+use Rattle.std.proofs.Common.{◌≡◌, ◌∙◌, refl, sym, ap, ℕ, ◌+◌, ◌-◌, ◌≤◌, ◌<◌, List, [], ◌∷◌, ◌++◌, map, take, length, get_or, arith, Result, Ok, Err, append_assoc}
+use Rattle.std.specs.Prelude.{flat_map, OnOk}
+use Rattle.std.specs.List.{range_with_len}
+use Rattle.std.proofs.lemmas.List.{append-nil, flat_map_more, take_more, map-id}
+use Rattle.std.proofs.lemmas.List.Concat.{flat_map-append}
+use Rattle.std.proofs.lemmas.List.FromFn.{map-range_with_len_more}
+use Rattle.m161_trace.specs.Items.{Item, each}
+use Rattle.m161_trace.specs.Line.{item_text, spaced}
+
+-- Items, a space before each.
+
+pub spaced_more : (xs ys : List Item) → spaced (xs ++ ys) ≡ spaced xs ++ spaced ys
+unfolding spaced
+spaced_more xs ys = flat_map-append (λ (i : Item). 32 ∷ item_text i) xs ys
+
+pub spaced_none : (old : List ℕ) → old ≡ old ++ spaced []
+unfolding spaced
+spaced_none old = sym (append-nil old)
+
+pub spaced_one : (i : Item) → spaced (i ∷ []) ≡ 32 ∷ item_text i
+unfolding spaced
+spaced_one i = append-nil (32 ∷ item_text i)
+
+-- one item appended
+pub one : (old new : List ℕ) (i : Item) → new ≡ old ++ 32 ∷ item_text i → new ≡ old ++ spaced (i ∷ [])
+one old new i h = h ∙ ap (λ bs. old ++ bs) (sym (spaced_one i))
+
+-- items appended to items
+pub both : (old mid new : List ℕ) (xs ys : List Item) → mid ≡ old ++ spaced xs → new ≡ mid ++ spaced ys → new ≡ old ++ spaced (xs ++ ys)
+both old mid new xs ys h k =
+    k ∙ ap (λ bs. bs ++ spaced ys) h ∙ append_assoc old (spaced xs) (spaced ys) ∙ ap (λ bs. old ++ bs) (sym (spaced_more xs ys))
+
+-- the same, of items that are these
+pub grown : (old mid new : List ℕ) (xs ys zs : List Item) → zs ≡ xs ++ ys → mid ≡ old ++ spaced xs → new ≡ mid ++ spaced ys → new ≡ old ++ spaced zs
+grown old mid new xs ys zs are h k = both old mid new xs ys h k ∙ ap (λ is. old ++ spaced is) (sym are)
+
+counted : (a n j : ℕ) → a + n ≡ j → range_with_len a (n + 1) ≡ range_with_len a n ++ j ∷ []
+counted a n j e =
+    sym (map-id (range_with_len a (n + 1))) ∙ map-range_with_len_more (λ (x : ℕ). x) a n j e ∙ ap (λ l. l ++ j ∷ []) (map-id (range_with_len a n))
+
+-- one more of counted items
+pub each_more : (a n j : ℕ) (f : ℕ → List Item) → a + n ≡ j → each a (n + 1) f ≡ each a n f ++ f j
+each_more a n j f e = ap (flat_map f) (counted a n j e) ∙ sym (flat_map_more f [] (range_with_len a n) j)
+
+-- the same by the next number
+pub each_next : (a i : ℕ) (f : ℕ → List Item) → a ≤ i → each a (i + 1 - a) f ≡ each a (i - a) f ++ f i
+each_next a i f le =
+    let there : a + (i - a) ≡ i = omega arith in
+    let more : i + 1 - a ≡ i - a + 1 = omega arith in
+    ap (λ n. each a n f) more ∙ each_more a (i - a) i f there
+
+-- one more of the items of a list's elements
+pub listed_more : {X : Type 0} (f : X → List Item) (xs : List X) (i : ℕ) (d : X) → i < length xs → flat_map f (take (i + 1) xs) ≡ flat_map f (take i xs) ++ f (get_or xs i d)
+listed_more f xs i d lt = ap (flat_map f) (take_more xs i d lt) ∙ sym (flat_map_more f [] (take i xs) (get_or xs i d))

@@ -1,0 +1,207 @@
+//! The line of an event.
+
+ghost use Rattle.std.specs.Prelude.{◌≡◌, ◌<◌, ◌++◌, ◌∷◌, List, OnOk, codes, decimal, length, string_bytes};
+ghost use Rattle.m161_machine.specs.State.{processor_at};
+ghost use Rattle.m161_machine.specs.Uses.{uses_in};
+ghost use Rattle.m161_text.specs.Parts.{◌␣◌, hex_text};
+ghost use Rattle.m161_trace.specs.Items.{Item, items, shared_items};
+ghost use Rattle.m161_trace.specs.Line.{address_text, behind, event_line, fetched, fetches_none, instruction_text, spaced, step_line};
+ghost use Rattle.m161_text.specs.Lines.{with_line_end};
+ghost use Rattle.m161_trace.specs.helpers.Adds.{IfStep};
+ghost use Rattle.m161_trace.specs.helpers.Adds.{Adds, AreAlike};
+
+use crate::places::{add_common, add_places};
+use crate::processor::add_processor;
+use crate::shared::{add_latch, add_links, add_outcome, add_starts, add_stored, add_waiting};
+use m161_bus::Console;
+use m161_dis::{Naming, push_line};
+use m161_machine::{BoardWord, Core, Event, Outcome};
+use m161_text::push_hex;
+use m161_tlb::Tlb;
+use std::alloc::AllocError;
+use std::fmt::Write;
+
+// What changed beside the processor.
+fn add_shared<T: Tlb, D: Console>(
+    text: &mut String,
+    p: u32,
+    before: &Core<T, D>,
+    after: &Core<T, D>,
+) -> Result<(), AllocError>
+    requires { AreAlike p before.now.state after.now.state }
+    ensures { OnOk result (Adds (string_bytes text.old)
+        (shared_items p before.now.state after.now.state)
+        (string_bytes text.new)) }
+{
+    before.law();
+    after.law();
+    add_stored(text, before.uses(p).stored, after)?;
+    add_links(text, p, before, after)?;
+    add_latch(text, before.latch(), after.latch())?;
+    add_waiting(text, before.waiting(), after.waiting())?;
+    add_common(text, before, after)?;
+    add_places(text, before.processors(), before, after)
+}
+
+/// The items of a Step of processor `p`.
+pub(crate) fn add_items<T: Tlb, D: Console>(
+    text: &mut String,
+    p: u32,
+    before: &Core<T, D>,
+    outcome: Outcome,
+    after: &Core<T, D>,
+) -> Result<(), AllocError>
+    requires { AreAlike p before.now.state after.now.state }
+    ensures { OnOk result (Adds (string_bytes text.old)
+        (items p before.now.state outcome after.now.state)
+        (string_bytes text.new)) }
+{
+    before.law();
+    add_processor(text, p, before, after)?;
+    add_shared(text, p, before, after)?;
+    add_outcome(text, outcome)?;
+    let started = before.board_word(BoardWord::Cpue);
+    add_starts(text, before.processors(), started, after.board_word(BoardWord::Cpue))
+}
+
+// Whether a Step with this outcome fetched nothing: it was idle, or took an interrupt.
+fn took_none(outcome: Outcome) -> bool
+    ensures { result ≡ fetches_none outcome }
+{
+    match outcome {
+        Outcome::Idle => true,
+        Outcome::Trapped { code, vector: _ } => code.number() == 0,
+        Outcome::Ran | Outcome::PoweredOff | Outcome::Taken => false,
+    }
+}
+
+// The word that the Step of processor `p` fetched.
+fn fetched<T: Tlb, D: Console>(p: u32, before: &Core<T, D>, outcome: Outcome) -> Option<u32>
+    requires { p < length before.now.state.processors }
+    ensures { result ≡ fetched p before.now.state outcome }
+{
+    if took_none(outcome) {
+        return None;
+    }
+    before.fetched_word(p, before.pc(p))
+}
+
+// Appends the place of an instruction.
+fn push_address(text: &mut String, at: u32) -> Result<(), AllocError>
+    ensures { OnOk result (string_bytes text.new ≡ string_bytes text.old ++ address_text at) }
+{
+    push_hex(text, 8, at)
+}
+
+// Appends the word that was fetched and its text, or that there was none.
+fn push_instruction(
+    text: &mut String,
+    naming: Naming,
+    at: u32,
+    word: Option<u32>,
+) -> Result<(), AllocError>
+    ensures { OnOk result (string_bytes text.new
+        ≡ string_bytes text.old ++ instruction_text naming at word) }
+{
+    match word {
+        None => text.push_str("-"),
+        Some(word) => {
+            push_hex(text, 8, word)?;
+            text.push(' ')?;
+            push_line(text, naming, word, at)
+        }
+    }
+}
+
+// Appends a Step up to its items.
+fn push_step(
+    text: &mut String,
+    naming: Naming,
+    number: u64,
+    p: u32,
+    pc: u32,
+    word: Option<u32>,
+) -> Result<(), AllocError>
+    ensures { OnOk result (string_bytes text.new ≡ string_bytes text.old
+        ++ (decimal number ␣ decimal p ␣ address_text pc ␣ instruction_text naming pc word)) }
+{
+    write!(text, "{number} {p} ")?;
+    push_address(text, pc)?;
+    text.push(' ')?;
+    push_instruction(text, naming, pc, word)
+}
+
+// Appends items to a line's beginning.
+fn push_items(text: &mut String, items: &str) -> Result<(), AllocError>
+    ensures { (is : List Item) → items.now ≡ spaced is
+        → OnOk result (string_bytes text.new ≡ string_bytes text.old ++ behind is) }
+{
+    if items.is_empty() {
+        return Ok(());
+    }
+    text.push(' ')?;
+    text.push_str(items)
+}
+
+// Appends the line of a Step of processor `p`, without its end.
+fn push_step_line<T: Tlb, D: Console>(
+    text: &mut String,
+    items: &mut String,
+    naming: Naming,
+    number: u64,
+    p: u32,
+    before: &Core<T, D>,
+    outcome: Outcome,
+    after: &Core<T, D>,
+) -> Result<(), AllocError>
+    requires { AreAlike p before.now.state after.now.state }
+    ensures { OnOk result (string_bytes text.new ≡ string_bytes text.old
+        ++ step_line naming number p before.now.state outcome after.now.state) }
+{
+    push_step(text, naming, number, p, before.pc(p), fetched(p, before, outcome))?;
+    items.clear();
+    add_items(items, p, before, outcome, after)?;
+    push_items(text, items.as_str())
+}
+
+// Appends the line of a key, without its end.
+fn push_key(text: &mut String, number: u64, byte: u8) -> Result<(), AllocError>
+    ensures { OnOk result (string_bytes text.new ≡ string_bytes text.old
+        ++ (decimal number ␣ codes "k" ␣ hex_text 2 byte)) }
+{
+    write!(text, "{number} k ")?;
+    push_hex(text, 2, u32::from(byte))
+}
+
+// Appends the line of a byte that was sent, without its end.
+fn push_done(text: &mut String, number: u64) -> Result<(), AllocError>
+    ensures { OnOk result (string_bytes text.new ≡ string_bytes text.old
+        ++ (decimal number ␣ codes "o")) }
+{
+    write!(text, "{number} o")
+}
+
+/// Writes the line of an event into an empty text, with its end; `items` is room for its items.
+#[tactic(auto, unfolding(crate::specs::Line::event_line))]
+pub(crate) fn write_line<T: Tlb, D: Console>(
+    text: &mut String,
+    items: &mut String,
+    naming: Naming,
+    number: u64,
+    event: Event,
+    before: &Core<T, D>,
+    outcome: Outcome,
+    after: &Core<T, D>,
+) -> Result<(), AllocError>
+    requires { IfStep event (λ p. AreAlike p before.now.state after.now.state) }
+    ensures { OnOk result (string_bytes text.new ≡
+        with_line_end (event_line naming number event before.now.state outcome after.now.state)) }
+{
+    text.clear();
+    match event {
+        Event::Step(p) => push_step_line(text, items, naming, number, p, before, outcome, after)?,
+        Event::Key(byte) => push_key(text, number, byte)?,
+        Event::Done => push_done(text, number)?,
+    }
+    text.push('\n')
+}
