@@ -8,3 +8,5 @@ pub mod Links
 pub mod Telling
 pub mod Shown
 pub mod Tell
+pub mod Near
+pub mod Nothing

@@ -1,10 +1,11 @@
-use Rattle.std.proofs.Common.{◌≡◌, ◌∙◌, refl, sym, ap, ℕ, ◌+◌, ◌-◌, ◌≤◌, ◌<◌, List, [], ◌∷◌, ◌++◌, map, take, length, get_or, arith, Result, Ok, Err, append_assoc}
-use Rattle.std.specs.Prelude.{flat_map, OnOk}
+use Rattle.std.proofs.Common.{◌≡◌, ◌∙◌, refl, sym, ap, ℕ, ◌+◌, ◌-◌, ◌≤◌, ◌<◌, Bool, true, false, List, [], ◌∷◌, ◌++◌, map, take, length, get_or, arith, append_assoc}
+use Rattle.std.specs.Prelude.{◌==◌, flat_map, if◌then◌else◌}
+use Rattle.std.proofs.lemmas.Bool.Decides.{Decides-eqb}
 use Rattle.std.specs.List.{range_with_len}
 use Rattle.std.proofs.lemmas.List.{append-nil, flat_map_more, take_more, map-id}
 use Rattle.std.proofs.lemmas.List.Concat.{flat_map-append}
 use Rattle.std.proofs.lemmas.List.FromFn.{map-range_with_len_more}
-use Rattle.m161_trace.specs.Items.{Item, each}
+use Rattle.m161_trace.specs.Items.{Item, changed, each}
 use Rattle.m161_trace.specs.Line.{item_text, spaced}
 
 -- Items, a space before each.
@@ -33,6 +34,23 @@ both old mid new xs ys h k =
 -- the same, of items that are these
 pub grown : (old mid new : List ℕ) (xs ys zs : List Item) → zs ≡ xs ++ ys → mid ≡ old ++ spaced xs → new ≡ mid ++ spaced ys → new ≡ old ++ spaced zs
 grown old mid new xs ys zs are h k = both old mid new xs ys h k ∙ ap (λ is. old ++ spaced is) (sym are)
+
+-- a part with the same value has no item; one that differs has
+
+same_if : (t : Bool) (old : List ℕ) (i : Item) → t ≡ true → old ≡ old ++ spaced (if t then [] else i ∷ [])
+same_if true old i is = spaced_none old
+same_if false old i is = absurd (let bad : false ≡ true = is in cc)
+
+pub same : (old : List ℕ) (before after : ℕ) (i : Item) → before ≡ after → old ≡ old ++ spaced (changed before after i)
+same old before after i e = same_if (before == after) old i ((Decides-eqb before after).1 e)
+
+differs_if : (t : Bool) (before after : ℕ) (old new : List ℕ) (i : Item) → (before == after) ≡ t → (before ≡ after → ⊥) → new ≡ old ++ 32 ∷ item_text i
+    → new ≡ old ++ spaced (if t then [] else i ∷ [])
+differs_if true before after old new i is ne h = absurd (ne ((Decides-eqb before after).0 is))
+differs_if false before after old new i is ne h = one old new i h
+
+pub differs : (old new : List ℕ) (before after : ℕ) (i : Item) → (before ≡ after → ⊥) → new ≡ old ++ 32 ∷ item_text i → new ≡ old ++ spaced (changed before after i)
+differs old new before after i ne h = differs_if (before == after) before after old new i refl ne h
 
 counted : (a n j : ℕ) → a + n ≡ j → range_with_len a (n + 1) ≡ range_with_len a n ++ j ∷ []
 counted a n j e =

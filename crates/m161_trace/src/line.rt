@@ -1,20 +1,25 @@
 //! The line of an event.
 
-ghost use Rattle.std.specs.Prelude.{◌≡◌, ◌<◌, ◌++◌, ◌∷◌, List, OnOk, codes, decimal, length, string_bytes};
-ghost use Rattle.m161_machine.specs.State.{processor_at};
+ghost use Rattle.std.specs.Prelude.{◌≡◌, ◌⊎◌, ◌++◌, List, None, Ok, OnOk, codes, decimal, false, if◌then◌else◌, is_some, string_bytes, true};
+ghost use Rattle.m161_cpu.specs.Fetch.{fetched_word};
+ghost use Rattle.m161_machine.specs.declared.event.Event.TheVariants as events;
+ghost use Rattle.m161_machine.specs.State.{next, processor_at};
 ghost use Rattle.m161_machine.specs.Uses.{uses_in};
 ghost use Rattle.m161_text.specs.Parts.{◌␣◌, hex_text};
 ghost use Rattle.m161_trace.specs.Items.{Item, items, shared_items};
-ghost use Rattle.m161_trace.specs.Line.{address_text, behind, event_line, fetched, fetches_none, instruction_text, spaced, step_line};
+ghost use Rattle.m161_trace.specs.Line.{address_text, behind, event_line, fetches_none, instruction_text, spaced, step_line};
 ghost use Rattle.m161_text.specs.Lines.{with_line_end};
-ghost use Rattle.m161_trace.specs.helpers.Adds.{IfStep};
+ghost use Rattle.m161_trace.specs.helpers.Effects.{is_far};
+ghost use Rattle.m161_trace.specs.helpers.Steps.{IsNear, is_far_found, is_far_word};
 ghost use Rattle.m161_trace.specs.helpers.Adds.{Adds, AreAlike};
 
 use crate::places::{add_common, add_places};
 use crate::processor::add_processor;
 use crate::shared::{add_latch, add_links, add_outcome, add_starts, add_stored, add_waiting};
 use m161_bus::Console;
+use m161_decode::row_that_fits;
 use m161_dis::{Naming, push_line};
+use m161_isa::Effect;
 use m161_machine::{BoardWord, Core, Event, Outcome};
 use m161_text::push_hex;
 use m161_tlb::Tlb;
@@ -27,38 +32,83 @@ fn add_shared<T: Tlb, D: Console>(
     p: u32,
     before: &Core<T, D>,
     after: &Core<T, D>,
+    stored: Option<u32>,
+    far: bool,
 ) -> Result<(), AllocError>
-    requires { AreAlike p before.now.state after.now.state }
+    requires alike { AreAlike p before.now.state after.now.state }
+    requires stored { stored ≡ (uses_in p before.now.state).stored }
+    requires near { far ≡ false → IsNear p before.now.state after.now.state }
     ensures { OnOk result (Adds (string_bytes text.old)
         (shared_items p before.now.state after.now.state)
         (string_bytes text.new)) }
 {
     before.law();
     after.law();
-    add_stored(text, before.uses(p).stored, after)?;
+    add_stored(text, stored, after)?;
     add_links(text, p, before, after)?;
     add_latch(text, before.latch(), after.latch())?;
     add_waiting(text, before.waiting(), after.waiting())?;
     add_common(text, before, after)?;
-    add_places(text, before.processors(), before, after)
+    add_places(text, before.processors(), before, after, far)
 }
 
-/// The items of a Step of processor `p`.
+// Whether an instruction may write rows of the TLB or words of the board.
+fn is_far_word(word: u32) -> bool
+    ensures { result ≡ is_far_word word }
+{
+    match row_that_fits(word) {
+        Some(row) => is_far(row.effect()),
+        None => false,
+    }
+}
+
+fn is_far(effect: Effect) -> bool
+    ensures { result ≡ is_far effect }
+{
+    matches!(
+        effect,
+        Effect::WriteTlbIndexed | Effect::WriteTlbRandom | Effect::StoreWord
+    )
+}
+
+// Whether a Step that would fetch this word and stores to this one may write rows or words of the
+// board. A store to RAM writes neither.
+fn is_far_step(fetch: Option<u32>, stored: Option<u32>) -> bool
+    ensures { result ≡ false
+        → (is_far_found fetch ≡ false) ⊎ (is_some stored ≡ true) }
+{
+    let Some(word) = fetch else {
+        return false;
+    };
+    match stored {
+        Some(_word) => false,
+        None => is_far_word(word),
+    }
+}
+
+/// The items of a Step of processor `p`, which would fetch this word.
 pub(crate) fn add_items<T: Tlb, D: Console>(
     text: &mut String,
     p: u32,
     before: &Core<T, D>,
+    fetch: Option<u32>,
     outcome: Outcome,
     after: &Core<T, D>,
 ) -> Result<(), AllocError>
-    requires { AreAlike p before.now.state after.now.state }
+    requires accepted { next before.now.state (events.Step p) ≡ Ok (outcome, after.now.state) }
+    requires alike { AreAlike p before.now.state after.now.state }
+    requires fetch { fetch ≡ fetched_word before.now.state.memory
+        (processor_at p before.now.state.processors).pc
+        (processor_at p before.now.state.processors) }
     ensures { OnOk result (Adds (string_bytes text.old)
         (items p before.now.state outcome after.now.state)
         (string_bytes text.new)) }
 {
     before.law();
-    add_processor(text, p, before, after)?;
-    add_shared(text, p, before, after)?;
+    let stored = before.uses(p).stored;
+    let far = is_far_step(fetch, stored);
+    add_processor(text, p, before, after, far)?;
+    add_shared(text, p, before, after, stored, far)?;
     add_outcome(text, outcome)?;
     let started = before.board_word(BoardWord::Cpue);
     add_starts(text, before.processors(), started, after.board_word(BoardWord::Cpue))
@@ -75,15 +125,11 @@ fn took_none(outcome: Outcome) -> bool
     }
 }
 
-// The word that the Step of processor `p` fetched.
-fn fetched<T: Tlb, D: Console>(p: u32, before: &Core<T, D>, outcome: Outcome) -> Option<u32>
-    requires { p < length before.now.state.processors }
-    ensures { result ≡ fetched p before.now.state outcome }
+// The word that a Step fetched, if that is this one where it fetched any.
+fn fetched(fetch: Option<u32>, outcome: Outcome) -> Option<u32>
+    ensures { result ≡ (if fetches_none outcome then None else fetch) }
 {
-    if took_none(outcome) {
-        return None;
-    }
-    before.fetched_word(p, before.pc(p))
+    if took_none(outcome) { None } else { fetch }
 }
 
 // Appends the place of an instruction.
@@ -154,13 +200,15 @@ fn push_step_line<T: Tlb, D: Console>(
     outcome: Outcome,
     after: &Core<T, D>,
 ) -> Result<(), AllocError>
-    requires { AreAlike p before.now.state after.now.state }
+    requires accepted { next before.now.state (events.Step p) ≡ Ok (outcome, after.now.state) }
     ensures { OnOk result (string_bytes text.new ≡ string_bytes text.old
         ++ step_line naming number p before.now.state outcome after.now.state) }
 {
-    push_step(text, naming, number, p, before.pc(p), fetched(p, before, outcome))?;
+    let pc = before.pc(p);
+    let fetch = before.fetched_word(p, pc);
+    push_step(text, naming, number, p, pc, fetched(fetch, outcome))?;
     items.clear();
-    add_items(items, p, before, outcome, after)?;
+    add_items(items, p, before, fetch, outcome, after)?;
     push_items(text, items.as_str())
 }
 
@@ -193,7 +241,7 @@ pub(crate) fn write_line<T: Tlb, D: Console>(
     outcome: Outcome,
     after: &Core<T, D>,
 ) -> Result<(), AllocError>
-    requires { IfStep event (λ p. AreAlike p before.now.state after.now.state) }
+    requires { next before.now.state event ≡ Ok (outcome, after.now.state) }
     ensures { OnOk result (string_bytes text.new ≡
         with_line_end (event_line naming number event before.now.state outcome after.now.state)) }
 {

@@ -1,11 +1,11 @@
 //! The words of the board that a Step changed.
 
-ghost use Rattle.std.specs.Prelude.{◌≡◌, ◌<◌, ◌≤◌, OnOk, length, string_bytes};
+ghost use Rattle.std.specs.Prelude.{◌≡◌, ◌<◌, OnOk, false, string_bytes};
 ghost use Rattle.m161_bus.specs.Board.{IsShown, shown_word};
-ghost use Rattle.m161_machine.specs.declared.event.Event.{Event};
 ghost use Rattle.m161_bus.specs.declared.register.BoardWord.TheVariants as words;
 ghost use Rattle.m161_trace.specs.Items.{board, board_item, changed, common_items, each, places_items};
 ghost use Rattle.m161_trace.specs.helpers.Adds.{Adds, Same, crams_of};
+ghost use Rattle.m161_trace.specs.helpers.Effects.{Reads};
 
 use crate::text::push_board;
 use m161_bus::Console;
@@ -134,8 +134,8 @@ fn add_crams<T: Tlb, D: Console>(
     Ok(())
 }
 
-/// The words of each processor, of which there are `n`.
-pub(crate) fn add_places<T: Tlb, D: Console>(
+// The words of each processor, of which there are `n`.
+fn add_all_places<T: Tlb, D: Console>(
     text: &mut String,
     n: u32,
     before: &Core<T, D>,
@@ -149,4 +149,27 @@ pub(crate) fn add_places<T: Tlb, D: Console>(
     add_enables(text, n, before, after)?;
     add_raised(text, n, before, after)?;
     add_crams(text, n, before, after)
+}
+
+/// The words of each processor, of which there are `n`, that changed; none did unless the Step is
+/// far.
+#[tactic(auto, using(crate::proofs::Nothing::no_places))]
+pub(crate) fn add_places<T: Tlb, D: Console>(
+    text: &mut String,
+    n: u32,
+    before: &Core<T, D>,
+    after: &Core<T, D>,
+    far: bool,
+) -> Result<(), AllocError>
+    requires same { Same n before.now.state after.now.state }
+    requires near { far ≡ false → Reads before.now.state.board after.now.state.board }
+    ensures { OnOk result (Adds (string_bytes text.old)
+        (places_items n before.now.state.board after.now.state.board)
+        (string_bytes text.new)) }
+{
+    if far {
+        add_all_places(text, n, before, after)
+    } else {
+        Ok(())
+    }
 }

@@ -1,9 +1,10 @@
 //! What a Step changed of its processor: its registers, coprocessor 0 and TLB before and after.
 
-ghost use Rattle.std.specs.Prelude.{◌≡◌, ◌+◌, ◌<◌, ◌≤◌, OnOk, Some, slice_get, string_bytes};
+ghost use Rattle.std.specs.Prelude.{◌≡◌, ◌<◌, OnOk, Some, false, slice_get, string_bytes};
 ghost use Rattle.m161_machine.specs.State.{processor_at};
 ghost use Rattle.m161_trace.specs.Items.{changed, control, control_item, control_items, hi, hi_lo_items, lo, processor_items, register, register_item, register_items, row_item, row_item_of, row_items, same_state, shown_registers, state_items};
 ghost use Rattle.m161_trace.specs.helpers.Adds.{Adds, Have};
+ghost use Rattle.m161_trace.specs.helpers.Steps.{IsNear};
 
 use crate::text::{push_control, push_doing, push_hi, push_lo, push_register, push_row};
 use m161_bus::Console;
@@ -238,7 +239,7 @@ fn add_row<T: Tlb, D: Console>(
 }
 
 // The rows that changed.
-pub(crate) fn add_rows<T: Tlb, D: Console>(
+fn add_rows<T: Tlb, D: Console>(
     text: &mut String,
     p: u32,
     before: &Core<T, D>,
@@ -256,14 +257,40 @@ pub(crate) fn add_rows<T: Tlb, D: Console>(
     Ok(())
 }
 
-/// The registers of the processor that changed, in the order of a line.
+// The rows that changed; none did unless the Step is far.
+#[tactic(auto, using(crate::proofs::Nothing::no_rows))]
+fn add_rows_if<T: Tlb, D: Console>(
+    text: &mut String,
+    p: u32,
+    before: &Core<T, D>,
+    after: &Core<T, D>,
+    far: bool,
+) -> Result<(), AllocError>
+    requires have { Have p before.now.state after.now.state }
+    requires near { far ≡ false → IsNear p before.now.state after.now.state }
+    ensures { OnOk result (Adds (string_bytes text.old)
+        (row_items (processor_at p before.now.state.processors).rows
+        (processor_at p after.now.state.processors).rows)
+        (string_bytes text.new)) }
+{
+    if far {
+        add_rows(text, p, before, after)
+    } else {
+        Ok(())
+    }
+}
+
+/// The registers of the processor that changed, in the order of a line. `far` says whether its rows
+/// can have changed.
 pub(crate) fn add_processor<T: Tlb, D: Console>(
     text: &mut String,
     p: u32,
     before: &Core<T, D>,
     after: &Core<T, D>,
+    far: bool,
 ) -> Result<(), AllocError>
-    requires { Have p before.now.state after.now.state }
+    requires have { Have p before.now.state after.now.state }
+    requires near { far ≡ false → IsNear p before.now.state after.now.state }
     ensures { OnOk result (Adds (string_bytes text.old)
         (processor_items p before.now.state after.now.state)
         (string_bytes text.new)) }
@@ -272,5 +299,5 @@ pub(crate) fn add_processor<T: Tlb, D: Console>(
     add_registers(text, p, before, after)?;
     add_hi_lo(text, p, before, after)?;
     add_controls(text, p, before, after)?;
-    add_rows(text, p, before, after)
+    add_rows_if(text, p, before, after, far)
 }

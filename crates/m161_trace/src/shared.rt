@@ -1,16 +1,15 @@
 //! What a Step changed beside its processor: RAM, links, the console, the board, and the processors
 //! that it started.
 
-ghost use Rattle.std.specs.Prelude.{◌≡◌, ◌<◌, ◌≤◌, OnOk, None, Some, length, slice_index_or, string_bytes};
-ghost use Rattle.m161_bus.specs.Board.{IsShown, shown_word};
-ghost use Rattle.m161_trace.specs.Items.{changed, latch_items, latched, link_items, linked, linked_items, outcome_items, start_item, start_items, stored_items, unlinked_by, unlinked_item, waiting, waiting_items};
+ghost use Rattle.std.specs.Prelude.{◌≡◌, ◌<◌, ◌≤◌, OnOk, None, length, slice_index_or, string_bytes};
+ghost use Rattle.m161_trace.specs.Items.{changed, latch_items, link_items, linked_items, outcome_items, start_item, start_items, stored_items, unlinked_by, unlinked_item, waiting};
 ghost use Rattle.m161_trace.specs.helpers.Adds.{Adds, Have};
 
 use crate::text::{
     push_latched, push_linked, push_starts, push_stored, push_trapped, push_unlinked, push_waiting,
 };
 use m161_bus::Console;
-use m161_machine::{BoardWord, Core, Outcome};
+use m161_machine::{Core, Outcome};
 use m161_tlb::Tlb;
 use std::alloc::AllocError;
 
@@ -50,6 +49,22 @@ fn add_linked(
         }
     }
     push_linked(text, word)
+}
+
+// The word that the link of the processor names in the two states.
+fn add_own_link<T: Tlb, D: Console>(
+    text: &mut String,
+    p: u32,
+    before: &Core<T, D>,
+    after: &Core<T, D>,
+) -> Result<(), AllocError>
+    requires { Have p before.now.state after.now.state }
+    ensures { OnOk result (Adds (string_bytes text.old)
+        (linked_items (slice_index_or before.now.state.links p None)
+        (slice_index_or after.now.state.links p None))
+        (string_bytes text.new)) }
+{
+    add_linked(text, before.link(p), after.link(p))
 }
 
 // Processor `q`, if its link ended.
@@ -100,7 +115,7 @@ pub(crate) fn add_links<T: Tlb, D: Console>(
         after.now.state.links)
         (string_bytes text.new)) }
 {
-    add_linked(text, before.link(p), after.link(p))?;
+    add_own_link(text, p, before, after)?;
     for q in 0..before.processors() {
         add_unlinked(text, before, after, q)?;
     }
@@ -167,6 +182,7 @@ fn add_start(text: &mut String, before: u32, after: u32, q: u32) -> Result<(), A
 }
 
 /// The processors that are new in CPUE: `n` is how many there are.
+#[tactic(auto, using(crate::proofs::Nothing::no_starts))]
 pub(crate) fn add_starts(
     text: &mut String,
     n: u32,
@@ -177,6 +193,9 @@ pub(crate) fn add_starts(
     ensures { OnOk result (Adds (string_bytes text.old) (start_items n before after)
         (string_bytes text.new)) }
 {
+    if before == after {
+        return Ok(());
+    }
     for q in 0..n {
         add_start(text, before, after, q)?;
     }

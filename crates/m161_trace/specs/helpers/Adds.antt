@@ -1,8 +1,6 @@
 use Rattle.std.specs.Prelude.{◌≡◌, ◌≤◌, ◌<◌, ◌++◌, ◌∷◌, ℕ, List, length}
 use Rattle.m161_bus.specs.Board.{BoardState}
 use Rattle.m161_bus.specs.declared.register.BoardWord.TheVariants as words
-use Rattle.m161_machine.specs.declared.event.Event.{Event}
-use Rattle.m161_machine.specs.declared.event.Event.TheVariants as events
 use Rattle.m161_machine.specs.State.{State}
 use Rattle.m161_trace.specs.Items.{Item, board_item, each}
 use Rattle.m161_trace.specs.Line.{spaced}
@@ -35,8 +33,3 @@ crams_of a b c = each 0 64 (λ k. board_item a b (words.Cram c k))
 pub record AreAlike (p : ℕ) (s t : State) : Type 0 where
   pub place : p < length s.processors
   pub as_many : length t.processors ≡ length s.processors
-
-abbrev pub IfStep : Event → (ℕ → Type 0) → Type 0
-IfStep (events.Step p) P = P p
-IfStep (events.Key byte) P = Unit {0}
-IfStep events.Done P = Unit {0}

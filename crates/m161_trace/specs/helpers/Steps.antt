@@ -6,6 +6,7 @@ use Rattle.m161_cpu.specs.declared.processor.Outcome.TheVariants.{PoweredOff}
 use Rattle.m161_cpu.specs.declared.fault.Fault.{Fault}
 use Rattle.m161_cpu.specs.Scene.{Change, Scene}
 use Rattle.m161_cpu.specs.Step.{Stepped, word_at_pc}
+use Rattle.m161_machine.specs.State.{State, processor_at}
 use Rattle.m161_trace.specs.helpers.Effects.{Facts, Moves, Reads, is_far}
 
 -- What a Step can change beside registers.
@@ -49,3 +50,12 @@ is_far_fetch (Err f) = false
 pub record Near (s : Scene) (x : Stepped) : Type 0 where
   pub rows : x.after.processor.rows ≡ s.processor.rows
   pub board : Reads s.around.board x.after.around.board
+
+abbrev pub is_far_found : Option ℕ → Bool
+is_far_found None = false
+is_far_found (Some word) = is_far_word word
+
+-- what an accepted Step of processor p from one state to the other keeps, if it is no far one
+pub record IsNear (p : ℕ) (s t : State) : Type 0 where
+  pub rows : (processor_at p t.processors).rows ≡ (processor_at p s.processors).rows
+  pub board : Reads s.board t.board
