@@ -1,12 +1,8 @@
 pub mod Spaced
 pub mod Members
-pub mod Effects
-pub mod Steps
 pub mod Started
-pub mod Boards
 pub mod Links
 pub mod Telling
 pub mod Shown
-pub mod Tell
-pub mod Near
 pub mod Nothing
+pub mod Gathered

@@ -6,12 +6,9 @@ use Rattle.m161_isa.specs.Bits.{has_bit}
 use Rattle.m161_tlb.specs.declared.row.Row.{Row}
 use Rattle.m161_bus.specs.declared.register.BoardWord.{BoardWord}
 use Rattle.m161_bus.specs.declared.register.BoardWord.TheVariants as words
-use Rattle.m161_bus.specs.declared.register.Register.{Register}
-use Rattle.m161_bus.specs.declared.register.Register.TheVariants.{Constant, Console, RamSize, Irqs, Power, Irqe, Cpus, Cpue, SelfBit, Cirqe, Cipi, Cram}
-use Rattle.m161_bus.specs.Board.{BoardState, PlaceState, after_read, place_at_boot, shown_word}
+use Rattle.m161_bus.specs.Board.{BoardState, PlaceState, place_at_boot, shown_word}
 use Rattle.m161_trace.specs.Items.{Item, board, board_item, changed, each, places_items, row_item, row_items, start_item, start_items}
 use Rattle.m161_trace.specs.Line.{spaced}
-use Rattle.m161_trace.specs.helpers.Effects.{Reads}
 use Rattle.m161_trace.proofs.Spaced.{spaced_none}
 
 -- Parts that are as before have no items.
@@ -49,24 +46,6 @@ no_rows old a b same = appended old (row_items a b) (ap (row_items a) same ∙ n
 
 -- the words of each processor
 
-places_kept : (r : Register) (a : BoardState) → (after_read r a).places ≡ a.places
-places_kept (Console c) a = refl
-places_kept (Constant word) a = refl
-places_kept RamSize a = refl
-places_kept Irqs a = refl
-places_kept Power a = refl
-places_kept Irqe a = refl
-places_kept Cpus a = refl
-places_kept Cpue a = refl
-places_kept SelfBit a = refl
-places_kept (Cirqe p) a = refl
-places_kept (Cipi p) a = refl
-places_kept (Cram p i) a = refl
-
-same_places : (a b : BoardState) → Reads a b → b.places ≡ a.places
-same_places a b (inl same) = ap (λ (x : BoardState). x.places) same
-same_places a b (inr (r, is)) = ap (λ (x : BoardState). x.places) is ∙ places_kept r a
-
 no_word : (a b : BoardState) (place : BoardWord) → shown_word place b ≡ shown_word place a → board_item a b place ≡ []
 no_word a b place same =
     ap (λ n. changed (shown_word place a) n (board place n)) same ∙ no_change (shown_word place a) (board place (shown_word place a))
@@ -82,8 +61,8 @@ no_places_of n a b same =
     (λ k. no_word a b (words.Cram c k) (ap (λ (ps : List PlaceState). get_or (get_or ps c (place_at_boot 0)).cram k 0) same))) in
     λ i. enables i ++ raised i ++ crams i
 
-pub no_places : (old : List ℕ) (n : ℕ) (a b : BoardState) → Reads a b → old ≡ old ++ spaced (places_items n a b)
-no_places old n a b reads = appended old (places_items n a b) (no_places_of n a b (same_places a b reads))
+pub no_places : (old : List ℕ) (n : ℕ) (a b : BoardState) → b.places ≡ a.places → old ≡ old ++ spaced (places_items n a b)
+no_places old n a b same = appended old (places_items n a b) (no_places_of n a b same)
 
 -- the processors that were started
 

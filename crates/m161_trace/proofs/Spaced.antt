@@ -1,12 +1,12 @@
-use Rattle.std.proofs.Common.{◌≡◌, ◌∙◌, refl, sym, ap, ℕ, ◌+◌, ◌-◌, ◌≤◌, ◌<◌, Bool, true, false, List, [], ◌∷◌, ◌++◌, map, take, length, get_or, arith, append_assoc}
-use Rattle.std.specs.Prelude.{◌==◌, flat_map, if◌then◌else◌}
+use Rattle.std.proofs.Common.{◌≡◌, ◌∙◌, refl, sym, ap, ℕ, ◌+◌, ◌-◌, ◌≤◌, ◌<◌, Bool, true, false, List, [], ◌∷◌, ◌++◌, map, take, length, get_or, arith, append_assoc, Result, Ok, Err}
+use Rattle.std.specs.Prelude.{◌==◌, OnOk, flat_map, if◌then◌else◌}
 use Rattle.std.proofs.lemmas.Bool.Decides.{Decides-eqb}
 use Rattle.std.specs.List.{range_with_len}
 use Rattle.std.proofs.lemmas.List.{append-nil, flat_map_more, take_more, map-id}
 use Rattle.std.proofs.lemmas.List.Concat.{flat_map-append}
 use Rattle.std.proofs.lemmas.List.FromFn.{map-range_with_len_more}
 use Rattle.m161_trace.specs.Items.{Item, changed, each}
-use Rattle.m161_trace.specs.Line.{item_text, spaced}
+use Rattle.m161_trace.specs.Line.{behind, item_text, spaced}
 
 -- Items, a space before each.
 
@@ -37,7 +37,7 @@ grown old mid new xs ys zs are h k = both old mid new xs ys h k ∙ ap (λ is. o
 
 -- a part with the same value has no item; one that differs has
 
-same_if : (t : Bool) (old : List ℕ) (i : Item) → t ≡ true → old ≡ old ++ spaced (if t then [] else i ∷ [])
+pub same_if : (t : Bool) (old : List ℕ) (i : Item) → t ≡ true → old ≡ old ++ spaced (if t then [] else i ∷ [])
 same_if true old i is = spaced_none old
 same_if false old i is = absurd (let bad : false ≡ true = is in cc)
 
@@ -51,6 +51,45 @@ differs_if false before after old new i is ne h = one old new i h
 
 pub differs : (old new : List ℕ) (before after : ℕ) (i : Item) → (before ≡ after → ⊥) → new ≡ old ++ 32 ∷ item_text i → new ≡ old ++ spaced (changed before after i)
 differs old new before after i ne h = differs_if (before == after) before after old new i refl ne h
+
+-- the same of a call that appends an item, if it succeeds
+
+pub one_ok : {T E : Type 0} (r : Result T E) (old new : List ℕ) (i : Item) → OnOk r (new ≡ old ++ 32 ∷ item_text i) → OnOk r (new ≡ old ++ spaced (i ∷ []))
+one_ok (Ok x) old new i h = one old new i h
+one_ok (Err e) old new i h = tt
+
+pub differs_ok : {T E : Type 0} (r : Result T E) (old new : List ℕ) (before after : ℕ) (i : Item) → (before ≡ after → ⊥) → OnOk r (new ≡ old ++ 32 ∷ item_text i)
+    → OnOk r (new ≡ old ++ spaced (changed before after i))
+differs_ok (Ok x) old new before after i ne h = differs old new before after i ne h
+differs_ok (Err e) old new before after i ne h = tt
+
+pub unless_ok : {T E : Type 0} (r : Result T E) (t : Bool) (old new : List ℕ) (i : Item) → t ≡ false → OnOk r (new ≡ old ++ 32 ∷ item_text i)
+    → OnOk r (new ≡ old ++ spaced (if t then [] else i ∷ []))
+unless_ok r true old new i is h = absurd (let bad : true ≡ false = is in cc)
+unless_ok r false old new i is h = one_ok r old new i h
+
+pub when_ok : {T E : Type 0} (r : Result T E) (t : Bool) (old new : List ℕ) (i : Item) → t ≡ true → OnOk r (new ≡ old ++ 32 ∷ item_text i)
+    → OnOk r (new ≡ old ++ spaced (if t then i ∷ [] else []))
+when_ok r true old new i is h = one_ok r old new i h
+when_ok r false old new i is h = absurd (let bad : false ≡ true = is in cc)
+
+pub not_when : (t : Bool) (old : List ℕ) (i : Item) → t ≡ false → old ≡ old ++ spaced (if t then i ∷ [] else [])
+not_when true old i is = absurd (let bad : true ≡ false = is in cc)
+not_when false old i is = spaced_none old
+
+-- items behind a line's beginning
+
+pub nothing_behind : (old items : List ℕ) (is : List Item) → length items ≡ 0 → items ≡ spaced is → old ≡ old ++ behind is
+unfolding spaced
+nothing_behind old items [] none are = sym (append-nil old)
+nothing_behind old items (i ∷ is) none are = absurd (let long : length items ≡ length (spaced (i ∷ is)) = ap length are in let bad : ⊥ = omega (arith, long, none) in bad)
+
+pub some_behind : {T E : Type 0} (r : Result T E) (old mid new items : List ℕ) (is : List Item) → (length items ≡ 0 → ⊥) → items ≡ spaced is → mid ≡ old ++ 32 ∷ []
+    → OnOk r (new ≡ mid ++ items) → OnOk r (new ≡ old ++ behind is)
+unfolding spaced
+some_behind r old mid new items [] some are here h = absurd (some (ap length are))
+some_behind (Ok x) old mid new items (i ∷ is) some are here h = h ∙ ap (λ bs. bs ++ items) here ∙ append_assoc old (32 ∷ []) items ∙ ap (λ bs. old ++ 32 ∷ bs) are
+some_behind (Err e) old mid new items (i ∷ is) some are here h = tt
 
 counted : (a n j : ℕ) → a + n ≡ j → range_with_len a (n + 1) ≡ range_with_len a n ++ j ∷ []
 counted a n j e =

@@ -126,15 +126,22 @@ stored_items (Some at) memory = stored_as at (word_in memory at)
 
 -- Links.
 
+abbrev pub linked_as : Option ℕ → ℕ → List Item
+linked_as None word = linked word ∷ []
+linked_as (Some old) word = changed old word (linked word)
+
 abbrev pub linked_items : Option ℕ → Option ℕ → List Item
 linked_items before None = []
-linked_items None (Some word) = linked word ∷ []
-linked_items (Some old) (Some word) = changed old word (linked word)
+linked_items before (Some word) = linked_as before word
+
+-- a link that was live, by what is left of it
+abbrev pub ended_by : ℕ → Option ℕ → List Item
+ended_by q None = unlinked q ∷ []
+ended_by q (Some word) = []
 
 abbrev pub unlinked_by : ℕ → Option ℕ → Option ℕ → List Item
 unlinked_by q None after = []
-unlinked_by q (Some word) None = unlinked q ∷ []
-unlinked_by q (Some word) (Some other) = []
+unlinked_by q (Some word) after = ended_by q after
 
 abbrev pub unlinked_item : List (Option ℕ) → List (Option ℕ) → ℕ → List Item
 unlinked_item a b q = unlinked_by q (slice_index_or a q None) (slice_index_or b q None)
@@ -145,10 +152,13 @@ link_items p n a b =
 
 -- The console and the board.
 
+abbrev pub latched_as : Option ℕ → ℕ → List Item
+latched_as None byte = latched byte ∷ []
+latched_as (Some old) byte = changed old byte (latched byte)
+
 abbrev pub latch_items : Option ℕ → Option ℕ → List Item
 latch_items before None = []
-latch_items None (Some byte) = latched byte ∷ []
-latch_items (Some old) (Some byte) = changed old byte (latched byte)
+latch_items before (Some byte) = latched_as before byte
 
 abbrev pub waiting_items : ConsoleState → ConsoleState → List Item
 waiting_items a b = changed (length a.waiting) (length b.waiting) (waiting (length b.waiting))

@@ -9,7 +9,7 @@ use Rattle.m161_cpu.specs.declared.processor.Outcome.{Outcome}
 use Rattle.m161_cpu.specs.declared.processor.Outcome.TheVariants as outcomes
 use Rattle.m161_cpu.specs.declared.processor.ProcessorState.{ProcessorState}
 use Rattle.m161_cpu.specs.declared.processor.ProcessorState.TheVariants as states
-use Rattle.m161_cpu.specs.Fetch.{fetched_word}
+use Rattle.m161_trace.specs.helpers.Fetch.{fetched_word}
 use Rattle.m161_machine.specs.declared.event.Event.{Event}
 use Rattle.m161_machine.specs.declared.event.Event.TheVariants as events
 use Rattle.m161_machine.specs.State.{State, processor_at}

@@ -1,4 +1,5 @@
 -- Definitions that only contracts of private functions, or proofs, use.
 pub mod Adds
-pub mod Effects
-pub mod Steps
+pub mod Far
+pub mod Near
+pub mod Fetch

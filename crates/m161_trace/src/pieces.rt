@@ -99,10 +99,12 @@ impl Pieces {
         ensures err { OnErr result (self.new ≡ self.old) }
     {
         self.text.reserve(line.len())?;
-        if !fits(self.text.len(), line.len()) {
-            write_piece(output, self.text.as_str())?;
-            self.text.clear();
+        if fits(self.text.len(), line.len()) {
+            self.text.push_str(line)?;
+            return Ok(());
         }
+        write_piece(output, self.text.as_str())?;
+        self.text.clear();
         self.text.push_str(line)?;
         Ok(())
     }

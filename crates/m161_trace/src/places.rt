@@ -5,7 +5,6 @@ ghost use Rattle.m161_bus.specs.Board.{IsShown, shown_word};
 ghost use Rattle.m161_bus.specs.declared.register.BoardWord.TheVariants as words;
 ghost use Rattle.m161_trace.specs.Items.{board, board_item, changed, common_items, each, places_items};
 ghost use Rattle.m161_trace.specs.helpers.Adds.{Adds, Same, crams_of};
-ghost use Rattle.m161_trace.specs.helpers.Effects.{Reads};
 
 use crate::text::push_board;
 use m161_bus::Console;
@@ -42,7 +41,12 @@ fn add_word<T: Tlb, D: Console>(
         (board_item before.now.state.board after.now.state.board place)
         (string_bytes text.new)) }
 {
-    add_changed_word(text, place, before.board_word(place), after.board_word(place))
+    add_changed_word(
+        text,
+        place,
+        before.board_word(place),
+        after.board_word(place),
+    )
 }
 
 /// The words that the board has one of.
@@ -162,7 +166,8 @@ pub(crate) fn add_places<T: Tlb, D: Console>(
     far: bool,
 ) -> Result<(), AllocError>
     requires same { Same n before.now.state after.now.state }
-    requires near { far ≡ false → Reads before.now.state.board after.now.state.board }
+    requires near { far ≡ false
+        → after.now.state.board.places ≡ before.now.state.board.places }
     ensures { OnOk result (Adds (string_bytes text.old)
         (places_items n before.now.state.board after.now.state.board)
         (string_bytes text.new)) }

@@ -1,10 +1,11 @@
 //! What a Step changed of its processor: its registers, coprocessor 0 and TLB before and after.
 
-ghost use Rattle.std.specs.Prelude.{◌≡◌, ◌<◌, OnOk, Some, false, slice_get, string_bytes};
+ghost use Rattle.std.specs.Prelude.{◌≡◌, ◌<◌, ◌==◌, ◌&&◌, OnOk, Some, false, slice_get, string_bytes};
 ghost use Rattle.m161_machine.specs.State.{processor_at};
+ghost use Rattle.m161_tlb.specs.Row.{hi_word, lo_word};
 ghost use Rattle.m161_trace.specs.Items.{changed, control, control_item, control_items, hi, hi_lo_items, lo, processor_items, register, register_item, register_items, row_item, row_item_of, row_items, same_state, shown_registers, state_items};
 ghost use Rattle.m161_trace.specs.helpers.Adds.{Adds, Have};
-ghost use Rattle.m161_trace.specs.helpers.Steps.{IsNear};
+ghost use Rattle.m161_trace.specs.helpers.Near.{IsNear};
 
 use crate::text::{push_control, push_doing, push_hi, push_lo, push_register, push_row};
 use m161_bus::Console;
@@ -53,12 +54,7 @@ fn add_state(
 }
 
 // A register, if it changed.
-fn add_changed_register(
-    text: &mut String,
-    r: u8,
-    before: u32,
-    after: u32,
-) -> Result<(), AllocError>
+fn add_changed_register(text: &mut String, r: u8, before: u32, after: u32) -> Result<(), AllocError>
     ensures { OnOk result (Adds (string_bytes text.old) (changed before after (register r after))
         (string_bytes text.new)) }
 {
@@ -203,21 +199,23 @@ fn add_controls<T: Tlb, D: Console>(
     Ok(())
 }
 
+// Whether a row has the same words.
+fn same_row(before: &Row, after: &Row) -> bool
+    ensures { result ≡ (hi_word before.now == hi_word after.now)
+        && (lo_word before.now == lo_word after.now) }
+{
+    before.entry_hi() == after.entry_hi() && before.entry_lo() == after.entry_lo()
+}
+
 // Row `i`, if one of its words changed.
-fn add_changed_row(
-    text: &mut String,
-    i: u8,
-    before: &Row,
-    after: &Row,
-) -> Result<(), AllocError>
+fn add_changed_row(text: &mut String, i: u8, before: &Row, after: &Row) -> Result<(), AllocError>
     ensures { OnOk result (Adds (string_bytes text.old) (row_item_of i before.now after.now)
         (string_bytes text.new)) }
 {
-    let (high, low) = (after.entry_hi(), after.entry_lo());
-    if before.entry_hi() == high && before.entry_lo() == low {
+    if same_row(before, after) {
         return Ok(());
     }
-    push_row(text, i, high, low)
+    push_row(text, i, after.entry_hi(), after.entry_lo())
 }
 
 // Row `i` of the two states.

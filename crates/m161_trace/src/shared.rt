@@ -1,12 +1,14 @@
 //! What a Step changed beside its processor: RAM, links, the console, the board, and the processors
 //! that it started.
 
-ghost use Rattle.std.specs.Prelude.{◌≡◌, ◌<◌, ◌≤◌, OnOk, None, length, slice_index_or, string_bytes};
-ghost use Rattle.m161_trace.specs.Items.{changed, latch_items, link_items, linked_items, outcome_items, start_item, start_items, stored_items, unlinked_by, unlinked_item, waiting};
+ghost use Rattle.std.specs.Prelude.{◌≡◌, ◌<◌, ◌≤◌, ◌&&◌, OnOk, None, length, not, slice_index_or, string_bytes};
+ghost use Rattle.m161_isa.specs.Bits.{has_bit};
+ghost use Rattle.m161_trace.specs.Items.{changed, ended_by, latch_items, latched, latched_as, link_items, linked, linked_as, linked_items, outcome_items, start_item, start_items, stored_items, unlinked_by, unlinked_item, waiting};
 ghost use Rattle.m161_trace.specs.helpers.Adds.{Adds, Have};
 
 use crate::text::{
-    push_latched, push_linked, push_starts, push_stored, push_trapped, push_unlinked, push_waiting,
+    push_idle, push_latched, push_linked, push_off, push_starts, push_stored, push_trapped,
+    push_unlinked, push_waiting,
 };
 use m161_bus::Console;
 use m161_machine::{Core, Outcome};
@@ -31,24 +33,37 @@ pub(crate) fn add_stored<T: Tlb, D: Console>(
     }
 }
 
-// The word that the processor's link names, if that changed.
-fn add_linked(
-    text: &mut String,
-    before: Option<u32>,
-    after: Option<u32>,
-) -> Result<(), AllocError>
+// The word that a link names, if it names another.
+fn add_changed_link(text: &mut String, before: u32, after: u32) -> Result<(), AllocError>
+    ensures { OnOk result (Adds (string_bytes text.old) (changed before after (linked after))
+        (string_bytes text.new)) }
+{
+    if before == after {
+        return Ok(());
+    }
+    push_linked(text, after)
+}
+
+// The word that a live link names, if that changed.
+fn add_linked_as(text: &mut String, before: Option<u32>, word: u32) -> Result<(), AllocError>
+    ensures { OnOk result (Adds (string_bytes text.old) (linked_as before word)
+        (string_bytes text.new)) }
+{
+    match before {
+        None => push_linked(text, word),
+        Some(old) => add_changed_link(text, old, word),
+    }
+}
+
+// The word that a link names, if it is live and that changed.
+fn add_linked(text: &mut String, before: Option<u32>, after: Option<u32>) -> Result<(), AllocError>
     ensures { OnOk result (Adds (string_bytes text.old) (linked_items before after)
         (string_bytes text.new)) }
 {
-    let Some(word) = after else {
-        return Ok(());
-    };
-    if let Some(old) = before {
-        if old == word {
-            return Ok(());
-        }
+    match after {
+        None => Ok(()),
+        Some(word) => add_linked_as(text, before, word),
     }
-    push_linked(text, word)
 }
 
 // The word that the link of the processor names in the two states.
@@ -67,6 +82,17 @@ fn add_own_link<T: Tlb, D: Console>(
     add_linked(text, before.link(p), after.link(p))
 }
 
+// Processor `q`, whose link was live, if that ended.
+fn add_ended(text: &mut String, q: u32, after: Option<u32>) -> Result<(), AllocError>
+    ensures { OnOk result (Adds (string_bytes text.old) (ended_by q after)
+        (string_bytes text.new)) }
+{
+    match after {
+        None => push_unlinked(text, q),
+        Some(_word) => Ok(()),
+    }
+}
+
 // Processor `q`, if its link ended.
 fn add_unlinked_by(
     text: &mut String,
@@ -77,12 +103,9 @@ fn add_unlinked_by(
     ensures { OnOk result (Adds (string_bytes text.old) (unlinked_by q before after)
         (string_bytes text.new)) }
 {
-    let Some(_word) = before else {
-        return Ok(());
-    };
-    match after {
-        Some(_word) => Ok(()),
-        None => push_unlinked(text, q),
+    match before {
+        None => Ok(()),
+        Some(_word) => add_ended(text, q, after),
     }
 }
 
@@ -122,7 +145,29 @@ pub(crate) fn add_links<T: Tlb, D: Console>(
     Ok(())
 }
 
-/// The byte in the console's latch, if that changed.
+// The byte in the console's latch, if it is another.
+fn add_changed_latch(text: &mut String, before: u8, after: u8) -> Result<(), AllocError>
+    ensures { OnOk result (Adds (string_bytes text.old) (changed before after (latched after))
+        (string_bytes text.new)) }
+{
+    if before == after {
+        return Ok(());
+    }
+    push_latched(text, after)
+}
+
+// The byte in the console's latch, which is full, if that changed.
+fn add_latched_as(text: &mut String, before: Option<u8>, byte: u8) -> Result<(), AllocError>
+    ensures { OnOk result (Adds (string_bytes text.old) (latched_as before byte)
+        (string_bytes text.new)) }
+{
+    match before {
+        None => push_latched(text, byte),
+        Some(old) => add_changed_latch(text, old, byte),
+    }
+}
+
+/// The byte in the console's latch, if there is one and that changed.
 pub(crate) fn add_latch(
     text: &mut String,
     before: Option<u8>,
@@ -131,15 +176,10 @@ pub(crate) fn add_latch(
     ensures { OnOk result (Adds (string_bytes text.old) (latch_items before after)
         (string_bytes text.new)) }
 {
-    let Some(byte) = after else {
-        return Ok(());
-    };
-    if let Some(old) = before {
-        if old == byte {
-            return Ok(());
-        }
+    match after {
+        None => Ok(()),
+        Some(byte) => add_latched_as(text, before, byte),
     }
-    push_latched(text, byte)
 }
 
 /// How many typed bytes wait, if that changed.
@@ -159,11 +199,20 @@ pub(crate) fn add_outcome(text: &mut String, outcome: Outcome) -> Result<(), All
         (string_bytes text.new)) }
 {
     match outcome {
-        Outcome::Ran | Outcome::Taken => Ok(()),
+        Outcome::Ran => Ok(()),
+        Outcome::Taken => Ok(()),
         Outcome::Trapped { code, vector } => push_trapped(text, code, vector),
-        Outcome::Idle => text.push_str(" idle"),
-        Outcome::PoweredOff => text.push_str(" off"),
+        Outcome::Idle => push_idle(text),
+        Outcome::PoweredOff => push_off(text),
     }
+}
+
+// Whether processor `q` is new in CPUE.
+fn is_new(before: u32, after: u32, q: u32) -> bool
+    requires { q < 32 }
+    ensures { result ≡ has_bit after q && not (has_bit before q) }
+{
+    (after >> q) % 2 == 1 && (before >> q) % 2 != 1
 }
 
 // Processor `q`, if it is new in CPUE.
@@ -172,13 +221,11 @@ fn add_start(text: &mut String, before: u32, after: u32, q: u32) -> Result<(), A
     ensures { OnOk result (Adds (string_bytes text.old) (start_item before after q)
         (string_bytes text.new)) }
 {
-    if (after >> q) % 2 != 1 {
-        return Ok(());
+    if is_new(before, after, q) {
+        push_starts(text, q)
+    } else {
+        Ok(())
     }
-    if (before >> q) % 2 == 1 {
-        return Ok(());
-    }
-    push_starts(text, q)
 }
 
 /// The processors that are new in CPUE: `n` is how many there are.

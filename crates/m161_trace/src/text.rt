@@ -1,7 +1,8 @@
 //! Items as text, each behind a space.
 
-ghost use Rattle.std.specs.Prelude.{◌≡◌, ◌++◌, ◌∷◌, OnOk, string_bytes};
-ghost use Rattle.m161_trace.specs.Items.{board, control, doing, hi, latched, linked, lo, register, row, starts, stored, trapped, unlinked, waiting};
+ghost use Rattle.std.specs.Prelude.{◌≡◌, ◌++◌, ◌∷◌, OnOk, codes, string_bytes};
+ghost use Rattle.m161_trace.specs.Items.{board, control, doing, hi, idle, latched, linked, lo, off, register, row, starts, stored, trapped, unlinked, waiting};
+ghost use Rattle.m161_text.specs.Parts.{word_text};
 ghost use Rattle.m161_trace.specs.Line.{item_text, place_text, value_text};
 ghost use Rattle.m161_trace.specs.helpers.Adds.{AddsPart};
 
@@ -77,14 +78,24 @@ pub(crate) fn push_row(text: &mut String, i: u8, high: u32, low: u32) -> Result<
     push_hex(text, 8, low)
 }
 
+// The address of a word of RAM, in brackets.
+fn push_address(text: &mut String, at: u32) -> Result<(), AllocError>
+    ensures { OnOk result (AddsPart (string_bytes text.old)
+        (codes "[" ++ word_text at ++ codes "]")
+        (string_bytes text.new)) }
+{
+    text.push_str(" [")?;
+    push_hex(text, 8, at)?;
+    text.push(']')
+}
+
 /// A word of RAM that was stored to.
 pub(crate) fn push_stored(text: &mut String, at: u32, word: u32) -> Result<(), AllocError>
     ensures { OnOk result (AddsPart (string_bytes text.old) (item_text (stored at word))
         (string_bytes text.new)) }
 {
-    text.push_str(" [")?;
-    push_hex(text, 8, at)?;
-    text.push_str("]=")?;
+    push_address(text, at)?;
+    text.push('=')?;
     push_hex(text, 8, word)
 }
 
@@ -138,11 +149,7 @@ fn push_place(text: &mut String, place: BoardWord) -> Result<(), AllocError>
 }
 
 /// A word of the board.
-pub(crate) fn push_board(
-    text: &mut String,
-    place: BoardWord,
-    word: u32,
-) -> Result<(), AllocError>
+pub(crate) fn push_board(text: &mut String, place: BoardWord, word: u32) -> Result<(), AllocError>
     ensures { OnOk result (AddsPart (string_bytes text.old) (item_text (board place word))
         (string_bytes text.new)) }
 {
@@ -162,6 +169,22 @@ pub(crate) fn push_trapped(
 {
     write!(text, " trap {} ", code.number())?;
     push_hex(text, 8, vector)
+}
+
+/// That the Step was idle.
+pub(crate) fn push_idle(text: &mut String) -> Result<(), AllocError>
+    ensures { OnOk result (AddsPart (string_bytes text.old) (item_text idle)
+        (string_bytes text.new)) }
+{
+    text.push_str(" idle")
+}
+
+/// That the Step switched the machine off.
+pub(crate) fn push_off(text: &mut String) -> Result<(), AllocError>
+    ensures { OnOk result (AddsPart (string_bytes text.old) (item_text off)
+        (string_bytes text.new)) }
+{
+    text.push_str(" off")
 }
 
 /// A processor that was started.

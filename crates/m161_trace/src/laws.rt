@@ -1,9 +1,0 @@
-//! A law of the items. The function does nothing: its contract is the law.
-
-ghost use Rattle.m161_trace.specs.Law.{ItemsTell};
-
-/// The items of a Step tell what it changed: each shows its part's value after the Step, and a part
-/// without an item has the value that it had.
-pub fn items_tell()
-    ensures { ItemsTell }
-{}
