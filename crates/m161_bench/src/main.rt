@@ -3,7 +3,8 @@
 //!
 //! ```text
 //! m161_bench RUNS [STEPS [ROW]]   RUNS runs of STEPS Steps each, or of 1,000,000; the loop runs in
-//!                                 kseg0, or mapped by ROW of the TLB
+//!                                 kseg0, or mapped by ROW of the TLB; where ROW is `pages`, all 64
+//!                                 rows are valid, and it runs through eight mapped pages in turn
 //! m161_bench window RUNS STEPS LOG  the same in kseg0, with a log of LOG entries, which keeps the
 //!                                 last ones; the Steps of the others are made on its base too
 //! m161_bench log STEPS            writes the log of one run in kseg0 as text, and reads it back
@@ -23,7 +24,7 @@ mod image;
 mod log;
 mod steps;
 
-use crate::image::image;
+use crate::image::{Mapping, image};
 use crate::log::measure;
 use crate::steps::runs;
 use std::env;
@@ -40,13 +41,22 @@ enum Task {
     Runs {
         runs: u32,
         steps: u32,
-        row: Option<u8>,
+        mapping: Mapping,
         log: u32,
     },
     /// The times of a log as text.
     Log {
         steps: u32,
     },
+}
+
+// The mapping that a word names.
+fn mapping(word: &str) -> Option<Mapping> {
+    if word == "pages" {
+        return Some(Mapping::Pages);
+    }
+    let row = word.parse().ok()?;
+    Some(Mapping::Row(row))
 }
 
 // The task of the arguments.
@@ -61,7 +71,7 @@ fn arguments(rt: &HostRuntime) -> Option<Task> {
         return Some(Task::Runs {
             runs: words.next()?.parse().ok()?,
             steps: words.next()?.parse().ok()?,
-            row: None,
+            mapping: Mapping::Kseg0,
             log: words.next()?.parse().ok()?,
         });
     }
@@ -70,21 +80,21 @@ fn arguments(rt: &HostRuntime) -> Option<Task> {
         Some(steps) => steps.parse().ok()?,
         None => STEPS,
     };
-    let row = match words.next() {
-        Some(row) => Some(row.parse().ok()?),
-        None => None,
+    let mapping = match words.next() {
+        Some(word) => mapping(word.as_str())?,
+        None => Mapping::Kseg0,
     };
     Some(Task::Runs {
         runs,
         steps,
-        row,
+        mapping,
         log: steps,
     })
 }
 
 // Makes the runs and prints their results; `None` if something fails.
-fn make_runs(rt: &HostRuntime, times: u32, steps: u32, row: Option<u8>, log: u32) -> Option<()> {
-    let image = image(rt.alloc(), row)?;
+fn make_runs(rt: &HostRuntime, times: u32, steps: u32, mapping: Mapping, log: u32) -> Option<()> {
+    let image = image(rt.alloc(), mapping)?;
     let start = Instant::now(rt).ok()?;
     let (word, count) = runs(rt.alloc(), image.as_slice(), times, steps, log)?;
     let took = start.elapsed(rt).ok()?;
@@ -95,7 +105,7 @@ fn make_runs(rt: &HostRuntime, times: u32, steps: u32, row: Option<u8>, log: u32
 
 // Writes and reads the log of a run and prints the result; `None` if something fails.
 fn make_log(rt: &HostRuntime, steps: u32) -> Option<()> {
-    let image = image(rt.alloc(), None)?;
+    let image = image(rt.alloc(), Mapping::Kseg0)?;
     let measured = measure(rt, image.as_slice(), steps)?;
     println!(rt; "{} {}", measured.bytes, measured.entries).ok()?;
     eprintln!(rt; "{} {}", measured.write, measured.read).ok()
@@ -109,9 +119,9 @@ fn main(rt: HostRuntime) -> ExitCode {
         Task::Runs {
             runs,
             steps,
-            row,
+            mapping,
             log,
-        } => make_runs(&rt, runs, steps, row, log),
+        } => make_runs(&rt, runs, steps, mapping, log),
         Task::Log { steps } => make_log(&rt, steps),
     };
     ExitCode::from(if done.is_some() { 0 } else { 1 })

@@ -1,4 +1,4 @@
-use Rattle.std.proofs.Common.{◌≡◌, refl, ℕ, Bool, true, false, List, length, Ok, Err}
+use Rattle.std.proofs.Common.{◌≡◌, refl, subst, ℕ, Bool, true, false, List, length, Ok, Err}
 use Rattle.std.specs.Prelude.{◌&&◌, ◌==◌}
 use Rattle.m161_isa.specs.Bits.{bits_of}
 use Rattle.m161_ram.specs.Word.{word_at}
@@ -21,8 +21,11 @@ pub in_kernel_mode : (c : Control) (word : ℕ) → is_user c ≡ false → is_u
 unfolding may_use_cop0
 in_kernel_mode c word kernel = rw kernel (never (bits_of word 26 6 == 16))
 
-pub unusable : (memory : List ℕ) (p : Processor) (at : ℕ)
+pub unusable : (memory : List ℕ) (p q : Processor) (at : ℕ) → q ≡ p
     → reach Fetch 4 p.pc (length memory) p ≡ Ok at →
-    is_unusable p.control (word_at memory at) ≡ true →
+    is_unusable q.control (word_at memory at) ≡ true →
     executable_word memory p ≡ Err (fault kind.Coprocessor0Unusable)
-unusable memory p at found is = rw (found, is) refl
+unusable memory p q at same found is =
+    let here : is_unusable p.control (word_at memory at) ≡ true =
+    subst (λ (r : Processor). is_unusable r.control (word_at memory at) ≡ true) same is in
+    rw (found, here) refl

@@ -1,6 +1,7 @@
 mod Decoded
 mod Linked
 mod Located
+mod KeptRows
 pub mod Performed
 mod Slots
 pub mod Fetched

@@ -3,8 +3,10 @@ pub mod Scene
 pub mod Links
 pub mod Fault
 pub mod Translation
+pub mod Kept
 pub mod Effect
 pub mod Step
+pub mod Fetch
 pub mod Resting
 pub mod Uses
 pub mod UsesLaw

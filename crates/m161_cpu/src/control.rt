@@ -85,7 +85,8 @@ impl<T: Tlb> Cpu<T> {
         self.control.set_tlb_row(row.entry_hi(), row.entry_lo());
     }
 
-    // Writes EntryHi and EntryLo into a row.
+    // Writes EntryHi and EntryLo into a row. What was kept of the old row's page and of the new one's
+    // needn't hold any more.
     #[cold]
     #[inline(never)]
     fn write_row(&mut self, i: u8)
@@ -93,6 +94,11 @@ impl<T: Tlb> Cpu<T> {
         ensures { self.new ≡ with_row i (entry_row self.old.control) self.old }
     {
         let row = Row::from_words(self.control.entry_hi(), self.control.entry_lo());
+        let old = self.tlb.read(i).page.number();
+        let new = row.page.number();
+        self.fetches.forget(old, new);
+        self.loads.forget(old, new);
+        self.stores.forget(old, new);
         self.tlb.write(i, row);
     }
 

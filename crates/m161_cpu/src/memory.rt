@@ -99,7 +99,7 @@ impl<T: Tlb> Cpu<T> {
     /// A word of RAM or of the slots.
     #[inline(always)]
     fn read_word<D: Console>(
-        &self,
+        &mut self,
         address: u32,
         c: u32,
         ram: &Ram,
@@ -107,12 +107,13 @@ impl<T: Tlb> Cpu<T> {
     ) -> Result<u32, Fault>
         requires processor { c < board.old.state.processors }
         requires ram { length ram.now ≤ 2 ^ 29 }
-        ensures word { FindsWord (read_word address self.now c ram.now board.old.state)
+        ensures same { self.new ≡ self.old }
+        ensures word { FindsWord (read_word address self.old c ram.now board.old.state)
             board.old.state result board.new.state }
         ensures board { KeepsSizeAndRoom board.old board.new }
         ensures off { board.new.state.off ≡ board.old.state.off }
     {
-        match self.direct(4, address, ram.size()) {
+        match self.place(Access::Load, 4, address, ram.size()) {
             Some(at) => Ok(ram.word(at)),
             None => self.read_word_aside(address, c, ram, board),
         }
@@ -122,14 +123,15 @@ impl<T: Tlb> Cpu<T> {
     // the result.
     #[inline(always)]
     fn read_word_aside<D: Console>(
-        &self,
+        &mut self,
         address: u32,
         c: u32,
         ram: &Ram,
         board: &mut Board<D>,
     ) -> Result<u32, Fault>
         requires processor { c < board.old.state.processors }
-        ensures word { FindsWord (read_word address self.now c ram.now board.old.state)
+        ensures same { self.new ≡ self.old }
+        ensures word { FindsWord (read_word address self.old c ram.now board.old.state)
             board.old.state result board.new.state }
         ensures board { KeepsSizeAndRoom board.old board.new }
         ensures off { board.new.state.off ≡ board.old.state.off }
@@ -141,14 +143,15 @@ impl<T: Tlb> Cpu<T> {
     #[cold]
     #[inline(never)]
     fn read_word_elsewhere<D: Console>(
-        &self,
+        &mut self,
         address: u32,
         c: u32,
         ram: &Ram,
         board: &mut Board<D>,
     ) -> Result<u32, Fault>
         requires processor { c < board.old.state.processors }
-        ensures word { FindsWord (read_word address self.now c ram.now board.old.state)
+        ensures same { self.new ≡ self.old }
+        ensures word { FindsWord (read_word address self.old c ram.now board.old.state)
             board.old.state result board.new.state }
         ensures board { KeepsSizeAndRoom board.old board.new }
         ensures off { board.new.state.off ≡ board.old.state.off }
@@ -271,7 +274,7 @@ impl<T: Tlb> Cpu<T> {
         ensures board { KeepsSizeAndRoom board.old board.new }
         ensures size { length ram.new ≡ length ram.old }
     {
-        if let Some(at) = self.direct(4, address, ram.size()) {
+        if let Some(at) = self.place(Access::Store, 4, address, ram.size()) {
             ram.set_word(at, word);
             self.end_store(at, links);
             return Ok(());

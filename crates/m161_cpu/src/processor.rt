@@ -12,6 +12,7 @@ ghost use Rattle.m161_cpu.specs.helpers.Execute.{idle_or_running};
 mod views;
 
 use crate::fault::Fault;
+use crate::kept::Kept;
 use m161_alu::HiLoPair;
 use m161_cop0::{Cop0, Exception, Trap};
 use m161_isa::Reg;
@@ -74,11 +75,17 @@ pub struct Cpu<T: Tlb> {
     unticked: u64,
     pub(crate) control: Cop0,
     pub(crate) tlb: T,
+    // Translations that were found. They are no part of the processor's value.
+    pub(crate) fetches: Kept,
+    pub(crate) loads: Kept,
+    pub(crate) stores: Kept,
 }
 
 impl<T: Tlb> Model for Cpu<T> {
     ghost use Rattle.std.specs.Prelude.{◌≡◌, ◌+◌, ◌<◌, ◌^◌, length, slice_index};
     ghost use Rattle.m161_cpu.specs.Processor.{Processor};
+    ghost use Rattle.m161_cpu.specs.declared.fault.Access.TheVariants.{Fetch, Load, Store};
+    ghost use Rattle.m161_cpu.specs.Kept.{AreKept};
 
     ghost Value = { Processor };
 
@@ -98,7 +105,10 @@ impl<T: Tlb> Model for Cpu<T> {
     ghost invariant = { λ c.
         (length c.registers ≡ 32)
         × (slice_index c.registers 0 ≡ 0)
-        × (c.unticked + c.control.age < 2 ^ 64) };
+        × (c.unticked + c.control.age < 2 ^ 64)
+        × AreKept (T.rows c.tlb) Fetch c.fetches
+        × AreKept (T.rows c.tlb) Load c.loads
+        × AreKept (T.rows c.tlb) Store c.stores };
 }
 
 impl<T: Tlb> Cpu<T> {
@@ -117,6 +127,9 @@ impl<T: Tlb> Cpu<T> {
             unticked: 0,
             control: Cop0::new(),
             tlb: T::empty(),
+            fetches: Kept::none(),
+            loads: Kept::none(),
+            stores: Kept::none(),
         }
     }
 
@@ -136,6 +149,9 @@ impl<T: Tlb> Cpu<T> {
             unticked: self.unticked,
             control: self.control.copy(),
             tlb: self.tlb.copy(),
+            fetches: Kept::none(),
+            loads: Kept::none(),
+            stores: Kept::none(),
         }
     }
 
@@ -158,6 +174,9 @@ impl<T: Tlb> Cpu<T> {
             unticked: self.count(),
             control: Cop0::new(),
             tlb: T::empty(),
+            fetches: Kept::none(),
+            loads: Kept::none(),
+            stores: Kept::none(),
         };
     }
 

@@ -146,21 +146,38 @@ impl<T: Tlb> Cpu<T> {
     // The word at pc, if the processor may execute it. By kseg0 in kernel mode it may execute any.
     #[inline(always)]
     #[tactic(auto, using(crate::proofs::Fetched::in_kernel_mode))]
-    fn fetch(&self, ram: &Ram) -> Result<u32, Fault>
+    fn fetch(&mut self, ram: &Ram) -> Result<u32, Fault>
         requires ram { length ram.now ≤ 2 ^ 29 }
-        ensures { result ≡ executable_word ram.now self.now }
+        ensures same { self.new ≡ self.old }
+        ensures word { result ≡ executable_word ram.now self.old }
     {
         match self.direct(4, self.pc(), ram.size()) {
             Some(at) => Ok(ram.word(at)),
-            None => self.fetch_aside(ram),
+            None => self.fetch_mapped(ram),
         }
+    }
+
+    // The same by a translation that is kept.
+    #[inline(always)]
+    fn fetch_mapped(&mut self, ram: &Ram) -> Result<u32, Fault>
+        ensures same { self.new ≡ self.old }
+        ensures word { result ≡ executable_word ram.now self.old }
+    {
+        if let Some(at) = self.kept(Access::Fetch, 4, self.pc(), ram.size()) {
+            let word = ram.word(at);
+            if !self.is_unusable(word) {
+                return Ok(word);
+            }
+        }
+        self.fetch_aside(ram)
     }
 
     // For LLVM: a call of `fetch_elsewhere`, so that only this function has a stack slot for the
     // result.
     #[inline(always)]
-    fn fetch_aside(&self, ram: &Ram) -> Result<u32, Fault>
-        ensures { result ≡ executable_word ram.now self.now }
+    fn fetch_aside(&mut self, ram: &Ram) -> Result<u32, Fault>
+        ensures same { self.new ≡ self.old }
+        ensures word { result ≡ executable_word ram.now self.old }
     {
         let word = self.fetch_elsewhere(ram)?;
         Ok(word)
@@ -168,8 +185,9 @@ impl<T: Tlb> Cpu<T> {
 
     #[cold]
     #[inline(never)]
-    fn fetch_elsewhere(&self, ram: &Ram) -> Result<u32, Fault>
-        ensures { result ≡ executable_word ram.now self.now }
+    fn fetch_elsewhere(&mut self, ram: &Ram) -> Result<u32, Fault>
+        ensures same { self.new ≡ self.old }
+        ensures word { result ≡ executable_word ram.now self.old }
     {
         let at = self.reach_elsewhere(Access::Fetch, 4, self.pc(), ram.size())?;
         let word = ram.word(at);

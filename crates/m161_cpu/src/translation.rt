@@ -3,6 +3,7 @@
 ghost use Rattle.std.specs.Prelude.{◌≡◌, ◌+◌, ◌≤◌, ◌<◌, ◌/◌, ◌^◌, false, Ok, Some, IfOk, IfSome};
 ghost use Rattle.m161_isa.specs.Address.{unmapped};
 ghost use Rattle.m161_cpu.specs.Translation.{address_error, bus_error, by_page, invalid, is_misaddressed, miss, physical_at, reach, reach_word_of, translate};
+ghost use Rattle.m161_cpu.specs.Kept.{Gives};
 ghost use Rattle.m161_cpu.specs.helpers.Translation.{IsWidth};
 ghost use Rattle.m161_tlb.specs.Rows.{find_row};
 ghost use Rattle.m161_cop0.specs.Control.{identifier_of, is_user};
@@ -32,7 +33,8 @@ pub(crate) fn bus_error(access: Access) -> Fault
 
 impl<T: Tlb> Cpu<T> {
     /// The place in RAM of an access by kseg0 in kernel mode that is aligned to its width; RAM has
-    /// `size` bytes. All other accesses go through `reach_elsewhere`.
+    /// `size` bytes. Others go by `kept`, or through
+    /// `reach_elsewhere`.
     #[inline(always)]
     #[tactic(auto, unfolding(crate::specs::Translation::physical_at, crate::specs::Translation::is_misaddressed))]
     pub(crate) fn direct(&self, width: u32, address: u32, size: u32) -> Option<u32>
@@ -45,17 +47,62 @@ impl<T: Tlb> Cpu<T> {
         ensures segment { IfSome result (λ at. unmapped address ≡ Some at) }
     {
         let at = address.wrapping_sub(0x8000_0000);
-        if address % width == 0 && at < size / width * width && !self.control.is_user() {
+        if at < size / width * width && address % width == 0 && !self.control.is_user() {
             Some(at)
         } else {
             None
         }
     }
 
+    /// The physical address of an aligned access to kuseg whose translation is kept, if it is in
+    /// RAM of `size` bytes.
+    #[inline(always)]
+    pub(crate) fn kept(&self, access: Access, width: u32, address: u32, size: u32) -> Option<u32>
+        requires width { IsWidth width }
+        ensures value { IfSome result (λ at. physical_at access width address self.now ≡ Ok at) }
+        ensures within { IfSome result (λ at. at + width ≤ size) }
+    {
+        let at = self.find_kept(access, width, address)?;
+        if u64::from(at) + u64::from(width) <= u64::from(size) {
+            Some(at)
+        } else {
+            None
+        }
+    }
+
+    // The same, in RAM or not.
+    #[inline(always)]
+    fn find_kept(&self, access: Access, width: u32, address: u32) -> Option<u32>
+        requires width { IsWidth width }
+        ensures { IfSome result (λ at. physical_at access width address self.now ≡ Ok at) }
+    {
+        let id = self.control.identifier();
+        match access {
+            Access::Fetch => self.fetches.find(width, address, id),
+            Access::Load => self.loads.find(width, address, id),
+            Access::Store => self.stores.find(width, address, id),
+        }
+    }
+
+    /// The place in RAM of an access by one of the two short ways: by kseg0, or by a translation
+    /// that is kept.
+    #[inline(always)]
+    pub(crate) fn place(&self, access: Access, width: u32, address: u32, size: u32) -> Option<u32>
+        requires width { IsWidth width }
+        requires size { size ≤ 2 ^ 29 }
+        ensures value { IfSome result (λ at. physical_at access width address self.now ≡ Ok at) }
+        ensures within { IfSome result (λ at. at + width ≤ size) }
+    {
+        match self.direct(width, address, size) {
+            Some(at) => Some(at),
+            None => self.kept(access, width, address, size),
+        }
+    }
+
     /// The place in RAM of an access that has to be aligned to its width.
     #[inline(always)]
     pub(crate) fn reach(
-        &self,
+        &mut self,
         access: Access,
         width: u32,
         address: u32,
@@ -63,10 +110,11 @@ impl<T: Tlb> Cpu<T> {
     ) -> Result<u32, Fault>
         requires width { IsWidth width }
         requires size { size ≤ 2 ^ 29 }
-        ensures found { result ≡ reach access width address size self.now }
+        ensures same { self.new ≡ self.old }
+        ensures found { result ≡ reach access width address size self.old }
         ensures within { IfOk result (λ at. at + width ≤ size) }
     {
-        match self.direct(width, address, size) {
+        match self.place(access, width, address, size) {
             Some(at) => Ok(at),
             None => self.reach_aside(access, width, address, size),
         }
@@ -75,27 +123,35 @@ impl<T: Tlb> Cpu<T> {
     // For LLVM: a call of `reach_elsewhere`, so that only this function has a stack slot for the
     // result, and not the common path.
     #[inline(always)]
-    fn reach_aside(&self, access: Access, width: u32, address: u32, size: u32) -> Result<u32, Fault>
-        requires width { 0 < width }
-        ensures found { result ≡ reach access width address size self.now }
-        ensures within { IfOk result (λ at. at + width ≤ size) }
-    {
-        let at = self.reach_elsewhere(access, width, address, size)?;
-        Ok(at)
-    }
-
-    /// The place in RAM of an access other than those of `direct`.
-    #[cold]
-    #[inline(never)]
-    pub(crate) fn reach_elsewhere(
-        &self,
+    fn reach_aside(
+        &mut self,
         access: Access,
         width: u32,
         address: u32,
         size: u32,
     ) -> Result<u32, Fault>
         requires width { 0 < width }
-        ensures found { result ≡ reach access width address size self.now }
+        ensures same { self.new ≡ self.old }
+        ensures found { result ≡ reach access width address size self.old }
+        ensures within { IfOk result (λ at. at + width ≤ size) }
+    {
+        let at = self.reach_elsewhere(access, width, address, size)?;
+        Ok(at)
+    }
+
+    /// The place in RAM of an access other than those of `place`.
+    #[cold]
+    #[inline(never)]
+    pub(crate) fn reach_elsewhere(
+        &mut self,
+        access: Access,
+        width: u32,
+        address: u32,
+        size: u32,
+    ) -> Result<u32, Fault>
+        requires width { 0 < width }
+        ensures same { self.new ≡ self.old }
+        ensures found { result ≡ reach access width address size self.old }
         ensures within { IfOk result (λ at. at + width ≤ size) }
     {
         let at = self.translate(access, width, address)?;
@@ -108,12 +164,13 @@ impl<T: Tlb> Cpu<T> {
     /// The place in RAM of the word that contains an address, which needn't be aligned.
     #[inline(always)]
     pub(crate) fn reach_word_of(
-        &self,
+        &mut self,
         access: Access,
         address: u32,
         size: u32,
     ) -> Result<u32, Fault>
-        ensures found { result ≡ reach_word_of access address size self.now }
+        ensures same { self.new ≡ self.old }
+        ensures found { result ≡ reach_word_of access address size self.old }
         ensures within { IfOk result (λ at. at + 4 ≤ size) }
     {
         let at = self.translate(access, 1, address)? / 4 * 4;
@@ -123,16 +180,41 @@ impl<T: Tlb> Cpu<T> {
         Ok(at)
     }
 
-    /// The physical address of an access that has to be aligned to its width.
+    /// The physical address of an access that has to be aligned to its width. A translation of
+    /// kuseg is kept.
     #[cold]
     #[inline(never)]
     #[tactic(auto, unfolding(crate::specs::Translation::physical_at))]
-    pub(crate) fn translate(&self, access: Access, width: u32, address: u32) -> Result<u32, Fault>
+    pub(crate) fn translate(
+        &mut self,
+        access: Access,
+        width: u32,
+        address: u32,
+    ) -> Result<u32, Fault>
         requires { 0 < width }
-        ensures { result ≡ physical_at access width address self.now }
+        ensures same { self.new ≡ self.old }
+        ensures value { result ≡ physical_at access width address self.old }
     {
         let to = self.locate(access, width, address)?;
+        if address < 0x8000_0000 {
+            self.keep(access, address, to.at);
+        }
         Ok(to.at)
+    }
+
+    // Keeps a translation.
+    fn keep(&mut self, access: Access, address: u32, at: u32)
+        requires kuseg { address < 0x80000000 }
+        requires found { Gives self.old.rows access address at
+            (find_row self.old.rows (address / 2 ^ 12) (identifier_of self.old.control)) }
+        ensures { self.new ≡ self.old }
+    {
+        let space = self.control.identifier();
+        match access {
+            Access::Fetch => self.fetches.keep(address, space, at),
+            Access::Load => self.loads.keep(address, space, at),
+            Access::Store => self.stores.keep(address, space, at),
+        }
     }
 
     /// The same, with the row that gives it. The Step and `uses` both translate by this.

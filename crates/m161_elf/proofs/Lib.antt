@@ -1,3 +1,7 @@
 pub mod Copied
+pub mod FreePlaces
+pub mod Names
 pub mod OneMore
+pub mod Rest
 pub mod Sound
+pub mod Listed

@@ -90,7 +90,7 @@ in_ram file ram none =
     let sixth = later (list_any (is_outside_file file) (segments file)) _ _ fifth.1 in
     (later (list_any (is_outside_ram ram) (segments file)) _ _ sixth.1).0
 
-found_where : {X : Type 0} (test : Bool) (x y : X) → Some y ≡ (if test then Some x else None)
+pub found_where : {X : Type 0} (test : Bool) (x y : X) → Some y ≡ (if test then Some x else None)
     → (test ≡ true) × (x ≡ y)
 found_where true x y found = (refl, cc)
 found_where false x y found = absurd (cc)

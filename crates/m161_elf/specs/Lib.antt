@@ -2,4 +2,5 @@ pub mod Header
 pub mod Image
 pub mod LoadError
 pub mod Span
+pub mod Symbols
 pub mod helpers

@@ -58,7 +58,7 @@ pub(crate) fn fault(file: &[u8], ram: u32) -> Option<LoadError>
     }
 }
 
-fn is_not_elf32_big(file: &[u8]) -> bool
+pub(crate) fn is_not_elf32_big(file: &[u8]) -> bool
     ensures { result ≡ is_not_elf32_big file.now }
 {
     !file.starts_with(&IDENTIFICATION)

@@ -1,6 +1,6 @@
 //! File bytes to memory.
 
-ghost use Rattle.std.specs.Prelude.{◌≡◌, ◌%◌, ◌<◌, ◌≤◌, Err, None, false, true, length, replicate, slice_index, EachIndex, IfOk};
+ghost use Rattle.std.specs.Prelude.{◌≡◌, ◌%◌, ◌<◌, ◌≤◌, ◌^◌, Err, None, false, true, length, replicate, slice_index, EachIndex, IfOk, OnOk};
 ghost use Rattle.m161_elf.specs.helpers.Copied.{cleared_byte, copied_byte, put_byte};
 ghost use Rattle.m161_elf.specs.Header.{e_phnum, segments};
 ghost use Rattle.m161_elf.specs.Image.{byte_left, first_fault, has_bad_header_table, is_in_ram, is_larger_in_file, is_outside_ram, Loads};
@@ -9,11 +9,12 @@ ghost use Rattle.m161_elf.specs.Span.{Lists};
 ghost use Rattle.m161_elf.specs.helpers.Span.{span_at};
 
 use crate::address::place_in_ram;
+use crate::cover::put_segments_once;
 use crate::fault::fault;
 use crate::header::{E_ENTRY, ProgramHeader, e_phnum, file_word, segment};
 use crate::image::{Image, LoadError};
 use crate::span::Span;
-use std::alloc::Global;
+use std::alloc::{AllocError, Global};
 
 /// The image of a file in `ram` bytes of RAM, or the first fault that holds.
 pub fn load(alloc: Global, file: &[u8], ram: u32) -> Result<Image, LoadError>
@@ -26,11 +27,33 @@ pub fn load(alloc: Global, file: &[u8], ram: u32) -> Result<Image, LoadError>
         return Err(fault);
     }
     let mut bytes = vec![in alloc; 0u8; ram as usize].map_err(|_| LoadError::NoMemory)?;
-    put_segments(&mut bytes, file);
+    let Ok(()) = put_all(alloc, &mut bytes, file) else {
+        return Err(LoadError::NoMemory);
+    };
     Ok(Image {
         entry: file_word(file, E_ENTRY),
         bytes,
     })
+}
+
+/// The most program headers whose segments are put one over the other, which takes no memory, but
+/// as many passes over RAM as there are headers.
+const FEW_HEADERS: u16 = 16;
+
+/// Copies all segments to memory of zeros.
+fn put_all(alloc: Global, memory: &mut [u8], file: &[u8]) -> Result<(), AllocError>
+    requires sound { IsSoundFile file.now (length memory.old) }
+    requires zeros { memory.old ≡ replicate (length memory.old) 0 }
+    requires small { length memory.old < 2 ^ 32 }
+    ensures { OnOk result (EachIndex memory.old (λ at. slice_index memory.new at
+        ≡ byte_left file.now (segments file.now) at)) }
+{
+    if e_phnum(file) <= FEW_HEADERS {
+        put_segments(memory, file);
+        Ok(())
+    } else {
+        put_segments_once(alloc, memory, file)
+    }
 }
 
 /// Copies all segments to memory of zeros, in the table's order.

@@ -140,6 +140,15 @@ pub record IsBooted (file : List ℕ) (conf : Conf) (m : History) : Type 0 where
   pub base_is : m.base ≡ boot_state m.start
   pub state_is : m.state ≡ boot_state m.start
 
+-- a machine that was booted from this, before its first event
+abbrev pub history_at_boot : Start → History
+history_at_boot start = record {
+  start = start;
+  base = boot_state start;
+  log = [];
+  state = boot_state start;
+}
+
 -- the fault of an image, as an error of the boot
 abbrev pub load_fault : Option LoadError → Option BootError
 load_fault None = None

@@ -5,7 +5,7 @@ ghost use Rattle.m161_elf.specs.Image.{is_in_ram};
 ghost use Rattle.m161_machine.specs.declared.event.Event.TheVariants as events;
 ghost use Rattle.m161_machine.specs.Conf.{is_within_limits};
 ghost use Rattle.m161_machine.specs.State.{CountUpTo, KeepsSizes};
-ghost use Rattle.m161_machine.specs.History.{boot_fault, boot_state, Boots, Answers, CanGive, Continues, CountsSteps, Ends, IsLoaded, IsReached, IsReplay};
+ghost use Rattle.m161_machine.specs.History.{boot_fault, boot_state, history_at_boot, Boots, Answers, CanGive, Continues, CountsSteps, Ends, IsLoaded, IsReached, IsReplay};
 ghost use Rattle.m161_machine.specs.StoreHistory.{StoresReplay};
 ghost use Rattle.m161_machine.specs.helpers.History.{start_of};
 ghost use Rattle.m161_machine.specs.helpers.Sound.{Advances};
@@ -80,18 +80,16 @@ impl<T: Tlb, D: Console> Machine<T, D> {
             return Err(BootError::BadConf);
         }
         let image = load(alloc, file, conf.ram)?;
-        let present = core_at_boot(alloc, &image, conf)?;
-        let base = core_at_boot(alloc, &image, conf)?;
-        let window = Window::new(alloc, conf.log as usize)?;
-        let fresh = blanks(alloc, AT_ONCE)?;
-        Ok(Machine {
-            present,
-            base,
-            window,
-            fresh,
-            image,
-            conf,
-        })
+        let machine = machine_at_boot(alloc, image, conf)?;
+        Ok(machine)
+    }
+
+    /// A machine that is booted anew, from what this one was booted from. Allocates as `boot` does.
+    #[inline(never)]
+    pub fn boot_again(&self, alloc: Global) -> Result<Machine<T, D>, AllocError>
+        ensures { IfOk result (λ machine. machine ≡ history_at_boot self.now.start) }
+    {
+        machine_at_boot(alloc, image_again(alloc, &self.image)?, self.conf)
     }
 
     /// The same machine again. Allocates as much memory as it has.
@@ -103,10 +101,7 @@ impl<T: Tlb, D: Console> Machine<T, D> {
         let base = self.base.copy(alloc)?;
         let window = self.window.copy(alloc)?;
         let fresh = blanks(alloc, AT_ONCE)?;
-        let image = Image {
-            entry: self.image.entry,
-            bytes: Vec::from_slice(alloc, self.image.bytes.as_slice())?,
-        };
+        let image = image_again(alloc, &self.image)?;
         Ok(Machine {
             present,
             base,
@@ -357,6 +352,43 @@ fn core_at_boot<T: Tlb, D: Console>(
 {
     let bytes = Vec::from_slice(alloc, image.bytes.as_slice())?;
     Core::at_boot(alloc, bytes, image.entry, conf)
+}
+
+// A machine that is booted from an image.
+#[inline(never)]
+fn machine_at_boot<T: Tlb, D: Console>(
+    alloc: Global,
+    image: Image,
+    conf: Conf,
+) -> Result<Machine<T, D>, AllocError>
+    requires limits { is_within_limits conf ≡ true }
+    requires loaded { IsLoaded (start_of image.bytes.items image.entry conf) }
+    ensures { IfOk result (λ machine.
+        machine ≡ history_at_boot (start_of image.bytes.items image.entry conf)) }
+{
+    let present = core_at_boot(alloc, &image, conf)?;
+    let base = core_at_boot(alloc, &image, conf)?;
+    let window = Window::new(alloc, conf.log as usize)?;
+    let fresh = blanks(alloc, AT_ONCE)?;
+    Ok(Machine {
+        present,
+        base,
+        window,
+        fresh,
+        image,
+        conf,
+    })
+}
+
+// The same image again.
+fn image_again(alloc: Global, image: &Image) -> Result<Image, AllocError>
+    ensures { IfOk result (λ copy. (copy.entry ≡ image.now.entry)
+        × (copy.bytes.items ≡ image.now.bytes.items)) }
+{
+    Ok(Image {
+        entry: image.entry,
+        bytes: Vec::from_slice(alloc, image.bytes.as_slice())?,
+    })
 }
 
 // Makes Steps of processor `p` until `most` are made or one of them switches the machine off, and

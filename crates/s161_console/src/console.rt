@@ -3,7 +3,8 @@
 ghost use Rattle.std.specs.Prelude.{◌≡◌, IfErr, IfOk, None};
 ghost use Rattle.m161_order.specs.Order.{order_fault};
 ghost use Rattle.s161_base.specs.Samples.{image_file};
-ghost use Rattle.s161_console.specs.Consoles.{IsConsoleRun, IsConsoleFault, streams};
+ghost use Rattle.s161_base.specs.Streams.{streams};
+ghost use Rattle.s161_console.specs.Consoles.{IsConsoleRun, IsConsoleFault};
 ghost use Rattle.s161_drive.specs.Driven.{stop_of};
 
 use crate::serving::serve;

@@ -4,6 +4,7 @@ ghost use Rattle.std.specs.Prelude.{◌≡◌, ◌<◌, None, Some, slice_get, s
 ghost use Rattle.m161_bus.specs.Board.{IsShown, interrupt_lines, shown_word};
 ghost use Rattle.m161_cop0.specs.Control.{read_of};
 ghost use Rattle.m161_cop0.specs.Registers.{number_of_register};
+ghost use Rattle.m161_cpu.specs.Fetch.{fetched_word};
 ghost use Rattle.m161_machine.specs.State.{processor_at, step_result, word_in};
 ghost use Rattle.m161_machine.specs.Resting.{IdleIsRest, rests, ticks};
 ghost use Rattle.m161_machine.specs.Uses.{uses_in};
@@ -103,6 +104,15 @@ impl<T: Tlb, D: Console> Core<T, D> {
         ensures { slice_get (processor_at p self.now.state.processors).rows i ≡ Some result }
     {
         self.processors[p as usize].row(i)
+    }
+
+    /// The word that a processor would fetch at an address, in its mode and by its TLB, if it can.
+    pub fn fetched_word(&self, p: u32, address: u32) -> Option<u32>
+        requires { p < length self.now.state.processors }
+        ensures { result ≡ fetched_word self.now.state.memory address
+            (processor_at p self.now.state.processors) }
+    {
+        self.processors[p as usize].fetched_word(address, &self.ram)
     }
 
     /// What a Step of a processor uses, if it is the next event: the rows of the TLB through which
