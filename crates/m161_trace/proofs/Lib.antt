@@ -6,3 +6,6 @@ pub mod Telling
 pub mod Shown
 pub mod Nothing
 pub mod Gathered
+pub mod NearEffects
+pub mod Near
+pub mod Tell

@@ -8,6 +8,7 @@ use Rattle.m161_trace.specs.Law.{Has}
 -- What is in a list.
 
 pub has_left : {X : Type 0} (x : X) (xs ys : List X) → Has x xs → Has x (xs ++ ys)
+has_left x [] ys h = absurd h
 has_left x (y ∷ xs) ys (inl h) = inl h
 has_left x (y ∷ xs) ys (inr h) = inr (has_left x xs ys h)
 
@@ -16,6 +17,7 @@ has_right x [] ys h = h
 has_right x (y ∷ xs) ys h = inr (has_right x xs ys h)
 
 pub has_listed : {X Y : Type 0} (f : Y → List X) (x : X) (y : Y) (ys : List Y) → Has y ys → Has x (f y) → Has x (flat_map f ys)
+has_listed f x y [] there h = absurd there
 has_listed {X = X} f x y (z ∷ ys) (inl same) h = has_left x (f z) (flat_map f ys) (subst (λ w. Has x (f w)) same h)
 has_listed f x y (z ∷ ys) (inr there) h = has_right x (f z) (flat_map f ys) (has_listed f x y ys there h)
 

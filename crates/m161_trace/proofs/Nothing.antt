@@ -4,10 +4,12 @@ use Rattle.std.specs.List.{range_with_len}
 use Rattle.std.proofs.lemmas.Bool.Decides.{Decides-eqb}
 use Rattle.m161_isa.specs.Bits.{has_bit}
 use Rattle.m161_tlb.specs.declared.row.Row.{Row}
+use Rattle.m161_tlb.specs.Row.{hi_word, lo_word}
+use Rattle.m161_tlb.specs.Rows.{blank_row}
 use Rattle.m161_bus.specs.declared.register.BoardWord.{BoardWord}
 use Rattle.m161_bus.specs.declared.register.BoardWord.TheVariants as words
 use Rattle.m161_bus.specs.Board.{BoardState, PlaceState, place_at_boot, shown_word}
-use Rattle.m161_trace.specs.Items.{Item, board, board_item, changed, each, places_items, row_item, row_items, start_item, start_items}
+use Rattle.m161_trace.specs.Items.{Item, board, row, board_item, changed, each, places_items, row_item, row_items, start_item, start_items}
 use Rattle.m161_trace.specs.Line.{spaced}
 use Rattle.m161_trace.proofs.Spaced.{spaced_none}
 
@@ -37,9 +39,12 @@ both_if true true is t_is u_is = refl
 both_if true false is t_is u_is = absurd (let bad : false ≡ true = u_is in cc)
 both_if false u is t_is u_is = absurd (let bad : false ≡ true = t_is in cc)
 
+same_row : (i : ℕ) (r : Row) → (if (hi_word r == hi_word r) && (lo_word r == lo_word r) then [] else row i (hi_word r) (lo_word r) ∷ []) ≡ []
+same_row i r = both_if (hi_word r == hi_word r) (lo_word r == lo_word r) (row i (hi_word r) (lo_word r) ∷ []) (same_number (hi_word r)) (same_number (lo_word r))
+
 no_rows_of : (rows : List Row) → row_items rows rows ≡ []
 unfolding row_items
-no_rows_of rows = none_each 0 64 (row_item rows rows) (λ i. both_if _ _ _ (same_number _) (same_number _))
+no_rows_of rows = none_each 0 64 (row_item rows rows) (λ i. same_row i (get_or rows i blank_row))
 
 pub no_rows : (old : List ℕ) (a b : List Row) → b ≡ a → old ≡ old ++ spaced (row_items a b)
 no_rows old a b same = appended old (row_items a b) (ap (row_items a) same ∙ no_rows_of a)

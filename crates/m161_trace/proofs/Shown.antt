@@ -55,12 +55,19 @@ rows_true p s o t =
 
 processor_true : (p : ℕ) (s : State) (o : Outcome) (t : State) → Every (IsTrueOf p s o t) (processor_items p s t)
 processor_true p s o t =
-    let P = IsTrueOf p s o t in
-    every_append P _ _
-    (every_append P _ _
-    (every_append P _ _
-    (every_append P _ _ (states_true P (now p s).state (now p t).state refl) (registers_true p s o t))
-    (every_append P _ _ (every_changed P _ _ (hi (now p t).hi) refl) (every_changed P _ _ (lo (now p t).lo) refl)))
+    let P : Item → Type 0 = IsTrueOf p s o t in
+    let doing_items : List Item = state_items (now p s).state (now p t).state in
+    let general : List Item = register_items (now p s) (now p t) in
+    let pair : List Item = hi_lo_items (now p s) (now p t) in
+    let controls : List Item = control_items p s t in
+    let hi_items : List Item = changed (now p s).hi (now p t).hi (hi (now p t).hi) in
+    let lo_items : List Item = changed (now p s).lo (now p t).lo (lo (now p t).lo) in
+    every_append P (doing_items ++ general ++ pair ++ controls) (row_items (now p s).rows (now p t).rows)
+    (every_append P (doing_items ++ general ++ pair) controls
+    (every_append P (doing_items ++ general) pair
+    (every_append P doing_items general (states_true P (now p s).state (now p t).state refl) (registers_true p s o t))
+    (every_append P hi_items lo_items
+    (every_changed P (now p s).hi (now p t).hi (hi (now p t).hi) refl) (every_changed P (now p s).lo (now p t).lo (lo (now p t).lo) refl)))
     (controls_true p s o t))
     (rows_true p s o t)
 
@@ -146,7 +153,7 @@ starts_true : (p : ℕ) (s : State) (o : Outcome) (t : State) → Given p s o t 
 unfolding start_items
 starts_true p s o t g =
     every_numbered (IsTrueOf p s o t) 0 (length s.processors) (start_item s.board.started t.board.started)
-    (λ q lt. start_if (is_new s.board.started t.board.started q) (IsTrueOf p s o t) q (λ new ne. g.starts q lt new ne))
+    (λ q lt. start_if (is_new s.board.started t.board.started q) (IsTrueOf p s o t) q (λ new ne. g.starts q (let l : q < length s.processors = omega (arith, lt) in l) new ne))
 
 pub every_true : (p : ℕ) (s : State) (o : Outcome) (t : State) → Given p s o t → Every (IsTrueOf p s o t) (items p s o t)
 unfolding items

@@ -77,6 +77,21 @@ pub not_when : (t : Bool) (old : List ℕ) (i : Item) → t ≡ false → old �
 not_when true old i is = absurd (let bad : true ≡ false = is in cc)
 not_when false old i is = spaced_none old
 
+pub both_ok : {T E : Type 0} (r : Result T E) (old mid new : List ℕ) (xs ys : List Item) → mid ≡ old ++ spaced xs → OnOk r (new ≡ mid ++ spaced ys)
+    → OnOk r (new ≡ old ++ spaced (xs ++ ys))
+both_ok (Ok x) old mid new xs ys h k = both old mid new xs ys h k
+both_ok (Err e) old mid new xs ys h k = tt
+
+-- parts of an item
+
+pub appended_ok : {T E : Type 0} (r : Result T E) (old mid new a b : List ℕ) → mid ≡ old ++ a → OnOk r (new ≡ mid ++ b) → OnOk r (new ≡ old ++ (a ++ b))
+appended_ok (Ok x) old mid new a b h k = k ∙ ap (λ bs. bs ++ b) h ∙ append_assoc old a b
+appended_ok (Err e) old mid new a b h k = tt
+
+pub glued_ok : {T E : Type 0} (r : Result T E) (old first second new a b c : List ℕ) → first ≡ old ++ a → second ≡ first ++ b → OnOk r (new ≡ second ++ c)
+    → OnOk r (new ≡ old ++ ((a ++ b) ++ c))
+glued_ok r old first second new a b c h k l = appended_ok r old second new (a ++ b) c (k ∙ ap (λ bs. bs ++ b) h ∙ append_assoc old a b) l
+
 -- items behind a line's beginning
 
 pub nothing_behind : (old items : List ℕ) (is : List Item) → length items ≡ 0 → items ≡ spaced is → old ≡ old ++ behind is

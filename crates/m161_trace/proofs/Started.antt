@@ -36,7 +36,8 @@ other_at : (before : ℕ) (board : BoardState) (ps : List Processor) (p q : ℕ)
     get_or (with_starts before board 0 (set ps p x)) q d ≡ started_by before board q (get_or ps q d)
 other_at before board ps p q x d ne lt =
     let inside : q < length (set ps p x) = simp length-set lt in
-    starts_at before board 0 (set ps p x) q d inside ∙ ap (started_by before board q) (get_or-set_other ps p q x d ne)
+    let here : 0 + q ≡ q = omega arith in
+    starts_at before board 0 (set ps p x) q d inside ∙ ap (λ c. started_by before board c (get_or (set ps p x) q d)) here ∙ ap (started_by before board q) (get_or-set_other ps p q x d ne)
 
 kept_if : (t : Bool) (x y : Processor) → t ≡ false → (if t then x else y) ≡ y
 kept_if true x y is = absurd (let bad : true ≡ false = is in cc)

@@ -1,4 +1,4 @@
-use Rattle.std.specs.Prelude.{◌≡◌, ◌≢◌, ◌⊎◌, ℕ, ◌+◌, ◌%◌, ◌<◌, ◌≤◌, true, List, [], ◌∷◌, drop, length, slice_index, slice_index_or, Option, None, Some, Ok}
+use Rattle.std.specs.Prelude.{◌≡◌, ◌≢◌, ◌⊎◌, ℕ, ◌<◌, ◌≤◌, true, List, [], ◌∷◌, length, slice_index, slice_index_or, Option, None, Some, Ok}
 use Rattle.m161_isa.specs.Bits.{has_bit}
 use Rattle.m161_tlb.specs.Row.{hi_word, lo_word}
 use Rattle.m161_tlb.specs.Rows.{blank_row}
@@ -60,10 +60,11 @@ IsTrueOf p s o t off = t.board.off ≡ true
 IsTrueOf p s o t (starts q) =
     q ≢ p → processor_at q t.processors ≡ as_started q t (processor_at q s.processors).count
 
--- The items of an accepted Step of processor p tell what it changed. Aside are: of processor p its
--- count of Steps, Random, Count, the addresses of the current and the next instruction and whether
--- that is in a delay slot; and of the machine how many events it accepted. (Cause of another
--- processor shows the board's lines, which are told by the words of the board.)
+-- What the items of an accepted Step of processor p tell of the parts that they have items for. Aside
+-- are: of processor p its count of Steps, Random, Count, the addresses of the current and the next
+-- instruction and whether that is in a delay slot; and how many events the machine accepted. (Cause
+-- of another processor shows the board's lines, which are told by the words of the board.) It says
+-- nothing of RAM outside the word that was stored to, nor of the console's bytes.
 pub record Tells (p : ℕ) (s : State) (o : Outcome) (t : State) (is : List Item) : Type 0 where
   -- each item shows its part's value after the Step
   pub true_of : (i : Item) → Has i is → IsTrueOf p s o t i
@@ -79,17 +80,8 @@ pub record Tells (p : ℕ) (s : State) (o : Outcome) (t : State) (is : List Item
       → control_word p t r ≡ control_word p s r
   pub row_stays : (i : ℕ) → i < 64 → Without (λ (words : ℕ × ℕ). row i words.0 words.1) is
       → (high_at p i t ≡ high_at p i s) × (low_at p i t ≡ low_at p i s)
-  -- RAM has whole words
-  pub memory_stays : (i : ℕ) → length s.memory % 4 ≡ 0
-      → ((at word : ℕ) → at ≤ i → i < at + 4 → Has (stored at word) is → ⊥)
-      → slice_index t.memory i ≡ slice_index s.memory i
   pub link_stays : (q : ℕ) → q < length s.processors → (q ≡ p → Without linked is)
       → (Has (unlinked q) is → ⊥) → link_of q t ≡ link_of q s
-  pub latch_stays : Without latched is → t.board.console.latch ≡ s.board.console.latch
-  -- of the bytes that wait the oldest go, and none comes
-  pub waiting_go : (n : ℕ) × (t.board.console.waiting ≡ drop n s.board.console.waiting)
-  pub waiting_stays : Without waiting is → t.board.console.waiting ≡ s.board.console.waiting
-  pub output_stays : t.board.console.output ≡ s.board.console.output
   pub word_stays : (place : BoardWord) → IsShown (length s.processors) place
       → Without (board place) is → shown_word place t.board ≡ shown_word place s.board
   pub off_stays : (Has off is → ⊥) → t.board.off ≡ s.board.off
@@ -97,7 +89,6 @@ pub record Tells (p : ℕ) (s : State) (o : Outcome) (t : State) (is : List Item
       → processor_at q t.processors ≡ processor_at q s.processors
   pub conf_stays : t.conf ≡ s.conf
   pub as_many : length t.processors ≡ length s.processors
-  pub as_large : length t.memory ≡ length s.memory
 
 -- the law
 abbrev pub ItemsTell : Type 0

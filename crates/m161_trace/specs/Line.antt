@@ -9,7 +9,7 @@ use Rattle.m161_cpu.specs.declared.processor.Outcome.{Outcome}
 use Rattle.m161_cpu.specs.declared.processor.Outcome.TheVariants as outcomes
 use Rattle.m161_cpu.specs.declared.processor.ProcessorState.{ProcessorState}
 use Rattle.m161_cpu.specs.declared.processor.ProcessorState.TheVariants as states
-use Rattle.m161_trace.specs.helpers.Fetch.{fetched_word}
+use Rattle.m161_cpu.specs.Fetch.{fetched_word}
 use Rattle.m161_machine.specs.declared.event.Event.{Event}
 use Rattle.m161_machine.specs.declared.event.Event.TheVariants as events
 use Rattle.m161_machine.specs.State.{State, processor_at}
@@ -42,7 +42,7 @@ item_text (hi word) = value_text (codes "hi") word
 item_text (lo word) = value_text (codes "lo") word
 item_text (control r word) = value_text (name_of_register r) word
 item_text (row i high low) = value_text (codes "tlb" ␣ decimal i) high ␣ word_text low
-item_text (stored at word) = value_text (codes "[" ++ word_text at ++ codes "]") word
+item_text (stored at word) = codes "[" ++ word_text at ++ codes "]=" ++ word_text word
 item_text (linked word) = value_text (codes "link") word
 item_text (unlinked q) = codes "unlink" ␣ decimal q
 item_text (latched byte) = codes "latch=" ++ hex_text 2 byte
@@ -84,12 +84,14 @@ abbrev pub instruction_text : Naming → ℕ → Option ℕ → List ℕ
 instruction_text naming at None = codes "-"
 instruction_text naming at (Some word) = word_text word ␣ canon_as naming word at
 
--- the line of a Step of processor p
+-- a Step of processor p, up to its items
+abbrev pub step_head : Naming → ℕ → ℕ → State → Outcome → List ℕ
+step_head naming number p s o =
+    decimal number ␣ decimal p ␣ address_text (processor_at p s.processors).pc
+    ␣ instruction_text naming (processor_at p s.processors).pc (fetched p s o)
+
 unfoldable pub step_line : Naming → ℕ → ℕ → State → Outcome → State → List ℕ
-step_line naming number p s o t =
-    let pc = (processor_at p s.processors).pc in
-    (decimal number ␣ decimal p ␣ address_text pc ␣ instruction_text naming pc (fetched p s o))
-    ++ behind (items p s o t)
+step_line naming number p s o t = step_head naming number p s o ++ behind (items p s o t)
 
 -- the line of an event, without its end, by the state before it, its outcome and the state after it
 unfoldable pub event_line : Naming → ℕ → Event → State → Outcome → State → List ℕ

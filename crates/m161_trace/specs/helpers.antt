@@ -2,4 +2,3 @@
 pub mod Adds
 pub mod Far
 pub mod Near
-pub mod Fetch

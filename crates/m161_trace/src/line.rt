@@ -1,13 +1,13 @@
 //! The line of an event.
 
-ghost use Rattle.std.specs.Prelude.{◌≡◌, ◌⊎◌, ◌++◌, List, None, Ok, OnOk, codes, decimal, false, if◌then◌else◌, is_some, string_bytes, true};
-ghost use Rattle.m161_trace.specs.helpers.Fetch.{fetched_word};
+ghost use Rattle.std.specs.Prelude.{◌≡◌, ◌⊎◌, ◌<◌, ◌++◌, List, None, Ok, OnOk, codes, decimal, false, if◌then◌else◌, is_some, length, string_bytes, true};
+ghost use Rattle.m161_cpu.specs.Fetch.{fetched_word};
 ghost use Rattle.m161_machine.specs.declared.event.Event.TheVariants as events;
 ghost use Rattle.m161_machine.specs.State.{next, processor_at};
 ghost use Rattle.m161_machine.specs.Uses.{uses_in};
 ghost use Rattle.m161_text.specs.Parts.{◌␣◌, hex_text};
 ghost use Rattle.m161_trace.specs.Items.{Item, items, shared_items};
-ghost use Rattle.m161_trace.specs.Line.{address_text, behind, event_line, fetches_none, instruction_text, spaced, step_line};
+ghost use Rattle.m161_trace.specs.Line.{address_text, behind, event_line, fetches_none, instruction_text, spaced, step_head, step_line};
 ghost use Rattle.m161_text.specs.Lines.{with_line_end};
 ghost use Rattle.m161_trace.specs.helpers.Far.{is_far, is_far_found, is_far_word};
 ghost use Rattle.m161_trace.specs.helpers.Near.{IsNear};
@@ -15,12 +15,14 @@ ghost use Rattle.m161_trace.specs.helpers.Adds.{Adds, AreAlike};
 
 use crate::places::{add_common, add_places};
 use crate::processor::add_processor;
-use crate::shared::{add_latch, add_links, add_outcome, add_starts, add_stored, add_waiting};
+use crate::shared::{
+    add_latch_of, add_links, add_outcome, add_starts_of, add_stored, add_waiting_of,
+};
 use m161_bus::Console;
 use m161_decode::row_that_fits;
 use m161_dis::{Naming, push_line};
 use m161_isa::Effect;
-use m161_machine::{BoardWord, Core, Event, Outcome};
+use m161_machine::{Core, Event, Outcome};
 use m161_text::push_hex;
 use m161_tlb::Tlb;
 use std::alloc::AllocError;
@@ -42,14 +44,12 @@ fn add_shared<T: Tlb, D: Console>(
         (shared_items p before.now.state after.now.state)
         (string_bytes text.new)) }
 {
-    before.law();
-    after.law();
     add_stored(text, stored, after)?;
     add_links(text, p, before, after)?;
-    add_latch(text, before.latch(), after.latch())?;
-    add_waiting(text, before.waiting(), after.waiting())?;
+    add_latch_of(text, before, after)?;
+    add_waiting_of(text, before, after)?;
     add_common(text, before, after)?;
-    add_places(text, before.processors(), before, after, far)
+    add_places(text, before, after, far)
 }
 
 // Whether an instruction may write rows of the TLB or words of the board.
@@ -68,7 +68,7 @@ fn is_far(effect: Effect) -> bool
 {
     matches!(
         effect,
-        Effect::WriteTlbIndexed | Effect::WriteTlbRandom | Effect::StoreWord
+        Effect::WriteTlbIndexed | Effect::WriteTlbRandom | Effect::LoadWord | Effect::StoreWord
     )
 }
 
@@ -105,19 +105,12 @@ pub(crate) fn add_items<T: Tlb, D: Console>(
         (items p before.now.state outcome after.now.state)
         (string_bytes text.new)) }
 {
-    before.law();
     let stored = before.uses(p).stored;
     let far = is_far_step(fetch, stored);
     add_processor(text, p, before, after, far)?;
     add_shared(text, p, before, after, stored, far)?;
     add_outcome(text, outcome)?;
-    let started = before.board_word(BoardWord::Cpue);
-    add_starts(
-        text,
-        before.processors(),
-        started,
-        after.board_word(BoardWord::Cpue),
-    )
+    add_starts_of(text, before, after)
 }
 
 // Whether a Step with this outcome fetched nothing: it was idle, or took an interrupt.
@@ -183,6 +176,13 @@ fn push_step(
     push_instruction(text, naming, pc, word)
 }
 
+// Appends a part.
+fn push_part(text: &mut String, part: &str) -> Result<(), AllocError>
+    ensures { OnOk result (string_bytes text.new ≡ string_bytes text.old ++ part.now) }
+{
+    text.push_str(part)
+}
+
 // Appends items to a line's beginning.
 fn push_items(text: &mut String, items: &str) -> Result<(), AllocError>
     ensures { (is : List Item) → items.now ≡ spaced is
@@ -191,8 +191,66 @@ fn push_items(text: &mut String, items: &str) -> Result<(), AllocError>
     if items.len() == 0 {
         return Ok(());
     }
-    text.push(' ')?;
-    text.push_str(items)
+    push_part(text, " ")?;
+    push_part(text, items)
+}
+
+// The word that processor `p` would fetch.
+fn fetch_of<T: Tlb, D: Console>(p: u32, before: &Core<T, D>) -> Option<u32>
+    requires { p < length before.now.state.processors }
+    ensures { result ≡ fetched_word before.now.state.memory
+        (processor_at p before.now.state.processors).pc
+        (processor_at p before.now.state.processors) }
+{
+    before.fetched_word(p, before.pc(p))
+}
+
+// Appends a Step of processor `p`, which would fetch this word, up to its items.
+fn push_head<T: Tlb, D: Console>(
+    text: &mut String,
+    naming: Naming,
+    number: u64,
+    p: u32,
+    before: &Core<T, D>,
+    fetch: Option<u32>,
+    outcome: Outcome,
+) -> Result<(), AllocError>
+    requires place { p < length before.now.state.processors }
+    requires fetch { fetch ≡ fetched_word before.now.state.memory
+        (processor_at p before.now.state.processors).pc
+        (processor_at p before.now.state.processors) }
+    ensures { OnOk result (string_bytes text.new ≡ string_bytes text.old
+        ++ step_head naming number p before.now.state outcome) }
+{
+    push_step(
+        text,
+        naming,
+        number,
+        p,
+        before.pc(p),
+        fetched(fetch, outcome),
+    )
+}
+
+// Writes the items of a Step of processor `p`, which would fetch this word, into a text.
+fn fill_items<T: Tlb, D: Console>(
+    text: &mut String,
+    p: u32,
+    before: &Core<T, D>,
+    fetch: Option<u32>,
+    outcome: Outcome,
+    after: &Core<T, D>,
+) -> Result<(), AllocError>
+    requires accepted { next before.now.state (events.Step p) ≡ Ok (outcome, after.now.state) }
+    requires alike { AreAlike p before.now.state after.now.state }
+    requires fetch { fetch ≡ fetched_word before.now.state.memory
+        (processor_at p before.now.state.processors).pc
+        (processor_at p before.now.state.processors) }
+    ensures { OnOk result (string_bytes text.new
+        ≡ spaced (items p before.now.state outcome after.now.state)) }
+{
+    text.clear();
+    add_items(text, p, before, fetch, outcome, after)
 }
 
 // Appends the line of a Step of processor `p`, without its end.
@@ -206,15 +264,13 @@ fn push_step_line<T: Tlb, D: Console>(
     outcome: Outcome,
     after: &Core<T, D>,
 ) -> Result<(), AllocError>
-    requires accepted { next before.now.state (events.Step p) ≡ Ok (outcome, after.now.state) }
+    requires { next before.now.state (events.Step p) ≡ Ok (outcome, after.now.state) }
     ensures { OnOk result (string_bytes text.new ≡ string_bytes text.old
         ++ step_line naming number p before.now.state outcome after.now.state) }
 {
-    let pc = before.pc(p);
-    let fetch = fetched_word(before, p, pc);
-    push_step(text, naming, number, p, pc, fetched(fetch, outcome))?;
-    items.clear();
-    add_items(items, p, before, fetch, outcome, after)?;
+    let fetch = fetch_of(p, before);
+    push_head(text, naming, number, p, before, fetch, outcome)?;
+    fill_items(items, p, before, fetch, outcome, after)?;
     push_items(text, items.as_str())
 }
 
@@ -258,13 +314,4 @@ pub(crate) fn write_line<T: Tlb, D: Console>(
         Event::Done => push_done(text, number)?,
     }
     text.push('\n')
-}
-// STUB
-fn fetched_word<T: Tlb, D: Console>(before: &Core<T, D>, p: u32, pc: u32) -> Option<u32>
-    ensures { result ≡ fetched_word before.now.state.memory pc (processor_at p before.now.state.processors) }
-{
-    let _ = before;
-    let _ = p;
-    let _ = pc;
-    None
 }

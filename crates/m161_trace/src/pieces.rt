@@ -1,8 +1,8 @@
 //! Lines, gathered into pieces for an output.
 
-ghost use Rattle.std.specs.Prelude.{◌≡◌, ◌+◌, ◌++◌, [], IfErr, OnErr, OnOk, length, nat_le, string_bytes};
+ghost use Rattle.std.specs.Prelude.{◌≡◌, ◌++◌, [], IfErr, OnErr, OnOk, string_bytes};
 ghost use Rattle.std.specs.Io.KnownBytes.{Appends};
-ghost use Rattle.m161_trace.specs.Pieces.{IsLine, IsPiece, kept_with, written_before};
+ghost use Rattle.m161_trace.specs.Pieces.{IsLine, IsPiece, fits_behind, kept_with, written_before};
 
 use std::alloc::{AllocError, Global};
 use std::io::Write;
@@ -52,11 +52,11 @@ impl Model for Pieces {
 /// The most bytes of a piece of more than one line.
 const MOST: usize = 65_536;
 
-// Whether a line of this length fits behind what is kept.
-fn fits(kept: usize, line: usize) -> bool
-    ensures { result ≡ nat_le (kept + line) 65536 }
+// Whether a line fits behind what is kept.
+fn fits(kept: &str, line: &str) -> bool
+    ensures { result ≡ fits_behind kept.now line.now }
 {
-    kept <= MOST && line <= MOST - kept
+    kept.len() <= MOST && line.len() <= MOST - kept.len()
 }
 
 // Hands a piece to an output, in one call if the output takes it whole.
@@ -99,7 +99,7 @@ impl Pieces {
         ensures err { OnErr result (self.new ≡ self.old) }
     {
         self.text.reserve(line.len())?;
-        if fits(self.text.len(), line.len()) {
+        if fits(self.text.as_str(), line) {
             self.text.push_str(line)?;
             return Ok(());
         }

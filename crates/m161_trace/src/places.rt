@@ -1,6 +1,6 @@
 //! The words of the board that a Step changed.
 
-ghost use Rattle.std.specs.Prelude.{◌≡◌, ◌<◌, OnOk, false, string_bytes};
+ghost use Rattle.std.specs.Prelude.{◌≡◌, ◌<◌, OnOk, false, length, string_bytes};
 ghost use Rattle.m161_bus.specs.Board.{IsShown, shown_word};
 ghost use Rattle.m161_bus.specs.declared.register.BoardWord.TheVariants as words;
 ghost use Rattle.m161_trace.specs.Items.{board, board_item, changed, common_items, each, places_items};
@@ -155,10 +155,10 @@ fn add_all_places<T: Tlb, D: Console>(
     add_crams(text, n, before, after)
 }
 
-/// The words of each processor, of which there are `n`, that changed; none did unless the Step is
-/// far.
+// The words of each processor, of which there are `n`, that changed; none did unless the Step is
+// far.
 #[tactic(auto, using(crate::proofs::Nothing::no_places))]
-pub(crate) fn add_places<T: Tlb, D: Console>(
+fn add_places_if<T: Tlb, D: Console>(
     text: &mut String,
     n: u32,
     before: &Core<T, D>,
@@ -177,4 +177,24 @@ pub(crate) fn add_places<T: Tlb, D: Console>(
     } else {
         Ok(())
     }
+}
+
+/// The words of each processor of the two states that changed; none did unless the Step is far.
+pub(crate) fn add_places<T: Tlb, D: Console>(
+    text: &mut String,
+    before: &Core<T, D>,
+    after: &Core<T, D>,
+    far: bool,
+) -> Result<(), AllocError>
+    requires as_many { length after.now.state.processors ≡ length before.now.state.processors }
+    requires near { far ≡ false
+        → after.now.state.board.places ≡ before.now.state.board.places }
+    ensures { OnOk result (Adds (string_bytes text.old)
+        (places_items (length before.now.state.processors) before.now.state.board
+        after.now.state.board)
+        (string_bytes text.new)) }
+{
+    before.law();
+    after.law();
+    add_places_if(text, before.processors(), before, after, far)
 }

@@ -3,8 +3,9 @@
 ghost use Rattle.std.specs.Prelude.{◌≡◌, ◌<◌, ◌==◌, ◌&&◌, OnOk, Some, false, slice_get, string_bytes};
 ghost use Rattle.m161_machine.specs.State.{processor_at};
 ghost use Rattle.m161_tlb.specs.Row.{hi_word, lo_word};
-ghost use Rattle.m161_trace.specs.Items.{changed, control, control_item, control_items, hi, hi_lo_items, lo, processor_items, register, register_item, register_items, row_item, row_item_of, row_items, same_state, shown_registers, state_items};
-ghost use Rattle.m161_trace.specs.helpers.Adds.{Adds, Have};
+ghost use Rattle.m161_trace.specs.Items.{changed, control, control_item, control_items, hi, hi_lo_items, lo, processor_items, register, register_item, register_items, row, row_item, row_item_of, row_items, same_state, shown_registers, state_items};
+ghost use Rattle.m161_trace.specs.Line.{item_text};
+ghost use Rattle.m161_trace.specs.helpers.Adds.{Adds, AddsPart, Have};
 ghost use Rattle.m161_trace.specs.helpers.Near.{IsNear};
 
 use crate::text::{push_control, push_doing, push_hi, push_lo, push_register, push_row};
@@ -51,6 +52,22 @@ fn add_state(
         return Ok(());
     }
     push_doing(text, after)
+}
+
+// What it is doing in the two states.
+fn add_state_of<T: Tlb, D: Console>(
+    text: &mut String,
+    p: u32,
+    before: &Core<T, D>,
+    after: &Core<T, D>,
+) -> Result<(), AllocError>
+    requires { Have p before.now.state after.now.state }
+    ensures { OnOk result (Adds (string_bytes text.old)
+        (state_items (processor_at p before.now.state.processors).state
+        (processor_at p after.now.state.processors).state)
+        (string_bytes text.new)) }
+{
+    add_state(text, before.state(p), after.state(p))
 }
 
 // A register, if it changed.
@@ -124,6 +141,38 @@ fn add_lo(text: &mut String, before: u32, after: u32) -> Result<(), AllocError>
     push_lo(text, after)
 }
 
+// HI of the two states.
+fn add_hi_of<T: Tlb, D: Console>(
+    text: &mut String,
+    p: u32,
+    before: &Core<T, D>,
+    after: &Core<T, D>,
+) -> Result<(), AllocError>
+    requires { Have p before.now.state after.now.state }
+    ensures { OnOk result (Adds (string_bytes text.old)
+        (changed (processor_at p before.now.state.processors).hi (processor_at p after.now.state.processors).hi
+        (hi (processor_at p after.now.state.processors).hi))
+        (string_bytes text.new)) }
+{
+    add_hi(text, before.hi(p), after.hi(p))
+}
+
+// LO of the two states.
+fn add_lo_of<T: Tlb, D: Console>(
+    text: &mut String,
+    p: u32,
+    before: &Core<T, D>,
+    after: &Core<T, D>,
+) -> Result<(), AllocError>
+    requires { Have p before.now.state after.now.state }
+    ensures { OnOk result (Adds (string_bytes text.old)
+        (changed (processor_at p before.now.state.processors).lo (processor_at p after.now.state.processors).lo
+        (lo (processor_at p after.now.state.processors).lo))
+        (string_bytes text.new)) }
+{
+    add_lo(text, before.lo(p), after.lo(p))
+}
+
 // HI and LO.
 fn add_hi_lo<T: Tlb, D: Console>(
     text: &mut String,
@@ -137,8 +186,8 @@ fn add_hi_lo<T: Tlb, D: Console>(
         (processor_at p after.now.state.processors))
         (string_bytes text.new)) }
 {
-    add_hi(text, before.hi(p), after.hi(p))?;
-    add_lo(text, before.lo(p), after.lo(p))
+    add_hi_of(text, p, before, after)?;
+    add_lo_of(text, p, before, after)
 }
 
 // A register of coprocessor 0, if it changed.
@@ -207,6 +256,15 @@ fn same_row(before: &Row, after: &Row) -> bool
     before.entry_hi() == after.entry_hi() && before.entry_lo() == after.entry_lo()
 }
 
+// Row `i`, as its words.
+fn push_row_words(text: &mut String, i: u8, words: &Row) -> Result<(), AllocError>
+    ensures { OnOk result (AddsPart (string_bytes text.old)
+        (item_text (row i (hi_word words.now) (lo_word words.now)))
+        (string_bytes text.new)) }
+{
+    push_row(text, i, words.entry_hi(), words.entry_lo())
+}
+
 // Row `i`, if one of its words changed.
 fn add_changed_row(text: &mut String, i: u8, before: &Row, after: &Row) -> Result<(), AllocError>
     ensures { OnOk result (Adds (string_bytes text.old) (row_item_of i before.now after.now)
@@ -215,7 +273,7 @@ fn add_changed_row(text: &mut String, i: u8, before: &Row, after: &Row) -> Resul
     if same_row(before, after) {
         return Ok(());
     }
-    push_row(text, i, after.entry_hi(), after.entry_lo())
+    push_row_words(text, i, after)
 }
 
 // Row `i` of the two states.
@@ -293,7 +351,7 @@ pub(crate) fn add_processor<T: Tlb, D: Console>(
         (processor_items p before.now.state after.now.state)
         (string_bytes text.new)) }
 {
-    add_state(text, before.state(p), after.state(p))?;
+    add_state_of(text, p, before, after)?;
     add_registers(text, p, before, after)?;
     add_hi_lo(text, p, before, after)?;
     add_controls(text, p, before, after)?;

@@ -3,7 +3,8 @@
 
 ghost use Rattle.std.specs.Prelude.{◌≡◌, ◌<◌, ◌≤◌, ◌&&◌, OnOk, None, length, not, slice_index_or, string_bytes};
 ghost use Rattle.m161_isa.specs.Bits.{has_bit};
-ghost use Rattle.m161_trace.specs.Items.{changed, ended_by, latch_items, latched, latched_as, link_items, linked, linked_as, linked_items, outcome_items, start_item, start_items, stored_items, unlinked_by, unlinked_item, waiting};
+ghost use Rattle.m161_machine.specs.State.{word_in};
+ghost use Rattle.m161_trace.specs.Items.{changed, ended_by, latch_items, latched, latched_as, link_items, linked, linked_as, linked_items, outcome_items, start_item, start_items, stored_as, stored_items, unlinked_by, unlinked_item, waiting, waiting_items};
 ghost use Rattle.m161_trace.specs.helpers.Adds.{Adds, Have};
 
 use crate::text::{
@@ -11,9 +12,33 @@ use crate::text::{
     push_unlinked, push_waiting,
 };
 use m161_bus::Console;
-use m161_machine::{Core, Outcome};
+use m161_machine::{BoardWord, Core, Outcome};
 use m161_tlb::Tlb;
 use std::alloc::AllocError;
+
+// The word of RAM at an address, if there is one.
+fn add_stored_as(text: &mut String, at: u32, word: Option<u32>) -> Result<(), AllocError>
+    ensures { OnOk result (Adds (string_bytes text.old) (stored_as at word)
+        (string_bytes text.new)) }
+{
+    match word {
+        None => Ok(()),
+        Some(word) => push_stored(text, at, word),
+    }
+}
+
+// The word of RAM at an address, after the Step.
+fn add_stored_at<T: Tlb, D: Console>(
+    text: &mut String,
+    at: u32,
+    after: &Core<T, D>,
+) -> Result<(), AllocError>
+    ensures { OnOk result (Adds (string_bytes text.old)
+        (stored_as at (word_in after.now.state.memory at))
+        (string_bytes text.new)) }
+{
+    add_stored_as(text, at, after.word(at))
+}
 
 /// The word of RAM that the Step stored to.
 pub(crate) fn add_stored<T: Tlb, D: Console>(
@@ -24,12 +49,9 @@ pub(crate) fn add_stored<T: Tlb, D: Console>(
     ensures { OnOk result (Adds (string_bytes text.old) (stored_items stored after.now.state.memory)
         (string_bytes text.new)) }
 {
-    let Some(at) = stored else {
-        return Ok(());
-    };
-    match after.word(at) {
-        Some(word) => push_stored(text, at, word),
+    match stored {
         None => Ok(()),
+        Some(at) => add_stored_at(text, at, after),
     }
 }
 
@@ -167,12 +189,8 @@ fn add_latched_as(text: &mut String, before: Option<u8>, byte: u8) -> Result<(),
     }
 }
 
-/// The byte in the console's latch, if there is one and that changed.
-pub(crate) fn add_latch(
-    text: &mut String,
-    before: Option<u8>,
-    after: Option<u8>,
-) -> Result<(), AllocError>
+// The byte in the console's latch, if there is one and that changed.
+fn add_latch(text: &mut String, before: Option<u8>, after: Option<u8>) -> Result<(), AllocError>
     ensures { OnOk result (Adds (string_bytes text.old) (latch_items before after)
         (string_bytes text.new)) }
 {
@@ -182,8 +200,22 @@ pub(crate) fn add_latch(
     }
 }
 
-/// How many typed bytes wait, if that changed.
-pub(crate) fn add_waiting(text: &mut String, before: u32, after: u32) -> Result<(), AllocError>
+/// The console's latch in the two states.
+pub(crate) fn add_latch_of<T: Tlb, D: Console>(
+    text: &mut String,
+    before: &Core<T, D>,
+    after: &Core<T, D>,
+) -> Result<(), AllocError>
+    ensures { OnOk result (Adds (string_bytes text.old)
+        (latch_items before.now.state.board.console.latch
+        after.now.state.board.console.latch)
+        (string_bytes text.new)) }
+{
+    add_latch(text, before.latch(), after.latch())
+}
+
+// How many typed bytes wait, if that changed.
+fn add_waiting(text: &mut String, before: u32, after: u32) -> Result<(), AllocError>
     ensures { OnOk result (Adds (string_bytes text.old) (changed before after (waiting after))
         (string_bytes text.new)) }
 {
@@ -191,6 +223,20 @@ pub(crate) fn add_waiting(text: &mut String, before: u32, after: u32) -> Result<
         return Ok(());
     }
     push_waiting(text, after)
+}
+
+/// How many typed bytes wait in the two states.
+pub(crate) fn add_waiting_of<T: Tlb, D: Console>(
+    text: &mut String,
+    before: &Core<T, D>,
+    after: &Core<T, D>,
+) -> Result<(), AllocError>
+    ensures { OnOk result (Adds (string_bytes text.old)
+        (waiting_items before.now.state.board.console
+        after.now.state.board.console)
+        (string_bytes text.new)) }
+{
+    add_waiting(text, before.waiting(), after.waiting())
 }
 
 /// What the outcome says.
@@ -228,14 +274,9 @@ fn add_start(text: &mut String, before: u32, after: u32, q: u32) -> Result<(), A
     }
 }
 
-/// The processors that are new in CPUE: `n` is how many there are.
+// The processors that are new in CPUE: `n` is how many there are.
 #[tactic(auto, using(crate::proofs::Nothing::no_starts))]
-pub(crate) fn add_starts(
-    text: &mut String,
-    n: u32,
-    before: u32,
-    after: u32,
-) -> Result<(), AllocError>
+fn add_starts(text: &mut String, n: u32, before: u32, after: u32) -> Result<(), AllocError>
     requires { n ≤ 32 }
     ensures { OnOk result (Adds (string_bytes text.old) (start_items n before after)
         (string_bytes text.new)) }
@@ -247,4 +288,25 @@ pub(crate) fn add_starts(
         add_start(text, before, after, q)?;
     }
     Ok(())
+}
+
+/// The processors that are new in CPUE, of the two states.
+pub(crate) fn add_starts_of<T: Tlb, D: Console>(
+    text: &mut String,
+    before: &Core<T, D>,
+    after: &Core<T, D>,
+) -> Result<(), AllocError>
+    ensures { OnOk result (Adds (string_bytes text.old)
+        (start_items (length before.now.state.processors)
+        before.now.state.board.started after.now.state.board.started)
+        (string_bytes text.new)) }
+{
+    before.law();
+    let started = before.board_word(BoardWord::Cpue);
+    add_starts(
+        text,
+        before.processors(),
+        started,
+        after.board_word(BoardWord::Cpue),
+    )
 }

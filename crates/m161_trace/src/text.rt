@@ -78,15 +78,20 @@ pub(crate) fn push_row(text: &mut String, i: u8, high: u32, low: u32) -> Result<
     push_hex(text, 8, low)
 }
 
-// The address of a word of RAM, in brackets.
-fn push_address(text: &mut String, at: u32) -> Result<(), AllocError>
-    ensures { OnOk result (AddsPart (string_bytes text.old)
-        (codes "[" ++ word_text at ++ codes "]")
+// A bracket and an address.
+fn push_open(text: &mut String, at: u32) -> Result<(), AllocError>
+    ensures { OnOk result (AddsPart (string_bytes text.old) (codes "[" ++ word_text at)
         (string_bytes text.new)) }
 {
     text.push_str(" [")?;
-    push_hex(text, 8, at)?;
-    text.push(']')
+    push_hex(text, 8, at)
+}
+
+// What stands between an address and its word.
+fn push_close(text: &mut String) -> Result<(), AllocError>
+    ensures { OnOk result (string_bytes text.new ≡ string_bytes text.old ++ codes "]=") }
+{
+    text.push_str("]=")
 }
 
 /// A word of RAM that was stored to.
@@ -94,8 +99,8 @@ pub(crate) fn push_stored(text: &mut String, at: u32, word: u32) -> Result<(), A
     ensures { OnOk result (AddsPart (string_bytes text.old) (item_text (stored at word))
         (string_bytes text.new)) }
 {
-    push_address(text, at)?;
-    text.push('=')?;
+    push_open(text, at)?;
+    push_close(text)?;
     push_hex(text, 8, word)
 }
 

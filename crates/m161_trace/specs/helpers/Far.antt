@@ -4,10 +4,11 @@ use Rattle.m161_isa.specs.declared.effect.Effect.TheVariants as effect
 use Rattle.m161_isa.specs.declared.table.Row.{Row}
 use Rattle.m161_isa.specs.Table.{row_that_fits, table}
 
--- effects that write rows of the TLB, or may write to the board
+-- effects that write rows of the TLB, or may read or write words of the board
 abbrev pub is_far : Effect → Bool
 is_far effect.WriteTlbIndexed = true
 is_far effect.WriteTlbRandom = true
+is_far effect.LoadWord = true
 is_far effect.StoreWord = true
 is_far _ = false
 

@@ -6,4 +6,4 @@ pub returns-then-same_row : goal.returns-then-same_row
 returns-then-same_row c = same_if _ _ _ (sym c.same_row.ensures ∙ c.if-same_row.true)
 
 pub returns : goal.returns
-returns c = unless_ok _ _ _ _ _ (sym c.same_row.ensures ∙ c.if-same_row.false) c.push_row.ensures
+returns c = unless_ok _ _ _ _ _ (sym c.same_row.ensures ∙ c.if-same_row.false) c.push_row_words.ensures

@@ -7,7 +7,7 @@ use Rattle.m161_trace.proofs.Spaced.{each_more, grown}
 use Rattle.m161_trace.proofs.shared.add_links.Goals as goal
 
 pub loop-q-init : goal.loop-q-init
-loop-q-init g c = c.in_ok-add_own_link.ensures ∙ ap (λ is. string_bytes c.args.text.old ++ spaced is) (sym (append-nil _))
+loop-q-init g c = c.in_ok-add_own_link.ensures ∙ ap (λ is. string_bytes c.args.text.now ++ spaced is) (sym (append-nil _))
 
 pub loop-q-preserved : goal.loop-q-preserved
 loop-q-preserved g c =
@@ -22,5 +22,5 @@ unfolding link_items
 returns g c =
     let first = linked_items (slice_index_or c.args.before.now.state.links c.args.p None) (slice_index_or c.args.after.now.state.links c.args.p None) in
     let item : ℕ → List Item = unlinked_item c.args.before.now.state.links c.args.after.now.state.links in
-    let whole : c.loop-q.q ≡ length c.args.before.now.state.processors = omega (arith, c.processors.ensures) in
-    c.loop-q.invariant ∙ ap (λ n. string_bytes c.args.text.old ++ spaced (first ++ each 0 n item)) whole
+    let whole : c.loop-q.q ≡ length c.args.before.now.state.processors = omega (arith, c.processors-q-end.ensures) in
+    c.loop-q.invariant ∙ ap (λ n. string_bytes c.args.text.now ++ spaced (first ++ each 0 n item)) whole

@@ -2,8 +2,11 @@ use Rattle.std.proofs.Common.{◌≡◌, ◌∙◌, ◌-◌, ◌++◌, ℕ, List
 use Rattle.m161_trace.specs.Items.{each, start_item, start_items}
 use Rattle.m161_trace.specs.Items.{Item}
 use Rattle.m161_trace.specs.Line.{spaced}
-use Rattle.m161_trace.proofs.Spaced.{each_more, each_next, grown}
+use Rattle.m161_trace.proofs.Spaced.{each_more, each_next, grown, spaced_none}
 use Rattle.m161_trace.proofs.shared.add_starts.Goals as goal
+
+pub loop-q-init : goal.loop-q-init
+loop-q-init c = spaced_none _
 
 pub loop-q-preserved : goal.loop-q-preserved
 loop-q-preserved c =
@@ -15,4 +18,4 @@ unfolding start_items
 returns c =
     let item : ℕ → List Item = start_item c.args.before c.args.after in
     let whole : c.loop-q.q ≡ c.args.n = omega arith in
-    c.loop-q.invariant ∙ ap (λ n. string_bytes c.args.text.old ++ spaced (each 0 n item)) whole
+    c.loop-q.invariant ∙ ap (λ n. string_bytes c.args.text.now ++ spaced (each 0 n item)) whole
