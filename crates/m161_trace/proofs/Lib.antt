@@ -1,0 +1,11 @@
+pub mod Spaced
+pub mod Members
+pub mod Started
+pub mod Links
+pub mod Telling
+pub mod Shown
+pub mod Nothing
+pub mod Gathered
+pub mod NearEffects
+pub mod Near
+pub mod Tell

@@ -1,0 +1,126 @@
+use Rattle.std.proofs.Common.{◌≡◌, ◌∙◌, refl, sym, ap, ℕ, ◌+◌, ◌-◌, ◌≤◌, ◌<◌, Bool, true, false, List, [], ◌∷◌, ◌++◌, map, take, length, get_or, arith, append_assoc, Result, Ok, Err}
+use Rattle.std.specs.Prelude.{◌==◌, OnOk, flat_map, if◌then◌else◌}
+use Rattle.std.proofs.lemmas.Bool.Decides.{Decides-eqb}
+use Rattle.std.specs.List.{range_with_len}
+use Rattle.std.proofs.lemmas.List.{append-nil, flat_map_more, take_more, map-id}
+use Rattle.std.proofs.lemmas.List.Concat.{flat_map-append}
+use Rattle.std.proofs.lemmas.List.FromFn.{map-range_with_len_more}
+use Rattle.m161_trace.specs.Items.{Item, changed, each}
+use Rattle.m161_trace.specs.Line.{behind, item_text, spaced}
+
+-- Items, a space before each.
+
+pub spaced_more : (xs ys : List Item) → spaced (xs ++ ys) ≡ spaced xs ++ spaced ys
+unfolding spaced
+spaced_more xs ys = flat_map-append (λ (i : Item). 32 ∷ item_text i) xs ys
+
+pub spaced_none : (old : List ℕ) → old ≡ old ++ spaced []
+unfolding spaced
+spaced_none old = sym (append-nil old)
+
+pub spaced_one : (i : Item) → spaced (i ∷ []) ≡ 32 ∷ item_text i
+unfolding spaced
+spaced_one i = append-nil (32 ∷ item_text i)
+
+-- one item appended
+pub one : (old new : List ℕ) (i : Item) → new ≡ old ++ 32 ∷ item_text i → new ≡ old ++ spaced (i ∷ [])
+one old new i h = h ∙ ap (λ bs. old ++ bs) (sym (spaced_one i))
+
+-- items appended to items
+pub both : (old mid new : List ℕ) (xs ys : List Item) → mid ≡ old ++ spaced xs → new ≡ mid ++ spaced ys → new ≡ old ++ spaced (xs ++ ys)
+both old mid new xs ys h k =
+    k ∙ ap (λ bs. bs ++ spaced ys) h ∙ append_assoc old (spaced xs) (spaced ys) ∙ ap (λ bs. old ++ bs) (sym (spaced_more xs ys))
+
+-- the same, of items that are these
+pub grown : (old mid new : List ℕ) (xs ys zs : List Item) → zs ≡ xs ++ ys → mid ≡ old ++ spaced xs → new ≡ mid ++ spaced ys → new ≡ old ++ spaced zs
+grown old mid new xs ys zs are h k = both old mid new xs ys h k ∙ ap (λ is. old ++ spaced is) (sym are)
+
+-- a part with the same value has no item; one that differs has
+
+pub same_if : (t : Bool) (old : List ℕ) (i : Item) → t ≡ true → old ≡ old ++ spaced (if t then [] else i ∷ [])
+same_if true old i is = spaced_none old
+same_if false old i is = absurd (let bad : false ≡ true = is in cc)
+
+pub same : (old : List ℕ) (before after : ℕ) (i : Item) → before ≡ after → old ≡ old ++ spaced (changed before after i)
+same old before after i e = same_if (before == after) old i ((Decides-eqb before after).1 e)
+
+differs_if : (t : Bool) (before after : ℕ) (old new : List ℕ) (i : Item) → (before == after) ≡ t → (before ≡ after → ⊥) → new ≡ old ++ 32 ∷ item_text i
+    → new ≡ old ++ spaced (if t then [] else i ∷ [])
+differs_if true before after old new i is ne h = absurd (ne ((Decides-eqb before after).0 is))
+differs_if false before after old new i is ne h = one old new i h
+
+pub differs : (old new : List ℕ) (before after : ℕ) (i : Item) → (before ≡ after → ⊥) → new ≡ old ++ 32 ∷ item_text i → new ≡ old ++ spaced (changed before after i)
+differs old new before after i ne h = differs_if (before == after) before after old new i refl ne h
+
+-- the same of a call that appends an item, if it succeeds
+
+pub one_ok : {T E : Type 0} (r : Result T E) (old new : List ℕ) (i : Item) → OnOk r (new ≡ old ++ 32 ∷ item_text i) → OnOk r (new ≡ old ++ spaced (i ∷ []))
+one_ok (Ok x) old new i h = one old new i h
+one_ok (Err e) old new i h = tt
+
+pub differs_ok : {T E : Type 0} (r : Result T E) (old new : List ℕ) (before after : ℕ) (i : Item) → (before ≡ after → ⊥) → OnOk r (new ≡ old ++ 32 ∷ item_text i)
+    → OnOk r (new ≡ old ++ spaced (changed before after i))
+differs_ok (Ok x) old new before after i ne h = differs old new before after i ne h
+differs_ok (Err e) old new before after i ne h = tt
+
+pub unless_ok : {T E : Type 0} (r : Result T E) (t : Bool) (old new : List ℕ) (i : Item) → t ≡ false → OnOk r (new ≡ old ++ 32 ∷ item_text i)
+    → OnOk r (new ≡ old ++ spaced (if t then [] else i ∷ []))
+unless_ok r true old new i is h = absurd (let bad : true ≡ false = is in cc)
+unless_ok r false old new i is h = one_ok r old new i h
+
+pub when_ok : {T E : Type 0} (r : Result T E) (t : Bool) (old new : List ℕ) (i : Item) → t ≡ true → OnOk r (new ≡ old ++ 32 ∷ item_text i)
+    → OnOk r (new ≡ old ++ spaced (if t then i ∷ [] else []))
+when_ok r true old new i is h = one_ok r old new i h
+when_ok r false old new i is h = absurd (let bad : false ≡ true = is in cc)
+
+pub not_when : (t : Bool) (old : List ℕ) (i : Item) → t ≡ false → old ≡ old ++ spaced (if t then i ∷ [] else [])
+not_when true old i is = absurd (let bad : true ≡ false = is in cc)
+not_when false old i is = spaced_none old
+
+pub both_ok : {T E : Type 0} (r : Result T E) (old mid new : List ℕ) (xs ys : List Item) → mid ≡ old ++ spaced xs → OnOk r (new ≡ mid ++ spaced ys)
+    → OnOk r (new ≡ old ++ spaced (xs ++ ys))
+both_ok (Ok x) old mid new xs ys h k = both old mid new xs ys h k
+both_ok (Err e) old mid new xs ys h k = tt
+
+-- parts of an item
+
+pub appended_ok : {T E : Type 0} (r : Result T E) (old mid new a b : List ℕ) → mid ≡ old ++ a → OnOk r (new ≡ mid ++ b) → OnOk r (new ≡ old ++ (a ++ b))
+appended_ok (Ok x) old mid new a b h k = k ∙ ap (λ bs. bs ++ b) h ∙ append_assoc old a b
+appended_ok (Err e) old mid new a b h k = tt
+
+pub glued_ok : {T E : Type 0} (r : Result T E) (old first second new a b c : List ℕ) → first ≡ old ++ a → second ≡ first ++ b → OnOk r (new ≡ second ++ c)
+    → OnOk r (new ≡ old ++ ((a ++ b) ++ c))
+glued_ok r old first second new a b c h k l = appended_ok r old second new (a ++ b) c (k ∙ ap (λ bs. bs ++ b) h ∙ append_assoc old a b) l
+
+-- items behind a line's beginning
+
+pub nothing_behind : (old items : List ℕ) (is : List Item) → length items ≡ 0 → items ≡ spaced is → old ≡ old ++ behind is
+unfolding spaced
+nothing_behind old items [] none are = sym (append-nil old)
+nothing_behind old items (i ∷ is) none are = absurd (let long : length items ≡ length (spaced (i ∷ is)) = ap length are in let bad : ⊥ = omega (arith, long, none) in bad)
+
+pub some_behind : {T E : Type 0} (r : Result T E) (old mid new items : List ℕ) (is : List Item) → (length items ≡ 0 → ⊥) → items ≡ spaced is → mid ≡ old ++ 32 ∷ []
+    → OnOk r (new ≡ mid ++ items) → OnOk r (new ≡ old ++ behind is)
+unfolding spaced
+some_behind r old mid new items [] some are here h = absurd (some (ap length are))
+some_behind (Ok x) old mid new items (i ∷ is) some are here h = h ∙ ap (λ bs. bs ++ items) here ∙ append_assoc old (32 ∷ []) items ∙ ap (λ bs. old ++ 32 ∷ bs) are
+some_behind (Err e) old mid new items (i ∷ is) some are here h = tt
+
+counted : (a n j : ℕ) → a + n ≡ j → range_with_len a (n + 1) ≡ range_with_len a n ++ j ∷ []
+counted a n j e =
+    sym (map-id (range_with_len a (n + 1))) ∙ map-range_with_len_more (λ (x : ℕ). x) a n j e ∙ ap (λ l. l ++ j ∷ []) (map-id (range_with_len a n))
+
+-- one more of counted items
+pub each_more : (a n j : ℕ) (f : ℕ → List Item) → a + n ≡ j → each a (n + 1) f ≡ each a n f ++ f j
+each_more a n j f e = ap (flat_map f) (counted a n j e) ∙ sym (flat_map_more f [] (range_with_len a n) j)
+
+-- the same by the next number
+pub each_next : (a i : ℕ) (f : ℕ → List Item) → a ≤ i → each a (i + 1 - a) f ≡ each a (i - a) f ++ f i
+each_next a i f le =
+    let there : a + (i - a) ≡ i = omega arith in
+    let more : i + 1 - a ≡ i - a + 1 = omega arith in
+    ap (λ n. each a n f) more ∙ each_more a (i - a) i f there
+
+-- one more of the items of a list's elements
+pub listed_more : {X : Type 0} (f : X → List Item) (xs : List X) (i : ℕ) (d : X) → i < length xs → flat_map f (take (i + 1) xs) ≡ flat_map f (take i xs) ++ f (get_or xs i d)
+listed_more f xs i d lt = ap (flat_map f) (take_more xs i d lt) ∙ sym (flat_map_more f [] (take i xs) (get_or xs i d))

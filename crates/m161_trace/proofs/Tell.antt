@@ -1,0 +1,153 @@
+use Rattle.std.proofs.Common.{◌≡◌, ◌≢◌, ◌⊎◌, inl, inr, ◌∙◌, refl, sym, ap, subst, ℕ, ◌<◌, ◌≤◌, Bool, true, false, List, [], ◌∷◌, length, get_or, set, Option, None, Some, Result, Ok, Err, arith}
+use Rattle.std.specs.Prelude.{not, nat_lt, ◌&&◌, ◌==◌, if◌then◌else◌, unwrap_or}
+use Rattle.std.proofs.lemmas.Bool.Decides.{nat_tests}
+use Rattle.std.proofs.lemmas.List.{length-set}
+use Rattle.m161_cop0.specs.Control.{is_pending}
+use Rattle.m161_bus.specs.Board.{BoardState}
+use Rattle.m161_cpu.specs.declared.processor.Outcome.{Outcome}
+use Rattle.m161_cpu.specs.declared.processor.Outcome.TheVariants as outcomes
+use Rattle.m161_cpu.specs.declared.processor.ProcessorState.{ProcessorState}
+use Rattle.m161_cpu.specs.declared.processor.ProcessorState.TheVariants.{Stopped, Running, Waiting}
+use Rattle.m161_cpu.specs.Processor.{Processor, stopped_processor, with_state}
+use Rattle.m161_cpu.specs.Links.{links_after}
+use Rattle.m161_cpu.specs.Scene.{Change, Scene, around, scene}
+use Rattle.m161_cpu.specs.Step.{Stepped, change_of_step, count_step, idle, lines_in, running_step, step_by_state, step_of, step_of_result, tick, with_processor}
+use Rattle.m161_cpu.proofs.Laws.{step_links}
+use Rattle.m161_machine.specs.declared.event.Event.TheVariants.{Step}
+use Rattle.m161_machine.specs.State.{State, next, processor_at, step_result, with_step}
+use Rattle.m161_trace.specs.Items.{Item, items, linked, off, outcome_items, starts, unlinked}
+use Rattle.m161_trace.specs.Law.{Has, ItemsTell, Tells, Without, link_of}
+use Rattle.m161_trace.proofs.Links.{other_link, other_stays, own_stays}
+use Rattle.m161_trace.proofs.Near.{accepted}
+use Rattle.m161_trace.proofs.Shown.{every_true}
+use Rattle.m161_trace.proofs.Started.{as_many, is_new, other_kept, other_past, other_started}
+use Rattle.m161_trace.proofs.Telling.{control_stays, has_linked, has_start, has_unlinked, hi_stays, in_outcome, lo_stays, register_stays, row_stays, state_stays, word_stays}
+
+-- The items of a Step tell what it changed.
+
+-- A Step's outcome says whether it switched the machine off.
+
+record Powers (s : Scene) (x : Stepped) : Type 0 where
+  on : s.around.board.off ≡ false → (x.outcome ≡ outcomes.PoweredOff → ⊥) → x.after.around.board.off ≡ s.around.board.off
+  off : x.outcome ≡ outcomes.PoweredOff → x.after.around.board.off ≡ true
+
+on_by : (before after : Bool) → before ≡ false → ((if after && not before then outcomes.PoweredOff else outcomes.Ran) ≡ outcomes.PoweredOff → ⊥) → after ≡ before
+on_by true after on h = absurd (let bad : true ≡ false = on in cc)
+on_by false true on h = absurd (h refl)
+on_by false false on h = refl
+
+off_by : (before after : Bool) → (if after && not before then outcomes.PoweredOff else outcomes.Ran) ≡ outcomes.PoweredOff → after ≡ true
+off_by before true h = refl
+off_by before false h = absurd (let bad : outcomes.Ran ≡ outcomes.PoweredOff = h in cc)
+
+still : (s : Scene) (x : Stepped) → x.after.around.board ≡ s.around.board → (x.outcome ≡ outcomes.PoweredOff → ⊥) → Powers s x
+still s x board outcome = record {
+  on = λ on h. ap (λ (b : BoardState). b.off) board;
+  off = λ h. absurd (outcome h);
+}
+
+of_result : (s : Scene) (r : Result Change _) → Powers s (step_of_result s r)
+of_result s (Ok c) = record {
+  on = λ on h. on_by s.around.board.off (unwrap_or c.board s.around.board).off on h;
+  off = λ h. off_by s.around.board.off (unwrap_or c.board s.around.board).off h;
+}
+of_result s (Err e) = still s (step_of_result s (Err e)) refl (λ h. absurd (cc))
+
+of_idle : (f : Processor → Processor) (s : Scene) → Powers s (idle f s)
+of_idle f s = still s (idle f s) refl (λ h. absurd (cc))
+
+of_waiting : (s : Scene) (pending : Bool) → Powers s (if pending then running_step (with_processor (with_state Running) s) else idle tick s)
+of_waiting s true =
+    let p = of_result (with_processor (with_state Running) s) (change_of_step (with_processor (with_state Running) s)) in
+    record { on = p.on; off = p.off }
+of_waiting s false = of_idle tick s
+
+of_state : (state : ProcessorState) (s : Scene) → Powers s (step_by_state state s)
+of_state Stopped s = of_idle count_step s
+of_state Running s = of_result s (change_of_step s)
+of_state Waiting s = of_waiting s (is_pending (lines_in s) s.processor.control)
+
+powers : (s : Scene) → Powers s (step_of s)
+unfolding step_of
+powers s = of_state s.processor.state s
+
+result_powers : (p : ℕ) (s : State) → Powers (scene (processor_at p s.processors) (around p s.memory s.board s.links)) (step_result p s)
+unfolding step_result
+result_powers p s = powers (scene (processor_at p s.processors) (around p s.memory s.board s.links))
+
+result_links : (p : ℕ) (s : State) → (step_result p s).after.around.links ≡ links_after p (step_result p s).link (step_result p s).stored s.links
+unfolding step_result
+result_links p s = step_links (scene (processor_at p s.processors) (around p s.memory s.board s.links))
+
+abbrev after : ℕ → State → State
+after p s = with_step p (step_result p s) s
+
+-- links
+
+link_by : (t : Bool) (p q : ℕ) (s : State) → (q == p) ≡ t → q < length s.processors → (q ≡ p → Without linked (items p s (step_result p s).outcome (after p s))) →
+    (Has (unlinked q) (items p s (step_result p s).outcome (after p s)) → ⊥) → link_of q (after p s) ≡ link_of q s
+link_by true p q s is lt no_link no_end =
+    let same : q ≡ p = grind (arith, nat_tests, is) in
+    let there : p < length s.processors = subst (λ n. n < length s.processors) same lt in
+    let P : ℕ → Type 0 = λ n. (Has (unlinked n) (items p s (step_result p s).outcome (after p s)) → ⊥) in
+    let none : Has (unlinked p) (items p s (step_result p s).outcome (after p s)) → ⊥ = subst P same no_end in
+    subst (λ n. link_of n (after p s) ≡ link_of n s) (sym same)
+    (own_stays p (link_of p s) (link_of p (after p s))
+    (λ word h. no_link same word (has_linked p s (step_result p s).outcome (after p s) _ h))
+    (λ h. none (has_unlinked p s (step_result p s).outcome (after p s) p _ there h)))
+link_by false p q s is lt no_link no_end =
+    let ne : q ≢ p = grind (arith, nat_tests, is) in
+    let E = ap (λ links. get_or links q None) (result_links p s) in
+    other_stays q (link_of q s) (link_of q (after p s))
+    (subst (λ y. (y ≡ link_of q s) ⊎ (y ≡ None)) (sym E) (other_link p (step_result p s).link (step_result p s).stored s.links q ne))
+    (λ h. no_end (has_unlinked p s (step_result p s).outcome (after p s) q _ lt h))
+
+-- whether the board is off
+
+off_item : (x : Outcome) → x ≡ outcomes.PoweredOff → Has off (outcome_items x)
+off_item x is = subst (λ y. Has off (outcome_items y)) (sym is) (inl refl)
+
+-- the other processors
+
+start_by : (t : Bool) (q : ℕ) → (Has (starts q) (if t then starts q ∷ [] else []) → ⊥) → t ≡ false
+start_by true q none = absurd (none (inl refl))
+start_by false q none = refl
+
+other_by : (t : Bool) (p q : ℕ) (s : State) → nat_lt q (length s.processors) ≡ t → q ≢ p →
+    (Has (starts q) (items p s (step_result p s).outcome (after p s)) → ⊥) → processor_at q (after p s).processors ≡ processor_at q s.processors
+other_by true p q s is ne none =
+    let lt : q < length s.processors = grind (arith, nat_tests, is) in
+    other_kept s.board.started (after p s).board s.processors p q (step_result p s).after.processor stopped_processor ne lt
+    (start_by (is_new s.board.started (after p s).board.started q) q (λ h. none (has_start p s (step_result p s).outcome (after p s) q _ lt h)))
+other_by false p q s is ne none =
+    let le : length s.processors ≤ q = grind (arith, nat_tests, is) in
+    other_past s.board.started (after p s).board s.processors p q (step_result p s).after.processor stopped_processor le
+
+tells_after : (p : ℕ) (s : State) → p < length s.processors → s.board.off ≡ false → Tells p s (step_result p s).outcome (after p s) (items p s (step_result p s).outcome (after p s))
+tells_after p s place on =
+    let o : Outcome = (step_result p s).outcome in
+    let t : State = after p s in
+    let f = result_powers p s in
+    record {
+      true_of = every_true p s o t (record {
+        off = f.off;
+        starts = λ q lt new ne. other_started s.board.started t.board s.processors p q (step_result p s).after.processor stopped_processor ne lt new;
+      });
+      state_stays = state_stays p s o t;
+      register_stays = register_stays p s o t;
+      hi_stays = hi_stays p s o t;
+      lo_stays = lo_stays p s o t;
+      control_stays = control_stays p s o t;
+      row_stays = row_stays p s o t;
+      link_stays = λ q. link_by (q == p) p q s refl;
+      word_stays = word_stays p s o t;
+      off_stays = λ none. f.on on (λ is. none (in_outcome p s o t off (off_item o is)));
+      other_stays = λ q. other_by (nat_lt q (length s.processors)) p q s refl;
+      conf_stays = refl;
+      as_many = as_many s.board.started t.board 0 (set s.processors p (step_result p s).after.processor) ∙ simp length-set;
+    }
+
+pub items_tell : ItemsTell
+items_tell p s o t h =
+    let a = accepted p s o t h in
+    subst (λ (r : Outcome × State). Tells p s r.0 r.1 (items p s r.0 r.1)) a.given (tells_after p s a.place a.on)

@@ -1,0 +1,21 @@
+use Rattle.std.proofs.Common.{◌≡◌, ◌∙◌, ◌-◌, ◌++◌, ℕ, List, ap, arith, string_bytes}
+use Rattle.m161_bus.specs.declared.register.BoardWord.TheVariants as words
+use Rattle.m161_trace.specs.Items.{board_item, each}
+use Rattle.m161_trace.specs.Items.{Item}
+use Rattle.m161_trace.specs.Line.{spaced}
+use Rattle.m161_trace.proofs.Spaced.{each_more, each_next, grown, spaced_none}
+use Rattle.m161_trace.proofs.places.add_raised.Goals as goal
+
+pub loop-c-init : goal.loop-c-init
+loop-c-init g c = spaced_none _
+
+pub loop-c-preserved : goal.loop-c-preserved
+loop-c-preserved g c =
+    let item : ℕ → List Item = λ k. board_item c.args.before.now.state.board c.args.after.now.state.board (words.Cipi k) in
+    grown _ _ _ _ _ _ (each_more 0 c.loop-c.c c.loop-c.c item (omega arith)) c.loop-c.invariant c.in_ok-add_word.ensures
+
+pub returns : goal.returns
+returns g c =
+    let item : ℕ → List Item = λ k. board_item c.args.before.now.state.board c.args.after.now.state.board (words.Cipi k) in
+    let whole : c.loop-c.c ≡ c.args.n = omega arith in
+    c.loop-c.invariant ∙ ap (λ n. string_bytes c.args.text.now ++ spaced (each 0 n item)) whole

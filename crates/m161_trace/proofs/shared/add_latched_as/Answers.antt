@@ -1,0 +1,8 @@
+use Rattle.m161_trace.proofs.Spaced.{one_ok, spaced_none}
+use Rattle.m161_trace.proofs.shared.add_latched_as.Goals as goal
+
+pub returns-in-None : goal.returns-in-None
+returns-in-None c = rw c.in-None.is (one_ok _ _ _ _ c.push_latched.ensures)
+
+pub returns-in-Some : goal.returns-in-Some
+returns-in-Some c = rw c.in-Some.is (c.add_changed_latch.ensures)

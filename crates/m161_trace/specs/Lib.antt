@@ -1,0 +1,5 @@
+pub mod Items
+pub mod Line
+pub mod Pieces
+pub mod Law
+pub mod helpers

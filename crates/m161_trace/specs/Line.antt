@@ -1,0 +1,100 @@
+use Rattle.std.specs.Prelude.{ℕ, Bool, true, false, ◌==◌, if◌then◌else◌, List, [], ◌∷◌, ◌++◌, flat_map, Option, None, Some, codes, decimal}
+use Rattle.m161_text.specs.Parts.{◌␣◌, hex_text, word_text}
+use Rattle.m161_dis.specs.declared.naming.Naming.{Naming}
+use Rattle.m161_dis.specs.Canon.{canon_as}
+use Rattle.m161_cop0.specs.Registers.{name_of_register, number_of_exception}
+use Rattle.m161_bus.specs.declared.register.BoardWord.{BoardWord}
+use Rattle.m161_bus.specs.declared.register.BoardWord.TheVariants as words
+use Rattle.m161_cpu.specs.declared.processor.Outcome.{Outcome}
+use Rattle.m161_cpu.specs.declared.processor.Outcome.TheVariants as outcomes
+use Rattle.m161_cpu.specs.declared.processor.ProcessorState.{ProcessorState}
+use Rattle.m161_cpu.specs.declared.processor.ProcessorState.TheVariants as states
+use Rattle.m161_cpu.specs.Fetch.{fetched_word}
+use Rattle.m161_machine.specs.declared.event.Event.{Event}
+use Rattle.m161_machine.specs.declared.event.Event.TheVariants as events
+use Rattle.m161_machine.specs.State.{State, processor_at}
+use Rattle.m161_trace.specs.Items.{Item, doing, register, hi, lo, control, row, stored, linked, unlinked, latched, waiting, board, trapped, idle, off, starts, items}
+
+-- The line of an event. Words have eight digits; other numbers are decimal.
+
+-- a name and a word
+abbrev pub value_text : List ℕ → ℕ → List ℕ
+value_text name word = name ++ codes "=" ++ word_text word
+
+abbrev pub state_text : ProcessorState → List ℕ
+state_text states.Stopped = codes "stopped"
+state_text states.Running = codes "running"
+state_text states.Waiting = codes "waiting"
+
+abbrev pub place_text : BoardWord → List ℕ
+place_text words.WriteIrq = codes "wirq"
+place_text words.ReadIrq = codes "rirq"
+place_text words.Irqe = codes "irqe"
+place_text words.Cpue = codes "cpue"
+place_text (words.Cirqe c) = codes "cirqe" ␣ decimal c
+place_text (words.Cipi c) = codes "cipi" ␣ decimal c
+place_text (words.Cram c k) = codes "cram" ␣ decimal c ␣ decimal k
+
+abbrev pub item_text : Item → List ℕ
+item_text (doing state) = codes "state=" ++ state_text state
+item_text (register r word) = value_text (codes "r" ++ decimal r) word
+item_text (hi word) = value_text (codes "hi") word
+item_text (lo word) = value_text (codes "lo") word
+item_text (control r word) = value_text (name_of_register r) word
+item_text (row i high low) = value_text (codes "tlb" ␣ decimal i) high ␣ word_text low
+item_text (stored at word) = codes "[" ++ word_text at ++ codes "]=" ++ word_text word
+item_text (linked word) = value_text (codes "link") word
+item_text (unlinked q) = codes "unlink" ␣ decimal q
+item_text (latched byte) = codes "latch=" ++ hex_text 2 byte
+item_text (waiting n) = codes "waiting=" ++ decimal n
+item_text (board place word) = value_text (place_text place) word
+item_text (trapped code vector) = codes "trap" ␣ decimal (number_of_exception code) ␣ word_text vector
+item_text idle = codes "idle"
+item_text off = codes "off"
+item_text (starts q) = codes "starts" ␣ decimal q
+
+-- items, a space before each
+unfoldable pub spaced : List Item → List ℕ
+spaced is = flat_map (λ i. 32 ∷ item_text i) is
+
+-- items behind a line's beginning: two spaces before the first, and one between two
+abbrev pub behind : List Item → List ℕ
+behind [] = []
+behind (i ∷ is) = 32 ∷ spaced (i ∷ is)
+
+-- a Step with this outcome fetched nothing: it was idle, or took an interrupt, whose code is 0
+abbrev pub fetches_none : Outcome → Bool
+fetches_none outcomes.Ran = false
+fetches_none (outcomes.Trapped code vector) = number_of_exception code == 0
+fetches_none outcomes.Idle = true
+fetches_none outcomes.PoweredOff = false
+fetches_none outcomes.Taken = false
+
+-- the word that the Step of processor p fetched, if it could
+abbrev pub fetched : ℕ → State → Outcome → Option ℕ
+fetched p s o =
+    if fetches_none o then None
+    else fetched_word s.memory (processor_at p s.processors).pc (processor_at p s.processors)
+
+-- the place of an instruction
+abbrev pub address_text : ℕ → List ℕ
+address_text at = word_text at
+
+abbrev pub instruction_text : Naming → ℕ → Option ℕ → List ℕ
+instruction_text naming at None = codes "-"
+instruction_text naming at (Some word) = word_text word ␣ canon_as naming word at
+
+-- a Step of processor p, up to its items
+abbrev pub step_head : Naming → ℕ → ℕ → State → Outcome → List ℕ
+step_head naming number p s o =
+    decimal number ␣ decimal p ␣ address_text (processor_at p s.processors).pc
+    ␣ instruction_text naming (processor_at p s.processors).pc (fetched p s o)
+
+unfoldable pub step_line : Naming → ℕ → ℕ → State → Outcome → State → List ℕ
+step_line naming number p s o t = step_head naming number p s o ++ behind (items p s o t)
+
+-- the line of an event, without its end, by the state before it, its outcome and the state after it
+unfoldable pub event_line : Naming → ℕ → Event → State → Outcome → State → List ℕ
+event_line naming number (events.Step p) s o t = step_line naming number p s o t
+event_line naming number (events.Key byte) s o t = decimal number ␣ codes "k" ␣ hex_text 2 byte
+event_line naming number events.Done s o t = decimal number ␣ codes "o"

@@ -1,0 +1,317 @@
+//! The line of an event.
+
+ghost use Rattle.std.specs.Prelude.{◌≡◌, ◌⊎◌, ◌<◌, ◌++◌, List, None, Ok, OnOk, codes, decimal, false, if◌then◌else◌, is_some, length, string_bytes, true};
+ghost use Rattle.m161_cpu.specs.Fetch.{fetched_word};
+ghost use Rattle.m161_machine.specs.declared.event.Event.TheVariants as events;
+ghost use Rattle.m161_machine.specs.State.{next, processor_at};
+ghost use Rattle.m161_machine.specs.Uses.{uses_in};
+ghost use Rattle.m161_text.specs.Parts.{◌␣◌, hex_text};
+ghost use Rattle.m161_trace.specs.Items.{Item, items, shared_items};
+ghost use Rattle.m161_trace.specs.Line.{address_text, behind, event_line, fetches_none, instruction_text, spaced, step_head, step_line};
+ghost use Rattle.m161_text.specs.Lines.{with_line_end};
+ghost use Rattle.m161_trace.specs.helpers.Far.{is_far, is_far_found, is_far_word};
+ghost use Rattle.m161_trace.specs.helpers.Near.{IsNear};
+ghost use Rattle.m161_trace.specs.helpers.Adds.{Adds, AreAlike};
+
+use crate::places::{add_common, add_places};
+use crate::processor::add_processor;
+use crate::shared::{
+    add_latch_of, add_links, add_outcome, add_starts_of, add_stored, add_waiting_of,
+};
+use m161_bus::Console;
+use m161_decode::row_that_fits;
+use m161_dis::{Naming, push_line};
+use m161_isa::Effect;
+use m161_machine::{Core, Event, Outcome};
+use m161_text::push_hex;
+use m161_tlb::Tlb;
+use std::alloc::AllocError;
+use std::fmt::Write;
+
+// What changed beside the processor.
+fn add_shared<T: Tlb, D: Console>(
+    text: &mut String,
+    p: u32,
+    before: &Core<T, D>,
+    after: &Core<T, D>,
+    stored: Option<u32>,
+    far: bool,
+) -> Result<(), AllocError>
+    requires alike { AreAlike p before.now.state after.now.state }
+    requires stored { stored ≡ (uses_in p before.now.state).stored }
+    requires near { far ≡ false → IsNear p before.now.state after.now.state }
+    ensures { OnOk result (Adds (string_bytes text.old)
+        (shared_items p before.now.state after.now.state)
+        (string_bytes text.new)) }
+{
+    add_stored(text, stored, after)?;
+    add_links(text, p, before, after)?;
+    add_latch_of(text, before, after)?;
+    add_waiting_of(text, before, after)?;
+    add_common(text, before, after)?;
+    add_places(text, before, after, far)
+}
+
+// Whether an instruction may write rows of the TLB or words of the board.
+#[tactic(auto, unfolding(crate::specs::helpers::Far::is_far_word))]
+fn is_far_word(word: u32) -> bool
+    ensures { result ≡ is_far_word word }
+{
+    match row_that_fits(word) {
+        Some(row) => is_far(row.effect()),
+        None => false,
+    }
+}
+
+fn is_far(effect: Effect) -> bool
+    ensures { result ≡ is_far effect }
+{
+    matches!(
+        effect,
+        Effect::WriteTlbIndexed | Effect::WriteTlbRandom | Effect::LoadWord | Effect::StoreWord
+    )
+}
+
+// Whether a Step that would fetch this word and stores to this one may write rows or words of the
+// board. A store to RAM writes neither.
+fn is_far_step(fetch: Option<u32>, stored: Option<u32>) -> bool
+    ensures { result ≡ false
+        → (is_far_found fetch ≡ false) ⊎ (is_some stored ≡ true) }
+{
+    let Some(word) = fetch else {
+        return false;
+    };
+    match stored {
+        Some(_word) => false,
+        None => is_far_word(word),
+    }
+}
+
+/// The items of a Step of processor `p`, which would fetch this word.
+pub(crate) fn add_items<T: Tlb, D: Console>(
+    text: &mut String,
+    p: u32,
+    before: &Core<T, D>,
+    fetch: Option<u32>,
+    outcome: Outcome,
+    after: &Core<T, D>,
+) -> Result<(), AllocError>
+    requires accepted { next before.now.state (events.Step p) ≡ Ok (outcome, after.now.state) }
+    requires alike { AreAlike p before.now.state after.now.state }
+    requires fetch { fetch ≡ fetched_word before.now.state.memory
+        (processor_at p before.now.state.processors).pc
+        (processor_at p before.now.state.processors) }
+    ensures { OnOk result (Adds (string_bytes text.old)
+        (items p before.now.state outcome after.now.state)
+        (string_bytes text.new)) }
+{
+    let stored = before.uses(p).stored;
+    let far = is_far_step(fetch, stored);
+    add_processor(text, p, before, after, far)?;
+    add_shared(text, p, before, after, stored, far)?;
+    add_outcome(text, outcome)?;
+    add_starts_of(text, before, after)
+}
+
+// Whether a Step with this outcome fetched nothing: it was idle, or took an interrupt.
+fn took_none(outcome: Outcome) -> bool
+    ensures { result ≡ fetches_none outcome }
+{
+    match outcome {
+        Outcome::Idle => true,
+        Outcome::Trapped { code, vector: _ } => code.number() == 0,
+        Outcome::Ran | Outcome::PoweredOff | Outcome::Taken => false,
+    }
+}
+
+// The word that a Step fetched, if that is this one where it fetched any.
+fn fetched(fetch: Option<u32>, outcome: Outcome) -> Option<u32>
+    ensures { result ≡ (if fetches_none outcome then None else fetch) }
+{
+    if took_none(outcome) { None } else { fetch }
+}
+
+// Appends the place of an instruction.
+fn push_address(text: &mut String, at: u32) -> Result<(), AllocError>
+    ensures { OnOk result (string_bytes text.new ≡ string_bytes text.old ++ address_text at) }
+{
+    push_hex(text, 8, at)
+}
+
+// Appends the word that was fetched and its text, or that there was none.
+fn push_instruction(
+    text: &mut String,
+    naming: Naming,
+    at: u32,
+    word: Option<u32>,
+) -> Result<(), AllocError>
+    ensures { OnOk result (string_bytes text.new
+        ≡ string_bytes text.old ++ instruction_text naming at word) }
+{
+    match word {
+        None => text.push_str("-"),
+        Some(word) => {
+            push_hex(text, 8, word)?;
+            text.push(' ')?;
+            push_line(text, naming, word, at)
+        }
+    }
+}
+
+// Appends a Step up to its items.
+fn push_step(
+    text: &mut String,
+    naming: Naming,
+    number: u64,
+    p: u32,
+    pc: u32,
+    word: Option<u32>,
+) -> Result<(), AllocError>
+    ensures { OnOk result (string_bytes text.new ≡ string_bytes text.old
+        ++ (decimal number ␣ decimal p ␣ address_text pc ␣ instruction_text naming pc word)) }
+{
+    write!(text, "{number} {p} ")?;
+    push_address(text, pc)?;
+    text.push(' ')?;
+    push_instruction(text, naming, pc, word)
+}
+
+// Appends a part.
+fn push_part(text: &mut String, part: &str) -> Result<(), AllocError>
+    ensures { OnOk result (string_bytes text.new ≡ string_bytes text.old ++ part.now) }
+{
+    text.push_str(part)
+}
+
+// Appends items to a line's beginning.
+fn push_items(text: &mut String, items: &str) -> Result<(), AllocError>
+    ensures { (is : List Item) → items.now ≡ spaced is
+        → OnOk result (string_bytes text.new ≡ string_bytes text.old ++ behind is) }
+{
+    if items.len() == 0 {
+        return Ok(());
+    }
+    push_part(text, " ")?;
+    push_part(text, items)
+}
+
+// The word that processor `p` would fetch.
+fn fetch_of<T: Tlb, D: Console>(p: u32, before: &Core<T, D>) -> Option<u32>
+    requires { p < length before.now.state.processors }
+    ensures { result ≡ fetched_word before.now.state.memory
+        (processor_at p before.now.state.processors).pc
+        (processor_at p before.now.state.processors) }
+{
+    before.fetched_word(p, before.pc(p))
+}
+
+// Appends a Step of processor `p`, which would fetch this word, up to its items.
+fn push_head<T: Tlb, D: Console>(
+    text: &mut String,
+    naming: Naming,
+    number: u64,
+    p: u32,
+    before: &Core<T, D>,
+    fetch: Option<u32>,
+    outcome: Outcome,
+) -> Result<(), AllocError>
+    requires place { p < length before.now.state.processors }
+    requires fetch { fetch ≡ fetched_word before.now.state.memory
+        (processor_at p before.now.state.processors).pc
+        (processor_at p before.now.state.processors) }
+    ensures { OnOk result (string_bytes text.new ≡ string_bytes text.old
+        ++ step_head naming number p before.now.state outcome) }
+{
+    push_step(
+        text,
+        naming,
+        number,
+        p,
+        before.pc(p),
+        fetched(fetch, outcome),
+    )
+}
+
+// Writes the items of a Step of processor `p`, which would fetch this word, into a text.
+fn fill_items<T: Tlb, D: Console>(
+    text: &mut String,
+    p: u32,
+    before: &Core<T, D>,
+    fetch: Option<u32>,
+    outcome: Outcome,
+    after: &Core<T, D>,
+) -> Result<(), AllocError>
+    requires accepted { next before.now.state (events.Step p) ≡ Ok (outcome, after.now.state) }
+    requires alike { AreAlike p before.now.state after.now.state }
+    requires fetch { fetch ≡ fetched_word before.now.state.memory
+        (processor_at p before.now.state.processors).pc
+        (processor_at p before.now.state.processors) }
+    ensures { OnOk result (string_bytes text.new
+        ≡ spaced (items p before.now.state outcome after.now.state)) }
+{
+    text.clear();
+    add_items(text, p, before, fetch, outcome, after)
+}
+
+// Appends the line of a Step of processor `p`, without its end.
+fn push_step_line<T: Tlb, D: Console>(
+    text: &mut String,
+    items: &mut String,
+    naming: Naming,
+    number: u64,
+    p: u32,
+    before: &Core<T, D>,
+    outcome: Outcome,
+    after: &Core<T, D>,
+) -> Result<(), AllocError>
+    requires { next before.now.state (events.Step p) ≡ Ok (outcome, after.now.state) }
+    ensures { OnOk result (string_bytes text.new ≡ string_bytes text.old
+        ++ step_line naming number p before.now.state outcome after.now.state) }
+{
+    let fetch = fetch_of(p, before);
+    push_head(text, naming, number, p, before, fetch, outcome)?;
+    fill_items(items, p, before, fetch, outcome, after)?;
+    push_items(text, items.as_str())
+}
+
+// Appends the line of a key, without its end.
+fn push_key(text: &mut String, number: u64, byte: u8) -> Result<(), AllocError>
+    ensures { OnOk result (string_bytes text.new ≡ string_bytes text.old
+        ++ (decimal number ␣ codes "k" ␣ hex_text 2 byte)) }
+{
+    write!(text, "{number} k ")?;
+    push_hex(text, 2, u32::from(byte))
+}
+
+// Appends the line of a byte that was sent, without its end.
+fn push_done(text: &mut String, number: u64) -> Result<(), AllocError>
+    ensures { OnOk result (string_bytes text.new ≡ string_bytes text.old
+        ++ (decimal number ␣ codes "o")) }
+{
+    write!(text, "{number} o")
+}
+
+/// Writes the line of an event into an empty text, with its end; `items` is room for its items.
+#[tactic(auto, unfolding(crate::specs::Line::event_line))]
+pub(crate) fn write_line<T: Tlb, D: Console>(
+    text: &mut String,
+    items: &mut String,
+    naming: Naming,
+    number: u64,
+    event: Event,
+    before: &Core<T, D>,
+    outcome: Outcome,
+    after: &Core<T, D>,
+) -> Result<(), AllocError>
+    requires { next before.now.state event ≡ Ok (outcome, after.now.state) }
+    ensures { OnOk result (string_bytes text.new ≡
+        with_line_end (event_line naming number event before.now.state outcome after.now.state)) }
+{
+    text.clear();
+    match event {
+        Event::Step(p) => push_step_line(text, items, naming, number, p, before, outcome, after)?,
+        Event::Key(byte) => push_key(text, number, byte)?,
+        Event::Done => push_done(text, number)?,
+    }
+    text.push('\n')
+}
