@@ -1,7 +1,7 @@
 use Rattle.std.proofs.Common.{◌≡◌, ◌⊎◌, ◌∙◌, ℕ, List, Option, None, Some, Err, ap, inl, inr, refl, subst}
 use Rattle.m161_audit.specs.declared.finding.AuditError.{AuditError}
 use Rattle.m161_audit.specs.declared.finding.AuditError.TheVariants as audit
-use Rattle.m161_judge.specs.Run.{Runs}
+use Rattle.m161_judge.specs.Run.{BootsState, Runs}
 use Rattle.m161_drive.specs.Policy.{Rules}
 use Rattle.m161_machine.specs.declared.conf.BootError.{BootError}
 use Rattle.m161_machine.specs.History.{boot_fault}
@@ -34,6 +34,16 @@ run_failed task given rules n (Some first) (audit.Boot x) has h =
 run_failed task given rules n (Some first) (audit.BadWatch k) has h = absurd cc
 run_failed task given rules n None (audit.Boot x) has h = boot_failed task given x (inr h)
 run_failed task given rules n None (audit.BadWatch k) has h = (has, h.0, h.1)
+
+-- a machine that isn't booted
+pub unbooted : (task : SearchTask) (given : Given) (fault : Option BootError) (e : AuditError) →
+    boot_fault given.file (search_conf task) ≡ fault → BootsState given.file (search_conf task) fault (Err e) → IsRunFault task given (fault_of_audit e)
+unbooted task given (Some first) (audit.Boot x) has h =
+    let same : first ≡ x = cc in
+    boot_failed task given x (inl (has ∙ ap (λ e. Some e) same))
+unbooted task given (Some first) (audit.BadWatch k) has h = absurd cc
+unbooted task given None (audit.Boot x) has h = let same : x ≡ BootError.NoMemory = cc in boot_failed task given x (inr same)
+unbooted task given None (audit.BadWatch k) has h = absurd cc
 
 -- so is the search
 pub search_failed : (task : SearchTask) (files : List ℕ → Option (List ℕ)) (image : Option (List ℕ)) (given : Given) (fault : Fault) →

@@ -5,7 +5,7 @@ use Rattle.m161_judge.specs.declared.run.Run.{Run}
 use Rattle.m161_judge.specs.declared.verdict.Judged.{Judged}
 use Rattle.m161_judge.specs.Judge.{Judges}
 use Rattle.m161_judge.specs.Laws.{CutKeepsVerdict, IsOneVerdict}
-use Rattle.m161_judge.specs.Run.{IsRun, Runs, criteria}
+use Rattle.m161_judge.specs.Run.{BootsState, IsRun, Runs, criteria}
 use Rattle.m161_audit.specs.declared.finding.AuditError.{AuditError}
 use Rattle.m161_audit.specs.declared.watch.Watch.{Watch}
 use Rattle.m161_machine.specs.declared.conf.Conf.{Conf}
@@ -52,6 +52,12 @@ same_run task given k file conf rules watches output result file_is conf_is rule
     (subst (λ r. Runs file conf (boot_fault file conf) r n (criteria given.watches given.output r) result) rules_is
     (subst (λ w. Runs file conf (boot_fault file conf) rules n (criteria w given.output rules) result) watches_is
     (subst (λ o. Runs file conf (boot_fault file conf) rules n (criteria watches o rules) result) output_is h))))
+
+-- a boot of what was read
+pub boots_as : (file same : List ℕ) (conf equal : Conf) (result : Result State AuditError) → file ≡ same → conf ≡ equal →
+    BootsState file conf (boot_fault file conf) result → BootsState same equal (boot_fault same equal) result
+boots_as file same conf equal result file_is conf_is h =
+    subst (λ f. BootsState f equal (boot_fault f equal) result) file_is (subst (λ x. BootsState file x (boot_fault file x) result) conf_is h)
 
 -- a run that was made
 pub run_made : (task : SearchTask) (given : Given) (rules : Rules) (fault : Option BootError) (run : Run) →

@@ -1,7 +1,9 @@
 //! The runs of a search.
 
-ghost use Rattle.std.specs.Prelude.{◌≡◌, ◌≤◌, ◌%◌, ◌+◌, ◌^◌, true, false, IfErr, IfOk, None};
+ghost use Rattle.std.specs.Prelude.{◌≡◌, ◌≤◌, ◌%◌, ◌+◌, ◌^◌, true, false, IfErr, IfOk, None, Ok};
+ghost use Rattle.m161_judge.specs.Run.{BootsState};
 ghost use Rattle.m161_machine.specs.Conf.{is_within_limits};
+ghost use Rattle.m161_machine.specs.History.{boot_fault};
 ghost use Rattle.m161_order.specs.Order.{order_fault};
 ghost use Rattle.s161_search.specs.helpers.Inputs.{given_of};
 ghost use Rattle.s161_search.specs.Seeds.{IsRunAt, IsRunFault, search_conf, seed_at, seed_of, with_seed};
@@ -10,7 +12,7 @@ ghost use Rattle.s161_search.specs.helpers.Tried.{IsTried};
 use crate::inputs::Inputs;
 use m161::{Console, Tlb};
 use m161_drive::Policy;
-use m161_judge::{Judged, Run, judge_run};
+use m161_judge::{Booted, Judged, Run, judge_booted};
 use m161_machine::Conf;
 use m161_order::Order;
 use s161_audit::audit::fault_of_audit;
@@ -97,13 +99,32 @@ fn with_seed(seed: u64, order: Order) -> Order
     }
 }
 
+// The state from which all runs begin.
+fn boot<'a>(
+    alloc: Global,
+    task: SearchTask<'a>,
+    inputs: &Inputs,
+) -> Result<Booted<Tlb, Console>, Fault<'a>>
+    ensures ok { IfOk result (λ booted. BootsState (given_of inputs.now).file (search_conf task.entry)
+        (boot_fault (given_of inputs.now).file (search_conf task.entry)) (Ok booted)) }
+    ensures fault { IfErr result (IsRunFault task.entry (given_of inputs.now)) }
+{
+    match Booted::new(alloc, &inputs.file, conf_of(task)) {
+        Ok(booted) => Ok(booted),
+        Err(error) => Err(fault_of_audit(error)),
+    }
+}
+
 // Makes and judges a run.
 fn run_seed<'a>(
     alloc: Global,
+    booted: &Booted<Tlb, Console>,
     task: SearchTask<'a>,
     inputs: &Inputs,
     k: u32,
 ) -> Result<Run, Fault<'a>>
+    requires booted { BootsState (given_of inputs.now).file (search_conf task)
+        (boot_fault (given_of inputs.now).file (search_conf task)) (Ok booted.now) }
     requires limits { order_fault task.drive.order ≡ None }
     requires room { task.drive.events ≤ (search_conf task).log }
     ensures ok { IfOk result (IsRunAt task.entry (given_of inputs.now) k) }
@@ -113,8 +134,9 @@ fn run_seed<'a>(
     let Ok(policy) = Policy::new(order, task.drive.transfer, task.drive.gap, &inputs.keys) else {
         unreachable!()
     };
-    match judge_run::<Tlb, Console>(
+    match judge_booted(
         alloc,
+        booted,
         &inputs.file,
         conf_of(task),
         &policy,
@@ -141,9 +163,10 @@ pub(crate) fn try_seeds<'a>(
     ensures ok { IfOk result (IsTried task.entry (given_of inputs.now)) }
     ensures fault { IfErr result (IsRunFault task.entry (given_of inputs.now)) }
 {
+    let booted = boot(alloc, task, inputs)?;
     let mut cut = 0;
     for place in 0..task.seeds {
-        let run = run_seed(alloc, task, inputs, place)?;
+        let run = run_seed(alloc, &booted, task, inputs, place)?;
         if let Some(judged) = run.judged {
             return Ok(Tried::Wrong(FirstWrong { place, run, judged }));
         }

@@ -4,18 +4,24 @@ use Rattle.s161_drive.specs.Driven.{rules_of}
 use Rattle.s161_search.specs.helpers.Inputs.{given_of}
 use Rattle.s161_search.specs.Seeds.{IsRunFault, drive_at, search_conf}
 use Rattle.s161_search.proofs.Failing.{run_failed}
-use Rattle.s161_search.proofs.Judging.{rules_are, run_made, same_run}
+use Rattle.s161_search.proofs.Judging.{boots_as, rules_are, run_made, same_run}
 use Rattle.s161_search.proofs.seeds.run_seed.Goals as goal
 
-pub returns-in-Ok-judge_run-clause-ok : goal.returns-in-Ok-judge_run-clause-ok
-returns-in-Ok-judge_run-clause-ok c =
+pub judge_booted-requires-clause-booted : goal.judge_booted-requires-clause-booted
+judge_booted-requires-clause-booted c =
+    let given = given_of c.args.inputs.now in
+    boots_as given.file c.deref-2.result.now (search_conf c.args.task) c.conf_of.result (Ok c.args.booted.now) (sym c.deref-2.ensures.value) (sym c.conf_of.ensures)
+    c.requires.booted
+
+pub returns-in-Ok-judge_booted-clause-ok : goal.returns-in-Ok-judge_booted-clause-ok
+returns-in-Ok-judge_booted-clause-ok c =
     let task = c.args.task in
     let given = given_of c.args.inputs.now in
     let rules = rules_are task.drive c.args.k c.seed_at.result c.with_seed-order.result c.in-Ok.policy c.deref.result.now given.keys
     c.in-Ok.ensures.1 c.with_seed-order.ensures.value c.seed_at.ensures c.deref.ensures.value in
-    run_made task given (rules_of (drive_at task.drive c.args.k) given.keys) (boot_fault given.file (search_conf task)) c.in-Ok-judge_run.run'
-    (same_run task given c.args.k c.deref-2.result.now c.conf_of.result c.in-Ok.policy c.deref-3.result.now _ (Ok c.in-Ok-judge_run.run')
-    c.deref-2.ensures.value c.conf_of.ensures rules c.deref-3.ensures.value c.output.ensures c.in-Ok-judge_run.ensures)
+    run_made task given (rules_of (drive_at task.drive c.args.k) given.keys) (boot_fault given.file (search_conf task)) c.in-Ok-judge_booted.run'
+    (same_run task given c.args.k c.deref-2.result.now c.conf_of.result c.in-Ok.policy c.deref-3.result.now _ (Ok c.in-Ok-judge_booted.run')
+    c.deref-2.ensures.value c.conf_of.ensures rules c.deref-3.ensures.value c.output.ensures c.in-Ok-judge_booted.ensures)
 
 pub returns-in-Err-clause-fault : goal.returns-in-Err-clause-fault
 returns-in-Err-clause-fault c =
