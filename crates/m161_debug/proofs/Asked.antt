@@ -1,63 +1,225 @@
 -- What a line asks for.
-use Rattle.std.proofs.Common.{◌≡◌, ℕ, List, [], ◌∷◌, refl, ap, arith, ne_eqb, decimal, drop, get_or, None}
-use Rattle.std.proofs.lemmas.Option.{none-some}
-use Rattle.m161_text.specs.Parts.{◌␣◌, Lacks, IsWord, word_text}
-use Rattle.m161_text.specs.helpers.Parts.{ReadsBoth}
-use Rattle.m161_machine.specs.declared.event.Event.TheVariants as events
-use Rattle.m161_debug.specs.declared.command.Area.{Area}
-use Rattle.m161_debug.specs.declared.command.Area.TheVariants as areas
-use Rattle.m161_debug.specs.declared.command.Change.TheVariants as changes
-use Rattle.m161_debug.specs.declared.command.Command.{Command}
-use Rattle.m161_debug.specs.declared.command.Command.TheVariants as commands
-use Rattle.m161_debug.specs.declared.command.Display.TheVariants as displays
-use Rattle.m161_debug.specs.Commands.{area_word, first_word, IsCommandLine, IsUnknown}
+use Rattle.std.proofs.Common.{◌≡◌, ◌∙◌, ℕ, List, [], ◌∷◌, refl, sym, ap, subst, arith, codes, get_or, ne_eqb, Option, None, Some, Result, Err}
+use Rattle.m161_text.specs.Parts.{◌␣◌, Lacks}
 use Rattle.m161_text.proofs.Parts.{rest_lacks}
+use Rattle.m161_machine.specs.declared.event.Event.TheVariants as events
+use Rattle.m161_debug.specs.declared.command.Area.TheVariants.{Memory, Code}
+use Rattle.m161_debug.specs.declared.command.Change.{Change}
+use Rattle.m161_debug.specs.declared.command.Change.TheVariants.{Set, Delete}
+use Rattle.m161_debug.specs.declared.command.Command.{Command}
+use Rattle.m161_debug.specs.declared.command.Command.TheVariants.{Breakpoint, Make, Steps, Go, GoFirst, Until, Show, Where, Words, Fetched, Log}
+use Rattle.m161_debug.specs.declared.command.CommandError.{CommandError}
+use Rattle.m161_debug.specs.declared.command.CommandError.TheVariants.{BadArgument}
+use Rattle.m161_debug.specs.declared.command.Display.TheVariants.{Regs, Cop0, Tlb}
+use Rattle.m161_debug.specs.declared.condition.Condition.{Condition}
+use Rattle.m161_debug.specs.declared.condition.Condition.TheVariants as conditions
+use Rattle.m161_debug.specs.Commands.{arguments_of, change_word, condition_word, first_word, word_of, AreNumbers, AreParts, HasArguments, IsAddress, IsAsked, IsAskedOf, IsCondition, IsConditionOf, IsConditionWith, IsNumber}
+use Rattle.m161_debug.specs.helpers.Reading.{Finds}
 
-pub first_word_alone : (line : List ℕ) → Lacks 32 line → first_word line ≡ line
+first_word_alone : (line : List ℕ) → Lacks 32 line → first_word line ≡ line
 first_word_alone [] lacks = refl
 first_word_alone (b ∷ bs) lacks = rw (ne_eqb b 32 (lacks 0 (omega arith))) (ap (λ l. b ∷ l) (first_word_alone bs (rest_lacks 32 b bs lacks)))
 
-pub first_word_cut : (word rest : List ℕ) → Lacks 32 word → first_word (word ␣ rest) ≡ word
+first_word_cut : (word rest : List ℕ) → Lacks 32 word → first_word (word ␣ rest) ≡ word
 first_word_cut [] rest lacks = refl
 first_word_cut (b ∷ bs) rest lacks = rw (ne_eqb b 32 (lacks 0 (omega arith))) (ap (λ l. b ∷ l) (first_word_cut bs rest (rest_lacks 32 b bs lacks)))
 
--- arguments that aren't read are no place, and no span
-pub no_place : (text : List ℕ) (p address : ℕ) → ReadsBoth IsWord IsWord decimal word_text text None → IsWord p → IsWord address → text ≡ decimal p ␣ word_text address → ⊥
-no_place text p address none small fits same = none-some (p, address) (none.only (p, address) (small, fits) same)
+arguments_alone : (line : List ℕ) → Lacks 32 line → arguments_of line ≡ None
+arguments_alone [] lacks = refl
+arguments_alone (b ∷ bs) lacks = rw (ne_eqb b 32 (lacks 0 (omega arith))) (arguments_alone bs (rest_lacks 32 b bs lacks))
 
-pub no_span : (text : List ℕ) (address n : ℕ) → ReadsBoth IsWord IsWord word_text decimal text None → IsWord address → IsWord n → text ≡ word_text address ␣ decimal n → ⊥
-no_span text address n none small fits same = none-some (address, n) (none.only (address, n) (small, fits) same)
+arguments_cut : (word rest : List ℕ) → Lacks 32 word → arguments_of (word ␣ rest) ≡ Some rest
+arguments_cut [] rest lacks = refl
+arguments_cut (b ∷ bs) rest lacks = rw (ne_eqb b 32 (lacks 0 (omega arith))) (arguments_cut bs rest (rest_lacks 32 b bs lacks))
 
--- `m` and `x` are words of commands
-pub words_known : (area : Area) (text : List ℕ) → IsUnknown (area_word area ␣ text) → ⊥
-words_known areas.Memory text unknown = unknown.1.1.1.1.1.1.1.1.1.0 refl
-words_known areas.Code text unknown = unknown.1.1.1.1.1.1.1.1.1.1.0 refl
+-- a relation of a line's word and arguments
+cut_is : (P : List ℕ → Option (List ℕ) → Type 0) (line word rest : List ℕ) → Lacks 32 word × (line ≡ word ␣ rest) → P word (Some rest) → P (first_word line) (arguments_of line)
+cut_is P line word rest cut p =
+    subst (λ l. P (first_word l) (arguments_of l)) (sym cut.1)
+    (subst (λ w. P w (arguments_of (word ␣ rest))) (sym (first_word_cut word rest cut.0)) (subst (λ a. P word a) (sym (arguments_cut word rest cut.0)) p))
 
--- no command has one of them with arguments that aren't read
-pub no_words : (area : Area) (text : List ℕ) (command : Command) → ReadsBoth IsWord IsWord word_text decimal text None → IsCommandLine command (area_word area ␣ text) → ⊥
-no_words areas.Memory text (commands.Breakpoint changes.Set p address) none is = omega (arith, ap (λ ds. get_or ds 0 0) is.2)
-no_words areas.Memory text (commands.Breakpoint changes.Delete p address) none is = omega (arith, ap (λ ds. get_or ds 0 0) is.2)
-no_words areas.Memory text (commands.Make (events.Step p)) none is = omega (arith, ap (λ ds. get_or ds 0 0) is.1)
-no_words areas.Memory text (commands.Make (events.Key byte)) none is = omega (arith, ap (λ ds. get_or ds 0 0) is.1)
-no_words areas.Memory text (commands.Make events.Done) none is = omega (arith, ap (λ ds. get_or ds 0 0) is.1)
-no_words areas.Memory text commands.Go none is = omega (arith, ap (λ ds. get_or ds 0 0) is)
-no_words areas.Memory text (commands.GoFirst n) none is = omega (arith, ap (λ ds. get_or ds 0 0) is.3)
-no_words areas.Memory text (commands.Show displays.Regs p) none is = omega (arith, ap (λ ds. get_or ds 0 0) is.1)
-no_words areas.Memory text (commands.Show displays.Cop0 p) none is = omega (arith, ap (λ ds. get_or ds 0 0) is.1)
-no_words areas.Memory text (commands.Show displays.Tlb p) none is = omega (arith, ap (λ ds. get_or ds 0 0) is.1)
-no_words areas.Memory text (commands.Words areas.Memory address n) none is = no_span text address n none is.0 is.1 (ap (drop 2) is.2)
-no_words areas.Memory text (commands.Words areas.Code address n) none is = omega (arith, ap (λ ds. get_or ds 0 0) is.2)
-no_words areas.Memory text (commands.Log n) none is = omega (arith, ap (λ ds. get_or ds 0 0) is.1)
-no_words areas.Code text (commands.Breakpoint changes.Set p address) none is = omega (arith, ap (λ ds. get_or ds 0 0) is.2)
-no_words areas.Code text (commands.Breakpoint changes.Delete p address) none is = omega (arith, ap (λ ds. get_or ds 0 0) is.2)
-no_words areas.Code text (commands.Make (events.Step p)) none is = omega (arith, ap (λ ds. get_or ds 0 0) is.1)
-no_words areas.Code text (commands.Make (events.Key byte)) none is = omega (arith, ap (λ ds. get_or ds 0 0) is.1)
-no_words areas.Code text (commands.Make events.Done) none is = omega (arith, ap (λ ds. get_or ds 0 0) is.1)
-no_words areas.Code text commands.Go none is = omega (arith, ap (λ ds. get_or ds 0 0) is)
-no_words areas.Code text (commands.GoFirst n) none is = omega (arith, ap (λ ds. get_or ds 0 0) is.3)
-no_words areas.Code text (commands.Show displays.Regs p) none is = omega (arith, ap (λ ds. get_or ds 0 0) is.1)
-no_words areas.Code text (commands.Show displays.Cop0 p) none is = omega (arith, ap (λ ds. get_or ds 0 0) is.1)
-no_words areas.Code text (commands.Show displays.Tlb p) none is = omega (arith, ap (λ ds. get_or ds 0 0) is.1)
-no_words areas.Code text (commands.Words areas.Memory address n) none is = omega (arith, ap (λ ds. get_or ds 0 0) is.2)
-no_words areas.Code text (commands.Words areas.Code address n) none is = no_span text address n none is.0 is.1 (ap (drop 2) is.2)
-no_words areas.Code text (commands.Log n) none is = omega (arith, ap (λ ds. get_or ds 0 0) is.1)
+alone_is : (P : List ℕ → Option (List ℕ) → Type 0) (line : List ℕ) → Lacks 32 line → P line None → P (first_word line) (arguments_of line)
+alone_is P line lacks p = subst (λ w. P w (arguments_of line)) (sym (first_word_alone line lacks)) (subst (λ a. P line a) (sym (arguments_alone line lacks)) p)
+
+pub asked_cut : (line word rest : List ℕ) (r : Result Command CommandError) → Lacks 32 word × (line ≡ word ␣ rest) → IsAskedOf word (Some rest) r → IsAsked line r
+asked_cut line word rest r cut asked = cut_is (λ w a. IsAskedOf w a r) line word rest cut asked
+
+pub asked_alone : (line : List ℕ) (r : Result Command CommandError) → Lacks 32 line → IsAskedOf line None r → IsAsked line r
+asked_alone line r lacks asked = alone_is (λ w a. IsAskedOf w a r) line lacks asked
+
+-- the same of a condition
+
+both_sides : {Says Tells : Condition → List ℕ → Type 0} {a b : List ℕ} (r : Option Condition) → ((c : Condition) → Says c a → Tells c b) → ((c : Condition) → Tells c b → Says c a)
+    → Finds Says a r → Finds Tells b r
+both_sides None there back finds = record { found = tt; none = λ c t. finds.none c (back c t) }
+both_sides (Some c) there back finds = record { found = there c finds.found; none = tt }
+
+back_cut : (line word rest : List ℕ) → Lacks 32 word × (line ≡ word ␣ rest) → (c : Condition) → IsCondition c line → IsConditionOf word (Some rest) c
+back_cut line word rest cut c is =
+    subst (λ a. IsConditionOf word a c) (arguments_cut word rest cut.0)
+    (subst (λ w. IsConditionOf w (arguments_of (word ␣ rest)) c) (first_word_cut word rest cut.0) (subst (λ l. IsCondition c l) cut.1 is))
+
+back_alone : (line : List ℕ) → Lacks 32 line → (c : Condition) → IsCondition c line → IsConditionOf line None c
+back_alone line lacks c is = subst (λ a. IsConditionOf line a c) (arguments_alone line lacks) (subst (λ w. IsConditionOf w (arguments_of line) c) (first_word_alone line lacks) is)
+
+pub condition_cut : (line word rest : List ℕ) (r : Option Condition) → Lacks 32 word × (line ≡ word ␣ rest)
+    → Finds (λ c text. IsConditionOf word (Some text) c) rest r → Finds IsCondition line r
+condition_cut line word rest r cut finds =
+    both_sides r (λ c is. cut_is (λ w a. IsConditionOf w a c) line word rest cut is) (back_cut line word rest cut) finds
+
+pub condition_alone : (line : List ℕ) (r : Option Condition) → Lacks 32 line → Finds (λ c text. IsConditionOf line None c) line r → Finds IsCondition line r
+condition_alone line r lacks finds = both_sides r (λ c is. alone_is (λ w a. IsConditionOf w a c) line lacks is) (back_alone line lacks) finds
+
+-- `s` with what is neither a processor nor a processor and a number
+pub no_steps : (text : List ℕ) → Finds IsNumber text None → Finds AreNumbers text None → IsAskedOf (codes "s") (Some text) (Err BadArgument)
+no_steps text one two = (λ unknown. unknown.1.1.0 refl, λ command is. by command is.0 is.1)
+  where
+    by : (command : Command) → word_of command ≡ codes "s" → HasArguments command text → ⊥
+    by (Breakpoint Set p address) word is = omega (arith, ap (λ ds. get_or ds 0 0) word)
+    by (Breakpoint Delete p address) word is = omega (arith, ap (λ ds. get_or ds 0 0) word)
+    by (Make (events.Step p)) word is = one.none p is
+    by (Make (events.Key byte)) word is = omega (arith, ap (λ ds. get_or ds 0 0) word)
+    by (Make events.Done) word is = absurd is
+    by (Steps p n) word is = two.none (p, n) is
+    by Go word is = absurd is
+    by (GoFirst n) word is = omega (arith, ap (λ ds. get_or ds 0 0) word)
+    by (Until condition) word is = omega (arith, ap (λ ds. get_or ds 0 0) word)
+    by (Show Regs p) word is = omega (arith, ap (λ ds. get_or ds 0 0) word)
+    by (Show Cop0 p) word is = omega (arith, ap (λ ds. get_or ds 0 0) word)
+    by (Show Tlb p) word is = omega (arith, ap (λ ds. get_or ds 0 0) word)
+    by Where word is = absurd is
+    by (Words Memory address n) word is = omega (arith, ap (λ ds. get_or ds 0 0) word)
+    by (Words Code address n) word is = omega (arith, ap (λ ds. get_or ds 0 0) word)
+    by (Fetched address n p) word is = omega (arith, ap (λ ds. get_or ds 0 0) word)
+    by (Log n) word is = omega (arith, ap (λ ds. get_or ds 0 0) word)
+
+-- `b` with what is no processor and address
+pub no_break : (text : List ℕ) → Finds (AreParts IsNumber IsAddress) text None → IsAskedOf (codes "b") (Some text) (Err BadArgument)
+no_break text none = (λ unknown. unknown.0 refl, λ command is. by command is.0 is.1)
+  where
+    by : (command : Command) → word_of command ≡ codes "b" → HasArguments command text → ⊥
+    by (Breakpoint Set p address) word is = none.none (p, address) is
+    by (Breakpoint Delete p address) word is = omega (arith, ap (λ ds. get_or ds 0 0) word)
+    by (Make (events.Step p)) word is = omega (arith, ap (λ ds. get_or ds 0 0) word)
+    by (Make (events.Key byte)) word is = omega (arith, ap (λ ds. get_or ds 0 0) word)
+    by (Make events.Done) word is = absurd is
+    by (Steps p n) word is = omega (arith, ap (λ ds. get_or ds 0 0) word)
+    by Go word is = absurd is
+    by (GoFirst n) word is = omega (arith, ap (λ ds. get_or ds 0 0) word)
+    by (Until condition) word is = omega (arith, ap (λ ds. get_or ds 0 0) word)
+    by (Show Regs p) word is = omega (arith, ap (λ ds. get_or ds 0 0) word)
+    by (Show Cop0 p) word is = omega (arith, ap (λ ds. get_or ds 0 0) word)
+    by (Show Tlb p) word is = omega (arith, ap (λ ds. get_or ds 0 0) word)
+    by Where word is = absurd is
+    by (Words Memory address n) word is = omega (arith, ap (λ ds. get_or ds 0 0) word)
+    by (Words Code address n) word is = omega (arith, ap (λ ds. get_or ds 0 0) word)
+    by (Fetched address n p) word is = omega (arith, ap (λ ds. get_or ds 0 0) word)
+    by (Log n) word is = omega (arith, ap (λ ds. get_or ds 0 0) word)
+
+-- and `d`
+pub no_delete : (text : List ℕ) → Finds (AreParts IsNumber IsAddress) text None → IsAskedOf (codes "d") (Some text) (Err BadArgument)
+no_delete text none = (λ unknown. unknown.1.0 refl, λ command is. by command is.0 is.1)
+  where
+    by : (command : Command) → word_of command ≡ codes "d" → HasArguments command text → ⊥
+    by (Breakpoint Set p address) word is = omega (arith, ap (λ ds. get_or ds 0 0) word)
+    by (Breakpoint Delete p address) word is = none.none (p, address) is
+    by (Make (events.Step p)) word is = omega (arith, ap (λ ds. get_or ds 0 0) word)
+    by (Make (events.Key byte)) word is = omega (arith, ap (λ ds. get_or ds 0 0) word)
+    by (Make events.Done) word is = absurd is
+    by (Steps p n) word is = omega (arith, ap (λ ds. get_or ds 0 0) word)
+    by Go word is = absurd is
+    by (GoFirst n) word is = omega (arith, ap (λ ds. get_or ds 0 0) word)
+    by (Until condition) word is = omega (arith, ap (λ ds. get_or ds 0 0) word)
+    by (Show Regs p) word is = omega (arith, ap (λ ds. get_or ds 0 0) word)
+    by (Show Cop0 p) word is = omega (arith, ap (λ ds. get_or ds 0 0) word)
+    by (Show Tlb p) word is = omega (arith, ap (λ ds. get_or ds 0 0) word)
+    by Where word is = absurd is
+    by (Words Memory address n) word is = omega (arith, ap (λ ds. get_or ds 0 0) word)
+    by (Words Code address n) word is = omega (arith, ap (λ ds. get_or ds 0 0) word)
+    by (Fetched address n p) word is = omega (arith, ap (λ ds. get_or ds 0 0) word)
+    by (Log n) word is = omega (arith, ap (λ ds. get_or ds 0 0) word)
+
+-- `m` with what is no address and number
+pub no_memory : (text : List ℕ) → Finds (AreParts IsAddress IsNumber) text None → IsAskedOf (codes "m") (Some text) (Err BadArgument)
+no_memory text none = (λ unknown. unknown.1.1.1.1.1.1.1.1.1.0 refl, λ command is. by command is.0 is.1)
+  where
+    by : (command : Command) → word_of command ≡ codes "m" → HasArguments command text → ⊥
+    by (Breakpoint Set p address) word is = omega (arith, ap (λ ds. get_or ds 0 0) word)
+    by (Breakpoint Delete p address) word is = omega (arith, ap (λ ds. get_or ds 0 0) word)
+    by (Make (events.Step p)) word is = omega (arith, ap (λ ds. get_or ds 0 0) word)
+    by (Make (events.Key byte)) word is = omega (arith, ap (λ ds. get_or ds 0 0) word)
+    by (Make events.Done) word is = absurd is
+    by (Steps p n) word is = omega (arith, ap (λ ds. get_or ds 0 0) word)
+    by Go word is = absurd is
+    by (GoFirst n) word is = omega (arith, ap (λ ds. get_or ds 0 0) word)
+    by (Until condition) word is = omega (arith, ap (λ ds. get_or ds 0 0) word)
+    by (Show Regs p) word is = omega (arith, ap (λ ds. get_or ds 0 0) word)
+    by (Show Cop0 p) word is = omega (arith, ap (λ ds. get_or ds 0 0) word)
+    by (Show Tlb p) word is = omega (arith, ap (λ ds. get_or ds 0 0) word)
+    by Where word is = absurd is
+    by (Words Memory address n) word is = none.none (address, n) is
+    by (Words Code address n) word is = omega (arith, ap (λ ds. get_or ds 0 0) word)
+    by (Fetched address n p) word is = omega (arith, ap (λ ds. get_or ds 0 0) word)
+    by (Log n) word is = omega (arith, ap (λ ds. get_or ds 0 0) word)
+
+-- `x` with what is neither this, nor an address, a number and a processor
+pub no_code : (text : List ℕ) → Finds (AreParts IsAddress IsNumber) text None → Finds (AreParts IsAddress AreNumbers) text None → IsAskedOf (codes "x") (Some text) (Err BadArgument)
+no_code text none more = (λ unknown. unknown.1.1.1.1.1.1.1.1.1.1.0 refl, λ command is. by command is.0 is.1)
+  where
+    by : (command : Command) → word_of command ≡ codes "x" → HasArguments command text → ⊥
+    by (Breakpoint Set p address) word is = omega (arith, ap (λ ds. get_or ds 0 0) word)
+    by (Breakpoint Delete p address) word is = omega (arith, ap (λ ds. get_or ds 0 0) word)
+    by (Make (events.Step p)) word is = omega (arith, ap (λ ds. get_or ds 0 0) word)
+    by (Make (events.Key byte)) word is = omega (arith, ap (λ ds. get_or ds 0 0) word)
+    by (Make events.Done) word is = absurd is
+    by (Steps p n) word is = omega (arith, ap (λ ds. get_or ds 0 0) word)
+    by Go word is = absurd is
+    by (GoFirst n) word is = omega (arith, ap (λ ds. get_or ds 0 0) word)
+    by (Until condition) word is = omega (arith, ap (λ ds. get_or ds 0 0) word)
+    by (Show Regs p) word is = omega (arith, ap (λ ds. get_or ds 0 0) word)
+    by (Show Cop0 p) word is = omega (arith, ap (λ ds. get_or ds 0 0) word)
+    by (Show Tlb p) word is = omega (arith, ap (λ ds. get_or ds 0 0) word)
+    by Where word is = absurd is
+    by (Words Memory address n) word is = omega (arith, ap (λ ds. get_or ds 0 0) word)
+    by (Words Code address n) word is = none.none (address, n) is
+    by (Fetched address n p) word is = more.none (address, (n, p)) is
+    by (Log n) word is = omega (arith, ap (λ ds. get_or ds 0 0) word)
+
+pub no_change : (change : Change) (text : List ℕ) → Finds (AreParts IsNumber IsAddress) text None → IsAskedOf (change_word change) (Some text) (Err BadArgument)
+no_change Set text none = no_break text none
+no_change Delete text none = no_delete text none
+
+-- conditions whose arguments aren't read
+
+abbrev NoCondition : List ℕ → List ℕ → Type 0
+NoCondition word text = Finds (λ condition arguments. IsConditionOf word (Some arguments) condition) text None
+
+pub no_word_of_memory : (word text : List ℕ) → word ≡ codes "m" → Finds IsAddress text None → NoCondition word text
+no_word_of_memory word text same none = record { found = tt; none = λ condition is. by condition (is.0 ∙ same) is.1 }
+  where
+    by : (condition : Condition) → condition_word condition ≡ codes "m" → IsConditionWith condition (Some text) → ⊥
+    by (conditions.Memory address) w is = none.none address is
+    by (conditions.Trap p) w is = omega (arith, ap (λ ds. get_or ds 0 0) w)
+    by (conditions.Register p r) w is = omega (arith, ap (λ ds. get_or ds 0 0) w)
+    by (conditions.Row p i) w is = omega (arith, ap (λ ds. get_or ds 0 0) w)
+    by conditions.Output w is = absurd is
+
+pub no_register : (word text : List ℕ) → word ≡ codes "r" → Finds AreNumbers text None → NoCondition word text
+no_register word text same none = record { found = tt; none = λ condition is. by condition (is.0 ∙ same) is.1 }
+  where
+    by : (condition : Condition) → condition_word condition ≡ codes "r" → IsConditionWith condition (Some text) → ⊥
+    by (conditions.Memory address) w is = omega (arith, ap (λ ds. get_or ds 0 0) w)
+    by (conditions.Trap p) w is = omega (arith, ap (λ ds. get_or ds 0 0) w)
+    by (conditions.Register p r) w is = none.none (p, r) is
+    by (conditions.Row p i) w is = omega (arith, ap (λ ds. get_or ds 0 0) w)
+    by conditions.Output w is = absurd is
+
+pub no_row : (word text : List ℕ) → word ≡ codes "i" → Finds AreNumbers text None → NoCondition word text
+no_row word text same none = record { found = tt; none = λ condition is. by condition (is.0 ∙ same) is.1 }
+  where
+    by : (condition : Condition) → condition_word condition ≡ codes "i" → IsConditionWith condition (Some text) → ⊥
+    by (conditions.Memory address) w is = omega (arith, ap (λ ds. get_or ds 0 0) w)
+    by (conditions.Trap p) w is = omega (arith, ap (λ ds. get_or ds 0 0) w)
+    by (conditions.Register p r) w is = omega (arith, ap (λ ds. get_or ds 0 0) w)
+    by (conditions.Row p i) w is = none.none (p, i) is
+    by conditions.Output w is = absurd is

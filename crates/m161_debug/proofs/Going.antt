@@ -1,7 +1,7 @@
 -- A run, one event after the other.
-use Rattle.std.proofs.Common.{◌≡◌, ◌∙◌, inl, inr, sym, ap, refl, subst, ℕ, ◌+◌, ◌<◌, ◌≤◌, ◌&&◌, true, false, nat_lt, List, ◌∷◌, length, get_or, take, drop, slice_get, Some, IsOk, Result, Ok, Err}
+use Rattle.std.proofs.Common.{◌≡◌, ◌∙◌, inl, inr, sym, ap, refl, subst, ℕ, ◌+◌, ◌<◌, ◌≤◌, ◌&&◌, Bool, true, false, nat_lt, if◌then◌else◌, List, [], ◌∷◌, ◌++◌, length, take, drop, slice_get, Some, IsOk, Result, Ok, Err}
 use Rattle.std.proofs.lemmas.List.{take_more, at_drop_more, drop_all}
-use Rattle.std.proofs.lemmas.Option.{slice_get-get_or}
+use Rattle.std.proofs.lemmas.Option.{get_or_from_slice_get}
 use Rattle.m161_cpu.specs.declared.processor.Outcome.{Outcome}
 use Rattle.m161_machine.specs.declared.event.Event.{Event}
 use Rattle.m161_machine.specs.declared.event.Refusal.{Refusal}
@@ -9,31 +9,53 @@ use Rattle.m161_machine.specs.State.{State, next}
 use Rattle.m161_machine.specs.History.{History, Answers, Continues, Refuses}
 use Rattle.m161_machine.proofs.Continuing.{continues_more}
 use Rattle.m161_debug.specs.declared.breakpoints.Breakpoint.{Breakpoint}
-use Rattle.m161_debug.specs.declared.stop.Stop.TheVariants.{Break, End, Off, Refused}
-use Rattle.m161_debug.specs.Stops.{is_break, is_power_off, stop_after, stop_from, Stops}
+use Rattle.m161_debug.specs.declared.stop.Stop.{Stop}
+use Rattle.m161_debug.specs.declared.stop.Stop.TheVariants.{Break, End, Off, Refused, Until}
+use Rattle.m161_debug.specs.Stops.{is_break, is_power_off, never, stop_after, stop_from, wait_after, wait_from, LacksMemory, Stops, StopsBy}
+
+-- what a run waits for
+abbrev Awaited : Type 0
+Awaited = Event → Outcome → State → Bool
+
+-- event k is this one
+abbrev pub IsAt : List Event → ℕ → Event → Type 0
+IsAt es k e = (k < length es) × (slice_get es k ≡ Some e)
+
+drop_at : (es : List Event) (k : ℕ) (e : Event) → IsAt es k e → drop k es ≡ e ∷ drop (k + 1) es
+drop_at es k e here = at_drop_more (λ l. l) es k e here.0 ∙ ap (λ x. x ∷ drop (k + 1) es) (get_or_from_slice_get es k e e here.1)
+
+take_at_more : (es : List Event) (k : ℕ) (e : Event) → IsAt es k e → take (k + 1) es ≡ take k es ++ e ∷ []
+take_at_more es k e here = take_more es k e here.0 ∙ ap (λ x. take k es ++ x ∷ []) (get_or_from_slice_get es k e e here.1)
 
 -- no breakpoint stands before event k
 abbrev pub Passes : List Breakpoint → ℕ → State → Event → Type 0
 Passes bs k s e = (nat_lt 0 k && is_break bs s e) ≡ false
 
 -- no stop is among the first k events of a run
-abbrev pub NoStop : List Breakpoint → State → List Event → ℕ → State → Type 0
-NoStop bs s es k t = stop_from bs 0 s es ≡ stop_from bs k t (drop k es)
+abbrev pub NoStop : Awaited → List Breakpoint → State → List Event → ℕ → State → Type 0
+NoStop aw bs s es k t = wait_from aw bs 0 s es ≡ wait_from aw bs k t (drop k es)
 
-one_more : (bs : List Breakpoint) (k : ℕ) (s : State) (e : Event) (es : List Event) → Passes bs k s e
-    → stop_from bs k s (e ∷ es) ≡ stop_after k s (next s e) (λ t. stop_from bs (k + 1) t es)
-one_more bs k s e es passes = rw passes refl
+one_more : (aw : Awaited) (bs : List Breakpoint) (k : ℕ) (s : State) (e : Event) (es : List Event) → Passes bs k s e
+    → wait_from aw bs k s (e ∷ es) ≡ wait_after aw k s e (next s e) (λ t. wait_from aw bs (k + 1) t es)
+one_more aw bs k s e es passes = rw passes refl
+
+-- at event k, where no breakpoint stands before it
+next_event : (aw : Awaited) (bs : List Breakpoint) (s t : State) (es : List Event) (k : ℕ) (e : Event) → IsAt es k e
+    → NoStop aw bs s es k t → Passes bs k t e
+    → wait_from aw bs 0 s es ≡ wait_after aw k t e (next t e) (λ u. wait_from aw bs (k + 1) u (drop (k + 1) es))
+next_event aw bs s t es k e here no_stop passes =
+    no_stop ∙ ap (wait_from aw bs k t) (drop_at es k e here) ∙ one_more aw bs k t e (drop (k + 1) es) passes
 
 -- an event that is refused by `next`, or for want of memory
-by_refusal : (bs : List Breakpoint) (m n : History) (es : List Event) (k : ℕ) (e : Event) (refusal : Refusal) (x : Result (Outcome × State) Refusal)
-    → next n.state e ≡ x → slice_get es k ≡ Some e → Continues m (take k es) n → NoStop bs m.state es k n.state
-    → stop_from bs k n.state (drop k es) ≡ stop_after k n.state x (λ t. stop_from bs (k + 1) t (drop (k + 1) es))
-    → Refuses x e refusal → Stops bs m es (Refused k refusal) n
-by_refusal bs m n es k e refusal (Err first) is event made no_stop here refused = record {
+by_refusal : (aw : Awaited) (bs : List Breakpoint) (m n : History) (es : List Event) (k : ℕ) (e : Event) (refusal : Refusal) (x : Result (Outcome × State) Refusal)
+    → next n.state e ≡ x → slice_get es k ≡ Some e → Continues m (take k es) n → NoStop aw bs m.state es k n.state
+    → wait_from aw bs 0 m.state es ≡ wait_after aw k n.state e x (λ t. wait_from aw bs (k + 1) t (drop (k + 1) es))
+    → Refuses x e refusal → StopsBy (wait_from aw bs) m es (Refused k refusal) n
+by_refusal aw bs m n es k e refusal (Err first) is event made no_stop here refused = record {
   made = made;
-  stop_is = inl (no_stop ∙ here ∙ ap (λ r. (Refused k r, n.state)) (sym refused));
+  stop_is = inl (here ∙ ap (λ r. (Refused k r, n.state)) (sym refused));
 }
-by_refusal bs m n es k e refusal (Ok given) is event made no_stop here refused = record {
+by_refusal aw bs m n es k e refusal (Ok given) is event made no_stop here refused = record {
   made = made;
   stop_is = inr (
     k,
@@ -46,56 +68,104 @@ by_refusal bs m n es k e refusal (Ok given) is event made no_stop here refused =
   );
 }
 
-pub refused : (bs : List Breakpoint) (m n t : History) (es : List Event) (k : ℕ) (d : Event) (refusal : Refusal) → k < length es
-    → Continues m (take k es) n → NoStop bs m.state es k n.state → Passes bs k n.state (get_or es k d)
-    → Answers n (get_or es k d) (Err refusal) t → Stops bs m es (Refused k refusal) t
-refused bs m n t es k d refusal lt made no_stop passes answer =
-    let here = at_drop_more (stop_from bs k n.state) es k d lt ∙ one_more bs k n.state (get_or es k d) (drop (k + 1) es) passes in
-    let event = slice_get-get_or es k d lt in
-    let P : History → Type 0 = λ u. Stops bs m es (Refused k refusal) u in
-    subst P (sym answer.1) (by_refusal bs m n es k (get_or es k d) refusal (next n.state (get_or es k d)) refl event made no_stop here answer.0)
+pub refused : (aw : Awaited) (bs : List Breakpoint) (m n t : History) (es : List Event) (k : ℕ) (e : Event) (refusal : Refusal) → IsAt es k e
+    → Continues m (take k es) n → NoStop aw bs m.state es k n.state → Passes bs k n.state e
+    → Answers n e (Err refusal) t → StopsBy (wait_from aw bs) m es (Refused k refusal) t
+refused aw bs m n t es k e refusal at made no_stop passes answer =
+    let here = next_event aw bs m.state n.state es k e at no_stop passes in
+    let P : History → Type 0 = λ u. StopsBy (wait_from aw bs) m es (Refused k refusal) u in
+    subst P (sym answer.1) (by_refusal aw bs m n es k e refusal (next n.state e) refl at.1 made no_stop here answer.0)
 
 -- the run after an accepted event
-after : (bs : List Breakpoint) (m n t : History) (es : List Event) (k : ℕ) (d : Event) (o : Outcome) → k < length es
-    → NoStop bs m.state es k n.state → Passes bs k n.state (get_or es k d) → Answers n (get_or es k d) (Ok o) t
-    → stop_from bs 0 m.state es ≡ stop_after k n.state (Ok (o, t.state)) (λ u. stop_from bs (k + 1) u (drop (k + 1) es))
-after bs m n t es k d o lt no_stop passes answer =
-    no_stop ∙ at_drop_more (stop_from bs k n.state) es k d lt ∙ one_more bs k n.state (get_or es k d) (drop (k + 1) es) passes
-    ∙ ap (λ x. stop_after k n.state x (λ u. stop_from bs (k + 1) u (drop (k + 1) es))) answer.0
+after : (aw : Awaited) (bs : List Breakpoint) (m n t : History) (es : List Event) (k : ℕ) (e : Event) (o : Outcome) → IsAt es k e
+    → NoStop aw bs m.state es k n.state → Passes bs k n.state e → Answers n e (Ok o) t
+    → wait_from aw bs 0 m.state es ≡ wait_after aw k n.state e (Ok (o, t.state)) (λ u. wait_from aw bs (k + 1) u (drop (k + 1) es))
+after aw bs m n t es k e o at no_stop passes answer =
+    next_event aw bs m.state n.state es k e at no_stop passes
+    ∙ ap (λ x. wait_after aw k n.state e x (λ u. wait_from aw bs (k + 1) u (drop (k + 1) es))) answer.0
 
-pub goes_on : (bs : List Breakpoint) (m n t : History) (es : List Event) (k : ℕ) (d : Event) (o : Outcome) → k < length es
-    → NoStop bs m.state es k n.state → Passes bs k n.state (get_or es k d)
-    → Answers n (get_or es k d) (Ok o) t → is_power_off o ≡ false → NoStop bs m.state es (k + 1) t.state
-goes_on bs m n t es k d o lt no_stop passes answer on = after bs m n t es k d o lt no_stop passes answer ∙ rw on refl
+pub goes_on : (aw : Awaited) (bs : List Breakpoint) (m n t : History) (es : List Event) (k : ℕ) (e : Event) (o : Outcome) → IsAt es k e
+    → NoStop aw bs m.state es k n.state → Passes bs k n.state e
+    → Answers n e (Ok o) t → is_power_off o ≡ false → aw e o t.state ≡ false → NoStop aw bs m.state es (k + 1) t.state
+goes_on aw bs m n t es k e o at no_stop passes answer on unmet = after aw bs m n t es k e o at no_stop passes answer ∙ rw (on, unmet) refl
 
-pub made_more : (m n t : History) (es : List Event) (k : ℕ) (d : Event) (o : Outcome) → k < length es
-    → Continues m (take k es) n → Answers n (get_or es k d) (Ok o) t → Continues m (take (k + 1) es) t
-made_more m n t es k d o lt made answer =
+pub made_more : (m n t : History) (es : List Event) (k : ℕ) (e : Event) (o : Outcome) → IsAt es k e
+    → Continues m (take k es) n → Answers n e (Ok o) t → Continues m (take (k + 1) es) t
+made_more m n t es k e o at made answer =
     let P : List Event → Type 0 = λ l. Continues m l t in
-    subst P (sym (take_more es k d lt)) (continues_more m n t (take k es) (get_or es k d) o made answer)
+    subst P (sym (take_at_more es k e at)) (continues_more m n t (take k es) e o made answer)
 
 -- a breakpoint before event k
-pub breaks : (bs : List Breakpoint) (m n : History) (es : List Event) (k : ℕ) (d : Event) → k < length es
-    → Continues m (take k es) n → NoStop bs m.state es k n.state → (nat_lt 0 k && is_break bs n.state (get_or es k d)) ≡ true
-    → Stops bs m es (Break k) n
-breaks bs m n es k d lt made no_stop here = record {
+pub breaks : (aw : Awaited) (bs : List Breakpoint) (m n : History) (es : List Event) (k : ℕ) (e : Event) → IsAt es k e
+    → Continues m (take k es) n → NoStop aw bs m.state es k n.state → (nat_lt 0 k && is_break bs n.state e) ≡ true
+    → StopsBy (wait_from aw bs) m es (Break k) n
+breaks aw bs m n es k e at made no_stop here = record {
   made = made;
-  stop_is = inl (no_stop ∙ at_drop_more (stop_from bs k n.state) es k d lt ∙ rw here refl);
+  stop_is = inl (no_stop ∙ ap (wait_from aw bs k n.state) (drop_at es k e at) ∙ rw here refl);
 }
 
 -- event k switches the machine off
-pub switches_off : (bs : List Breakpoint) (m n t : History) (es : List Event) (k : ℕ) (d : Event) (o : Outcome) → k < length es
-    → Continues m (take k es) n → NoStop bs m.state es k n.state → Passes bs k n.state (get_or es k d)
-    → Answers n (get_or es k d) (Ok o) t → is_power_off o ≡ true → Stops bs m es (Off k) t
-switches_off bs m n t es k d o lt made no_stop passes answer off = record {
-  made = made_more m n t es k d o lt made answer;
-  stop_is = inl (after bs m n t es k d o lt no_stop passes answer ∙ rw off refl);
+pub switches_off : (aw : Awaited) (bs : List Breakpoint) (m n t : History) (es : List Event) (k : ℕ) (e : Event) (o : Outcome) → IsAt es k e
+    → Continues m (take k es) n → NoStop aw bs m.state es k n.state → Passes bs k n.state e
+    → Answers n e (Ok o) t → is_power_off o ≡ true → StopsBy (wait_from aw bs) m es (Off k) t
+switches_off aw bs m n t es k e o at made no_stop passes answer off = record {
+  made = made_more m n t es k e o at made answer;
+  stop_is = inl (after aw bs m n t es k e o at no_stop passes answer ∙ rw off refl);
+}
+
+-- after event k, what the run waits for holds
+pub waits_no_more : (aw : Awaited) (bs : List Breakpoint) (m n t : History) (es : List Event) (k : ℕ) (e : Event) (o : Outcome) → IsAt es k e
+    → Continues m (take k es) n → NoStop aw bs m.state es k n.state → Passes bs k n.state e
+    → Answers n e (Ok o) t → is_power_off o ≡ false → aw e o t.state ≡ true → StopsBy (wait_from aw bs) m es (Until k) t
+waits_no_more aw bs m n t es k e o at made no_stop passes answer on met = record {
+  made = made_more m n t es k e o at made answer;
+  stop_is = inl (after aw bs m n t es k e o at no_stop passes answer ∙ rw (on, met) refl);
 }
 
 -- there are no more events
-pub ends : (bs : List Breakpoint) (m n : History) (es : List Event) (k : ℕ) → length es ≤ k
-    → Continues m (take k es) n → NoStop bs m.state es k n.state → Stops bs m es (End k) n
-ends bs m n es k all made no_stop = record {
+pub ends : (aw : Awaited) (bs : List Breakpoint) (m n : History) (es : List Event) (k : ℕ) → length es ≤ k
+    → Continues m (take k es) n → NoStop aw bs m.state es k n.state → StopsBy (wait_from aw bs) m es (End k) n
+ends aw bs m n es k all made no_stop = record {
   made = made;
-  stop_is = inl (no_stop ∙ ap (stop_from bs k n.state) (drop_all k es all));
+  stop_is = inl (no_stop ∙ ap (wait_from aw bs k n.state) (drop_all k es all));
+}
+
+-- a run that waits for what never holds
+
+same_made : (b : Bool) (k : ℕ) (t : State) (f g : State → Stop × State) → ((u : State) → f u ≡ g u) → (if b then (Off k, t) else f t) ≡ (if b then (Off k, t) else g t)
+same_made true k t f g same = refl
+same_made false k t f g same = same t
+
+same_after : (k : ℕ) (s : State) (e : Event) (x : Result (Outcome × State) Refusal) (f g : State → Stop × State) → ((t : State) → f t ≡ g t)
+    → wait_after never k s e x f ≡ stop_after k s x g
+same_after k s e (Err refusal) f g same = refl
+same_after k s e (Ok r) f g same = same_made (is_power_off r.0) k r.1 f g same
+
+same_event : (b : Bool) (k : ℕ) (s : State) (e : Event) (x : Result (Outcome × State) Refusal) (f g : State → Stop × State) → ((t : State) → f t ≡ g t)
+    → (if b then (Break k, s) else wait_after never k s e x f) ≡ (if b then (Break k, s) else stop_after k s x g)
+same_event true k s e x f g same = refl
+same_event false k s e x f g same = same_after k s e x f g same
+
+pub waits_for_nothing : (bs : List Breakpoint) (k : ℕ) (s : State) (es : List Event) → wait_from never bs k s es ≡ stop_from bs k s es
+waits_for_nothing bs k s [] = refl
+waits_for_nothing bs k s (e ∷ es) =
+    same_event (nat_lt 0 k && is_break bs s e) k s e (next s e) (λ t. wait_from never bs (k + 1) t es) (λ t. stop_from bs (k + 1) t es) (λ t. waits_for_nothing bs (k + 1) t es)
+
+-- stops by definitions that agree
+pub stops_alike : (f g : ℕ → State → List Event → Stop × State) (m n : History) (es : List Event) (stop : Stop) →
+    ((k : ℕ) (s : State) (es : List Event) → f k s es ≡ g k s es) → StopsBy f m es stop n → StopsBy g m es stop n
+stops_alike f g m n es stop same by_f = record {
+  made = by_f.made;
+  stop_is = elim by_f.stop_is [
+    | inl is ↦ inl (sym (same 0 m.state es) ∙ is)
+    | inr lacks ↦ inr (
+      lacks.0,
+      lacks.1,
+      record {
+        event = lacks.2.event;
+        accepts = lacks.2.accepts;
+        no_stop = sym (same 0 m.state es) ∙ lacks.2.no_stop ∙ same lacks.0 n.state (drop lacks.0 es);
+      },
+    )
+  ];
 }

@@ -1,6 +1,11 @@
 mod Sets
 mod Going
 mod Asked
+mod Parts
 mod Numerals
 mod Obeying
 mod Decimals
+mod Fetching
+mod Repeating
+mod Jumping
+mod Marking

@@ -1,18 +1,21 @@
-use Rattle.std.specs.Prelude.{◌≡◌, ◌≢◌, ℕ, ◌-◌, ◌^◌, ◌==◌, if◌then◌else◌, List, [], ◌∷◌, Result, Ok, Err, codes, decimal, length, min, get_or}
+use Rattle.std.specs.Prelude.{◌≡◌, ◌≢◌, ◌⊎◌, ℕ, ◌-◌, ◌^◌, ◌<◌, ◌≤◌, ◌==◌, if◌then◌else◌, List, [], ◌∷◌, ◌++◌, Option, None, Some, Result, Ok, Err, codes, decimal, length, min, get_or}
 use Rattle.std.specs.List.{AllByRecursion}
 use Rattle.std.specs.Str.Parse.{IsNumeral, digits_value}
-use Rattle.m161_text.specs.Parts.{◌␣◌, IsWord, word_text}
-use Rattle.m161_steplog.specs.Text.{event_text, IsEvent}
+use Rattle.m161_machine.specs.declared.event.Event.{Event}
+use Rattle.m161_machine.specs.declared.event.Event.TheVariants as events
+use Rattle.m161_text.specs.Parts.{◌␣◌, IsByte, IsWord, hex_text}
 use Rattle.m161_debug.specs.declared.command.Area.{Area}
 use Rattle.m161_debug.specs.declared.command.Area.TheVariants.{Memory, Code}
 use Rattle.m161_debug.specs.declared.command.Change.{Change}
 use Rattle.m161_debug.specs.declared.command.Change.TheVariants.{Set, Delete}
 use Rattle.m161_debug.specs.declared.command.Command.{Command}
-use Rattle.m161_debug.specs.declared.command.Command.TheVariants.{Breakpoint, Make, Go, GoFirst, Show, Words, Log}
+use Rattle.m161_debug.specs.declared.command.Command.TheVariants.{Breakpoint, Make, Steps, Go, GoFirst, Until, Show, Where, Words, Fetched, Log}
 use Rattle.m161_debug.specs.declared.command.CommandError.{CommandError}
 use Rattle.m161_debug.specs.declared.command.CommandError.TheVariants.{Unknown, BadArgument, BadProcessor, TooMany, NoMemory}
 use Rattle.m161_debug.specs.declared.command.Display.{Display}
 use Rattle.m161_debug.specs.declared.command.Display.TheVariants.{Regs, Cop0, Tlb}
+use Rattle.m161_debug.specs.declared.condition.Condition.{Condition}
+use Rattle.m161_debug.specs.declared.condition.Condition.TheVariants as conditions
 
 -- The lines of commands.
 
@@ -21,11 +24,16 @@ abbrev pub command_words : List (List ℕ)
 command_words =
     codes "b" ∷ codes "d" ∷ codes "s" ∷ codes "k" ∷ codes "o" ∷ codes "g" ∷ codes "r" ∷ codes "c"
     ∷ codes "t"
-    ∷ codes "m" ∷ codes "x" ∷ codes "l" ∷ []
+    ∷ codes "m" ∷ codes "x" ∷ codes "l" ∷ codes "u" ∷ codes "w" ∷ []
 
 abbrev pub change_word : Change → List ℕ
 change_word Set = codes "b"
 change_word Delete = codes "d"
+
+abbrev pub event_word : Event → List ℕ
+event_word (events.Step p) = codes "s"
+event_word (events.Key byte) = codes "k"
+event_word events.Done = codes "o"
 
 abbrev pub display_word : Display → List ℕ
 display_word Regs = codes "r"
@@ -36,7 +44,38 @@ abbrev pub area_word : Area → List ℕ
 area_word Memory = codes "m"
 area_word Code = codes "x"
 
--- a decimal number without leading zeros
+abbrev pub word_of : Command → List ℕ
+word_of (Breakpoint change p address) = change_word change
+word_of (Make event) = event_word event
+word_of (Steps p n) = codes "s"
+word_of Go = codes "g"
+word_of (GoFirst n) = codes "g"
+word_of (Until condition) = codes "u"
+word_of (Show display p) = display_word display
+word_of Where = codes "w"
+word_of (Words area address n) = area_word area
+word_of (Fetched address n p) = codes "x"
+word_of (Log n) = codes "l"
+
+-- The arguments.
+
+-- a decimal number of 32 bits, without leading zeros
+abbrev pub IsNumber : ℕ → List ℕ → Type 0
+IsNumber n text = IsWord n × (text ≡ decimal n)
+
+-- two lower case hexadecimal digits
+abbrev pub IsByteText : ℕ → List ℕ → Type 0
+IsByteText byte text = IsByte byte × (text ≡ hex_text 2 byte)
+
+-- k lower case hexadecimal digits, behind 0x or not
+abbrev pub IsHex : ℕ → ℕ → List ℕ → Type 0
+IsHex k n text = (text ≡ hex_text k n) ⊎ (text ≡ codes "0x" ++ hex_text k n)
+
+-- an address: 1 to 8 such digits
+abbrev pub IsAddress : ℕ → List ℕ → Type 0
+IsAddress address text = (k : ℕ) × (1 ≤ k) × (k ≤ 8) × (address < 16 ^ k) × IsHex k address text
+
+-- a decimal number of any size, without leading zeros
 abbrev pub IsDecimal : List ℕ → Type 0
 IsDecimal digits = IsNumeral 10 digits × (get_or digits 0 0 ≡ 48 → length digits ≡ 1)
 
@@ -44,39 +83,118 @@ IsDecimal digits = IsNumeral 10 digits × (get_or digits 0 0 ≡ 48 → length d
 abbrev pub count_of : List ℕ → ℕ
 count_of digits = min (digits_value 10 digits) (2 ^ 64 - 1)
 
--- a line is this command: its word and its arguments, separated by one space; numbers are decimal,
--- addresses have eight digits
-abbrev pub IsCommandLine : Command → List ℕ → Type 0
-IsCommandLine (Breakpoint change p address) line =
-    IsWord p × IsWord address × (line ≡ change_word change ␣ decimal p ␣ word_text address)
-IsCommandLine (Make event) line = IsEvent event × (line ≡ event_text event)
-IsCommandLine Go line = line ≡ codes "g"
-IsCommandLine (GoFirst n) line =
-    (digits : List ℕ) × IsDecimal digits × (n ≡ count_of digits) × (line ≡ codes "g" ␣ digits)
-IsCommandLine (Show display p) line = IsWord p × (line ≡ display_word display ␣ decimal p)
-IsCommandLine (Words area address n) line =
-    IsWord address × IsWord n × (line ≡ area_word area ␣ word_text address ␣ decimal n)
-IsCommandLine (Log n) line = IsWord n × (line ≡ codes "l" ␣ decimal n)
+abbrev pub IsCount : ℕ → List ℕ → Type 0
+IsCount n text = IsDecimal text × (n ≡ count_of text)
 
--- the part before the first space
+-- two parts of a text, with one space between
+abbrev pub AreParts :
+    {X Y : Type 0} → (X → List ℕ → Type 0) → (Y → List ℕ → Type 0) → X × Y → List ℕ → Type 0
+AreParts Says Tells values text =
+    (a : List ℕ) × (b : List ℕ) × Says values.0 a × Tells values.1 b × (text ≡ a ␣ b)
+
+abbrev pub AreNumbers : ℕ × ℕ → List ℕ → Type 0
+AreNumbers numbers text = AreParts IsNumber IsNumber numbers text
+
+-- the part of a text before the first space
 abbrev pub first_word : List ℕ → List ℕ
 first_word [] = []
 first_word (b ∷ bs) = if b == 32 then [] else b ∷ first_word bs
 
--- a line doesn't begin with the word of a command
-abbrev pub IsUnknown : List ℕ → Type 0
-IsUnknown line = AllByRecursion (λ w. first_word line ≢ w) command_words
+-- and the part behind it, if there is a space
+abbrev pub arguments_of : List ℕ → Option (List ℕ)
+arguments_of [] = None
+arguments_of (b ∷ bs) = if b == 32 then Some bs else arguments_of bs
 
--- what a line asks for: a command; or its word is unknown; or it is known, but the line isn't a
--- command
+-- what a run waits for: the first letter, and the arguments
+
+abbrev pub condition_word : Condition → List ℕ
+condition_word (conditions.Memory address) = codes "m"
+condition_word (conditions.Trap p) = codes "t"
+condition_word (conditions.Register p r) = codes "r"
+condition_word (conditions.Row p i) = codes "i"
+condition_word conditions.Output = codes "o"
+
+abbrev pub IsConditionWith : Condition → Option (List ℕ) → Type 0
+IsConditionWith (conditions.Memory address) None = ⊥
+IsConditionWith (conditions.Memory address) (Some text) = IsAddress address text
+IsConditionWith (conditions.Trap p) None = ⊥
+IsConditionWith (conditions.Trap p) (Some text) = IsNumber p text
+IsConditionWith (conditions.Register p r) None = ⊥
+IsConditionWith (conditions.Register p r) (Some text) = AreNumbers (p, r) text
+IsConditionWith (conditions.Row p i) None = ⊥
+IsConditionWith (conditions.Row p i) (Some text) = AreNumbers (p, i) text
+IsConditionWith conditions.Output None = Unit {0}
+IsConditionWith conditions.Output (Some text) = ⊥
+
+abbrev pub IsConditionOf : List ℕ → Option (List ℕ) → Condition → Type 0
+IsConditionOf word arguments condition =
+    (condition_word condition ≡ word) × IsConditionWith condition arguments
+
+abbrev pub IsCondition : Condition → List ℕ → Type 0
+IsCondition condition text = IsConditionOf (first_word text) (arguments_of text) condition
+
+-- commands without arguments
+abbrev pub StandsAlone : Command → Type 0
+StandsAlone (Breakpoint change p address) = ⊥
+StandsAlone (Make (events.Step p)) = ⊥
+StandsAlone (Make (events.Key byte)) = ⊥
+StandsAlone (Make events.Done) = Unit {0}
+StandsAlone (Steps p n) = ⊥
+StandsAlone Go = Unit {0}
+StandsAlone (GoFirst n) = ⊥
+StandsAlone (Until condition) = ⊥
+StandsAlone (Show display p) = ⊥
+StandsAlone Where = Unit {0}
+StandsAlone (Words area address n) = ⊥
+StandsAlone (Fetched address n p) = ⊥
+StandsAlone (Log n) = ⊥
+
+-- and with these
+abbrev pub HasArguments : Command → List ℕ → Type 0
+HasArguments (Breakpoint change p address) text = AreParts IsNumber IsAddress (p, address) text
+HasArguments (Make (events.Step p)) text = IsNumber p text
+HasArguments (Make (events.Key byte)) text = IsByteText byte text
+HasArguments (Make events.Done) text = ⊥
+HasArguments (Steps p n) text = AreNumbers (p, n) text
+HasArguments Go text = ⊥
+HasArguments (GoFirst n) text = IsCount n text
+HasArguments (Until condition) text = IsCondition condition text
+HasArguments (Show display p) text = IsNumber p text
+HasArguments Where text = ⊥
+HasArguments (Words area address n) text = AreParts IsAddress IsNumber (address, n) text
+HasArguments (Fetched address n p) text = AreParts IsAddress AreNumbers (address, (n, p)) text
+HasArguments (Log n) text = IsNumber n text
+
+abbrev pub IsCommandWith : Command → Option (List ℕ) → Type 0
+IsCommandWith command None = StandsAlone command
+IsCommandWith command (Some text) = HasArguments command text
+
+-- a word with these arguments is this command
+abbrev pub IsCommandOf : List ℕ → Option (List ℕ) → Command → Type 0
+IsCommandOf word arguments command = (word_of command ≡ word) × IsCommandWith command arguments
+
+-- a line is this command: its word, and behind one space its arguments, if it has any
+abbrev pub IsCommandLine : Command → List ℕ → Type 0
+IsCommandLine command line = IsCommandOf (first_word line) (arguments_of line) command
+
+-- a word is none of the commands'
+abbrev pub IsNoWord : List ℕ → Type 0
+IsNoWord word = AllByRecursion (λ w. word ≢ w) command_words
+
+-- what a word with these arguments asks for: a command; or the word is unknown; or it is known, but
+-- no command has it with these arguments
+abbrev pub IsAskedOf : List ℕ → Option (List ℕ) → Result Command CommandError → Type 0
+IsAskedOf word arguments (Ok command) = IsCommandOf word arguments command
+IsAskedOf word arguments (Err Unknown) = IsNoWord word
+IsAskedOf word arguments (Err BadArgument) =
+    (IsNoWord word → ⊥) × ((command : Command) → IsCommandOf word arguments command → ⊥)
+IsAskedOf word arguments (Err BadProcessor) = ⊥
+IsAskedOf word arguments (Err TooMany) = ⊥
+IsAskedOf word arguments (Err NoMemory) = ⊥
+
+-- what a line asks for
 abbrev pub IsAsked : List ℕ → Result Command CommandError → Type 0
-IsAsked line (Ok command) = IsCommandLine command line
-IsAsked line (Err Unknown) = IsUnknown line
-IsAsked line (Err BadArgument) =
-    (IsUnknown line → ⊥) × ((command : Command) → IsCommandLine command line → ⊥)
-IsAsked line (Err BadProcessor) = ⊥
-IsAsked line (Err TooMany) = ⊥
-IsAsked line (Err NoMemory) = ⊥
+IsAsked line asked = IsAskedOf (first_word line) (arguments_of line) asked
 
 -- the names that errors are printed by
 abbrev pub name_of_error : CommandError → List ℕ

@@ -9,8 +9,10 @@ use Rattle.m161_machine.specs.State.{State, processor_at, next}
 use Rattle.m161_machine.specs.History.{History, Continues}
 use Rattle.m161_debug.specs.declared.breakpoints.Breakpoint.{Breakpoint}
 use Rattle.m161_debug.specs.declared.stop.Stop.{Stop}
-use Rattle.m161_debug.specs.declared.stop.Stop.TheVariants.{Break, Refused, Off, End}
+use Rattle.m161_debug.specs.declared.stop.Stop.TheVariants.{Break, Refused, Off, Until, End}
 use Rattle.m161_debug.specs.Breakpoints.{breakpoint, has}
+use Rattle.m161_debug.specs.declared.condition.Condition.{Condition}
+use Rattle.m161_debug.specs.Conditions.{holds}
 
 -- Where a run over a list of events stops.
 
@@ -42,25 +44,65 @@ stop_from bs k s (e ∷ es) =
     if nat_lt 0 k && is_break bs s e then (Break k, s)
     else stop_after k s (next s e) (λ t. stop_from bs (k + 1) t es)
 
--- how many events were made up to a stop: also the one that switched the machine off
+-- the same with one stop more: after event k, what the run waits for holds. One that switches the
+-- machine off stops the run as Off
+abbrev pub wait_after :
+    (Event → Outcome → State → Bool) → ℕ → State → Event → Result (Outcome × State) Refusal →
+    (State → Stop × State) → Stop × State
+wait_after awaited k s e (Err refusal) rest = (Refused k refusal, s)
+wait_after awaited k s e (Ok r) rest =
+    if is_power_off r.0 then (Off k, r.1) else if awaited e r.0 r.1 then (Until k, r.1) else rest r.1
+
+abbrev pub wait_from :
+    (Event → Outcome → State → Bool) → List Breakpoint → ℕ → State → List Event → Stop × State
+wait_from awaited bs k s [] = (End k, s)
+wait_from awaited bs k s (e ∷ es) =
+    if nat_lt 0 k && is_break bs s e then (Break k, s)
+    else wait_after awaited k s e (next s e) (λ t. wait_from awaited bs (k + 1) t es)
+
+-- a run that waits for what never holds
+abbrev pub never : Event → Outcome → State → Bool
+never e o t = false
+
+-- how many events were made up to a stop: also the one after which it waited no more, and the one
+-- that switched the machine off
 abbrev pub made_at : Stop → ℕ
 made_at (Break k) = k
 made_at (Refused k refusal) = k
 made_at (Off k) = k + 1
+made_at (Until k) = k + 1
 made_at (End n) = n
 
 -- for event k, a Done that would be accepted, memory was refused: no stop is among the events
 -- before it
 pub record LacksMemory
-    (bs : List Breakpoint) (s : State) (es : List Event) (k : ℕ) (t : State) : Type 0 where
+    (stops : ℕ → State → List Event → Stop × State)
+    (s : State) (es : List Event) (k : ℕ) (t : State) : Type 0 where
   pub event : slice_get es k ≡ Some events.Done
   pub accepts : IsOk (next t events.Done)
-  pub no_stop : stop_from bs 0 s es ≡ stop_from bs k t (drop k es)
+  pub no_stop : stops 0 s es ≡ stops k t (drop k es)
 
 -- where a run over these events stops, and the machine at the stop: the events before the stop were
 -- made of it
-pub record Stops
-    (bs : List Breakpoint) (m : History) (es : List Event) (stop : Stop) (n : History) : Type 0 where
+pub record StopsBy
+    (stops : ℕ → State → List Event → Stop × State)
+    (m : History) (es : List Event) (stop : Stop) (n : History) : Type 0 where
   pub made : Continues m (take (made_at stop) es) n
-  pub stop_is : (stop_from bs 0 m.state es ≡ (stop, n.state))
-      ⊎ ((k : ℕ) × (stop ≡ Refused k NoMemory) × LacksMemory bs m.state es k n.state)
+  pub stop_is : (stops 0 m.state es ≡ (stop, n.state))
+      ⊎ ((k : ℕ) × (stop ≡ Refused k NoMemory) × LacksMemory stops m.state es k n.state)
+
+-- of a run that waits for nothing
+abbrev pub Stops : List Breakpoint → History → List Event → Stop → History → Type 0
+Stops bs m es stop n = StopsBy (stop_from bs) m es stop n
+
+-- and of one that waits for a condition
+abbrev pub StopsUntil :
+    Condition → List Breakpoint → History → List Event → Stop → History → Type 0
+StopsUntil condition bs m es stop n =
+    StopsBy (wait_from (holds condition m.state) bs) m es stop n
+
+-- the law: a run that waits for what never holds is one that waits for nothing
+abbrev pub WaitsForNothing : Type 0
+WaitsForNothing =
+    (bs : List Breakpoint) (k : ℕ) (s : State) (es : List Event)
+    → wait_from never bs k s es ≡ stop_from bs k s es

@@ -1,13 +1,17 @@
 //! The commands of a debugger.
 
-ghost use Rattle.std.specs.Prelude.{◌≡◌, codes};
-ghost use Rattle.m161_text.specs.Parts.{◌␣◌, Lacks};
-ghost use Rattle.m161_debug.specs.Commands.{change_word, display_word, area_word, name_of_error, IsAsked};
+ghost use Rattle.std.specs.Prelude.{◌≡◌, Some, None, codes};
+ghost use Rattle.m161_debug.specs.Commands.{change_word, display_word, name_of_error, IsAsked, IsAskedOf, IsCondition, IsConditionOf};
+ghost use Rattle.m161_debug.specs.helpers.Reading.{Finds};
 
 use crate::breakpoints::BreakError;
-use crate::reading::{address_and_count, count_of, processor_and_address};
+use crate::condition::Condition;
+use crate::reading::{
+    address, address_and_count, address_count_and_processor, byte, count, number, numbers,
+    processor_and_address,
+};
 use m161_machine::Event;
-use m161_text::{cut_at_space, parse_byte, parse_decimal};
+use m161_text::cut_at_space;
 use std::alloc::AllocError;
 use thiserror::Error;
 
@@ -40,14 +44,22 @@ pub(crate) enum Command {
     Breakpoint(Change, u32, u32),
     /// Makes an event.
     Make(Event),
+    /// Makes Steps of a processor, at most this number, up to a stop.
+    Steps(u32, u32),
     /// Makes the remaining events, up to a stop.
     Go,
     /// Makes at most this number of the remaining events, up to a stop.
     GoFirst(u64),
+    /// Makes the remaining events, up to a stop, or until this holds.
+    Until(Condition),
     /// Shows a processor.
     Show(Display, u32),
+    /// Shows where each started processor is.
+    Where,
     /// Shows this number of words from an address on.
     Words(Area, u32, u32),
+    /// Shows instructions from an address on, this number of them, as a processor would fetch them.
+    Fetched(u32, u32, u32),
     /// Shows this number of the log's last entries.
     Log(u32),
 }
@@ -125,98 +137,164 @@ pub(crate) fn command_of(line: &str) -> Result<Command, CommandError>
 
 // The command of a line without a space.
 fn command_alone(line: &str) -> Result<Command, CommandError>
-    requires { Lacks 32 line.now }
-    ensures { IsAsked line.now result }
+    ensures { IsAskedOf line.now None result }
 {
     match line {
         "o" => Ok(Command::Make(Event::Done)),
         "g" => Ok(Command::Go),
-        "b" | "d" | "s" | "k" | "r" | "c" | "t" | "m" | "x" | "l" => Err(CommandError::BadArgument),
+        "w" => Ok(Command::Where),
+        "b" | "d" | "s" | "k" | "r" | "c" | "t" | "m" | "x" | "l" | "u" => {
+            Err(CommandError::BadArgument)
+        }
         _ => Err(CommandError::Unknown),
     }
 }
 
 // The command of a word with arguments.
 fn command_with(word: &str, arguments: &str) -> Result<Command, CommandError>
-    requires { Lacks 32 word.now }
-    ensures { IsAsked (word.now ␣ arguments.now) result }
+    ensures { IsAskedOf word.now (Some arguments.now) result }
 {
     match word {
         "b" => breakpoint_of(Change::Set, arguments),
         "d" => breakpoint_of(Change::Delete, arguments),
-        "s" => step_command(arguments),
+        "s" => steps_of(arguments),
         "k" => key_command(arguments),
         "o" => Err(CommandError::BadArgument),
         "g" => go_of(arguments),
+        "u" => until_of(arguments),
         "r" => show_of(Display::Regs, arguments),
         "c" => show_of(Display::Cop0, arguments),
         "t" => show_of(Display::Tlb, arguments),
-        "m" => words_of(Area::Memory, arguments),
-        "x" => words_of(Area::Code, arguments),
+        "w" => Err(CommandError::BadArgument),
+        "m" => memory_of(arguments),
+        "x" => code_of(arguments),
         "l" => log_command(arguments),
         _ => Err(CommandError::Unknown),
     }
 }
 
-#[tactic(auto, using(crate::proofs::Asked::no_place))]
 fn breakpoint_of(change: Change, arguments: &str) -> Result<Command, CommandError>
-    ensures { IsAsked (change_word change ␣ arguments.now) result }
+    ensures { IsAskedOf (change_word change) (Some arguments.now) result }
 {
     match processor_and_address(arguments) {
-        Some((p, address)) => Ok(Command::Breakpoint(change, p, address)),
+        Some((p, at)) => Ok(Command::Breakpoint(change, p, at)),
         None => Err(CommandError::BadArgument),
     }
 }
 
-fn step_command(arguments: &str) -> Result<Command, CommandError>
-    ensures { IsAsked (codes "s" ␣ arguments.now) result }
+// One Step, or several.
+fn steps_of(arguments: &str) -> Result<Command, CommandError>
+    ensures { IsAskedOf (codes "s") (Some arguments.now) result }
 {
-    match parse_decimal(arguments) {
-        Some(p) => Ok(Command::Make(Event::Step(p))),
+    if let Some(p) = number(arguments) {
+        return Ok(Command::Make(Event::Step(p)));
+    }
+    match numbers(arguments) {
+        Some((p, n)) => Ok(Command::Steps(p, n)),
         None => Err(CommandError::BadArgument),
     }
 }
 
 fn key_command(arguments: &str) -> Result<Command, CommandError>
-    ensures { IsAsked (codes "k" ␣ arguments.now) result }
+    ensures { IsAskedOf (codes "k") (Some arguments.now) result }
 {
-    match parse_byte(arguments) {
+    match byte(arguments) {
         Some(byte) => Ok(Command::Make(Event::Key(byte))),
         None => Err(CommandError::BadArgument),
     }
 }
 
 fn go_of(arguments: &str) -> Result<Command, CommandError>
-    ensures { IsAsked (codes "g" ␣ arguments.now) result }
+    ensures { IsAskedOf (codes "g") (Some arguments.now) result }
 {
-    match count_of(arguments) {
+    match count(arguments) {
         Some(n) => Ok(Command::GoFirst(n)),
         None => Err(CommandError::BadArgument),
     }
 }
 
-fn show_of(display: Display, arguments: &str) -> Result<Command, CommandError>
-    ensures { IsAsked (display_word display ␣ arguments.now) result }
+fn until_of(arguments: &str) -> Result<Command, CommandError>
+    ensures { IsAskedOf (codes "u") (Some arguments.now) result }
 {
-    match parse_decimal(arguments) {
+    match condition_of(arguments) {
+        Some(condition) => Ok(Command::Until(condition)),
+        None => Err(CommandError::BadArgument),
+    }
+}
+
+// What a run waits for.
+fn condition_of(text: &str) -> Option<Condition>
+    ensures { Finds IsCondition text.now result }
+{
+    match cut_at_space(text) {
+        Some((word, arguments)) => condition_with(word, arguments),
+        None => condition_alone(text),
+    }
+}
+
+fn condition_alone(text: &str) -> Option<Condition>
+    ensures { Finds (λ condition _. IsConditionOf text.now None condition) text.now result }
+{
+    match text {
+        "o" => Some(Condition::Output),
+        _ => None,
+    }
+}
+
+fn condition_with(word: &str, arguments: &str) -> Option<Condition>
+    ensures { Finds (λ condition text. IsConditionOf word.now (Some text) condition) arguments.now
+        result }
+{
+    match word {
+        "m" => Some(Condition::Memory(address(arguments)?)),
+        "t" => Some(Condition::Trap(number(arguments)?)),
+        "r" => {
+            let (p, r) = numbers(arguments)?;
+            Some(Condition::Register(p, r))
+        }
+        "i" => {
+            let (p, i) = numbers(arguments)?;
+            Some(Condition::Row(p, i))
+        }
+        _ => None,
+    }
+}
+
+fn show_of(display: Display, arguments: &str) -> Result<Command, CommandError>
+    ensures { IsAskedOf (display_word display) (Some arguments.now) result }
+{
+    match number(arguments) {
         Some(p) => Ok(Command::Show(display, p)),
         None => Err(CommandError::BadArgument),
     }
 }
 
-fn words_of(area: Area, arguments: &str) -> Result<Command, CommandError>
-    ensures { IsAsked (area_word area ␣ arguments.now) result }
+fn memory_of(arguments: &str) -> Result<Command, CommandError>
+    ensures { IsAskedOf (codes "m") (Some arguments.now) result }
 {
     match address_and_count(arguments) {
-        Some((address, n)) => Ok(Command::Words(area, address, n)),
+        Some((at, n)) => Ok(Command::Words(Area::Memory, at, n)),
+        None => Err(CommandError::BadArgument),
+    }
+}
+
+// Code by an address in kseg0 or kseg1, or as a processor would fetch it.
+fn code_of(arguments: &str) -> Result<Command, CommandError>
+    ensures { IsAskedOf (codes "x") (Some arguments.now) result }
+{
+    if let Some((at, n)) = address_and_count(arguments) {
+        return Ok(Command::Words(Area::Code, at, n));
+    }
+    match address_count_and_processor(arguments) {
+        Some((at, (n, p))) => Ok(Command::Fetched(at, n, p)),
         None => Err(CommandError::BadArgument),
     }
 }
 
 fn log_command(arguments: &str) -> Result<Command, CommandError>
-    ensures { IsAsked (codes "l" ␣ arguments.now) result }
+    ensures { IsAskedOf (codes "l") (Some arguments.now) result }
 {
-    match parse_decimal(arguments) {
+    match number(arguments) {
         Some(n) => Ok(Command::Log(n)),
         None => Err(CommandError::BadArgument),
     }

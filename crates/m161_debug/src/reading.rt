@@ -1,31 +1,119 @@
 //! Reading the parts of a command.
 
-ghost use Rattle.std.specs.Prelude.{◌<◌, ◌≤◌, ◌≡◌, length, decimal, true, false, get_or, IfSome, IfNone};
+ghost use Rattle.std.specs.Prelude.{◌<◌, ◌≤◌, ◌≡◌, ◌↔◌, ◌^◌, ℕ, length, true, false, get_or};
 ghost use Rattle.std.specs.Str.Parse.{AllDigits};
-ghost use Rattle.m161_text.specs.Parts.{IsWord, word_text};
-ghost use Rattle.m161_text.specs.helpers.Parts.{ReadsBoth};
-ghost use Rattle.m161_debug.specs.Commands.{count_of, IsDecimal};
+ghost use Rattle.m161_text.specs.Parts.{Reads, hex_digit, hex_text};
+ghost use Rattle.m161_debug.specs.Commands.{AreNumbers, AreParts, IsAddress, IsByteText, IsCount, IsDecimal, IsHex, IsNumber};
+ghost use Rattle.m161_debug.specs.helpers.Reading.{Finds};
 
-use m161_text::{cut_at_space, parse_decimal, parse_word};
+use m161_text::{cut_at_space, parse_byte, parse_decimal};
+
+/// A number below 2^32.
+pub(crate) fn number(text: &str) -> Option<u32>
+    ensures { Finds IsNumber text.now result }
+{
+    parse_decimal(text)
+}
+
+/// A byte.
+pub(crate) fn byte(text: &str) -> Option<u8>
+    ensures { Finds IsByteText text.now result }
+{
+    parse_byte(text)
+}
+
+// The value of a lower case hexadecimal digit.
+fn parse_digit(byte: u8) -> Option<u8>
+    ensures { Reads (λ n. n < 16) hex_digit byte result }
+{
+    match byte {
+        b'0'..=b'9' => Some(byte - b'0'),
+        b'a'..=b'f' => Some(byte - b'a' + 10),
+        _ => None,
+    }
+}
+
+// The number of up to eight lower case hexadecimal digits.
+fn parse_hex(text: &[u8]) -> Option<u32>
+    requires { length text.now ≤ 8 }
+    ensures { Reads (λ n. n < 16 ^ length text.now) (hex_text (length text.now)) text.now result }
+{
+    let mut number = 0u32;
+    for byte in text {
+        let digit = parse_digit(*byte)?;
+        number = number * 16 + u32::from(digit);
+    }
+    Some(number)
+}
+
+// The digits of an address, without the 0x before them.
+fn digits_of(text: &str) -> &str
+    ensures { (k n : ℕ) → IsHex k n text.now ↔ (result.now ≡ hex_text k n) }
+{
+    match text.strip_prefix("0x") {
+        Some(digits) => digits,
+        None => text,
+    }
+}
+
+// Whether a text has one to eight bytes.
+fn is_short(text: &str) -> bool
+    ensures yes { result ≡ true → (1 ≤ length text.now) × (length text.now ≤ 8) }
+    ensures no { result ≡ false → 1 ≤ length text.now → length text.now ≤ 8 → ⊥ }
+{
+    1 <= text.len() && text.len() <= 8
+}
+
+/// An address.
+pub(crate) fn address(text: &str) -> Option<u32>
+    ensures { Finds IsAddress text.now result }
+{
+    let digits = digits_of(text);
+    if is_short(digits) {
+        parse_hex(digits.as_bytes())
+    } else {
+        None
+    }
+}
+
+/// Two numbers.
+pub(crate) fn numbers(text: &str) -> Option<(u32, u32)>
+    ensures { Finds AreNumbers text.now result }
+{
+    let (a, b) = cut_at_space(text)?;
+    let a = number(a)?;
+    let b = number(b)?;
+    Some((a, b))
+}
 
 /// A processor and an address.
 pub(crate) fn processor_and_address(text: &str) -> Option<(u32, u32)>
-    ensures { ReadsBoth IsWord IsWord decimal word_text text.now result }
+    ensures { Finds (AreParts IsNumber IsAddress) text.now result }
 {
-    let (p, address) = cut_at_space(text)?;
-    let p = parse_decimal(p)?;
-    let address = parse_word(address)?;
-    Some((p, address))
+    let (p, at) = cut_at_space(text)?;
+    let p = number(p)?;
+    let at = address(at)?;
+    Some((p, at))
 }
 
 /// An address and how many words.
 pub(crate) fn address_and_count(text: &str) -> Option<(u32, u32)>
-    ensures { ReadsBoth IsWord IsWord word_text decimal text.now result }
+    ensures { Finds (AreParts IsAddress IsNumber) text.now result }
 {
-    let (address, n) = cut_at_space(text)?;
-    let address = parse_word(address)?;
-    let n = parse_decimal(n)?;
-    Some((address, n))
+    let (at, n) = cut_at_space(text)?;
+    let at = address(at)?;
+    let n = number(n)?;
+    Some((at, n))
+}
+
+/// An address, how many words, and a processor.
+pub(crate) fn address_count_and_processor(text: &str) -> Option<(u32, (u32, u32))>
+    ensures { Finds (AreParts IsAddress AreNumbers) text.now result }
+{
+    let (at, rest) = cut_at_space(text)?;
+    let at = address(at)?;
+    let rest = numbers(rest)?;
+    Some((at, rest))
 }
 
 // Whether bytes are digits.
@@ -64,9 +152,8 @@ fn is_decimal(text: &str) -> bool
 }
 
 /// How many events a decimal number asks for; a number above 2^64 - 1 is read as 2^64 - 1.
-pub(crate) fn count_of(text: &str) -> Option<u64>
-    ensures some { IfSome result (λ n. IsDecimal text.now × (n ≡ count_of text.now)) }
-    ensures none { IfNone result (IsDecimal text.now → ⊥) }
+pub(crate) fn count(text: &str) -> Option<u64>
+    ensures { Finds IsCount text.now result }
 {
     if !is_decimal(text) {
         return None;

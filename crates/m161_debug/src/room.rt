@@ -2,6 +2,7 @@
 
 ghost use Rattle.std.specs.Prelude.{◌≡◌, ◌+◌, ◌<◌, ◌≤◌, ◌++◌, ◌∷◌, [], length, decimal, string_bytes, string_capacity, string_len};
 ghost use Rattle.m161_machine.specs.Refusal.{name_of_refusal};
+ghost use Rattle.m161_text.specs.Lines.{with_line_end};
 ghost use Rattle.m161_text.specs.Parts.{hex_text};
 ghost use Rattle.m161_steplog.specs.Text.{event_text, outcome_text};
 ghost use Rattle.m161_debug.specs.Obeys.{refused_text, stop_text};
@@ -129,8 +130,8 @@ fn name(refusal: Refusal) -> &'static str
     refusal.name()
 }
 
-/// Appends a stop: 62 bytes at most.
-pub(crate) fn put_stop(text: &mut String, stop: Stop)
+// Appends a stop: 62 bytes at most.
+fn put_stop(text: &mut String, stop: Stop)
     requires { string_len text.old + 62 ≤ string_capacity text.old }
     ensures bytes { string_bytes text.new ≡ string_bytes text.old ++ stop_text stop }
     ensures len { string_len text.new ≤ string_len text.old + 62 }
@@ -151,9 +152,22 @@ pub(crate) fn put_stop(text: &mut String, stop: Stop)
             put(text, "off ");
             put_decimal(text, k as u64);
         }
+        Stop::Until(k) => {
+            put(text, "until ");
+            put_decimal(text, k as u64);
+        }
         Stop::End(n) => {
             put(text, "end ");
             put_decimal(text, n as u64);
         }
     }
+}
+
+/// Appends the line of a stop: 63 bytes at most.
+pub(crate) fn put_stop_line(text: &mut String, stop: Stop)
+    requires { string_len text.old + 63 ≤ string_capacity text.old }
+    ensures { string_bytes text.new ≡ string_bytes text.old ++ with_line_end (stop_text stop) }
+{
+    put_stop(text, stop);
+    put(text, "\n");
 }

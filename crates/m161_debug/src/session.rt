@@ -1,24 +1,32 @@
 //! A session.
 
-ghost use Rattle.std.specs.Prelude.{◌≡◌, ◌+◌, ◌*◌, ◌%◌, ◌<◌, ◌≤◌, [], true, length, string_bytes, IfOk};
+ghost use Rattle.std.specs.Prelude.{◌≡◌, ◌+◌, ◌*◌, ◌%◌, ◌^◌, ◌<◌, ◌≤◌, [], true, length, replicate, take, string_bytes, IfOk, IfSome};
 ghost use Rattle.m161_elf.specs.Image.{is_in_ram};
-ghost use Rattle.m161_machine.specs.History.{Answers};
+ghost use Rattle.m161_machine.specs.declared.event.Event.TheVariants as events;
+ghost use Rattle.m161_machine.specs.History.{Answers, Continues, boot_state, events_of, history_at_boot};
 ghost use Rattle.m161_debug.specs.Breakpoints.{breakpoint, break_answer, break_fault, break_leaves, has, without_breakpoint, IsSet};
-ghost use Rattle.m161_debug.specs.Stops.{is_break, Stops};
+ghost use Rattle.m161_debug.specs.Conditions.{holds_if, is_watchable};
+ghost use Rattle.m161_debug.specs.Stops.{is_break, wait_from, Stops, StopsBy, StopsUntil};
+ghost use Rattle.m161_debug.specs.Jumps.{jump_fault, Jumps};
+ghost use Rattle.m161_debug.specs.helpers.Batch.{events_in};
 ghost use Rattle.m161_debug.specs.Obeys.{used_by};
-ghost use Rattle.m161_display.specs.Shows.{show_code_text, show_cop0_text, show_mem_text, show_regs_text, show_tlb_text};
+ghost use Rattle.m161_display.specs.Shows.{show_code_text, show_cop0_text, show_fetched_text, show_mem_text, show_regs_text, show_tlb_text, show_where_text};
 ghost use Rattle.m161_debug.specs.Shows.{show_log_text};
 
 mod commands;
 
+use crate::batch::Batch;
 use crate::breakpoints::{BreakError, Breakpoint, Breakpoints, MOST};
+use crate::condition::Condition;
+use crate::jump::{JumpError, events_from, jump_fault, repeat};
 use crate::log::show_log;
+use crate::mark::{is_met, mark_of};
 use crate::stop::Stop;
 use m161_bus::Console;
-use m161_display::{show_code, show_cop0, show_mem, show_regs, show_tlb};
+use m161_display::{show_code, show_cop0, show_fetched, show_mem, show_regs, show_tlb, show_where};
 use m161_machine::{Event, Machine, Outcome, Refusal};
 use m161_tlb::Tlb;
-use std::alloc::AllocError;
+use std::alloc::{AllocError, Global};
 use std::marker::Model;
 
 /// A machine that is debugged, with its breakpoints.
@@ -186,6 +194,34 @@ impl<T: Tlb, D: Console> Session<T, D> {
         show_code(self.machine.allocator(), &self.machine, address, n)
     }
 
+    /// `n` instructions from a virtual address on, as processor `p` would fetch them now, one a
+    /// line: its address, its word and its text, or `-` in the place of these two where the
+    /// processor can't fetch.
+    ///
+    /// # Errors
+    /// Memory was refused.
+    pub fn show_fetched(&self, p: u32, address: u32, n: u32) -> Result<String, AllocError>
+        requires processor { p < length self.now.machine.state.processors }
+        requires inside { address + 4 * n ≤ 2 ^ 32 }
+        ensures { IfOk result (λ text. string_bytes text
+            ≡ show_fetched_text p address n self.now.machine.state) }
+    {
+        show_fetched(self.machine.allocator(), &self.machine, p, address, n)
+    }
+
+    /// Where each started processor is, one a line: its number, what it is doing, its address, and
+    /// the word and the text of the instruction that it would fetch there, or `-` in the place of
+    /// these two.
+    ///
+    /// # Errors
+    /// Memory was refused.
+    pub fn show_where(&self) -> Result<String, AllocError>
+        ensures { IfOk result (λ text. string_bytes text
+            ≡ show_where_text self.now.machine.state) }
+    {
+        show_where(self.machine.allocator(), &self.machine)
+    }
+
     /// The last `n` entries of the log, or all if it has fewer, one a line, the oldest of them
     /// first.
     ///
@@ -220,8 +256,44 @@ impl<T: Tlb, D: Console> Session<T, D> {
         ensures breakpoints { self.new.breakpoints ≡ self.old.breakpoints }
         ensures within { used_by result ≤ length events.now }
     {
+        self.run(None, Batch::Listed(events))
+    }
+
+    /// The same over `n` Steps of processor `p`.
+    pub fn go_steps(&mut self, p: u32, n: u32) -> Stop
+        ensures stop { Stops self.old.breakpoints self.old.machine (replicate n (events.Step p))
+            result self.new.machine }
+        ensures breakpoints { self.new.breakpoints ≡ self.old.breakpoints }
+        ensures within { used_by result ≤ n }
+    {
+        self.run(None, Batch::Steps(p, n))
+    }
+
+    /// Makes events in order, up to the first stop: those of `go`, and after the first event after
+    /// which the condition holds. An event that switches the machine off stops the run as `Off`,
+    /// also where the condition holds after it.
+    pub fn until(&mut self, condition: Condition, events: &[Event]) -> Stop
+        requires { is_watchable condition self.old.machine.state ≡ true }
+        ensures stop { StopsUntil condition self.old.breakpoints self.old.machine events.now result
+            self.new.machine }
+        ensures breakpoints { self.new.breakpoints ≡ self.old.breakpoints }
+        ensures within { used_by result ≤ length events.now }
+    {
+        self.run(Some(condition), Batch::Listed(events))
+    }
+
+    // Makes events in order, up to the first stop, or after what the run waits for, if it does.
+    fn run(&mut self, condition: Option<Condition>, events: Batch<'_>) -> Stop
+        requires { IfSome condition (λ c. is_watchable c self.old.machine.state ≡ true) }
+        ensures stop { StopsBy (wait_from (holds_if condition self.old.machine.state)
+            self.old.breakpoints) self.old.machine (events_in events.entry) result self.new.machine }
+        ensures breakpoints { self.new.breakpoints ≡ self.old.breakpoints }
+        ensures within { used_by result ≤ length (events_in events.entry) }
+    {
         self.machine.replay();
-        for (k, event) in events.iter().enumerate() {
+        let mark = mark_of(&self.machine, condition);
+        for k in 0..events.len() {
+            let event = &events.at(k);
             if k > 0 && self.is_at_break(*event) {
                 return Stop::Break(k);
             }
@@ -231,9 +303,51 @@ impl<T: Tlb, D: Console> Session<T, D> {
                     if outcome == Outcome::PoweredOff {
                         return Stop::Off(k);
                     }
+                    if is_met(&self.machine, mark, *event, outcome) {
+                        return Stop::Until(k);
+                    }
                 }
             }
         }
         Stop::End(events.len())
     }
+
+    /// Goes back to the state before event `k`, counted from 0 since the boot: the machine is booted
+    /// anew, and the first `k` events of its log are made of it. Returns the log's other events, in
+    /// order: they are undone. The breakpoints stay.
+    ///
+    /// # Errors
+    /// The first that holds: the session has accepted fewer than `k` events; its log has dropped
+    /// some of them; memory was refused. The session is as it was then.
+    pub fn jump(&mut self, alloc: Global, k: u64) -> Result<Vec<Event>, JumpError>
+        ensures { Jumps (jump_fault k self.old.machine) k self.old result self.new }
+    {
+        if let Some(fault) = jump_fault(&self.machine, k) {
+            return Err(fault);
+        }
+        // So that the proof knows what a log begins with that has all events.
+        self.machine.replay();
+        let undone = events_from(alloc, &self.machine, k as usize)?;
+        self.machine = booted_again(alloc, &self.machine, k as usize)?;
+        Ok(undone)
+    }
+}
+
+// A machine that is booted from what this one was booted from, and of which the first events of this
+// one's log are made.
+#[inline(never)]
+fn booted_again<T: Tlb, D: Console>(
+    alloc: Global,
+    past: &Machine<T, D>,
+    number: usize,
+) -> Result<Machine<T, D>, AllocError>
+    requires whole { past.now.base ≡ boot_state past.now.start }
+    requires inside { number ≤ length past.now.log }
+    ensures { IfOk result (λ machine. Continues (history_at_boot past.now.start)
+        (take number (events_of past.now.log)) machine) }
+{
+    past.replay();
+    let mut machine = past.boot_again(alloc)?;
+    repeat(past, &mut machine, number)?;
+    Ok(machine)
 }

@@ -14,6 +14,8 @@ pub enum Stop {
     Refused(usize, Refusal),
     /// The event switched the machine off.
     Off(usize),
+    /// After the event, what the run waited for holds.
+    Until(usize),
     /// All events, this number of them, are made.
     End(usize),
 }
@@ -28,6 +30,7 @@ impl Stop {
             Stop::Break(k) => k,
             Stop::Refused(k, _) => k + 1,
             Stop::Off(k) => k + 1,
+            Stop::Until(k) => k + 1,
             Stop::End(n) => n,
         }
     }

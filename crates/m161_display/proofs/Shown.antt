@@ -1,5 +1,6 @@
-use Rattle.std.proofs.Common.{◌≡◌, ◌∙◌, ◌+◌, ◌<◌, ℕ, List, [], ◌∷◌, ◌++◌, length, take, get_or, ap, map, sym, arith}
-use Rattle.std.proofs.lemmas.List.{flat_map_more, map-append, take_more}
+use Rattle.std.proofs.Common.{◌≡◌, ◌∙◌, ◌+◌, ◌<◌, ℕ, List, [], ◌∷◌, ◌++◌, length, take, get_or, ap, flat_map, map, sym, arith}
+use Rattle.std.specs.List.{range_with_len}
+use Rattle.std.proofs.lemmas.List.{flat_map_more, map-append, map-id, take_more}
 use Rattle.std.proofs.lemmas.List.FromFn.{map-range_with_len_more}
 use Rattle.m161_display.specs.Shows.{numbered_lines}
 use Rattle.m161_text.specs.Lines.{with_line_end, text_of}
@@ -26,3 +27,10 @@ pub mapped_more : {X : Type 0} (line : X → List ℕ) (xs : List X) (i : ℕ) (
 mapped_more line xs i d lt =
     ap (λ l. text_of (map line l)) (take_more xs i d lt) ∙ ap text_of (map-append line (take i xs) (get_or xs i d ∷ []))
     ∙ text_of_more (map line (take i xs)) (line (get_or xs i d))
+
+pub range_more : (n : ℕ) → range_with_len 0 (n + 1) ≡ range_with_len 0 n ++ n ∷ []
+range_more n = sym (map-id (range_with_len 0 (n + 1))) ∙ map-range_with_len_more (λ x. x) 0 n n (omega arith) ∙ ap (λ l. l ++ n ∷ []) (map-id (range_with_len 0 n))
+
+-- one more of counted texts, each of which may be empty
+pub each_more : (text : ℕ → List ℕ) (n : ℕ) → flat_map text (range_with_len 0 (n + 1)) ≡ flat_map text (range_with_len 0 n) ++ text n
+each_more text n = ap (flat_map text) (range_more n) ∙ sym (flat_map_more text [] (range_with_len 0 n) n)

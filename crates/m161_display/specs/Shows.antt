@@ -1,7 +1,8 @@
-use Rattle.std.specs.Prelude.{ℕ, ◌+◌, ◌*◌, ◌/◌, ◌%◌, Bool, true, false, List, [], ◌∷◌, ◌++◌, slice_index, slice_index_or, codes, decimal, map}
+use Rattle.std.specs.Prelude.{ℕ, ◌+◌, ◌*◌, ◌/◌, ◌%◌, Bool, true, false, if◌then◌else◌, List, [], ◌∷◌, ◌++◌, length, flat_map, slice_index, slice_index_or, codes, decimal, map, Option, None, Some}
 use Rattle.std.specs.List.{range_with_len}
 use Rattle.std.specs.Option.{option_map_or}
 use Rattle.m161_isa.specs.Address.{unmapped}
+use Rattle.m161_isa.specs.Bits.{has_bit}
 use Rattle.m161_dis.specs.Canon.{canon}
 use Rattle.m161_tlb.specs.declared.row.Row.{Row}
 use Rattle.m161_tlb.specs.Row.{hi_word, lo_word}
@@ -14,8 +15,9 @@ use Rattle.m161_bus.specs.Board.{interrupt_lines}
 use Rattle.m161_cpu.specs.declared.processor.ProcessorState.{ProcessorState}
 use Rattle.m161_cpu.specs.declared.processor.ProcessorState.TheVariants.{Stopped, Running, Waiting}
 use Rattle.m161_cpu.specs.Processor.{Processor}
+use Rattle.m161_cpu.specs.Fetch.{fetched_word}
 use Rattle.m161_machine.specs.State.{State, processor_at}
-use Rattle.m161_text.specs.Lines.{text_of}
+use Rattle.m161_text.specs.Lines.{text_of, with_line_end}
 use Rattle.m161_text.specs.Parts.{◌␣◌, word_text}
 
 -- The displays: each is a list of lines, computed from a state.
@@ -116,3 +118,36 @@ code_line memory at = listing_text at (code_word memory at)
 
 unfoldable pub show_code_text : ℕ → ℕ → State → List ℕ
 show_code_text address n s = text_of (numbered_lines n (λ i. code_line s.memory (address + 4 * i)))
+
+-- Code as a processor would fetch it now, by its mode and its TLB.
+
+-- an instruction's line; or that no word can be fetched at the address
+abbrev pub fetched_text : ℕ → Option ℕ → List ℕ
+fetched_text at None = word_text at ␣ codes "-"
+fetched_text at (Some word) = listing_text at word
+
+abbrev pub fetched_line : ℕ → State → ℕ → List ℕ
+fetched_line p s at = fetched_text at (fetched_word s.memory at (processor_at p s.processors))
+
+-- n instructions from a virtual address on
+unfoldable pub show_fetched_text : ℕ → ℕ → ℕ → State → List ℕ
+show_fetched_text p address n s =
+    text_of (numbered_lines n (λ i. fetched_line p s (address + 4 * i)))
+
+-- The places of the processors: a line for each that was started.
+
+-- its number, what it is doing, and the instruction at its address as it would fetch it
+abbrev pub where_line : State → ℕ → List ℕ
+where_line s p =
+    decimal p ␣ state_text (processor_at p s.processors).state
+    ␣ fetched_line p s (processor_at p s.processors).pc
+
+-- its bit of CPUE is set
+abbrev pub is_started : State → ℕ → Bool
+is_started s p = has_bit s.board.started p
+
+abbrev pub where_text : State → ℕ → List ℕ
+where_text s p = if is_started s p then with_line_end (where_line s p) else []
+
+unfoldable pub show_where_text : State → List ℕ
+show_where_text s = flat_map (where_text s) (range_with_len 0 (length s.processors))

@@ -66,8 +66,13 @@ fn code_at<T: Tlb, D: Console>(machine: &Machine<T, D>, at: u32) -> u32
     }
 }
 
-// The line of a word at an address.
-fn write_code(alloc: Global, text: &mut String, word: u32, at: u32) -> Result<(), AllocError>
+/// Appends the line of an instruction: its address, its word and its text.
+pub(crate) fn write_code(
+    alloc: Global,
+    text: &mut String,
+    word: u32,
+    at: u32,
+) -> Result<(), AllocError>
     ensures { OnOk result (string_bytes text.new ≡ string_bytes text.old
         ++ with_line_end (listing_text at word)) }
 {

@@ -16,7 +16,7 @@ use std::fmt::Write;
 
 /// What a processor is doing, shown as a word.
 #[derive(Drop)]
-struct ShownState(ProcessorState);
+pub(crate) struct ShownState(pub(crate) ProcessorState);
 
 impl fmt::Display for ShownState {
     ghost output = { λ s. Some (state_text s.0) };

@@ -1,4 +1,5 @@
-use Rattle.std.proofs.Common.{◌≡◌, ◌∙◌, refl, sym, ap, subst, ℕ, ◌+◌, ◌<◌, ◌≤◌, List, [], ◌∷◌, ◌++◌, length}
+use Rattle.std.specs.Prelude.{None, if◌then◌else◌, Bool, true, false}
+use Rattle.std.proofs.Common.{◌≡◌, ◌∙◌, refl, sym, ap, subst, ℕ, ◌+◌, ◌<◌, ◌≤◌, List, [], ◌∷◌, ◌++◌, length, arith}
 use Rattle.std.proofs.lemmas.List.{length-append}
 use Rattle.m161_machine.specs.declared.event.Event.{Event}
 use Rattle.m161_machine.specs.State.{State}
@@ -9,8 +10,8 @@ use Rattle.m161_drive.specs.declared.run.Stop.{Stop}
 use Rattle.m161_drive.specs.declared.run.Stop.TheVariants.{Off, End, Stuck, Refused}
 use Rattle.m161_drive.specs.Policy.{Rules}
 use Rattle.m161_drive.specs.Choice.{cursor_at}
-use Rattle.m161_drive.specs.Drive.{Chooses, Drives, Goes, Stops}
-use Rattle.m161_drive.specs.helpers.Drive.{Makes, Rests}
+use Rattle.m161_drive.specs.Drive.{Chooses, Drives, DrivesState, Goes, Stops}
+use Rattle.m161_drive.specs.helpers.Drive.{Makes, Rests, TurnState, last_stop}
 
 -- Driven runs.
 
@@ -59,9 +60,56 @@ stopped rules n made stop m k l c few so_far h same =
       stops = h;
     })
 
-pub stops_so : (rules : Rules) (n made : ℕ) (c : Cursor) (k : History) (stop : Stop) → made < n → Rests rules c k stop →
-    Stops rules n made c k.state stop
-stops_so rules n made c k Off less h = h
-stops_so rules n made c k End less h = absurd h
-stops_so rules n made c k Stuck less h = (h.0, less, h.1)
-stops_so rules n made c k (Refused refusal) less h = (h.0, less, h.1)
+pub stops_so : (rules : Rules) (n made : ℕ) (c : Cursor) (s : State) (stop : Stop) → made < n → Rests rules c s stop →
+    Stops rules n made c s stop
+stops_so rules n made c s Off less h = h
+stops_so rules n made c s End less h = absurd h
+stops_so rules n made c s Stuck less h = (h.0, less, h.1)
+stops_so rules n made c s (Refused refusal) less h = (h.0, less, h.1)
+
+-- a run on a state alone, so far
+pub record DrivingState (rules : Rules) (s : State) (made : ℕ) (c : Cursor) (t : State) (events : List Event) : Type 0 where
+  pub made_is : length events ≡ made
+  pub chosen_are : Chooses rules (cursor_at rules s) s events c t
+
+pub state_begins : (rules : Rules) (s : State) (c : Cursor) (es : List Event) → c ≡ cursor_at rules s → es ≡ [] → DrivingState rules s 0 c s es
+state_begins rules s c es here none = record {
+  made_is = ap length none;
+  chosen_are = subst (λ xs. Chooses rules (cursor_at rules s) s xs c s) (sym none) (here, refl);
+}
+
+pub drives_state_more : (rules : Rules) (s : State) (made : ℕ) (c d : Cursor) (t u : State) (es fs : List Event) →
+    DrivingState rules s made c t es → TurnState rules c t es None d u fs → DrivingState rules s (made + 1) d u fs
+drives_state_more rules s made c d t u es fs so_far turn =
+    subst (λ xs. DrivingState rules s (made + 1) d u xs) (sym turn.2) (record {
+      made_is = length-append es (turn.0 ∷ []) ∙ ap (λ n. n + 1) so_far.made_is;
+      chosen_are = chooses_more rules es turn.0 (cursor_at rules s) c d s t u so_far.chosen_are turn.1;
+    })
+
+pub stopped_state : (rules : Rules) (n made : ℕ) (stop : Stop) (s t u : State) (c : Cursor) (es fs : List Event) → made ≤ n →
+    DrivingState rules s made c t es → Stops rules n made c t stop → u ≡ t → fs ≡ es →
+    DrivesState rules n s (record { made = made; stop = stop }) fs u
+stopped_state rules n made stop s t u c es fs few so_far h same all =
+    subst (λ xs. DrivesState rules n s (record { made = made; stop = stop }) xs u) (sym all)
+    (subst (λ x. DrivesState rules n s (record { made = made; stop = stop }) es x) (sym same) (record {
+      cursor = c;
+      made_is = so_far.made_is;
+      few = few;
+      chosen_are = so_far.chosen_are;
+      stops = h;
+    }))
+
+ended_so : (rules : Rules) (n : ℕ) (c : Cursor) (s : State) (off : Bool) → s.board.off ≡ off → Stops rules n n c s (if off then Off else End)
+ended_so rules n c s true h = h
+ended_so rules n c s false h = (h, refl)
+
+-- a run whose events were all made
+pub ended_state : (rules : Rules) (n made : ℕ) (stop : Stop) (s t : State) (c : Cursor) (es : List Event) → made ≡ n →
+    DrivingState rules s made c t es → stop ≡ last_stop t → DrivesState rules n s (record { made = n; stop = stop }) es t
+ended_state rules n made stop s t c es all so_far h = record {
+  cursor = c;
+  made_is = so_far.made_is ∙ all;
+  few = omega arith;
+  chosen_are = so_far.chosen_are;
+  stops = subst (λ x. Stops rules n n c t x) (sym h) (ended_so rules n c t t.board.off refl);
+}

@@ -1,4 +1,5 @@
-use Rattle.std.proofs.Common.{◌≡◌, ◌∙◌, refl, ap, ℕ, suc, ◌+◌, ◌-◌, ◌<◌, ◌≤◌, Bool, true, false, cond, List, [], ◌∷◌, ◌++◌, arith}
+use Rattle.std.proofs.Common.{◌≡◌, ◌∙◌, refl, sym, ap, ℕ, zero, suc, ◌+◌, ◌-◌, ◌<◌, ◌≤◌, Bool, true, false, cond, List, [], ◌∷◌, ◌++◌, length, take, set, arith, append_assoc}
+use Rattle.std.proofs.lemmas.Grind.{take-set_at}
 use Rattle.std.proofs.lemmas.Bool.Decides.{nat_tests}
 use Rattle.std.specs.Prelude.{Option, None, Some, ◌==◌, ◌||◌, find, filter, is_some, slice_get}
 use Rattle.std.specs.List.{list_any, range_with_len}
@@ -78,13 +79,27 @@ pub any_found : (test : ℕ → Bool) (xs : List ℕ) → list_any test xs ≡ i
 any_found test [] = refl
 any_found test (x ∷ xs) = any_cons (test x) (list_any test xs) x (find test xs) (any_found test xs)
 
--- an item behind the first
-pub get_behind : (x : ℕ) (xs : List ℕ) (i : ℕ) → 1 ≤ i → slice_get (x ∷ xs) i ≡ slice_get xs (i - 1)
-get_behind x xs i h = let e : i ≡ suc (i - 1) = omega arith in ap (λ k. slice_get (x ∷ xs) k) e
-
 -- a comparison of numbers
 pub eq_true : (a b : ℕ) → a ≡ b → (a == b) ≡ true
 eq_true a b h = grind (arith, nat_tests)
 
 pub eq_false : (a b : ℕ) → (a ≡ b → ⊥) → (a == b) ≡ false
 eq_false a b h = grind (arith, nat_tests)
+
+-- one that passes, written behind those so far
+pub listed_more : (test : ℕ → Bool) (xs : List ℕ) (k p to : ℕ) → p < to → k < length xs → test p ≡ true →
+    take k xs ++ filter test (range_with_len p (to - p))
+    ≡ take (k + 1) (set xs k p) ++ filter test (range_with_len (p + 1) (to - (p + 1)))
+listed_more test xs k p to less there passes =
+    let rest = filter test (range_with_len (p + 1) (to - (p + 1))) in
+    ap (λ ys. take k xs ++ ys) (filter_take test p to less passes)
+    ∙ sym (append_assoc (take k xs) (p ∷ []) rest)
+    ∙ ap (λ ys. ys ++ rest) (sym (take-set_at xs k (k + 1) p refl there))
+
+-- none of the rest passes
+pub filter_rest : (test : ℕ → Bool) (n p : ℕ) → ((k : ℕ) → p ≤ k → k < p + n → test k ≡ false) → filter test (range_with_len p n) ≡ []
+filter_rest test zero p fails = refl
+filter_rest test (suc n) p fails =
+    let rest = filter test (range_with_len (p + 1) n) in
+    ap (λ b. cond b (p ∷ rest) rest) (fails p (omega arith) (omega arith))
+    ∙ filter_rest test n (p + 1) (λ k from to. fails k (omega (arith, from)) (omega (arith, to)))

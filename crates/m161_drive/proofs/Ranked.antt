@@ -1,6 +1,10 @@
-use Rattle.std.proofs.Common.{◌≡◌, ◌∙◌, refl, sym, ap, ℕ, suc, ◌+◌, ◌-◌, ◌<◌, List, [], ◌∷◌, ◌++◌, length, take, set, arith, append_assoc}
+use Rattle.std.proofs.Common.{◌≡◌, ◌∙◌, refl, sym, ap, ℕ, suc, ◌+◌, ◌-◌, ◌<◌, ◌≤◌, false, not, List, [], ◌∷◌, ◌++◌, length, take, set, arith, append_assoc}
+use Rattle.std.proofs.lemmas.Bool.Decides.{nat_tests}
 use Rattle.std.proofs.lemmas.Grind.{take-set_at}
-use Rattle.std.specs.Prelude.{swap}
+use Rattle.std.specs.Prelude.{◌&&◌, nat_lt, swap}
+use Rattle.m161_machine.specs.Resting.{rests}
+use Rattle.m161_machine.specs.State.{State}
+use Rattle.m161_drive.specs.Ready.{is_ready}
 use Rattle.rand_pcg.specs.Lcg.{Lcg}
 use Rattle.m161_drive.specs.Priorities.{shuffled}
 use Rattle.m161_drive.specs.Words.{after_word, after_words, below, draws}
@@ -34,3 +38,10 @@ drawn_more n i m g xs h there =
     ap (λ ys. take i xs ++ ys) (draws_left n i m g h)
     ∙ sym (append_assoc (take i xs) (below m g ∷ []) rest)
     ∙ ap (λ ys. ys ++ rest) (sym front)
+
+-- a processor that the machine doesn't have
+lt_not : (p n : ℕ) → n ≤ p → nat_lt p n ≡ false
+lt_not p n h = grind (arith, nat_tests)
+
+pub not_there : (s : State) (p : ℕ) → length s.processors ≤ p → is_ready s p ≡ false
+not_there s p h = ap (λ b. b && not (rests p s)) (lt_not p (length s.processors) h)

@@ -54,6 +54,17 @@ pub record Drives (rules : Rules) (n : ℕ) (m : History) (driven : Driven) (k :
   pub continues : Continues m events k
   pub stops : Stops rules n driven.made cursor k.state driven.stop
 
+-- a driven run on a state alone: the policy chose exactly these events, with a new cursor, until the
+-- run stopped in another state
+pub record DrivesState
+    (rules : Rules) (n : ℕ) (s : State) (driven : Driven) (events : List Event) (t : State)
+    : Type 0 where
+  pub cursor : Cursor
+  pub made_is : length events ≡ driven.made
+  pub few : driven.made ≤ n
+  pub chosen_are : Chooses rules (cursor_at rules s) s events cursor t
+  pub stops : Stops rules n driven.made cursor t driven.stop
+
 -- the law of every choice: in a state that isn't off, the chosen event is refused for Worn or, by
 -- want of memory, for NoMemory alone
 abbrev pub ChoosesAccepted : Rules → Option ℕ → Cursor → State → Type 0

@@ -6,9 +6,8 @@ ghost use Rattle.m161_drive.specs.Choice.{chosen, chosen_with, cursor_at, filled
 use crate::orders::OrderState;
 use crate::policy::Policy;
 use crate::ready::{next_ticking, some_ready};
-use m161_bus::Console;
-use m161_machine::{Event, Machine};
-use m161_tlb::Tlb;
+use crate::view::View;
+use m161_machine::Event;
 
 /// What a policy has to know of the run so far. The policy and the machine are those that it was
 /// made for, each time.
@@ -42,10 +41,10 @@ fn filled_after(latch: Option<u8>, filled: Option<u64>, made: u64) -> Option<u64
 impl Cursor {
     /// A new cursor, for a run from the machine's state on. It has typed no key. A byte that is in
     /// the latch has just come there.
-    pub fn new<T: Tlb, D: Console>(policy: &Policy, machine: &Machine<T, D>) -> Cursor
-        ensures { result ≡ cursor_at policy.now machine.now.state }
+    pub fn new<V: View>(policy: &Policy, machine: &V) -> Cursor
+        ensures { result ≡ cursor_at policy.now (V.state machine.now) }
     {
-        machine.replay();
+        machine.has_few_processors();
         let made = machine.made();
         Cursor {
             typed: 0,
@@ -64,8 +63,8 @@ impl Cursor {
     }
 
     // How many events were accepted after the one that filled the latch.
-    fn since_filled<T: Tlb, D: Console>(&self, machine: &Machine<T, D>) -> u64
-        ensures { result ≡ since_filled self.now.filled machine.now.state }
+    fn since_filled<V: View>(&self, machine: &V) -> u64
+        ensures { result ≡ since_filled self.now.filled (V.state machine.now) }
     {
         match self.filled {
             Some(at) => machine.made().saturating_sub(at),
@@ -75,16 +74,16 @@ impl Cursor {
 
     // Whether the byte in the latch is sent now.
     #[inline(always)]
-    fn transfer_ends<T: Tlb, D: Console>(&self, policy: &Policy, machine: &Machine<T, D>) -> bool
-        ensures { result ≡ transfer_ends policy.now self.now machine.now.state }
+    fn transfer_ends<V: View>(&self, policy: &Policy, machine: &V) -> bool
+        ensures { result ≡ transfer_ends policy.now self.now (V.state machine.now) }
     {
         machine.latch().is_some()
             && (self.since_filled(machine) >= u64::from(policy.transfer()) || !some_ready(machine))
     }
 
     // Whether so many events were accepted after the last key as the policy wants.
-    fn gap_is_over<T: Tlb, D: Console>(&self, policy: &Policy, machine: &Machine<T, D>) -> bool
-        ensures { result ≡ gap_is_over policy.now.gap self.now machine.now.state }
+    fn gap_is_over<V: View>(&self, policy: &Policy, machine: &V) -> bool
+        ensures { result ≡ gap_is_over policy.now.gap self.now (V.state machine.now) }
     {
         match policy.gap() {
             Some(gap) => machine.made().saturating_sub(self.keyed) >= u64::from(gap),
@@ -93,8 +92,8 @@ impl Cursor {
     }
 
     /// Whether a key is the next event, if there is a key.
-    pub fn wants_key<T: Tlb, D: Console>(&self, policy: &Policy, machine: &Machine<T, D>) -> bool
-        ensures { result ≡ wants_key policy.now self.now machine.now.state }
+    pub fn wants_key<V: View>(&self, policy: &Policy, machine: &V) -> bool
+        ensures { result ≡ wants_key policy.now self.now (V.state machine.now) }
     {
         !self.transfer_ends(policy, machine)
             && machine.waiting() < 256
@@ -103,9 +102,9 @@ impl Cursor {
 
     // The next Step, if a processor is ready or ticking.
     #[inline(always)]
-    fn next_step<T: Tlb, D: Console>(&mut self, machine: &Machine<T, D>) -> Option<Event>
-        ensures event { result ≡ (next_step self.old machine.now.state).0 }
-        ensures after { self.new ≡ (next_step self.old machine.now.state).1 }
+    fn next_step<V: View>(&mut self, machine: &V) -> Option<Event>
+        ensures event { result ≡ (next_step self.old (V.state machine.now)).0 }
+        ensures after { self.new ≡ (next_step self.old (V.state machine.now)).1 }
     {
         if let Some(p) = self.order.choose(self.last, machine) {
             self.last = Some(p);
@@ -126,15 +125,15 @@ impl Cursor {
     /// has another outcome, since its words are drawn.
     #[inline(always)]
     #[tactic(auto, unfolding(crate::specs::Choice::chosen_with))]
-    pub fn choose_with<T: Tlb, D: Console>(
+    pub fn choose_with<V: View>(
         &mut self,
         policy: &Policy,
-        machine: &Machine<T, D>,
+        machine: &V,
         key: Option<u8>,
     ) -> Option<Event>
         requires { IfSome key (λ _. self.old.typed < 2 ^ 64 - 1) }
-        ensures event { result ≡ (chosen_with policy.now key self.old machine.now.state).0 }
-        ensures after { self.new ≡ (chosen_with policy.now key self.old machine.now.state).1 }
+        ensures event { result ≡ (chosen_with policy.now key self.old (V.state machine.now)).0 }
+        ensures after { self.new ≡ (chosen_with policy.now key self.old (V.state machine.now)).1 }
     {
         if self.transfer_ends(policy, machine) {
             return Some(Event::Done);
@@ -150,13 +149,9 @@ impl Cursor {
 
     /// The event that the policy chooses in the machine's state, by its own keys.
     #[inline(always)]
-    pub fn choose<T: Tlb, D: Console>(
-        &mut self,
-        policy: &Policy,
-        machine: &Machine<T, D>,
-    ) -> Option<Event>
-        ensures event { result ≡ (chosen policy.now self.old machine.now.state).0 }
-        ensures after { self.new ≡ (chosen policy.now self.old machine.now.state).1 }
+    pub fn choose<V: View>(&mut self, policy: &Policy, machine: &V) -> Option<Event>
+        ensures event { result ≡ (chosen policy.now self.old (V.state machine.now)).0 }
+        ensures after { self.new ≡ (chosen policy.now self.old (V.state machine.now)).1 }
     {
         let key = policy.key(self.typed);
         self.choose_with(policy, machine, key)
@@ -164,8 +159,8 @@ impl Cursor {
 
     /// The chosen event was accepted, and led to the machine's state.
     #[inline(always)]
-    pub fn took<T: Tlb, D: Console>(&mut self, event: Event, machine: &Machine<T, D>)
-        ensures { self.new ≡ taken event machine.now.state self.old }
+    pub fn took<V: View>(&mut self, event: Event, machine: &V)
+        ensures { self.new ≡ taken event (V.state machine.now) self.old }
     {
         if let Event::Key(_) = event {
             self.keyed = machine.made();

@@ -16,6 +16,7 @@
 //! Guarantees of Finding Bugs, 2010).
 #![tactic(auto)]
 
+mod alone;
 mod cursor;
 mod laws;
 mod orders;
@@ -24,14 +25,17 @@ mod ranking;
 mod ready;
 mod run;
 mod turns;
+mod view;
 mod words;
 
+pub use alone::{DrivenEvents, drive_core};
 pub use cursor::Cursor;
 pub use laws::{
     chooses_accepted, key_is_typed, key_is_unread, keys_are_apart, no_key_is_counted, stays_asleep,
 };
-pub use m161_machine::{Event, Machine, Refusal};
+pub use m161_machine::{Core, Event, Machine, Refusal};
 pub use m161_order::{Order, OrderError};
 pub use policy::Policy;
 pub use ready::is_asleep;
 pub use run::{Driven, Stop, drive};
+pub use view::View;

@@ -5,13 +5,11 @@ ghost use Rattle.m161_drive.specs.Orders.{by_order, by_words, interrupted, order
 ghost use Rattle.m161_order.specs.Order.{order_fault};
 
 use crate::ranking::Ranking;
-use crate::ready::{count_ready, ready_at};
+use crate::ready::list_ready;
 use crate::turns::Turns;
+use crate::view::View;
 use crate::words::{below, seeded};
-use m161_bus::Console;
-use m161_machine::Machine;
 use m161_order::Order;
-use m161_tlb::Tlb;
 use rand_pcg::Pcg32;
 
 /// An order, with what it has to know of the run so far.
@@ -26,22 +24,25 @@ pub(crate) enum OrderState {
 }
 
 // A ready processor by the next word; no word is drawn if none is ready.
-fn by_words<T: Tlb, D: Console>(generator: &mut Pcg32, machine: &Machine<T, D>) -> Option<u32>
-    ensures processor { result ≡ (by_words generator.old machine.now.state).0 }
-    ensures after { generator.new ≡ (by_words generator.old machine.now.state).1 }
+fn by_words<V: View>(generator: &mut Pcg32, machine: &V) -> Option<u32>
+    ensures processor { result ≡ (by_words generator.old (V.state machine.now)).0 }
+    ensures after { generator.new ≡ (by_words generator.old (V.state machine.now)).1 }
 {
-    let count = count_ready(machine);
+    // For LLVM: room of this function, since bytes that were just written would be slow to copy.
+    let mut places = [0; 32];
+    let count = list_ready(machine, &mut places);
     if count == 0 {
         return None;
     }
-    ready_at(machine, below(generator, count))
+    let place = below(generator, count as u32);
+    Some(u32::from(places[place as usize]))
 }
 
 impl OrderState {
     /// An order at the start of a run on so many processors.
     pub(crate) fn start(order: Order, processors: u32) -> OrderState
         requires limits { order_fault order ≡ None }
-        requires processors { (1 ≤ processors) × (processors ≤ 32) }
+        requires processors { processors ≤ 32 }
         ensures { result ≡ order_at_start order processors }
     {
         match order {
@@ -57,13 +58,9 @@ impl OrderState {
 
     /// The next processor, if one is ready.
     #[inline(always)]
-    pub(crate) fn choose<T: Tlb, D: Console>(
-        &mut self,
-        last: Option<u32>,
-        machine: &Machine<T, D>,
-    ) -> Option<u32>
-        ensures processor { result ≡ (by_order self.old last machine.now.state).0 }
-        ensures after { self.new ≡ (by_order self.old last machine.now.state).1 }
+    pub(crate) fn choose<V: View>(&mut self, last: Option<u32>, machine: &V) -> Option<u32>
+        ensures processor { result ≡ (by_order self.old last (V.state machine.now)).0 }
+        ensures after { self.new ≡ (by_order self.old last (V.state machine.now)).1 }
     {
         match self {
             OrderState::InTurns(turns) => turns.choose(last, machine),

@@ -4,12 +4,11 @@ ghost use Rattle.std.specs.Prelude.{◌≡◌, ◌+◌, ◌-◌, ◌<◌, ◌≤
 ghost use Rattle.m161_drive.specs.Orders.{by_ranks};
 ghost use Rattle.m161_drive.specs.Priorities.{after_ranked, higher, highest, last_point, ranks_at_start, renewed, shuffled, with_stretch};
 ghost use Rattle.m161_drive.specs.Words.{after_words, draws};
+ghost use Rattle.m161_drive.specs.helpers.Places.{AreFrom};
 
 use crate::ready::is_ready;
+use crate::view::View;
 use crate::words::{below, seeded};
-use m161_bus::Console;
-use m161_machine::Machine;
-use m161_tlb::Tlb;
 use rand_pcg::Pcg32;
 use std::marker::Model;
 
@@ -25,11 +24,16 @@ pub(crate) struct Ranking {
     // The processors, as the start ordered them, and the rank of each.
     processors: [u32; 32],
     ranks: [u32; 32],
+    // So many processors the machine had at the start, and only the first `used` places have one of
+    // them.
+    number: u32,
+    used: usize,
 }
 
 impl Model for Ranking {
     ghost use Rattle.std.specs.Prelude.{◌≡◌, ◌<◌, ◌≤◌, length, take};
     ghost use Rattle.m161_drive.specs.Priorities.{Ranks};
+    ghost use Rattle.m161_drive.specs.helpers.Places.{AreFrom};
 
     ghost Value = { Ranks };
 
@@ -44,7 +48,8 @@ impl Model for Ranking {
 
     ghost invariant = { λ r.
         (r.changes ≤ 64) × (length r.points ≡ 64) × (length r.processors ≡ 32)
-        × (length r.ranks ≡ 32) × (r.made < r.within) };
+        × (length r.ranks ≡ 32) × (r.made < r.within)
+        × (r.used ≤ 32) × AreFrom r.number r.used r.processors };
 }
 
 // The first 32 numbers.
@@ -65,6 +70,18 @@ fn shuffle(processors: &mut [u32; 32], generator: &mut Pcg32, last: u32)
         processors.swap(i as usize, other as usize);
         i -= 1;
     }
+}
+
+// The place behind the last one that has a number below this.
+fn used_places(processors: &[u32; 32], number: u32) -> usize
+    ensures within { result ≤ 32 }
+    ensures others { AreFrom number result processors.now }
+{
+    let mut used = 32;
+    while used > 0 && processors[used - 1] >= number {
+        used -= 1;
+    }
+    used
 }
 
 // Draws the points of a stretch.
@@ -124,12 +141,13 @@ impl Ranking {
     pub(crate) fn new(seed: u64, changes: u32, within: u32, processors: u32) -> Ranking
         requires changes { changes ≤ 64 }
         requires within { 1 ≤ within }
-        requires processors { (1 ≤ processors) × (processors ≤ 32) }
+        requires processors { processors ≤ 32 }
         ensures { result ≡ ranks_at_start seed changes within processors }
     {
         let mut generator = seeded(seed);
         let mut order = IN_ORDER;
-        shuffle(&mut order, &mut generator, processors - 1);
+        shuffle(&mut order, &mut generator, processors.saturating_sub(1));
+        let used = used_places(&order, processors);
         let mut ranking = Ranking {
             generator,
             within,
@@ -138,6 +156,8 @@ impl Ranking {
             points: [0; 64],
             processors: order,
             ranks: IN_ORDER,
+            number: processors,
+            used,
         };
         ranking.begin_stretch();
         ranking
@@ -155,19 +175,33 @@ impl Ranking {
             points,
             processors: _,
             ranks,
+            number: _,
+            used: _,
         } = self;
         *ranks = renewed(ranks);
         draw_points(points, *changes, generator, *within);
         *made = 0;
     }
 
+    // How many of the places may have a processor of the machine.
+    fn places<V: View>(&self, machine: &V) -> usize
+        ensures within { result ≤ 32 }
+        ensures others { AreFrom (length (V.state machine.now).processors) result self.now.processors }
+    {
+        if machine.processors() <= self.number {
+            self.used
+        } else {
+            32
+        }
+    }
+
     // The place of the ready processor of the highest rank.
-    fn highest<T: Tlb, D: Console>(&self, machine: &Machine<T, D>) -> Option<usize>
-        ensures value { result ≡ highest self.now machine.now.state }
+    fn highest<V: View>(&self, machine: &V) -> Option<usize>
+        ensures value { result ≡ highest self.now (V.state machine.now) }
         ensures within { IfSome result (λ k. k < 32) }
     {
         let mut best = None;
-        for k in 0..32 {
+        for k in 0..self.places(machine) {
             if is_ready(machine, self.processors[k]) {
                 best = Some(self.higher(best, k));
             }
@@ -204,9 +238,9 @@ impl Ranking {
     }
 
     /// The next processor, if one is ready.
-    pub(crate) fn choose<T: Tlb, D: Console>(&mut self, machine: &Machine<T, D>) -> Option<u32>
-        ensures processor { result ≡ (by_ranks self.old machine.now.state).0 }
-        ensures after { self.new ≡ (by_ranks self.old machine.now.state).1 }
+    pub(crate) fn choose<V: View>(&mut self, machine: &V) -> Option<u32>
+        ensures processor { result ≡ (by_ranks self.old (V.state machine.now)).0 }
+        ensures after { self.new ≡ (by_ranks self.old (V.state machine.now)).1 }
     {
         match self.highest(machine) {
             Some(place) => {

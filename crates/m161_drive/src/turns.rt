@@ -4,9 +4,7 @@ ghost use Rattle.std.specs.Prelude.{◌≡◌};
 ghost use Rattle.m161_drive.specs.Orders.{begun, by_turns, goes_on};
 
 use crate::ready::{is_ready, next_ready};
-use m161_bus::Console;
-use m161_machine::Machine;
-use m161_tlb::Tlb;
+use crate::view::View;
 
 /// The order by turns.
 #[derive(Clone, Copy, Debug)]
@@ -20,8 +18,8 @@ pub(crate) struct Turns {
 impl Turns {
     // Whether the last processor goes on with its turn.
     #[inline(always)]
-    fn goes_on<T: Tlb, D: Console>(&self, last: Option<u32>, machine: &Machine<T, D>) -> bool
-        ensures { result ≡ goes_on self.now last machine.now.state }
+    fn goes_on<V: View>(&self, last: Option<u32>, machine: &V) -> bool
+        ensures { result ≡ goes_on self.now last (V.state machine.now) }
     {
         match last {
             Some(p) => self.made > 0 && self.made < self.steps && is_ready(machine, p),
@@ -31,13 +29,9 @@ impl Turns {
 
     /// The next processor, if one is ready.
     #[inline(always)]
-    pub(crate) fn choose<T: Tlb, D: Console>(
-        &mut self,
-        last: Option<u32>,
-        machine: &Machine<T, D>,
-    ) -> Option<u32>
-        ensures processor { result ≡ (by_turns self.old last machine.now.state).0 }
-        ensures after { self.new ≡ (by_turns self.old last machine.now.state).1 }
+    pub(crate) fn choose<V: View>(&mut self, last: Option<u32>, machine: &V) -> Option<u32>
+        ensures processor { result ≡ (by_turns self.old last (V.state machine.now)).0 }
+        ensures after { self.new ≡ (by_turns self.old last (V.state machine.now)).1 }
     {
         if self.goes_on(last, machine) {
             self.made += 1;

@@ -8,9 +8,15 @@ use Rattle.m161_cpu.specs.Processor.{started_processor, stopped_processor}
 use Rattle.m161_elf.specs.Image.{IsImage}
 use Rattle.m161_machine.specs.declared.conf.BootError.{BootError}
 use Rattle.m161_machine.specs.declared.conf.Conf.{Conf}
+use Rattle.m161_machine.specs.declared.event.Entry.{Entry}
 use Rattle.m161_machine.specs.declared.event.Event.{Event}
-use Rattle.m161_machine.specs.History.{Boots, Continues, History, IsBooted, events_of}
-use Rattle.m161_machine.specs.State.{state_of}
+use Rattle.m161_machine.specs.History.{Boots, History, IsBooted, Leads, entry, events_of}
+use Rattle.m161_machine.specs.State.{State, state_of}
+use Rattle.m161_drive.specs.declared.cursor.Cursor.{Cursor}
+use Rattle.m161_drive.specs.declared.run.Driven.{Driven}
+use Rattle.m161_drive.specs.Choice.{cursor_at}
+use Rattle.m161_drive.specs.Drive.{Chooses, Drives, DrivesState}
+use Rattle.m161_drive.specs.Policy.{Rules}
 
 -- Machines that were just booted.
 
@@ -38,17 +44,41 @@ pub booted_ok : (file : List ℕ) (conf : Conf) (fault : Option BootError) (m : 
 booted_ok file conf (Some first) m h = absurd h
 booted_ok file conf None m h = (refl, h)
 
-nothing : {A : Type 0} (xs : List A) → length xs ≡ 0 → xs ≡ []
-nothing [] none = refl
-nothing (x ∷ xs) none = absurd (omega (arith, none))
+-- the entries of a run's events
+entries_along : (rules : Rules) (es : List Event) (c d : Cursor) (s t : State) → Chooses rules c s es d t →
+    (entries : List Entry) × (events_of entries ≡ es) × Leads s entries t
+entries_along rules [] c d s t h = ([], refl, h.1)
+entries_along rules (e ∷ es) c d s t h =
+    let rest = entries_along rules es h.0 d h.1 t h.3 in
+    (entry e h.2.outcome ∷ rest.0, ap (λ xs. e ∷ xs) rest.1, (h.1, h.2.accepted, rest.2))
 
--- a log that was empty, with room for all of a run's events, has them
-pub kept : (m n : History) (events : List Event) → m.log ≡ [] → length events ≤ m.start.conf.log → Continues m events n → events_of n.log ≡ events
-kept m n events empty room c =
-    let entries_are : c.entries ≡ c.slides.lost ++ n.log = subst (λ log. log ++ c.entries ≡ c.slides.lost ++ n.log) empty c.slides.log_is in
-    let many : length c.entries ≡ length events = sym (length-map c.entries _) ∙ ap length c.events_are in
-    let long : length n.log ≡ min m.start.conf.log (0 + length c.entries) =
-    subst (λ log. length n.log ≡ min m.start.conf.log (length log + length c.entries)) empty c.slides.length_is in
-    let both : length c.entries ≡ length c.slides.lost + length n.log = ap length entries_are ∙ length-append c.slides.lost n.log in
-    let none : c.slides.lost ≡ [] = nothing c.slides.lost (omega arith) in
-    ap events_of (sym (subst (λ lost. c.entries ≡ lost ++ n.log) none entries_are)) ∙ c.events_are
+-- a run on the state of a machine is one of the machine, if its log is empty and has room for it
+pub drives_machine : (rules : Rules) (n : ℕ) (m : History) (driven : Driven) (events : List Event) (t : State) →
+    m.log ≡ [] → n ≤ m.start.conf.log → DrivesState rules n m.state driven events t →
+    (k : History) × (drives : Drives rules n m driven k) × (k.state ≡ t) × (events ≡ drives.events)
+drives_machine rules n m driven events t empty room drives =
+    let made = entries_along rules events (cursor_at rules m.state) drives.cursor m.state t drives.chosen_are in
+    let many : length made.0 ≡ driven.made = sym (length-map made.0 _) ∙ ap length made.1 ∙ drives.made_is in
+    let none : length m.log ≡ 0 = ap length empty in
+    let k : History = record { start = m.start; base = m.base; log = made.0; state = t } in
+    let drives_so : Drives rules n m driven k = record {
+      events = events;
+      cursor = drives.cursor;
+      made_is = drives.made_is;
+      few = drives.few;
+      chosen_are = drives.chosen_are;
+      continues = record {
+        entries = made.0;
+        events_are = made.1;
+        run_is = made.2;
+        slides = record {
+          lost = [];
+          log_is = ap (λ log. log ++ made.0) empty;
+          base_is = refl;
+          length_is = omega (arith, many, none, drives.few, room);
+          start_is = refl;
+        };
+      };
+      stops = drives.stops;
+    } in
+    (k, drives_so, refl, refl)

@@ -4,12 +4,11 @@ use Rattle.std.proofs.lemmas.Bool.Decides.{nat_tests}
 use Rattle.std.proofs.lemmas.List.{take_all}
 use Rattle.m161_audit.specs.declared.watch.Watch.{Watch}
 use Rattle.m161_machine.specs.declared.event.Event.{Event}
-use Rattle.m161_machine.specs.History.{History}
 use Rattle.m161_machine.specs.State.{State}
 use Rattle.m161_drive.specs.declared.cursor.Cursor.{Cursor}
 use Rattle.m161_drive.specs.Choice.{cursor_at}
 use Rattle.m161_drive.specs.declared.run.Driven.{Driven}
-use Rattle.m161_drive.specs.Drive.{Chooses, Drives}
+use Rattle.m161_drive.specs.Drive.{Chooses, DrivesState}
 use Rattle.m161_drive.specs.Policy.{Rules}
 use Rattle.m161_judge.specs.declared.seen.Seen.{Seen}
 use Rattle.m161_judge.specs.Run.{criteria}
@@ -60,22 +59,20 @@ key_is_left (x ∷ xs) zero = first_left (length xs)
 key_is_left (x ∷ xs) (suc n) = key_is_left xs n ∙ next_left n (length xs)
 
 -- of the run that was made, and its events
-pub run_ends : (rules : Rules) (n : ℕ) (m k : History) (driven : Driven) (drives : Drives rules n m driven k) (events : List Event) (made : ℕ) →
-    events ≡ drives.events → made ≡ length events → Ends m.state events made k.state
-run_ends rules n m k driven drives events made same all =
-    subst (λ j. Ends m.state events j k.state) (sym all)
-    (subst (λ es. Ends m.state es (length es) k.state) (sym same)
-    (driven_ends rules drives.events (cursor_at rules m.state) drives.cursor m.state k.state drives.chosen_are))
+pub run_ends : (rules : Rules) (n : ℕ) (s t : State) (driven : Driven) (events : List Event) (made : ℕ) →
+    DrivesState rules n s driven events t → made ≡ length events → Ends s events made t
+run_ends rules n s t driven events made drives all =
+    subst (λ j. Ends s events j t) (sym all)
+    (driven_ends rules events (cursor_at rules s) drives.cursor s t drives.chosen_are)
 
-pub run_seen : (rules : Rules) (n : ℕ) (m k : History) (driven : Driven) (drives : Drives rules n m driven k) (events : List Event) (made : ℕ)
-    (watches : List Watch) (output : Option (List ℕ)) → events ≡ drives.events → made ≡ length events →
-    HasSeen (criteria watches output rules) m.state events made (record { stuck = None; was_stuck = false })
-run_seen rules n m k driven drives events made watches output same all =
+pub run_seen : (rules : Rules) (n : ℕ) (s t : State) (driven : Driven) (events : List Event) (made : ℕ)
+    (watches : List Watch) (output : Option (List ℕ)) → DrivesState rules n s driven events t → made ≡ length events →
+    HasSeen (criteria watches output rules) s events made (record { stuck = None; was_stuck = false })
+run_seen rules n s t driven events made watches output drives all =
     let goal = criteria watches output rules in
     let none : Seen = record { stuck = None; was_stuck = false } in
-    subst (λ j. HasSeen goal m.state events j none) (sym all)
-    (subst (λ es. HasSeen goal m.state es (length es) none) (sym same)
-    (driven_seen rules watches output drives.events drives.cursor m.state k.state drives.chosen_are))
+    subst (λ j. HasSeen goal s events j none) (sym all)
+    (driven_seen rules watches output events drives.cursor s t drives.chosen_are)
 
 -- all of the events
 pub all_keys : (keys : List ℕ) (events : List Event) (made : ℕ) → made ≡ length events → has_keys keys events ≡ has_keys keys (take made events)

@@ -20,10 +20,10 @@ use Rattle.m161_judge.specs.declared.verdict.Judged.{Judged}
 use Rattle.m161_judge.specs.declared.walk.Walk.{Walk}
 use Rattle.m161_judge.specs.declared.walk.Walk.TheVariants as walk
 use Rattle.m161_judge.specs.Judge.{Judges}
-use Rattle.m161_judge.specs.Run.{Runs, criteria}
-use Rattle.m161_judge.specs.Verdict.{Criteria}
-use Rattle.m161_judge.specs.helpers.Walk.{BootsRun, DrivesRun, FindsStale, IsBelow, Joins, Walks}
-use Rattle.m161_judge.proofs.Booting.{booted_as_one}
+use Rattle.m161_judge.specs.Run.{BootsState, Runs, criteria, is_cut}
+use Rattle.m161_judge.specs.Verdict.{Criteria, has_keys}
+use Rattle.m161_judge.specs.helpers.Walk.{BootsRun, DrivesRun, FindsStale, IsBelow, IsDrivenRun, Joins, Walks}
+use Rattle.m161_judge.proofs.Booting.{booted_as_one, drives_machine}
 use Rattle.m161_judge.proofs.Judging.{place_is_below}
 
 -- The audit, as it is used.
@@ -112,11 +112,27 @@ made_list file conf None events goal m found w beside judged boots finds h is jo
 
 -- of a driven run
 
-pub boots_run : (file : List ℕ) (conf : Conf) (fault : Option BootError) (rules : Rules) (n : ℕ) (output : Option (List ℕ)) (m : History) (result : Result Run AuditError) →
-    Boots file conf fault (Ok m) → DrivesRun rules n output m result → BootsRun file conf fault rules n output result
-boots_run file conf (Some first) rules n output m result boots h = absurd boots
-boots_run file conf None rules n output m (Ok run) boots h = (m, boots, h)
-boots_run file conf None rules n output m (Err error) boots h = h
+pub boots_run : (file : List ℕ) (conf : Conf) (fault : Option BootError) (rules : Rules) (n : ℕ) (output : Option (List ℕ)) (s : State) (result : Result Run AuditError) →
+    BootsState file conf fault (Ok s) → DrivesRun rules n output s result → BootsRun file conf fault rules n output result
+boots_run file conf (Some first) rules n output s result boots h = absurd boots
+boots_run file conf None rules n output s (Ok run) boots h = (boots.0, boots.1, subst (λ x. IsDrivenRun rules n output x run) boots.2 h)
+boots_run file conf None rules n output s (Err error) boots h = h
+
+pub unbooted_run : (file : List ℕ) (conf : Conf) (fault : Option BootError) (rules : Rules) (n : ℕ) (watches : List Watch) (output : Option (List ℕ)) (error : AuditError) →
+    BootsState file conf fault (Err error) → Runs file conf fault rules n (criteria watches output rules) (Err error)
+unbooted_run file conf (Some first) rules n watches output error h = ap Err h
+unbooted_run file conf None rules n watches output (Boot e) h = boot_is e NoMemory h
+unbooted_run file conf None rules n watches output (BadWatch k) h = absurd (not_watch k NoMemory h)
+
+pub state_boots : (file : List ℕ) (conf : Conf) (fault : Option BootError) (m : History) (s : State) → Boots file conf fault (Ok m) → s ≡ m.state →
+    BootsState file conf fault (Ok s)
+state_boots file conf (Some first) m s boots h = absurd boots
+state_boots file conf None m s boots h = (m, boots, h)
+
+pub state_unbooted : (file : List ℕ) (conf : Conf) (fault : Option BootError) (error : BootError) → Boots file conf fault (Err error) →
+    BootsState file conf fault (Err (Boot error))
+state_unbooted file conf (Some first) error h = ap Boot h
+state_unbooted file conf None error h = ap Boot h
 
 pub run_unmade : (file : List ℕ) (conf : Conf) (fault : Option BootError) (rules : Rules) (n : ℕ) (watches : List Watch) (output : Option (List ℕ)) (error : AuditError) →
     BootsRun file conf fault rules n output (Err error) → Runs file conf fault rules n (criteria watches output rules) (Err error)
@@ -133,24 +149,26 @@ no_run : (run : Run) (error : AuditError) → ◌≡◌ {A = Result Run AuditErr
 no_run run error h = cc
 
 pub runs : (file : List ℕ) (conf : Conf) (fault : Option BootError) (rules : Rules) (n : ℕ) (watches : List Watch) (output : Option (List ℕ)) (run : Run)
-    (found : Finding) (judged : Option Judged) →
+    (found : Finding) (judged : Option Judged) → n ≤ conf.log →
     BootsRun file conf fault rules n output (Ok run) → FindsStale file conf fault run.events.items watches (Ok found) →
     ((goal : Criteria) (s : State) (events : List Event) → Joins goal s events found run.judged judged) →
     Runs file conf fault rules n (criteria watches output rules) (Ok (record { events = run.events; judged = judged; is_cut = run.is_cut }))
-runs file conf (Some first) rules n watches output run found judged h finds joins = absurd (no_run run (Boot first) h)
-runs file conf None rules n watches output run found judged h finds joins =
+runs file conf (Some first) rules n watches output run found judged room h finds joins = absurd (no_run run (Boot first) h)
+runs file conf None rules n watches output run found judged room h finds joins =
     let goal = criteria watches output rules in
     let m = h.0 in
     let d = h.2 in
+    let fits : n ≤ m.start.conf.log = subst (λ (x : Conf). n ≤ x.log) (sym h.1.conf_is) room in
+    let k = drives_machine rules n m d.driven run.events.items d.state h.1.log_is fits d.drives in
     record {
       good = finds.0;
       booted = m;
       is_booted = h.1;
       driven = d.driven;
-      machine = d.machine;
-      drives = d.drives;
+      machine = k.0;
+      drives = k.1;
       accepted = d.accepted;
-      events_are = d.events_are;
+      events_are = k.3;
       judged = joins goal m.state run.events.items d.made (finds.1 m h.1) (d.beside watches);
-      cut = d.cut;
+      cut = d.cut ∙ ap (is_cut d.driven.stop (has_keys rules.keys run.events.items)) (sym k.2);
     }

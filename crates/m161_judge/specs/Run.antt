@@ -1,6 +1,7 @@
 use Rattle.std.specs.Prelude.{◌≡◌, ◌≢◌, ℕ, Bool, false, not, List, Option, None, Some, Result, Ok, Err}
 use Rattle.m161_machine.specs.declared.conf.Conf.{Conf}
 use Rattle.m161_machine.specs.declared.conf.BootError.{BootError}
+use Rattle.m161_machine.specs.declared.conf.BootError.TheVariants.{NoMemory}
 use Rattle.m161_machine.specs.declared.event.Refusal.{Refusal}
 use Rattle.m161_machine.specs.State.{State}
 use Rattle.m161_machine.specs.History.{History, IsBooted}
@@ -58,3 +59,11 @@ abbrev pub Runs :
     List ℕ → Conf → Option BootError → Rules → ℕ → Criteria → Result Run AuditError → Type 0
 Runs file conf (Some first) rules n goal result = result ≡ Err (Boot first)
 Runs file conf None rules n goal result = RunsBooted file conf rules n goal result
+
+-- the state of a machine that is booted, or the first reason not to boot
+abbrev pub BootsState :
+    List ℕ → Conf → Option BootError → Result State AuditError → Type 0
+BootsState file conf (Some first) (Ok s) = ⊥
+BootsState file conf (Some first) (Err error) = error ≡ Boot first
+BootsState file conf None (Ok s) = (m : History) × IsBooted file conf m × (s ≡ m.state)
+BootsState file conf None (Err error) = error ≡ Boot NoMemory

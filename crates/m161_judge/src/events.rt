@@ -1,22 +1,9 @@
-//! The events of a log.
+//! The events of a run.
 
-ghost use Rattle.std.specs.Prelude.{◌≡◌, IfOk, count_by};
-ghost use Rattle.m161_machine.specs.History.{events_of};
+ghost use Rattle.std.specs.Prelude.{◌≡◌, count_by};
 ghost use Rattle.m161_judge.specs.Verdict.{is_key};
 
-use m161_machine::{Entry, Event};
-use std::alloc::{AllocError, Global};
-
-/// The events of these entries.
-pub(crate) fn events_made(alloc: Global, entries: &[Entry]) -> Result<Vec<Event>, AllocError>
-    ensures { IfOk result (λ events. events.items ≡ events_of entries.now) }
-{
-    let mut events = Vec::with_capacity(alloc, entries.len())?;
-    for entry in entries {
-        events.push(entry.event)?;
-    }
-    Ok(events)
-}
+use m161_machine::Event;
 
 fn is_key(event: Event) -> bool
     ensures { result ≡ is_key event }

@@ -12,6 +12,7 @@
 //! refused before the machine is off has none. All of this is this project's own.
 #![tactic(auto)]
 
+mod booted;
 mod events;
 mod goal;
 mod laws;
@@ -23,11 +24,12 @@ mod stuck;
 mod verdict;
 mod walk;
 
+pub use booted::Booted;
 pub use goal::Goal;
 pub use laws::{cut_keeps_verdict, one_verdict, stuck_is_no_choice};
 pub use list::judge;
 pub use m161_audit::{AuditError, Watch};
 pub use m161_drive::Policy;
 pub use m161_machine::{BootError, Conf, Event};
-pub use run::{Run, judge_run};
+pub use run::{Run, judge_booted, judge_run};
 pub use verdict::{Judged, Verdict};

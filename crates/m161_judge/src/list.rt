@@ -29,8 +29,9 @@ pub fn judge<T: Tlb, D: Console>(
     ensures { Judges file.now conf (boot_fault file.now conf) events.now goal.now result }
 {
     let finding = find_stale::<T, D>(alloc, file, conf, events, goal.watches)?;
-    let mut machine: Machine<T, D> = Machine::boot(alloc, file, conf)?;
-    match walk_along(&mut machine, events, goal)? {
+    let machine: Machine<T, D> = Machine::boot(alloc, file, conf)?;
+    let mut core = machine.into_core();
+    match walk_along(&mut core, events, goal)? {
         Walk::Refused => Ok(None),
         Walk::Made(beside) => Ok(first_verdict(finding, beside)),
     }

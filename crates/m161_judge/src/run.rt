@@ -1,20 +1,21 @@
 //! The verdict of a driven run.
 
-ghost use Rattle.std.specs.Prelude.{◌≡◌, ◌≤◌, []};
+ghost use Rattle.std.specs.Prelude.{◌≡◌, ◌≤◌, Ok};
 ghost use Rattle.m161_machine.specs.History.{boot_fault};
 ghost use Rattle.m161_judge.specs.Judge.{bytes_of};
-ghost use Rattle.m161_judge.specs.Run.{Runs, criteria, is_cut};
-ghost use Rattle.m161_judge.specs.helpers.Walk.{BootsRun, DrivesRun};
+ghost use Rattle.m161_judge.specs.Run.{BootsState, Runs, criteria, is_cut};
+ghost use Rattle.m161_judge.specs.helpers.Walk.{DrivesRun};
 
-use crate::events::{count_keys, events_made};
+use crate::booted::Booted;
+use crate::events::count_keys;
 use crate::seen::nothing_seen;
 use crate::stale::{find_stale, first_verdict};
 use crate::stuck::is_stuck;
 use crate::verdict::Judged;
 use m161_audit::{AuditError, Watch};
 use m161_bus::Console;
-use m161_drive::{Policy, Stop, drive};
-use m161_machine::{BootError, Conf, Event, Machine};
+use m161_drive::{Policy, Stop, View, drive_core};
+use m161_machine::{BootError, Conf, Core, Event};
 use m161_tlb::Tlb;
 use std::alloc::Global;
 
@@ -30,8 +31,8 @@ pub struct Run {
 }
 
 // Whether a run ended only because no more events were asked for.
-fn is_cut<T: Tlb, D: Console>(machine: &Machine<T, D>, stop: Stop, keys_left: bool) -> bool
-    ensures { result ≡ is_cut stop keys_left machine.now.state }
+fn is_cut<V: View>(machine: &V, stop: Stop, keys_left: bool) -> bool
+    ensures { result ≡ is_cut stop keys_left (V.state machine.now) }
 {
     match stop {
         Stop::End => !is_stuck(machine, keys_left),
@@ -39,49 +40,72 @@ fn is_cut<T: Tlb, D: Console>(machine: &Machine<T, D>, stop: Stop, keys_left: bo
     }
 }
 
-// Drives a machine that was just booted, and judges the run, but for a stale use.
+// Drives a state, and judges the run, but for a stale use.
 fn drive_run<T: Tlb, D: Console>(
     alloc: Global,
-    machine: &mut Machine<T, D>,
+    core: &mut Core<T, D>,
     policy: &Policy,
     n: u64,
     output: Option<&[u8]>,
 ) -> Result<Run, AuditError>
-    requires empty { machine.old.log ≡ [] }
-    requires room { n ≤ machine.old.start.conf.log }
-    ensures { DrivesRun policy.now n (bytes_of output.entry) machine.old result }
+    ensures { DrivesRun policy.now n (bytes_of output.entry) core.old.state result }
 {
-    let driven = drive(machine, policy, n);
-    if let Stop::Refused(_) = driven.stop {
+    let chosen = drive_core(alloc, core, policy, n)?;
+    if let Stop::Refused(_) = chosen.driven.stop {
         return Err(AuditError::Boot(BootError::NoMemory));
     }
-    let entries = machine.copy_log(alloc)?;
-    let events = events_made(alloc, &entries)?;
-    let keys_left = policy.key(count_keys(&events)).is_some();
-    let made = events.len();
-    let seen = nothing_seen().look(machine, made, keys_left, output);
+    let keys_left = policy.key(count_keys(&chosen.events)).is_some();
+    let made = chosen.events.len();
+    let seen = nothing_seen().look(core, made, keys_left, output);
     Ok(Run {
-        events,
-        judged: seen.verdict(machine, made, output),
-        is_cut: is_cut(machine, driven.stop, keys_left),
+        events: chosen.events,
+        judged: seen.verdict(core, made, output),
+        is_cut: is_cut(core, chosen.driven.stop, keys_left),
     })
 }
 
-// The same, of a machine that is booted for it.
-fn boot_and_drive<T: Tlb, D: Console>(
+// The same, of a copy of a state.
+fn drive_copy<T: Tlb, D: Console>(
     alloc: Global,
+    booted: &Booted<T, D>,
+    policy: &Policy,
+    n: u64,
+    output: Option<&[u8]>,
+) -> Result<Run, AuditError>
+    ensures { DrivesRun policy.now n (bytes_of output.entry) booted.now result }
+{
+    let mut core = booted.copy_core(alloc)?;
+    drive_run(alloc, &mut core, policy, n, output)
+}
+
+/// Drives a machine that was booted from a file, over any TLB and any console, for at most `n` events
+/// that a policy chooses, and judges the run. The machine's log has room for all of them. The same
+/// as `judge_run`, of a state that isn't booted again for each run.
+///
+/// # Errors
+/// The first bad watch; or memory was refused, also at an event `Done`.
+pub fn judge_booted<T: Tlb, D: Console>(
+    alloc: Global,
+    booted: &Booted<T, D>,
     file: &[u8],
     conf: Conf,
     policy: &Policy,
     n: u64,
+    watches: &[Watch],
     output: Option<&[u8]>,
 ) -> Result<Run, AuditError>
-    requires { n ≤ conf.log }
-    ensures { BootsRun file.now conf (boot_fault file.now conf) policy.now n
-        (bytes_of output.entry) result }
+    requires booted { BootsState file.now conf (boot_fault file.now conf) (Ok booted.now) }
+    requires room { n ≤ conf.log }
+    ensures { Runs file.now conf (boot_fault file.now conf) policy.now n
+        (criteria watches.now (bytes_of output.entry) policy.now) result }
 {
-    let mut machine: Machine<T, D> = Machine::boot(alloc, file, conf)?;
-    drive_run(alloc, &mut machine, policy, n, output)
+    let run = drive_copy(alloc, booted, policy, n, output)?;
+    let finding = find_stale::<T, D>(alloc, file, conf, &run.events, watches)?;
+    Ok(Run {
+        events: run.events,
+        judged: first_verdict(finding, run.judged),
+        is_cut: run.is_cut,
+    })
 }
 
 /// Drives a machine that is booted from a file, over any TLB and any console, for at most `n` events
@@ -103,11 +127,6 @@ pub fn judge_run<T: Tlb, D: Console>(
     ensures { Runs file.now conf (boot_fault file.now conf) policy.now n
         (criteria watches.now (bytes_of output.entry) policy.now) result }
 {
-    let run = boot_and_drive::<T, D>(alloc, file, conf, policy, n, output)?;
-    let finding = find_stale::<T, D>(alloc, file, conf, &run.events, watches)?;
-    Ok(Run {
-        events: run.events,
-        judged: first_verdict(finding, run.judged),
-        is_cut: run.is_cut,
-    })
+    let booted = Booted::<T, D>::new(alloc, file, conf)?;
+    judge_booted(alloc, &booted, file, conf, policy, n, watches, output)
 }

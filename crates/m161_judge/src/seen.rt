@@ -9,9 +9,7 @@ ghost use Rattle.m161_judge.specs.helpers.Walk.{Ends, HasSeen, IsJudgedBeside};
 
 use crate::stuck::{has_sent, is_stuck};
 use crate::verdict::{Judged, Verdict};
-use m161_bus::Console;
-use m161_machine::Machine;
-use m161_tlb::Tlb;
+use m161_drive::View;
 
 /// What was seen of a run's states so far.
 #[derive(Clone, Copy)]
@@ -42,9 +40,9 @@ fn judged(verdict: Verdict, events: usize) -> Judged
 impl Seen {
     /// Looks at the machine's state after so many events.
     #[inline(always)]
-    pub(crate) fn look<T: Tlb, D: Console>(
+    pub(crate) fn look<V: View>(
         self,
-        machine: &Machine<T, D>,
+        machine: &V,
         made: usize,
         keys_left: bool,
         output: Option<&[u8]>,
@@ -52,7 +50,7 @@ impl Seen {
         ensures { (goal : Criteria) (s : State) (events : List Event)
             → goal.output ≡ bytes_of output.entry
             → keys_left ≡ has_keys goal.keys (take made events)
-            → LeadsTo s events made machine.now.state
+            → LeadsTo s events made (V.state machine.now)
             → HasSeen goal s events made self
             → HasSeen goal s events (made + 1) result }
     {
@@ -72,15 +70,15 @@ impl Seen {
     }
 
     /// The first verdict but Stale of a run that ends here, after so many events.
-    pub(crate) fn verdict<T: Tlb, D: Console>(
+    pub(crate) fn verdict<V: View>(
         self,
-        machine: &Machine<T, D>,
+        machine: &V,
         made: usize,
         output: Option<&[u8]>,
     ) -> Option<Judged>
         ensures { (goal : Criteria) (s : State) (events : List Event)
             → goal.output ≡ bytes_of output.entry
-            → Ends s events made machine.now.state
+            → Ends s events made (V.state machine.now)
             → HasSeen goal s events (made + 1) self
             → IsJudgedBeside goal s events result }
     {

@@ -8,7 +8,7 @@ use crate::seen::nothing_seen;
 use crate::verdict::Judged;
 use m161_audit::AuditError;
 use m161_bus::Console;
-use m161_machine::{BootError, Event, Machine, Refusal};
+use m161_machine::{BootError, Core, Event, Refusal};
 use m161_tlb::Tlb;
 
 /// How a walk along a list of events ends.
@@ -20,10 +20,10 @@ pub(crate) enum Walk {
 }
 
 // Makes an event. Returns whether it was accepted.
-fn make<T: Tlb, D: Console>(machine: &mut Machine<T, D>, event: Event) -> Result<bool, AuditError>
-    ensures { MakesEvent machine.old.state event result machine.new.state }
+fn make<T: Tlb, D: Console>(core: &mut Core<T, D>, event: Event) -> Result<bool, AuditError>
+    ensures { MakesEvent core.old.state event result core.new.state }
 {
-    match machine.event(event) {
+    match core.event(event) {
         Ok(_) => Ok(true),
         Err(refusal) => {
             if refusal == Refusal::NoMemory {
@@ -47,24 +47,24 @@ fn left_after(left: usize, event: Event) -> usize
 
 /// Makes the events, and looks at each state.
 pub(crate) fn walk_along<T: Tlb, D: Console>(
-    machine: &mut Machine<T, D>,
+    core: &mut Core<T, D>,
     events: &[Event],
     goal: &Goal,
 ) -> Result<Walk, AuditError>
-    ensures { Walks goal.now machine.old.state events.now result }
+    ensures { Walks goal.now core.old.state events.now result }
 {
     let mut seen = nothing_seen();
     let mut left = goal.keys.len();
     for (made, event) in events.iter().enumerate() {
-        seen = seen.look(machine, made, left > 0, goal.output);
-        if machine.is_off() {
-            return Ok(Walk::Made(seen.verdict(machine, made, goal.output)));
+        seen = seen.look(core, made, left > 0, goal.output);
+        if core.is_off() {
+            return Ok(Walk::Made(seen.verdict(core, made, goal.output)));
         }
-        if !make(machine, *event)? {
+        if !make(core, *event)? {
             return Ok(Walk::Refused);
         }
         left = left_after(left, *event);
     }
-    seen = seen.look(machine, events.len(), left > 0, goal.output);
-    Ok(Walk::Made(seen.verdict(machine, events.len(), goal.output)))
+    seen = seen.look(core, events.len(), left > 0, goal.output);
+    Ok(Walk::Made(seen.verdict(core, events.len(), goal.output)))
 }

@@ -6,11 +6,14 @@ ghost use Rattle.m161_debug.specs.declared.command.Change.TheVariants as changes
 ghost use Rattle.m161_debug.specs.declared.command.Command.TheVariants as commands;
 ghost use Rattle.m161_text.specs.Parts.{◌␣◌, word_text};
 ghost use Rattle.m161_text.specs.Lines.{with_line_end};
-ghost use Rattle.m161_debug.specs.Obeys.{area_text, display_text, is_shown, is_there, Commands, Obeys};
+ghost use Rattle.m161_debug.specs.Obeys.{area_text, condition_fault, display_text, fetch_fault, is_shown, is_there, Commands, Obeys};
 
 use crate::breakpoints::Breakpoint;
 use crate::command::{Area, Change, Command, CommandError, Display, command_of};
-use crate::room::{put, put_event, put_outcome, put_refusal, put_stop};
+use crate::condition::Condition;
+use crate::limits::{are_fetched, has_processor, is_number_of_steps, is_of_kind, is_span};
+use crate::mark::physical_of;
+use crate::room::{put, put_event, put_outcome, put_refusal, put_stop_line};
 use crate::session::Session;
 use m161_bus::Console;
 use m161_elf::is_in_ram;
@@ -58,10 +61,14 @@ impl<T: Tlb, D: Console> Session<T, D> {
             Command::Breakpoint(Change::Set, p, address) => self.set(p, address, text),
             Command::Breakpoint(Change::Delete, p, address) => self.unset(p, address, text),
             Command::Make(event) => self.make(event, text),
+            Command::Steps(p, n) => self.make_steps(p, n, text),
             Command::Go => self.go_all(rest, text),
             Command::GoFirst(n) => self.go_first(n, rest, text),
+            Command::Until(condition) => self.go_until(condition, rest, text),
             Command::Show(display, p) => self.show(display, p, text),
+            Command::Where => self.show_places(text),
             Command::Words(area, address, n) => self.show_words(area, address, n, text),
+            Command::Fetched(address, n, p) => self.show_instructions(address, n, p, text),
             Command::Log(n) => self.show_entries(n, text),
         }
     }
@@ -132,8 +139,7 @@ impl<T: Tlb, D: Console> Session<T, D> {
     {
         text.reserve(LONGEST)?;
         let stop = self.go(rest);
-        put_stop(text, stop);
-        put(text, "\n");
+        put_stop_line(text, stop);
         Ok(stop.events_used())
     }
 
@@ -147,6 +153,52 @@ impl<T: Tlb, D: Console> Session<T, D> {
         } else {
             self.go_all(rest, text)
         }
+    }
+
+    // Makes Steps of a processor; room for the text first.
+    fn make_steps(&mut self, p: u32, n: u32, text: &mut String) -> Result<usize, CommandError>
+        ensures { (rest : List Event) → Obeys (Ok (commands.Steps p n)) self.old rest result
+            self.new (string_bytes text.old) (string_bytes text.new) }
+    {
+        if !is_number_of_steps(n) {
+            return Err(CommandError::BadArgument);
+        }
+        text.reserve(LONGEST)?;
+        let stop = self.go_steps(p, n);
+        put_stop_line(text, stop);
+        Ok(0)
+    }
+
+    // Why a run doesn't wait for a condition.
+    fn condition_fault(&self, condition: Condition) -> Option<CommandError>
+        ensures { result ≡ condition_fault condition self.now.machine.state }
+    {
+        if !is_of_kind(&self.machine, condition) {
+            Some(CommandError::BadArgument)
+        } else if !has_processor(&self.machine, condition) {
+            Some(CommandError::BadProcessor)
+        } else {
+            None
+        }
+    }
+
+    // Makes all remaining events until a condition holds; room for the text first.
+    fn go_until(
+        &mut self,
+        condition: Condition,
+        rest: &[Event],
+        text: &mut String,
+    ) -> Result<usize, CommandError>
+        ensures { Obeys (Ok (commands.Until condition)) self.old rest.now result self.new
+            (string_bytes text.old) (string_bytes text.new) }
+    {
+        if let Some(error) = self.condition_fault(condition) {
+            return Err(error);
+        }
+        text.reserve(LONGEST)?;
+        let stop = self.until(condition, rest);
+        put_stop_line(text, stop);
+        Ok(stop.events_used())
     }
 
     // A display of a processor.
@@ -175,6 +227,16 @@ impl<T: Tlb, D: Console> Session<T, D> {
         Ok(0)
     }
 
+    // Appends where the processors are.
+    fn show_places(&mut self, text: &mut String) -> Result<usize, CommandError>
+        ensures { (rest : List Event) → Obeys (Ok commands.Where) self.old rest result
+            self.new (string_bytes text.old) (string_bytes text.new) }
+    {
+        let shown = self.show_where()?;
+        text.push_str(shown.as_str())?;
+        Ok(0)
+    }
+
     // Whether words are in RAM.
     fn are_there(&self, area: Area, address: u32, n: u32) -> bool
         requires { n ≤ 1024 }
@@ -182,7 +244,8 @@ impl<T: Tlb, D: Console> Session<T, D> {
     {
         match area {
             Area::Memory => {
-                u64::from(address) + 4 * u64::from(n) <= self.machine.memory().len() as u64
+                let physical = u64::from(physical_of(address));
+                physical + 4 * u64::from(n) <= self.machine.memory().len() as u64
             }
             Area::Code => {
                 self.machine.replay();
@@ -205,7 +268,7 @@ impl<T: Tlb, D: Console> Session<T, D> {
             ≡ area_text area address n self.now.machine.state) }
     {
         match area {
-            Area::Memory => self.show_mem(address, n),
+            Area::Memory => self.show_mem(physical_of(address), n),
             Area::Code => self.show_code(address, n),
         }
     }
@@ -225,6 +288,40 @@ impl<T: Tlb, D: Console> Session<T, D> {
             return Err(CommandError::BadArgument);
         }
         let shown = self.words(area, address, n)?;
+        text.push_str(shown.as_str())?;
+        Ok(0)
+    }
+
+    // Why instructions can't be shown as a processor would fetch them.
+    fn fetch_fault(&self, address: u32, n: u32, p: u32) -> Option<CommandError>
+        ensures { result ≡ fetch_fault p address n self.now.machine.state }
+    {
+        if !is_span(address, n) {
+            Some(CommandError::BadArgument)
+        } else if p >= self.machine.processors() {
+            Some(CommandError::BadProcessor)
+        } else if are_fetched(&self.machine, p, address, n) {
+            None
+        } else {
+            Some(CommandError::BadArgument)
+        }
+    }
+
+    // Appends instructions as a processor would fetch them.
+    fn show_instructions(
+        &mut self,
+        address: u32,
+        n: u32,
+        p: u32,
+        text: &mut String,
+    ) -> Result<usize, CommandError>
+        ensures { (rest : List Event) → Obeys (Ok (commands.Fetched address n p)) self.old rest
+            result self.new (string_bytes text.old) (string_bytes text.new) }
+    {
+        if let Some(error) = self.fetch_fault(address, n, p) {
+            return Err(error);
+        }
+        let shown = self.show_fetched(p, address, n)?;
         text.push_str(shown.as_str())?;
         Ok(0)
     }

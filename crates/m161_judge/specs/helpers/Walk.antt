@@ -18,7 +18,7 @@ use Rattle.m161_audit.specs.Stale.{IsFinding}
 use Rattle.m161_audit.specs.Watch.{AreGood}
 use Rattle.m161_drive.specs.declared.run.Driven.{Driven}
 use Rattle.m161_drive.specs.declared.run.Stop.TheVariants as drive
-use Rattle.m161_drive.specs.Drive.{Drives}
+use Rattle.m161_drive.specs.Drive.{DrivesState}
 use Rattle.m161_drive.specs.Policy.{Rules}
 use Rattle.m161_judge.specs.declared.run.Run.{Run}
 use Rattle.m161_judge.specs.declared.seen.Seen.{Seen}
@@ -104,30 +104,29 @@ Joins goal s events finding beside judged =
     (IsRefused s events → ⊥) → IsFinding (without_stores s) events goal.watches finding
     → IsJudgedBeside goal s events beside → IsJudged goal s events judged
 
--- a driven run, judged but for a stale use
-pub record IsDrivenRun (rules : Rules) (n : ℕ) (output : Option (List ℕ)) (m : History) (run : Run)
+-- a driven run from a state, judged but for a stale use
+pub record IsDrivenRun (rules : Rules) (n : ℕ) (output : Option (List ℕ)) (s : State) (run : Run)
     : Type 0 where
   pub driven : Driven
-  pub machine : History
-  pub drives : Drives rules n m driven machine
+  pub state : State
+  pub drives : DrivesState rules n s driven run.events.items state
   pub accepted : (refusal : Refusal) → driven.stop ≢ drive.Refused refusal
-  pub events_are : run.events.items ≡ drives.events
-  pub made : IsRefused m.state run.events.items → ⊥
+  pub made : IsRefused s run.events.items → ⊥
   pub beside :
       (watches : List Watch)
-      → IsJudgedBeside (criteria watches output rules) m.state run.events.items run.judged
-  pub cut : run.is_cut ≡ is_cut driven.stop (has_keys rules.keys run.events.items) machine.state
+      → IsJudgedBeside (criteria watches output rules) s run.events.items run.judged
+  pub cut : run.is_cut ≡ is_cut driven.stop (has_keys rules.keys run.events.items) state
 
 -- or memory was refused
 abbrev pub DrivesRun :
-    Rules → ℕ → Option (List ℕ) → History → Result Run AuditError → Type 0
-DrivesRun rules n output m (Ok run) = IsDrivenRun rules n output m run
-DrivesRun rules n output m (Err error) = error ≡ Boot NoMemory
+    Rules → ℕ → Option (List ℕ) → State → Result Run AuditError → Type 0
+DrivesRun rules n output s (Ok run) = IsDrivenRun rules n output s run
+DrivesRun rules n output s (Err error) = error ≡ Boot NoMemory
 
 -- from boot on, by the first reason not to boot
 abbrev pub BootsRun :
     List ℕ → Conf → Option BootError → Rules → ℕ → Option (List ℕ) → Result Run AuditError → Type 0
 BootsRun file conf (Some first) rules n output result = result ≡ Err (Boot first)
 BootsRun file conf None rules n output (Ok run) =
-    (m : History) × IsBooted file conf m × IsDrivenRun rules n output m run
+    (m : History) × IsBooted file conf m × IsDrivenRun rules n output m.state run
 BootsRun file conf None rules n output (Err error) = error ≡ Boot NoMemory

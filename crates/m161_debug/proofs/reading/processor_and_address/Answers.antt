@@ -1,20 +1,15 @@
-use Rattle.std.proofs.Common.{arith, ℕ, decimal}
-use Rattle.m161_text.specs.Parts.{Lacks, IsWord, word_text}
-use Rattle.m161_text.proofs.Decimal.{decimal_lacks_space}
-use Rattle.m161_text.proofs.Parts.{no_cut, no_first, no_second, both}
+use Rattle.m161_debug.specs.Commands.{IsAddress, IsNumber}
+use Rattle.m161_debug.proofs.Parts.{both, no_cut, no_first, no_second, number_lacks}
 use Rattle.m161_debug.proofs.reading.processor_and_address.Goals as goal
 
-one_part : (n : ℕ) → IsWord n → Lacks 32 (decimal n)
-one_part n small = decimal_lacks_space n (omega arith)
-
 pub returns-in_err-p : goal.returns-in_err-p
-returns-in_err-p c = rw c.from_residual.ensures (no_cut IsWord IsWord decimal word_text c.args.text.now c.in_err-p.ensures)
+returns-in_err-p c = rw c.from_residual.ensures (no_cut IsNumber IsAddress c.args.text.now c.in_err-p.ensures)
 
 pub returns-in_err-p-2 : goal.returns-in_err-p-2
-returns-in_err-p-2 c = rw c.from_residual-in_err-p-2.ensures (no_first IsWord IsWord decimal word_text _ _ c.args.text.now one_part c.in_ok-p.ensures c.in_err-p-2.ensures)
+returns-in_err-p-2 c = rw c.from_residual-in_err-p-2.ensures (no_first IsNumber IsAddress number_lacks c.args.text.now _ _ c.in_ok-p.ensures c.in_err-p-2.ensures)
 
-pub returns-in_err-address : goal.returns-in_err-address
-returns-in_err-address c = rw c.from_residual-in_err-address.ensures (no_second IsWord IsWord decimal word_text _ _ c.args.text.now one_part c.in_ok-p.ensures c.in_err-address.ensures)
+pub returns-in_err-at : goal.returns-in_err-at
+returns-in_err-at c = rw c.from_residual-in_err-at.ensures (no_second IsNumber IsAddress number_lacks c.args.text.now _ _ c.in_ok-p.ensures c.in_err-at.ensures)
 
 pub returns : goal.returns
-returns c = both IsWord IsWord decimal word_text _ _ c.args.text.now _ _ one_part c.in_ok-p.ensures c.in_ok-p-2.ensures c.in_ok-address.ensures
+returns c = both IsNumber IsAddress c.args.text.now _ _ _ _ c.in_ok-p.ensures c.in_ok-p-2.ensures c.in_ok-at.ensures

@@ -19,4 +19,4 @@ loop-made-preserved g c =
 pub returns-in-Some : goal.returns-in-Some
 returns-in-Some g c =
     stopped c.args.policy.now c.args.n c.loop-made.made c.in-Some.stop c.args.machine.now c.loop-made.machine c.drive_once.new.machine c.loop-made.cursor (omega arith)
-    c.loop-made.invariant (stops_so c.args.policy.now c.args.n c.loop-made.made c.loop-made.cursor c.loop-made.machine c.in-Some.stop (omega arith) c.in-Some.ensures.0) c.in-Some.ensures.1
+    c.loop-made.invariant (stops_so c.args.policy.now c.args.n c.loop-made.made c.loop-made.cursor c.loop-made.machine.state c.in-Some.stop (omega arith) c.in-Some.ensures.0) c.in-Some.ensures.1

@@ -3,7 +3,7 @@ use Rattle.std.specs.Prelude.{Ok, Err}
 use Rattle.std.proofs.lemmas.Result.{err_from_is_err_and}
 use Rattle.m161_machine.specs.History.{boot_fault}
 use Rattle.m161_judge.specs.Verdict.{Criteria}
-use Rattle.m161_judge.specs.helpers.Walk.{FindsStale}
+use Rattle.m161_judge.specs.helpers.Walk.{FindsStale, Walks}
 use Rattle.m161_judge.proofs.Finding.{made_list, refused_list, unfound, unwalked_booted}
 use Rattle.m161_judge.proofs.list.judge.Goals as goal
 
@@ -26,7 +26,7 @@ returns-in-Refused g c =
     refused_list c.args.file.now c.args.conf (boot_fault c.args.file.now c.args.conf) c.args.events.now c.args.goal.now c.in_ok-machine.machine
     c.in_ok-finding.finding c.in_ok-walk_along.field-0 c.in_ok-machine.ensures.answer
     (subst (λ ws. FindsStale c.args.file.now c.args.conf (boot_fault c.args.file.now c.args.conf) c.args.events.now ws (Ok c.in_ok-finding.finding)) (ap (λ (x : Criteria). x.watches) c.goal.view_is) c.in_ok-finding.ensures.found)
-    c.in_ok-walk_along.ensures c.in-Refused.is
+    (subst (λ s. Walks c.args.goal.now s c.args.events.now (Ok c.in_ok-walk_along.field-0)) c.into_core-core.ensures c.in_ok-walk_along.ensures) c.in-Refused.is
 
 pub first_verdict-requires : goal.first_verdict-requires
 first_verdict-requires g c = c.in_ok-finding.ensures.within
@@ -36,4 +36,4 @@ returns g c =
     made_list c.args.file.now c.args.conf (boot_fault c.args.file.now c.args.conf) c.args.events.now c.args.goal.now c.in_ok-machine.machine
     c.in_ok-finding.finding c.in_ok-walk_along.field-0 c.in-Made.beside c.first_verdict.result c.in_ok-machine.ensures.answer
     (subst (λ ws. FindsStale c.args.file.now c.args.conf (boot_fault c.args.file.now c.args.conf) c.args.events.now ws (Ok c.in_ok-finding.finding)) (ap (λ (x : Criteria). x.watches) c.goal.view_is) c.in_ok-finding.ensures.found)
-    c.in_ok-walk_along.ensures c.in-Made.is (c.first_verdict.ensures c.args.goal.now c.in_ok-machine.machine.state c.args.events.now)
+    (subst (λ s. Walks c.args.goal.now s c.args.events.now (Ok c.in_ok-walk_along.field-0)) c.into_core-core.ensures c.in_ok-walk_along.ensures) c.in-Made.is (c.first_verdict.ensures c.args.goal.now c.in_ok-machine.machine.state c.args.events.now)

@@ -9,7 +9,7 @@ use Rattle.m161_judge.proofs.walk.walk_along.Goals as goal
 pub loop-made-init : goal.loop-made-init
 loop-made-init g c =
     let aim = c.args.goal.now in
-    let s = c.args.machine.now.state in
+    let s = c.args.core.now.state in
     let events = c.args.events.now in
     record {
       leads = (omega arith, refl);
@@ -20,29 +20,29 @@ loop-made-init g c =
 pub loop-made-preserved : goal.loop-made-preserved
 loop-made-preserved g c =
     let aim = c.args.goal.now in
-    let s = c.args.machine.now.state in
+    let s = c.args.core.now.state in
     let events = c.args.events.now in
     let w = c.loop-made.invariant in
-    let t = c.loop-made.machine.state in
+    let t = c.loop-made.core.state in
     let keys = keys_are aim s events c.loop-made.made c.loop-made.left t c.loop-made.seen w in
-    walks_more aim s events c.loop-made.made c.loop-made.left c.left_after-left.result _ t c.make.new.machine.state c.loop-made.seen c.look-seen.result
+    walks_more aim s events c.loop-made.made c.loop-made.left c.left_after-left.result _ t c.make.new.core.state c.loop-made.seen c.look-seen.result
     c.in_ok-make.field-0 (omega arith) w
     (c.look-seen.ensures aim s events (sym (ap (λ (x : Criteria). x.output) c.goal.view_is)) keys w.leads w.looked)
     c.in_ok-make.ensures c.if-not-branch.false c.left_after-left.ensures
 
 pub returns-then-not-branch : goal.returns-then-not-branch
 returns-then-not-branch g c =
-    walks_refused c.args.goal.now c.args.machine.now.state c.args.events.now c.loop-made.made c.loop-made.left _ c.loop-made.machine.state
-    c.make.new.machine.state c.loop-made.seen c.in_ok-make.field-0 (omega arith) c.loop-made.invariant (sym c.is_off.ensures ∙ c.if-is_off.false)
+    walks_refused c.args.goal.now c.args.core.now.state c.args.events.now c.loop-made.made c.loop-made.left _ c.loop-made.core.state
+    c.make.new.core.state c.loop-made.seen c.in_ok-make.field-0 (omega arith) c.loop-made.invariant (sym c.is_off.ensures ∙ c.if-is_off.false)
     c.in_ok-make.ensures c.if-not-branch.true
 
 pub returns-then-is_off : goal.returns-then-is_off
 returns-then-is_off g c =
     let aim = c.args.goal.now in
-    let s = c.args.machine.now.state in
+    let s = c.args.core.now.state in
     let events = c.args.events.now in
     let w = c.loop-made.invariant in
-    let t = c.loop-made.machine.state in
+    let t = c.loop-made.core.state in
     let out = sym (ap (λ (x : Criteria). x.output) c.goal.view_is) in
     let keys = keys_are aim s events c.loop-made.made c.loop-made.left t c.loop-made.seen w in
     let ends = ends_off s events c.loop-made.made t w.leads (sym c.is_off.ensures ∙ c.if-is_off.true) in
@@ -51,9 +51,9 @@ returns-then-is_off g c =
 pub returns : goal.returns
 returns g c =
     let aim = c.args.goal.now in
-    let s = c.args.machine.now.state in
+    let s = c.args.core.now.state in
     let events = c.args.events.now in
-    let t = c.loop-made.machine.state in
+    let t = c.loop-made.core.state in
     let all : c.loop-made.made ≡ length events = omega arith in
     let w : Walking aim s events (length events) c.loop-made.left t c.loop-made.seen =
     subst (λ n. Walking aim s events n c.loop-made.left t c.loop-made.seen) all c.loop-made.invariant in

@@ -3,4 +3,4 @@ use Rattle.m161_judge.proofs.walk.walk_along.Given as goal
 
 -- the events so far are made, and the states before this one were looked at
 abbrev pub invariant-loop-made : goal.invariant-loop-made
-invariant-loop-made g l = Walking l.goal l.fn.machine.state l.events l.made l.left l.machine.state l.seen
+invariant-loop-made g l = Walking l.goal l.fn.core.state l.events l.made l.left l.core.state l.seen

@@ -1,0 +1,10 @@
+use Rattle.std.proofs.Common.{◌≡◌, None, rules, subst}
+use Rattle.m161_debug.specs.Commands.{AreParts, IsAddress, IsNumber}
+use Rattle.m161_debug.specs.helpers.Reading.{Finds}
+use Rattle.m161_debug.proofs.Asked.{no_code}
+use Rattle.m161_debug.proofs.command.code_of.Goals as goal
+
+pub returns-in-None : goal.returns-in-None
+returns-in-None c =
+    let none : c.address_and_count.result ≡ None = search rules in
+    no_code c.args.arguments.now (subst (λ r. Finds (AreParts IsAddress IsNumber) c.args.arguments.now r) none c.address_and_count.ensures) c.in-None.ensures

@@ -1,0 +1,16 @@
+use Rattle.std.proofs.Common.{◌≡◌, take, drop}
+use Rattle.m161_machine.specs.History.{Continues}
+use Rattle.m161_debug.specs.Conditions.{holds_if}
+use Rattle.m161_debug.specs.Stops.{wait_from}
+use Rattle.m161_debug.specs.helpers.Batch.{events_in}
+use Rattle.m161_debug.proofs.session.Session.run.Given as goal
+
+abbrev pub invariant-loop-k : goal.invariant-loop-k
+invariant-loop-k g l =
+    let awaited = holds_if l.fn.condition l.initial.self.machine.state in
+    record {
+      made : Continues l.initial.self.machine (take l.k (events_in l.events)) l.self.machine;
+      no_stop : wait_from awaited l.initial.self.breakpoints 0 l.initial.self.machine.state (events_in l.events)
+          ≡ wait_from awaited l.initial.self.breakpoints l.k l.self.machine.state (drop l.k (events_in l.events));
+      same : l.self.breakpoints ≡ l.initial.self.breakpoints;
+    }

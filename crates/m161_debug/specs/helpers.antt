@@ -1,0 +1,5 @@
+-- Definitions that only contracts of private functions, or proofs, use.
+pub mod Batch
+pub mod Marks
+pub mod Reading
+pub mod Repeat

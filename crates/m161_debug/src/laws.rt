@@ -1,0 +1,9 @@
+//! Laws of the definitions. The functions do nothing: their contracts are the laws.
+
+ghost use Rattle.m161_debug.specs.Stops.{WaitsForNothing};
+
+/// The law that one definition says where runs stop: a run that waits for nothing stops where one
+/// does that waits for what never holds.
+pub fn waits_for_nothing()
+    ensures { WaitsForNothing }
+{}

@@ -1,0 +1,78 @@
+//! Where the processors are.
+
+ghost use Rattle.std.specs.Prelude.{◌≡◌, ◌++◌, ◌<◌, length, decimal, string_bytes, IfOk, OnOk};
+ghost use Rattle.m161_machine.specs.State.{processor_at};
+ghost use Rattle.m161_display.specs.Shows.{is_started, show_where_text, state_text, where_line, where_text};
+ghost use Rattle.m161_text.specs.Lines.{with_line_end};
+ghost use Rattle.m161_text.specs.Parts.{◌␣◌};
+
+use crate::fetched::write_fetched;
+use crate::regs::ShownState;
+use m161_bus::Console;
+use m161_machine::{BoardWord, Machine};
+use m161_tlb::Tlb;
+use std::alloc::{AllocError, Global};
+use std::fmt::Write;
+
+/// Where each started processor is, one a line: its number, what it is doing, its address, and the
+/// word and the text of the instruction that it would fetch there. If it can't fetch there, `-`
+/// stands in the place of these two.
+///
+/// # Errors
+/// Memory was refused.
+#[tactic(auto, unfolding(crate::specs::Shows::show_where_text))]
+pub fn show_where<T: Tlb, D: Console>(
+    alloc: Global,
+    machine: &Machine<T, D>,
+) -> Result<String, AllocError>
+    ensures { IfOk result (λ text. string_bytes text ≡ show_where_text machine.now.state) }
+{
+    let mut text = String::new(alloc);
+    for p in 0..machine.processors() {
+        write_if_started(alloc, &mut text, machine, p)?;
+    }
+    Ok(text)
+}
+
+// The line of a processor, if it was started.
+fn write_if_started<T: Tlb, D: Console>(
+    alloc: Global,
+    text: &mut String,
+    machine: &Machine<T, D>,
+    p: u32,
+) -> Result<(), AllocError>
+    requires { p < length machine.now.state.processors }
+    ensures { OnOk result (string_bytes text.new ≡ string_bytes text.old
+        ++ where_text machine.now.state p) }
+{
+    if is_started(machine, p) {
+        write_place(alloc, text, machine, p)
+    } else {
+        Ok(())
+    }
+}
+
+// Whether a processor's bit of CPUE is set.
+fn is_started<T: Tlb, D: Console>(machine: &Machine<T, D>, p: u32) -> bool
+    requires { p < length machine.now.state.processors }
+    ensures { result ≡ is_started machine.now.state p }
+{
+    // So that the proof knows how many processors there are at most.
+    machine.replay();
+    (machine.board_word(BoardWord::Cpue) >> p) % 2 == 1
+}
+
+// The line of a started processor.
+fn write_place<T: Tlb, D: Console>(
+    alloc: Global,
+    text: &mut String,
+    machine: &Machine<T, D>,
+    p: u32,
+) -> Result<(), AllocError>
+    requires { p < length machine.now.state.processors }
+    ensures { OnOk result (string_bytes text.new ≡ string_bytes text.old
+        ++ with_line_end (where_line machine.now.state p)) }
+{
+    write!(text, "{p} {} ", ShownState(machine.state(p)))?;
+    write_fetched(alloc, text, machine, p, machine.pc(p))
+}

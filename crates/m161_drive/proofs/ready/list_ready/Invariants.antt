@@ -1,0 +1,15 @@
+use Rattle.std.proofs.Common.{◌≡◌, ◌++◌, ◌-◌, ◌≤◌, take, length}
+use Rattle.std.specs.Prelude.{filter}
+use Rattle.std.specs.List.{range_with_len}
+use Rattle.m161_drive.specs.Ready.{is_ready, ready}
+use Rattle.m161_drive.proofs.ready.list_ready.Given as goal
+
+-- those so far and those of the rest are all
+abbrev pub invariant-loop-p : goal.invariant-loop-p
+invariant-loop-p g l = record {
+  long : length l.places ≡ 32;
+  few : l.count ≤ l.p;
+  all :
+      take l.count l.places ++ filter (is_ready (g.V.View.state l.machine)) (range_with_len l.p (length (g.V.View.state l.machine).processors - l.p))
+      ≡ ready (g.V.View.state l.machine);
+}

@@ -1,0 +1,48 @@
+//! The state from which many runs begin.
+
+ghost use Rattle.std.specs.Prelude.{◌≡◌, IfOk};
+ghost use Rattle.m161_machine.specs.History.{boot_fault};
+ghost use Rattle.m161_judge.specs.Run.{BootsState};
+
+use m161_audit::AuditError;
+use m161_bus::Console;
+use m161_machine::{Conf, Core, Machine};
+use m161_tlb::Tlb;
+use std::alloc::{AllocError, Global};
+use std::marker::Model;
+
+/// The state of a machine that was just booted, from which the runs of many policies begin.
+#[derive(Drop)]
+pub struct Booted<T: Tlb, D: Console> {
+    core: Core<T, D>,
+}
+
+impl<T: Tlb, D: Console> Model for Booted<T, D> {
+    ghost use Rattle.m161_machine.specs.State.{State};
+
+    ghost Value = { State };
+
+    ghost view = { λ b. b.core.state };
+}
+
+impl<T: Tlb, D: Console> Booted<T, D> {
+    /// The state of a machine that is booted from a file.
+    ///
+    /// # Errors
+    /// The machine can't be booted, or memory was refused.
+    pub fn new(alloc: Global, file: &[u8], conf: Conf) -> Result<Booted<T, D>, AuditError>
+        ensures { BootsState file.now conf (boot_fault file.now conf) result }
+    {
+        let machine: Machine<T, D> = Machine::boot(alloc, file, conf)?;
+        Ok(Booted {
+            core: machine.into_core(),
+        })
+    }
+
+    /// The same state again, to go on from.
+    pub(crate) fn copy_core(&self, alloc: Global) -> Result<Core<T, D>, AllocError>
+        ensures { IfOk result (λ core. core.state ≡ self.now) }
+    {
+        self.core.copy(alloc)
+    }
+}

@@ -1,0 +1,13 @@
+//! Names of addresses, from the symbols of an ELF file.
+//!
+//! A place is written `<name>` if it is the address of a symbol, or else `<name+N>`, N being how far
+//! behind the nearest symbol below it is, in lower case hexadecimal without leading zeros. The form
+//! is that of binutils.
+#![tactic(auto)]
+
+mod named;
+mod names;
+mod place;
+
+pub use names::Symbols;
+pub use place::push_place;
