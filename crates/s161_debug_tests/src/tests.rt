@@ -18,11 +18,18 @@ use std::test::Fail;
 use streams::{Files, Memory};
 
 /// A loop: `addiu $8, $8, 1`, `beq $0, $0, 0x80000200`, `nop`.
-pub(crate) static LOOP: [u32; 3] = [0x2508_0001, 0x1000_fffe, 0x0000_0000];
+pub(crate) const LOOP: [u32; 3] = [0x2508_0001, 0x1000_fffe, 0x0000_0000];
 
 /// A machine of one processor, whose size isn't given.
 pub(crate) const ANY: AskedSize = AskedSize {
     ram: None,
+    processors: None,
+    log: 1000,
+};
+
+/// A small machine of one processor.
+pub(crate) const SMALL: AskedSize = AskedSize {
+    ram: Some(4096),
     processors: None,
     log: 1000,
 };
@@ -43,8 +50,8 @@ pub(crate) fn task_of<'a>(size: AskedSize) -> DebugTask<'a> {
 }
 
 /// The line of a fault; nothing where there is none.
-pub(crate) fn line_of(alloc: Global, result: Result<(), Fault<'_>>) -> Result<String, AllocError> {
-    match result {
+pub(crate) fn line_of(alloc: Global, ended: Result<(), Fault<'_>>) -> Result<String, AllocError> {
+    match ended {
         Ok(()) => Ok(String::new(alloc)),
         Err(fault) => format!(in alloc; "{fault}"),
     }
@@ -72,7 +79,13 @@ pub(crate) fn check(rt: &(impl Abort + AllocGlobal), cases: &[Case]) -> Result<(
         let mut input = case.input;
         let mut output = Memory::new(rt.alloc(), usize::MAX);
         let task = task_of(case.size);
-        let result = s161_debug::debug::debug(rt.alloc(), &mut files, &mut input, &mut output, task);
+        let result = s161_debug::debug::debug(
+            rt.alloc(),
+            &mut files,
+            &mut input,
+            &mut output,
+            task,
+        );
         let line = line_of(rt.alloc(), result)?;
         same(rt, (case.text, line.as_str()), (case.text, case.fault));
         same(rt, output.flushed(), (case.output, 0));

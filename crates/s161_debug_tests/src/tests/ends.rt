@@ -1,7 +1,7 @@
 //! How a session ends, and what is read and written by then.
 
 use super::streams::{Broken, Files, Memory, Slow};
-use super::{ANY, LOOP, line_of, same, task_of};
+use super::{LOOP, SMALL, line_of, same, task_of};
 use m161_test_support::files::file_at;
 use m161_test_support::outcomes::ENTRY;
 use s161_debug::debug::debug;
@@ -25,7 +25,13 @@ fn a_reader_that_gives_a_byte_at_a_time(rt: HostRuntime) -> Result<(), Fail> {
     };
     let mut input = Slow::new(LINES);
     let mut output = Memory::new(rt.alloc(), usize::MAX);
-    let result = debug(rt.alloc(), &mut files, &mut input, &mut output, task_of(ANY));
+    let result = debug(
+        rt.alloc(),
+        &mut files,
+        &mut input,
+        &mut output,
+        task_of(SMALL),
+    );
     same(&rt, line_of(rt.alloc(), result)?.as_str(), "");
     same(&rt, output.flushed(), (ANSWERS, 0));
     Ok(())
@@ -55,9 +61,19 @@ fn answers_before_the_next_line(rt: HostRuntime) -> Result<(), Fail> {
             rest: LINES.get(..bytes).unwrap_or(b""),
         };
         let mut output = Memory::new(rt.alloc(), usize::MAX);
-        let result = debug(rt.alloc(), &mut files, &mut input, &mut output, task_of(ANY));
+        let result = debug(
+            rt.alloc(),
+            &mut files,
+            &mut input,
+            &mut output,
+            task_of(SMALL),
+        );
         let line = line_of(rt.alloc(), result)?;
-        same(&rt, line.as_str(), "s161: input (standard input can't be read)");
+        same(
+            &rt,
+            line.as_str(),
+            "s161: input (standard input can't be read)",
+        );
         same(&rt, (bytes, output.flushed()), (bytes, (expected, 0)));
     }
     Ok(())
@@ -80,7 +96,13 @@ fn nothing_is_read_behind_quit(rt: HostRuntime) -> Result<(), Fail> {
         };
         let mut input = lines;
         let mut output = Memory::new(rt.alloc(), usize::MAX);
-        let result = debug(rt.alloc(), &mut files, &mut input, &mut output, task_of(ANY));
+        let result = debug(
+            rt.alloc(),
+            &mut files,
+            &mut input,
+            &mut output,
+            task_of(SMALL),
+        );
         same(&rt, line_of(rt.alloc(), result)?.as_str(), "");
         same(&rt, (input.len(), output.flushed()), (left, (expected, 0)));
     }
@@ -104,9 +126,19 @@ fn lines_that_are_not_utf_8(rt: HostRuntime) -> Result<(), Fail> {
         };
         let mut input = lines;
         let mut output = Memory::new(rt.alloc(), usize::MAX);
-        let result = debug(rt.alloc(), &mut files, &mut input, &mut output, task_of(ANY));
+        let result = debug(
+            rt.alloc(),
+            &mut files,
+            &mut input,
+            &mut output,
+            task_of(SMALL),
+        );
         let line = line_of(rt.alloc(), result)?;
-        same(&rt, line.as_str(), "s161: input (standard input isn't UTF-8)");
+        same(
+            &rt,
+            line.as_str(),
+            "s161: input (standard input isn't UTF-8)",
+        );
         same(&rt, (input.len(), output.flushed()), (left, (expected, 0)));
     }
     Ok(())
@@ -123,7 +155,13 @@ fn an_output_that_fails_at_each_byte(rt: HostRuntime) -> Result<(), Fail> {
         };
         let mut input = LINES;
         let mut output = Memory::new(rt.alloc(), room);
-        let result = debug(rt.alloc(), &mut files, &mut input, &mut output, task_of(ANY));
+        let result = debug(
+            rt.alloc(),
+            &mut files,
+            &mut input,
+            &mut output,
+            task_of(SMALL),
+        );
         let line = line_of(rt.alloc(), result)?;
         same(&rt, line.as_str(), "s161: output");
         same(&rt, output.match_text(ANSWERS), (room, true));

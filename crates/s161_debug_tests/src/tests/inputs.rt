@@ -2,7 +2,7 @@
 //! hashlib.
 
 use super::streams::{Files, Memory};
-use super::{ANY, Case, LOOP, check, line_of, same};
+use super::{ANY, Case, LOOP, SMALL, check, line_of, same};
 use m161_test_support::files::file_at;
 use m161_test_support::outcomes::ENTRY;
 use s161_command::{AskedSize, DebugTask, Drive, Order, Registers, Source};
@@ -12,11 +12,10 @@ use std::process::Abort;
 use std::test::Fail;
 
 /// Another loop.
-static OTHER: [u32; 2] = [0x1000_ffff, 0x0000_0000];
+const OTHER: [u32; 2] = [0x1000_ffff, 0x0000_0000];
 
 /// A log of two processors of the loop; its outcomes are others than its run's.
-const LOG: &str =
-    "# machine 8192 2 58d9ef0d357663a3a2d0e7bfb5d3ccb032f21fecb706ec5e639781daed5a74dc
+const LOG: &str = "# machine 8192 2 58d9ef0d357663a3a2d0e7bfb5d3ccb032f21fecb706ec5e639781daed5a74dc
 # a comment
 m161 log 1
 s 0 idle
@@ -140,7 +139,7 @@ static SCHEDULES: [Case; 6] = [
     Case {
         words: &LOOP,
         text: "# one\n\n# m161 log 1\ns 0 2\n# three\no\ns 0",
-        size: ANY,
+        size: SMALL,
         input: b"g\ng\ng\n",
         output: "refused 2 5 NothingSent\nend 1\nend 0\n",
         fault: "",
@@ -149,7 +148,7 @@ static SCHEDULES: [Case; 6] = [
         words: &LOOP,
         text: "# machine 8192 2 58d9ef0d357663a3a2d0e7bfb5d3ccb032f21fecb706ec5e639781daed5a74dc\n\
             # m161 log 1\n",
-        size: ANY,
+        size: SMALL,
         input: b"g\nb 1 80000200\n",
         output: "end 0\n? BadProcessor\n",
         fault: "",
@@ -157,7 +156,7 @@ static SCHEDULES: [Case; 6] = [
     Case {
         words: &LOOP,
         text: "",
-        size: ANY,
+        size: SMALL,
         input: b"g\n",
         output: "end 0\n",
         fault: "",
@@ -166,7 +165,7 @@ static SCHEDULES: [Case; 6] = [
     Case {
         words: &LOOP,
         text: "\nm161 log 1\n",
-        size: ANY,
+        size: SMALL,
         input: b"g\n",
         output: "",
         fault: "s161: schedule line 2 (a line is s P, s P N, k HH, o, blank or # ..)",
@@ -174,7 +173,7 @@ static SCHEDULES: [Case; 6] = [
     Case {
         words: &LOOP,
         text: "# a comment\nm161log 1\n",
-        size: ANY,
+        size: SMALL,
         input: b"g\n",
         output: "",
         fault: "s161: schedule line 2 (a line is s P, s P N, k HH, o, blank or # ..)",
@@ -184,7 +183,7 @@ static SCHEDULES: [Case; 6] = [
         words: &LOOP,
         text: "s 0\ns 0 0\n",
         size: AskedSize {
-            ram: None,
+            ram: Some(4096),
             processors: Some(0),
             log: 1000,
         },
@@ -245,11 +244,17 @@ fn driven_runs(rt: HostRuntime) -> Result<(), Fail> {
     check_driven(&rt, DRIVE, two, lines, (shown, ""))?;
     // the session's log may be shorter than the driven run
     let short = AskedSize {
-        ram: None,
+        ram: Some(4096),
         processors: None,
         log: 1,
     };
-    check_driven(&rt, DRIVE, short, b"g\nl 5\nj 5\n", ("end 5\ns 0 ran\n? Dropped\n", ""))?;
+    check_driven(
+        &rt,
+        DRIVE,
+        short,
+        b"g\nl 5\nj 5\n",
+        ("end 5\ns 0 ran\n? Dropped\n", ""),
+    )?;
     let none = Drive {
         keys: Some("none"),
         ..DRIVE
@@ -257,11 +262,12 @@ fn driven_runs(rt: HostRuntime) -> Result<(), Fail> {
     let line = "s161: file none (the file can't be read)";
     check_driven(&rt, none, two, b"g\n", ("", line))?;
     let no_log = AskedSize {
-        ram: None,
+        ram: Some(4096),
         processors: None,
         log: 0,
     };
-    let line = "s161: conf (RAM has 1 to 4096 pages of 4096 bytes, there are 1 to 32 processors, and a log has 1 to 16777216 entries)";
+    let line =
+        "s161: conf (RAM has 1 to 4096 pages of 4096 bytes, there are 1 to 32 processors, and a log has 1 to 16777216 entries)";
     check_driven(&rt, DRIVE, no_log, b"g\n", ("", line))
 }
 
@@ -279,10 +285,30 @@ fn schedules(rt: HostRuntime) -> Result<(), Fail> {
 fn files_that_are_not_read(rt: HostRuntime) -> Result<(), Fail> {
     let image = file_at(rt.alloc(), ENTRY, &LOOP)?;
     let cases: [(&str, &str, &[u8], &str); 4] = [
-        ("none", "other", b"", "s161: file none (the file can't be read)"),
-        ("image", "none", b"", "s161: file none (the file can't be read)"),
-        ("image", "text", b"\xff\n", "s161: file text (the file isn't UTF-8)"),
-        ("text", "text", b"s 0\n", "s161: image 1 Truncated (the file is shorter than an ELF header)"),
+        (
+            "none",
+            "other",
+            b"",
+            "s161: file none (the file can't be read)",
+        ),
+        (
+            "image",
+            "none",
+            b"",
+            "s161: file none (the file can't be read)",
+        ),
+        (
+            "image",
+            "text",
+            b"\xff\n",
+            "s161: file text (the file isn't UTF-8)",
+        ),
+        (
+            "text",
+            "text",
+            b"s 0\n",
+            "s161: image 1 Truncated (the file is shorter than an ELF header)",
+        ),
     ];
     for (image_name, name, text, expected) in cases {
         let mut files = Files {
@@ -293,7 +319,7 @@ fn files_that_are_not_read(rt: HostRuntime) -> Result<(), Fail> {
         let task = DebugTask {
             image: image_name,
             source: Source::File(name),
-            size: ANY,
+            size: SMALL,
             registers: Registers::Numbered,
         };
         let mut input: &[u8] = b"g\n";

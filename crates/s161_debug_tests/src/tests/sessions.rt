@@ -1,11 +1,11 @@
 //! Lines of a session, and what they print.
 
-use super::{ANY, Case, LOOP, check};
+use super::{Case, LOOP, SMALL, check};
 use s161_command::AskedSize;
 use std::test::Fail;
 
 /// A byte for the console, `lui $8, 0xbfe0`, `sw $8, 0($8)`, and the loop.
-static SENDER: [u32; 5] = [
+const SENDER: [u32; 5] = [
     0x3c08_bfe0,
     0xad08_0000,
     0x2508_0001,
@@ -43,7 +43,7 @@ static LINES: [Case; 4] = [
     Case {
         words: &LOOP,
         text: "s 0 7\n",
-        size: ANY,
+        size: SMALL,
         input: b"b 0 80000200\ng\ng 2\nz\nr 1\ng x\ng\ng\ng\n",
         output: "break 0 80000200\nbreak 3\nend 2\n? Unknown\n? BadProcessor\n? BadArgument\n\
             break 1\nend 1\nend 0\n",
@@ -53,7 +53,7 @@ static LINES: [Case; 4] = [
     Case {
         words: &LOOP,
         text: "s 0 7\n",
-        size: ANY,
+        size: SMALL,
         input: b"\n# g\n#\n\ng 2\n #\n\r\ng 1\r\nquit \nQUIT\nhelp me\n?\ng",
         output: "end 2\n? Unknown\n? Unknown\n? BadArgument\n? Unknown\n? Unknown\n? Unknown\n\
             ? Unknown\nend 5\n",
@@ -63,7 +63,7 @@ static LINES: [Case; 4] = [
     Case {
         words: &LOOP,
         text: "s 0 7\n",
-        size: ANY,
+        size: SMALL,
         input: b"",
         output: "",
         fault: "",
@@ -71,7 +71,7 @@ static LINES: [Case; 4] = [
     Case {
         words: &LOOP,
         text: "s 0 7\n",
-        size: ANY,
+        size: SMALL,
         input: b"help\n",
         output: HELP,
         fault: "",
@@ -80,7 +80,7 @@ static LINES: [Case; 4] = [
 
 /// Keeps one entry.
 const SHORT: AskedSize = AskedSize {
-    ram: None,
+    ram: Some(4096),
     processors: None,
     log: 1,
 };
@@ -90,7 +90,7 @@ static JUMPS: [Case; 6] = [
     Case {
         words: &LOOP,
         text: "s 0 7\n",
-        size: ANY,
+        size: SMALL,
         input: b"g 3\nj 1\ng\nj 0\ns 0\ng 1\nj 3\nj 2\ng\nj 8\nj 9\ng\n",
         output: "end 3\nat 1\nend 6\nat 0\ns 0 ran\nend 1\n? BadArgument\nat 2\nend 6\nat 8\n\
             ? BadArgument\nend 0\n",
@@ -100,7 +100,7 @@ static JUMPS: [Case; 6] = [
     Case {
         words: &LOOP,
         text: "s 0 7\n",
-        size: ANY,
+        size: SMALL,
         input: b"g 3\nj\nj \nj 01\nj +1\nj 1 \nj  1\nj 1 1\nj -1\nj 18446744073709551616\n\
             j 18446744073709551615\njump\nj1\ng\n",
         output: "end 3\n? BadArgument\n? BadArgument\n? BadArgument\n? BadArgument\n\
@@ -112,7 +112,7 @@ static JUMPS: [Case; 6] = [
     Case {
         words: &LOOP,
         text: "s 0 7\n",
-        size: ANY,
+        size: SMALL,
         input: b"b 0 80000200\ng\nj 1\ng\nj 0\nd 0 80000200\ng\n",
         output: "break 0 80000200\nbreak 3\nat 1\nbreak 2\nat 0\ndeleted\nend 7\n",
         fault: "",
@@ -121,7 +121,7 @@ static JUMPS: [Case; 6] = [
     Case {
         words: &SENDER,
         text: "s 0 2\no\nk 41\ns 0\n",
-        size: ANY,
+        size: SMALL,
         input: b"g 4\nl 4\nj 2\no\ng\nj 1\ng 2\nl 2\nj 0\ng\n",
         output: "end 4\ns 0 ran\ns 0 ran\no taken\nk 41 taken\nat 2\no taken\n\
             refused 0 5 NothingSent\nat 1\nend 2\ns 0 ran\no taken\nat 0\nend 5\n",
@@ -131,7 +131,7 @@ static JUMPS: [Case; 6] = [
     Case {
         words: &LOOP,
         text: "s 0 7\n",
-        size: ANY,
+        size: SMALL,
         input: b"g\nj 4\nx 80000200 1\nb 0 80000204\ng 2\ns 0\nl 1\n",
         output: "end 7\nat 4\n80000200 25080001 addiu $8, $8, 1\nbreak 0 80000204\nend 2\n\
             s 0 ran\ns 0 ran\n",
