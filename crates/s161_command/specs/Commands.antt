@@ -157,10 +157,8 @@ optional_file_rule name = record (new_rule name) { value_names = 1 }
 -- the arguments of `debug`, without those of a driven run: an image, a file and options
 abbrev pub plain_debug_line : App
 plain_debug_line =
-    with_rule
-    (with_asked_size_rules (codes "1048576")
-    (with_rule (on_image (codes "debug")) (optional_file_rule (codes "file"))))
-    (flag_rule (codes "names"))
+    with_asked_size_rules (codes "1048576")
+    (with_rule (on_image (codes "debug")) (optional_file_rule (codes "file")))
 
 -- the arguments of `debug`; its list of events has at most 16,777,216
 abbrev pub debug_line : App
@@ -316,7 +314,6 @@ pub record AsksDebug (rows : List Row) (task : DebugTask) : Type 0 where
   pub image : task.image.now ≡ given_of (codes "image") rows
   pub source : IsSource rows task.source
   pub size : IsAskedSize 1_048_576 rows task.size
-  pub registers : task.registers ≡ registers_of rows
 
 -- `dis` asks for this
 pub record AsksListing (rows : List Row) (task : ListingTask) : Type 0 where

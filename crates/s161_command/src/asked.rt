@@ -252,7 +252,6 @@ fn task_of_debug<'a>(given: &ArgMatches<'a>) -> Result<DebugTask<'a>, Clash>
         image: file_given(given, "image"),
         source,
         size: asked_size_given(given, 1_048_576),
-        registers: registers_given(given),
     })
 }
 

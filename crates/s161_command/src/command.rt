@@ -293,7 +293,7 @@ fn plain_debug_definition<'a>(alloc: Global) -> Result<Command<'a>, AllocError>
     let debug = debug
         .arg(file_argument(alloc, "image", "IMAGE", IMAGE_HELP))?
         .arg(optional_file(alloc, "file", "FILE", file_help))?;
-    with_asked_size(alloc, debug, "1048576")?.arg(flag_option(alloc, "names", NAMES_HELP))
+    with_asked_size(alloc, debug, "1048576")
 }
 
 // The definition of `debug`.

@@ -172,8 +172,6 @@ pub struct DebugTask<'a> {
     pub source: Source<'a>,
     /// The machine's size.
     pub size: AskedSize,
-    /// How registers are shown.
-    pub registers: Registers,
 }
 
 /// The arguments of `dis`.

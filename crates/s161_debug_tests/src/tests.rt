@@ -10,7 +10,7 @@ mod streams;
 use m161_test_support::files::file_at;
 use m161_test_support::outcomes::ENTRY;
 use s161_base::fault::Fault;
-use s161_command::{AskedSize, DebugTask, Registers, Source};
+use s161_command::{AskedSize, DebugTask, Source};
 use std::alloc::{AllocError, AllocGlobal, Global};
 use std::fmt::Debug;
 use std::process::Abort;
@@ -45,7 +45,6 @@ pub(crate) fn task_of<'a>(size: AskedSize) -> DebugTask<'a> {
         image: "image",
         source: Source::File("text"),
         size,
-        registers: Registers::Numbered,
     }
 }
 

@@ -5,7 +5,7 @@ use super::streams::{Files, Memory};
 use super::{ANY, Case, LOOP, SMALL, check, line_of, same};
 use m161_test_support::files::file_at;
 use m161_test_support::outcomes::ENTRY;
-use s161_command::{AskedSize, DebugTask, Drive, Order, Registers, Source};
+use s161_command::{AskedSize, DebugTask, Drive, Order, Source};
 use s161_debug::debug::debug;
 use std::alloc::AllocGlobal;
 use std::process::Abort;
@@ -220,7 +220,6 @@ fn check_driven(
         image: "image",
         source: Source::Driven(drive),
         size,
-        registers: Registers::Numbered,
     };
     let mut input = lines;
     let mut output = Memory::new(rt.alloc(), usize::MAX);
@@ -320,7 +319,6 @@ fn files_that_are_not_read(rt: HostRuntime) -> Result<(), Fail> {
             image: image_name,
             source: Source::File(name),
             size: SMALL,
-            registers: Registers::Numbered,
         };
         let mut input: &[u8] = b"g\n";
         let mut output = Memory::new(rt.alloc(), usize::MAX);
