@@ -69,8 +69,18 @@ fn passed_events(rt: HostRuntime) -> Result<(), Fail> {
     pass_one(&mut machine, &mut tracer, Step(0))?;
     pass_one(&mut machine, &mut tracer, Step(0))?;
     let mut text = String::new(rt.alloc());
-    trace_one(&mut machine, &mut tracer, Step(0), Naming::Numbers, &mut text)?;
-    same(&rt, text.as_str(), "2 0 80000208 2409ffff addiu $9, $0, -1  r9=ffffffff\n");
+    trace_one(
+        &mut machine,
+        &mut tracer,
+        Step(0),
+        Naming::Numbers,
+        &mut text,
+    )?;
+    same(
+        &rt,
+        text.as_str(),
+        "2 0 80000208 2409ffff addiu $9, $0, -1  r9=ffffffff\n",
+    );
     same(&rt, tracer.state().made(), machine.made());
     Ok(())
 }

@@ -55,7 +55,7 @@ static USER: Run = Run {
     words: &[
         0x3408_0002, // ori $8, $0, 0x0002
         0x4088_6000, // mtc0 $8, $12
-        0,           // nop
+        0, // nop
     ],
     processors: 1,
     events: &[(Step(0), 3)],

@@ -21,11 +21,7 @@ pub(crate) struct Run {
 
 /// A machine of this size with a file, and its tracer.
 #[inline(never)]
-pub(crate) fn booted(
-    rt: &impl AllocGlobal,
-    file: &[u8],
-    processors: u32,
-) -> Result<Machine, Fail> {
+pub(crate) fn booted(rt: &impl AllocGlobal, file: &[u8], processors: u32) -> Result<Machine, Fail> {
     let conf = Conf {
         ram: 1_048_576,
         processors,
@@ -103,5 +99,11 @@ pub(crate) fn traced(
 /// The lines of a run.
 pub(crate) fn lines_of(rt: &impl AllocGlobal, run: &Run) -> Result<String, Fail> {
     let file = file_from(rt.alloc(), ENTRY, ENTRY, run.words)?;
-    traced(rt, file.as_slice(), run.processors, run.events, Naming::Numbers)
+    traced(
+        rt,
+        file.as_slice(),
+        run.processors,
+        run.events,
+        Naming::Numbers,
+    )
 }
