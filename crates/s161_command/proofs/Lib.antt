@@ -1,4 +1,3 @@
 mod Accepting
 mod Reading
 mod Defining
-pub mod Undriven

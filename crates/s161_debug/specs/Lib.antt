@@ -1,5 +1,1 @@
 pub mod Debugs
-pub mod Helps
-pub mod Lines
-pub mod Sessions
-pub mod helpers

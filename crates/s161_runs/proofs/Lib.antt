@@ -1,4 +1,4 @@
 mod Failing
-pub mod Making
+mod Making
 mod Replaying
 mod Shown

@@ -2,13 +2,7 @@
 //! of a command line.
 #![tactic(auto)]
 
-mod going;
-mod output;
-mod printing;
-mod refusing;
 pub mod work;
-
-pub use output::report;
 
 pub use s161_audit::{audit, watches};
 pub use s161_base::{fault, files, finished, input, sample, texts};
@@ -19,4 +13,3 @@ pub use s161_runs::{demo, events, replay, run, summary};
 pub use s161_search::search;
 pub use s161_texts::{assembly, disassembly};
 pub use s161_threads::threaded;
-pub use s161_trace::trace;

@@ -1,4 +1,0 @@
-mod Printing
-mod Scheduling
-mod Driving
-mod Finishing
