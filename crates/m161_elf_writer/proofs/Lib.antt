@@ -1,5 +1,7 @@
 pub mod ReadBack
+pub mod LabelTable
 mod Rows
 pub mod Views
-mod WrittenFaults
+pub mod LabelsLoad
+pub mod WrittenFaults
 pub mod WrittenLaw
