@@ -39,6 +39,7 @@
 mod board;
 mod console;
 mod irq;
+mod laws;
 mod lines;
 mod place;
 mod register;
@@ -46,4 +47,5 @@ mod register;
 pub use board::{Board, BusFault, StartWords};
 pub use console::{Console, ConsoleRegister, DoneError, KeyFull};
 pub use irq::IrqBits;
+pub use laws::board_keeps;
 pub use register::BoardWord;

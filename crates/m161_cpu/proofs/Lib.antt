@@ -8,3 +8,6 @@ pub mod Laws
 pub mod Awake
 mod Used
 mod Told
+mod EffectKept
+pub mod Keeping
+pub mod NearKept

@@ -9,4 +9,5 @@ pub mod Fetch
 pub mod Resting
 pub mod Uses
 pub mod UsesLaw
+pub mod Kept
 pub mod helpers

@@ -3,3 +3,4 @@ pub mod Execute
 pub mod Links
 pub mod Translation
 pub mod Uses
+pub mod Kept

@@ -36,6 +36,7 @@ mod execute;
 mod fault;
 mod fetch;
 mod flow;
+mod kept_law;
 mod links;
 mod memory;
 mod processor;
@@ -46,6 +47,7 @@ mod translation;
 mod uses;
 mod uses_law;
 
+pub use kept_law::steps_keep;
 pub use links::Links;
 pub use processor::{Cpu, Outcome, ProcessorState};
 pub use row_number::RowNumber;
