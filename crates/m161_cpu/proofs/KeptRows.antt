@@ -20,7 +20,8 @@ use Rattle.m161_cpu.specs.Processor.{Processor}
 use Rattle.m161_cpu.specs.Scene.{result_map}
 use Rattle.m161_cpu.specs.Translation.{address_error, by_row, by_segment, invalid, is_misaddressed, is_store, miss, physical, physical_at, through_row, translate}
 use Rattle.m161_cpu.specs.helpers.Translation.{IsWidth}
-use Rattle.m161_cpu.specs.Kept.{AreKept, Gives, GivesByRow, IsFound, IsKept, Translations, no_tag, no_translations, place_of, tag_of, without_page}
+use Rattle.m161_cpu.specs.Kept.{AreKept, Gives, GivesByRow, IsKept, Translations}
+use Rattle.m161_cpu.specs.helpers.Kept.{IsFound, no_tag, no_translations, place_of, tag_of, without_page}
 
 -- Translations that are kept are those of the rows, whatever becomes of the rows.
 

@@ -10,7 +10,8 @@ ghost use Rattle.std.specs.Prelude.{◌≡◌, ℕ, ◌+◌, ◌/◌, ◌^◌, �
 ghost use Rattle.m161_tlb.specs.declared.row.Row.{Row};
 ghost use Rattle.m161_tlb.specs.Rows.{find_row};
 ghost use Rattle.m161_cpu.specs.declared.fault.Access.{Access};
-ghost use Rattle.m161_cpu.specs.Kept.{AreKept, Gives, IsFound, place_of, tag_of};
+ghost use Rattle.m161_cpu.specs.Kept.{AreKept, Gives};
+ghost use Rattle.m161_cpu.specs.helpers.Kept.{IsFound, place_of, tag_of};
 ghost use Rattle.m161_cpu.specs.helpers.Translation.{IsWidth};
 
 use std::marker::Model;

@@ -7,7 +7,7 @@ use Rattle.m161_machine.specs.History.{Answers, Continues, History, Start}
 use Rattle.m161_debug.specs.declared.condition.Condition.{Condition}
 use Rattle.m161_debug.specs.declared.condition.Condition.TheVariants as conditions
 use Rattle.m161_debug.specs.declared.mark.Mark.{Mark}
-use Rattle.m161_debug.specs.Conditions.{holds_if}
+use Rattle.m161_debug.specs.helpers.Conditions.{holds_if}
 use Rattle.m161_debug.specs.helpers.Marks.{is_met, mark_of, IsMark}
 
 -- a mark is met where its condition holds

@@ -169,13 +169,9 @@ abbrev pub IsCommandWith : Command → Option (List ℕ) → Type 0
 IsCommandWith command None = StandsAlone command
 IsCommandWith command (Some text) = HasArguments command text
 
--- a word with these arguments is this command
+-- a word with these arguments, if any, is this command
 abbrev pub IsCommandOf : List ℕ → Option (List ℕ) → Command → Type 0
 IsCommandOf word arguments command = (word_of command ≡ word) × IsCommandWith command arguments
-
--- a line is this command: its word, and behind one space its arguments, if it has any
-abbrev pub IsCommandLine : Command → List ℕ → Type 0
-IsCommandLine command line = IsCommandOf (first_word line) (arguments_of line) command
 
 -- a word is none of the commands'
 abbrev pub IsNoWord : List ℕ → Type 0
@@ -192,7 +188,7 @@ IsAskedOf word arguments (Err BadProcessor) = ⊥
 IsAskedOf word arguments (Err TooMany) = ⊥
 IsAskedOf word arguments (Err NoMemory) = ⊥
 
--- what a line asks for
+-- what a line asks for: its first word, and behind one space its arguments, if it has any
 abbrev pub IsAsked : List ℕ → Result Command CommandError → Type 0
 IsAsked line asked = IsAskedOf (first_word line) (arguments_of line) asked
 

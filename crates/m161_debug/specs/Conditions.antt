@@ -1,4 +1,4 @@
-use Rattle.std.specs.Prelude.{ℕ, Bool, true, false, not, nat_lt, nat_le, is_some, ◌==◌, ◌&&◌, if◌then◌else◌, length, slice_index, slice_index_or, Option, None, Some, unwrap_or}
+use Rattle.std.specs.Prelude.{ℕ, Bool, true, false, not, nat_lt, nat_le, is_some, ◌==◌, ◌&&◌, if◌then◌else◌, length, slice_index, slice_index_or, unwrap_or}
 use Rattle.m161_isa.specs.Address.{unmapped}
 use Rattle.m161_ram.specs.Word.{word_at}
 use Rattle.m161_tlb.specs.declared.row.Row.{Row}
@@ -45,11 +45,6 @@ holds (Trap p) s e o t = is_step_of p e && is_trap o
 holds (Register p r) s e o t = not (register_in p r t == register_in p r s)
 holds (RowOf p i) s e o t = not (is_same_row (row_in p i t) (row_in p i s))
 holds Output s e o t = nat_lt (length s.board.console.output) (length t.board.console.output)
-
--- without a condition a run waits for nothing
-abbrev pub holds_if : Option Condition → State → Event → Outcome → State → Bool
-holds_if None s e o t = false
-holds_if (Some condition) s e o t = holds condition s e o t
 
 -- a condition is of this kind of machine: its address is that of a word of RAM, its register one of
 -- 32, its row one of 64

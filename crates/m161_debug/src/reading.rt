@@ -1,12 +1,12 @@
 //! Reading the parts of a command.
 
-ghost use Rattle.std.specs.Prelude.{◌<◌, ◌≤◌, ◌≡◌, ◌↔◌, ◌^◌, ℕ, length, true, false, get_or};
+ghost use Rattle.std.specs.Prelude.{◌<◌, ◌≤◌, ◌≡◌, ◌↔◌, ℕ, length, true, false, get_or};
 ghost use Rattle.std.specs.Str.Parse.{AllDigits};
-ghost use Rattle.m161_text.specs.Parts.{Reads, hex_digit, hex_text};
+ghost use Rattle.m161_text.specs.Parts.{hex_text};
 ghost use Rattle.m161_debug.specs.Commands.{AreNumbers, AreParts, IsAddress, IsByteText, IsCount, IsDecimal, IsHex, IsNumber};
 ghost use Rattle.m161_debug.specs.helpers.Reading.{Finds};
 
-use m161_text::{cut_at_space, parse_byte, parse_decimal};
+use m161_text::{cut_at_space, parse_byte, parse_decimal, parse_hex};
 
 /// A number below 2^32.
 pub(crate) fn number(text: &str) -> Option<u32>
@@ -20,30 +20,6 @@ pub(crate) fn byte(text: &str) -> Option<u8>
     ensures { Finds IsByteText text.now result }
 {
     parse_byte(text)
-}
-
-// The value of a lower case hexadecimal digit.
-fn parse_digit(byte: u8) -> Option<u8>
-    ensures { Reads (λ n. n < 16) hex_digit byte result }
-{
-    match byte {
-        b'0'..=b'9' => Some(byte - b'0'),
-        b'a'..=b'f' => Some(byte - b'a' + 10),
-        _ => None,
-    }
-}
-
-// The number of up to eight lower case hexadecimal digits.
-fn parse_hex(text: &[u8]) -> Option<u32>
-    requires { length text.now ≤ 8 }
-    ensures { Reads (λ n. n < 16 ^ length text.now) (hex_text (length text.now)) text.now result }
-{
-    let mut number = 0u32;
-    for byte in text {
-        let digit = parse_digit(*byte)?;
-        number = number * 16 + u32::from(digit);
-    }
-    Some(number)
 }
 
 // The digits of an address, without the 0x before them.

@@ -13,7 +13,8 @@ use Rattle.std.proofs.lemmas.Slice.Eq.{bytes_eq-Decides}
 use Rattle.indexmap.specs.IndexMap.{insert_entry}
 use Rattle.m161_elf.specs.Symbols.{is_shown, is_visible}
 use Rattle.m161_symbols.specs.Names.{value_in}
-use Rattle.m161_symbols.specs.helpers.{entry_seen, with_new}
+use Rattle.m161_symbols.specs.helpers.{with_new}
+use Rattle.m161_symbols.specs.Table.{entry_seen}
 
 -- The values of names.
 

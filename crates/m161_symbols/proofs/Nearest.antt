@@ -11,7 +11,8 @@ use Rattle.std.proofs.lemmas.Bool.Decides.{nat_tests}
 use Rattle.m161_symbols.specs.declared.named.Named.{Named}
 use Rattle.m161_symbols.specs.declared.named.Place.{Place}
 use Rattle.m161_symbols.specs.Names.{first_of, symbol_below}
-use Rattle.m161_symbols.specs.helpers.{has_value, places_from, seen, symbol_of, ArePlaces, IsRising, Splits}
+use Rattle.m161_symbols.specs.helpers.{places_from, Splits}
+use Rattle.m161_symbols.specs.Table.{has_value, seen, symbol_of, ArePlaces, IsRising}
 
 -- The symbol below an address, found by places that rise.
 

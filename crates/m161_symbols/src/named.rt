@@ -3,7 +3,8 @@
 ghost use Rattle.std.specs.Prelude.{◌≡◌, ◌≤◌, ◌<◌, ℕ, map, filter, length, string_bytes, All, IfOk, IfSome, OnOk};
 ghost use Rattle.m161_elf.specs.Symbols.{name_bytes, HasName};
 ghost use Rattle.m161_symbols.specs.Names.{named, symbol_below};
-ghost use Rattle.m161_symbols.specs.helpers.{entries_seen, has_value, numbered, places_from, seen, with_new, AreFound, ArePlaces, IsRising, Splits};
+ghost use Rattle.m161_symbols.specs.helpers.{numbered, places_from, with_new, Splits};
+ghost use Rattle.m161_symbols.specs.Table.{entries_seen, has_value, seen, AreFound, ArePlaces, IsRising};
 
 use indexmap::IndexMap;
 use m161_elf::Symbol;

@@ -2,7 +2,7 @@
 
 ghost use Rattle.std.specs.Prelude.{◌≡◌, [], option_map, IfOk};
 ghost use Rattle.m161_symbols.specs.Names.{names_in, nearest_in, value_in};
-ghost use Rattle.m161_symbols.specs.helpers.{read_place};
+ghost use Rattle.m161_symbols.specs.Table.{read_place};
 
 use crate::named::{Named, Place, named_symbols, nearest_number, sorted_places, values_by_name};
 use indexmap::IndexMap;
@@ -20,7 +20,7 @@ pub struct Symbols {
 
 impl Model for Symbols {
     ghost use Rattle.std.specs.Prelude.{ℕ, List, map};
-    ghost use Rattle.m161_symbols.specs.helpers.{seen, AreFound, ArePlaces};
+    ghost use Rattle.m161_symbols.specs.Table.{seen, AreFound, ArePlaces};
 
     ghost Value = { List (List ℕ × ℕ) };
 

@@ -92,8 +92,8 @@ fn parse_digit(byte: u8) -> Option<u8>
     }
 }
 
-// The number of up to eight lower case hexadecimal digits.
-fn parse_hex(text: &[u8]) -> Option<u32>
+/// The number of up to eight lower case hexadecimal digits, 0 without any; `None` of any other bytes.
+pub fn parse_hex(text: &[u8]) -> Option<u32>
     requires { length text.now ≤ 8 }
     ensures { Reads (λ n. n < 16 ^ length text.now) (hex_text (length text.now)) text.now result }
 {

@@ -16,4 +16,6 @@ mod cut;
 mod digits;
 
 pub use cut::{cut_at_space, next_line};
-pub use digits::{Byte, Word, parse_byte, parse_decimal, parse_page, parse_word, push_hex};
+pub use digits::{
+    Byte, Word, parse_byte, parse_decimal, parse_hex, parse_page, parse_word, push_hex,
+};

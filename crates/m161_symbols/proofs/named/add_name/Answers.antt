@@ -2,7 +2,7 @@ use Rattle.std.specs.Prelude.{bytes_eq, if◌then◌else◌}
 use Rattle.std.specs.Map.{lookup}
 use Rattle.std.specs.Option.{is_some}
 use Rattle.std.proofs.Common.{◌≡◌, ◌∙◌, [], ◌∷◌, ◌++◌, true, false, sym, ap}
-use Rattle.m161_symbols.specs.helpers.{entries_seen, seen}
+use Rattle.m161_symbols.specs.Table.{entries_seen, seen}
 use Rattle.m161_symbols.proofs.Found.{added_seen, looked_up, not_some}
 use Rattle.m161_symbols.proofs.named.add_name.Goals as goal
 

@@ -1,6 +1,6 @@
 use Rattle.std.proofs.Common.{◌≡◌, map, take}
 use Rattle.m161_symbols.specs.Names.{named}
-use Rattle.m161_symbols.specs.helpers.{seen}
+use Rattle.m161_symbols.specs.Table.{seen}
 use Rattle.m161_symbols.proofs.named.named_symbols.Given as goal
 
 abbrev pub invariant-loop-symbol : goal.invariant-loop-symbol

@@ -1,7 +1,8 @@
 use Rattle.std.proofs.Common.{◌<◌, ◌+◌, ◌-◌, ℕ, map, sym, subst, get_or, arith}
 use Rattle.std.proofs.lemmas.List.{length-map}
 use Rattle.m161_symbols.specs.declared.named.Place.{Place}
-use Rattle.m161_symbols.specs.helpers.{seen, Splits}
+use Rattle.m161_symbols.specs.helpers.{Splits}
+use Rattle.m161_symbols.specs.Table.{seen}
 use Rattle.m161_symbols.proofs.Nearest.{nearest_none, number_inside, number_is}
 use Rattle.m161_symbols.proofs.named.nearest_number.Goals as goal
 

@@ -1,5 +1,6 @@
 use Rattle.std.proofs.Common.{◌≡◌, ◌++◌, map, drop}
-use Rattle.m161_symbols.specs.helpers.{places_from, seen}
+use Rattle.m161_symbols.specs.helpers.{places_from}
+use Rattle.m161_symbols.specs.Table.{seen}
 use Rattle.m161_symbols.proofs.named.places.Given as goal
 
 -- the places that are left

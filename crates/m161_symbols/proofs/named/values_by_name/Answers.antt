@@ -3,7 +3,7 @@ use Rattle.std.specs.Map.{lookup}
 use Rattle.std.proofs.Common.{◌≡◌, ◌∙◌, ◌+◌, [], ◌∷◌, ◌++◌, map, take, sym, ap}
 use Rattle.std.proofs.lemmas.List.{map-append, take_more}
 use Rattle.m161_symbols.specs.Names.{value_in}
-use Rattle.m161_symbols.specs.helpers.{entries_seen, seen}
+use Rattle.m161_symbols.specs.Table.{entries_seen, seen}
 use Rattle.m161_symbols.proofs.Found.{found_more}
 use Rattle.m161_symbols.proofs.named.values_by_name.Goals as goal
 

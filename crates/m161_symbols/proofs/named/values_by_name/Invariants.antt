@@ -1,5 +1,5 @@
 use Rattle.std.proofs.Common.{map, take}
-use Rattle.m161_symbols.specs.helpers.{seen, AreFound}
+use Rattle.m161_symbols.specs.Table.{seen, AreFound}
 use Rattle.m161_symbols.proofs.named.values_by_name.Given as goal
 
 abbrev pub invariant-loop-symbol : goal.invariant-loop-symbol

@@ -1,7 +1,7 @@
 use Rattle.std.proofs.Common.{◌≡◌, ◌∙◌, ◌≤◌, ◌&&◌, ap, false, nat_lt, sym, true, subst, refl, length, arith, rules}
 use Rattle.m161_machine.specs.History.{History}
 use Rattle.m161_machine.proofs.Continuing.{continues_none}
-use Rattle.m161_debug.specs.Conditions.{holds_if}
+use Rattle.m161_debug.specs.helpers.Conditions.{holds_if}
 use Rattle.m161_debug.specs.Stops.{is_break}
 use Rattle.m161_debug.specs.helpers.Batch.{events_in}
 use Rattle.m161_debug.specs.helpers.Marks.{is_met, mark_of, IsMark}

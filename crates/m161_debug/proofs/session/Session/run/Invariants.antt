@@ -1,6 +1,6 @@
 use Rattle.std.proofs.Common.{◌≡◌, take, drop}
 use Rattle.m161_machine.specs.History.{Continues}
-use Rattle.m161_debug.specs.Conditions.{holds_if}
+use Rattle.m161_debug.specs.helpers.Conditions.{holds_if}
 use Rattle.m161_debug.specs.Stops.{wait_from}
 use Rattle.m161_debug.specs.helpers.Batch.{events_in}
 use Rattle.m161_debug.proofs.session.Session.run.Given as goal
