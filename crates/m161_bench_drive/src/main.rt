@@ -4,6 +4,8 @@
 //! m161_bench_drive EVENTS WAY    makes EVENTS events on two processors, from the boot on; WAY is
 //!                                `hand`, a Step of each processor in turn; `alone`, Steps of one
 //!                                processor; `turns`, `random` or `priorities`, by that order
+//! m161_bench_drive EVENTS seeds  makes EVENTS events, 10,000 for each seed of an order at random, from
+//!                                the boot on, and judges each run; `watched`, with a watch
 //! ```
 //!
 //! Standard output gets the number of events, and standard error the nanoseconds.
@@ -25,6 +27,8 @@ fn way_of(word: &str) -> Option<Way> {
         "alone" => Some(Way::Alone),
         "turns" => Some(Way::Driven(Order::Turns(1))),
         "random" => Some(Way::Driven(Order::Random(7))),
+        "seeds" => Some(Way::Judged(false)),
+        "watched" => Some(Way::Judged(true)),
         "priorities" => Some(Way::Driven(Order::Priorities {
             seed: 7,
             changes: 2,

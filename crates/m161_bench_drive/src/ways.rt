@@ -1,7 +1,8 @@
 //! The same events, chosen by policies and by hand.
 
-use m161::{Conf, Event, Machine};
+use m161::{Conf, Console, Machine, Tlb};
 use m161_drive::{Order, Policy, drive};
+use m161_judge::{Booted, Watch, judge_booted};
 use std::alloc::Global;
 use std::time::{Clock, Instant};
 
@@ -14,7 +15,21 @@ pub(crate) enum Way {
     Alone,
     /// By a policy of this order.
     Driven(Order),
+    /// At random, by one seed after the other, each from the state at boot on; and the runs are
+    /// judged, with a watch or without.
+    Judged(bool),
 }
+
+/// So many events the run of a seed has.
+const EVENTS: u32 = 10_000;
+
+/// A page that the program doesn't map.
+const WATCH: Watch = Watch {
+    id: 5,
+    page: 0x400,
+    pte: 0x3000,
+    done: 0x3004,
+};
 
 /// Events, and the nanoseconds that they took.
 #[derive(Clone, Copy)]
@@ -49,6 +64,51 @@ fn alone(machine: &mut Machine, events: u32) {
     let _ = machine.steps(0, events);
 }
 
+// Makes and judges the runs of so many seeds, all from one state at boot. Returns how many events
+// they have.
+fn judge_seeds(alloc: Global, image: &[u8], seeds: u32, watches: &[Watch]) -> Option<u64> {
+    let conf = Conf {
+        ram: 65_536,
+        processors: 2,
+        log: EVENTS,
+    };
+    let Ok(booted) = Booted::<Tlb, Console>::new(alloc, image, conf) else {
+        return None;
+    };
+    let mut made = 0u64;
+    for seed in 0..seeds {
+        let order = Order::Random(u64::from(seed));
+        let policy = Policy::new(order, 100, Some(1_000), &[]).ok()?;
+        let events = u64::from(EVENTS);
+        let run = judge_booted(alloc, &booted, image, conf, &policy, events, watches, None).ok()?;
+        made = made.checked_add(run.events.len() as u64)?;
+    }
+    Some(made)
+}
+
+// Makes events one way, on one machine. Returns how many were made.
+fn make_on_one(alloc: Global, image: &[u8], way: Way, events: u32) -> Option<u64> {
+    let mut machine = machine(alloc, image, events)?;
+    match way {
+        Way::ByHand => by_hand(&mut machine, events),
+        Way::Alone | Way::Judged(_) => alone(&mut machine, events),
+        Way::Driven(order) => {
+            let policy = Policy::new(order, 100, Some(1_000), &[]).ok()?;
+            let _ = drive(&mut machine, &policy, u64::from(events));
+        }
+    }
+    Some(machine.made())
+}
+
+// Makes events one way. Returns how many were made.
+fn make_events(alloc: Global, image: &[u8], way: Way, events: u32) -> Option<u64> {
+    match way {
+        Way::Judged(false) => judge_seeds(alloc, image, events / EVENTS, &[]),
+        Way::Judged(true) => judge_seeds(alloc, image, events / EVENTS, &[WATCH]),
+        Way::ByHand | Way::Alone | Way::Driven(_) => make_on_one(alloc, image, way, events),
+    }
+}
+
 /// Boots a file and makes `events` events one way.
 pub(crate) fn make(
     rt: &(impl Clock + AllocGlobal),
@@ -57,18 +117,10 @@ pub(crate) fn make(
     events: u32,
 ) -> Option<Took> {
     let start = Instant::now(rt).ok()?;
-    let mut machine = machine(rt.alloc(), image, events)?;
-    match way {
-        Way::ByHand => by_hand(&mut machine, events),
-        Way::Alone => alone(&mut machine, events),
-        Way::Driven(order) => {
-            let policy = Policy::new(order, 100, Some(1_000), &[]).ok()?;
-            let _ = drive(&mut machine, &policy, u64::from(events));
-        }
-    }
+    let events = make_events(rt.alloc(), image, way, events)?;
     let took = start.elapsed(rt).ok()?;
     Some(Took {
-        events: machine.made(),
+        events,
         nanoseconds: took.as_nanos(),
     })
 }

@@ -3,8 +3,10 @@ pub mod FaultLines
 pub mod Faults
 pub mod Known
 pub mod Machines
+pub mod Naming
 pub mod Reading
 pub mod Samples
 pub mod Sizes
+pub mod Streams
 pub mod Texts
 pub mod helpers

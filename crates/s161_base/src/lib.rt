@@ -1,5 +1,5 @@
 //! What the commands of the program share: the fault that ends one, what a finished one prints, files
-//! and standard input, the built-in sample, the texts of schedules and logs, and the machine that a
+//! and standard streams, the built-in sample, the texts of schedules and logs, and the machine that a
 //! log names.
 #![tactic(auto)]
 
@@ -11,7 +11,9 @@ pub mod input;
 mod laws;
 mod line;
 pub mod machines;
+pub mod naming;
 pub mod sample;
+pub mod streams;
 pub mod texts;
 
 pub use laws::faults_stay_on_a_line;

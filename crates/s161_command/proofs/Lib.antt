@@ -1,3 +1,4 @@
 mod Accepting
 mod Reading
 mod Defining
+pub mod Undriven

@@ -8,10 +8,15 @@ use Rattle.clap.specs.declared.error.kind.ErrorKind.TheVariants.{DisplayHelp, Di
 use Rattle.m161_order.specs.Order.{order_fault}
 use Rattle.s161_command.specs.declared.drive.Clash.{Clash}
 use Rattle.s161_command.specs.declared.drive.OrderUse.{OrderUse}
-use Rattle.s161_command.specs.declared.drive.OrderUse.TheVariants.{Optional, Needed, Assumed, Seeded}
+use Rattle.s161_command.specs.declared.drive.OrderUse.TheVariants.{Optional, Needed, Assumed, Seeded, OrFile}
+use Rattle.s161_command.specs.declared.task.AskedSize.{AskedSize}
 use Rattle.s161_command.specs.declared.task.ConsoleTask.{ConsoleTask}
+use Rattle.s161_command.specs.declared.task.DebugTask.{DebugTask}
 use Rattle.s161_command.specs.declared.task.DrivenTask.{DrivenTask}
 use Rattle.s161_command.specs.declared.task.FilesTask.{FilesTask}
+use Rattle.s161_command.specs.declared.task.ListingTask.{ListingTask}
+use Rattle.s161_command.specs.declared.task.Registers.{Registers}
+use Rattle.s161_command.specs.declared.task.Registers.TheVariants.{Numbered, Named}
 use Rattle.s161_command.specs.declared.task.Rejection.{Rejection}
 use Rattle.s161_command.specs.declared.task.Rejection.TheVariants.{Words, Options}
 use Rattle.s161_command.specs.declared.task.ReplayTask.{ReplayTask}
@@ -21,10 +26,13 @@ use Rattle.s161_command.specs.declared.task.SearchTask.{SearchTask}
 use Rattle.s161_command.specs.declared.task.Shown.{Shown}
 use Rattle.s161_command.specs.declared.task.Shown.TheVariants.{Summary, SummaryAndLog, Log}
 use Rattle.s161_command.specs.declared.task.Size.{Size}
+use Rattle.s161_command.specs.declared.task.Source.{Source}
+use Rattle.s161_command.specs.declared.task.Source.TheVariants.{File, Driven}
 use Rattle.s161_command.specs.declared.task.ThreadsTask.{ThreadsTask}
+use Rattle.s161_command.specs.declared.task.TraceTask.{TraceTask}
 use Rattle.s161_command.specs.declared.task.Task.{Task}
-use Rattle.s161_command.specs.declared.task.Task.TheVariants.{Assemble, Audit, Console, Debug, Demo, Disassemble, Replay, Run, RunDriven, RunInThreads, Schedule, Search}
-use Rattle.s161_command.specs.Drives.{AsksDrive, Clashes, go_together, has_order, long_rule, optional_rule, text_rule, with_console_pace_rules, with_order_rules, with_pace_rules, with_priority_rules}
+use Rattle.s161_command.specs.declared.task.Task.TheVariants.{Assemble, Audit, Console, Debug, Demo, Disassemble, Replay, Run, RunDriven, RunInThreads, Schedule, Search, Trace}
+use Rattle.s161_command.specs.Drives.{AsksDrive, AsksDriveIf, Clashes, IsLongNumberOf, go_together, has_order, long_rule, optional_rule, text_rule, with_console_pace_rules, with_order_rules, with_pace_rules, with_priority_rules}
 use Rattle.s161_command.specs.Numbers.{IsNumberIf, IsNumberOf, is_set}
 
 -- The command line, in clap's own words.
@@ -119,6 +127,19 @@ schedule_line =
     with_pace_rules 16_777_216 (with_order_rules
     (with_size_rules (codes "65536") (on_image (codes "schedule"))))
 
+-- the arguments of `trace`, without those of a driven run: an image and options
+abbrev pub plain_trace_line : App
+plain_trace_line =
+    with_rule (with_rule (with_rule
+    (with_size_rules (codes "65536") (on_image (codes "trace")))
+    (long_rule (codes "from") 0 18_446_744_073_709_551_615))
+    (long_rule (codes "count") 0 18_446_744_073_709_551_615))
+    (flag_rule (codes "names"))
+
+-- the arguments of `trace`; a driven run has at most as many events as any run
+abbrev pub trace_line : App
+trace_line = with_pace_rules 9_223_372_036_854_775_807 (with_order_rules plain_trace_line)
+
 -- a command over an image and a text, with the options of a machine's size
 abbrev pub files_line : Text → Text → Text → App
 files_line name text log = with_size_rules log (with_rule (on_image name) (file_rule text))
@@ -129,9 +150,19 @@ replay_line =
     with_asked_size_rules (codes "65536")
     (with_rule (on_image (codes "replay")) (file_rule (codes "entries")))
 
--- the arguments of `debug`: an image, a schedule and options
+-- the name of a file that may be left out
+abbrev pub optional_file_rule : Text → Rule
+optional_file_rule name = record (new_rule name) { value_names = 1 }
+
+-- the arguments of `debug`, without those of a driven run: an image, a file and options
+abbrev pub plain_debug_line : App
+plain_debug_line =
+    with_asked_size_rules (codes "1048576")
+    (with_rule (on_image (codes "debug")) (optional_file_rule (codes "file")))
+
+-- the arguments of `debug`; its list of events has at most 16,777,216
 abbrev pub debug_line : App
-debug_line = files_line (codes "debug") (codes "schedule") (codes "65536")
+debug_line = with_pace_rules 16_777_216 (with_order_rules plain_debug_line)
 
 -- the arguments of `audit`: an image, watches and options
 abbrev pub audit_line : App
@@ -141,9 +172,9 @@ audit_line = files_line (codes "audit") (codes "watches") (codes "65536")
 abbrev pub as_line : App
 as_line = new_app (codes "as")
 
--- the argument of `dis`: an image
+-- the arguments of `dis`: an image and an option
 abbrev pub dis_line : App
-dis_line = on_image (codes "dis")
+dis_line = with_rule (on_image (codes "dis")) (flag_rule (codes "names"))
 
 -- the program needs a command, and tells its version; `demo` has no arguments
 abbrev pub program_line : App
@@ -156,11 +187,12 @@ program_line =
 abbrev pub command_line : App
 command_line =
     with_subcommand (with_subcommand (with_subcommand (with_subcommand (with_subcommand
-    (with_subcommand (with_subcommand (with_subcommand (with_subcommand program_line
+    (with_subcommand (with_subcommand (with_subcommand (with_subcommand (with_subcommand program_line
     run_line.top)
     console_line.top)
     schedule_line.top)
     search_line.top)
+    trace_line.top)
     replay_line.top)
     debug_line.top)
     audit_line.top)
@@ -243,13 +275,50 @@ pub record AsksSearch (rows : List Row) (task : SearchTask) : Type 0 where
   pub output : option_map (λ name. name.now) task.output ≡ first_of (codes "output") rows
   pub whole : task.whole ≡ is_set (codes "whole") rows
 
+-- a machine of this size is asked for; a log may say what isn't given, and how many entries its own
+-- log keeps has this default
+pub record IsAskedSize (kept : ℕ) (rows : List Row) (size : AskedSize) : Type 0 where
+  pub ram : IsNumberIf (one_of (codes "ram") rows) size.ram
+  pub cpus : IsNumberIf (one_of (codes "cpus") rows) size.processors
+  pub log : IsNumberOf kept (one_of (codes "log") rows) size.log
+
 -- `replay` asks for this
 pub record AsksReplay (rows : List Row) (task : ReplayTask) : Type 0 where
   pub image : task.image.now ≡ given_of (codes "image") rows
   pub text : task.text.now ≡ given_of (codes "entries") rows
-  pub ram : IsNumberIf (one_of (codes "ram") rows) task.size.ram
-  pub cpus : IsNumberIf (one_of (codes "cpus") rows) task.size.processors
-  pub log : IsNumberOf 65_536 (one_of (codes "log") rows) task.size.log
+  pub size : IsAskedSize 65_536 rows task.size
+
+-- how registers are shown
+abbrev pub registers_of : List Row → Registers
+registers_of rows = if is_set (codes "names") rows then Named else Numbered
+
+-- `trace` asks for lines of these events: those of a driven run if an order is given, else of a
+-- schedule
+pub record AsksTrace (rows : List Row) (task : TraceTask) : Type 0 where
+  pub image : task.image.now ≡ given_of (codes "image") rows
+  pub size : IsSize 65_536 rows task.size
+  pub from : IsLongNumberOf 0 (one_of (codes "from") rows) task.from
+  pub count :
+      IsLongNumberOf 18_446_744_073_709_551_615 (one_of (codes "count") rows) task.count
+  pub registers : task.registers ≡ registers_of rows
+  pub drive : AsksDriveIf Optional rows task.drive
+
+-- the events of `debug` come from a file, or from a driven run if an order is given
+abbrev pub IsSource : List Row → Source → Type 0
+IsSource rows (File name) =
+    (has_order rows ≡ false) × (name.now ≡ given_of (codes "file") rows)
+IsSource rows (Driven drive) = (has_order rows ≡ true) × AsksDrive OrFile rows drive
+
+-- `debug` asks for this
+pub record AsksDebug (rows : List Row) (task : DebugTask) : Type 0 where
+  pub image : task.image.now ≡ given_of (codes "image") rows
+  pub source : IsSource rows task.source
+  pub size : IsAskedSize 1_048_576 rows task.size
+
+-- `dis` asks for this
+pub record AsksListing (rows : List Row) (task : ListingTask) : Type 0 where
+  pub image : task.image.now ≡ given_of (codes "image") rows
+  pub registers : task.registers ≡ registers_of rows
 
 -- a command over an image and a text of this name asks for this; how many entries the log keeps has
 -- this default
@@ -262,7 +331,8 @@ pub record AsksFiles (name : Text) (log : ℕ) (rows : List Row) (task : FilesTa
 abbrev pub IsOther : Text → Type 0
 IsOther word =
     (word ≡ codes "run") ⊎ (word ≡ codes "console") ⊎ (word ≡ codes "schedule")
-    ⊎ (word ≡ codes "search") ⊎ (word ≡ codes "replay") ⊎ (word ≡ codes "debug")
+    ⊎ (word ≡ codes "search") ⊎ (word ≡ codes "trace") ⊎ (word ≡ codes "replay")
+    ⊎ (word ≡ codes "debug")
     ⊎ (word ≡ codes "audit") ⊎ (word ≡ codes "as") ⊎ (word ≡ codes "dis")
 
 -- a command, with its arguments, asks for this
@@ -280,18 +350,18 @@ IsTask command (Console task) =
     IsSomeAnd command (λ given. (given.0 ≡ codes "console") × AsksConsole given.1 task)
 IsTask command (Search task) =
     IsSomeAnd command (λ given. (given.0 ≡ codes "search") × AsksSearch given.1 task)
+IsTask command (Trace task) =
+    IsSomeAnd command (λ given. (given.0 ≡ codes "trace") × AsksTrace given.1 task)
 IsTask command (Replay task) =
     IsSomeAnd command (λ given. (given.0 ≡ codes "replay") × AsksReplay given.1 task)
 IsTask command (Debug task) =
-    IsSomeAnd command
-    (λ given. (given.0 ≡ codes "debug") × AsksFiles (codes "schedule") 65_536 given.1 task)
+    IsSomeAnd command (λ given. (given.0 ≡ codes "debug") × AsksDebug given.1 task)
 IsTask command (Audit task) =
     IsSomeAnd command
     (λ given. (given.0 ≡ codes "audit") × AsksFiles (codes "watches") 65_536 given.1 task)
 IsTask command Assemble = IsSomeAnd command (λ given. given.0 ≡ codes "as")
-IsTask command (Disassemble image) =
-    IsSomeAnd command
-    (λ given. (given.0 ≡ codes "dis") × (image.now ≡ given_of (codes "image") given.1))
+IsTask command (Disassemble task) =
+    IsSomeAnd command (λ given. (given.0 ≡ codes "dis") × AsksListing given.1 task)
 
 -- how a command takes an order, if it is one that may be driven
 abbrev pub order_use : Text → Option OrderUse
@@ -299,7 +369,9 @@ order_use word =
     if bytes_eq word (codes "run") then Some Optional
     else if bytes_eq word (codes "schedule") then Some Needed
     else if bytes_eq word (codes "console") then Some Assumed
-    else if bytes_eq word (codes "search") then Some Seeded else None
+    else if bytes_eq word (codes "search") then Some Seeded
+    else if bytes_eq word (codes "trace") then Some Optional
+    else if bytes_eq word (codes "debug") then Some OrFile else None
 
 -- the options of a command go together
 abbrev pub GoTogether : Option (Text × List Row) → Type 0
@@ -313,12 +385,19 @@ ClashesIn command clash =
     IsSomeAnd command (λ given.
     IsSomeAnd (order_use given.0) (λ orders. Clashes orders given.1 clash))
 
+-- the numbers of the order that gives the events of `debug` are within their limits
+abbrev pub HasSourceLimits : Source → Type 0
+HasSourceLimits (File name) = Unit {0}
+HasSourceLimits (Driven drive) = order_fault drive.order ≡ None
+
 -- the numbers of a task's order are within their limits
 abbrev pub HasLimits : Task → Type 0
 HasLimits (RunDriven task) = order_fault task.drive.order ≡ None
 HasLimits (Schedule task) = order_fault task.drive.order ≡ None
 HasLimits (Console task) = order_fault task.drive.order ≡ None
 HasLimits (Search task) = order_fault task.drive.order ≡ None
+HasLimits (Trace task) = IfSome task.drive (λ drive. order_fault drive.order ≡ None)
+HasLimits (Debug task) = HasSourceLimits task.source
 HasLimits _ = Unit {0}
 
 -- a command line isn't followed: clap finds a fault of this kind; or it finds none, and the options

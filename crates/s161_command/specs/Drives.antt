@@ -1,4 +1,4 @@
-use Rattle.std.specs.Prelude.{◌≡◌, ◌≢◌, ℕ, ◌<◌, ◌^◌, Bool, true, false, not, ◌&&◌, ◌||◌, List, Option, None, Some, codes, is_some, option_map, pos}
+use Rattle.std.specs.Prelude.{◌≡◌, ◌≢◌, ℕ, ◌<◌, ◌^◌, Bool, true, false, not, ◌&&◌, ◌||◌, List, Option, None, Some, IfSome, codes, is_some, option_map, pos}
 use Rattle.std.specs.Str.Parse.{IsNumeral, digits_value, without_leading_plus}
 use Rattle.clap.specs.Words.{App, Row, Rule, Text, first_of, new_rule, one_of, with_rule}
 use Rattle.clap.specs.declared.builder.value_parser.ValueParser.TheVariants.{Signed, Unsigned}
@@ -6,9 +6,9 @@ use Rattle.m161_order.specs.declared.order.Order.{Order}
 use Rattle.m161_order.specs.declared.order.Order.TheVariants.{Turns, Random, Priorities}
 use Rattle.m161_order.specs.Order.{order_fault}
 use Rattle.s161_command.specs.declared.drive.Clash.{Clash}
-use Rattle.s161_command.specs.declared.drive.Clash.TheVariants.{TwoOrders, HalfPriorities, ChangesWithoutSeed, NoOrder, PaceWithoutOrder, OrderInThreads, LogTwice, BadOrder, BadGap}
+use Rattle.s161_command.specs.declared.drive.Clash.TheVariants.{TwoOrders, HalfPriorities, ChangesWithoutSeed, NoOrder, PaceWithoutOrder, OrderInThreads, LogTwice, FileAndOrder, NoEvents, BadOrder, BadGap}
 use Rattle.s161_command.specs.declared.drive.OrderUse.{OrderUse}
-use Rattle.s161_command.specs.declared.drive.OrderUse.TheVariants.{Optional, Needed, Assumed, Seeded}
+use Rattle.s161_command.specs.declared.drive.OrderUse.TheVariants.{Optional, Needed, Assumed, Seeded, OrFile}
 use Rattle.s161_command.specs.declared.drive.Drive.{Drive}
 use Rattle.s161_command.specs.Numbers.{IsNumber, IsNumberOf, is_set}
 
@@ -98,6 +98,7 @@ is_driven Optional rows = has_order rows
 is_driven Needed rows = has_order rows
 is_driven Assumed rows = true
 is_driven Seeded rows = true
+is_driven OrFile rows = has_order rows
 
 abbrev pub changes_without_seed : OrderUse → List Row → Bool
 changes_without_seed orders rows =
@@ -118,12 +119,23 @@ order_in_threads rows =
 abbrev pub shows_log_twice : List Row → Bool
 shows_log_twice rows = is_set (codes "show-log") rows && is_set (codes "only-log") rows
 
+-- a file and an order both give the events
+abbrev pub file_and_order : OrderUse → List Row → Bool
+file_and_order OrFile rows = is_given (codes "file") rows && has_order rows
+file_and_order _ rows = false
+
+-- neither of them does
+abbrev pub lacks_events : OrderUse → List Row → Bool
+lacks_events OrFile rows = not (is_given (codes "file") rows) && not (has_order rows)
+lacks_events _ rows = false
+
 -- options go together
 abbrev pub go_together : OrderUse → List Row → Bool
 go_together orders rows =
     not (two_orders rows) && not (half_priorities rows) && not (changes_without_seed orders rows)
     && not (lacks_order orders rows) && not (pace_without_order orders rows)
     && not (order_in_threads rows) && not (shows_log_twice rows)
+    && not (file_and_order orders rows) && not (lacks_events orders rows)
 
 -- a number of 64 bits in decimal digits, optionally after a plus
 abbrev pub IsLongNumber : Text → Type 0
@@ -169,6 +181,7 @@ IsOrder Optional rows order = IsGivenOrder rows order
 IsOrder Needed rows order = IsGivenOrder rows order
 IsOrder Assumed rows order = IsGivenOrTurns (has_order rows) rows order
 IsOrder Seeded rows order = IsSeeded (codes "from") rows order
+IsOrder OrFile rows order = IsGivenOrder rows order
 
 -- `--gap none`, or a number, or the default
 abbrev pub IsGap : Option ℕ → Option Text → Option ℕ → Type 0
@@ -187,6 +200,7 @@ events_by_default Optional = 1_000_000
 events_by_default Needed = 1_000_000
 events_by_default Assumed = 18_446_744_073_709_551_615
 events_by_default Seeded = 100_000
+events_by_default OrFile = 1_000_000
 
 abbrev pub gap_by_default : OrderUse → Option ℕ
 gap_by_default Assumed = None
@@ -201,6 +215,11 @@ pub record AsksDrive (orders : OrderUse) (rows : List Row) (drive : Drive) : Typ
   pub gap : IsGap (gap_by_default orders) (first_of (codes "gap") rows) drive.gap
   pub keys : option_map (λ name. name.now) drive.keys ≡ first_of (codes "keys") rows
 
+-- a driven run if an order is given
+pub record AsksDriveIf (orders : OrderUse) (rows : List Row) (found : Option Drive) : Type 0 where
+  pub ordered : is_some found ≡ has_order rows
+  pub asks : IfSome found (AsksDrive orders rows)
+
 -- options that clap takes, and that can't be followed: why
 abbrev pub Clashes : OrderUse → List Row → Clash → Type 0
 Clashes orders rows TwoOrders = two_orders rows ≡ true
@@ -213,3 +232,5 @@ Clashes orders rows (BadOrder e) =
     (order : Order) × IsOrder orders rows order × (order_fault order ≡ Some e)
 Clashes orders rows BadGap = IsBadGap (first_of (codes "gap") rows)
 Clashes orders rows LogTwice = shows_log_twice rows ≡ true
+Clashes orders rows FileAndOrder = file_and_order orders rows ≡ true
+Clashes orders rows NoEvents = lacks_events orders rows ≡ true

@@ -2,15 +2,15 @@
 
 ghost use Rattle.std.specs.Prelude.{◌≡◌, IfErr, IfOk, codes, false, true};
 ghost use Rattle.clap.specs.Words.{found_of, rows_of, subcommand_rows_of};
-ghost use Rattle.s161_command.specs.Commands.{AsksConsole, AsksFiles, AsksReplay, AsksRun, AsksSchedule, AsksSearch, ClashesIn, GoTogether, HasLimits, IsRunTask, IsSize, IsTask, shown_of};
-ghost use Rattle.s161_command.specs.Drives.{AsksDrive, Clashes, go_together, has_order};
-ghost use Rattle.s161_command.specs.declared.drive.OrderUse.TheVariants.{Assumed, Needed, Optional, Seeded};
+ghost use Rattle.s161_command.specs.Commands.{AsksConsole, AsksDebug, AsksFiles, AsksListing, AsksReplay, AsksRun, AsksSchedule, AsksSearch, AsksTrace, ClashesIn, GoTogether, HasLimits, IsAskedSize, IsRunTask, IsSize, IsSource, IsTask, registers_of, shown_of};
+ghost use Rattle.s161_command.specs.Drives.{AsksDrive, AsksDriveIf, Clashes, go_together, has_order};
+ghost use Rattle.s161_command.specs.declared.drive.OrderUse.TheVariants.{Assumed, Needed, Optional, OrFile, Seeded};
 
 use crate::drive::{Clash, Drive, OrderUse, clash_of, drive_given, has_order};
-use crate::given::{file_given, is_set, number_given, number_if_given};
+use crate::given::{file_given, is_set, long_given, number_given, number_if_given};
 use crate::task::{
-    AskedSize, ConsoleTask, DrivenTask, FilesTask, ReplayTask, RunTask, ScheduleTask, SearchTask,
-    Shown, Size, Task, ThreadsTask,
+    AskedSize, ConsoleTask, DebugTask, DrivenTask, FilesTask, ListingTask, Registers, ReplayTask,
+    RunTask, ScheduleTask, SearchTask, Shown, Size, Source, Task, ThreadsTask, TraceTask,
 };
 use clap::ArgMatches;
 
@@ -156,6 +156,18 @@ fn task_of_search<'a>(given: &ArgMatches<'a>) -> Result<SearchTask<'a>, Clash>
     })
 }
 
+// The size of a machine, of which a log may say what isn't given; how many entries its own log keeps
+// has this default.
+fn asked_size_given<'a>(given: &ArgMatches<'a>, log: u32) -> AskedSize
+    ensures { IsAskedSize log (rows_of (found_of given.now)) result }
+{
+    AskedSize {
+        ram: number_if_given(given, "ram"),
+        processors: number_if_given(given, "cpus"),
+        log: number_given(given, "log", log),
+    }
+}
+
 // The arguments of `replay`.
 fn replay_task_of<'a>(given: &ArgMatches<'a>) -> ReplayTask<'a>
     ensures { AsksReplay (rows_of (found_of given.now)) result }
@@ -163,11 +175,93 @@ fn replay_task_of<'a>(given: &ArgMatches<'a>) -> ReplayTask<'a>
     ReplayTask {
         image: file_given(given, "image"),
         text: file_given(given, "entries"),
-        size: AskedSize {
-            ram: number_if_given(given, "ram"),
-            processors: number_if_given(given, "cpus"),
-            log: number_given(given, "log", 65_536),
-        },
+        size: asked_size_given(given, 65_536),
+    }
+}
+
+// How registers are shown.
+fn registers_given<'a>(given: &ArgMatches<'a>) -> Registers
+    ensures { result ≡ registers_of (rows_of (found_of given.now)) }
+{
+    if is_set(given, "names") {
+        Registers::Named
+    } else {
+        Registers::Numbered
+    }
+}
+
+// What a driven run is asked for, if an order is given; and the options go together.
+fn drive_if_ordered<'a>(given: &ArgMatches<'a>) -> Result<Option<Drive<'a>>, Clash>
+    ensures drive { IfOk result (AsksDriveIf Optional (rows_of (found_of given.now))) }
+    ensures together { IfOk result (λ _. go_together Optional (rows_of (found_of given.now)) ≡ true) }
+    ensures clash { IfErr result (Clashes Optional (rows_of (found_of given.now))) }
+{
+    let order = has_order(given);
+    if let Some(clash) = clash_of(given, OrderUse::Optional) {
+        return Err(clash);
+    }
+    if !order {
+        return Ok(None);
+    }
+    let drive = drive_given(given, OrderUse::Optional)?;
+    Ok(Some(drive))
+}
+
+// The task of the words of `trace`.
+fn task_of_trace<'a>(given: &ArgMatches<'a>) -> Result<TraceTask<'a>, Clash>
+    ensures task { IfOk result (AsksTrace (rows_of (found_of given.now))) }
+    ensures together { IfOk result (λ _. go_together Optional (rows_of (found_of given.now)) ≡ true) }
+    ensures clash { IfErr result (Clashes Optional (rows_of (found_of given.now))) }
+{
+    let drive = drive_if_ordered(given)?;
+    Ok(TraceTask {
+        image: file_given(given, "image"),
+        size: size_given(given, 65_536),
+        from: long_given(given, "from", 0),
+        count: long_given(given, "count", u64::MAX),
+        registers: registers_given(given),
+        drive,
+    })
+}
+
+// Where the events of a debugged run come from.
+fn source_of<'a>(given: &ArgMatches<'a>) -> Result<Source<'a>, Clash>
+    ensures source { IfOk result (IsSource (rows_of (found_of given.now))) }
+    ensures together { IfOk result (λ _. go_together OrFile (rows_of (found_of given.now)) ≡ true) }
+    ensures clash { IfErr result (Clashes OrFile (rows_of (found_of given.now))) }
+{
+    let order = has_order(given);
+    if let Some(clash) = clash_of(given, OrderUse::OrFile) {
+        return Err(clash);
+    }
+    if !order {
+        return Ok(Source::File(file_given(given, "file")));
+    }
+    let drive = drive_given(given, OrderUse::OrFile)?;
+    Ok(Source::Driven(drive))
+}
+
+// The task of the words of `debug`.
+fn task_of_debug<'a>(given: &ArgMatches<'a>) -> Result<DebugTask<'a>, Clash>
+    ensures task { IfOk result (AsksDebug (rows_of (found_of given.now))) }
+    ensures together { IfOk result (λ _. go_together OrFile (rows_of (found_of given.now)) ≡ true) }
+    ensures clash { IfErr result (Clashes OrFile (rows_of (found_of given.now))) }
+{
+    let source = source_of(given)?;
+    Ok(DebugTask {
+        image: file_given(given, "image"),
+        source,
+        size: asked_size_given(given, 1_048_576),
+    })
+}
+
+// The arguments of `dis`.
+fn listing_task_of<'a>(given: &ArgMatches<'a>) -> ListingTask<'a>
+    ensures { AsksListing (rows_of (found_of given.now)) result }
+{
+    ListingTask {
+        image: file_given(given, "image"),
+        registers: registers_given(given),
     }
 }
 
@@ -184,6 +278,7 @@ fn files_task_of<'a>(given: &ArgMatches<'a>, text: &str, log: u32) -> FilesTask<
 }
 
 /// The task of the words of a command line.
+#[tactic(auto, using(crate::proofs::Undriven::undriven))]
 pub(crate) fn task_of<'a>(matches: &ArgMatches<'a>) -> Result<Task<'a>, Clash>
     ensures task { IfOk result (IsTask (subcommand_rows_of matches.now)) }
     ensures limits { IfOk result HasLimits }
@@ -195,11 +290,13 @@ pub(crate) fn task_of<'a>(matches: &ArgMatches<'a>) -> Result<Task<'a>, Clash>
         Some(("console", given)) => Ok(Task::Console(task_of_console(given)?)),
         Some(("schedule", given)) => Ok(Task::Schedule(task_of_schedule(given)?)),
         Some(("search", given)) => Ok(Task::Search(task_of_search(given)?)),
+        Some(("trace", given)) => Ok(Task::Trace(task_of_trace(given)?)),
         Some(("replay", given)) => Ok(Task::Replay(replay_task_of(given))),
-        Some(("debug", given)) => Ok(Task::Debug(files_task_of(given, "schedule", 65_536))),
+        Some(("debug", given)) => Ok(Task::Debug(task_of_debug(given)?)),
         Some(("audit", given)) => Ok(Task::Audit(files_task_of(given, "watches", 65_536))),
         Some(("as", _)) => Ok(Task::Assemble),
-        Some(("dis", given)) => Ok(Task::Disassemble(file_given(given, "image"))),
-        _ => Ok(Task::Demo),
+        Some(("dis", given)) => Ok(Task::Disassemble(listing_task_of(given))),
+        Some(_) => Ok(Task::Demo),
+        None => Ok(Task::Demo),
     }
 }

@@ -3,7 +3,7 @@
 ghost use Rattle.std.specs.Prelude.{◌≡◌, ◌≢◌, IfErr, IfOk, codes, false, map};
 ghost use Rattle.clap.specs.Words.{HasKind, app_of, fault_of, kind_of, rule_of, subcommand_of, subcommand_rows_of, with_rule, with_subcommand};
 ghost use Rattle.clap.specs.declared.error.kind.ErrorKind.TheVariants.{OutOfMemory};
-ghost use Rattle.s161_command.specs.Commands.{GoTogether, HasLimits, IsAccepted, IsRejected, IsTask, as_line, audit_line, burst_rule, command_line, console_line, debug_line, dis_line, file_rule, files_line, flag_rule, number_rule, on_image, plain_run_line, plain_search_line, program_line, replay_line, run_line, schedule_line, search_line, seeds_rule, threads_rule, with_asked_size_rules, with_size_rules};
+ghost use Rattle.s161_command.specs.Commands.{GoTogether, HasLimits, IsAccepted, IsRejected, IsTask, as_line, audit_line, burst_rule, command_line, console_line, debug_line, dis_line, file_rule, files_line, flag_rule, number_rule, on_image, optional_file_rule, plain_debug_line, plain_run_line, plain_search_line, plain_trace_line, program_line, replay_line, run_line, schedule_line, search_line, seeds_rule, threads_rule, trace_line, with_asked_size_rules, with_size_rules};
 ghost use Rattle.s161_command.specs.Drives.{long_rule, optional_rule, text_rule};
 ghost use Rattle.s161_command.specs.helpers.Commands.{IsLocal};
 
@@ -15,12 +15,15 @@ use crate::drive::{
 use crate::help::{
     AFTER_AS_HELP, AFTER_AUDIT_HELP, AFTER_CONSOLE_HELP, AFTER_DEBUG_HELP, AFTER_DIS_HELP,
     AFTER_HELP, AFTER_REPLAY_HELP, AFTER_RUN_HELP, AFTER_SCHEDULE_HELP, AFTER_SEARCH_HELP,
-    IMAGE_HELP,
+    AFTER_TRACE_HELP, IMAGE_HELP,
 };
 use crate::task::{Rejection, Task};
 use clap::{Arg, ArgAction, ArgMatches, Command, Error, value_parser};
 use std::alloc::{AllocError, Global};
 use std::convert::AsStr;
+
+// The help of `--names`.
+const NAMES_HELP: &str = "Shows registers of instructions by their names: $t0 for $8";
 
 // The help of `--log`.
 const LOG_HELP: &str = "Entries that the log keeps, the last ones, 1 to 16777216";
@@ -230,6 +233,32 @@ fn schedule_definition<'a>(alloc: Global) -> Result<Command<'a>, AllocError>
     with_pace(alloc, with_order(alloc, schedule)?, 16_777_216)
 }
 
+// The definition of `trace`, without the options of a driven run.
+fn plain_trace_definition<'a>(alloc: Global) -> Result<Command<'a>, AllocError>
+    ensures shape { IfOk result (λ command. app_of command ≡ plain_trace_line) }
+    ensures local { IfOk result IsLocal }
+{
+    let from_help = "The number of the first event that has a line, 0 where it is left out";
+    let count_help = "How many events have a line, all from there on where it is left out";
+    let trace = Command::new(alloc, "trace")
+        .about("Prints a line for each event of a run: the instruction, and what it changed")
+        .after_help(AFTER_TRACE_HELP)
+        .arg(file_argument(alloc, "image", "IMAGE", IMAGE_HELP))?;
+    with_size(alloc, trace, "65536")?
+        .arg(optional_long(alloc, "from", "K", from_help, 0, u64::MAX))?
+        .arg(optional_long(alloc, "count", "N", count_help, 0, u64::MAX))?
+        .arg(flag_option(alloc, "names", NAMES_HELP))
+}
+
+// The definition of `trace`.
+fn trace_definition<'a>(alloc: Global) -> Result<Command<'a>, AllocError>
+    ensures shape { IfOk result (λ command. app_of command ≡ trace_line) }
+    ensures local { IfOk result IsLocal }
+{
+    let trace = plain_trace_definition(alloc)?;
+    with_pace(alloc, with_order(alloc, trace)?, 9_223_372_036_854_775_807)
+}
+
 // The definition of `replay`.
 fn replay_definition<'a>(alloc: Global) -> Result<Command<'a>, AllocError>
     ensures shape { IfOk result (λ command. app_of command ≡ replay_line) }
@@ -244,16 +273,36 @@ fn replay_definition<'a>(alloc: Global) -> Result<Command<'a>, AllocError>
     with_asked_size(alloc, replay, "65536")
 }
 
+// The name of a file that may be left out.
+fn optional_file<'a>(alloc: Global, name: &'a str, shown: &'a str, help: &'a str) -> Arg<'a>
+    ensures rule { rule_of result ≡ optional_file_rule name.entry.now }
+    ensures local { result.global ≡ false }
+{
+    Arg::new(alloc, name).value_name(shown).help(help)
+}
+
+// The definition of `debug`, without the options of a driven run.
+fn plain_debug_definition<'a>(alloc: Global) -> Result<Command<'a>, AllocError>
+    ensures shape { IfOk result (λ command. app_of command ≡ plain_debug_line) }
+    ensures local { IfOk result IsLocal }
+{
+    let file_help = "A schedule's or a log's file; left out where an order is given";
+    let debug = Command::new(alloc, "debug")
+        .about("Does a debugger's commands on an image under a list of events")
+        .after_help(AFTER_DEBUG_HELP);
+    let debug = debug
+        .arg(file_argument(alloc, "image", "IMAGE", IMAGE_HELP))?
+        .arg(optional_file(alloc, "file", "FILE", file_help))?;
+    with_asked_size(alloc, debug, "1048576")
+}
+
 // The definition of `debug`.
 fn debug_definition<'a>(alloc: Global) -> Result<Command<'a>, AllocError>
     ensures shape { IfOk result (λ command. app_of command ≡ debug_line) }
     ensures local { IfOk result IsLocal }
 {
-    let debug = Command::new(alloc, "debug")
-        .about("Does a debugger's commands on an image under a schedule")
-        .after_help(AFTER_DEBUG_HELP);
-    let schedule = file_argument(alloc, "schedule", "SCHEDULE", "A schedule's file");
-    with_files(alloc, debug, schedule, "65536")
+    let debug = plain_debug_definition(alloc)?;
+    with_pace(alloc, with_order(alloc, debug)?, 16_777_216)
 }
 
 // The definition of `audit`.
@@ -286,7 +335,8 @@ fn dis_definition<'a>(alloc: Global) -> Result<Command<'a>, AllocError>
     Command::new(alloc, "dis")
         .about("Prints the instructions of an image")
         .after_help(AFTER_DIS_HELP)
-        .arg(file_argument(alloc, "image", "IMAGE", IMAGE_HELP))
+        .arg(file_argument(alloc, "image", "IMAGE", IMAGE_HELP))?
+        .arg(flag_option(alloc, "names", NAMES_HELP))
 }
 
 // The program with its demo, before the other commands.
@@ -335,6 +385,15 @@ fn with_search<'a>(alloc: Global, program: Command<'a>) -> Result<Command<'a>, A
 {
     let search = search_definition(alloc)?;
     program.subcommand(search)
+}
+
+// A program with `trace` added.
+fn with_trace<'a>(alloc: Global, program: Command<'a>) -> Result<Command<'a>, AllocError>
+    ensures { IfOk result (λ more.
+        app_of more ≡ with_subcommand (app_of program.entry) trace_line.top) }
+{
+    let trace = trace_definition(alloc)?;
+    program.subcommand(trace)
 }
 
 // A program with `replay` added.
@@ -388,6 +447,7 @@ fn definition<'a>(alloc: Global) -> Result<Command<'a>, AllocError>
     let program = with_console(alloc, program)?;
     let program = with_schedule(alloc, program)?;
     let program = with_search(alloc, program)?;
+    let program = with_trace(alloc, program)?;
     let program = with_replay(alloc, program)?;
     let program = with_debug(alloc, program)?;
     let program = with_audit(alloc, program)?;

@@ -3,7 +3,7 @@
 ghost use Rattle.std.specs.Prelude.{◌≡◌, false, true, None, IfOk, MatchOption, MatchResult, codes, option_map};
 ghost use Rattle.clap.specs.Words.{app_of, first_of, found_of, one_of, rows_of, rule_of};
 ghost use Rattle.m161_order.specs.Order.{order_fault};
-ghost use Rattle.s161_command.specs.Drives.{AsksDrive, Clashes, IsBadGap, IsGap, IsGivenOrder, IsLongNumberOf, IsOrder, IsSeeded, changes_without_seed, events_by_default, gap_by_default, go_together, half_priorities, has_order, has_pace, has_seed, is_driven, is_given, lacks_order, long_rule, optional_rule, order_in_threads, pace_without_order, shows_log_twice, text_rule, two_orders, with_console_pace_rules, with_order_rules, with_pace_rules, with_priority_rules};
+ghost use Rattle.s161_command.specs.Drives.{AsksDrive, Clashes, IsBadGap, IsGap, IsGivenOrder, IsLongNumberOf, IsOrder, IsSeeded, changes_without_seed, events_by_default, file_and_order, gap_by_default, go_together, half_priorities, has_order, has_pace, has_seed, is_driven, is_given, lacks_events, lacks_order, long_rule, optional_rule, order_in_threads, pace_without_order, shows_log_twice, text_rule, two_orders, with_console_pace_rules, with_order_rules, with_pace_rules, with_priority_rules};
 ghost use Rattle.s161_command.specs.helpers.Commands.{IsLocal};
 
 use crate::given::{is_set, long_given, number_given};
@@ -41,6 +41,8 @@ pub enum OrderUse {
     Assumed,
     /// `search`: it is one at random or by priorities, with each seed from `--from` on.
     Seeded,
+    /// `debug`: one is wanted, or a file of events, and not both.
+    OrFile,
 }
 
 /// Why options that clap takes can't be followed.
@@ -60,6 +62,10 @@ pub enum Clash {
     OrderInThreads,
     #[error("--only-log prints the log alone, and --show-log the rest too: give one of them")]
     LogTwice,
+    #[error("the file and the order both give the events: give one of them")]
+    FileAndOrder,
+    #[error("events are wanted: a schedule's or a log's file, or --turns N or --random SEED")]
+    NoEvents,
     #[error("{0}")]
     BadOrder(OrderError),
     #[error("--gap is a number of events, 0 to 4294967295, or none")]
@@ -274,7 +280,9 @@ fn has_seed<'a>(given: &ArgMatches<'a>, orders: OrderUse) -> bool
 {
     match orders {
         OrderUse::Seeded => true,
-        OrderUse::Optional | OrderUse::Needed | OrderUse::Assumed => is_given(given, "random"),
+        OrderUse::Optional | OrderUse::Needed | OrderUse::Assumed | OrderUse::OrFile => {
+            is_given(given, "random")
+        }
     }
 }
 
@@ -283,7 +291,7 @@ fn is_driven<'a>(given: &ArgMatches<'a>, orders: OrderUse) -> bool
     ensures { result ≡ is_driven orders (rows_of (found_of given.now)) }
 {
     match orders {
-        OrderUse::Optional | OrderUse::Needed => has_order(given),
+        OrderUse::Optional | OrderUse::Needed | OrderUse::OrFile => has_order(given),
         OrderUse::Assumed | OrderUse::Seeded => true,
     }
 }
@@ -299,7 +307,27 @@ fn lacks_order<'a>(given: &ArgMatches<'a>, orders: OrderUse) -> bool
 {
     match orders {
         OrderUse::Needed => !has_order(given),
-        OrderUse::Optional | OrderUse::Assumed | OrderUse::Seeded => false,
+        OrderUse::Optional | OrderUse::Assumed | OrderUse::Seeded | OrderUse::OrFile => false,
+    }
+}
+
+// Whether a file and an order both give the events.
+fn file_and_order<'a>(given: &ArgMatches<'a>, orders: OrderUse) -> bool
+    ensures { result ≡ file_and_order orders (rows_of (found_of given.now)) }
+{
+    match orders {
+        OrderUse::OrFile => is_given(given, "file") && has_order(given),
+        OrderUse::Optional | OrderUse::Needed | OrderUse::Assumed | OrderUse::Seeded => false,
+    }
+}
+
+// Whether neither of them does.
+fn lacks_events<'a>(given: &ArgMatches<'a>, orders: OrderUse) -> bool
+    ensures { result ≡ lacks_events orders (rows_of (found_of given.now)) }
+{
+    match orders {
+        OrderUse::OrFile => !is_given(given, "file") && !has_order(given),
+        OrderUse::Optional | OrderUse::Needed | OrderUse::Assumed | OrderUse::Seeded => false,
     }
 }
 
@@ -347,6 +375,12 @@ pub(crate) fn clash_of<'a>(given: &ArgMatches<'a>, orders: OrderUse) -> Option<C
     if shows_log_twice(given) {
         return Some(Clash::LogTwice);
     }
+    if file_and_order(given, orders) {
+        return Some(Clash::FileAndOrder);
+    }
+    if lacks_events(given, orders) {
+        return Some(Clash::NoEvents);
+    }
     None
 }
 
@@ -381,7 +415,7 @@ fn order_of<'a>(given: &ArgMatches<'a>, orders: OrderUse) -> Order
 {
     match orders {
         OrderUse::Seeded => seeded_order(given, "from"),
-        OrderUse::Optional | OrderUse::Needed => given_order(given),
+        OrderUse::Optional | OrderUse::Needed | OrderUse::OrFile => given_order(given),
         OrderUse::Assumed => {
             if has_order(given) {
                 given_order(given)
@@ -426,7 +460,7 @@ fn gap_by_default(orders: OrderUse) -> Option<u32>
 {
     match orders {
         OrderUse::Assumed => None,
-        OrderUse::Optional | OrderUse::Needed | OrderUse::Seeded => Some(1_000),
+        OrderUse::Optional | OrderUse::Needed | OrderUse::Seeded | OrderUse::OrFile => Some(1_000),
     }
 }
 
@@ -447,7 +481,7 @@ fn events_by_default(orders: OrderUse) -> u64
     ensures { result ≡ events_by_default orders }
 {
     match orders {
-        OrderUse::Optional | OrderUse::Needed => 1_000_000,
+        OrderUse::Optional | OrderUse::Needed | OrderUse::OrFile => 1_000_000,
         OrderUse::Assumed => u64::MAX,
         OrderUse::Seeded => 100_000,
     }

@@ -9,7 +9,8 @@ pub(crate) const AFTER_HELP: &str = "\
 Exit status:
   0  a finished demo, schedule, debug, as or dis, a machine that switched
      itself off, a log that agrees, a clean run or search, or help
-  1  a fault, named on standard error, or a refused event of run or console
+  1  a fault, named on standard error, or a refused event of run, trace or
+     console
   2  a rejected command line
   3  the schedule, the events or the Steps of the threads ended
   4  a log that differs, a stale use, or a run that goes wrong in search
@@ -107,6 +108,30 @@ Example:
   s161 schedule kernel.elf --cpus 2 --random 7 > seed-7.schedule
   s161 run kernel.elf --cpus 2 < seed-7.schedule";
 
+/// The end of the help of `trace`.
+pub(crate) const AFTER_TRACE_HELP: &str = "\
+The events are those of run: a schedule from standard input, or chosen by an order. A line is
+  K P PC WORD TEXT  ITEMS   event K, from 0, is a Step of processor P: its address, the word that is
+                            fetched and its text, or - where none is; and what the Step changed
+  K k HH                    a byte is typed
+  K o                       the console has sent its byte
+ITEMS are state=, r1= to r31=, hi=, lo=, the registers of coprocessor 0 by their names, tlb ROW=,
+[ADDRESS]= for a stored word of RAM, link=ADDRESS, unlink P, and of the board latch=, waiting=,
+wirq=, rirq=, irqe=, cpue=, cirqe P=, cipi P=, cram P K=, each where it has changed; then trap CODE
+VECTOR, idle or off; and starts P. Random, Count and PRId aren't shown. The last line says why the
+run stopped. The run is made to its end, and events K to K + N - 1 have lines (--from, --count).
+The image, a schedule and keys have at most 402653184 bytes each.
+
+Exit status:
+  0  the machine switched itself off
+  1  a fault, named on standard error, or a refused event
+  3  the schedule or the events ended
+  5  no processor can go on, and no byte or key is left (stop: stuck)
+
+Example:
+  s161 trace kernel.elf --cpus 2 --random 7 --from 1000 --count 50
+  s161 trace kernel.elf --cpus 2 < bad.schedule";
+
 /// The end of the help of `replay`.
 pub(crate) const AFTER_REPLAY_HELP: &str = "\
 The log is what run --only-log prints; it may be longer than --log. Its first line names the size of
@@ -126,22 +151,34 @@ Example:
 
 /// The end of the help of `debug`.
 pub(crate) const AFTER_DEBUG_HELP: &str = "\
-The schedule is that of run, in a file. The commands are read from standard input, one a line:
+The events are those of FILE, a schedule or a log (run --only-log), or those that an order chooses:
+give one of the two. A log says the machine's size, as for replay; without one it is 1048576 bytes
+and 1 processor where nothing is given. The commands are read from standard input, one a line, and
+each is answered before the next one is read:
   b P ADDR  d P ADDR   sets or deletes a breakpoint of processor P
-  g  g N               makes the schedule's other events, or N of them, up to a breakpoint
-  s P  k HH  o         makes an event that isn't the schedule's
+  g  g N               makes the other events, or N of them, up to a breakpoint
+  u m ADDR  u r P N  u i P I  u t P  u o
+                       as g, and stops after the first event that changes the word of RAM, register
+                       N of P or row I of its TLB, that traps P, or that sends a byte
+  j K                  goes back to the state before event K of those that were made
+  s P  s P N  k HH  o  makes an event, or N Steps, that aren't FILE's
+  w                    shows where each processor is
   r P  c P  t P        shows registers, coprocessor 0, the TLB
   m ADDR N  x ADDR N   shows N words of memory or of code, 1 to 1024
+  x ADDR N P           the same as processor P would fetch them
   l N                  shows the log's last N entries, 1 to 1024, or all that it keeps
-An error of a command is printed as `? Name`, and the next one is done. A file and the input have at
-most 402653184 bytes.
+  help  quit
+ADDR has one to eight hexadecimal digits, behind 0x or not. An error of a command is printed as
+`? Name`, and the next one is done. The image, FILE and keys have at most 402653184 bytes each, and
+so has a line of the input.
 
 Exit status:
   0  the commands ended
   1  a fault, named on standard error
 
 Example:
-  printf 'b 0 80000208\\ng\\nr 0\\n' | s161 debug kernel.elf schedule";
+  printf 'b 0 80000208\\ng\\nr 0\\n' | s161 debug kernel.elf schedule
+  s161 debug kernel.elf --cpus 2 --random 7";
 
 /// The end of the help of `audit`.
 pub(crate) const AFTER_AUDIT_HELP: &str = "\

@@ -12,6 +12,7 @@ pub use command::parse;
 pub use drive::{Clash, Drive, OrderUse};
 pub use m161_order::{Order, OrderError};
 pub use task::{
-    AskedSize, ConsoleTask, DrivenTask, FilesTask, Rejection, ReplayTask, RunTask, ScheduleTask,
-    SearchTask, Shown, Size, Task, ThreadsTask,
+    AskedSize, ConsoleTask, DebugTask, DrivenTask, FilesTask, ListingTask, Registers, Rejection,
+    ReplayTask, RunTask, ScheduleTask, SearchTask, Shown, Size, Source, Task, ThreadsTask,
+    TraceTask,
 };

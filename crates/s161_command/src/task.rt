@@ -20,16 +20,18 @@ pub enum Task<'a> {
     Console(ConsoleTask<'a>),
     /// Look for a seed whose run goes wrong.
     Search(SearchTask<'a>),
+    /// Print a line for each event of a run.
+    Trace(TraceTask<'a>),
     /// Replay an image against a log.
     Replay(ReplayTask<'a>),
-    /// Debug an image under a schedule.
-    Debug(FilesTask<'a>),
+    /// Debug an image under a list of events.
+    Debug(DebugTask<'a>),
     /// Look for stale uses of an image's run under a schedule, by the watches of a text.
     Audit(FilesTask<'a>),
     /// Assemble a text into its file.
     Assemble,
-    /// List the instructions of the image of this name.
-    Disassemble(&'a str),
+    /// List the instructions of an image.
+    Disassemble(ListingTask<'a>),
 }
 
 /// The size of the machine that is asked for.
@@ -126,7 +128,62 @@ pub struct SearchTask<'a> {
     pub whole: bool,
 }
 
-/// The size of the machine that `replay` asks for.
+/// How registers are shown in instructions.
+#[derive(Clone, Copy, Debug, PartialEq, Eq)]
+pub enum Registers {
+    /// By their numbers: `$8`.
+    Numbered,
+    /// By their names in assembly: `$t0`.
+    Named,
+}
+
+/// The arguments of `trace`.
+#[derive(Clone, Copy)]
+pub struct TraceTask<'a> {
+    /// The image's name.
+    pub image: &'a str,
+    /// The machine's size.
+    pub size: Size,
+    /// The number of the first event that has a line.
+    pub from: u64,
+    /// How many events have a line, from that one on.
+    pub count: u64,
+    /// How registers are shown.
+    pub registers: Registers,
+    /// What the driven run is asked for; without it a schedule is read.
+    pub drive: Option<Drive<'a>>,
+}
+
+/// Where the events of a debugged run come from.
+#[derive(Clone, Copy)]
+pub enum Source<'a> {
+    /// A schedule's or a log's file, by its name.
+    File(&'a str),
+    /// A driven run.
+    Driven(Drive<'a>),
+}
+
+/// The arguments of `debug`.
+#[derive(Clone, Copy)]
+pub struct DebugTask<'a> {
+    /// The image's name.
+    pub image: &'a str,
+    /// Where the events come from.
+    pub source: Source<'a>,
+    /// The machine's size.
+    pub size: AskedSize,
+}
+
+/// The arguments of `dis`.
+#[derive(Clone, Copy)]
+pub struct ListingTask<'a> {
+    /// The image's name.
+    pub image: &'a str,
+    /// How registers are shown.
+    pub registers: Registers,
+}
+
+/// The size of the machine that `replay` or `debug` asks for.
 #[derive(Clone, Copy)]
 pub struct AskedSize {
     /// Bytes of RAM, if they are given.

@@ -20,7 +20,8 @@ use Rattle.s161_base.specs.declared.fault.Fault.{Fault}
 use Rattle.s161_base.specs.declared.fault.Fault.TheVariants as fault
 use Rattle.s161_command.specs.declared.drive.Drive.{Drive}
 use Rattle.s161_drive.specs.Driven.{rules_of}
-use Rattle.s161_console.specs.Consoles.{InputFails, Fails, OutputFails, Serves, keys_taken, streams}
+use Rattle.s161_console.specs.Consoles.{InputFails, Fails, OutputFails, Serves, keys_taken}
+use Rattle.s161_base.specs.Streams.{streams}
 use Rattle.s161_console.specs.helpers.Consoles.{FailsToRead, FailsToWrite, GivesKey, IsOff, Makes, Place, Rests, TakesTurn, last_stop, place, sent_since}
 use Rattle.s161_console.proofs.Choosing.{as_list, counts, same_choice, unread}
 use Rattle.s161_console.proofs.Sending.{Sends, event_sends}

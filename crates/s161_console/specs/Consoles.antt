@@ -22,29 +22,10 @@ use Rattle.s161_base.specs.Known.{OfKnown}
 use Rattle.s161_base.specs.Reading.{IsOfBytes}
 use Rattle.s161_base.specs.Samples.{IsFileName}
 use Rattle.s161_base.specs.Sizes.{conf_of}
+use Rattle.s161_base.specs.Streams.{AreUntouched, Streams}
 use Rattle.s161_drive.specs.Driven.{rules_of, stop_of}
 
 -- A driven run whose keys are an input, and whose console writes to an output.
-
--- what an input had and has left, and what an output had and has, as far as the bytes are known
-pub record Streams : Type 0 where
-  pub input : Option (List ℕ)
-  pub left : Option (List ℕ)
-  pub before : Option (List ℕ)
-  pub after : Option (List ℕ)
-
-abbrev pub streams :
-    Option (List ℕ) → Option (List ℕ) → Option (List ℕ) → Option (List ℕ) → Streams
-streams input left before after = record {
-  input = input;
-  left = left;
-  before = before;
-  after = after;
-}
-
--- nothing was read or written
-abbrev pub AreUntouched : Streams → Type 0
-AreUntouched x = (x.left ≡ x.input) × (x.after ≡ x.before)
 
 -- how many keys a run has taken where it stops: those that it typed, and one more if the event that
 -- is refused is a key

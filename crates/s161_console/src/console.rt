@@ -3,17 +3,17 @@
 ghost use Rattle.std.specs.Prelude.{◌≡◌, IfErr, IfOk, None};
 ghost use Rattle.m161_order.specs.Order.{order_fault};
 ghost use Rattle.s161_base.specs.Samples.{image_file};
-ghost use Rattle.s161_console.specs.Consoles.{IsConsoleRun, IsConsoleFault, streams};
-ghost use Rattle.s161_drive.specs.Driven.{stop_of};
+ghost use Rattle.s161_base.specs.Streams.{streams};
+ghost use Rattle.s161_console.specs.Consoles.{IsConsoleRun, IsConsoleFault};
 
 use crate::serving::serve;
 use m161::Machine;
-use m161_drive::Driven;
 use m161_machine::Conf;
 use s161_base::fault::Fault;
 use s161_base::files::FileSource;
 use s161_base::sample::read_image;
 use s161_command::ConsoleTask;
+use s161_drive::driven::stop_of;
 use s161_runs::events::Stop;
 use std::alloc::Global;
 use std::io::{Read, Write};
@@ -53,16 +53,4 @@ pub fn console<'a, F: FileSource, I: Read, O: Write>(
     )?;
     let driven = serve(&mut machine, task.drive, input, output)?;
     Ok(stop_of(driven))
-}
-
-// How a driven run stopped, as a command tells it.
-fn stop_of(driven: Driven) -> Stop
-    ensures { result ≡ stop_of driven }
-{
-    match driven.stop {
-        m161_drive::Stop::Off => Stop::Off,
-        m161_drive::Stop::End => Stop::End,
-        m161_drive::Stop::Stuck => Stop::Stuck,
-        m161_drive::Stop::Refused(refusal) => Stop::Refused(driven.made as usize, refusal),
-    }
 }

@@ -3,5 +3,5 @@
 #![tactic(auto)]
 
 pub mod console;
+mod keys;
 mod serving;
-mod streams;

@@ -4,13 +4,15 @@ ghost use Rattle.std.specs.Prelude.{◌≡◌, ◌<◌, ◌-◌, ◌^◌, false,
 ghost use Rattle.std.specs.Io.KnownBytes.{Consumes, IsAtEnd};
 ghost use Rattle.m161_drive.specs.Choice.{wants_key};
 ghost use Rattle.m161_order.specs.Order.{order_fault};
-ghost use Rattle.s161_console.specs.Consoles.{Fails, Serves, streams};
-ghost use Rattle.s161_console.specs.helpers.Consoles.{AppendsSome, GivesKey, Goes, Makes, Turn, last_stop, place, sent_since};
+ghost use Rattle.s161_console.specs.Consoles.{Fails, Serves};
+ghost use Rattle.s161_base.specs.Streams.{AppendsSome, streams};
+ghost use Rattle.s161_console.specs.helpers.Consoles.{GivesKey, Goes, Makes, Turn, last_stop, place, sent_since};
 
-use crate::streams::{read_key, send};
+use crate::keys::read_key;
 use m161::Machine;
 use m161_drive::{Cursor, Driven, Policy, Stop};
 use s161_base::fault::{Fault, Unread};
+use s161_base::streams::send;
 use s161_command::Drive;
 use std::io::{Read, Write};
 

@@ -1,91 +1,160 @@
-use Rattle.std.specs.Prelude.{◌≡◌, ◌⊎◌, ℕ, false, List, [], ◌∷◌, ◌++◌, Option, Some, Result, Ok, Err, IfSome, codes, drop}
+use Rattle.std.specs.Prelude.{◌≡◌, ◌⊎◌, ℕ, Bool, true, false, nat_eq, if◌then◌else◌, List, [], ◌∷◌, Option, None, Some, IfSome, codes}
+use Rattle.std.specs.List.{starts_with}
 use Rattle.m161_machine.specs.declared.conf.BootError.TheVariants.{Load}
+use Rattle.m161_machine.specs.declared.conf.Conf.{Conf as MachineConf}
+use Rattle.m161_machine.specs.declared.event.Entry.{Entry}
 use Rattle.m161_machine.specs.declared.event.Event.{Event}
 use Rattle.m161_machine.specs.Conf.{is_within_limits}
-use Rattle.m161_machine.specs.History.{History, boot_fault}
-use Rattle.m161_text.specs.Lines.{FirstBad, lines_of, with_line_end}
-use Rattle.m161_text.specs.Parts.{◌␣◌}
+use Rattle.m161_machine.specs.History.{History, boot_fault, events_of}
+use Rattle.m161_text.specs.Lines.{FirstBad, lines_of}
+use Rattle.m161_steplog.specs.declared.machine.MachineLine.{MachineLine}
+use Rattle.m161_steplog.specs.Comments.{IsFirstBadOfLog, IsLogFile, is_comment}
 use Rattle.m161_steplog.specs.Schedule.{AreScheduleLines, IsSchedule}
-use Rattle.m161_debug.specs.declared.command.CommandError.{CommandError}
-use Rattle.m161_debug.specs.Breakpoints.{SessionState}
-use Rattle.m161_debug.specs.Commands.{name_of_error}
-use Rattle.m161_debug.specs.Obeys.{Commands}
-use Rattle.s161_command.specs.declared.task.FilesTask.{FilesTask}
+use Rattle.s161_command.specs.declared.drive.Drive.{Drive}
+use Rattle.s161_command.specs.declared.task.AskedSize.{AskedSize}
+use Rattle.s161_command.specs.declared.task.DebugTask.{DebugTask}
+use Rattle.s161_command.specs.declared.task.Source.{Source}
+use Rattle.s161_command.specs.declared.task.Source.TheVariants as source
 use Rattle.s161_base.specs.declared.fault.Fault.{Fault}
-use Rattle.s161_base.specs.declared.fault.Fault.TheVariants.{Conf, File, Image, Input, Memory, Schedule}
-use Rattle.s161_base.specs.Texts.{HasSchedule}
+use Rattle.s161_base.specs.declared.fault.Fault.TheVariants.{Conf, Image, Log, LogImage, LogMachine, Memory, Schedule}
 use Rattle.s161_base.specs.Faults.{BootsTo}
-use Rattle.s161_base.specs.Known.{IsText, OfKnown, OfText}
-use Rattle.s161_base.specs.Reading.{IsOfBytes, IsOfText}
+use Rattle.s161_base.specs.Known.{OfKnown, OfText}
+use Rattle.s161_base.specs.Machines.{NamesMachine, asked_conf, machine_fault}
+use Rattle.s161_base.specs.Reading.{IsFileUnread, IsOfBytes, IsOfText}
 use Rattle.s161_base.specs.Samples.{IsFileName}
-use Rattle.s161_base.specs.Sizes.{conf_of}
+use Rattle.s161_base.specs.Streams.{AreUntouched, Streams}
+use Rattle.s161_drive.specs.Driven.{AreKeys, IsKeysFile, rules_of}
+use Rattle.s161_drive.specs.Schedules.{Chose, log_for}
+use Rattle.s161_debug.specs.Sessions.{Breaks, Ends, session_of}
 
--- The output of `debug`.
+-- The inputs of `debug`: its image, and its list of events.
 
--- the text after a command's own: the line of its error
-abbrev pub error_text : Result ℕ CommandError → List ℕ
-error_text (Ok used) = []
-error_text (Err e) = with_line_end (codes "?" ␣ name_of_error e)
+-- the first of these lines that is no comment, or the empty line
+abbrev pub first_plain : List (List ℕ) → List ℕ
+first_plain [] = []
+first_plain (line ∷ lines) = if is_comment line then first_plain lines else line
 
--- the remaining events after a command
-abbrev pub left_by : Result ℕ CommandError → List Event → List Event
-left_by (Ok used) events = drop used events
-left_by (Err e) events = events
+-- a text is a log's where that line begins so, else a schedule
+unfoldable pub is_log : List ℕ → Bool
+is_log text = starts_with nat_eq (first_plain (lines_of text)) (codes "m161 ")
 
--- the command of a line is executed over the remaining events; these are the events and the session
--- after it, and the text grows to this one
-pub record DoesLine
-    (line : List ℕ) (s : SessionState) (events : List Event)
-    (t : SessionState) (left : List Event) (before : List ℕ) (after : List ℕ) : Type 0 where
-  pub answer : Result ℕ CommandError
-  pub shown : List ℕ
-  pub commands : Commands line s events answer t before shown
-  pub left_is : left ≡ left_by answer events
-  pub after_is : after ≡ shown ++ error_text answer
+-- the events of a text, and what its machine line says if it has one: those of a log, whose outcomes
+-- don't count; or those of a schedule
+abbrev pub ListsAs : Bool → List ℕ → List Event → Option MachineLine → Type 0
+ListsAs true text events line =
+    ((entries : List Entry) × IsLogFile text entries × (events ≡ events_of entries))
+    × NamesMachine text line
+ListsAs false text events line = IsSchedule (lines_of text) events × (line ≡ None)
 
--- the commands of these lines are executed, one after the other, and the text grows to this one
-abbrev pub DoesLines : List (List ℕ) → SessionState → List Event → List ℕ → List ℕ → Type 0
-DoesLines [] s events before after = after ≡ before
-DoesLines (line ∷ lines) s events before after =
-    (t : SessionState) × (left : List Event) × (text : List ℕ)
-    × DoesLine line s events t left before text × DoesLines lines t left text after
+abbrev pub Lists : List ℕ → List Event → Option MachineLine → Type 0
+Lists text events line = ListsAs (is_log text) text events line
 
--- a session of a machine, without breakpoints
-abbrev pub session_of : History → SessionState
-session_of m = record { machine = m; breakpoints = [] }
+-- the machine of a driven run: as the session's, but its log keeps all of the run's events
+abbrev pub driven_conf : AskedSize → Drive → MachineConf
+driven_conf size drive =
+    record (asked_conf size None) { log = log_for size.log drive.events }
 
--- a finished debugged run: what it prints; the files of the image and the schedule and standard
--- input have these bytes, as far as they are known
-pub record IsDebug
-    (task : FilesTask) (image : Option (List ℕ)) (schedule : Option (List ℕ))
-    (input : Option (List ℕ)) (text : List ℕ) : Type 0 where
+-- on a machine of its own, booted from this file, these are the events that a policy chooses
+pub record ChoseFrom (file : List ℕ) (size : AskedSize) (drive : Drive) (keys : List ℕ)
+    (events : List Event) : Type 0 where
+  pub booted : History
+  pub boots : BootsTo file (driven_conf size drive) booted
+  pub chose : Chose (rules_of drive keys) drive.events booted events
+
+-- where the events come from: the text of a file; or a driven run, whose keys are the bytes of a file
+abbrev pub ComesFrom :
+    Source → AskedSize → (List ℕ → Option (List ℕ)) → List ℕ → List Event → Option MachineLine →
+    Type 0
+ComesFrom (source.File name) size files file events line =
+    OfText (files name.now) (λ text. Lists text events line)
+ComesFrom (source.Driven drive) size files file events line =
+    ((keys : List ℕ) × AreKeys drive.keys files keys × ChoseFrom file size drive keys events)
+    × (line ≡ None)
+
+-- a session's machine was booted from a file, and these are its events
+pub record IsOpened
+    (from : Source) (size : AskedSize) (files : List ℕ → Option (List ℕ)) (file : List ℕ)
+    (booted : History) (events : List Event) : Type 0 where
+  pub line : Option MachineLine
+  pub come : ComesFrom from size files file events line
+  pub is_that : machine_fault size file line ≡ None
+  pub boots : BootsTo file (asked_conf size line) booted
+
+-- the session of a task: its image's file was booted; the files have these bytes, and that of the
+-- image, as far as they are known
+pub record Opens
+    (task : DebugTask) (files : List ℕ → Option (List ℕ)) (image : Option (List ℕ))
+    (booted : History) (events : List Event) : Type 0 where
   pub file : List ℕ
   pub is_file : IfSome image (λ bytes. file ≡ bytes)
-  pub booted : History
-  pub boots : BootsTo file (conf_of task.size) booted
-  pub events_text : List ℕ
-  pub is_file_of_events : IfSome schedule (λ bytes. events_text ≡ bytes)
-  pub is_text : IsText events_text
-  pub events : List Event
-  pub is_schedule : IsSchedule (lines_of events_text) events
-  pub commands : List ℕ
-  pub is_input : IfSome input (λ bytes. commands ≡ bytes)
-  pub is_text_of_commands : IsText commands
-  pub does : DoesLines (lines_of commands) (session_of booted) events [] text
+  pub opened : IsOpened task.source task.size files file booted events
 
--- what a fault that ends a debugged run says of its inputs: of a file, that it is the image's or the
--- schedule's; of the schedule, its first bad line; of the configuration or the image, that the
--- schedule had no fault. File, Input and Memory hold whatever else is at fault. The order in which
--- inputs are read is tested: the image's file, the schedule's file, then standard input
-abbrev pub IsDebugFault : FilesTask → Option (List ℕ) → Option (List ℕ) → Fault → Type 0
-IsDebugFault task image schedule (File name why) =
-    ((name.now ≡ task.image.now) × IsFileName task.image.now × IsOfBytes why)
-    ⊎ ((name.now ≡ task.text.now) × IsOfText schedule why)
-IsDebugFault task image schedule (Input why) = Unit {0}
-IsDebugFault task image schedule (Schedule n) =
-    OfText schedule (λ text. FirstBad AreScheduleLines text n)
-IsDebugFault task image schedule Conf = HasSchedule schedule × (is_within_limits (conf_of task.size) ≡ false)
-IsDebugFault task image schedule (Image e) =
-    HasSchedule schedule × OfKnown image (λ file. boot_fault file (conf_of task.size) ≡ Some (Load e))
-IsDebugFault task image schedule Memory = Unit {0}
-IsDebugFault task image schedule _ = ⊥
+-- a finished session
+pub record IsDebug
+    (task : DebugTask) (files : List ℕ → Option (List ℕ)) (image : Option (List ℕ)) (x : Streams)
+    : Type 0 where
+  pub booted : History
+  pub events : List Event
+  pub opens : Opens task files image booted events
+  pub ends : Ends (session_of booted) events x
+
+-- a text lists no events, by its first bad line; or memory was refused
+abbrev pub IsListFault : List ℕ → Fault → Type 0
+IsListFault text (Schedule n) = (is_log text ≡ false) × FirstBad AreScheduleLines text n
+IsListFault text (Log n) = (is_log text ≡ true) × IsFirstBadOfLog text n
+IsListFault text Memory = Unit {0}
+IsListFault text _ = ⊥
+
+-- a file, in the size that is asked for, isn't the machine of a machine line; or it is, and isn't
+-- booted in one of these sizes; or memory was refused
+abbrev pub IsMachineFault :
+    AskedSize → List ℕ → Option MachineLine → (MachineConf → Type 0) → Fault → Type 0
+IsMachineFault size file line IsBooted LogMachine =
+    machine_fault size file line ≡ Some LogMachine
+IsMachineFault size file line IsBooted LogImage = machine_fault size file line ≡ Some LogImage
+IsMachineFault size file line IsBooted Conf =
+    (machine_fault size file line ≡ None)
+    × ((conf : MachineConf) × IsBooted conf × (is_within_limits conf ≡ false))
+IsMachineFault size file line IsBooted (Image e) =
+    (machine_fault size file line ≡ None)
+    × ((conf : MachineConf) × IsBooted conf × (boot_fault file conf ≡ Some (Load e)))
+IsMachineFault size file line IsBooted Memory = Unit {0}
+IsMachineFault size file line IsBooted _ = ⊥
+
+-- why a session isn't opened over an image's file. A text isn't read, or lists no events; or else
+-- the machine's fault. Or the keys of a driven run aren't read; or else a machine's fault, that of the
+-- run's or the session's
+abbrev pub IsSourceFault :
+    Source → AskedSize → (List ℕ → Option (List ℕ)) → List ℕ → Fault → Type 0
+IsSourceFault (source.File name) size files file fault =
+    IsFileUnread name (IsOfText (files name.now)) fault
+    ⊎ OfText (files name.now) (λ text. IsListFault text fault)
+    ⊎ OfText (files name.now) (λ text.
+    (events : List Event) × (line : Option MachineLine) × Lists text events line
+    × IsMachineFault size file line (λ conf. conf ≡ asked_conf size line) fault)
+IsSourceFault (source.Driven drive) size files file fault =
+    IsKeysFile drive.keys fault
+    ⊎ IsMachineFault size file None
+    (λ conf. (conf ≡ driven_conf size drive) ⊎ (conf ≡ asked_conf size None)) fault
+
+-- a fault before the session: memory was refused, whatever else is at fault; or the image's file
+-- isn't read; or the source's fault. The order in which files are read is tested: the image's, then
+-- that of the events or the keys
+abbrev pub IsEarlyFault :
+    DebugTask → (List ℕ → Option (List ℕ)) → Option (List ℕ) → Fault → Type 0
+IsEarlyFault task files image fault =
+    (fault ≡ Memory) ⊎ (IsFileUnread task.image IsOfBytes fault × IsFileName task.image.now)
+    ⊎ OfKnown image (λ file. IsSourceFault task.source task.size files file fault)
+
+-- a fault in the session
+abbrev pub FailsInSession :
+    DebugTask → (List ℕ → Option (List ℕ)) → Option (List ℕ) → Streams → Fault → Type 0
+FailsInSession task files image x fault =
+    (booted : History) × (events : List Event) × Opens task files image booted events
+    × Breaks (session_of booted) events x fault
+
+-- a fault that ends the task: before the session, and the streams are untouched; or in it
+abbrev pub IsDebugFault :
+    DebugTask → (List ℕ → Option (List ℕ)) → Option (List ℕ) → Streams → Fault → Type 0
+IsDebugFault task files image x fault =
+    (IsEarlyFault task files image fault × AreUntouched x) ⊎ FailsInSession task files image x fault

@@ -1,1 +1,5 @@
 pub mod Debugs
+pub mod Helps
+pub mod Lines
+pub mod Sessions
+pub mod helpers

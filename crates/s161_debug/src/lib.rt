@@ -1,7 +1,26 @@
-//! The command that debugs a machine.
+//! The command that debugs a machine, and answers each line of its input as it comes: commands of a
+//! session over the events of a schedule, a log or a driven run; and the program's own lines.
+//!
+//! ```text
+//! help         prints a line for each command
+//! quit         ends the session
+//! j K          goes to the state before event K of the session, and prints: at K
+//!              the events that are undone come again, before those that are left
+//! #..          answers nothing, as an empty line does
+//! ```
+//!
+//! K is decimal, without leading zeros, and below 2^64. An error is printed as `? NAME`. The lines
+//! and their texts are this project's own.
 #![tactic(auto)]
 
+mod answer;
+mod asked;
 pub mod debug;
+mod help;
+mod left;
+mod line;
+mod opening;
+mod serving;
 
 use m161::{Console, Tlb};
 

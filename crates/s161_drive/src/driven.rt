@@ -55,8 +55,8 @@ pub fn run_driven<'a, F: FileSource>(
     })
 }
 
-// How a driven run stopped, as a command tells it.
-fn stop_of(driven: Driven) -> Stop
+/// How a driven run stopped, as a command tells it.
+pub fn stop_of(driven: Driven) -> Stop
     ensures { result ≡ stop_of driven }
 {
     match driven.stop {

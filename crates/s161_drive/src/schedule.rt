@@ -64,9 +64,12 @@ pub fn log_for(asked: u32, events: u64) -> u32
     events.min(u64::from(u32::MAX)) as u32
 }
 
-// Makes the events that the options' policy chooses, on a machine whose log is empty and has room for
-// them.
-fn chosen_events<'a>(
+/// Makes the events that the options' policy chooses, on a machine whose log is empty and has room
+/// for them, and lists them.
+///
+/// # Errors
+/// Memory was refused, also where an event was refused for want of it.
+pub fn chosen_events<'a>(
     alloc: Global,
     machine: &mut Machine,
     options: Drive<'_>,
@@ -87,8 +90,11 @@ fn chosen_events<'a>(
     Ok(events_made(alloc, &entries)?)
 }
 
-// The events of these entries.
-fn events_made(alloc: Global, entries: &[Entry]) -> Result<Vec<Event>, AllocError>
+/// The events of these entries.
+///
+/// # Errors
+/// Memory was refused.
+pub fn events_made(alloc: Global, entries: &[Entry]) -> Result<Vec<Event>, AllocError>
     ensures { IfOk result (λ events. events.items ≡ events_of entries.now) }
 {
     let mut events = Vec::new(alloc);

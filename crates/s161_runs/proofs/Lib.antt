@@ -1,4 +1,4 @@
 mod Failing
-mod Making
+pub mod Making
 mod Replaying
 mod Shown

@@ -1,8 +1,9 @@
 //! Tests of the program's commands, of the assembler and of the debugger. `program`, `run`,
-//! `over_files` and `texts` try the commands, over the streams of `streams`.
+//! `faulty`, `over_files` and `texts` try the commands, over the streams of `streams`.
 
 mod asm;
 mod debug;
+mod faulty;
 mod over_files;
 mod program;
 mod run;

@@ -3,16 +3,19 @@
 ghost use Rattle.std.specs.Prelude.{◌≡◌, ◌+◌, ◌<◌, ◌≤◌, ◌^◌, ◌++◌, true, length, string_bytes, IfErr, IfOk, OnOk};
 ghost use Rattle.m161_elf.specs.Image.{is_in_ram};
 ghost use Rattle.m161_ram.specs.Word.{word_at};
-ghost use Rattle.m161_display.specs.Shows.{code_line, listing_text, code_word};
+ghost use Rattle.m161_display.specs.Shows.{code_word};
 ghost use Rattle.m161_text.specs.Lines.{with_line_end};
-ghost use Rattle.s161_texts.specs.Listings.{aligned_up, dis_text, span_text, IsListing, IsUnlisted};
+ghost use Rattle.s161_base.specs.Naming.{naming_of};
+ghost use Rattle.s161_texts.specs.Listings.{aligned_up, dis_text, listing_line, memory_line, span_text, IsListing, IsUnlisted};
 ghost use Rattle.s161_texts.specs.helpers.Listings.{AreInRam};
 
-use m161_dis::line;
+use m161_dis::{Naming, push_line};
 use m161_elf::{Span, load, loads};
 use m161_isa::unmapped;
 use m161_text::Word;
 use s161_base::fault::Fault;
+use s161_base::naming::naming_of;
+use s161_command::Registers;
 use std::alloc::{AllocError, Global};
 use std::fmt::Write;
 
@@ -25,37 +28,52 @@ const RAM: u32 = 16_777_216;
 ///
 /// # Errors
 /// The first fault of the file; or memory was refused.
-pub fn disassembly<'a>(alloc: Global, file: &[u8]) -> Result<String, Fault<'a>>
-    ensures ok { IfOk result (λ text. IsListing file.now (string_bytes text)) }
+pub fn disassembly<'a>(
+    alloc: Global,
+    file: &[u8],
+    registers: Registers,
+) -> Result<String, Fault<'a>>
+    ensures ok { IfOk result (λ text. IsListing (naming_of registers) file.now (string_bytes text)) }
     ensures fault { IfErr result (IsUnlisted file.now) }
 {
     let image = load(alloc, file, RAM)?;
     let spans = loads(alloc, file, RAM)?;
-    Ok(listing(alloc, &image.bytes, &spans)?)
+    let naming = naming_of(registers);
+    Ok(listing(alloc, naming, &image.bytes, &spans)?)
 }
 
 // The lines of spans.
-fn listing(alloc: Global, memory: &[u8], spans: &[Span]) -> Result<String, AllocError>
+fn listing(
+    alloc: Global,
+    naming: Naming,
+    memory: &[u8],
+    spans: &[Span],
+) -> Result<String, AllocError>
     requires { AreInRam (length memory.now) spans.now }
-    ensures { IfOk result (λ text. string_bytes text ≡ dis_text memory.now spans.now) }
+    ensures { IfOk result (λ text. string_bytes text ≡ dis_text naming memory.now spans.now) }
 {
     let mut text = String::new(alloc);
     for span in spans {
-        write_span(alloc, &mut text, memory, *span)?;
+        write_span(&mut text, naming, memory, *span)?;
     }
     Ok(text)
 }
 
 // The lines of a span.
-fn write_span(alloc: Global, text: &mut String, memory: &[u8], span: Span) -> Result<(), AllocError>
+fn write_span(
+    text: &mut String,
+    naming: Naming,
+    memory: &[u8],
+    span: Span,
+) -> Result<(), AllocError>
     requires { is_in_ram (length memory.now) span.address span.size ≡ true }
     ensures { OnOk result (string_bytes text.new
-        ≡ string_bytes text.old ++ span_text memory.now span) }
+        ≡ string_bytes text.old ++ span_text naming memory.now span) }
 {
     let start = aligned_up(span.address);
     let words = (span.address + span.size).saturating_sub(start) / 4;
     for i in 0..words {
-        write_word(alloc, text, memory, start + 4 * i)?;
+        write_word(text, naming, memory, start + 4 * i)?;
     }
     Ok(())
 }
@@ -69,12 +87,12 @@ fn aligned_up(address: u32) -> u32
 }
 
 // The line of an address.
-fn write_word(alloc: Global, text: &mut String, memory: &[u8], at: u32) -> Result<(), AllocError>
+fn write_word(text: &mut String, naming: Naming, memory: &[u8], at: u32) -> Result<(), AllocError>
     requires { is_in_ram (length memory.now) at 4 ≡ true }
     ensures { OnOk result (string_bytes text.new
-        ≡ string_bytes text.old ++ with_line_end (code_line memory.now at)) }
+        ≡ string_bytes text.old ++ with_line_end (memory_line naming memory.now at)) }
 {
-    write_code(alloc, text, code_at(memory, at), at)
+    write_code(text, naming, code_at(memory, at), at)
 }
 
 // The word at an address in kseg0 or kseg1.
@@ -97,11 +115,11 @@ fn word(memory: &[u8], at: usize) -> u32
 }
 
 // The line of a word at an address.
-fn write_code(alloc: Global, text: &mut String, word: u32, at: u32) -> Result<(), AllocError>
+fn write_code(text: &mut String, naming: Naming, word: u32, at: u32) -> Result<(), AllocError>
     ensures { OnOk result (string_bytes text.new
-        ≡ string_bytes text.old ++ with_line_end (listing_text at word)) }
+        ≡ string_bytes text.old ++ with_line_end (listing_line naming at word)) }
 {
-    let instruction = line(alloc, word, at)?;
-    let (at, word) = (Word(at), Word(word));
-    writeln!(text, "{at} {word} {instruction}")
+    write!(text, "{} {} ", Word(at), Word(word))?;
+    push_line(text, naming, word, at)?;
+    text.push_str("\n")
 }

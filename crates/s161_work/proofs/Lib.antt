@@ -1,1 +1,1 @@
-mod Refusing
+mod Refusals

@@ -4,13 +4,16 @@ use Rattle.clap.specs.Words.{IsAmong, Text, fault_of, subcommand_of}
 use Rattle.clap.specs.declared.error.kind.ErrorKind.{ErrorKind}
 use Rattle.s161_command.specs.declared.drive.Clash.{Clash}
 use Rattle.s161_command.specs.declared.task.ConsoleTask.{ConsoleTask}
+use Rattle.s161_command.specs.declared.task.DebugTask.{DebugTask}
+use Rattle.s161_command.specs.declared.task.TraceTask.{TraceTask}
 use Rattle.s161_command.specs.declared.task.Task.{Task}
-use Rattle.s161_command.specs.declared.task.Task.TheVariants.{Assemble, Audit, Console, Debug, Demo, Disassemble, Replay, Run, RunDriven, RunInThreads, Schedule, Search}
+use Rattle.s161_command.specs.declared.task.Task.TheVariants.{Assemble, Audit, Console, Debug, Demo, Disassemble, Replay, Run, RunDriven, RunInThreads, Schedule, Search, Trace}
 use Rattle.m161_text.specs.Lines.{with_line_end}
 use Rattle.s161_texts.specs.Assemblies.{IsAssembled}
 use Rattle.s161_audit.specs.Audits.{IsAudited}
 use Rattle.s161_command.specs.Commands.{ClashesIn, GoTogether, IsAccepted, IsHelp, IsTask, command_line}
-use Rattle.s161_console.specs.Consoles.{IsConsoleRun, streams}
+use Rattle.s161_console.specs.Consoles.{IsConsoleRun}
+use Rattle.s161_base.specs.Streams.{Streams, streams}
 use Rattle.s161_debug.specs.Debugs.{IsDebug}
 use Rattle.s161_drive.specs.Driven.{IsDriven}
 use Rattle.s161_drive.specs.Schedules.{IsScheduled}
@@ -22,6 +25,7 @@ use Rattle.s161_runs.specs.declared.events.Stop.{Stop}
 use Rattle.s161_search.specs.Searches.{IsSearched}
 use Rattle.s161_base.specs.Samples.{image_file}
 use Rattle.s161_threads.specs.Threads.{IsRunInThreads}
+use Rattle.s161_trace.specs.Traces.{IsTraced}
 
 -- The effect of a command line.
 
@@ -47,7 +51,7 @@ abbrev pub WithZero : (List ℕ → Type 0) → List ℕ → ℕ → Type 0
 WithZero IsResult text status = (status ≡ 0) × IsResult text
 
 -- a finished task's text and exit status, over files and a standard input with these bytes; a task
--- at the terminal has no such text
+-- that writes as it goes on has no such text
 abbrev pub IsResultOf :
     Task → (Text → Option (List ℕ)) → Option (List ℕ) → List ℕ → ℕ → Type 0
 IsResultOf Demo files input = WithZero IsDemo
@@ -59,15 +63,16 @@ IsResultOf (RunDriven task) files input =
 IsResultOf (Schedule task) files input =
     WithZero (IsScheduled task files (image_file files task.image.now))
 IsResultOf (Console task) files input = λ text status. ⊥
+IsResultOf (Trace task) files input = λ text status. ⊥
+IsResultOf (Debug task) files input = λ text status. ⊥
 IsResultOf (Search task) files input = IsSearched task files (image_file files task.image.now)
 IsResultOf (Replay task) files input =
     IsReplayed task (image_file files task.image.now) (files task.text.now)
-IsResultOf (Debug task) files input =
-    WithZero (IsDebug task (image_file files task.image.now) (files task.text.now) input)
 IsResultOf (Audit task) files input =
     IsAudited task (image_file files task.image.now) (files task.text.now) input
 IsResultOf Assemble files input = WithZero (IsAssembled input)
-IsResultOf (Disassemble image) files input = WithZero (IsDisassembled (image_file files image.now))
+IsResultOf (Disassemble task) files input =
+    WithZero (IsDisassembled task (image_file files task.image.now))
 
 -- a kernel ran at the terminal, and why it stopped was written to standard error
 pub record IsServed
@@ -79,24 +84,57 @@ pub record IsServed
   pub is_told : Appends before.errors after.errors (with_line_end (stop_line stop))
   pub status_is : status ≡ status_of stop
 
--- the task at the terminal
-abbrev pub console_of : Task → Option ConsoleTask
-console_of (Console task) = Some task
-console_of _ = None
+-- standard input and standard output
+abbrev pub streams_of : Standard → Standard → Streams
+streams_of before after = streams before.input after.input before.output after.output
 
--- a task was finished with this exit status: at the terminal; or it printed its text, and nothing
--- was written to standard error
+-- a run was traced, and nothing was written to standard error
+pub record IsTracedOut
+    (task : TraceTask) (files : Text → Option (List ℕ)) (before after : Standard) (status : ℕ)
+    : Type 0 where
+  pub stop : Stop
+  pub traced :
+      IsTraced task files (image_file files task.image.now) (streams_of before after) stop
+  pub is_silent : after.errors ≡ before.errors
+  pub status_is : status ≡ status_of stop
+
+-- the commands of a debugger were answered, and nothing was written to standard error
+pub record IsDebuggedOut
+    (task : DebugTask) (files : Text → Option (List ℕ)) (before after : Standard) (status : ℕ)
+    : Type 0 where
+  pub debugged : IsDebug task files (image_file files task.image.now) (streams_of before after)
+  pub is_silent : after.errors ≡ before.errors
+  pub status_is : status ≡ 0
+
+-- the tasks that write as they go on
+pub data Going : Type 0 where
+  serving : ConsoleTask → Going
+  tracing : TraceTask → Going
+  debugging : DebugTask → Going
+
+abbrev pub going_of : Task → Option Going
+going_of (Console task) = Some (serving task)
+going_of (Trace task) = Some (tracing task)
+going_of (Debug task) = Some (debugging task)
+going_of _ = None
+
+-- a task was finished with this exit status: one that writes as it goes on; or it printed its text,
+-- and nothing was written to standard error
 abbrev pub FinishesAs :
-    Option ConsoleTask → Task → (Text → Option (List ℕ)) → Standard → Standard → ℕ → Type 0
-FinishesAs (Some console) task files before after status =
+    Option Going → Task → (Text → Option (List ℕ)) → Standard → Standard → ℕ → Type 0
+FinishesAs (Some (serving console)) task files before after status =
     IsServed console files before after status
+FinishesAs (Some (tracing trace)) task files before after status =
+    IsTracedOut trace files before after status
+FinishesAs (Some (debugging debug)) task files before after status =
+    IsDebuggedOut debug files before after status
 FinishesAs None task files before after status =
     Prints (IsResultOf task files before.input) before.output after.output status
     × (after.errors ≡ before.errors)
 
 abbrev pub Finishes : Task → (Text → Option (List ℕ)) → Standard → Standard → ℕ → Type 0
 Finishes task files before after status =
-    FinishesAs (console_of task) task files before after status
+    FinishesAs (going_of task) task files before after status
 
 -- clap gives help or the version for these words of a command line
 abbrev pub GivesHelp : List Text → Type 0

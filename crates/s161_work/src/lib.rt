@@ -2,8 +2,13 @@
 //! of a command line.
 #![tactic(auto)]
 
+mod going;
+mod output;
+mod printing;
+mod refusing;
 pub mod work;
 
+pub use output::report;
 pub use s161_audit::{audit, watches};
 pub use s161_base::{fault, files, finished, input, sample, texts};
 pub use s161_console::console;
@@ -13,3 +18,4 @@ pub use s161_runs::{demo, events, replay, run, summary};
 pub use s161_search::search;
 pub use s161_texts::{assembly, disassembly};
 pub use s161_threads::threaded;
+pub use s161_trace::trace;

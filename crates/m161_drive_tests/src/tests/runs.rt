@@ -1,9 +1,9 @@
 //! Runs from their start to their stop.
 
-use super::machines::{Kernel, WAIT, booted, check_end, policy};
+use super::machines::{Kernel, TWO, WAIT, booted, check_end, event_of, policy};
 use super::same;
 use m161::Machine;
-use m161_drive::{Order, Stop, drive, is_asleep};
+use m161_drive::{Order, Stop, drive, drive_core, is_asleep};
 use m161_machine::Conf;
 use m161_test_support::kernel::kernel_file;
 use m161_test_support::outcomes::IDLE;
@@ -74,6 +74,30 @@ fn drive_hello(rt: HostRuntime) -> Result<(), Fail> {
     same(&rt, driven.stop, Stop::Off);
     same(&rt, driven.made, machine.made());
     same(&rt, machine.output(), b"hi".as_slice());
+    Ok(())
+}
+
+#[test]
+fn hello_on_a_state(rt: HostRuntime) -> Result<(), Fail> {
+    let mut core = booted(&rt, &HELLO)?.into_core();
+    let run = drive_core(rt.alloc(), &mut core, &policy(Order::Turns(1))?, 100_000)?;
+    same(&rt, run.driven.stop, Stop::Off);
+    same(&rt, run.driven.made, core.made());
+    same(&rt, run.events.len() as u64, core.made());
+    same(&rt, core.output(), b"hi".as_slice());
+    Ok(())
+}
+
+/// The events of `drive-turns`: two turns of two Steps in turn, from the start of the second
+/// processor on.
+#[test]
+fn turns_on_a_state(rt: HostRuntime) -> Result<(), Fail> {
+    let mut core = booted(&rt, &TWO)?.into_core();
+    let run = drive_core(rt.alloc(), &mut core, &policy(Order::Turns(2))?, 20)?;
+    check_end(&rt, run.driven, 20, Stop::End);
+    for (i, mark) in b"00000000110011001100".iter().enumerate() {
+        same(&rt, run.events.get(i).copied(), Some(event_of(*mark)));
+    }
     Ok(())
 }
 

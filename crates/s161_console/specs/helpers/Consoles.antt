@@ -12,21 +12,13 @@ use Rattle.m161_drive.specs.Policy.{Rules}
 use Rattle.s161_base.specs.declared.fault.Fault.{Fault}
 use Rattle.s161_base.specs.declared.fault.Fault.TheVariants.{Input, Output}
 use Rattle.s161_base.specs.declared.fault.Unread.TheVariants.{Failed}
+use Rattle.s161_base.specs.Streams.{AppendsSome}
 
 -- The next event of a run at a terminal.
-
--- known bytes grow by the first of these
-abbrev pub AppendsSome : Option (List ℕ) → Option (List ℕ) → List ℕ → Type 0
-AppendsSome old new bytes = (n : ℕ) × Appends old new (take n bytes)
 
 -- why a run stops of which all events were made that were asked for
 abbrev pub last_stop : State → Stop
 last_stop s = if s.board.off then Off else End
-
--- a byte was read, or the end
-abbrev pub ReadsByte : Option (List ℕ) → Option ℕ → Option (List ℕ) → Type 0
-ReadsByte left None l = IsAtEnd l × Consumes left l []
-ReadsByte left (Some byte) l = Consumes left l (byte ∷ [])
 
 -- the next key, read only if one is wanted; there is none once the input has ended
 abbrev pub GivesKey :

@@ -305,7 +305,7 @@ static COMMANDS: [Case; 6] = [
         input: "\nz\nr  0\nr 1\ng 2\ng\ng\n",
         status: 0,
         output: &[
-            "? Unknown\n? Unknown\n? BadArgument\n? BadProcessor\n",
+            "? Unknown\n? BadArgument\n? BadProcessor\n",
             "off 1\nrefused 0 2 Off\nend 0\n",
         ],
         errors: "",
@@ -405,14 +405,14 @@ fn commands_that_are_not_read(rt: HostRuntime) -> Result<(), Fail> {
     let image = file_at(rt.alloc(), ENTRY, &POWER_OFF)?;
     let words = ["s161", "debug", "image", "text"];
     let line = "s161: input (standard input isn't UTF-8)\n";
-    // the commands are read before the schedule's text
+    // the commands before that line are answered
     let mut files = TwoFiles {
         image: &image,
-        text: b"bad\n",
+        text: b"s 0 3\n",
     };
-    let mut input: &[u8] = b"g\n\xff\n";
-    let found = work_over(&rt, &words, &mut files, &mut input, ["", line]);
-    same(&rt, found, (1, all(""), all(line)));
+    let mut input: &[u8] = b"g\n\xff\ng\n";
+    let found = work_over(&rt, &words, &mut files, &mut input, ["off 1\n", line]);
+    same(&rt, found, (1, all("off 1\n"), all(line)));
     let line = "s161: input (standard input can't be read)\n";
     let mut input = Failing(ErrorKind::BrokenPipe);
     let found = work_over(&rt, &words, &mut files, &mut input, ["", line]);

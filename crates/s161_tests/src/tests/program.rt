@@ -35,8 +35,9 @@ Commands:
   console   Runs a kernel at the terminal: its console is standard input and output
   schedule  Prints the events that an order chooses, as a schedule
   search    Looks for a seed whose run goes wrong, and prints a short schedule of it
+  trace     Prints a line for each event of a run: the instruction, and what it changed
   replay    Makes a log's events once more, and compares their outcomes
-  debug     Does a debugger's commands on an image under a schedule
+  debug     Does a debugger's commands on an image under a list of events
   audit     Looks for a Step that uses a stale row of the TLB, after its shootdown
   as        Assembles a text to an ELF file
   dis       Prints the instructions of an image
@@ -49,7 +50,8 @@ Options:
 Exit status:
   0  a finished demo, schedule, debug, as or dis, a machine that switched
      itself off, a log that agrees, a clean run or search, or help
-  1  a fault, named on standard error, or a refused event of run or console
+  1  a fault, named on standard error, or a refused event of run, trace or
+     console
   2  a rejected command line
   3  the schedule, the events or the Steps of the threads ended
   4  a log that differs, a stale use, or a run that goes wrong in search

@@ -2,7 +2,7 @@
 //! `power-off`'s image or of a small program; what it leaves is worked out by hand.
 
 use super::same;
-use super::streams::{Endless, Failing, Left, Memory, NoFiles, OneFile, Slow, all};
+use super::streams::{Left, Memory, NoFiles, OneFile, all};
 use m161_machine::Entry;
 use m161_steplog::entry_line;
 use m161_test_support::files::file_at;
@@ -11,7 +11,7 @@ use m161_test_support::outcomes::{ENTRY, Times};
 use s161_work::files::FileSource;
 use s161_work::work::work;
 use std::alloc::Global;
-use std::io::{ErrorKind, Read};
+use std::io::Read;
 use std::process::Abort;
 use std::sync::Wait;
 use std::test::Fail;
@@ -51,7 +51,7 @@ const POWER_OFF_MACHINE: &str =
     "# machine 1048576 1 3eed35d58a898e032690f2f327d45c9a1ff9719b88617d91833eb596d41720a9\n";
 
 /// After it.
-const POWERED_OFF: [&str; 4] = [
+pub(crate) const POWERED_OFF: [&str; 4] = [
     "cpu 0 running pc 80000208\n",
     ZEROS,
     "r8 bfff0000 r9 00000000 r10 00000000 r11 00000000\n",
@@ -481,23 +481,6 @@ fn faults(rt: HostRuntime) -> Result<(), Fail> {
     check(&rt, &FAULTS)
 }
 
-/// The words of a run of the one file.
-const WORDS: [&str; 3] = ["s161", "run", "image"];
-
-/// Runs `power-off`'s image over a reader, against the texts that it should write.
-fn over<I: Read>(
-    rt: &(impl AllocGlobal + Threads + Wait + Sync),
-    input: &mut I,
-    texts: [&str; 2],
-) -> Result<Left, Fail> {
-    let file = file_at(rt.alloc(), ENTRY, &POWER_OFF)?;
-    let mut files = OneFile {
-        name: "image",
-        bytes: &file,
-    };
-    Ok(work_over(rt, &WORDS, &mut files, input, texts))
-}
-
 static THREADED: [Case; 11] = [
     // threads-command
     Case {
@@ -696,130 +679,6 @@ fn run_sample(rt: HostRuntime) -> Result<(), Fail> {
         let texts = [text.as_str(), ""];
         let found = work_over(&rt, words, &mut NoFiles, &mut input, texts);
         same(&rt, (words, found), (words, (0, all(texts[0]), all(""))));
-    }
-    Ok(())
-}
-
-#[test]
-fn slow_reader(rt: HostRuntime) -> Result<(), Fail> {
-    let output = join(&rt, &[&POWERED_OFF, &["stop: off\n"]])?;
-    let mut slow = Slow::new(b"s 0 2\n");
-    let found = over(&rt, &mut slow, [output.as_str(), ""])?;
-    same(&rt, found, (0, all(output.as_str()), all("")));
-    Ok(())
-}
-
-#[test]
-fn failing_readers(rt: HostRuntime) -> Result<(), Fail> {
-    for &(kind, line) in &[
-        (
-            ErrorKind::BrokenPipe,
-            "s161: input (standard input can't be read)\n",
-        ),
-        (ErrorKind::OutOfMemory, "s161: memory\n"),
-    ] {
-        let found = over(&rt, &mut Failing(kind), ["", line])?;
-        same(&rt, found, (1, all(""), all(line)));
-    }
-    Ok(())
-}
-
-#[test]
-fn inputs_that_are_no_text(rt: HostRuntime) -> Result<(), Fail> {
-    let line = "s161: input (standard input isn't UTF-8)\n";
-    let mut input: &[u8] = b"s 0 2\n# \xff\n";
-    let found = over(&rt, &mut input, ["", line])?;
-    same(&rt, found, (1, all(""), all(line)));
-    let line = "s161: input (at most 402653184 bytes are read)\n";
-    let found = over(&rt, &mut Endless, ["", line])?;
-    same(&rt, found, (1, all(""), all(line)));
-    Ok(())
-}
-
-#[test]
-fn failing_files(rt: HostRuntime) {
-    for &(kind, line) in &[
-        (
-            ErrorKind::PermissionDenied,
-            "s161: file image (the file can't be read)\n",
-        ),
-        (ErrorKind::OutOfMemory, "s161: memory\n"),
-    ] {
-        let mut input: &[u8] = b"bad\n";
-        let found = work_over(&rt, &WORDS, &mut Failing(kind), &mut input, ["", line]);
-        same(&rt, found, (1, all(""), all(line)));
-    }
-}
-
-#[test]
-fn truncated_image(rt: HostRuntime) -> Result<(), Fail> {
-    let file = file_at(rt.alloc(), ENTRY, &POWER_OFF)?;
-    let mut files = OneFile {
-        name: "image",
-        bytes: file.get(..51).unwrap_or(&[]),
-    };
-    let mut input: &[u8] = b"s 0 2\n";
-    let line = "s161: image 1 Truncated (the file is shorter than an ELF header)\n";
-    let found = work_over(&rt, &WORDS, &mut files, &mut input, ["", line]);
-    same(&rt, found, (1, all(""), all(line)));
-    Ok(())
-}
-
-#[test]
-fn failing_output_of_a_run(rt: HostRuntime) -> Result<(), Fail> {
-    let file = file_at(rt.alloc(), ENTRY, &POWER_OFF)?;
-    let text = join(&rt, &[&POWERED_OFF, &["stop: off\n"]])?;
-    let failed = "s161: output\n";
-    for room in [0, 26, 300] {
-        let mut files = OneFile {
-            name: "image",
-            bytes: &file,
-        };
-        let mut input: &[u8] = b"s 0 2\n";
-        let mut output = Memory::new(rt.alloc(), room, true);
-        let mut errors = Memory::new(rt.alloc(), usize::MAX, true);
-        let status = work(
-            &rt,
-            &WORDS,
-            &mut files,
-            &mut input,
-            &mut output,
-            &mut errors,
-        );
-        let found = (
-            status,
-            output.match_text(text.as_str()),
-            errors.match_text(failed),
-        );
-        same(&rt, found, (1, (room, true), all(failed)));
-    }
-    Ok(())
-}
-
-#[test]
-fn rejected_runs(rt: HostRuntime) -> Result<(), Fail> {
-    let file = file_at(rt.alloc(), ENTRY, &POWER_OFF)?;
-    let cases: [&[&str]; 11] = [
-        &["s161", "run"],
-        &["s161", "run", "image", "image"],
-        &["s161", "run", "image", "--ram", "x"],
-        &["s161", "run", "image", "--ram", "4294967296"],
-        &["s161", "run", "image", "--log", "1", "--log", "1"],
-        &["s161", "run", "image", "--show-log", "--show-log"],
-        &["s161", "run", "image", "--threads", "1000001"],
-        &["s161", "run", "image", "--threads", "1", "--burst", "0"],
-        &["s161", "run", "image", "--threads", "1", "--burst", "1025"],
-        &["s161", "run", "image", "--burst", "0"],
-        &["s161", "run", "image", "--burst", "x"],
-    ];
-    for words in cases {
-        let mut files = OneFile {
-            name: "image",
-            bytes: &file,
-        };
-        let mut input: &[u8] = &[];
-        let (status, output, _) = work_over(&rt, words, &mut files, &mut input, ["", ""]);
-        same(&rt, (words, status, output), (words, 2, all("")));
     }
     Ok(())
 }

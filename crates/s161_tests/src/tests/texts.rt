@@ -8,6 +8,7 @@ use m161_steplog::read_schedule;
 use m161_test_support::files::file_from;
 use m161_test_support::kernel::KERNEL;
 use m161_test_support::outcomes::ENTRY;
+use s161_command::Registers;
 use s161_work::demo::IMAGE;
 use s161_work::disassembly::disassembly;
 use s161_work::events::{Stop, make_events};
@@ -27,6 +28,16 @@ const LISTED_DEMO: &str = "80000200 3c081234 lui $8, 0x1234
 80000218 8d6c0400 lw $12, 1024($11)
 ";
 
+/// The same with the names of the registers.
+const LISTED_BY_NAMES: &str = "80000200 3c081234 lui $t0, 0x1234
+80000204 35085678 ori $t0, $t0, 0x5678
+80000208 2409ffff addiu $t1, $zero, -1
+8000020c 01095021 addu $t2, $t0, $t1
+80000210 3c0b8000 lui $t3, 0x8000
+80000214 ad6a0400 sw $t2, 1024($t3)
+80000218 8d6c0400 lw $t4, 1024($t3)
+";
+
 /// The line of a fault.
 pub(crate) fn line_of(alloc: Global, fault: Fault<'_>) -> Result<String, AllocError> {
     format!(in alloc; "{fault}")
@@ -34,7 +45,7 @@ pub(crate) fn line_of(alloc: Global, fault: Fault<'_>) -> Result<String, AllocEr
 
 /// The listing of a file, or the line of its fault.
 fn list(alloc: Global, file: &[u8]) -> Result<String, AllocError> {
-    match disassembly(alloc, file) {
+    match disassembly(alloc, file, Registers::Numbered) {
         Ok(text) => Ok(text),
         Err(fault) => line_of(alloc, fault),
     }
@@ -44,6 +55,16 @@ fn list(alloc: Global, file: &[u8]) -> Result<String, AllocError> {
 fn dis_demo(rt: HostRuntime) -> Result<(), Fail> {
     let text = list(rt.alloc(), &IMAGE)?;
     same(&rt, text.as_str() == LISTED_DEMO, true);
+    Ok(())
+}
+
+#[test]
+fn dis_by_names(rt: HostRuntime) -> Result<(), Fail> {
+    let text = match disassembly(rt.alloc(), &IMAGE, Registers::Named) {
+        Ok(text) => text,
+        Err(fault) => line_of(rt.alloc(), fault)?,
+    };
+    same(&rt, text.as_str(), LISTED_BY_NAMES);
     Ok(())
 }
 

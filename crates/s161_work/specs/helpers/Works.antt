@@ -6,13 +6,16 @@ use Rattle.s161_command.specs.declared.task.Rejection.{Rejection}
 use Rattle.s161_command.specs.declared.task.Rejection.TheVariants.{Words, Options}
 use Rattle.s161_command.specs.Commands.{IsHelp}
 use Rattle.s161_command.specs.declared.task.ConsoleTask.{ConsoleTask}
+use Rattle.s161_command.specs.declared.task.DebugTask.{DebugTask}
+use Rattle.s161_command.specs.declared.task.TraceTask.{TraceTask}
 use Rattle.s161_command.specs.declared.task.Task.{Task}
-use Rattle.s161_command.specs.declared.task.Task.TheVariants.{Assemble, Audit, Console, Debug, Demo, Disassemble, Replay, Run, RunDriven, RunInThreads, Schedule, Search}
+use Rattle.s161_command.specs.declared.task.Task.TheVariants.{Assemble, Audit, Console, Debug, Demo, Disassemble, Replay, Run, RunDriven, RunInThreads, Schedule, Search, Trace}
 use Rattle.s161_base.specs.declared.fault.Fault.{Fault}
 use Rattle.s161_base.specs.declared.fault.Fault.TheVariants.{Memory, Output}
 use Rattle.s161_audit.specs.Audits.{IsAuditFault}
 use Rattle.s161_work.specs.helpers.Assemblies.{IsAssemblyFault}
-use Rattle.s161_console.specs.Consoles.{IsConsoleFault, IsConsoleRun, streams}
+use Rattle.s161_console.specs.Consoles.{IsConsoleFault, IsConsoleRun}
+use Rattle.s161_base.specs.Streams.{streams}
 use Rattle.s161_debug.specs.Debugs.{IsDebugFault}
 use Rattle.s161_drive.specs.Driven.{IsDrivenFault}
 use Rattle.s161_drive.specs.Schedules.{IsScheduledFault}
@@ -20,12 +23,14 @@ use Rattle.s161_work.specs.helpers.Listings.{IsListingFault}
 use Rattle.s161_runs.specs.Replays.{IsReplayFault}
 use Rattle.s161_runs.specs.Runs.{IsFaultOf}
 use Rattle.s161_runs.specs.declared.events.Stop.{Stop}
-use Rattle.s161_work.specs.Works.{IsResultOf, Standard}
+use Rattle.s161_work.specs.Works.{Going, IsResultOf, Standard, debugging, serving, streams_of, tracing}
 use Rattle.s161_base.specs.Samples.{image_file}
 use Rattle.s161_search.specs.Searches.{IsSearchFault}
 use Rattle.s161_threads.specs.Threads.{IsThreadsFault}
+use Rattle.s161_trace.specs.Traces.{IsTraceFault}
 
--- a task's work is ended by this fault, before anything is printed; one at the terminal isn't meant
+-- a task's work is ended by this fault, before anything is printed; one that writes as it goes on isn't
+-- meant
 abbrev pub IsTaskFault : Task → (Text → Option (List ℕ)) → Option (List ℕ) → Fault → Type 0
 IsTaskFault Demo files input fault = fault ≡ Memory
 IsTaskFault (Run task) files input fault =
@@ -37,17 +42,17 @@ IsTaskFault (RunDriven task) files input fault =
 IsTaskFault (Schedule task) files input fault =
     IsScheduledFault task (image_file files task.image.now) fault
 IsTaskFault (Console task) files input fault = ⊥
+IsTaskFault (Trace task) files input fault = ⊥
+IsTaskFault (Debug task) files input fault = ⊥
 IsTaskFault (Search task) files input fault =
     IsSearchFault task files (image_file files task.image.now) fault
 IsTaskFault (Replay task) files input fault =
     IsReplayFault task (image_file files task.image.now) (files task.text.now) fault
-IsTaskFault (Debug task) files input fault =
-    IsDebugFault task (image_file files task.image.now) (files task.text.now) fault
 IsTaskFault (Audit task) files input fault =
     IsAuditFault task (image_file files task.image.now) (files task.text.now) input fault
 IsTaskFault Assemble files input fault = IsAssemblyFault input fault
-IsTaskFault (Disassemble image) files input fault =
-    IsListingFault image.now (image_file files image.now) fault
+IsTaskFault (Disassemble task) files input fault =
+    IsListingFault task.image.now (image_file files task.image.now) fault
 
 -- there is such a text and exit status
 abbrev pub Exists : (List ℕ → ℕ → Type 0) → Type 0
@@ -84,11 +89,30 @@ FailsToServe task files before after fault =
     IsConsoleFault task known x fault
     ⊎ (((fault ≡ Memory) ⊎ (fault ≡ Output)) × ((stop : Stop) × IsConsoleRun task known x stop))
 
--- a task is ended by this fault: at the terminal; or before or while its text is printed, and nothing
--- was written to standard error
+-- a traced run is ended by this fault, and nothing was written to standard error
+abbrev pub FailsToTrace :
+    TraceTask → (Text → Option (List ℕ)) → Standard → Standard → Fault → Type 0
+FailsToTrace task files before after fault =
+    IsTraceFault task files (image_file files task.image.now) (streams_of before after) fault
+    × (after.errors ≡ before.errors)
+
+-- so is a debugger's session
+abbrev pub FailsToDebug :
+    DebugTask → (Text → Option (List ℕ)) → Standard → Standard → Fault → Type 0
+FailsToDebug task files before after fault =
+    IsDebugFault task files (image_file files task.image.now) (streams_of before after) fault
+    × (after.errors ≡ before.errors)
+
+-- a task is ended by this fault: one that writes as it goes on; or before or while its text is printed,
+-- and nothing was written to standard error
 abbrev pub FailsAs :
-    Option ConsoleTask → Task → (Text → Option (List ℕ)) → Standard → Standard → Fault → Type 0
-FailsAs (Some console) task files before after fault = FailsToServe console files before after fault
+    Option Going → Task → (Text → Option (List ℕ)) → Standard → Standard → Fault → Type 0
+FailsAs (Some (serving console)) task files before after fault =
+    FailsToServe console files before after fault
+FailsAs (Some (tracing trace)) task files before after fault =
+    FailsToTrace trace files before after fault
+FailsAs (Some (debugging debug)) task files before after fault =
+    FailsToDebug debug files before after fault
 FailsAs None task files before after fault =
     Fails (IsResultOf task files before.input) (IsTaskFault task files before.input)
     before.output after.output fault

@@ -4,7 +4,8 @@ use Rattle.m161_drive.specs.declared.run.Stop.{Stop}
 use Rattle.m161_drive.specs.Choice.{cursor_at}
 use Rattle.m161_drive.specs.Policy.{Rules}
 use Rattle.s161_drive.specs.Driven.{rules_of}
-use Rattle.s161_console.specs.Consoles.{Serves, streams}
+use Rattle.s161_base.specs.Streams.{streams}
+use Rattle.s161_console.specs.Consoles.{Serves}
 use Rattle.s161_console.specs.helpers.Consoles.{Goes, place}
 use Rattle.s161_console.proofs.Running.{at_last, begins, failed, stopped, turned}
 use Rattle.s161_console.proofs.serving.serve.Goals as goal

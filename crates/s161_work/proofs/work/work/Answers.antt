@@ -1,4 +1,4 @@
-use Rattle.s161_work.proofs.Refusing.{refused}
+use Rattle.s161_work.proofs.Refusals.{refused}
 use Rattle.s161_work.proofs.work.work.Goals as goal
 
 pub returns-in-Err-clause-rejected : goal.returns-in-Err-clause-rejected

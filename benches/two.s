@@ -1,0 +1,30 @@
+# Processor 0 starts processor 1, and both go through the benchmark's loop, each with data of its own.
+        lui     $8, 0xbfff
+        ori     $8, $8, 0x8400
+        lui     $9, 0x8000
+        ori     $9, $9, 0x0400
+        sw      $9, 768($8)         # where processor 1 starts
+        ori     $10, $0, 2
+        sw      $10, -1516($8)      # both processors are on
+        lui     $16, 0x8000
+        ori     $16, $16, 0x1800
+        j       loop
+        nop
+        .org    0x80000400
+        lui     $16, 0x8000
+        ori     $16, $16, 0x2800
+        j       loop
+        nop
+        .org    0x80001000
+loop:   lw      $8, 0($16)
+        addu    $9, $8, $17
+        sll     $10, $9, 3
+        srl     $11, $9, 5
+        xor     $9, $10, $11
+        sw      $9, 0($16)
+        lbu     $12, 2($16)
+        addiu   $18, $18, 1
+        slt     $13, $12, $9
+        sb      $13, 4($16)
+        bne     $18, $0, loop
+        addu    $17, $17, $18

@@ -1,0 +1,130 @@
+//! What a Step changes of its processor.
+
+use super::same;
+use super::traced::{Run, lines_of, traced};
+use m161_machine::Event::{Key, Step};
+use m161_test_support::files::IMAGE;
+use m161_trace::Naming;
+use std::test::Fail;
+
+/// The lines of the built-in image.
+const DEMO: &str = "\
+0 0 80000200 3c081234 lui $8, 0x1234  r8=12340000
+1 0 80000204 35085678 ori $8, $8, 0x5678  r8=12345678
+2 0 80000208 2409ffff addiu $9, $0, -1  r9=ffffffff
+3 0 8000020c 01095021 addu $10, $8, $9  r10=12345677
+4 0 80000210 3c0b8000 lui $11, 0x8000  r11=80000000
+5 0 80000214 ad6a0400 sw $10, 1024($11)  [00000400]=12345677
+6 0 80000218 8d6c0400 lw $12, 1024($11)  r12=12345677
+";
+
+/// The same with the registers' names.
+const NAMED: &str = "\
+0 0 80000200 3c081234 lui $t0, 0x1234  r8=12340000
+1 0 80000204 35085678 ori $t0, $t0, 0x5678  r8=12345678
+2 0 80000208 2409ffff addiu $t1, $zero, -1  r9=ffffffff
+3 0 8000020c 01095021 addu $t2, $t0, $t1  r10=12345677
+4 0 80000210 3c0b8000 lui $t3, 0x8000  r11=80000000
+5 0 80000214 ad6a0400 sw $t2, 1024($t3)  [00000400]=12345677
+6 0 80000218 8d6c0400 lw $t4, 1024($t3)  r12=12345677
+";
+
+/// HI, LO, Compare, a trap of each kind of word, and a delay slot.
+static REGISTERS: Run = Run {
+    words: &[
+        0x3408_0007, // ori $8, $0, 0x0007
+        0x0108_0018, // mult $8, $8
+        0x0100_0011, // mthi $8
+        0x4088_5800, // mtc0 $8, $11
+        0xffff_ffff,
+    ],
+    processors: 1,
+    events: &[(Step(0), 5)],
+};
+
+const OF_REGISTERS: &str = "\
+0 0 80000200 34080007 ori $8, $0, 0x0007  r8=00000007
+1 0 80000204 01080018 mult $8, $8  lo=00000031
+2 0 80000208 01000011 mthi $8  hi=00000007
+3 0 8000020c 40885800 mtc0 $8, $11  compare=00000007
+4 0 80000210 ffffffff .word 0xffffffff  cause=00000028 epc=80000210 trap 10 80000080
+";
+
+/// A fetch in user mode, from an address of the kernel's.
+static USER: Run = Run {
+    words: &[
+        0x3408_0002, // ori $8, $0, 0x0002
+        0x4088_6000, // mtc0 $8, $12
+        0, // nop
+    ],
+    processors: 1,
+    events: &[(Step(0), 3)],
+};
+
+const OF_USER: &str = "\
+0 0 80000200 34080002 ori $8, $0, 0x0002  r8=00000002
+1 0 80000204 40886000 mtc0 $8, $12  status=00000002
+2 0 80000208 -  badvaddr=80000208 status=00000008 cause=00000010 epc=80000208 trap 4 80000080
+";
+
+/// Waits for a key.
+static WAITING: Run = Run {
+    words: &[
+        0x3c08_bfe0, // lui $8, 0xbfe0
+        0x3409_0001, // ori $9, $0, 0x0001
+        0xad09_0008, // sw $9, 8($8)
+        0x340a_0400, // ori $10, $0, 0x0400
+        0x408a_6000, // mtc0 $10, $12
+        0x4200_0020, // wait
+        0x8d0b_0000, // lw $11, 0($8)
+    ],
+    processors: 1,
+    events: &[(Step(0), 7), (Key(0x41), 1), (Step(0), 1)],
+};
+
+const OF_WAITING: &str = "\
+0 0 80000200 3c08bfe0 lui $8, 0xbfe0  r8=bfe00000
+1 0 80000204 34090001 ori $9, $0, 0x0001  r9=00000001
+2 0 80000208 ad090008 sw $9, 8($8)  rirq=00000001
+3 0 8000020c 340a0400 ori $10, $0, 0x0400  r10=00000400
+4 0 80000210 408a6000 mtc0 $10, $12  status=00000400
+5 0 80000214 42000020 wait  state=waiting
+6 0 80000218 -  idle
+7 k 41
+8 0 80000218 8d0b0000 lw $11, 0($8)  state=running r11=00000041 cause=00000000 waiting=0 rirq=00000001
+";
+
+#[test]
+fn trace_demo(rt: HostRuntime) -> Result<(), Fail> {
+    let text = traced(&rt, &IMAGE, 1, &[(Step(0), 7)], Naming::Numbers)?;
+    same(&rt, text.as_str(), DEMO);
+    Ok(())
+}
+
+#[test]
+fn trace_demo_by_names(rt: HostRuntime) -> Result<(), Fail> {
+    let text = traced(&rt, &IMAGE, 1, &[(Step(0), 7)], Naming::Names)?;
+    same(&rt, text.as_str(), NAMED);
+    Ok(())
+}
+
+#[test]
+fn trace_registers(rt: HostRuntime) -> Result<(), Fail> {
+    let text = lines_of(&rt, &REGISTERS)?;
+    same(&rt, text.as_str(), OF_REGISTERS);
+    Ok(())
+}
+
+#[test]
+fn trace_fetch_in_user_mode(rt: HostRuntime) -> Result<(), Fail> {
+    let text = lines_of(&rt, &USER)?;
+    same(&rt, text.as_str(), OF_USER);
+    Ok(())
+}
+
+#[test]
+fn trace_wait(rt: HostRuntime) -> Result<(), Fail> {
+    let text = lines_of(&rt, &WAITING)?;
+    same(&rt, text.as_str(), OF_WAITING);
+    Ok(())
+}

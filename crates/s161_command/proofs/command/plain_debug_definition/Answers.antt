@@ -1,0 +1,25 @@
+use Rattle.std.proofs.Common.{◌≡◌, ◌∙◌, false, ap, ap₂, codes}
+use Rattle.std.proofs.lemmas.Result.{IfOk-weaker}
+use Rattle.clap.specs.Words.{app_of, new_app, with_rule}
+use Rattle.clap.specs.declared.builder.command.Command.TheViews.{out-Command}
+use Rattle.clap.specs.Simple.{app_of_fields}
+use Rattle.s161_command.specs.Commands.{with_asked_size_rules}
+use Rattle.s161_command.proofs.Defining.{local_more}
+use Rattle.s161_command.proofs.command.plain_debug_definition.Goals as goal
+
+pub returns-clause-shape : goal.returns-clause-shape
+returns-clause-shape c =
+    let base : app_of c.after_help-debug.result ≡ new_app (codes "debug") = ap app_of_fields c.after_help-debug.ensures ∙ ap app_of_fields c.about.ensures ∙ c.new.ensures.app in
+    let base_local : (out-Command c.after_help-debug.result).has_globals ≡ false = ap (λ f. f.has_globals) c.after_help-debug.ensures ∙ ap (λ f. f.has_globals) c.about.ensures ∙ c.new.ensures.local in
+    let one = c.in_ok-arg.ensures.shape c.file_argument.ensures.local ∙ ap₂ with_rule base c.file_argument.ensures.rule in
+    let one_local = local_more c.in_ok-arg.ensures base_local c.file_argument.ensures.local in
+    let two = c.in_ok-debug.ensures.shape c.optional_file.ensures.local ∙ ap₂ with_rule one c.optional_file.ensures.rule in
+    let two_local = local_more c.in_ok-debug.ensures one_local c.optional_file.ensures.local in
+    IfOk-weaker c.with_asked_size.result _ _ (λ command h. h ∙ ap (with_asked_size_rules _) two) (c.with_asked_size.ensures.shape two_local)
+
+pub returns-clause-local : goal.returns-clause-local
+returns-clause-local c =
+    let base : (out-Command c.after_help-debug.result).has_globals ≡ false = ap (λ f. f.has_globals) c.after_help-debug.ensures ∙ ap (λ f. f.has_globals) c.about.ensures ∙ c.new.ensures.local in
+    let one = local_more c.in_ok-arg.ensures base c.file_argument.ensures.local in
+    let two = local_more c.in_ok-debug.ensures one c.optional_file.ensures.local in
+    c.with_asked_size.ensures.local two

@@ -1,0 +1,50 @@
+use Rattle.std.proofs.Common.{◌≡◌, List, ℕ, IfSome, inl, inr, subst, sym}
+use Rattle.m161_machine.specs.declared.event.Event.{Event}
+use Rattle.std.proofs.lemmas.Result.{err_from_is_err_and}
+use Rattle.s161_base.specs.Known.{IsText}
+use Rattle.s161_debug.specs.Debugs.{Lists}
+use Rattle.s161_debug.proofs.Results.{if_err, if_ok}
+use Rattle.s161_debug.proofs.opening.open_file.Goals as goal
+
+pub returns-in_err-text-clause-fault : goal.returns-in_err-text-clause-fault
+returns-in_err-text-clause-fault g c =
+    let made = err_from_is_err_and c.from_residual.result c.from_residual.ensures.1 in
+    rw (made.1, made.2) (elim c.in_err-text.ensures.err [
+      | inl file ↦ inr (inl file)
+      | inr is ↦ inl is
+    ])
+
+pub returns-in_err-listed-clause-fault : goal.returns-in_err-listed-clause-fault
+returns-in_err-listed-clause-fault g c =
+    let known = g.F.FileSource.known c.args.files.now c.args.name.now in
+    let T : List ℕ → Type 0 = λ text. IfSome known (λ bytes. text ≡ bytes) in
+    let is = subst T (sym c.as_str.ensures.value) c.in_ok-text.ensures.whole in
+    let utf8 = subst IsText (sym c.as_str.ensures.value) c.in_ok-text.text.ok in
+    let made = err_from_is_err_and c.from_residual-in_err-listed.result c.from_residual-in_err-listed.ensures.1 in
+    rw (made.1, made.2) (inr (inr (inl (c.as_str.result.now, is, (utf8, c.in_err-listed.ensures.fault)))))
+
+pub returns-clause-ok : goal.returns-clause-ok
+returns-clause-ok g c =
+    let known = g.F.FileSource.known c.args.files.now c.args.name.now in
+    let T : List ℕ → Type 0 = λ text. IfSome known (λ bytes. text ≡ bytes) in
+    let is = subst T (sym c.as_str.ensures.value) c.in_ok-text.ensures.whole in
+    let utf8 = subst IsText (sym c.as_str.ensures.value) c.in_ok-text.text.ok in
+    let listed = c.in_ok-listed.listed in
+    let L : List Event → Type 0 = λ events. Lists c.as_str.result.now events listed.line in
+    if_ok c.open_listed.result (λ opened h. record {
+      line = listed.line;
+      come = (c.as_str.result.now, is, (utf8, subst L (sym h.2) c.in_ok-listed.ensures.ok));
+      is_that = h.0;
+      boots = h.1;
+    }) c.open_listed.ensures.ok
+
+pub returns-clause-fault : goal.returns-clause-fault
+returns-clause-fault g c =
+    let known = g.F.FileSource.known c.args.files.now c.args.name.now in
+    let T : List ℕ → Type 0 = λ text. IfSome known (λ bytes. text ≡ bytes) in
+    let is = subst T (sym c.as_str.ensures.value) c.in_ok-text.ensures.whole in
+    let utf8 = subst IsText (sym c.as_str.ensures.value) c.in_ok-text.text.ok in
+    let listed = c.in_ok-listed.listed in
+    if_err c.open_listed.result (λ fault h.
+    inr (inr (inr (c.as_str.result.now, is, (utf8, (listed.events.items, listed.line, c.in_ok-listed.ensures.ok, h))))))
+    c.open_listed.ensures.fault

@@ -1,0 +1,18 @@
+use Rattle.std.proofs.Common.{◌≡◌, None, rules}
+use Rattle.std.proofs.lemmas.Result.{err_from_is_err_and}
+use Rattle.s161_base.specs.Machines.{asked_conf, machine_fault}
+use Rattle.s161_debug.proofs.Faults.{not_booted, refused}
+use Rattle.s161_debug.proofs.opening.open_listed.Goals as goal
+
+pub returns-in-Some-clause-fault : goal.returns-in-Some-clause-fault
+returns-in-Some-clause-fault c =
+    let conf = asked_conf c.args.size c.args.listed.line in
+    refused (λ x. x ≡ conf) c.args.size c.args.image.now c.args.listed.line c.in-Some.fault (search rules)
+
+pub returns-in_err-machine-clause-fault : goal.returns-in_err-machine-clause-fault
+returns-in_err-machine-clause-fault c =
+    let made = err_from_is_err_and c.from_residual.result c.from_residual.ensures.1 in
+    let conf = asked_conf c.args.size c.args.listed.line in
+    let none : machine_fault c.args.size c.args.image.now c.args.listed.line ≡ None = search rules in
+    rw (made.1, made.2)
+    (not_booted (λ x. x ≡ conf) c.args.size c.args.image.now c.args.listed.line c.asked_conf.result c.in_err-machine.field-0.0 none c.asked_conf.ensures c.in_err-machine.ensures.fault)

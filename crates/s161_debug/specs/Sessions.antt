@@ -1,0 +1,77 @@
+use Rattle.std.specs.Prelude.{◌≡◌, ◌≢◌, ◌⊎◌, ℕ, ◌≤◌, ◌<◌, List, [], ◌∷◌, ◌++◌, length, take, Option, codes}
+use Rattle.std.specs.List.{AllByRecursion}
+use Rattle.std.specs.Io.KnownBytes.{Appends, Consumes, IsAtEnd}
+use Rattle.m161_machine.specs.declared.event.Event.{Event}
+use Rattle.m161_machine.specs.History.{History}
+use Rattle.m161_text.specs.Lines.{lines_of, text_of}
+use Rattle.m161_text.specs.Parts.{Lacks}
+use Rattle.m161_debug.specs.Breakpoints.{SessionState}
+use Rattle.s161_base.specs.declared.fault.Fault.{Fault}
+use Rattle.s161_base.specs.declared.fault.Fault.TheVariants.{Input, Memory, Output}
+use Rattle.s161_base.specs.declared.fault.Unread.TheVariants.{Failed, NotUtf8, TooLong}
+use Rattle.s161_base.specs.Known.{IsText}
+use Rattle.s161_base.specs.Streams.{Streams}
+use Rattle.s161_debug.specs.Lines.{DoesLines}
+
+-- How a session ends, which reads its lines and writes what they print.
+
+-- a session of a machine, without breakpoints
+abbrev pub session_of : History → SessionState
+session_of m = record { machine = m; breakpoints = [] }
+
+-- the session goes on after a line, which is UTF-8: it isn't `quit`
+abbrev pub IsPassed : List ℕ → Type 0
+IsPassed line = IsText line × (line ≢ codes "quit")
+
+-- all of these lines are passed, and the input is at its end; or `quit` follows them
+abbrev pub IsLast : List (List ℕ) → Option (List ℕ) → Type 0
+IsLast lines left =
+    (AllByRecursion IsPassed lines × IsAtEnd left)
+    ⊎ ((passed : List (List ℕ)) × AllByRecursion IsPassed passed
+    × (lines ≡ passed ++ codes "quit" ∷ []))
+
+-- a session that has ended. The bytes that were read are its lines; all that these print was written
+pub record Ends (s : SessionState) (events : List Event) (x : Streams) : Type 0 where
+  pub bytes : List ℕ
+  pub are_read : Consumes x.input x.left bytes
+  pub last : IsLast (lines_of bytes) x.left
+  pub text : List ℕ
+  pub does : DoesLines (lines_of bytes) s events [] text
+  pub are_written : Appends x.before x.after text
+
+-- a text is one line, with or without its end, and the line is so
+abbrev pub IsOneLine : (List ℕ → Type 0) → List ℕ → Type 0
+IsOneLine IsSo text = (line : List ℕ) × (lines_of text ≡ line ∷ []) × IsSo line
+
+-- what was read behind the lines that were passed, by the fault that ends a session: the input
+-- failed, or a line was too long, before the line's end; a line that isn't UTF-8; at most a line,
+-- for which memory was refused; the line whose answer couldn't be written
+abbrev pub IsBehind : Fault → List ℕ → Type 0
+IsBehind (Input Failed) part = Lacks 10 part
+IsBehind (Input TooLong) part = Lacks 10 part × (402_653_184 < length part)
+IsBehind (Input NotUtf8) part = IsOneLine (λ line. ¬ IsText line) part
+IsBehind Memory part = length (lines_of part) ≤ 1
+IsBehind Output part = IsOneLine IsText part
+IsBehind _ part = ⊥
+
+-- what was written: all that the lines print that were passed; where the output failed, also the
+-- first bytes of what the next one prints
+abbrev pub IsWritten :
+    Fault → SessionState → List Event → List (List ℕ) → List ℕ → Streams → Type 0
+IsWritten Output s events lines text x =
+    (printed : List ℕ) × DoesLines lines s events [] (text ++ printed)
+    × ((n : ℕ) × Appends x.before x.after (text ++ take n printed))
+IsWritten _ s events lines text x = Appends x.before x.after text
+
+-- a fault ended a session. Some whole lines were passed before
+pub record Breaks
+    (s : SessionState) (events : List Event) (x : Streams) (fault : Fault) : Type 0 where
+  pub passed : List (List ℕ)
+  pub are_lines : AllByRecursion (Lacks 10) passed
+  pub are_passed : AllByRecursion IsPassed passed
+  pub part : List ℕ
+  pub is_behind : IsBehind fault part
+  pub are_read : Consumes x.input x.left (text_of passed ++ part)
+  pub text : List ℕ
+  pub does : DoesLines passed s events [] text
+  pub is_written : IsWritten fault s events (passed ++ lines_of part) text x

@@ -1,0 +1,146 @@
+//! What a session's lines do.
+
+ghost use Rattle.std.specs.Prelude.{◌≡◌, ◌+◌, ◌-◌, ◌≤◌, [], length, string_bytes, vec_capacity, IfNone, IfOk};
+ghost use Rattle.m161_debug.specs.Jumps.{jump_fault};
+ghost use Rattle.s161_debug.specs.Lines.{asked_by, error_line, name_of_jump_error, Does, DoesCommand, DoesJump, DoesJumpIf};
+ghost use Rattle.s161_debug.specs.helpers.Lines.{Jumped};
+
+use crate::Session;
+use crate::asked::{Asked, asked_by, event_of_jump};
+use crate::help::help;
+use crate::left::Left;
+use m161_debug::JumpError;
+use m161_machine::Event;
+use std::alloc::{AllocError, Global};
+use std::fmt::Write;
+
+/// Does a line. Returns what it prints.
+///
+/// # Errors
+/// Memory was refused for the text.
+pub(crate) fn answer(
+    alloc: Global,
+    session: &mut Session,
+    line: &str,
+    left: &mut Left,
+) -> Result<String, AllocError>
+    ensures { IfOk result (λ text. Does (asked_by line.now) line.now session.old left.old
+        session.new left.new (string_bytes text)) }
+{
+    match asked_by(line) {
+        Asked::Nothing | Asked::Quit => Ok(String::new(alloc)),
+        Asked::Help => String::from_str(alloc, help()),
+        Asked::Jump => jump_if_asked(alloc, session, event_of_jump(line), left),
+        Asked::Command => command(alloc, session, line, left),
+    }
+}
+
+// Does the session's command of a line. Returns what it prints, or the line of its error.
+fn command(
+    alloc: Global,
+    session: &mut Session,
+    line: &str,
+    left: &mut Left,
+) -> Result<String, AllocError>
+    ensures { IfOk result (λ text. DoesCommand line.now session.old left.old session.new left.new
+        (string_bytes text)) }
+{
+    let mut text = String::new(alloc);
+    match session.command(line, left.as_slice(), &mut text) {
+        Ok(used) => left.use_up(used),
+        Err(error) => {
+            let name = error.name();
+            writeln!(text, "? {name}")?;
+        }
+    }
+    Ok(text)
+}
+
+// Goes to the state before an event, if there is its number. Returns what that prints.
+fn jump_if_asked(
+    alloc: Global,
+    session: &mut Session,
+    event: Option<u64>,
+    left: &mut Left,
+) -> Result<String, AllocError>
+    ensures { IfOk result (λ text. DoesJumpIf event session.old left.old session.new left.new
+        (string_bytes text)) }
+{
+    match event {
+        Some(k) => jump(alloc, session, k, left),
+        None => line_of_error(alloc, JumpError::BadArgument),
+    }
+}
+
+// Goes to the state before event k. Returns what that prints.
+fn jump(alloc: Global, session: &mut Session, k: u64, left: &mut Left) -> Result<String, AllocError>
+    ensures { IfOk result (λ text. DoesJump k session.old left.old session.new left.new
+        (string_bytes text)) }
+{
+    match go_back(alloc, session, k, left) {
+        Ok(()) => format!(in alloc; "at {k}\n"),
+        Err(error) => line_of_error(alloc, error),
+    }
+}
+
+// The line of an error.
+fn line_of_error(alloc: Global, error: JumpError) -> Result<String, AllocError>
+    ensures { IfOk result (λ text. string_bytes text ≡ error_line (name_of_jump_error error)) }
+{
+    let name = name_of(error);
+    format!(in alloc; "? {name}\n")
+}
+
+// The name that an error is printed by.
+fn name_of(error: JumpError) -> &'static str
+    ensures { result.now ≡ name_of_jump_error error }
+{
+    match error {
+        JumpError::BadArgument => "BadArgument",
+        JumpError::Dropped => "Dropped",
+        JumpError::NoMemory => "NoMemory",
+    }
+}
+
+// Goes to the state before event k, and puts the events that are undone before those that are left.
+// Room for all of them is taken first, since a jump can't be taken back.
+fn go_back(alloc: Global, session: &mut Session, k: u64, left: &mut Left) -> Result<(), JumpError>
+    ensures { Jumped k session.old left.old result session.new left.new }
+{
+    if let Some(error) = fault_of(session, k) {
+        return Err(error);
+    }
+    let room = room_for(alloc, session, k, left)?;
+    let undone = session.jump(alloc, k)?;
+    left.put_before(&undone, room);
+    Ok(())
+}
+
+// A list with room for the events from event k on, and for those that are left.
+fn room_for(alloc: Global, session: &Session, k: u64, left: &Left) -> Result<Vec<Event>, AllocError>
+    requires { k ≤ length session.now.machine.log }
+    ensures empty { IfOk result (λ events. events.items ≡ []) }
+    ensures room { IfOk result (λ events.
+        (length session.now.machine.log - k) + length left.now ≤ vec_capacity events) }
+{
+    let undone = session.machine().log_len() - k as usize;
+    match undone.checked_add(left.as_slice().len()) {
+        Some(number) => Vec::with_capacity(alloc, number),
+        None => Err(AllocError),
+    }
+}
+
+// Why a session can't go to the state before event k.
+fn fault_of(session: &Session, k: u64) -> Option<JumpError>
+    ensures fault { result ≡ jump_fault k session.now.machine }
+    ensures within { IfNone result (k ≤ length session.now.machine.log) }
+{
+    let machine = session.machine();
+    if k > machine.made() {
+        Some(JumpError::BadArgument)
+    } else if (machine.log_len() as u64) < machine.made() {
+        Some(JumpError::Dropped)
+    } else {
+        None
+    }
+}

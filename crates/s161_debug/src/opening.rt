@@ -1,0 +1,260 @@
+//! The machine and the events of a session.
+
+ghost use Rattle.std.specs.Prelude.{◌≡◌, ◌⊎◌, ◌≤◌, false, true, IfErr, IfOk, None};
+ghost use Rattle.m161_order.specs.Order.{order_fault};
+ghost use Rattle.m161_text.specs.Lines.{lines_of};
+ghost use Rattle.s161_command.specs.Commands.{HasSourceLimits};
+ghost use Rattle.s161_base.specs.Faults.{BootsTo};
+ghost use Rattle.s161_base.specs.Machines.{asked_conf, machine_fault};
+ghost use Rattle.s161_base.specs.Samples.{image_file};
+ghost use Rattle.s161_base.specs.Texts.{IsLogFault, IsScheduleFault};
+ghost use Rattle.s161_command.specs.declared.task.Source.TheVariants as sources;
+ghost use Rattle.s161_debug.specs.Debugs.{driven_conf, first_plain, is_log, ChoseFrom, IsEarlyFault, IsListFault, IsMachineFault, IsOpened, IsSourceFault, Lists, ListsAs, Opens};
+ghost use Rattle.s161_debug.specs.helpers.Debugs.{IsBootFault};
+
+use m161::Machine;
+use m161_machine::{Conf, Event};
+use m161_steplog::{MachineLine, read_machine};
+use m161_text::next_line;
+use s161_base::fault::Fault;
+use s161_base::files::FileSource;
+use s161_base::input::read_text;
+use s161_base::machines::{asked_conf, machine_fault};
+use s161_base::sample::read_image;
+use s161_base::texts::{entries_of, events_of};
+use s161_command::{AskedSize, DebugTask, Drive, Source};
+use s161_drive::policy::read_keys;
+use s161_drive::schedule::{chosen_events, events_made, log_for};
+use std::alloc::Global;
+
+/// The machine of a session, and its events.
+#[derive(Drop)]
+pub(crate) struct Opened {
+    pub(crate) machine: Machine,
+    pub(crate) events: Vec<Event>,
+}
+
+// The events of a text, and what its machine line says.
+#[derive(Drop)]
+struct Listed {
+    events: Vec<Event>,
+    line: Option<MachineLine>,
+}
+
+/// Reads the image and then the file of the events, or of the keys of the driven run that chooses
+/// them; makes the driven run on a machine of its own; and boots the image.
+///
+/// # Errors
+/// The first fault.
+pub(crate) fn open<'a, F: FileSource>(
+    alloc: Global,
+    files: &mut F,
+    task: DebugTask<'a>,
+) -> Result<Opened, Fault<'a>>
+    requires { HasSourceLimits task.source }
+    ensures ok { IfOk result (λ opened. Opens task.entry (F.known files.old)
+        (image_file (F.known files.old) task.entry.image.now) opened.machine opened.events.items) }
+    ensures fault { IfErr result (IsEarlyFault task.entry (F.known files.old)
+        (image_file (F.known files.old) task.entry.image.now)) }
+{
+    let file = read_image(alloc, files, task.image)?;
+    open_image(alloc, files, file.as_slice(), task.size, task.source)
+}
+
+// Boots an image, with the events of a source.
+fn open_image<'a, F: FileSource>(
+    alloc: Global,
+    files: &mut F,
+    image: &[u8],
+    size: AskedSize,
+    source: Source<'a>,
+) -> Result<Opened, Fault<'a>>
+    requires { HasSourceLimits source }
+    ensures ok { IfOk result (λ opened. IsOpened source.entry size (F.known files.old) image.now
+        opened.machine opened.events.items) }
+    ensures fault { IfErr result (λ fault. (fault ≡ Fault.Memory)
+        ⊎ IsSourceFault source.entry size (F.known files.old) image.now fault) }
+{
+    match source {
+        Source::File(name) => open_file(alloc, files, image, size, name),
+        Source::Driven(drive) => open_driven(alloc, files, image, size, drive),
+    }
+}
+
+// Boots an image, with the events of a file.
+fn open_file<'a, F: FileSource>(
+    alloc: Global,
+    files: &mut F,
+    image: &[u8],
+    size: AskedSize,
+    name: &'a str,
+) -> Result<Opened, Fault<'a>>
+    ensures ok { IfOk result (λ opened. IsOpened (sources.File name.entry) size (F.known files.old)
+        image.now opened.machine opened.events.items) }
+    ensures fault { IfErr result (λ fault. (fault ≡ Fault.Memory)
+        ⊎ IsSourceFault (sources.File name.entry) size (F.known files.old) image.now fault) }
+{
+    let text = read_text(alloc, files, name)?;
+    let listed = list_text(alloc, text.as_str())?;
+    open_listed(alloc, image, size, listed)
+}
+
+// Boots an image, with the events of a driven run.
+fn open_driven<'a, F: FileSource>(
+    alloc: Global,
+    files: &mut F,
+    image: &[u8],
+    size: AskedSize,
+    drive: Drive<'a>,
+) -> Result<Opened, Fault<'a>>
+    requires { order_fault drive.order ≡ None }
+    ensures ok { IfOk result (λ opened. IsOpened (sources.Driven drive.entry) size
+        (F.known files.old) image.now opened.machine opened.events.items) }
+    ensures fault { IfErr result (λ fault. (fault ≡ Fault.Memory)
+        ⊎ IsSourceFault (sources.Driven drive.entry) size (F.known files.old) image.now fault) }
+{
+    let keys = read_keys(alloc, files, drive.keys)?;
+    open_chosen(alloc, image, size, drive, &keys)
+}
+
+// Boots the machine that is asked for, if the log's machine line names no other.
+fn open_listed<'a>(
+    alloc: Global,
+    image: &[u8],
+    size: AskedSize,
+    listed: Listed,
+) -> Result<Opened, Fault<'a>>
+    ensures ok { IfOk result (λ opened. (machine_fault size image.now listed.line ≡ None)
+        × BootsTo image.now (asked_conf size listed.line) opened.machine
+        × (opened.events.items ≡ listed.events.items)) }
+    ensures fault { IfErr result (IsMachineFault size image.now listed.line
+        (λ conf. conf ≡ asked_conf size listed.line)) }
+{
+    if let Some(fault) = machine_fault(size, image, listed.line) {
+        return Err(fault);
+    }
+    let machine = boot(alloc, image, asked_conf(size, listed.line))?;
+    Ok(Opened {
+        machine,
+        events: listed.events,
+    })
+}
+
+// Makes the driven run, and then boots the machine that is asked for.
+fn open_chosen<'a>(
+    alloc: Global,
+    image: &[u8],
+    size: AskedSize,
+    drive: Drive<'_>,
+    keys: &[u8],
+) -> Result<Opened, Fault<'a>>
+    requires { order_fault drive.order ≡ None }
+    ensures ok { IfOk result (λ opened.
+        ChoseFrom image.now size drive.entry keys.now opened.events.items
+        × BootsTo image.now (asked_conf size None) opened.machine) }
+    ensures fault { IfErr result (IsMachineFault size image.now None
+        (λ conf. (conf ≡ driven_conf size drive.entry) ⊎ (conf ≡ asked_conf size None))) }
+{
+    let events = drive_events(alloc, image, size, drive, keys)?;
+    let machine = boot(alloc, image, asked_conf(size, None))?;
+    Ok(Opened { machine, events })
+}
+
+// The events that the policy chooses, on a machine of its own.
+fn drive_events<'a>(
+    alloc: Global,
+    image: &[u8],
+    size: AskedSize,
+    drive: Drive<'_>,
+    keys: &[u8],
+) -> Result<Vec<Event>, Fault<'a>>
+    requires { order_fault drive.order ≡ None }
+    ensures ok { IfOk result (λ events.
+        ChoseFrom image.now size drive.entry keys.now events.items) }
+    ensures fault { IfErr result (IsBootFault image.now (driven_conf size drive.entry)) }
+{
+    let conf = driven_conf(size, drive);
+    let mut machine = boot(alloc, image, conf)?;
+    // So that the proof knows that the log has its room.
+    machine.replay();
+    chosen_events(alloc, &mut machine, drive, keys)
+}
+
+// The machine of a driven run.
+fn driven_conf(size: AskedSize, drive: Drive<'_>) -> Conf
+    ensures value { result ≡ driven_conf size drive.entry }
+    ensures room { 1 ≤ result.log → result.log ≤ 16_777_216 → drive.entry.events ≤ result.log }
+{
+    let conf = asked_conf(size, None);
+    Conf {
+        ram: conf.ram,
+        processors: conf.processors,
+        log: log_for(size.log, drive.events),
+    }
+}
+
+// Boots an image.
+fn boot<'a>(alloc: Global, image: &[u8], conf: Conf) -> Result<Machine, Fault<'a>>
+    ensures ok { IfOk result (BootsTo image.now conf) }
+    ensures fault { IfErr result (IsBootFault image.now conf) }
+{
+    let machine = Machine::boot(alloc, image, conf)?;
+    Ok(machine)
+}
+
+// The events of a text, which is a log or a schedule.
+fn list_text<'a>(alloc: Global, text: &str) -> Result<Listed, Fault<'a>>
+    ensures ok { IfOk result (λ listed. Lists text.now listed.events.items listed.line) }
+    ensures fault { IfErr result (IsListFault text.now) }
+{
+    if is_log(text) {
+        list_log(alloc, text)
+    } else {
+        list_schedule(alloc, text)
+    }
+}
+
+// Whether a text is a log, by its first line that is no comment.
+#[tactic(auto, unfolding(crate::specs::Debugs::is_log))]
+fn is_log(text: &str) -> bool
+    ensures { result ≡ is_log text.now }
+{
+    first_plain(text).as_bytes().starts_with(b"m161 ")
+}
+
+// The first line that is no comment; the empty line if there is none.
+fn first_plain(text: &str) -> &str
+    ensures { result.now ≡ first_plain (lines_of text.now) }
+{
+    let mut rest = text;
+    while let Some((line, more)) = next_line(rest) {
+        if !line.starts_with('#') {
+            return line;
+        }
+        rest = more;
+    }
+    ""
+}
+
+// The events of a log, and what its machine line says.
+fn list_log<'a>(alloc: Global, text: &str) -> Result<Listed, Fault<'a>>
+    ensures ok { IfOk result (λ listed. ListsAs true text.now listed.events.items listed.line) }
+    ensures fault { IfErr result (IsLogFault text.now) }
+{
+    let entries = entries_of(alloc, text)?;
+    let events = events_made(alloc, &entries)?;
+    Ok(Listed {
+        events,
+        line: read_machine(text),
+    })
+}
+
+// The events of a schedule.
+fn list_schedule<'a>(alloc: Global, text: &str) -> Result<Listed, Fault<'a>>
+    ensures ok { IfOk result (λ listed. ListsAs false text.now listed.events.items listed.line) }
+    ensures fault { IfErr result (IsScheduleFault text.now) }
+{
+    let events = events_of(alloc, text)?;
+    let events = events.to_vec(alloc)?;
+    Ok(Listed { events, line: None })
+}

@@ -1,0 +1,4 @@
+mod Printing
+mod Scheduling
+mod Driving
+mod Finishing

@@ -1,0 +1,256 @@
+use Rattle.std.proofs.Common.{◌≡◌, ◌∙◌, refl, sym, ap, subst, ℕ, suc, ◌+◌, ◌-◌, ◌≤◌, Bool, true, false, nat_le, nat_lt, List, [], ◌∷◌, ◌++◌, length, take, drop, Option, Ok, append-nil, append_assoc, arith}
+use Rattle.std.proofs.lemmas.List.{length-append, length-map, take-append-le, take_all}
+use Rattle.std.proofs.Math.Seq.{drop-nil, take-append_seam, take-nil}
+use Rattle.std.proofs.lemmas.List.Concat.{flat_map-append}
+use Rattle.std.proofs.lemmas.Bool.{leb-true, ltb-true, leb-false, ltb-false}
+use Rattle.std.proofs.KnownBytes.{Appends-nil, Appends-trans}
+use Rattle.std.specs.Prelude.{◌&&◌, if◌then◌else◌, string_bytes}
+use Rattle.std.specs.Io.KnownBytes.{Appends}
+use Rattle.m161_cpu.specs.declared.processor.Outcome.{Outcome}
+use Rattle.m161_machine.specs.declared.event.Entry.{Entry}
+use Rattle.m161_machine.specs.declared.event.Event.{Event}
+use Rattle.m161_machine.specs.State.{State, next}
+use Rattle.m161_machine.specs.History.{Continues, History, Leads, events_of}
+use Rattle.m161_text.specs.Lines.{text_of, with_line_end}
+use Rattle.m161_trace.specs.Line.{event_line}
+use Rattle.s161_base.specs.declared.fault.Fault.{Fault}
+use Rattle.s161_base.specs.Streams.{AppendsSome}
+use Rattle.s161_trace.specs.declared.lines.Lines.{Lines}
+use Rattle.s161_trace.specs.declared.window.Window.{Window}
+use Rattle.s161_trace.specs.Traces.{line_and, traced}
+use Rattle.s161_trace.specs.helpers.Printing.{FailsToPrint, FailsToPut, Prints, PutsOut, has_line, lines_from}
+
+-- The lines of a run, one after the other.
+
+-- the first line of a part of a list
+
+take_none : {A : Type 0} (n k : ℕ) → ◌≡◌ {A = List A} (take n (drop k [])) []
+take_none n k = ap (take n) (drop-nil k) ∙ take-nil n
+
+-- behind its first place, or where it is outside
+open_part : {A : Type 0} (b : Bool) (d count : ℕ) (x : A) (xs : List A) → nat_lt d count ≡ b →
+    take (count - d) (x ∷ xs) ≡ (if b then x ∷ [] else []) ++ take (count - (d + 1)) xs
+open_part true d count x xs is =
+    let less = ltb-true d count is in
+    let more : count - d ≡ suc (count - (d + 1)) = omega (arith, less) in
+    ap (λ n. take n (x ∷ xs)) more
+open_part false d count x xs is =
+    let most = ltb-false d count is in
+    let none : count - d ≡ 0 = omega (arith, most) in
+    let none_after : count - (d + 1) ≡ 0 = omega (arith, most) in
+    ap (λ n. take n (x ∷ xs)) none ∙ sym (ap (λ n. take n xs) none_after)
+
+part_by : {A : Type 0} (b : Bool) (from count k : ℕ) (x : A) (xs : List A) → nat_le from k ≡ b →
+    take (count - (k - from)) (drop (from - k) (x ∷ xs))
+    ≡ (if b && nat_lt (k - from) count then x ∷ [] else []) ++ take (count - (k + 1 - from)) (drop (from - (k + 1)) xs)
+part_by true from count k x xs is =
+    let within = leb-true from k is in
+    let first : from - k ≡ 0 = omega (arith, within) in
+    let second : from - (k + 1) ≡ 0 = omega (arith, within) in
+    let after : k + 1 - from ≡ k - from + 1 = omega (arith, within) in
+    let one = if nat_lt (k - from) count then x ∷ [] else [] in
+    ap (λ n. take (count - (k - from)) (drop n (x ∷ xs))) first
+    ∙ open_part (nat_lt (k - from) count) (k - from) count x xs refl
+    ∙ sym (ap (λ n. one ++ take (count - n) xs) after)
+    ∙ sym (ap (λ n. one ++ take (count - (k + 1 - from)) (drop n xs)) second)
+part_by false from count k x xs is =
+    let before = leb-false from k is in
+    let first : from - k ≡ suc (from - (k + 1)) = omega (arith, before) in
+    let same : k - from ≡ k + 1 - from = omega (arith, before) in
+    ap (λ n. take (count - (k - from)) (drop n (x ∷ xs))) first
+    ∙ ap (λ n. take (count - n) (drop (from - (k + 1)) xs)) same
+
+part : {A : Type 0} (from count k : ℕ) (x : A) (xs : List A) →
+    take (count - (k - from)) (drop (from - k) (x ∷ xs))
+    ≡ (if nat_le from k && nat_lt (k - from) count then x ∷ [] else []) ++ take (count - (k + 1 - from)) (drop (from - (k + 1)) xs)
+part from count k x xs = part_by (nat_le from k) from count k x xs refl
+
+-- the line of an event, if it has one
+abbrev pub line_of : Window → ℕ → State → Event → Outcome → State → List (List ℕ)
+line_of w number s e o t = if has_line w number then event_line w.naming number e s o t ∷ [] else []
+
+module _ (w : Window) where
+  pub no_lines : (number : ℕ) (s : State) → lines_from w number s [] ≡ []
+  no_lines number s = take_none (w.count - (number - w.from)) (w.from - number)
+
+  -- of the first event, and of those after it
+  pub first_line : (number : ℕ) (s : State) (e : Event) (es : List Event) (o : Outcome) (t : State) → next s e ≡ Ok (o, t) →
+      lines_from w number s (e ∷ es) ≡ line_of w number s e o t ++ lines_from w (number + 1) t es
+  first_line number s e es o t h =
+      ap (λ r. take (w.count - (number - w.from)) (drop (w.from - number) (line_and w.naming number s e r (λ u. traced w.naming (number + 1) u es)))) h
+      ∙ part w.from w.count number (event_line w.naming number e s o t) (traced w.naming (number + 1) t es)
+
+  pub one_line : (number : ℕ) (s : State) (e : Event) (o : Outcome) (t : State) → next s e ≡ Ok (o, t) →
+      lines_from w number s (e ∷ []) ≡ line_of w number s e o t
+  one_line number s e o t h =
+      first_line number s e [] o t h ∙ ap (λ ls. line_of w number s e o t ++ ls) (no_lines (number + 1) t)
+      ∙ append-nil (line_of w number s e o t)
+
+  -- of some events, and of those after them
+  pub lines_on : (es : List Entry) (fs : List Event) (number : ℕ) (s t : State) → Leads s es t →
+      lines_from w number s (events_of es ++ fs) ≡ lines_from w number s (events_of es) ++ lines_from w (number + length es) t fs
+  lines_on [] fs number s t h =
+      let same : number + 0 ≡ number = omega arith in
+      ap (λ u. lines_from w number u fs) (sym h)
+      ∙ sym (ap (λ n. lines_from w n t fs) same)
+      ∙ sym (ap (λ ls. ls ++ lines_from w (number + 0) t fs) (no_lines number s))
+  lines_on (e ∷ es) fs number s t h =
+      let one = line_of w number s e.event e.outcome h.0 in
+      let rest = lines_from w (number + 1) h.0 (events_of es) in
+      let after : number + 1 + length es ≡ number + suc (length es) = omega arith in
+      first_line number s e.event (events_of es ++ fs) e.outcome h.0 h.1
+      ∙ ap (λ ls. one ++ ls) (lines_on es fs (number + 1) h.0 t h.2)
+      ∙ sym (append_assoc one rest (lines_from w (number + 1 + length es) t fs))
+      ∙ ap (λ ls. ls ++ lines_from w (number + 1 + length es) t fs) (sym (first_line number s e.event (events_of es) e.outcome h.0 h.1))
+      ∙ ap (λ n. lines_from w number s (events_of (e ∷ es)) ++ lines_from w n t fs) after
+
+  -- their text
+  pub with_line : (number : ℕ) (s : State) (e : Event) (o : Outcome) (t : State) → has_line w number ≡ true → next s e ≡ Ok (o, t) →
+      text_of (lines_from w number s (e ∷ [])) ≡ with_line_end (event_line w.naming number e s o t)
+  with_line number s e o t has h =
+      let line = event_line w.naming number e s o t in
+      ap text_of (one_line number s e o t h)
+      ∙ ap (λ b. text_of (if b then line ∷ [] else [])) has
+      ∙ append-nil (with_line_end line)
+
+  pub without_line : (number : ℕ) (s : State) (e : Event) (o : Outcome) (t : State) → has_line w number ≡ false → next s e ≡ Ok (o, t) →
+      text_of (lines_from w number s (e ∷ [])) ≡ []
+  without_line number s e o t has h =
+      let line = event_line w.naming number e s o t in
+      ap text_of (one_line number s e o t h)
+      ∙ ap (λ b. text_of (if b then line ∷ [] else [])) has
+
+-- events that are accepted one after the other, from one state to another
+abbrev pub Led : State → List Event → State → Type 0
+Led s es t = (entries : List Entry) × (events_of entries ≡ es) × Leads s entries t
+
+pub led : (l : Lines) (m n : History) (es : List Event) → l.tracer ≡ m.state → Continues m es n → Led l.tracer es n.state
+led l m n es same c = (c.entries, c.events_are, subst (λ s. Leads s c.entries n.state) (sym same) c.run_is)
+
+text_on : (w : Window) (number : ℕ) (s t : State) (es fs : List Event) → Led s es t →
+    text_of (lines_from w number s (es ++ fs)) ≡ text_of (lines_from w number s es) ++ text_of (lines_from w (number + length es) t fs)
+text_on w number s t es fs run =
+    let P : List Event → Type 0 = λ xs.
+    text_of (lines_from w number s (xs ++ fs)) ≡ text_of (lines_from w number s xs) ++ text_of (lines_from w (number + length xs) t fs) in
+    let entries = run.0 in
+    subst P run.1
+    (ap text_of (lines_on w entries fs number s t run.2)
+    ∙ flat_map-append with_line_end (lines_from w number s (events_of entries)) (lines_from w (number + length entries) t fs)
+    ∙ ap (λ n. text_of (lines_from w number s (events_of entries)) ++ text_of (lines_from w (number + n) t fs)) (sym (length-map entries _)))
+
+-- bytes that are put out
+
+pub puts_none : (a : Option (List ℕ)) (kept : List ℕ) → PutsOut a kept [] a kept
+puts_none a kept = ([], Appends-nil a, sym (append-nil kept))
+
+pub puts_on : (a b c : Option (List ℕ)) (kept left last xs ys : List ℕ) → PutsOut a kept xs b left → PutsOut b left ys c last →
+    PutsOut a kept (xs ++ ys) c last
+puts_on a b c kept left last xs ys x y = (
+  x.0 ++ y.0,
+  Appends-trans a b c x.0 y.0 x.1 y.1,
+  append_assoc x.0 y.0 last ∙ ap (λ zs. x.0 ++ zs) y.2 ∙ sym (append_assoc x.0 left ys)
+      ∙ ap (λ zs. zs ++ ys) x.2 ∙ append_assoc kept xs ys,
+)
+
+take_past : (w zs : List ℕ) (n : ℕ) → take (length w + n) (w ++ zs) ≡ w ++ take n zs
+take_past [] zs n = let same : 0 + n ≡ n = omega arith in ap (λ k. take k zs) same
+take_past (x ∷ w) zs n =
+    let more : suc (length w) + n ≡ suc (length w + n) = omega arith in
+    ap (λ k. take k (x ∷ (w ++ zs))) more ∙ ap (λ rest. x ∷ rest) (take_past w zs n)
+
+-- some bytes are put out, and then it fails
+pub puts_some : (a b c : Option (List ℕ)) (kept left xs ys : List ℕ) → PutsOut a kept xs b left → AppendsSome b c (left ++ ys) →
+    AppendsSome a c (kept ++ (xs ++ ys))
+puts_some a b c kept left xs ys x y =
+    let whole : x.0 ++ (left ++ ys) ≡ kept ++ (xs ++ ys) =
+    sym (append_assoc x.0 left ys) ∙ ap (λ zs. zs ++ ys) x.2 ∙ append_assoc kept xs ys in (
+      length x.0 + y.0,
+      subst (Appends a c) (sym (take_past x.0 (left ++ ys) y.0) ∙ ap (take (length x.0 + y.0)) whole)
+          (Appends-trans a b c x.0 (take y.0 (left ++ ys)) x.1 y.1),
+    )
+
+-- nothing of them is written
+pub some_none : (a : Option (List ℕ)) (xs : List ℕ) → AppendsSome a a xs
+some_none a xs = (0, Appends-nil a)
+
+-- some of the first are
+pub some_more : (a b : Option (List ℕ)) (xs ys : List ℕ) → AppendsSome a b xs → AppendsSome a b (xs ++ ys)
+some_more a b xs ys h = by (nat_le h.0 (length xs)) refl
+  where
+    by : (t : Bool) → nat_le h.0 (length xs) ≡ t → AppendsSome a b (xs ++ ys)
+    by true is = (h.0, subst (Appends a b) (sym (take-append-le h.0 xs ys (leb-true h.0 (length xs) is))) h.1)
+    by false is =
+        let more = leb-false h.0 (length xs) is in
+        let long : length xs ≤ h.0 = omega (arith, more) in
+        (length xs, subst (Appends a b) (take_all h.0 xs long ∙ sym (take-append_seam xs ys)) h.1)
+
+-- all that was kept back is written
+pub puts_all : (a b : Option (List ℕ)) (kept : List ℕ) → Appends a b kept → PutsOut a kept [] b []
+puts_all a b kept h = (kept, h, refl)
+
+pub fails_all : (a b : Option (List ℕ)) (kept : List ℕ) → AppendsSome a b kept → AppendsSome a b (kept ++ [])
+fails_all a b kept h = subst (AppendsSome a b) (sym (append-nil kept)) h
+
+-- then a line is kept back
+pub puts_push : (a b : Option (List ℕ)) (kept left line last : List ℕ) → PutsOut a kept [] b left → last ≡ left ++ line →
+    PutsOut a kept line b last
+puts_push a b kept left line last x is = puts_on a b b kept left last [] line x ([], Appends-nil b, is)
+
+pub fails_push : (a b : Option (List ℕ)) (kept left line : List ℕ) → PutsOut a kept [] b left → AppendsSome a b (kept ++ line)
+fails_push a b kept left line x = puts_some a b b kept left [] line x (some_none b (left ++ line))
+
+pub fails_before : (a b : Option (List ℕ)) (kept line : List ℕ) (fault : Fault) → FailsToPut a kept [] b fault →
+    FailsToPut a kept line b fault
+fails_before a b kept line fault h =
+    (h.0, subst (AppendsSome a b) (ap (λ bytes. bytes ++ line) (append-nil kept)) (some_more a b (kept ++ []) line h.1))
+
+-- and all is written
+pub puts_end : (a b c : Option (List ℕ)) (kept left more : List ℕ) → PutsOut a kept more b left → Appends b c left →
+    Appends a c (kept ++ more)
+puts_end a b c kept left more x h = subst (Appends a c) x.2 (Appends-trans a b c x.0 left x.1 h)
+
+pub fails_end : (a b c : Option (List ℕ)) (kept left more : List ℕ) → PutsOut a kept more b left → AppendsSome b c left →
+    AppendsSome a c (kept ++ more)
+fails_end a b c kept left more x h =
+    subst (λ bytes. AppendsSome a c (kept ++ bytes)) (append-nil more)
+    (puts_some a b c kept left more [] x (fails_all b c left h))
+
+-- lines that are put out
+
+pub prints_none : (l : Lines) (a : Option (List ℕ)) (s : State) → l.tracer ≡ s → Prints l a [] s l a
+prints_none l a s same = record {
+  window_is = refl;
+  number_is = omega arith;
+  tracer_is = same;
+  puts =
+      subst (λ lines. PutsOut a (string_bytes l.piece) (text_of lines) a (string_bytes l.piece))
+      (sym (no_lines l.window l.number l.tracer)) (puts_none a (string_bytes l.piece));
+}
+
+module _ (l k : Lines) (a b c : Option (List ℕ)) (es fs : List Event) (t : State) (run : Led l.tracer es t)
+    (x : Prints l a es t k b) where
+  -- those of the later events, in the words of the first
+  later : text_of (lines_from l.window l.number l.tracer es) ++ text_of (lines_from k.window k.number k.tracer fs)
+      ≡ text_of (lines_from l.window l.number l.tracer (es ++ fs))
+  later =
+      ap (λ text. text_of (lines_from l.window l.number l.tracer es) ++ text)
+      (λ i. text_of (lines_from (x.window_is i) (x.number_is i) (x.tracer_is i) fs))
+      ∙ sym (text_on l.window l.number l.tracer t es fs run)
+
+  pub prints_on : (j : Lines) (u : State) → Prints k b fs u j c → Prints l a (es ++ fs) u j c
+  prints_on j u y = record {
+    window_is = y.window_is ∙ x.window_is;
+    number_is =
+        let first = x.number_is in let second = y.number_is in omega (arith, first, second, length-append es fs);
+    tracer_is = y.tracer_is;
+    puts =
+        subst (λ text. PutsOut a (string_bytes l.piece) text c (string_bytes j.piece)) later
+        (puts_on a b c (string_bytes l.piece) (string_bytes k.piece) (string_bytes j.piece) _ _ x.puts y.puts);
+  }
+
+  pub fails_on : (fault : Fault) → FailsToPrint k b fs c fault → FailsToPrint l a (es ++ fs) c fault
+  fails_on fault y = (
+    y.0,
+    subst (λ text. AppendsSome a c (string_bytes l.piece ++ text)) later
+        (puts_some a b c (string_bytes l.piece) (string_bytes k.piece) _ _ x.puts y.1),
+  )

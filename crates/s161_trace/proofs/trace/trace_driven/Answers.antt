@@ -1,0 +1,38 @@
+use Rattle.std.proofs.Common.{◌≡◌, subst, sym, List, ℕ, Option, IfSome}
+use Rattle.std.proofs.lemmas.Result.{err_from_is_err_and}
+use Rattle.s161_base.specs.declared.fault.Fault.{Fault}
+use Rattle.s161_base.specs.Samples.{image_file}
+use Rattle.s161_base.specs.Streams.{streams}
+use Rattle.s161_drive.specs.Driven.{AreKeys}
+use Rattle.s161_trace.specs.Traces.{IsTraceFault}
+use Rattle.s161_trace.proofs.Finishing.{drive_bad, drive_early, drive_ok, ends_so}
+use Rattle.s161_trace.proofs.trace.trace_driven.Goals as goal
+
+pub returns-in_err-read-clause-fault : goal.returns-in_err-read-clause-fault
+returns-in_err-read-clause-fault g c =
+    let made = err_from_is_err_and c.from_residual.result c.from_residual.ensures.1 in
+    let files = g.F.FileSource.known c.args.files.now in
+    let known = image_file files c.args.task.image.now in
+    let a = g.O.Write.contents c.args.output.now in
+    let P : Fault → Type 0 = λ fault. (input : Option (List ℕ)) → IsTraceFault c.args.task files known (streams input input a a) fault in
+    ends_so P c.from_residual.result made.0 made.1
+    (subst P (sym made.2)
+    (λ input. drive_early c.args.task c.args.options files known input c.requires.drive a c.in_err-read.field-0.0 c.in_err-read.ensures.fault))
+
+pub returns-clause-ok : goal.returns-clause-ok
+returns-clause-ok g c =
+    let files = g.F.FileSource.known c.args.files.now in
+    let known = image_file files c.args.task.image.now in
+    let R : List ℕ → Type 0 = λ file. IfSome known (λ bytes. file ≡ bytes) in
+    drive_ok c.args.task c.args.options files known c.requires.drive (g.O.Write.contents c.args.output.now) (g.O.Write.contents c.run_drive.new.output)
+    c.deref.result.now (subst R (sym c.deref.ensures.value) c.in_ok-read.ensures.file) c.deref-2.result.now
+    (subst (AreKeys c.args.options.keys files) (sym c.deref-2.ensures.value) c.in_ok-read.ensures.keys) c.run_drive.result c.run_drive.ensures.ok
+
+pub returns-clause-fault : goal.returns-clause-fault
+returns-clause-fault g c =
+    let files = g.F.FileSource.known c.args.files.now in
+    let known = image_file files c.args.task.image.now in
+    let R : List ℕ → Type 0 = λ file. IfSome known (λ bytes. file ≡ bytes) in
+    drive_bad c.args.task c.args.options files known c.requires.drive (g.O.Write.contents c.args.output.now) (g.O.Write.contents c.run_drive.new.output)
+    c.deref.result.now (subst R (sym c.deref.ensures.value) c.in_ok-read.ensures.file) c.deref-2.result.now
+    (subst (AreKeys c.args.options.keys files) (sym c.deref-2.ensures.value) c.in_ok-read.ensures.keys) c.run_drive.result c.run_drive.ensures.err

@@ -1,0 +1,39 @@
+use Rattle.std.proofs.Common.{◌≡◌, subst, sym, List, ℕ, IfSome}
+use Rattle.std.proofs.lemmas.Result.{err_from_is_err_and}
+use Rattle.s161_base.specs.Samples.{image_file}
+use Rattle.s161_base.specs.Streams.{streams}
+use Rattle.s161_trace.specs.Traces.{IsTraceFault}
+use Rattle.s161_trace.proofs.Finishing.{ends_so, schedule_bad, schedule_early, schedule_ok}
+use Rattle.s161_trace.proofs.trace.trace_schedule.Goals as goal
+
+pub returns-in_err-read-clause-fault : goal.returns-in_err-read-clause-fault
+returns-in_err-read-clause-fault g c =
+    let made = err_from_is_err_and c.from_residual.result c.from_residual.ensures.1 in
+    let files = g.F.FileSource.known c.args.files.now in
+    let known = image_file files c.args.task.image.now in
+    let input = g.I.Read.remaining c.args.input.now in
+    let left = g.I.Read.remaining c.read_scheduled.new.input in
+    let a = g.O.Write.contents c.args.output.now in
+    let P = IsTraceFault c.args.task files known (streams input left a a) in
+    ends_so P c.from_residual.result made.0 made.1
+    (subst P (sym made.2) (schedule_early c.args.task files known input left c.requires a c.in_err-read.field-0.0 c.in_err-read.ensures.fault))
+
+pub returns-clause-ok : goal.returns-clause-ok
+returns-clause-ok g c =
+    let files = g.F.FileSource.known c.args.files.now in
+    let known = image_file files c.args.task.image.now in
+    let R : List ℕ → Type 0 = λ file. IfSome known (λ bytes. file ≡ bytes) in
+    schedule_ok c.args.task files known (g.I.Read.remaining c.args.input.now) (g.I.Read.remaining c.read_scheduled.new.input) c.requires
+    (g.O.Write.contents c.args.output.now) (g.O.Write.contents c.run_schedule.new.output) c.deref.result.now
+    (subst R (sym c.deref.ensures.value) c.in_ok-read.ensures.file) c.in_ok-read.read.1 c.in_ok-read.ensures.events c.run_schedule.result
+    c.run_schedule.ensures.ok
+
+pub returns-clause-fault : goal.returns-clause-fault
+returns-clause-fault g c =
+    let files = g.F.FileSource.known c.args.files.now in
+    let known = image_file files c.args.task.image.now in
+    let R : List ℕ → Type 0 = λ file. IfSome known (λ bytes. file ≡ bytes) in
+    schedule_bad c.args.task files known (g.I.Read.remaining c.args.input.now) (g.I.Read.remaining c.read_scheduled.new.input) c.requires
+    (g.O.Write.contents c.args.output.now) (g.O.Write.contents c.run_schedule.new.output) c.deref.result.now
+    (subst R (sym c.deref.ensures.value) c.in_ok-read.ensures.file) c.in_ok-read.read.1 c.in_ok-read.ensures.events c.run_schedule.result
+    c.run_schedule.ensures.err

@@ -1,0 +1,177 @@
+use Rattle.std.specs.Prelude.{◌≡◌, ◌⊎◌, ℕ, ◌+◌, ◌≤◌, List, [], ◌∷◌, ◌++◌, take, drop, length, Option, None, Some, IfSome, Result, Ok, Err}
+use Rattle.std.specs.Io.KnownBytes.{Appends}
+use Rattle.m161_cpu.specs.declared.processor.Outcome.{Outcome}
+use Rattle.m161_machine.specs.declared.event.Event.{Event}
+use Rattle.m161_machine.specs.declared.event.Refusal.{Refusal}
+use Rattle.m161_machine.specs.State.{State, next}
+use Rattle.m161_machine.specs.History.{Continues, History}
+use Rattle.m161_dis.specs.declared.naming.Naming.{Naming}
+use Rattle.m161_drive.specs.declared.cursor.Cursor.{Cursor}
+use Rattle.m161_drive.specs.declared.run.Driven.{Driven}
+use Rattle.m161_drive.specs.Choice.{cursor_at}
+use Rattle.m161_drive.specs.Drive.{Chooses, Drives}
+use Rattle.m161_steplog.specs.Schedule.{IsSchedule}
+use Rattle.m161_text.specs.Lines.{lines_of, text_of, with_line_end}
+use Rattle.m161_trace.specs.Line.{event_line}
+use Rattle.s161_base.specs.declared.fault.Fault.{Fault}
+use Rattle.s161_base.specs.declared.fault.Fault.TheVariants.{Memory, Output}
+use Rattle.s161_base.specs.Faults.{BootsTo}
+use Rattle.s161_base.specs.Known.{OfText}
+use Rattle.s161_base.specs.Naming.{naming_of}
+use Rattle.s161_base.specs.Sizes.{conf_of}
+use Rattle.s161_base.specs.Streams.{AppendsSome, Streams}
+use Rattle.s161_command.specs.declared.drive.Drive.{Drive}
+use Rattle.s161_command.specs.declared.task.DrivenTask.{DrivenTask}
+use Rattle.s161_command.specs.declared.task.RunTask.{RunTask}
+use Rattle.s161_command.specs.declared.task.Shown.TheVariants.{Summary}
+use Rattle.s161_command.specs.declared.task.TraceTask.{TraceTask}
+use Rattle.s161_drive.specs.Driven.{AreKeys, IsDrivenFault, rules_of, stop_of}
+use Rattle.s161_runs.specs.declared.events.Stop.{Stop}
+use Rattle.s161_runs.specs.Runs.{IsFaultOf, MakesEvents, stop_line}
+
+-- A line for each event of a run, and last why the run stopped.
+
+-- an event's line, and then those of the events after it; none where it is refused
+abbrev pub line_and :
+    Naming → ℕ → State → Event → Result (Outcome × State) Refusal → (State → List (List ℕ)) →
+    List (List ℕ)
+line_and naming number s e (Err refusal) rest = []
+line_and naming number s e (Ok given) rest =
+    event_line naming number e s given.0 given.1 ∷ rest given.1
+
+-- the lines of events from a state on, the first of which has this number
+abbrev pub traced : Naming → ℕ → State → List Event → List (List ℕ)
+traced naming number s [] = []
+traced naming number s (e ∷ es) =
+    line_and naming number s e (next s e) (λ t. traced naming (number + 1) t es)
+
+-- those that the task asks for
+abbrev pub shown_lines : TraceTask → State → List Event → List (List ℕ)
+shown_lines task s events =
+    take task.count (drop task.from (traced (naming_of task.registers) 0 s events))
+
+-- their text, of a run that made these events
+abbrev pub lines_text : TraceTask → State → List Event → List ℕ
+lines_text task s events = text_of (shown_lines task s events)
+
+-- all that is printed of a run that stopped
+abbrev pub trace_text : TraceTask → State → List Event → Stop → List ℕ
+trace_text task s events stop = lines_text task s events ++ with_line_end (stop_line stop)
+
+-- the first events of a schedule, which is all of an input, are made of a machine, and leave n: so
+-- many as are made before it is off or one is refused
+pub record RunsSchedule
+    (input : Option (List ℕ)) (m : History) (events : List Event) (stop : Stop) (n : History)
+    : Type 0 where
+  pub scheduled : List Event
+  pub is_schedule : OfText input (λ text. IsSchedule (lines_of text) scheduled)
+  pub makes : MakesEvents m scheduled stop n
+  pub events_are : events ≡ take makes.made scheduled
+
+-- the events that a policy chooses, with the keys of a file, are made of a machine, and leave n
+pub record RunsDriven
+    (options : Drive) (files : List ℕ → Option (List ℕ)) (m : History) (events : List Event)
+    (stop : Stop) (n : History) : Type 0 where
+  pub keys : List ℕ
+  pub are_keys : AreKeys options.keys files keys
+  pub driven : Driven
+  pub drives : Drives (rules_of options keys) options.events m driven n
+  pub events_are : events ≡ drives.events
+  pub stop_is : stop ≡ stop_of driven
+
+-- a whole run: without a drive by the schedule that the input holds
+abbrev pub Runs :
+    Option Drive → (List ℕ → Option (List ℕ)) → Option (List ℕ) → History → List Event → Stop →
+    History → Type 0
+Runs None files input m events stop n = RunsSchedule input m events stop n
+Runs (Some drive) files input m events stop n = RunsDriven drive files m events stop n
+
+-- such a run so far, whether or not more events come: the first of a schedule's
+pub record BeginsSchedule
+    (input : Option (List ℕ)) (m : History) (events : List Event) (n : History) : Type 0 where
+  pub scheduled : List Event
+  pub is_schedule : OfText input (λ text. IsSchedule (lines_of text) scheduled)
+  pub made : ℕ
+  pub events_are : events ≡ take made scheduled
+  pub continues : Continues m events n
+
+-- or those that the policy chooses, one after the other
+pub record BeginsDriven
+    (options : Drive) (files : List ℕ → Option (List ℕ)) (m : History) (events : List Event)
+    (n : History) : Type 0 where
+  pub keys : List ℕ
+  pub are_keys : AreKeys options.keys files keys
+  pub few : length events ≤ options.events
+  pub cursor : Cursor
+  pub chosen_are :
+      Chooses (rules_of options keys) (cursor_at (rules_of options keys) m.state) m.state events
+      cursor n.state
+  pub continues : Continues m events n
+
+abbrev pub Begins :
+    Option Drive → (List ℕ → Option (List ℕ)) → Option (List ℕ) → History → List Event →
+    History → Type 0
+Begins None files input m events n = BeginsSchedule input m events n
+Begins (Some drive) files input m events n = BeginsDriven drive files m events n
+
+-- the task's image is booted; its file has these bytes, as far as they are known
+pub record BootsFor
+    (task : TraceTask) (known : Option (List ℕ)) (booted : History) : Type 0 where
+  pub file : List ℕ
+  pub is_file : IfSome known (λ bytes. file ≡ bytes)
+  pub boots : BootsTo file (conf_of task.size) booted
+
+-- with an order the input isn't read
+abbrev pub IsUnread : Option Drive → Streams → Type 0
+IsUnread None x = Unit {0}
+IsUnread (Some drive) x = x.left ≡ x.input
+
+-- a finished task, and why its run stopped
+pub record IsTraced
+    (task : TraceTask) (files : List ℕ → Option (List ℕ)) (known : Option (List ℕ)) (x : Streams)
+    (stop : Stop) : Type 0 where
+  pub booted : History
+  pub boots : BootsFor task known booted
+  pub events : List Event
+  pub machine : History
+  pub runs : Runs task.drive files x.input booted events stop machine
+  pub is_unread : IsUnread task.drive x
+  pub written : Appends x.before x.after (trace_text task booted.state events stop)
+
+-- the run of a task, as `run` is asked for it
+abbrev pub run_of : TraceTask → RunTask
+run_of task = record { image = task.image; size = task.size; shown = Summary }
+
+abbrev pub driven_of : TraceTask → Drive → DrivenTask
+driven_of task drive = record { run = run_of task; drive = drive }
+
+-- what a fault before the run says of its inputs, as for `run`
+abbrev pub IsEarlyFault :
+    Option Drive → TraceTask → Option (List ℕ) → Option (List ℕ) → Fault → Type 0
+IsEarlyFault None task known input fault = IsFaultOf (run_of task) known input fault
+IsEarlyFault (Some drive) task known input fault = IsDrivenFault (driven_of task drive) known fault
+
+-- what was written before a fault in the run: a beginning of the lines of the events that were made,
+-- or of all that is printed
+pub record FailsInRun
+    (task : TraceTask) (files : List ℕ → Option (List ℕ)) (known : Option (List ℕ)) (x : Streams)
+    (fault : Fault) : Type 0 where
+  pub is_fault : (fault ≡ Output) ⊎ (fault ≡ Memory)
+  pub booted : History
+  pub boots : BootsFor task known booted
+  pub events : List Event
+  pub machine : History
+  pub some_written :
+      (Begins task.drive files x.input booted events machine
+      × AppendsSome x.before x.after (lines_text task booted.state events))
+      ⊎ ((stop : Stop) × Runs task.drive files x.input booted events stop machine
+      × AppendsSome x.before x.after (trace_text task booted.state events stop))
+
+-- a fault that ends the task: before the run, and nothing was written; or in the run
+pub record IsTraceFault
+    (task : TraceTask) (files : List ℕ → Option (List ℕ)) (known : Option (List ℕ)) (x : Streams)
+    (fault : Fault) : Type 0 where
+  pub is_unread : IsUnread task.drive x
+  pub why :
+      (IsEarlyFault task.drive task known x.input fault × (x.after ≡ x.before))
+      ⊎ FailsInRun task files known x fault

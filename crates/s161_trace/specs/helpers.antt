@@ -1,0 +1,5 @@
+-- Definitions that only contracts of private functions, or proofs, use.
+pub mod Printing
+pub mod Scheduled
+pub mod Driven
+pub mod Booted

@@ -1,0 +1,88 @@
+use Rattle.std.specs.Prelude.{◌≡◌, ◌⊎◌, ℕ, ◌+◌, ◌-◌, Bool, ◌&&◌, nat_le, nat_lt, List, [], ◌++◌, take, drop, length, string_bytes, Option}
+use Rattle.std.specs.Io.KnownBytes.{Appends}
+use Rattle.m161_machine.specs.declared.event.Event.{Event}
+use Rattle.m161_machine.specs.State.{State}
+use Rattle.m161_text.specs.Lines.{text_of, with_line_end}
+use Rattle.s161_base.specs.declared.fault.Fault.{Fault}
+use Rattle.s161_base.specs.declared.fault.Fault.TheVariants.{Memory, Output}
+use Rattle.s161_base.specs.Naming.{naming_of}
+use Rattle.s161_base.specs.Streams.{AppendsSome}
+use Rattle.s161_command.specs.declared.task.TraceTask.{TraceTask}
+use Rattle.s161_runs.specs.declared.events.Stop.{Stop}
+use Rattle.s161_runs.specs.Runs.{stop_line}
+use Rattle.s161_trace.specs.declared.lines.Lines.{Lines}
+use Rattle.s161_trace.specs.declared.window.Window.{Window}
+use Rattle.s161_trace.specs.Traces.{traced}
+
+-- How lines are printed as a run goes on.
+
+-- which events have lines, and how these name registers
+abbrev pub window_of : TraceTask → Window
+window_of task = record {
+  naming = naming_of task.registers;
+  from = task.from;
+  count = task.count;
+}
+
+-- whether the event of a number has a line
+abbrev pub has_line : Window → ℕ → Bool
+has_line w number = nat_le w.from number && nat_lt (number - w.from) w.count
+
+-- the lines that are asked for, of events from a state on, the first of which has this number
+abbrev pub lines_from : Window → ℕ → State → List Event → List (List ℕ)
+lines_from w number s events =
+    take (w.count - (number - w.from)) (drop (w.from - number) (traced w.naming number s events))
+
+-- bytes are put behind those that are kept back, and some of all are written
+abbrev pub PutsOut :
+    Option (List ℕ) → List ℕ → List ℕ → Option (List ℕ) → List ℕ → Type 0
+PutsOut before kept more after left =
+    (written : List ℕ) × Appends before after written × (written ++ left ≡ kept ++ more)
+
+-- these bytes are put behind those that are kept back, and the output or memory fails
+abbrev pub FailsToPut :
+    Option (List ℕ) → List ℕ → List ℕ → Option (List ℕ) → Fault → Type 0
+FailsToPut before kept more after fault =
+    ((fault ≡ Output) ⊎ (fault ≡ Memory)) × AppendsSome before after (kept ++ more)
+
+-- no line is kept back yet, and the first event is made in this state
+abbrev pub IsNew : Window → State → Lines → Type 0
+IsNew w s l = (l.window ≡ w) × (l.number ≡ 0) × (l.tracer ≡ s) × (string_bytes l.piece ≡ [])
+
+-- these events led from one state to another, and their lines are put out
+pub record Prints
+    (l : Lines) (before : Option (List ℕ)) (events : List Event) (t : State)
+    (k : Lines) (after : Option (List ℕ)) : Type 0 where
+  pub window_is : k.window ≡ l.window
+  pub number_is : k.number ≡ l.number + length events
+  pub tracer_is : k.tracer ≡ t
+  pub puts :
+      PutsOut before (string_bytes l.piece) (text_of (lines_from l.window l.number l.tracer events))
+      after (string_bytes k.piece)
+
+-- these events were made, and the output or memory fails as their lines are put out
+abbrev pub FailsToPrint :
+    Lines → Option (List ℕ) → List Event → Option (List ℕ) → Fault → Type 0
+FailsToPrint l before events after fault =
+    FailsToPut before (string_bytes l.piece)
+    (text_of (lines_from l.window l.number l.tracer events)) after fault
+
+-- all that is printed of a run from a state on, which made these events and stopped
+abbrev pub run_text : Window → State → List Event → Stop → List ℕ
+run_text w s events stop = text_of (lines_from w 0 s events) ++ with_line_end (stop_line stop)
+
+abbrev pub IsPrinted :
+    Window → State → List Event → Stop → Option (List ℕ) → Option (List ℕ) → Type 0
+IsPrinted w s events stop before after = Appends before after (run_text w s events stop)
+
+-- the output or memory fails: before the first event; or once some events were made, whose lines are
+-- written in part; or once all were made
+abbrev pub IsUnprinted :
+    Window → State → (List Event → Type 0) → (List Event → Stop → Type 0) → Option (List ℕ) →
+    Option (List ℕ) → Fault → Type 0
+IsUnprinted w s IsSome IsAll before after fault =
+    ((fault ≡ Memory) × (after ≡ before))
+    ⊎ (((fault ≡ Output) ⊎ (fault ≡ Memory))
+    × ((events : List Event)
+    × ((IsSome events × AppendsSome before after (text_of (lines_from w 0 s events)))
+    ⊎ ((stop : Stop) × IsAll events stop × AppendsSome before after (run_text w s events stop)))))

@@ -1,0 +1,145 @@
+//! Printing the lines of a driven run.
+
+ghost use Rattle.std.specs.Prelude.{◌≡◌, ◌<◌, ◌-◌, ◌^◌, None, IfErr, IfOk};
+ghost use Rattle.m161_order.specs.Order.{order_fault};
+ghost use Rattle.m161_drive.specs.declared.run.Driven.{Driven};
+ghost use Rattle.m161_drive.specs.Drive.{Drives};
+ghost use Rattle.s161_drive.specs.Driven.{rules_of, stop_of};
+ghost use Rattle.s161_trace.specs.helpers.Driven.{DrivesAll, DrivesSome, FailsInDrive, FailsOnce, PrintsDrive, Turn, last_stop};
+ghost use Rattle.s161_trace.specs.helpers.Printing.{IsPrinted, IsUnprinted};
+
+use crate::lines::Lines;
+use crate::window::Window;
+use m161::Machine;
+use m161_drive::{Cursor, Driven, Policy, Stop};
+use s161_base::fault::Fault;
+use s161_command::Drive;
+use s161_drive::driven::stop_of;
+use s161_runs::events::Stop as Told;
+use std::alloc::Global;
+use std::io::Write;
+
+// Makes the next event, and puts out its line; or says why there is none.
+fn trace_once<'a, O: Write>(
+    machine: &mut Machine,
+    policy: &Policy,
+    cursor: &mut Cursor,
+    lines: &mut Lines,
+    output: &mut O,
+) -> Result<Option<Stop>, Fault<'a>>
+    requires step { lines.old.tracer ≡ machine.old.state }
+    requires few { lines.old.number < 2 ^ 64 - 1 }
+    ensures ok { IfOk result (λ stop. Turn policy.now cursor.old machine.old lines.old
+        (O.contents output.old) stop cursor.new machine.new lines.new (O.contents output.new)) }
+    ensures err { IfErr result (FailsOnce policy.now cursor.old machine.old lines.old
+        (O.contents output.old) cursor.new machine.new (O.contents output.new)) }
+{
+    if machine.is_off() {
+        return Ok(Some(Stop::Off));
+    }
+    let Some(event) = cursor.choose(policy, machine) else {
+        return Ok(Some(Stop::Stuck));
+    };
+    match machine.event(event) {
+        Ok(outcome) => {
+            cursor.took(event, machine);
+            lines.add(machine, event, outcome, output)?;
+            Ok(None)
+        }
+        Err(refusal) => Ok(Some(Stop::Refused(refusal))),
+    }
+}
+
+// Why a run stops of which all events were made that were asked for.
+fn last_stop(machine: &Machine) -> Stop
+    ensures { result ≡ last_stop machine.now.state }
+{
+    if machine.is_off() {
+        Stop::Off
+    } else {
+        Stop::End
+    }
+}
+
+// Makes the events that a policy chooses, at most so many, and puts out their lines.
+fn trace_policy<'a, O: Write>(
+    machine: &mut Machine,
+    policy: &Policy,
+    most: u64,
+    lines: &mut Lines,
+    output: &mut O,
+) -> Result<Driven, Fault<'a>>
+    requires step { lines.old.tracer ≡ machine.old.state }
+    requires first { lines.old.number ≡ 0 }
+    ensures ok { IfOk result (λ driven. PrintsDrive policy.now most machine.old lines.old
+        (O.contents output.old) driven machine.new lines.new (O.contents output.new)) }
+    ensures err { IfErr result (FailsInDrive policy.now most machine.old lines.old
+        (O.contents output.old) machine.new (O.contents output.new)) }
+{
+    let mut cursor = Cursor::new(policy, machine);
+    machine.replay();
+    for made in 0..most {
+        let stop = trace_once(machine, policy, &mut cursor, lines, output)?;
+        if let Some(stop) = stop {
+            return Ok(Driven { made, stop });
+        }
+    }
+    Ok(Driven {
+        made: most,
+        stop: last_stop(machine),
+    })
+}
+
+// Makes the events that the options' policy chooses, with these keys, and puts out their lines.
+fn trace_drive<'a, O: Write>(
+    machine: &mut Machine,
+    options: Drive<'_>,
+    keys: &[u8],
+    lines: &mut Lines,
+    output: &mut O,
+) -> Result<Driven, Fault<'a>>
+    requires limits { order_fault options.order ≡ None }
+    requires step { lines.old.tracer ≡ machine.old.state }
+    requires first { lines.old.number ≡ 0 }
+    ensures ok { IfOk result (λ driven. PrintsDrive (rules_of options.entry keys.now)
+        options.entry.events machine.old lines.old (O.contents output.old) driven machine.new lines.new
+        (O.contents output.new)) }
+    ensures err { IfErr result (FailsInDrive (rules_of options.entry keys.now) options.entry.events
+        machine.old lines.old (O.contents output.old) machine.new (O.contents output.new)) }
+{
+    let Ok(policy) = Policy::new(options.order, options.transfer, options.gap, keys) else {
+        unreachable!()
+    };
+    trace_policy(machine, &policy, options.events, lines, output)
+}
+
+/// Makes the events that the options' policy chooses, with these keys, and prints the lines that
+/// are asked for, and last why the run stopped.
+///
+/// # Errors
+/// The output failed, or memory was refused.
+pub(crate) fn print_drive<'a, O: Write>(
+    alloc: Global,
+    machine: &mut Machine,
+    options: Drive<'_>,
+    keys: &[u8],
+    window: Window,
+    output: &mut O,
+) -> Result<Told, Fault<'a>>
+    requires { order_fault options.order ≡ None }
+    ensures ok { IfOk result (λ stop. (driven : Driven) × (stop ≡ stop_of driven)
+        × (drives : Drives (rules_of options.entry keys.now) options.entry.events machine.old driven
+        machine.new)
+        × IsPrinted window machine.old.state drives.events stop (O.contents output.old)
+        (O.contents output.new)) }
+    ensures err { IfErr result (IsUnprinted window machine.old.state
+        (DrivesSome (rules_of options.entry keys.now) options.entry.events machine.old machine.new)
+        (DrivesAll (rules_of options.entry keys.now) options.entry.events machine.old machine.new)
+        (O.contents output.old) (O.contents output.new)) }
+{
+    let mut lines = Lines::new(alloc, machine, window)?;
+    let driven = trace_drive(machine, options, keys, &mut lines, output)?;
+    let stop = stop_of(driven);
+    lines.finish(alloc, stop, output)?;
+    Ok(stop)
+}

@@ -1,0 +1,212 @@
+//! The lines of a run, and the pieces in which they are written.
+
+ghost use Rattle.std.specs.Prelude.{◌≡◌, ◌+◌, ◌++◌, ◌<◌, ◌^◌, ◌-◌, ◌∷◌, [], IfErr, IfOk, OnOk, Ok, string_bytes, true};
+ghost use Rattle.std.specs.Io.KnownBytes.{Appends};
+ghost use Rattle.m161_machine.specs.State.{State, next};
+ghost use Rattle.m161_text.specs.Lines.{with_line_end};
+ghost use Rattle.m161_trace.specs.Line.{event_line};
+ghost use Rattle.s161_runs.specs.Runs.{stop_line};
+ghost use Rattle.m161_cpu.specs.declared.processor.Outcome.{Outcome};
+ghost use Rattle.s161_trace.specs.helpers.Printing.{FailsToPrint, FailsToPut, IsNew, Prints, PutsOut, has_line};
+
+use crate::window::Window;
+use m161::{Console, Machine, Tlb};
+use m161_machine::{Event, Outcome};
+use m161_trace::Tracer;
+use s161_base::fault::Fault;
+use s161_base::streams::send;
+use s161_runs::events::Stop;
+use std::alloc::{AllocError, Global};
+use std::io::Write;
+
+/// The most bytes of a piece.
+const MOST: usize = 65_536;
+
+/// The lines of a run so far, and the state in which its next event is made.
+#[derive(Drop)]
+pub(crate) struct Lines {
+    window: Window,
+    // The number of the next event.
+    number: u64,
+    tracer: Tracer<Tlb, Console>,
+    // Room for a line.
+    line: String,
+    // Whole lines that aren't written yet.
+    piece: String,
+}
+
+// Writes the lines of a piece.
+fn write_out<'a, O: Write>(piece: &mut String, output: &mut O) -> Result<(), Fault<'a>>
+    ensures ok { OnOk result (PutsOut (O.contents output.old) (string_bytes piece.old) []
+        (O.contents output.new) (string_bytes piece.new)) }
+    ensures err { IfErr result (FailsToPut (O.contents output.old) (string_bytes piece.old) []
+        (O.contents output.new)) }
+{
+    send(output, piece.as_bytes())?;
+    piece.clear();
+    Ok(())
+}
+
+// The same, if there is no room for so many bytes more.
+#[tactic(auto, using(crate::proofs::Printing::puts_none))]
+fn make_room<'a, O: Write>(piece: &mut String, more: usize, output: &mut O) -> Result<(), Fault<'a>>
+    ensures ok { OnOk result (PutsOut (O.contents output.old) (string_bytes piece.old) []
+        (O.contents output.new) (string_bytes piece.new)) }
+    ensures err { IfErr result (FailsToPut (O.contents output.old) (string_bytes piece.old) []
+        (O.contents output.new)) }
+{
+    if more <= MOST.saturating_sub(piece.len()) {
+        Ok(())
+    } else {
+        write_out(piece, output)
+    }
+}
+
+// Keeps a line behind the others of a piece; where they would be too much with it, they are written
+// first.
+fn keep<'a, O: Write>(piece: &mut String, line: &str, output: &mut O) -> Result<(), Fault<'a>>
+    ensures ok { OnOk result (PutsOut (O.contents output.old) (string_bytes piece.old) line.now
+        (O.contents output.new) (string_bytes piece.new)) }
+    ensures err { IfErr result (FailsToPut (O.contents output.old) (string_bytes piece.old) line.now
+        (O.contents output.new)) }
+{
+    make_room(piece, line.len(), output)?;
+    piece.push_str(line)?;
+    Ok(())
+}
+
+// The last line: why a run stopped.
+fn stop_text(alloc: Global, stop: Stop) -> Result<String, AllocError>
+    ensures { IfOk result (λ text. string_bytes text ≡ with_line_end (stop_line stop)) }
+{
+    format!(in alloc; "{stop}\n")
+}
+
+impl Lines {
+    /// No lines yet, of a run from the machine's state on.
+    #[inline(never)]
+    pub(crate) fn new(alloc: Global, machine: &Machine, window: Window) -> Result<Lines, AllocError>
+        ensures { IfOk result (IsNew window machine.now.state) }
+    {
+        Ok(Lines {
+            window,
+            number: 0,
+            tracer: Tracer::new(alloc, machine.core().copy(alloc)?),
+            line: String::new(alloc),
+            piece: String::with_capacity(alloc, MOST)?,
+        })
+    }
+
+    // Makes an accepted event on the tracer's state, without a line.
+    fn pass(&mut self, event: Event) -> Result<(), AllocError>
+        requires { self.old.number < 2 ^ 64 - 1 }
+        ensures made { OnOk result ((o : Outcome) (t : State)
+            → next self.old.tracer event ≡ Ok (o, t) → self.new.tracer ≡ t) }
+        ensures number { OnOk result (self.new.number ≡ self.old.number + 1) }
+        ensures window { self.new.window ≡ self.old.window }
+        ensures piece { string_bytes self.new.piece ≡ string_bytes self.old.piece }
+    {
+        match self.tracer.pass(event) {
+            Ok(_) => {
+                self.number += 1;
+                Ok(())
+            }
+            Err(_) => Err(AllocError),
+        }
+    }
+
+    // Writes the line of an event that the machine has just accepted into its room.
+    fn write(&mut self, machine: &Machine, event: Event, outcome: Outcome) -> Result<(), AllocError>
+        requires accepted { next self.old.tracer event ≡ Ok (outcome, machine.now.state) }
+        requires few { self.old.number < 2 ^ 64 - 1 }
+        ensures line { OnOk result (string_bytes self.new.line ≡ with_line_end
+            (event_line self.old.window.naming self.old.number event self.old.tracer outcome
+            machine.now.state)) }
+        ensures tracer { OnOk result (self.new.tracer ≡ machine.now.state) }
+        ensures number { OnOk result (self.new.number ≡ self.old.number + 1) }
+        ensures window { self.new.window ≡ self.old.window }
+        ensures piece { string_bytes self.new.piece ≡ string_bytes self.old.piece }
+    {
+        self.line.clear();
+        let number = self.number;
+        let naming = self.window.naming;
+        self.tracer
+            .line(machine, event, outcome, number, naming, &mut self.line)?;
+        self.number += 1;
+        Ok(())
+    }
+
+    // Puts out the line in its room.
+    fn put<'a, O: Write>(&mut self, output: &mut O) -> Result<(), Fault<'a>>
+        ensures ok { OnOk result (PutsOut (O.contents output.old) (string_bytes self.old.piece)
+            (string_bytes self.old.line) (O.contents output.new) (string_bytes self.new.piece)) }
+        ensures err { IfErr result (FailsToPut (O.contents output.old)
+            (string_bytes self.old.piece) (string_bytes self.old.line) (O.contents output.new)) }
+        ensures tracer { self.new.tracer ≡ self.old.tracer }
+        ensures number { self.new.number ≡ self.old.number }
+        ensures window { self.new.window ≡ self.old.window }
+    {
+        keep(&mut self.piece, self.line.as_str(), output)
+    }
+
+    // Puts out the line of an event that the machine has just accepted.
+    fn add_line<'a, O: Write>(
+        &mut self,
+        machine: &Machine,
+        event: Event,
+        outcome: Outcome,
+        output: &mut O,
+    ) -> Result<(), Fault<'a>>
+        requires has { has_line self.old.window self.old.number ≡ true }
+        requires accepted { next self.old.tracer event ≡ Ok (outcome, machine.now.state) }
+        requires few { self.old.number < 2 ^ 64 - 1 }
+        ensures ok { OnOk result (Prints self.old (O.contents output.old) (event ∷ [])
+            machine.now.state self.new (O.contents output.new)) }
+        ensures err { IfErr result (FailsToPrint self.old (O.contents output.old) (event ∷ [])
+            (O.contents output.new)) }
+    {
+        self.write(machine, event, outcome)?;
+        self.put(output)?;
+        Ok(())
+    }
+
+    /// Puts out the line of an event that the machine has just accepted, if it has one.
+    pub(crate) fn add<'a, O: Write>(
+        &mut self,
+        machine: &Machine,
+        event: Event,
+        outcome: Outcome,
+        output: &mut O,
+    ) -> Result<(), Fault<'a>>
+        requires accepted { next self.old.tracer event ≡ Ok (outcome, machine.now.state) }
+        requires few { self.old.number < 2 ^ 64 - 1 }
+        ensures ok { OnOk result (Prints self.old (O.contents output.old) (event ∷ [])
+            machine.now.state self.new (O.contents output.new)) }
+        ensures err { IfErr result (FailsToPrint self.old (O.contents output.old) (event ∷ [])
+            (O.contents output.new)) }
+    {
+        if self.window.has(self.number) {
+            return self.add_line(machine, event, outcome, output);
+        }
+        self.pass(event)?;
+        Ok(())
+    }
+
+    /// Writes the lines that are kept back, and behind them why the run stopped.
+    pub(crate) fn finish<'a, O: Write>(
+        &mut self,
+        alloc: Global,
+        stop: Stop,
+        output: &mut O,
+    ) -> Result<(), Fault<'a>>
+        ensures ok { OnOk result (Appends (O.contents output.old) (O.contents output.new)
+            (string_bytes self.old.piece ++ with_line_end (stop_line stop))) }
+        ensures err { IfErr result (FailsToPut (O.contents output.old) (string_bytes self.old.piece)
+            (with_line_end (stop_line stop)) (O.contents output.new)) }
+    {
+        let last = stop_text(alloc, stop)?;
+        keep(&mut self.piece, last.as_str(), output)?;
+        send(output, self.piece.as_bytes())?;
+        Ok(())
+    }
+}

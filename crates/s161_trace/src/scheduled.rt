@@ -1,0 +1,123 @@
+//! Printing the lines of a run by a schedule.
+
+ghost use Rattle.std.specs.Prelude.{◌≡◌, ◌<◌, ◌≤◌, ◌+◌, ◌-◌, ◌^◌, IfErr, IfOk, take};
+ghost use Rattle.s161_runs.specs.Runs.{MakesEvents};
+ghost use Rattle.s161_trace.specs.helpers.Printing.{IsPrinted, IsUnprinted};
+ghost use Rattle.s161_trace.specs.helpers.Scheduled.{FailsAlike, FailsInSchedule, FailsOnce, MakesAll, MakesSome, PrintsSchedule, Turn, TurnsAlike};
+
+use crate::lines::Lines;
+use crate::window::Window;
+use m161::Machine;
+use m161_machine::{Event, Events, Refusal};
+use s161_base::fault::Fault;
+use s161_runs::events::Stop;
+use std::alloc::Global;
+use std::io::Write;
+
+// Makes an event, and puts out its line; or says why it is refused.
+fn trace_event<'a, O: Write>(
+    machine: &mut Machine,
+    event: Event,
+    lines: &mut Lines,
+    output: &mut O,
+) -> Result<Option<Refusal>, Fault<'a>>
+    requires step { lines.old.tracer ≡ machine.old.state }
+    requires few { lines.old.number < 2 ^ 64 - 1 }
+    ensures ok { IfOk result (λ refusal. Turn machine.old lines.old (O.contents output.old) event
+        refusal machine.new lines.new (O.contents output.new)) }
+    ensures err { IfErr result (FailsOnce machine.old lines.old (O.contents output.old) event
+        machine.new (O.contents output.new)) }
+{
+    match machine.event(event) {
+        Ok(outcome) => {
+            lines.add(machine, event, outcome, output)?;
+            Ok(None)
+        }
+        Err(refusal) => Ok(Some(refusal)),
+    }
+}
+
+// Makes an event this many times, and puts out its lines. Returns how many were made, and why the next
+// one wasn't.
+fn trace_alike<'a, O: Write>(
+    machine: &mut Machine,
+    event: Event,
+    times: u32,
+    lines: &mut Lines,
+    output: &mut O,
+) -> Result<(u32, Option<Refusal>), Fault<'a>>
+    requires step { lines.old.tracer ≡ machine.old.state }
+    requires few { lines.old.number + times < 2 ^ 64 }
+    ensures ok { IfOk result (λ given. TurnsAlike machine.old lines.old (O.contents output.old) event times
+        given machine.new lines.new (O.contents output.new)) }
+    ensures err { IfErr result (FailsAlike machine.old lines.old (O.contents output.old) event times
+        machine.new (O.contents output.new)) }
+{
+    // So that the proof knows that the log is within its room.
+    machine.replay();
+    for made in 0..times {
+        let refusal = trace_event(machine, event, lines, output)?;
+        if let Some(refusal) = refusal {
+            return Ok((made, Some(refusal)));
+        }
+    }
+    Ok((times, None))
+}
+
+// Makes events in order, until one switches the machine off or is refused, and puts out their lines.
+fn trace_events<'a, O: Write>(
+    machine: &mut Machine,
+    events: &Events,
+    lines: &mut Lines,
+    output: &mut O,
+) -> Result<Stop, Fault<'a>>
+    requires step { lines.old.tracer ≡ machine.old.state }
+    requires first { lines.old.number ≡ 0 }
+    ensures ok { IfOk result (λ stop. PrintsSchedule machine.old lines.old (O.contents output.old)
+        events.now stop machine.new lines.new (O.contents output.new)) }
+    ensures err { IfErr result (FailsInSchedule machine.old lines.old (O.contents output.old)
+        events.now machine.new (O.contents output.new)) }
+{
+    // So that the proof knows that the log is within its room.
+    machine.replay();
+    let was_off = machine.is_off();
+    let mut made = 0;
+    let mut left = events.runs();
+    while let Some((event, times)) = left.next() {
+        let alike = trace_alike(machine, event, times, lines, output)?;
+        made += alike.0 as usize;
+        if machine.is_off() != was_off {
+            return Ok(Stop::Off);
+        }
+        if let Some(refusal) = alike.1 {
+            return Ok(Stop::Refused(made, refusal));
+        }
+    }
+    Ok(Stop::End)
+}
+
+/// Makes events in order, until one switches the machine off or is refused, and prints the lines
+/// that are asked for, and last why the run stopped.
+///
+/// # Errors
+/// The output failed, or memory was refused.
+pub(crate) fn print_schedule<'a, O: Write>(
+    alloc: Global,
+    machine: &mut Machine,
+    events: &Events,
+    window: Window,
+    output: &mut O,
+) -> Result<Stop, Fault<'a>>
+    ensures ok { IfOk result (λ stop. (makes : MakesEvents machine.old events.now stop machine.new)
+        × IsPrinted window machine.old.state (take makes.made events.now) stop
+        (O.contents output.old) (O.contents output.new)) }
+    ensures err { IfErr result (IsUnprinted window machine.old.state
+        (MakesSome machine.old events.now machine.new)
+        (MakesAll machine.old events.now machine.new)
+        (O.contents output.old) (O.contents output.new)) }
+{
+    let mut lines = Lines::new(alloc, machine, window)?;
+    let stop = trace_events(machine, events, &mut lines, output)?;
+    lines.finish(alloc, stop, output)?;
+    Ok(stop)
+}

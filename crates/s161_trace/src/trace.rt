@@ -1,0 +1,200 @@
+//! Printing a line for each event of a run.
+
+ghost use Rattle.std.specs.Prelude.{◌≡◌, ℕ, List, Option, IfErr, IfOk, IfSome, None, Some};
+ghost use Rattle.m161_order.specs.Order.{order_fault};
+ghost use Rattle.m161_steplog.specs.Schedule.{IsSchedule};
+ghost use Rattle.m161_text.specs.Lines.{lines_of};
+ghost use Rattle.s161_base.specs.Known.{OfText};
+ghost use Rattle.s161_base.specs.Samples.{image_file};
+ghost use Rattle.s161_base.specs.Sizes.{conf_of};
+ghost use Rattle.s161_base.specs.Streams.{streams};
+ghost use Rattle.s161_drive.specs.Driven.{AreKeys, IsDrivenFault, rules_of};
+ghost use Rattle.s161_runs.specs.Runs.{IsFaultOf};
+ghost use Rattle.s161_trace.specs.Traces.{IsTraced, IsTraceFault, driven_of, run_of};
+ghost use Rattle.s161_trace.specs.helpers.Booted.{FailsRun, PrintsRun};
+ghost use Rattle.s161_trace.specs.helpers.Driven.{DrivesAll, DrivesSome};
+ghost use Rattle.s161_trace.specs.helpers.Scheduled.{MakesAll, MakesSome};
+
+use crate::driven::print_drive;
+use crate::scheduled::print_schedule;
+use crate::window::Window;
+use m161::Machine;
+use m161_machine::{Conf, Events};
+use s161_base::fault::Fault;
+use s161_base::files::FileSource;
+use s161_base::input::read_input;
+use s161_base::sample::read_image;
+use s161_base::texts::events_of;
+use s161_command::{Drive, Size, TraceTask};
+use s161_drive::policy::read_keys;
+use s161_runs::events::Stop;
+use std::alloc::Global;
+use std::io::{Read, Write};
+
+/// Reads the image, and the schedule from the input or the keys; boots the image, and makes the
+/// schedule's events, or those that the policy chooses. The lines of the events that the task asks
+/// for are written in pieces of whole lines, at most 65,536 bytes each, as the run goes on; the last
+/// piece ends with why it stopped.
+///
+/// # Errors
+/// The first fault. What was written stays.
+pub fn trace<'a, F: FileSource, I: Read, O: Write>(
+    alloc: Global,
+    files: &mut F,
+    input: &mut I,
+    output: &mut O,
+    task: TraceTask<'a>,
+) -> Result<Stop, Fault<'a>>
+    requires { IfSome task.drive (λ drive. order_fault drive.order ≡ None) }
+    ensures ok { IfOk result (IsTraced task.entry (F.known files.old)
+        (image_file (F.known files.old) task.entry.image.now)
+        (streams (I.remaining input.old) (I.remaining input.new) (O.contents output.old)
+        (O.contents output.new))) }
+    ensures fault { IfErr result (IsTraceFault task.entry (F.known files.old)
+        (image_file (F.known files.old) task.entry.image.now)
+        (streams (I.remaining input.old) (I.remaining input.new) (O.contents output.old)
+        (O.contents output.new))) }
+{
+    match task.drive {
+        None => trace_schedule(alloc, files, input, output, task),
+        Some(drive) => {
+            let stop = trace_driven(alloc, files, output, task, drive)?;
+            Ok(stop)
+        }
+    }
+}
+
+// The machine of this size.
+fn conf_of(size: Size) -> Conf
+    ensures { result ≡ conf_of size }
+{
+    Conf {
+        ram: size.ram,
+        processors: size.processors,
+        log: size.log,
+    }
+}
+
+// The image's bytes, and the events of the schedule.
+fn read_scheduled<'a, F: FileSource, I: Read>(
+    alloc: Global,
+    files: &mut F,
+    input: &mut I,
+    task: TraceTask<'a>,
+) -> Result<(Vec<u8>, Events), Fault<'a>>
+    ensures file { IfOk result (λ read. IfSome
+        (image_file (F.known files.old) task.entry.image.now) (λ bytes. read.0.items ≡ bytes)) }
+    ensures events { IfOk result (λ read. OfText (I.remaining input.old)
+        (λ text. IsSchedule (lines_of text) read.1)) }
+    ensures fault { IfErr result (IsFaultOf (run_of task.entry)
+        (image_file (F.known files.old) task.entry.image.now) (I.remaining input.old)) }
+{
+    let file = read_image(alloc, files, task.image)?;
+    let schedule = read_input(alloc, input)?;
+    let events = events_of(alloc, schedule.as_str())?;
+    Ok((file, events))
+}
+
+// Boots a file, and prints the lines of its run by a schedule.
+fn run_schedule<'a, O: Write>(
+    alloc: Global,
+    task: &TraceTask<'_>,
+    file: &[u8],
+    events: &Events,
+    output: &mut O,
+) -> Result<Stop, Fault<'a>>
+    ensures ok { IfOk result (PrintsRun task.now file.now
+        (λ booted machine. MakesAll booted events.now machine)
+        (O.contents output.old) (O.contents output.new)) }
+    ensures err { IfErr result (FailsRun task.now file.now
+        (λ booted machine. MakesSome booted events.now machine)
+        (λ booted machine. MakesAll booted events.now machine)
+        (O.contents output.old) (O.contents output.new)) }
+{
+    let mut machine = Machine::boot(alloc, file, conf_of(task.size))?;
+    print_schedule(alloc, &mut machine, events, Window::of(task), output)
+}
+
+// Prints the lines of a run by a schedule.
+fn trace_schedule<'a, F: FileSource, I: Read, O: Write>(
+    alloc: Global,
+    files: &mut F,
+    input: &mut I,
+    output: &mut O,
+    task: TraceTask<'a>,
+) -> Result<Stop, Fault<'a>>
+    requires { task.drive ≡ None }
+    ensures ok { IfOk result (IsTraced task.entry (F.known files.old)
+        (image_file (F.known files.old) task.entry.image.now)
+        (streams (I.remaining input.old) (I.remaining input.new) (O.contents output.old)
+        (O.contents output.new))) }
+    ensures fault { IfErr result (IsTraceFault task.entry (F.known files.old)
+        (image_file (F.known files.old) task.entry.image.now)
+        (streams (I.remaining input.old) (I.remaining input.new) (O.contents output.old)
+        (O.contents output.new))) }
+{
+    let read = read_scheduled(alloc, files, input, task)?;
+    run_schedule(alloc, &task, &read.0, &read.1, output)
+}
+
+// The image's bytes, and the keys.
+fn read_driven<'a, F: FileSource>(
+    alloc: Global,
+    files: &mut F,
+    task: TraceTask<'a>,
+    options: Drive<'a>,
+) -> Result<(Vec<u8>, Vec<u8>), Fault<'a>>
+    ensures file { IfOk result (λ read. IfSome
+        (image_file (F.known files.old) task.entry.image.now) (λ bytes. read.0.items ≡ bytes)) }
+    ensures keys { IfOk result (λ read. AreKeys options.entry.keys (F.known files.old)
+        read.1.items) }
+    ensures fault { IfErr result (IsDrivenFault (driven_of task.entry options.entry)
+        (image_file (F.known files.old) task.entry.image.now)) }
+{
+    let file = read_image(alloc, files, task.image)?;
+    let keys = read_keys(alloc, files, options.keys)?;
+    Ok((file, keys))
+}
+
+// Boots a file, and prints the lines of its run by a policy with these keys.
+fn run_drive<'a, O: Write>(
+    alloc: Global,
+    task: &TraceTask<'_>,
+    options: Drive<'_>,
+    file: &[u8],
+    keys: &[u8],
+    output: &mut O,
+) -> Result<Stop, Fault<'a>>
+    requires { order_fault options.order ≡ None }
+    ensures ok { IfOk result (PrintsRun task.now file.now
+        (DrivesAll (rules_of options.entry keys.now) options.entry.events)
+        (O.contents output.old) (O.contents output.new)) }
+    ensures err { IfErr result (FailsRun task.now file.now
+        (DrivesSome (rules_of options.entry keys.now) options.entry.events)
+        (DrivesAll (rules_of options.entry keys.now) options.entry.events)
+        (O.contents output.old) (O.contents output.new)) }
+{
+    let mut machine = Machine::boot(alloc, file, conf_of(task.size))?;
+    print_drive(alloc, &mut machine, options, keys, Window::of(task), output)
+}
+
+// Prints the lines of a driven run.
+fn trace_driven<'a, F: FileSource, O: Write>(
+    alloc: Global,
+    files: &mut F,
+    output: &mut O,
+    task: TraceTask<'a>,
+    options: Drive<'a>,
+) -> Result<Stop, Fault<'a>>
+    requires drive { task.drive ≡ Some options }
+    requires limits { order_fault options.order ≡ None }
+    ensures ok { IfOk result (λ stop. (input : Option (List ℕ)) → IsTraced task.entry
+        (F.known files.old) (image_file (F.known files.old) task.entry.image.now)
+        (streams input input (O.contents output.old) (O.contents output.new)) stop) }
+    ensures fault { IfErr result (λ fault. (input : Option (List ℕ)) → IsTraceFault task.entry
+        (F.known files.old) (image_file (F.known files.old) task.entry.image.now)
+        (streams input input (O.contents output.old) (O.contents output.new)) fault) }
+{
+    let read = read_driven(alloc, files, task, options)?;
+    run_drive(alloc, &task, options, &read.0, &read.1, output)
+}

@@ -1,0 +1,84 @@
+//! The tasks that write as they go on.
+
+ghost use Rattle.std.specs.Prelude.{◌≡◌, ◌≢◌, ◌≤◌, ℕ, IfErr, IfOk, IfSome, List, None, Option};
+ghost use Rattle.m161_order.specs.Order.{order_fault};
+ghost use Rattle.s161_command.specs.Commands.{HasSourceLimits};
+ghost use Rattle.s161_work.specs.Works.{IsDebuggedOut, IsServed, IsTracedOut, standard};
+ghost use Rattle.s161_work.specs.helpers.Works.{FailsToDebug, FailsToServe, FailsToTrace};
+
+use crate::output::put;
+use s161_base::fault::Fault;
+use s161_base::files::FileSource;
+use s161_command::{ConsoleTask, DebugTask, TraceTask};
+use s161_console::console::console;
+use s161_debug::debug::debug;
+use s161_runs::run::status;
+use s161_trace::trace::trace;
+use std::alloc::Global;
+use std::io::{Read, Write};
+
+/// Runs a kernel at the terminal, and says on standard error why it stopped. Returns the exit status.
+pub(crate) fn serve<'a, F: FileSource, I: Read, O: Write, E: Write>(
+    alloc: Global,
+    task: ConsoleTask<'a>,
+    files: &mut F,
+    input: &mut I,
+    output: &mut O,
+    errors: &mut E,
+) -> Result<u8, Fault<'a>>
+    requires { order_fault task.drive.order ≡ None }
+    ensures served { IfOk result (IsServed task.entry (F.known files.old)
+        (standard (I.remaining input.old) (O.contents output.old) (E.contents errors.old))
+        (standard (I.remaining input.new) (O.contents output.new) (E.contents errors.new))) }
+    ensures fault { IfErr result (FailsToServe task.entry (F.known files.old)
+        (standard (I.remaining input.old) (O.contents output.old) (E.contents errors.old))
+        (standard (I.remaining input.new) (O.contents output.new) (E.contents errors.new))) }
+    ensures within { IfOk result (λ status. (status ≤ 5) × (status ≢ 2)) }
+{
+    let stop = console(alloc, files, input, output, task)?;
+    let line = format!(in alloc; "{stop}\n")?;
+    put(errors, line.as_bytes())?;
+    Ok(status(stop))
+}
+
+/// Traces a run. Returns the exit status.
+pub(crate) fn trace_out<'a, F: FileSource, I: Read, O: Write>(
+    alloc: Global,
+    task: TraceTask<'a>,
+    files: &mut F,
+    input: &mut I,
+    output: &mut O,
+) -> Result<u8, Fault<'a>>
+    requires { IfSome task.drive (λ drive. order_fault drive.order ≡ None) }
+    ensures traced { (errors : Option (List ℕ)) → IfOk result (IsTracedOut task.entry (F.known files.old)
+        (standard (I.remaining input.old) (O.contents output.old) errors)
+        (standard (I.remaining input.new) (O.contents output.new) errors)) }
+    ensures fault { (errors : Option (List ℕ)) → IfErr result (FailsToTrace task.entry (F.known files.old)
+        (standard (I.remaining input.old) (O.contents output.old) errors)
+        (standard (I.remaining input.new) (O.contents output.new) errors)) }
+    ensures within { IfOk result (λ status. (status ≤ 5) × (status ≢ 2)) }
+{
+    let stop = trace(alloc, files, input, output, task)?;
+    Ok(status(stop))
+}
+
+/// Answers a debugger's commands. Returns the exit status.
+pub(crate) fn debug_out<'a, F: FileSource, I: Read, O: Write>(
+    alloc: Global,
+    task: DebugTask<'a>,
+    files: &mut F,
+    input: &mut I,
+    output: &mut O,
+) -> Result<u8, Fault<'a>>
+    requires { HasSourceLimits task.source }
+    ensures debugged { (errors : Option (List ℕ)) → IfOk result (IsDebuggedOut task.entry (F.known files.old)
+        (standard (I.remaining input.old) (O.contents output.old) errors)
+        (standard (I.remaining input.new) (O.contents output.new) errors)) }
+    ensures fault { (errors : Option (List ℕ)) → IfErr result (FailsToDebug task.entry (F.known files.old)
+        (standard (I.remaining input.old) (O.contents output.old) errors)
+        (standard (I.remaining input.new) (O.contents output.new) errors)) }
+    ensures within { IfOk result (λ status. status ≡ 0) }
+{
+    debug(alloc, files, input, output, task)?;
+    Ok(0)
+}

@@ -1,0 +1,104 @@
+//! The tasks whose text is complete before it is written.
+
+ghost use Rattle.std.specs.Prelude.{◌≡◌, ◌≢◌, ◌≤◌, IfErr, IfOk, None};
+ghost use Rattle.s161_base.specs.Samples.{image_file};
+ghost use Rattle.s161_command.specs.Commands.{HasLimits};
+ghost use Rattle.s161_texts.specs.Listings.{IsDisassembled};
+ghost use Rattle.s161_work.specs.Works.{IsResultOf, Prints, going_of};
+ghost use Rattle.s161_work.specs.helpers.Listings.{IsListingFault};
+ghost use Rattle.s161_work.specs.helpers.Works.{Fails, IsTaskFault};
+
+use crate::output::put;
+use s161_audit::audit::audit;
+use s161_base::fault::Fault;
+use s161_base::files::FileSource;
+use s161_base::finished::Finished;
+use s161_base::input::read_input;
+use s161_base::sample::read_image;
+use s161_command::{ListingTask, Task};
+use s161_drive::driven::run_driven;
+use s161_drive::schedule::schedule;
+use s161_runs::demo::demo;
+use s161_runs::replay::replay;
+use s161_runs::run::run;
+use s161_search::search::search;
+use s161_texts::assembly::assembly;
+use s161_texts::disassembly::disassembly;
+use s161_threads::threaded::run_in_threads;
+use std::alloc::Global;
+use std::io::{Read, Write};
+use std::sync::Wait;
+use std::thread::Threads;
+
+/// Prints the text of a task that writes it at once. Returns the exit status.
+pub(crate) fn print_task<'a, R: Threads + Wait + Sync, F: FileSource, I: Read, O: Write>(
+    rt: &R,
+    alloc: Global,
+    task: Task<'a>,
+    files: &mut F,
+    input: &mut I,
+    output: &mut O,
+) -> Result<u8, Fault<'a>>
+    requires limits { HasLimits task }
+    requires text { going_of task ≡ None }
+    ensures finished { IfOk result (Prints (IsResultOf task.entry (F.known files.old)
+        (I.remaining input.old)) (O.contents output.old) (O.contents output.new)) }
+    ensures fault { IfErr result (Fails
+        (IsResultOf task.entry (F.known files.old) (I.remaining input.old))
+        (IsTaskFault task.entry (F.known files.old) (I.remaining input.old))
+        (O.contents output.old) (O.contents output.new)) }
+    ensures within { IfOk result (λ status. (status ≤ 5) × (status ≢ 2)) }
+{
+    let finished = finish(rt, alloc, task, files, input)?;
+    put(output, &finished.text)?;
+    Ok(finished.status)
+}
+
+// The text that a task prints, and its exit status.
+fn finish<'a, R: Threads + Wait + Sync, F: FileSource, I: Read>(
+    rt: &R,
+    alloc: Global,
+    task: Task<'a>,
+    files: &mut F,
+    input: &mut I,
+) -> Result<Finished, Fault<'a>>
+    requires limits { HasLimits task }
+    requires text { going_of task ≡ None }
+    ensures ok { IfOk result (λ done. IsResultOf task.entry (F.known files.old)
+        (I.remaining input.old) done.text.items done.status) }
+    ensures fault { IfErr result (IsTaskFault task.entry (F.known files.old)
+        (I.remaining input.old)) }
+    ensures within { IfOk result (λ done. (done.status ≤ 5) × (done.status ≢ 2)) }
+{
+    match task {
+        Task::Demo => Ok(Finished::done(demo(alloc)?.into_bytes())),
+        Task::Run(task) => run(alloc, files, input, task),
+        Task::RunInThreads(task) => run_in_threads(rt, alloc, files, task),
+        Task::RunDriven(task) => run_driven(alloc, files, task),
+        Task::Schedule(task) => Ok(Finished::done(schedule(alloc, files, task)?)),
+        Task::Console(_) | Task::Trace(_) | Task::Debug(_) => unreachable!(),
+        Task::Search(task) => search(alloc, files, task),
+        Task::Replay(task) => replay(alloc, files, task),
+        Task::Audit(task) => audit(alloc, files, input, task),
+        Task::Assemble => {
+            let source = read_input(alloc, input)?;
+            Ok(Finished::done(assembly(alloc, source.as_str())?))
+        }
+        Task::Disassemble(task) => Ok(Finished::done(listing(alloc, files, task)?)),
+    }
+}
+
+// The listing of an image.
+fn listing<'a, F: FileSource>(
+    alloc: Global,
+    files: &mut F,
+    task: ListingTask<'a>,
+) -> Result<Vec<u8>, Fault<'a>>
+    ensures ok { IfOk result (λ text. IsDisassembled task.entry
+        (image_file (F.known files.old) task.entry.image.now) text.items) }
+    ensures fault { IfErr result (IsListingFault task.entry.image.now
+        (image_file (F.known files.old) task.entry.image.now)) }
+{
+    let file = read_image(alloc, files, task.image)?;
+    Ok(disassembly(alloc, &file, task.registers)?.into_bytes())
+}

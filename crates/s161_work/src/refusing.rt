@@ -1,0 +1,92 @@
+//! Command lines without a task: what is wrong with them, and the help that they ask for.
+
+ghost use Rattle.std.specs.Prelude.{◌≡◌, ◌≢◌, ◌≤◌};
+ghost use Rattle.std.specs.Io.KnownBytes.{Appends};
+ghost use Rattle.clap.specs.Words.{kind_of};
+ghost use Rattle.s161_command.specs.Commands.{IsHelp};
+ghost use Rattle.s161_work.specs.helpers.Works.{HasMore, IsHelped, IsSaid};
+
+use crate::output::{put, report};
+use clap::Error;
+use clap::error::ErrorKind;
+use s161_base::fault::Fault;
+use s161_command::{Clash, Rejection};
+use std::alloc::Global;
+use std::io::Write;
+
+/// Says why a command line has no task, or prints the help that it asks for. Returns the exit status.
+pub(crate) fn refuse<O: Write, E: Write>(
+    alloc: Global,
+    rejection: Rejection,
+    output: &mut O,
+    errors: &mut E,
+) -> u8
+    ensures refused { result ≡ 2 → IsSaid rejection }
+    ensures help { result ≡ 0 → IsHelped rejection (O.contents output.old) (O.contents output.new)
+        × (E.contents errors.new ≡ E.contents errors.old) }
+    ensures within { result ≤ 2 }
+{
+    match rejection {
+        Rejection::Words(error) => reject(alloc, &error, output, errors),
+        Rejection::Options(clash) => report_clash(clash, errors),
+    }
+}
+
+// Writes clap's text of a command line that it doesn't take, or of help. Returns the exit status.
+fn reject<O: Write, E: Write>(alloc: Global, error: &Error, output: &mut O, errors: &mut E) -> u8
+    ensures rejected { result ≡ 2 → kind_of error.now ≢ ErrorKind.OutOfMemory }
+    ensures help { result ≡ 0 → IsHelp (kind_of error.now)
+        × HasMore (O.contents output.old) (O.contents output.new)
+        × (E.contents errors.new ≡ E.contents errors.old) }
+    ensures usage { result ≡ 2 → O.contents output.new ≡ O.contents output.old }
+    ensures within { result ≤ 2 }
+{
+    if error.kind() == ErrorKind::OutOfMemory {
+        return report(Fault::Memory, errors);
+    }
+    let Ok(text) = error.to_string(alloc) else {
+        return report(Fault::Memory, errors);
+    };
+    if error.use_stderr() {
+        print_usage(text.as_bytes(), errors)
+    } else {
+        print_help(text.as_bytes(), output, errors)
+    }
+}
+
+// Writes the text of help to standard output. Returns the exit status: 0 if all of it was written.
+fn print_help<O: Write, E: Write>(text: &[u8], output: &mut O, errors: &mut E) -> u8
+    ensures help { result ≡ 0 → Appends (O.contents output.old) (O.contents output.new) text.now
+        × (E.contents errors.new ≡ E.contents errors.old) }
+    ensures within { result ≤ 1 }
+{
+    match put(output, text) {
+        Ok(()) => 0,
+        Err(fault) => report(fault, errors),
+    }
+}
+
+// Writes a text to standard error. Returns the exit status: 2 if all of it was written.
+fn print_usage<E: Write>(text: &[u8], errors: &mut E) -> u8
+    ensures usage { result ≡ 2 → Appends (E.contents errors.old) (E.contents errors.new) text.now }
+    ensures within { (1 ≤ result) × (result ≤ 2) }
+{
+    match put(errors, text) {
+        Ok(()) => 2,
+        Err(fault) => report(fault, errors),
+    }
+}
+
+// Writes why options can't be followed to standard error. Returns the exit status: 2 if it was
+// written.
+fn report_clash<E: Write>(clash: Clash, errors: &mut E) -> u8
+    ensures { (1 ≤ result) × (result ≤ 2) }
+{
+    match writeln!(
+        errors,
+        "error: {clash}\n\nFor more information, try '--help'."
+    ) {
+        Ok(()) => 2,
+        Err(_) => 1,
+    }
+}
