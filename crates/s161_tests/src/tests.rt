@@ -1,9 +1,10 @@
 //! Tests of the program's commands, of the assembler and of the debugger. `program`, `run`,
-//! `faulty`, `over_files` and `texts` try the commands, over the streams of `streams`.
+//! `faulty`, `going`, `over_files` and `texts` try the commands, over the streams of `streams`.
 
 mod asm;
 mod debug;
 mod faulty;
+mod going;
 mod over_files;
 mod program;
 mod run;
