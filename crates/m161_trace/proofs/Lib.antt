@@ -5,7 +5,6 @@ pub mod Links
 pub mod Telling
 pub mod Shown
 pub mod Nothing
-pub mod Gathered
 pub mod NearEffects
 pub mod Near
 pub mod Tell

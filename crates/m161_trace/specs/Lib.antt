@@ -1,5 +1,4 @@
 pub mod Items
 pub mod Line
-pub mod Pieces
 pub mod Law
 pub mod helpers

@@ -23,13 +23,12 @@
 //! ```
 //!
 //! The line is one definition over the two states and the outcome. `Tracer` is a second state of the
-//! machine, one event behind it, so what it takes doesn't grow with the run. `Pieces` gathers lines
-//! for an output. The form is this project's own.
+//! machine, one event behind it, so what it takes doesn't grow with the run. The form is this
+//! project's own.
 #![tactic(auto)]
 
 mod laws;
 mod line;
-mod pieces;
 mod places;
 mod processor;
 mod shared;
@@ -38,5 +37,4 @@ mod tracer;
 
 pub use laws::items_tell;
 pub use m161_dis::Naming;
-pub use pieces::{PieceError, Pieces};
 pub use tracer::Tracer;

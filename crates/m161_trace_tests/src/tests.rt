@@ -1,7 +1,6 @@
 //! Tests of traces. The lines that are expected were written by hand, from what the words do.
 
 mod board;
-mod pieces;
 mod processors;
 mod sample;
 mod traced;
