@@ -1,8 +1,10 @@
 //! Instructions as a processor would fetch them, and where the processors are.
 
+use super::same;
 use super::sessions::Act::{Does, Fails};
-use super::sessions::{Act, LOOP, Scene, check_kernel, check_scenes};
+use super::sessions::{Act, LOOP, Scene, Session, check_kernel, check_scenes, session};
 use m161_debug::CommandError::{BadArgument, BadProcessor};
+use std::process::Abort;
 use std::test::Fail;
 
 /// Waits: `wait`, `nop`.
@@ -114,6 +116,46 @@ static ENDS: [Scene; 1] = [Scene {
     ],
     made: 0,
 }];
+
+/// Addresses, how many instructions of `LOOP` are shown from there on, and their text: also where
+/// processor 0 can't fetch, of which no command shows anything.
+static SHOWN: [(u32, u32, &str); 5] = [
+    (
+        0x8000_0200,
+        2,
+        "80000200 25080001 addiu $8, $8, 1\n80000204 1000fffe beq $0, $0, 0x80000200\n",
+    ),
+    (0x8000_0ffc, 2, "80000ffc 00000000 nop\n80001000 -\n"),
+    (0x8000_0202, 1, "80000202 -\n"),
+    (0xffff_fff8, 2, "fffffff8 -\nfffffffc -\n"),
+    (0x0000_0200, 0, ""),
+];
+
+fn check_fetched(
+    rt: &impl Abort,
+    session: &Session,
+    address: u32,
+    n: u32,
+    expected: &str,
+) -> Result<(), Fail> {
+    assert!(rt; session.machine().processors() > 0);
+    assert!(rt; u64::from(address) + 4 * u64::from(n) <= 0x1_0000_0000);
+    let shown = session.show_fetched(0, address, n)?;
+    same(rt, shown.as_str(), expected);
+    Ok(())
+}
+
+#[test]
+fn displays_by_their_calls(rt: HostRuntime) -> Result<(), Fail> {
+    let session = session(rt.alloc(), LOOP, 2, 100)?;
+    for (address, n, expected) in &SHOWN {
+        check_fetched(&rt, &session, *address, *n, expected)?;
+    }
+    let shown = session.show_where()?;
+    let line = "0 running 80000200 25080001 addiu $8, $8, 1\n";
+    same(&rt, shown.as_str(), line);
+    Ok(())
+}
 
 #[test]
 fn places_of_the_kernel(rt: HostRuntime) -> Result<(), Fail> {
