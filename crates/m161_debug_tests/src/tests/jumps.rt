@@ -28,7 +28,8 @@ enum Move {
 
 use Move::{Go, Jump, Place, Stays, Steps};
 
-/// To the end, the middle and the beginning of seven Steps, with a breakpoint at 80000208.
+/// To the end, the middle and the beginning of seven Steps, with a breakpoint of processor 0 at
+/// 80000208.
 static MOVES: [Move; 18] = [
     Steps(2, Stop::End(2)),
     Steps(5, Stop::Break(3)),
@@ -64,7 +65,7 @@ static DROPPED: [Move; 6] = [
     Stays(0, JumpError::Dropped),
 ];
 
-/// Behind the events of the kernel that are left before event 59.
+/// The kernel's events from event 59 on, once more.
 static AGAIN: [Act; 2] = [Does("u m 3004", 1, "until 0\n"), Does("g", 21, "off 20\n")];
 
 fn check_move(rt: &(impl Abort + AllocGlobal), session: &mut Session, done: &Move) {
