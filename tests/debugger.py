@@ -3,17 +3,20 @@ only after the whole answer of the one before it was read, and nothing more."""
 import os
 import pty
 import select
+import subprocess
 import sys
 import termios
 
 program, schedule = sys.argv[1:]
-pid, terminal = pty.fork()
-if pid == 0:
-    attributes = termios.tcgetattr(0)
-    attributes[3] &= ~termios.ECHO
-    attributes[1] &= ~termios.OPOST
-    termios.tcsetattr(0, termios.TCSANOW, attributes)
-    os.execv(program, [program, "debug", "@sample", schedule, "--cpus", "2"])
+terminal, inner = pty.openpty()
+attributes = termios.tcgetattr(inner)
+attributes[3] &= ~termios.ECHO
+attributes[1] &= ~termios.OPOST
+termios.tcsetattr(inner, termios.TCSANOW, attributes)
+session = subprocess.Popen(
+    [program, "debug", "@sample", schedule, "--cpus", "2"],
+    stdin=inner, stdout=inner, stderr=inner, start_new_session=True)
+os.close(inner)
 
 
 def read_to(wanted):
@@ -38,7 +41,7 @@ for command, answer in [
     os.write(terminal, command)
     read_to(answer)
 os.write(terminal, b"quit\n")
-_, status = os.waitpid(pid, 0)
-if os.waitstatus_to_exitcode(status) != 0:
-    sys.exit(f"status {os.waitstatus_to_exitcode(status)}")
+status = session.wait(20)
+if status != 0:
+    sys.exit(f"status {status}")
 print("each command was answered before the next one")
