@@ -1,8 +1,8 @@
-//! A console by itself, on its board.
+//! A console by itself, and on its board.
 
 use super::same;
-use m161_bus::{Board, Console};
-use m161_console::PlainConsole;
+use m161_bus::{Board, Console, ConsoleRegister};
+use m161_console::{PlainConsole, RingConsole};
 use std::alloc::AllocError;
 use std::process::Abort;
 
@@ -36,4 +36,39 @@ fn console_room(rt: HostRuntime) -> Result<(), AllocError> {
     same(&rt, copy.room() >= board.room(), true);
     same(&rt, copy.output() == b"ABCD".as_slice(), true);
     Ok(())
+}
+
+/// Types the bytes of a range, in order, and says whether each was taken.
+fn type_bytes<D: Console>(console: &mut D, from: u32, to: u32) -> bool {
+    for byte in from..to {
+        if console.key(byte as u8).is_err() {
+            return false;
+        }
+    }
+    true
+}
+
+/// Reads the bytes of a range, in order.
+fn read_bytes<D: Console>(rt: &impl Abort, console: &mut D, from: u32, to: u32) {
+    for byte in from..to {
+        same(rt, console.read(ConsoleRegister::Char), byte);
+    }
+}
+
+/// Keys that go round in a ring of 256 places.
+fn go_round<D: Console>(rt: &(impl Abort + AllocGlobal)) -> Result<(), AllocError> {
+    let mut console = D::fresh(rt.alloc())?;
+    same(rt, type_bytes(&mut console, 0, 256), true);
+    read_bytes(rt, &mut console, 0, 200);
+    same(rt, type_bytes(&mut console, 0, 200), true);
+    read_bytes(rt, &mut console, 200, 256);
+    read_bytes(rt, &mut console, 0, 200);
+    same(rt, console.read(ConsoleRegister::Char), 0);
+    Ok(())
+}
+
+#[test]
+fn ring_of_keys(rt: HostRuntime) -> Result<(), AllocError> {
+    go_round::<PlainConsole>(&rt)?;
+    go_round::<RingConsole>(&rt)
 }
