@@ -1,0 +1,5 @@
+use Rattle.s161_report.proofs.Putting.{puts_less}
+use Rattle.s161_report.proofs.line.put_error.Goals as goal
+
+pub returns-in_err-put_number : goal.returns-in_err-put_number
+returns-in_err-put_number g c = let first = rw c.from.ensures at c.in_err-put_number.ensures in puts_less _ _ _ _ _ _ first c.from_residual.ensures.1
