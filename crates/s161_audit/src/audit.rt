@@ -88,6 +88,8 @@ impl fmt::Display for ShownFinding {
 ///
 /// # Errors
 /// The first fault.
+// For LLVM: a stack frame of its own.
+#[inline(never)]
 pub fn audit<'a, F: FileSource, I: Read>(
     alloc: Global,
     files: &mut F,

@@ -24,6 +24,8 @@ use std::alloc::Global;
 ///
 /// # Errors
 /// The first fault.
+// For LLVM: a stack frame of its own.
+#[inline(never)]
 pub fn run_driven<'a, F: FileSource>(
     alloc: Global,
     files: &mut F,

@@ -23,6 +23,8 @@ use std::alloc::{AllocError, Global};
 ///
 /// # Errors
 /// The first fault; an event that is refused is a want of memory.
+// For LLVM: a stack frame of its own.
+#[inline(never)]
 pub fn schedule<'a, F: FileSource>(
     alloc: Global,
     files: &mut F,

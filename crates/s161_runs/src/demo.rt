@@ -41,6 +41,8 @@ pub static IMAGE: [u8; 112] = [
 const STEPS: u32 = 7;
 
 /// Boots the image, makes seven Steps and shows processor 0's registers.
+// For LLVM: a stack frame of its own.
+#[inline(never)]
 pub fn demo<'a>(alloc: Global) -> Result<String, Fault<'a>>
     ensures ok { IfOk result (λ text. IsDemo (string_bytes text)) }
     ensures err { IfErr result (λ fault. fault ≡ Fault.Memory) }

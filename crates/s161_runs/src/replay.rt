@@ -23,6 +23,8 @@ use std::alloc::{AllocError, Global};
 ///
 /// # Errors
 /// The first fault.
+// For LLVM: a stack frame of its own.
+#[inline(never)]
 pub fn replay<'a, F: FileSource>(
     alloc: Global,
     files: &mut F,

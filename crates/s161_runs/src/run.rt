@@ -23,6 +23,8 @@ use std::io::Read;
 ///
 /// # Errors
 /// The first fault.
+// For LLVM: a stack frame of its own.
+#[inline(never)]
 pub fn run<'a, F: FileSource, I: Read>(
     alloc: Global,
     files: &mut F,

@@ -34,6 +34,8 @@ impl Gate for Open {
 ///
 /// # Errors
 /// The first fault.
+// For LLVM: a stack frame of its own.
+#[inline(never)]
 pub fn run_in_threads<'a, R: Threads + Wait + Sync, F: FileSource>(
     rt: &R,
     alloc: Global,

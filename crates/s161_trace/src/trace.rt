@@ -38,6 +38,8 @@ use std::io::{Read, Write};
 ///
 /// # Errors
 /// The first fault. What was written stays.
+// For LLVM: a stack frame of its own.
+#[inline(never)]
 pub fn trace<'a, F: FileSource, I: Read, O: Write>(
     alloc: Global,
     files: &mut F,

@@ -1,5 +1,5 @@
-//! Commands that write as they go on: `debug` a line's answer before it reads the next one, `trace` in
-//! pieces of whole lines.
+//! Commands that write as they go on: `debug` a line's answer before it reads the next one, `console` a
+//! byte before it reads the next key, `trace` in pieces of whole lines.
 
 use super::run::{POWER_OFF, STAND_STILL};
 use super::same;
@@ -121,6 +121,39 @@ fn answers_before_the_next_line(rt: HostRuntime) -> Result<(), Fail> {
         );
         same(&rt, found, (1, (answers, true), all(errors_text)));
     }
+    Ok(())
+}
+
+/// A byte for the console, and then a wait without end: `lui $8, 0xbfe0`, `ori $9, $0, 0x48`,
+/// `sw $9, 0($8)`, `wait`.
+const SEND_AND_WAIT: [u32; 4] = [0x3c08_bfe0, 0x3409_0048, 0xad09_0000, 0x4200_0020];
+
+#[test]
+fn console_bytes_before_the_next_key(rt: HostRuntime) -> Result<(), Fail> {
+    let image = file_at(rt.alloc(), ENTRY, &SEND_AND_WAIT)?;
+    let mut files = OneFile {
+        name: "image",
+        bytes: &image,
+    };
+    let errors_text = "s161: input (standard input can't be read)\n";
+    let mut input = Broken(b"");
+    let mut output = Buffered::new(rt.alloc());
+    let mut errors = Memory::new(rt.alloc(), usize::MAX, true);
+    let words = ["s161", "console", "image"];
+    let status = work(
+        &rt,
+        &words,
+        &mut files,
+        &mut input,
+        &mut output,
+        &mut errors,
+    );
+    let found = (
+        status,
+        output.match_text("H"),
+        errors.match_text(errors_text),
+    );
+    same(&rt, found, (1, all("H"), all(errors_text)));
     Ok(())
 }
 

@@ -1,0 +1,46 @@
+//! Logs: one that ends early, and lines that are none of a log.
+
+use super::same;
+use m161_steplog::{Fault, read_log};
+use std::alloc::Global;
+use std::test::Fail;
+
+/// A log of two Steps: lines end at bytes 11, 19 and 27.
+const LOG: &str = "m161 log 1\ns 0 ran\ns 0 off\n";
+
+/// How many entries a text has, or its first bad line.
+fn entries(alloc: Global, text: &str) -> Result<usize, Fault> {
+    Ok(read_log(alloc, text)?.len())
+}
+
+#[test]
+fn truncated_log(rt: HostRuntime) {
+    for length in 0..=27 {
+        let expected = match length {
+            10 | 11 => Ok(0),
+            18 | 19 => Ok(1),
+            26 | 27 => Ok(2),
+            0..=9 => Err(Fault::Line(1)),
+            12..=17 => Err(Fault::Line(2)),
+            _ => Err(Fault::Line(3)),
+        };
+        let found = entries(rt.alloc(), LOG.get(..length).unwrap_or(""));
+        same(&rt, (length, found), (length, expected));
+    }
+}
+
+#[test]
+fn lines_of_no_log(rt: HostRuntime) -> Result<(), Fail> {
+    for line in [
+        "s 00 ran",
+        "s 4294967296 ran",
+        "s 0 trap 13 80000080",
+        "k 4A taken",
+        "s 0 ran\r",
+    ] {
+        let text = format!(in rt.alloc(); "m161 log 1\n{line}\n")?;
+        let found = entries(rt.alloc(), text.as_str());
+        same(&rt, (line, found), (line, Err(Fault::Line(2))));
+    }
+    Ok(())
+}
