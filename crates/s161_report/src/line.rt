@@ -15,7 +15,6 @@ use s161_base::fault::Fault;
 use std::io::Write;
 
 // Writes two texts.
-#[tactic(auto, using(crate::proofs::Putting::puts_less, crate::proofs::Putting::puts_then))]
 fn put_both<'a, E: Write>(text: &str, more: &str, errors: &mut E) -> Result<(), Fault<'a>>
     ensures { Puts (E.contents errors.old) (text.now ++ more.now) result (E.contents errors.new) }
 {
@@ -24,7 +23,6 @@ fn put_both<'a, E: Write>(text: &str, more: &str, errors: &mut E) -> Result<(), 
 }
 
 // Writes a text, and a number behind it.
-#[tactic(auto, using(crate::proofs::Putting::puts_less, crate::proofs::Putting::puts_then))]
 fn put_numbered<'a, E: Write>(text: &str, n: u64, errors: &mut E) -> Result<(), Fault<'a>>
     ensures { Puts (E.contents errors.old) (text.now ++ decimal n) result (E.contents errors.new) }
 {
@@ -33,7 +31,6 @@ fn put_numbered<'a, E: Write>(text: &str, n: u64, errors: &mut E) -> Result<(), 
 }
 
 // Writes the number and the name of an error.
-#[tactic(auto, using(crate::proofs::Putting::puts_less, crate::proofs::Putting::puts_then))]
 fn put_error<'a, E: Write>(number: u8, name: &str, errors: &mut E) -> Result<(), Fault<'a>>
     ensures { Puts (E.contents errors.old) (decimal number ␣ name.now) result (E.contents errors.new) }
 {
