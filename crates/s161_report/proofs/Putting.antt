@@ -1,6 +1,7 @@
-use Rattle.std.proofs.Common.{◌≡◌, ◌∙◌, refl, sym, ap, subst, ℕ, zero, suc, ◌+◌, ◌<◌, ◌≤◌, Bool, true, false, nat_le, List, [], ◌∷◌, ◌++◌, length, get_or, take, drop, Option, Result, Ok, Err, IfErr, OnOk, append_assoc, arith}
+use Rattle.std.proofs.Common.{◌≡◌, ◌∙◌, refl, sym, ap, subst, ℕ, zero, suc, ◌+◌, ◌-◌, ◌<◌, ◌≤◌, Bool, true, false, nat_le, List, [], ◌∷◌, ◌++◌, length, get_or, take, drop, Option, Result, Ok, Err, IfErr, OnOk, append_assoc, length-drop, take-append-drop, arith}
 use Rattle.std.proofs.lemmas.List.{take-append-le, take_all}
 use Rattle.std.proofs.Math.Seq.{take-append_seam, take-length}
+use Rattle.std.proofs.lemmas.List.Concat.{flat_map-append}
 use Rattle.std.proofs.lemmas.Bool.{leb-true, leb-false}
 use Rattle.std.proofs.KnownBytes.{Appends-trans}
 use Rattle.std.specs.Io.KnownBytes.{Appends}
@@ -43,11 +44,16 @@ pub puts_then : (a b c : Option (List ℕ)) (xs ys : List ℕ) (r : Result (Unit
 puts_then a b c xs ys (Ok u) first second = Appends-trans a b c xs ys first second
 puts_then a b c xs ys (Err fault) first second = (second.0, some_then a b c xs ys first second.1)
 
+-- it failed
+pub puts_failed : (a b : Option (List ℕ)) (xs : List ℕ) (fault : Fault) (r : Result (Unit {0}) Fault) → Puts a xs (Err fault) b →
+    IsErrAnd r (λ failed. failed ≡ fault) → Puts a xs r b
+puts_failed a b xs fault (Ok u) h is = absurd is
+puts_failed a b xs fault (Err failed) h is = (is ∙ h.0, h.1)
+
 -- the first failed
 pub puts_less : (a b : Option (List ℕ)) (xs ys : List ℕ) (fault : Fault) (r : Result (Unit {0}) Fault) → Puts a xs (Err fault) b →
     IsErrAnd r (λ failed. failed ≡ fault) → Puts a (xs ++ ys) r b
-puts_less a b xs ys fault (Ok u) h is = absurd is
-puts_less a b xs ys fault (Err failed) h is = (is ∙ h.0, some_less a b xs ys h.1)
+puts_less a b xs ys fault r h is = puts_failed a b (xs ++ ys) fault r (h.0, some_less a b xs ys h.1) is
 
 -- the same text
 pub puts_same : (a b : Option (List ℕ)) (xs ys : List ℕ) (r : Result (Unit {0}) Fault) → xs ≡ ys → Puts a xs r b → Puts a ys r b
@@ -64,10 +70,58 @@ pub some_told : (a b : Option (List ℕ)) (xs : List ℕ) (r : Result (Unit {0})
 some_told a b xs (Ok u) ok err = (length xs, subst (Appends a b) (sym (take-length xs)) ok)
 some_told a b xs (Err fault) ok err = err.1
 
--- a name's bytes so far, the next one, and those after it
-pub name_parts : (xs : List ℕ) (i : ℕ) → i < length xs
+-- a name's first bytes, and those after them
+shown_parts : (n : ℕ) (name : List ℕ) → shown_name (take n name) ++ shown_name (drop n name) ≡ shown_name name
+shown_parts n name = sym (flat_map-append shown_byte (take n name) (drop n name)) ∙ ap shown_name (take-append-drop n name)
+
+-- a name's first bytes, the next one, and those after it
+name_parts : (xs : List ℕ) (i : ℕ) → i < length xs
     → shown_name (take i xs) ++ (shown_byte (get_or xs i 0) ++ shown_name (drop (suc i) xs)) ≡ shown_name xs
 name_parts [] i h = absurd (omega arith)
 name_parts (x ∷ xs) zero h = refl
 name_parts (x ∷ xs) (suc i) h =
     append_assoc (shown_byte x) (shown_name (take i xs)) _ ∙ ap (λ rest. shown_byte x ++ rest) (name_parts xs i (omega arith))
+
+abbrev IsFailed : {T : Type 0} → Option (List ℕ) → List ℕ → Result T Fault → Option (List ℕ) → Type 0
+IsFailed a xs r b = IfErr r (λ failed. (failed ≡ Output) × AppendsSome a b xs)
+
+module _ {T : Type 0} (n : ℕ) (name : List ℕ) (fault : Fault) (plain : shown_name (take n name) ≡ take n name) where
+  -- the first bytes, which are written as they are, failed
+  pub front_failed : (a b : Option (List ℕ)) (r : Result T Fault) → (fault ≡ Output) × AppendsSome a b (take n name) →
+      IsErrAnd r (λ failed. failed ≡ fault) → IsFailed a (shown_name name) r b
+  front_failed a b (Ok x) h is = absurd is
+  front_failed a b (Err failed) h is = (
+    is ∙ h.0,
+    subst (AppendsSome a b) (shown_parts n name) (some_less a b (shown_name (take n name)) (shown_name (drop n name)) (subst (AppendsSome a b) (sym plain) h.1)),
+  )
+
+  -- the next one failed
+  pub next_failed : (a b c : Option (List ℕ)) (r : Result T Fault) → n < length name → Appends a b (take n name) →
+      Puts b (shown_byte (get_or name n 0)) (Err fault) c → IsErrAnd r (λ failed. failed ≡ fault) → IsFailed a (shown_name name) r c
+  next_failed a b c (Ok x) within first h is = absurd is
+  next_failed a b c (Err failed) within first h is =
+      let byte = shown_byte (get_or name n 0) in
+      let rest = shown_name (drop (suc n) name) in (
+        is ∙ h.0,
+        subst (AppendsSome a c) (name_parts name n within)
+            (some_then a b c (shown_name (take n name)) (byte ++ rest) (subst (Appends a b) (sym plain) first) (some_less b c byte rest h.1)),
+      )
+
+-- of a name some bytes are written, and then some more, or that fails
+module _ (a b c : Option (List ℕ)) (name done rest : List ℕ) (first : Appends a b done) (is : done ++ shown_name rest ≡ shown_name name) where
+  pub rest_failed : (fault : Fault) (r : Result (Unit {0}) Fault) → (fault ≡ Output) × AppendsSome b c (shown_name rest) →
+      IsErrAnd r (λ failed. failed ≡ fault) → Puts a (shown_name name) r c
+  rest_failed fault r h failed =
+      puts_same a c (done ++ shown_name rest) (shown_name name) r is
+      (puts_then a b c done (shown_name rest) r first (puts_failed b c (shown_name rest) fault r h failed))
+
+  pub rest_goes_on : (n : ℕ) → Appends b c (shown_name (take n rest)) →
+      (all : List ℕ) × Appends a c all × (all ++ shown_name (take (length rest - n) (drop n rest)) ≡ shown_name name)
+  rest_goes_on n more =
+      let front = shown_name (take n rest) in
+      let left : take (length rest - n) (drop n rest) ≡ drop n rest = take_all (length rest - n) (drop n rest) (omega (arith, length-drop n rest)) in (
+        done ++ front,
+        Appends-trans a b c done front first more,
+        ap (λ xs. (done ++ front) ++ shown_name xs) left ∙ append_assoc done front (shown_name (drop n rest))
+            ∙ ap (λ xs. done ++ xs) (shown_parts n rest) ∙ is,
+      )
