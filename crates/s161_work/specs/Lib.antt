@@ -1,2 +1,5 @@
+pub mod Assemblies
+pub mod Failures
+pub mod Listings
 pub mod Works
 pub mod helpers

@@ -148,6 +148,10 @@ Does words files before after status =
     (task : Task) × IsTask (subcommand_of command_line words) task
     × Finishes task files before after status
 
+-- an output had the first bytes, and has some more
+abbrev pub HasMore : Option (List ℕ) → Option (List ℕ) → Type 0
+HasMore before after = (text : List ℕ) × Appends before after text
+
 -- the exit status of a command that finished without a fault and without a refused event
 abbrev pub IsDone : ℕ → Type 0
 IsDone status = (status ≡ 0) ⊎ (status ≡ 3) ⊎ (status ≡ 4) ⊎ (status ≡ 5)
@@ -161,8 +165,7 @@ Follows words files before after status =
     (IsAccepted words × GoTogether (subcommand_of command_line words)
     × Does words files before after status)
     ⊎ (GivesHelp words × (status ≡ 0) × (after.input ≡ before.input)
-    × ((text : List ℕ) × Appends before.output after.output text)
-    × (after.errors ≡ before.errors))
+    × HasMore before.output after.output × (after.errors ≡ before.errors))
 
 -- a command line isn't followed: clap doesn't take the words, or the options can't be followed
 abbrev pub IsRefused : List Text → Type 0

@@ -1,4 +1,2 @@
 -- Definitions that only contracts of private functions, or proofs, use.
-pub mod Assemblies
-pub mod Listings
-pub mod Works
+pub mod Refusals

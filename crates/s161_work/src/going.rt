@@ -3,12 +3,12 @@
 ghost use Rattle.std.specs.Prelude.{◌≡◌, ◌≢◌, ◌≤◌, ℕ, IfErr, IfOk, IfSome, List, None, Option};
 ghost use Rattle.m161_order.specs.Order.{order_fault};
 ghost use Rattle.s161_command.specs.Commands.{HasSourceLimits};
+ghost use Rattle.s161_work.specs.Failures.{FailsToDebug, FailsToServe, FailsToTrace};
 ghost use Rattle.s161_work.specs.Works.{IsDebuggedOut, IsServed, IsTracedOut, standard};
-ghost use Rattle.s161_work.specs.helpers.Works.{FailsToDebug, FailsToServe, FailsToTrace};
 
-use crate::output::put;
 use s161_base::fault::Fault;
 use s161_base::files::FileSource;
+use s161_base::streams::send;
 use s161_command::{ConsoleTask, DebugTask, TraceTask};
 use s161_console::console::console;
 use s161_debug::debug::debug;
@@ -37,7 +37,7 @@ pub(crate) fn serve<'a, F: FileSource, I: Read, O: Write, E: Write>(
 {
     let stop = console(alloc, files, input, output, task)?;
     let line = format!(in alloc; "{stop}\n")?;
-    put(errors, line.as_bytes())?;
+    send(errors, line.as_bytes())?;
     Ok(status(stop))
 }
 

@@ -3,12 +3,10 @@
 #![tactic(auto)]
 
 mod going;
-mod output;
 mod printing;
 mod refusing;
 pub mod work;
 
-pub use output::report;
 pub use s161_audit::{audit, watches};
 pub use s161_base::{fault, files, finished, input, sample, texts};
 pub use s161_console::console;

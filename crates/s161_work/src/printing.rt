@@ -4,17 +4,17 @@ ghost use Rattle.std.specs.Prelude.{◌≡◌, ◌≢◌, ◌≤◌, IfErr, IfOk
 ghost use Rattle.s161_base.specs.Samples.{image_file};
 ghost use Rattle.s161_command.specs.Commands.{HasLimits};
 ghost use Rattle.s161_texts.specs.Listings.{IsDisassembled};
+ghost use Rattle.s161_work.specs.Failures.{Fails, IsTaskFault};
+ghost use Rattle.s161_work.specs.Listings.{IsListingFault};
 ghost use Rattle.s161_work.specs.Works.{IsResultOf, Prints, going_of};
-ghost use Rattle.s161_work.specs.helpers.Listings.{IsListingFault};
-ghost use Rattle.s161_work.specs.helpers.Works.{Fails, IsTaskFault};
 
-use crate::output::put;
 use s161_audit::audit::audit;
 use s161_base::fault::Fault;
 use s161_base::files::FileSource;
 use s161_base::finished::Finished;
 use s161_base::input::read_input;
 use s161_base::sample::read_image;
+use s161_base::streams::send;
 use s161_command::{ListingTask, Task};
 use s161_drive::driven::run_driven;
 use s161_drive::schedule::schedule;
@@ -50,7 +50,7 @@ pub(crate) fn print_task<'a, R: Threads + Wait + Sync, F: FileSource, I: Read, O
     ensures within { IfOk result (λ status. (status ≤ 5) × (status ≢ 2)) }
 {
     let finished = finish(rt, alloc, task, files, input)?;
-    put(output, &finished.text)?;
+    send(output, &finished.text)?;
     Ok(finished.status)
 }
 

@@ -1,16 +1,20 @@
 //! Command lines without a task: what is wrong with them, and the help that they ask for.
 
-ghost use Rattle.std.specs.Prelude.{◌≡◌, ◌≢◌, ◌≤◌};
+ghost use Rattle.std.specs.Prelude.{◌≡◌, ◌≢◌, ◌≤◌, ◌⊎◌};
 ghost use Rattle.std.specs.Io.KnownBytes.{Appends};
+ghost use Rattle.s161_base.specs.declared.fault.Fault.TheVariants.{Memory, Output};
 ghost use Rattle.clap.specs.Words.{kind_of};
 ghost use Rattle.s161_command.specs.Commands.{IsHelp};
-ghost use Rattle.s161_work.specs.helpers.Works.{HasMore, IsHelped, IsSaid};
+ghost use Rattle.s161_work.specs.Failures.{IsTold};
+ghost use Rattle.s161_work.specs.Works.{HasMore};
+ghost use Rattle.s161_work.specs.helpers.Refusals.{IsHelped, IsSaid, IsUnsaid};
 
-use crate::output::{put, report};
 use clap::Error;
 use clap::error::ErrorKind;
 use s161_base::fault::Fault;
+use s161_base::streams::send;
 use s161_command::{Clash, Rejection};
+use s161_report::report;
 use std::alloc::Global;
 use std::io::Write;
 
@@ -24,11 +28,13 @@ pub(crate) fn refuse<O: Write, E: Write>(
     ensures refused { result ≡ 2 → IsSaid rejection }
     ensures help { result ≡ 0 → IsHelped rejection (O.contents output.old) (O.contents output.new)
         × (E.contents errors.new ≡ E.contents errors.old) }
+    ensures unsaid { result ≡ 1 → IsUnsaid rejection (O.contents output.old) (O.contents output.new)
+        (E.contents errors.old) (E.contents errors.new) }
     ensures within { result ≤ 2 }
 {
     match rejection {
         Rejection::Words(error) => reject(alloc, &error, output, errors),
-        Rejection::Options(clash) => report_clash(clash, errors),
+        Rejection::Options(clash) => report_clash(alloc, clash, errors),
     }
 }
 
@@ -38,6 +44,8 @@ fn reject<O: Write, E: Write>(alloc: Global, error: &Error, output: &mut O, erro
     ensures help { result ≡ 0 → IsHelp (kind_of error.now)
         × HasMore (O.contents output.old) (O.contents output.new)
         × (E.contents errors.new ≡ E.contents errors.old) }
+    ensures unsaid { result ≡ 1 → IsUnsaid (Rejection.Words error.now) (O.contents output.old)
+        (O.contents output.new) (E.contents errors.old) (E.contents errors.new) }
     ensures usage { result ≡ 2 → O.contents output.new ≡ O.contents output.old }
     ensures within { result ≤ 2 }
 {
@@ -58,9 +66,11 @@ fn reject<O: Write, E: Write>(alloc: Global, error: &Error, output: &mut O, erro
 fn print_help<O: Write, E: Write>(text: &[u8], output: &mut O, errors: &mut E) -> u8
     ensures help { result ≡ 0 → Appends (O.contents output.old) (O.contents output.new) text.now
         × (E.contents errors.new ≡ E.contents errors.old) }
+    ensures unsaid { result ≡ 1 → HasMore (O.contents output.old) (O.contents output.new)
+        × IsTold Output (E.contents errors.old) (E.contents errors.new) }
     ensures within { result ≤ 1 }
 {
-    match put(output, text) {
+    match send(output, text) {
         Ok(()) => 0,
         Err(fault) => report(fault, errors),
     }
@@ -69,24 +79,24 @@ fn print_help<O: Write, E: Write>(text: &[u8], output: &mut O, errors: &mut E) -
 // Writes a text to standard error. Returns the exit status: 2 if all of it was written.
 fn print_usage<E: Write>(text: &[u8], errors: &mut E) -> u8
     ensures usage { result ≡ 2 → Appends (E.contents errors.old) (E.contents errors.new) text.now }
+    ensures unsaid { result ≡ 1 → HasMore (E.contents errors.old) (E.contents errors.new) }
     ensures within { (1 ≤ result) × (result ≤ 2) }
 {
-    match put(errors, text) {
+    match send(errors, text) {
         Ok(()) => 2,
         Err(fault) => report(fault, errors),
     }
 }
 
-// Writes why options can't be followed to standard error. Returns the exit status: 2 if it was
+// Writes why options can't be followed to standard error. Returns the exit status: 2 if all of it was
 // written.
-fn report_clash<E: Write>(clash: Clash, errors: &mut E) -> u8
-    ensures { (1 ≤ result) × (result ≤ 2) }
+fn report_clash<E: Write>(alloc: Global, clash: Clash, errors: &mut E) -> u8
+    ensures unsaid { result ≡ 1 → IsTold Memory (E.contents errors.old) (E.contents errors.new)
+        ⊎ HasMore (E.contents errors.old) (E.contents errors.new) }
+    ensures within { (1 ≤ result) × (result ≤ 2) }
 {
-    match writeln!(
-        errors,
-        "error: {clash}\n\nFor more information, try '--help'."
-    ) {
-        Ok(()) => 2,
-        Err(_) => 1,
+    match format!(in alloc; "error: {clash}\n\nFor more information, try '--help'.\n") {
+        Ok(text) => print_usage(text.as_bytes(), errors),
+        Err(_) => report(Fault::Memory, errors),
     }
 }

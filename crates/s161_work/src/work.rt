@@ -2,16 +2,16 @@
 
 ghost use Rattle.std.specs.Prelude.{◌≡◌, ◌≢◌, ◌≤◌, IfErr, IfOk, map, string_bytes};
 ghost use Rattle.s161_command.specs.Commands.{HasLimits};
+ghost use Rattle.s161_work.specs.Failures.{EndsBadly, FailsAs, IsTold};
 ghost use Rattle.s161_work.specs.Works.{Finishes, Follows, IsDone, IsRefused, going_of, standard};
-ghost use Rattle.s161_work.specs.helpers.Works.{FailsAs};
 
 use crate::going::{debug_out, serve, trace_out};
-use crate::output::report;
 use crate::printing::print_task;
 use crate::refusing::refuse;
 use s161_base::fault::Fault;
 use s161_base::files::FileSource;
 use s161_command::{Task, parse};
+use s161_report::report;
 use std::alloc::Global;
 use std::convert::AsStr;
 use std::io::{Read, Write};
@@ -40,7 +40,14 @@ where
         (F.known files.old)
         (standard (I.remaining input.old) (O.contents output.old) (E.contents errors.old))
         (standard (I.remaining input.new) (O.contents output.new) (E.contents errors.new)) result) }
+    ensures failed { result ≡ 1 → IfOk words.entry (λ ws. EndsBadly (map string_bytes ws.items)
+        (F.known files.old)
+        (standard (I.remaining input.old) (O.contents output.old) (E.contents errors.old))
+        (standard (I.remaining input.new) (O.contents output.new) (E.contents errors.new))) }
     ensures unread { IfErr words.entry (λ _. result ≡ 1) }
+    ensures told { IfErr words.entry (λ fault. (I.remaining input.new ≡ I.remaining input.old)
+        × (O.contents output.new ≡ O.contents output.old)
+        × IsTold fault (E.contents errors.old) (E.contents errors.new)) }
     ensures within { result ≤ 5 }
 {
     match words {
@@ -74,6 +81,9 @@ where
     ensures finished { IsDone result → Follows (map S.text words.now) (F.known files.old)
         (standard (I.remaining input.old) (O.contents output.old) (E.contents errors.old))
         (standard (I.remaining input.new) (O.contents output.new) (E.contents errors.new)) result }
+    ensures failed { result ≡ 1 → EndsBadly (map S.text words.now) (F.known files.old)
+        (standard (I.remaining input.old) (O.contents output.old) (E.contents errors.old))
+        (standard (I.remaining input.new) (O.contents output.new) (E.contents errors.new)) }
     ensures within { result ≤ 5 }
 {
     let alloc = rt.alloc();

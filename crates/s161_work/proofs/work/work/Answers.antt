@@ -1,5 +1,10 @@
-use Rattle.s161_work.proofs.Refusals.{refused}
+use Rattle.s161_work.proofs.Refusals.{refused, unsaid_ends}
 use Rattle.s161_work.proofs.work.work.Goals as goal
 
 pub returns-in-Err-clause-rejected : goal.returns-in-Err-clause-rejected
 returns-in-Err-clause-rejected g c = λ two. refused _ c.in-Err.rejection c.in-Err.ensures.rejected (c.refuse.ensures.refused two)
+
+pub returns-in-Err-clause-failed : goal.returns-in-Err-clause-failed
+returns-in-Err-clause-failed g c = λ one.
+    unsaid_ends _ _ c.in-Err.rejection _ (g.O.Write.contents c.args.output.now) (g.O.Write.contents c.refuse.new.output) (g.E.Write.contents c.args.errors.now)
+    (g.E.Write.contents c.refuse.new.errors) c.in-Err.ensures.rejected (c.refuse.ensures.unsaid one)

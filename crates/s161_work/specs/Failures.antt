@@ -1,33 +1,33 @@
-use Rattle.std.specs.Prelude.{◌≡◌, ◌≢◌, ◌⊎◌, ℕ, List, Option, None, Some}
-use Rattle.std.specs.Io.KnownBytes.{Appends}
-use Rattle.clap.specs.Words.{Text, kind_of}
-use Rattle.clap.specs.declared.error.kind.ErrorKind.TheVariants.{OutOfMemory}
-use Rattle.s161_command.specs.declared.task.Rejection.{Rejection}
-use Rattle.s161_command.specs.declared.task.Rejection.TheVariants.{Words, Options}
-use Rattle.s161_command.specs.Commands.{IsHelp}
+use Rattle.std.specs.Prelude.{◌≡◌, ◌⊎◌, ℕ, List, Option, None, Some}
+use Rattle.clap.specs.Words.{Text, subcommand_of}
+use Rattle.m161_text.specs.Lines.{with_line_end}
 use Rattle.s161_command.specs.declared.task.ConsoleTask.{ConsoleTask}
 use Rattle.s161_command.specs.declared.task.DebugTask.{DebugTask}
 use Rattle.s161_command.specs.declared.task.TraceTask.{TraceTask}
 use Rattle.s161_command.specs.declared.task.Task.{Task}
 use Rattle.s161_command.specs.declared.task.Task.TheVariants.{Assemble, Audit, Console, Debug, Demo, Disassemble, Replay, Run, RunDriven, RunInThreads, Schedule, Search, Trace}
+use Rattle.s161_command.specs.Commands.{GoTogether, IsAccepted, IsTask, command_line}
 use Rattle.s161_base.specs.declared.fault.Fault.{Fault}
 use Rattle.s161_base.specs.declared.fault.Fault.TheVariants.{Memory, Output}
+use Rattle.s161_base.specs.FaultLines.{fault_line}
+use Rattle.s161_base.specs.Samples.{image_file}
+use Rattle.s161_base.specs.Streams.{AppendsSome}
 use Rattle.s161_audit.specs.Audits.{IsAuditFault}
-use Rattle.s161_work.specs.helpers.Assemblies.{IsAssemblyFault}
 use Rattle.s161_console.specs.Consoles.{IsConsoleFault, IsConsoleRun}
-use Rattle.s161_base.specs.Streams.{streams}
 use Rattle.s161_debug.specs.Debugs.{IsDebugFault}
 use Rattle.s161_drive.specs.Driven.{IsDrivenFault}
 use Rattle.s161_drive.specs.Schedules.{IsScheduledFault}
-use Rattle.s161_work.specs.helpers.Listings.{IsListingFault}
 use Rattle.s161_runs.specs.Replays.{IsReplayFault}
-use Rattle.s161_runs.specs.Runs.{IsFaultOf}
+use Rattle.s161_runs.specs.Runs.{IsFaultOf, stop_line}
 use Rattle.s161_runs.specs.declared.events.Stop.{Stop}
-use Rattle.s161_work.specs.Works.{Going, IsResultOf, Standard, debugging, serving, streams_of, tracing}
-use Rattle.s161_base.specs.Samples.{image_file}
 use Rattle.s161_search.specs.Searches.{IsSearchFault}
 use Rattle.s161_threads.specs.Threads.{IsThreadsFault}
 use Rattle.s161_trace.specs.Traces.{IsTraceFault}
+use Rattle.s161_work.specs.Assemblies.{IsAssemblyFault}
+use Rattle.s161_work.specs.Listings.{IsListingFault}
+use Rattle.s161_work.specs.Works.{Does, GivesHelp, Going, HasMore, IsRefused, IsResultOf, Standard, debugging, going_of, serving, standard, streams_of, tracing}
+
+-- How a command line ends with the status 1.
 
 -- a task's work is ended by this fault, before anything is printed; one that writes as it goes on isn't
 -- meant
@@ -54,40 +54,36 @@ IsTaskFault Assemble files input fault = IsAssemblyFault input fault
 IsTaskFault (Disassemble task) files input fault =
     IsListingFault task.image.now (image_file files task.image.now) fault
 
--- there is such a text and exit status
-abbrev pub Exists : (List ℕ → ℕ → Type 0) → Type 0
-Exists IsResult = (text : List ℕ) × (status : ℕ) × IsResult text status
+-- there is such a text with an exit status, and some of it was written
+abbrev pub PrintsSome :
+    (List ℕ → ℕ → Type 0) → Option (List ℕ) → Option (List ℕ) → Type 0
+PrintsSome IsResult before after =
+    (text : List ℕ) × (status : ℕ) × IsResult text status × AppendsSome before after text
 
--- there was such a text, and the output failed; or there was this fault before, and the output is
--- unchanged
+-- there was such a text, and the output failed, which has some of it; or there was this fault before,
+-- and the output is unchanged
 abbrev pub Fails :
     (List ℕ → ℕ → Type 0) → (Fault → Type 0) → Option (List ℕ) → Option (List ℕ) → Fault → Type 0
 Fails IsResult IsFault before after fault =
-    ((fault ≡ Output) × Exists IsResult) ⊎ (IsFault fault × (after ≡ before))
+    ((fault ≡ Output) × PrintsSome IsResult before after) ⊎ (IsFault fault × (after ≡ before))
 
--- an output had the first bytes, and has some more
-abbrev pub HasMore : Option (List ℕ) → Option (List ℕ) → Type 0
-HasMore before after = (text : List ℕ) × Appends before after text
+-- why a kernel at the terminal stopped wasn't told: memory was refused; or standard error failed, which
+-- has some of it
+abbrev pub IsUntold : Stop → Option (List ℕ) → Option (List ℕ) → Fault → Type 0
+IsUntold stop before after fault =
+    ((fault ≡ Memory) × (after ≡ before))
+    ⊎ ((fault ≡ Output) × AppendsSome before after (with_line_end (stop_line stop)))
 
--- a command line is refused, and not for want of memory
-abbrev pub IsSaid : Rejection → Type 0
-IsSaid (Words error) = kind_of error ≢ OutOfMemory
-IsSaid (Options clash) = Unit {0}
-
--- help was asked for, and printed
-abbrev pub IsHelped : Rejection → Option (List ℕ) → Option (List ℕ) → Type 0
-IsHelped (Words error) before after = IsHelp (kind_of error) × HasMore before after
-IsHelped (Options clash) before after = ⊥
-
--- a kernel at the terminal was ended by this fault; or it ran, and then memory was refused or standard
--- error failed before it was told why it stopped
+-- a kernel at the terminal was ended by this fault, and nothing was written to standard error; or it
+-- ran, and why it stopped wasn't told
 abbrev pub FailsToServe :
     ConsoleTask → (Text → Option (List ℕ)) → Standard → Standard → Fault → Type 0
 FailsToServe task files before after fault =
     let known = image_file files task.image.now in
-    let x = streams before.input after.input before.output after.output in
-    IsConsoleFault task known x fault
-    ⊎ (((fault ≡ Memory) ⊎ (fault ≡ Output)) × ((stop : Stop) × IsConsoleRun task known x stop))
+    let x = streams_of before after in
+    (IsConsoleFault task known x fault × (after.errors ≡ before.errors))
+    ⊎ ((stop : Stop) × IsConsoleRun task known x stop
+    × IsUntold stop before.errors after.errors fault)
 
 -- a traced run is ended by this fault, and nothing was written to standard error
 abbrev pub FailsToTrace :
@@ -117,3 +113,39 @@ FailsAs None task files before after fault =
     Fails (IsResultOf task files before.input) (IsTaskFault task files before.input)
     before.output after.output fault
     × (after.errors ≡ before.errors)
+
+-- the line of a fault was written to standard error, as far as that took it
+abbrev pub IsTold : Fault → Option (List ℕ) → Option (List ℕ) → Type 0
+IsTold fault before after = AppendsSome before after (with_line_end (fault_line fault))
+
+-- a command line's task was ended by a fault, over these files and streams, which was told then
+abbrev pub FailsToDo : List Text → (Text → Option (List ℕ)) → Standard → Standard → Type 0
+FailsToDo words files before after =
+    (task : Task) × IsTask (subcommand_of command_line words) task
+    × ((fault : Fault) × (errors : Option (List ℕ))
+    × FailsAs (going_of task) task files before (standard after.input after.output errors) fault
+    × IsTold fault errors after.errors)
+
+-- what a command line with the status 1 did
+pub data EndsBadly
+    (words : List Text) (files : Text → Option (List ℕ)) (before after : Standard) : Type 0 where
+  -- it was followed, and its task finished with a refused event
+  finished :
+      IsAccepted words → GoTogether (subcommand_of command_line words) →
+      Does words files before after 1 → EndsBadly words files before after
+  -- it was followed, and a fault ended its task
+  failed :
+      IsAccepted words → GoTogether (subcommand_of command_line words) →
+      FailsToDo words files before after → EndsBadly words files before after
+  -- it asks for help or for the version, and standard output failed
+  unhelped :
+      GivesHelp words → after.input ≡ before.input → HasMore before.output after.output →
+      IsTold Output before.errors after.errors → EndsBadly words files before after
+  -- memory was refused before it was known what it asks for, or before that was said
+  unread :
+      after.input ≡ before.input → after.output ≡ before.output →
+      IsTold Memory before.errors after.errors → EndsBadly words files before after
+  -- it isn't followed, and standard error failed
+  unsaid :
+      IsRefused words → after.input ≡ before.input → after.output ≡ before.output →
+      HasMore before.errors after.errors → EndsBadly words files before after
