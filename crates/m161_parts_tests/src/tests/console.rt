@@ -41,7 +41,7 @@ fn console_room(rt: HostRuntime) -> Result<(), AllocError> {
 /// Types the bytes of a range, in order, and says whether each was taken.
 fn type_bytes<D: Console>(console: &mut D, from: u32, to: u32) -> bool {
     for byte in from..to {
-        if console.key(byte as u8).is_err() {
+        if console.key((byte % 256) as u8).is_err() {
             return false;
         }
     }
