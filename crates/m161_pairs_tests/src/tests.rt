@@ -4,6 +4,7 @@
 mod booting;
 mod stopping;
 mod threads;
+mod words;
 
 use std::fmt::Debug;
 use std::process::Abort;
