@@ -1,4 +1,5 @@
 # Processor 0 starts processor 1, and both go through the benchmark's loop, each with data of its own.
+# What reads this text appends the loop, which is that of loop.s.
         lui     $8, 0xbfff
         ori     $8, $8, 0x8400
         lui     $9, 0x8000
@@ -16,15 +17,3 @@
         j       loop
         nop
         .org    0x80001000
-loop:   lw      $8, 0($16)
-        addu    $9, $8, $17
-        sll     $10, $9, 3
-        srl     $11, $9, 5
-        xor     $9, $10, $11
-        sw      $9, 0($16)
-        lbu     $12, 2($16)
-        addiu   $18, $18, 1
-        slt     $13, $12, $9
-        sb      $13, 4($16)
-        bne     $18, $0, loop
-        addu    $17, $17, $18
