@@ -22,6 +22,7 @@ mod amount;
 mod effect;
 mod immediate;
 mod instr;
+mod link;
 mod operand;
 mod register;
 mod table;
@@ -35,6 +36,7 @@ pub use instr::{
     ArithOp, Coprocessor, EqualTest, HiLo, ImmediateOp, Instr, JumpOp, LoadOp, MultiplyOp, PlainOp,
     ShiftOp, StoreOp, ZeroTest, has_row, row_of,
 };
+pub use link::LinkUnit;
 pub use operand::Operand;
 pub use register::Reg;
 pub use table::{ROWS, Row, rows_in_order};
