@@ -70,7 +70,7 @@ after_its_act : (u : LinkUnit) (p : ℕ) (act : LinkAct) (stores : List ℕ) (li
 after_its_act u p Keep stores links = refl
 after_its_act u p (LinkTo at) stores links =
     let same = set_live u p (Some (unit_of u at)) (Some (record { at = unit_of u at; made = length stores })) stores links
-        (sym (live_now u stores (unit_of u at))) in
+    (sym (live_now u stores (unit_of u at))) in
     λ i. record { unit = u; live = same i }
 after_its_act u p End stores links =
     let same = set_live u p None None stores links refl in λ i. record { unit = u; live = same i }

@@ -1,12 +1,14 @@
 use Rattle.std.proofs.Common.{◌≡◌, ◌∙◌, ap, sym, refl, subst, ◌∷◌, [], Ok}
 use Rattle.m161_machine.specs.declared.event.Event.TheVariants.{Key}
+use Rattle.m161_machine.specs.State.{CoreValue, KeepsSizes, next}
 use Rattle.m161_machine.specs.History.{Answers, History, entry}
+use Rattle.m161_machine.specs.helpers.Window.{Slid}
 use Rattle.m161_machine.proofs.Given.{gives}
 use Rattle.m161_machine.proofs.Sliding.{answers_slid, lawful_slid, leads_one}
 use Rattle.m161_machine.proofs.machine.Machine.key.Given.{Over}
 use Rattle.m161_machine.proofs.machine.Machine.key.Goals as goal
 
-abbrev before : (g : Over) (c : goal.After-append g) → History
+abbrev before : (g : Over) (c : goal.After-self-2-1 g) → History
 before g c = record {
   start = record { bytes = c.self.inside.image.bytes.items; entry = c.self.inside.image.entry; conf = c.self.inside.conf };
   base = c.self.inside.base.value.state;
@@ -14,18 +16,34 @@ before g c = record {
   state = c.self.inside.present.value.state;
 }
 
-entry_is : (g : Over) (c : goal.After-append g) → c.of_key.result ≡ entry (Key c.args.byte) c.in_ok-outcome.outcome
+-- what the calls do, which reach the two states through their boxes
+gives_of : (g : Over) (c : goal.After-self-2-1 g) → next c.self.inside.present.value.state (Key c.args.byte) ≡ Ok (c.in_ok-outcome.outcome, c.key.new.self.state)
+gives_of g c =
+    subst (λ (core : CoreValue). next core.state (Key c.args.byte) ≡ Ok (c.in_ok-outcome.outcome, c.key.new.self.state))
+    c.deref_mut.ensures.value c.in_ok-outcome.ensures.makes
+
+sizes_of : (g : Over) (c : goal.After-self-2-1 g) → KeepsSizes c.self.inside.present.value.state c.key.new.self.state
+sizes_of g c =
+    subst (λ (core : CoreValue). KeepsSizes core.state c.key.new.self.state) c.deref_mut.ensures.value c.in_ok-outcome.ensures.sizes
+
+slid : (g : Over) (c : goal.After-self-2-1 g) →
+    Slid c.self.inside.base.value.state c.self.inside.window (c.of_key.result ∷ []) c.append.new.base.state c.append.new.self
+slid g c =
+    subst (λ (core : CoreValue). Slid core.state c.self.inside.window (c.of_key.result ∷ []) c.append.new.base.state c.append.new.self)
+    c.deref_mut-2.ensures.value c.append.ensures.slid
+
+entry_is : (g : Over) (c : goal.After-self-2-1 g) → c.of_key.result ≡ entry (Key c.args.byte) c.in_ok-outcome.outcome
 entry_is g c =
     c.of_key.ensures
-    ∙ ap (entry (Key c.args.byte)) (sym (gives (Key c.args.byte) c.self.inside.present.value.state c.key.new.self.state c.in_ok-outcome.outcome c.in_ok-outcome.ensures.makes))
+    ∙ ap (entry (Key c.args.byte)) (sym (gives (Key c.args.byte) c.self.inside.present.value.state c.key.new.self.state c.in_ok-outcome.outcome (gives_of g c)))
 
 pub invariant_of-self-2 : goal.invariant_of-self-2
 invariant_of-self-2 g c = (
   lawful_slid (before g c) (c.of_key.result ∷ []) c.append.new.base.state c.key.new.self.state c.self.inside.window c.append.new.self c.self.invariant.0
       refl c.self.invariant.1
-      (leads_one c.self.inside.present.value.state c.key.new.self.state (Key c.args.byte) c.in_ok-outcome.outcome c.of_key.result (entry_is g c) c.in_ok-outcome.ensures.makes)
-      c.in_ok-outcome.ensures.sizes c.append.ensures.slid,
-  c.append.ensures.slid.capacity_is ∙ c.self.invariant.1,
+      (leads_one c.self.inside.present.value.state c.key.new.self.state (Key c.args.byte) c.in_ok-outcome.outcome c.of_key.result (entry_is g c) (gives_of g c))
+      (sizes_of g c) (slid g c),
+  (slid g c).capacity_is ∙ c.self.invariant.1,
   c.append.ensures.room,
   c.self.invariant.3,
 )
@@ -40,4 +58,4 @@ returns g c =
     } in
     subst (λ (m : History). Answers m (Key c.args.byte) (Ok c.in_ok-outcome.outcome) after) c.self.view_is
     (answers_slid (before g c) (Key c.args.byte) c.in_ok-outcome.outcome c.of_key.result c.append.new.base.state c.key.new.self.state c.self.inside.window c.append.new.self
-    (entry_is g c) refl c.self.invariant.1 c.in_ok-outcome.ensures.makes c.append.ensures.slid)
+    (entry_is g c) refl c.self.invariant.1 (gives_of g c) (slid g c))

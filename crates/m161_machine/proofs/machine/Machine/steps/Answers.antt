@@ -1,6 +1,6 @@
 use Rattle.std.proofs.Common.{◌∙◌, ap, sym, arith, rules}
 use Rattle.m161_machine.specs.declared.event.Event.TheVariants.{Step}
-use Rattle.m161_machine.specs.State.{refusal}
+use Rattle.m161_machine.specs.State.{CoreValue, refusal}
 use Rattle.m161_machine.specs.History.{History}
 use Rattle.m161_machine.proofs.Continuing.{continues_none}
 use Rattle.m161_machine.proofs.Accepting.{refused_by, refused_worn, refused_off}
@@ -16,7 +16,9 @@ pub returns-in-Some-clause-end : goal.returns-in-Some-clause-end
 returns-in-Some-clause-end g c = (
   search rules,
   refused_by c.args.self.now.state (Step c.args.p) c.in-Some.refusal
-      (ap (λ (h : History). refusal h.state (Step c.args.p)) (sym c.self.view_is) ∙ sym c.in-Some.ensures.value),
+      (ap (λ (h : History). refusal h.state (Step c.args.p)) (sym c.self.view_is)
+      ∙ ap (λ (core : CoreValue). refusal core.state (Step c.args.p)) (sym c.deref.ensures)
+      ∙ sym c.in-Some.ensures.value),
 )
 
 pub returns-then-is_off-clause-end : goal.returns-then-is_off-clause-end
