@@ -2,7 +2,7 @@
 
 use crate::steps::run;
 use m161_machine::Entry;
-use m161_steplog::{read_log, write_log};
+use m161_steplog::{LinkUnit, Mode, read_log, write_log};
 use std::time::Instant;
 
 /// The result of writing and reading.
@@ -21,7 +21,10 @@ pub(crate) struct Measured {
 // The text of a log, and the nanoseconds of its writing.
 fn write_text(rt: &HostRuntime, log: &[Entry]) -> Option<(String, u128)> {
     let start = Instant::now(rt).ok()?;
-    let text = write_log(rt.alloc(), log).ok()?;
+    let mode = Mode {
+        link: LinkUnit::Word,
+    };
+    let text = write_log(rt.alloc(), mode, log).ok()?;
     let took = start.elapsed(rt).ok()?;
     Some((text, took.as_nanos()))
 }
@@ -29,7 +32,7 @@ fn write_text(rt: &HostRuntime, log: &[Entry]) -> Option<(String, u128)> {
 // How many entries a text has, and the nanoseconds of its reading.
 fn read_text(rt: &HostRuntime, text: &str) -> Option<(usize, u128)> {
     let start = Instant::now(rt).ok()?;
-    let entries = read_log(rt.alloc(), text).ok()?;
+    let entries = read_log(rt.alloc(), text).ok()?.entries;
     let took = start.elapsed(rt).ok()?;
     Some((entries.len(), took.as_nanos()))
 }

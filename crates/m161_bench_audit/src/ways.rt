@@ -1,6 +1,6 @@
 //! The same Steps, bare and audited.
 
-use m161::{Conf, Console, Event, Events, Machine, Tlb};
+use m161::{Conf, Console, Event, Events, LinkUnit, Machine, Tlb};
 use m161_audit::{Finding, Watch, audit_events};
 use std::alloc::Global;
 use std::time::{Clock, Instant};
@@ -24,6 +24,7 @@ fn conf(steps: u32) -> Conf {
         ram: 65_536,
         processors: 1,
         log: steps,
+        link: LinkUnit::Word,
     }
 }
 

@@ -1,7 +1,7 @@
 //! The loop on several processors: a thread for each, and the same Steps in one thread.
 
 use crate::image::START;
-use m161::{Conf, Machine};
+use m161::{Conf, LinkUnit, Machine};
 use m161_threads::{Gate, run_bursts};
 use std::alloc::Global;
 use std::sync::Wait;
@@ -57,6 +57,7 @@ fn start_machine(alloc: Global, image: &[u8], task: Task) -> Option<Machine> {
             .checked_mul(task.processors)?
             .checked_add(START)?
             .min(16_777_216),
+        link: LinkUnit::Word,
     };
     let mut machine = Machine::boot(alloc, image, conf).ok()?;
     let _ = machine.steps(0, START);
