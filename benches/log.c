@@ -43,7 +43,7 @@ static char *write_log(const struct entry *entries, size_t count, size_t *length
     FILE *text = open_memstream(&bytes, length);
     if (!text)
         return NULL;
-    fprintf(text, "m161 log 1\n");
+    fprintf(text, "m161 log 2 word\n");
     for (size_t i = 0; i < count; i++)
         write_entry(text, &entries[i]);
     return fclose(text) ? NULL : bytes;
@@ -90,7 +90,7 @@ static struct entry *read_log(char *bytes, size_t length, size_t *count) {
     struct entry *entries = malloc(room * sizeof *entries);
     FILE *text = fmemopen(bytes, length, "r");
     *count = 0;
-    if (!entries || !text || !fgets(line, sizeof line, text) || strcmp(line, "m161 log 1\n"))
+    if (!entries || !text || !fgets(line, sizeof line, text) || strcmp(line, "m161 log 2 word\n"))
         return NULL;
     while (fgets(line, sizeof line, text)) {
         if (*count == room) {

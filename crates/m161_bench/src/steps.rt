@@ -1,7 +1,7 @@
 //! Runs of the machine.
 
 use m161::{Conf, Machine};
-use m161_isa::Reg;
+use m161_isa::{LinkUnit, Reg};
 use std::alloc::Global;
 
 /// A machine that made `steps` Steps of a file, the first one by itself, with a log of this size.
@@ -10,6 +10,7 @@ pub(crate) fn run(alloc: Global, image: &[u8], steps: u32, log: u32) -> Option<M
         ram: 65_536,
         processors: 1,
         log,
+        link: LinkUnit::Word,
     };
     let mut machine = Machine::boot(alloc, image, conf).ok()?;
     machine.step(0).ok()?;

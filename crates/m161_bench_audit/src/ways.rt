@@ -2,6 +2,7 @@
 
 use m161::{Conf, Console, Event, Events, Machine, Tlb};
 use m161_audit::{Finding, Watch, audit_events};
+use m161_isa::LinkUnit;
 use std::alloc::Global;
 use std::time::{Clock, Instant};
 
@@ -24,6 +25,7 @@ fn conf(steps: u32) -> Conf {
         ram: 65_536,
         processors: 1,
         log: steps,
+        link: LinkUnit::Word,
     }
 }
 

@@ -2,6 +2,7 @@
 
 use m161::{Conf, Console, Machine, Tlb};
 use m161_drive::{Order, Policy, drive};
+use m161_isa::LinkUnit;
 use m161_judge::{Booted, Watch, judge_booted};
 use std::alloc::Global;
 use std::time::{Clock, Instant};
@@ -44,6 +45,7 @@ fn machine(alloc: Global, image: &[u8], events: u32) -> Option<Machine> {
         ram: 65_536,
         processors: 2,
         log: events,
+        link: LinkUnit::Word,
     };
     Machine::boot(alloc, image, conf).ok()
 }
@@ -71,6 +73,7 @@ fn judge_seeds(alloc: Global, image: &[u8], seeds: u32, watches: &[Watch]) -> Op
         ram: 65_536,
         processors: 2,
         log: EVENTS,
+        link: LinkUnit::Word,
     };
     let Ok(booted) = Booted::<Tlb, Console>::new(alloc, image, conf) else {
         return None;

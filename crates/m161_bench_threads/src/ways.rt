@@ -2,6 +2,7 @@
 
 use crate::image::START;
 use m161::{Conf, Machine};
+use m161_isa::LinkUnit;
 use m161_threads::{Gate, run_bursts};
 use std::alloc::Global;
 use std::sync::Wait;
@@ -57,6 +58,7 @@ fn start_machine(alloc: Global, image: &[u8], task: Task) -> Option<Machine> {
             .checked_mul(task.processors)?
             .checked_add(START)?
             .min(16_777_216),
+        link: LinkUnit::Word,
     };
     let mut machine = Machine::boot(alloc, image, conf).ok()?;
     let _ = machine.steps(0, START);
