@@ -23,7 +23,7 @@ mod text;
 mod watch;
 
 pub use finding::{AuditError, Finding};
-pub use m161_machine::{BootError, Conf, Event, Events};
+pub use m161_machine::{BootError, Conf, Event, Events, LinkUnit};
 pub use m161_steplog::Fault;
 pub use run::{audit, audit_events};
 pub use text::read_watches;

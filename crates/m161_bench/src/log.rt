@@ -5,11 +5,6 @@ use m161_machine::Entry;
 use m161_steplog::{LinkUnit, Mode, read_log, write_log};
 use std::time::Instant;
 
-// Links to words.
-const MODE: Mode = Mode {
-    link: LinkUnit::Word,
-};
-
 /// The result of writing and reading.
 #[derive(Clone, Copy)]
 pub(crate) struct Measured {
@@ -26,7 +21,10 @@ pub(crate) struct Measured {
 // The text of a log, and the nanoseconds of its writing.
 fn write_text(rt: &HostRuntime, log: &[Entry]) -> Option<(String, u128)> {
     let start = Instant::now(rt).ok()?;
-    let text = write_log(rt.alloc(), MODE, log).ok()?;
+    let mode = Mode {
+        link: LinkUnit::Word,
+    };
+    let text = write_log(rt.alloc(), mode, log).ok()?;
     let took = start.elapsed(rt).ok()?;
     Some((text, took.as_nanos()))
 }
@@ -34,9 +32,9 @@ fn write_text(rt: &HostRuntime, log: &[Entry]) -> Option<(String, u128)> {
 // How many entries a text has, and the nanoseconds of its reading.
 fn read_text(rt: &HostRuntime, text: &str) -> Option<(usize, u128)> {
     let start = Instant::now(rt).ok()?;
-    let read = read_log(rt.alloc(), text).ok()?;
+    let entries = read_log(rt.alloc(), text).ok()?.entries;
     let took = start.elapsed(rt).ok()?;
-    Some((read.entries.len(), took.as_nanos()))
+    Some((entries.len(), took.as_nanos()))
 }
 
 /// Writes the log of a run of `steps` Steps as text, and reads it back.

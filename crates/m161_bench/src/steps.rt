@@ -1,7 +1,7 @@
 //! Runs of the machine.
 
-use m161::{Conf, Machine};
-use m161_isa::{LinkUnit, Reg};
+use m161::{Conf, LinkUnit, Machine};
+use m161_isa::Reg;
 use std::alloc::Global;
 
 /// A machine that made `steps` Steps of a file, the first one by itself, with a log of this size.

@@ -1,6 +1,6 @@
 //! The same Steps, bare and audited.
 
-use m161::{Conf, Console, Event, Events, Machine, Tlb};
+use m161::{Conf, Console, Event, Events, LinkUnit, Machine, Tlb};
 use m161_audit::{Finding, Watch, audit_events};
 use m161_isa::LinkUnit;
 use std::alloc::Global;

@@ -1,6 +1,6 @@
 //! The same events, chosen by policies and by hand.
 
-use m161::{Conf, Console, Machine, Tlb};
+use m161::{Conf, Console, LinkUnit, Machine, Tlb};
 use m161_drive::{Order, Policy, drive};
 use m161_isa::LinkUnit;
 use m161_judge::{Booted, Watch, judge_booted};

@@ -1,8 +1,7 @@
 //! The loop on several processors: a thread for each, and the same Steps in one thread.
 
 use crate::image::START;
-use m161::{Conf, Machine};
-use m161_isa::LinkUnit;
+use m161::{Conf, LinkUnit, Machine};
 use m161_threads::{Gate, run_bursts};
 use std::alloc::Global;
 use std::sync::Wait;

@@ -6,7 +6,7 @@
 //! ```
 #![tactic(auto)]
 
-use m161::{BootError, Conf, Event, Machine, Refusal};
+use m161::{BootError, Conf, Event, LinkUnit, Machine, Refusal};
 use std::alloc::AllocError;
 use std::process::ExitCode;
 use std::{env, fs, io};
@@ -38,6 +38,7 @@ fn boot(rt: &HostRuntime) -> Result<Machine, Failure> {
         ram: 1_048_576,
         processors: 1,
         log: 100,
+        link: LinkUnit::Word,
     };
     Ok(Machine::boot(rt.alloc(), &file, conf)?)
 }

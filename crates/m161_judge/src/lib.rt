@@ -30,6 +30,6 @@ pub use laws::{cut_keeps_verdict, one_verdict, stuck_is_no_choice};
 pub use list::judge;
 pub use m161_audit::{AuditError, Watch};
 pub use m161_drive::Policy;
-pub use m161_machine::{BootError, Conf, Event};
+pub use m161_machine::{BootError, Conf, Event, LinkUnit};
 pub use run::{Run, judge_booted, judge_run};
 pub use verdict::{Judged, Verdict};

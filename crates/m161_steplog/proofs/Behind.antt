@@ -7,20 +7,21 @@ use Rattle.m161_text.proofs.Decimal.{decimal_lacks}
 use Rattle.m161_text.proofs.Feeds.{lines_cut}
 use Rattle.m161_text.proofs.Hex.{hex_lacks}
 use Rattle.m161_steplog.specs.Text.{entry_text}
+use Rattle.m161_steplog.specs.declared.mode.Mode.{Mode}
 use Rattle.m161_steplog.specs.Log.{IsLog}
 use Rattle.m161_steplog.specs.Comments.{IsLogFile}
 use Rattle.m161_steplog.specs.declared.machine.MachineLine.{MachineLine}
 use Rattle.m161_steplog.specs.Machine.{digest_text, machine_text, first_line, IsMachineLine}
-use Rattle.m161_steplog.proofs.LogLines.{lacks_nil, lacks_cons, lacks_append}
+use Rattle.m161_steplog.proofs.LogLines.{lacks_nil, lacks_cons, lacks_append, header_first}
 use Rattle.m161_steplog.proofs.Logs.{log_again}
 use Rattle.m161_steplog.proofs.Machines.{first_cut}
 use Rattle.m161_steplog.proofs.Passing.{IsPlain, Passed, passed_more, plain_line}
 
-plain_log : (text : List ℕ) (es : List Entry) → IsLog text es → IsPlain text
-plain_log text es log = plain_line text (codes "m161 log 1") (map entry_text es) (log_again text es log.0 log.1) refl
+plain_log : (text : List ℕ) (mode : Mode) (es : List Entry) → IsLog text mode es → IsPlain text
+plain_log text mode es log = plain_line text log.1.0 (map entry_text es) (log_again text mode es log.0 log.1) (header_first mode log.1.0 log.1.1)
 
-pub log_file : (text : List ℕ) (es : List Entry) → IsLog text es → IsLogFile text es
-log_file text es log = subst (λ t. IsLog t es) (sym (plain_log text es log).1) log
+pub log_file : (text : List ℕ) (mode : Mode) (es : List Entry) → IsLog text mode es → IsLogFile text mode es
+log_file text mode es log = subst (λ t. IsLog t mode es) (sym (plain_log text mode es log).1) log
 
 digest_lacks : (d : List ℕ) → Lacks 10 (digest_text d)
 digest_lacks [] = lacks_nil 10
@@ -40,10 +41,10 @@ cut m text = append_assoc (machine_text m) (10 ∷ []) text
 pub machine_first : (m : MachineLine) (text : List ℕ) → IsMachineLine m → first_line (with_line_end (machine_text m) ++ text) ≡ machine_text m
 machine_first m text fits = ap first_line (cut m text) ∙ first_cut (machine_text m) text (machine_lacks m fits)
 
-pub log_behind : (m : MachineLine) (text : List ℕ) (es : List Entry) → IsMachineLine m → IsLog text es → IsLogFile (with_line_end (machine_text m) ++ text) es
-log_behind m text es fits log =
+pub log_behind : (m : MachineLine) (text : List ℕ) (mode : Mode) (es : List Entry) → IsMachineLine m → IsLog text mode es → IsLogFile (with_line_end (machine_text m) ++ text) mode es
+log_behind m text mode es fits log =
     let whole = with_line_end (machine_text m) ++ text in
     let lacks = machine_lacks m fits in
     let start : Passed whole whole 0 = record { count = omega arith; behind = refl } in
     let passed = passed_more whole whole (machine_text m) text 0 start (ap lines_of (cut m text) ∙ lines_cut (machine_text m) text lacks) (lacks, inl (cut m text)) refl in
-    subst (λ t. IsLog t es) (sym (passed.behind ∙ (plain_log text es log).1)) log
+    subst (λ t. IsLog t mode es) (sym (passed.behind ∙ (plain_log text mode es log).1)) log

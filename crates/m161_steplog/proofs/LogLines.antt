@@ -1,7 +1,9 @@
 -- A line of a log.
-use Rattle.std.proofs.Common.{◌≡◌, ◌≢◌, ℕ, zero, suc, ◌<◌, List, [], ◌∷◌, ◌++◌, length, get_or, refl, sym, ap, ◌∙◌, ap₂, arith, length-append, Option, Some, None, codes, decimal, rules}
+use Rattle.std.proofs.Common.{◌≡◌, ◌≢◌, inl, inr, false, ℕ, zero, suc, ◌<◌, List, [], ◌∷◌, ◌++◌, length, get_or, refl, sym, ap, ◌∙◌, ap₂, arith, length-append, Option, Some, None, codes, decimal, rules}
 use Rattle.std.proofs.lemmas.Option.{none-some, some_pair_parts}
 use Rattle.std.proofs.lemmas.List.{append_cancel_left}
+use Rattle.m161_isa.specs.declared.link.LinkUnit.{LinkUnit}
+use Rattle.m161_isa.specs.declared.link.LinkUnit.TheVariants as units
 use Rattle.m161_machine.specs.declared.event.Event.{Event}
 use Rattle.m161_machine.specs.declared.event.Event.TheVariants as events
 use Rattle.m161_cpu.specs.declared.processor.Outcome.{Outcome}
@@ -10,6 +12,9 @@ use Rattle.m161_machine.specs.declared.event.Entry.{Entry}
 use Rattle.m161_text.specs.Parts.{◌␣◌, hex_text, Reads, Lacks, IsWord, IsByte}
 use Rattle.m161_text.specs.helpers.Parts.{ReadsBoth}
 use Rattle.m161_steplog.specs.Text.{event_text, code_text, outcome_text, entry_text, IsEvent, IsStepOutcome, IsProper, IsOutcomeOf}
+use Rattle.m161_steplog.specs.declared.mode.Mode.{Mode}
+use Rattle.m161_steplog.specs.Log.{unit_text, mode_text, IsHeader}
+use Rattle.m161_steplog.specs.Comments.{is_comment}
 use Rattle.m161_steplog.specs.helpers.Text.{IsCode}
 use Rattle.m161_cop0.specs.declared.exception.Exception.{Exception}
 use Rattle.m161_cop0.specs.Registers.{number_of_exception}
@@ -111,8 +116,42 @@ pub lacks_append : (c : ℕ) (a b : List ℕ) → Lacks c a → Lacks c b → La
 lacks_append c [] b first second = second
 lacks_append c (x ∷ a) b first second = lacks_cons c x (a ++ b) (first 0 (omega arith)) (lacks_append c a b (rest_lacks c x a first) second)
 
-pub header_lacks_feed : Lacks 10 (codes "m161 log 1")
-header_lacks_feed = search (rules, lacks_cons, lacks_nil)
+unit_lacks_feed : (unit : LinkUnit) → Lacks 10 (unit_text unit)
+unit_lacks_feed units.Word = search (rules, lacks_cons, lacks_nil)
+unit_lacks_feed units.Line = search (rules, lacks_cons, lacks_nil)
+
+pub header_lacks_feed : (mode : Mode) (header : List ℕ) → IsHeader mode header → Lacks 10 header
+header_lacks_feed mode header (inl is) = rw is (lacks_append 10 (codes "m161 log 2 ") (mode_text mode) (search (rules, lacks_cons, lacks_nil)) (unit_lacks_feed mode.link))
+header_lacks_feed mode header (inr is) = rw is.0 (search (rules, lacks_cons, lacks_nil))
+
+-- no other mode has a first line
+unit_same : (u v : LinkUnit) → unit_text u ≡ unit_text v → u ≡ v
+unit_same units.Word units.Word same = refl
+unit_same units.Word units.Line same = absurd (omega (arith, ap (λ ds. get_or ds 0 0) same))
+unit_same units.Line units.Word same = absurd (omega (arith, ap (λ ds. get_or ds 0 0) same))
+unit_same units.Line units.Line same = refl
+
+mode_of : LinkUnit → Mode
+mode_of unit = record { link = unit }
+
+mode_by_unit : (m n : Mode) → m.link ≡ n.link → m ≡ n
+unfolding mode_of
+mode_by_unit m n same = ap mode_of same
+
+pub mode_same : (m n : Mode) (header : List ℕ) → IsHeader m header → IsHeader n header → m ≡ n
+mode_same m n header (inl a) (inl b) = mode_by_unit m n (unit_same m.link n.link (append_cancel_left (codes "m161 log 2 ") (mode_text m) (mode_text n) (sym a ∙ b)))
+mode_same m n header (inl a) (inr b) = absurd (omega (arith, ap (λ ds. get_or ds 9 0) (sym a ∙ b.0)))
+mode_same m n header (inr a) (inl b) = absurd (omega (arith, ap (λ ds. get_or ds 9 0) (sym b ∙ a.0)))
+mode_same m n header (inr a) (inr b) = mode_by_unit m n (a.1 ∙ sym b.1)
+
+-- a first line isn't empty, and no comment
+pub header_some : (mode : Mode) (header : List ℕ) → IsHeader mode header → 0 < length header
+header_some mode header (inl is) = omega (arith, ap length is, length-append (codes "m161 log 2 ") (mode_text mode))
+header_some mode header (inr is) = omega (arith, ap length is.0)
+
+pub header_first : (mode : Mode) (header : List ℕ) → IsHeader mode header → is_comment header ≡ false
+header_first mode header (inl is) = ap is_comment is
+header_first mode header (inr is) = ap is_comment is.0
 
 pub entry_some : (e : Entry) → 0 < length (entry_text e)
 entry_some e = simp length-append (omega arith)

@@ -1,5 +1,5 @@
 -- A log's text and its lines.
-use Rattle.std.proofs.Common.{◌≡◌, ℕ, zero, suc, ◌<◌, ◌≤◌, List, [], ◌∷◌, ◌++◌, None, Some, Err, IsErrOf, Vec, Global, length, take, drop, map, refl, sym, ap, ap₂, subst, ◌+◌, ◌^◌, ◌∙◌, arith, inl, inr, codes, length-append, append_assoc, flat_map}
+use Rattle.std.proofs.Common.{◌≡◌, ◌⊎◌, ℕ, zero, suc, ◌<◌, ◌≤◌, List, [], ◌∷◌, ◌++◌, None, Some, Err, IsErrOf, length, take, drop, map, get_or, refl, sym, ap, ap₂, subst, ◌+◌, ◌^◌, ◌∙◌, arith, inl, inr, length-append, append_assoc, append-nil, flat_map}
 use Rattle.std.proofs.lemmas.List.{take-append-le, take-map, length-map, map_push}
 use Rattle.std.proofs.lemmas.Option.{none-some, same_Some}
 use Rattle.std.specs.List.{AllByRecursion}
@@ -9,23 +9,25 @@ use Rattle.m161_steplog.specs.declared.fault.Fault.TheVariants as faults
 use Rattle.m161_text.specs.Parts.{Reads, Lacks}
 use Rattle.m161_steplog.specs.Text.{entry_text, IsProper}
 use Rattle.m161_text.specs.Lines.{lines_of, text_of, FirstBad}
-use Rattle.m161_steplog.specs.Log.{log_text, log_lines, IsLogText, IsLog, AreLogLines}
+use Rattle.m161_steplog.specs.declared.log.LogText.{LogText}
+use Rattle.m161_steplog.specs.declared.mode.Mode.{Mode}
+use Rattle.m161_steplog.specs.Log.{headed_text, header_text, log_text, log_lines, IsHeader, IsLogText, IsLog, AreLogLines}
 use Rattle.m161_steplog.specs.Comments.{comment_count, behind_comments, IsLogFile, IsFirstBadOfLog}
-use Rattle.m161_steplog.specs.helpers.Log.{IsDistinct, fault_behind}
+use Rattle.m161_steplog.specs.helpers.Log.{IsDistinct, ReadsHeader, ReadsLines, fault_behind}
 use Rattle.m161_steplog.proofs.Passing.{bad_within}
 use Rattle.m161_text.proofs.Feeds.{IsSome, lines_of-ended, ended-lines_of, unended}
-use Rattle.m161_steplog.proofs.LogLines.{entry_some, entry_lacks_feed, header_lacks_feed}
+use Rattle.m161_steplog.proofs.LogLines.{entry_some, entry_lacks_feed, header_lacks_feed, header_some, mode_same}
 
 flat_map-map : {A B C : Type 0} (f : B → List C) (g : A → B) (xs : List A) → flat_map f (map g xs) ≡ flat_map (λ x. f (g x)) xs
 flat_map-map f g [] = refl
 flat_map-map f g (x ∷ xs) = ap (λ ys. f (g x) ++ ys) (flat_map-map f g xs)
 
-ended-log_lines : (es : List Entry) → text_of (log_lines es) ≡ log_text es
-ended-log_lines es = ap (λ xs. codes "m161 log 1\n" ++ xs) (flat_map-map (λ line. line ++ 10 ∷ []) entry_text es)
+ended-log_lines : (header : List ℕ) (es : List Entry) → text_of (log_lines header es) ≡ headed_text header es
+ended-log_lines header es = ap (λ xs. (header ++ 10 ∷ []) ++ xs) (flat_map-map (λ line. line ++ 10 ∷ []) entry_text es)
 
 -- the lines of a log make its text
-pub is_log : (text : List ℕ) (es : List Entry) → lines_of text ≡ log_lines es → IsLogText text es
-is_log text es lines = let whole = ended-lines_of text in rw (lines, ended-log_lines es) at whole
+is_log : (text : List ℕ) (mode : Mode) (header : List ℕ) (es : List Entry) → IsHeader mode header → lines_of text ≡ log_lines header es → IsLogText text mode es
+is_log text mode header es first lines = let whole = ended-lines_of text in (header, first, rw (lines, ended-log_lines header es) at whole)
 
 each_lacks : (es : List Entry) → AllByRecursion IsProper es → AllByRecursion (Lacks 10) (map entry_text es)
 each_lacks [] proper = tt
@@ -35,27 +37,34 @@ each_some : (es : List Entry) → AllByRecursion IsSome (map entry_text es)
 each_some [] = tt
 each_some (e ∷ es) = (entry_some e, each_some es)
 
-lines_of-log_text : (es : List Entry) → AllByRecursion IsProper es → lines_of (log_text es) ≡ log_lines es
-lines_of-log_text es proper = ap lines_of (sym (ended-log_lines es)) ∙ lines_of-ended (log_lines es) (header_lacks_feed, each_lacks es proper)
+lines_of-headed : (header : List ℕ) (es : List Entry) → Lacks 10 header → AllByRecursion IsProper es → lines_of (headed_text header es) ≡ log_lines header es
+lines_of-headed header es lacks proper = ap lines_of (sym (ended-log_lines header es)) ∙ lines_of-ended (log_lines header es) (lacks, each_lacks es proper)
+
+headed_again : (text header : List ℕ) (es : List Entry) → Lacks 10 header → 0 < length header → AllByRecursion IsProper es → (text ≡ headed_text header es) ⊎ (text ++ 10 ∷ [] ≡ headed_text header es) → lines_of text ≡ log_lines header es
+headed_again text header es lacks some proper (inl e) = ap lines_of e ∙ lines_of-headed header es lacks proper
+headed_again text header es lacks some proper (inr e) =
+    let whole : lines_of (text ++ 10 ∷ []) ≡ log_lines header es = ap lines_of e ∙ lines_of-headed header es lacks proper in
+    let long : 0 < length text = omega (arith, some, ap length e, length-append text (10 ∷ []), length-append (header ++ 10 ∷ []) (flat_map (λ (x : Entry). entry_text x ++ 10 ∷ []) es), length-append header (10 ∷ [])) in
+    sym (unended text long (rw whole (each_some es))) ∙ whole
 
 -- the text of a log has its lines
-pub log_again : (text : List ℕ) (es : List Entry) → AllByRecursion IsProper es → IsLogText text es → lines_of text ≡ log_lines es
-log_again text es proper (inl e) = ap lines_of e ∙ lines_of-log_text es proper
-log_again text es proper (inr e) =
-    let whole : lines_of (text ++ 10 ∷ []) ≡ log_lines es = ap lines_of e ∙ lines_of-log_text es proper in
-    let long : 0 < length text = omega (arith, ap length e, length-append text (10 ∷ []), length-append (codes "m161 log 1\n") (flat_map (λ (x : Entry). entry_text x ++ codes "\n") es)) in
-    sym (unended text long (rw whole (each_some es))) ∙ whole
+pub log_again : (text : List ℕ) (mode : Mode) (es : List Entry) → AllByRecursion IsProper es → (log : IsLogText text mode es) → lines_of text ≡ log_lines log.0 es
+log_again text mode es proper log = headed_again text log.0 es (header_lacks_feed mode log.0 log.1) (header_some mode log.0 log.1) proper log.2
+
+-- an entry that was read is distinct
+distinct_by : (line : List ℕ) (e : Entry) → Reads IsProper entry_text line (Some e) → IsDistinct e
+distinct_by line e one = record { proper = one.found.0; alone = λ x proper same. same_Some e x (one.only x proper (one.found.1 ∙ same)) }
 
 all_take : (j : ℕ) (es : List Entry) → AllByRecursion IsProper es → AllByRecursion IsProper (take j es)
 all_take zero es proper = tt
 all_take (suc j) [] proper = tt
 all_take (suc j) (e ∷ es) proper = (proper.0, all_take j es proper.1)
 
-pub all_proper : (es : List Entry) → AllByRecursion IsDistinct es → AllByRecursion IsProper es
+all_proper : (es : List Entry) → AllByRecursion IsDistinct es → AllByRecursion IsProper es
 all_proper [] distinct = tt
 all_proper (e ∷ es) distinct = (distinct.0.proper, all_proper es distinct.1)
 
-pub all_push : (es : List Entry) (e : Entry) → AllByRecursion IsDistinct es → IsDistinct e → AllByRecursion IsDistinct (es ++ e ∷ [])
+all_push : (es : List Entry) (e : Entry) → AllByRecursion IsDistinct es → IsDistinct e → AllByRecursion IsDistinct (es ++ e ∷ [])
 all_push [] e distinct one = (one, tt)
 all_push (x ∷ es) e distinct one = (distinct.0, all_push es e distinct.1 one)
 
@@ -69,17 +78,37 @@ distinct_same (x ∷ es) (f ∷ fs) distinct proper e =
     let rest : map entry_text es ≡ map entry_text fs = cc in
     ap₂ (λ (y : Entry) (ys : List Entry). y ∷ ys) (distinct.0.alone f proper.0 head) (distinct_same es fs distinct.1 proper.1 rest)
 
-pub log_same : (text : List ℕ) (es fs : List Entry) → AllByRecursion IsDistinct es → lines_of text ≡ log_lines es → AllByRecursion IsProper fs → IsLogText text fs → es ≡ fs
-log_same text es fs distinct lines proper log =
-    let same : log_lines es ≡ log_lines fs = sym lines ∙ log_again text fs proper log in
+-- all lines were read
+all_lines : (text : List ℕ) (mode : Mode) (es : List Entry) → (read : ReadsLines text mode es []) → lines_of text ≡ log_lines read.header es
+all_lines text mode es read = read.lines ∙ append-nil (log_lines read.header es)
+
+-- a text has one mode and one list of entries
+log_same : (text : List ℕ) (m n : Mode) (es fs : List Entry) → ReadsLines text m es [] → IsLog text n fs → (m ≡ n) × (es ≡ fs)
+log_same text m n es fs read log =
+    let same : log_lines read.header es ≡ log_lines log.1.0 fs = sym (all_lines text m es read) ∙ log_again text n fs log.0 log.1 in
+    let header : read.header ≡ log.1.0 = ap (λ ls. get_or ls 0 []) same in
     let rest : map entry_text es ≡ map entry_text fs = ap (drop 1) same in
-    distinct_same es fs distinct proper rest
+    (mode_same m n read.header read.first (subst (IsHeader n) (sym header) log.1.1), distinct_same es fs read.each log.0 rest)
 
 -- a log has no bad line
-pub log_no_bad : (text : List ℕ) (es : List Entry) (n : ℕ) → AllByRecursion IsProper es → IsLogText text es → FirstBad AreLogLines text n → ⊥
-log_no_bad text es zero proper log fault = absurd (omega (arith, fault.one))
-log_no_bad text es (suc j) proper log fault =
-    fault.bad (take j es, all_take j es proper, ap (take (suc j)) (log_again text es proper log) ∙ ap (λ ls. codes "m161 log 1" ∷ ls) (take-map entry_text j es))
+log_no_bad : (text : List ℕ) (mode : Mode) (es : List Entry) (n : ℕ) → IsLog text mode es → FirstBad AreLogLines text n → ⊥
+log_no_bad text mode es zero log fault = absurd (omega (arith, fault.one))
+log_no_bad text mode es (suc j) log fault =
+    fault.bad (mode, log.1.0, take j es, log.1.1, all_take j es log.0, ap (take (suc j)) (log_again text mode es log.0 log.1) ∙ ap (λ ls. log.1.0 ∷ ls) (take-map entry_text j es))
+
+-- the text of a log, as it is written
+pub written_log : (mode : Mode) (es : List Entry) → AllByRecursion IsProper es → IsLog (log_text mode es) mode es
+written_log mode es proper = (proper, (header_text mode, inl refl, inl refl))
+
+-- a first line that no mode has
+pub bad_header : (text header : List ℕ) (more : List (List ℕ)) → lines_of text ≡ header ∷ more → ReadsHeader header None → FirstBad AreLogLines text 1
+bad_header text header more lines none = record {
+  one = omega arith;
+  bad = λ log.
+      let same : header ∷ [] ≡ log_lines log.1 log.2 = sym (ap (take 1) lines) ∙ log.5 in
+      none-some log.0 (none.only log.0 (subst (IsHeader log.0) (sym (ap (λ ls. get_or ls 0 []) same)) log.3));
+  before = λ k some few. absurd (omega arith);
+}
 
 last_is : (line : List ℕ) (es fs : List Entry) → AllByRecursion IsProper fs → map entry_text es ++ line ∷ [] ≡ map entry_text fs → (x : Entry) × IsProper x × (line ≡ entry_text x)
 last_is line [] [] proper e = absurd (omega (arith, ap length e))
@@ -87,13 +116,33 @@ last_is line [] (f ∷ fs) proper e = (f, proper.0, (cc))
 last_is line (x ∷ es) [] proper e = absurd (omega (arith, ap length e))
 last_is line (x ∷ es) (f ∷ fs) proper e = last_is line es fs proper.1 (cc)
 
+-- the first line, whatever its mode
+pub after_header : (text header : List ℕ) (more : List (List ℕ)) (mode : Mode) (es : List Entry) → es ≡ [] → lines_of text ≡ header ∷ more → ReadsHeader header (Some mode) → ReadsLines text mode es more
+after_header text header more mode es none lines one = record { header = header; first = one.found; each = rw none tt; lines = rw none lines }
+
+-- the lines that are left, said in another way
+pub lines_left : (text : List ℕ) (mode : Mode) (es : List Entry) (left lines : List (List ℕ)) → left ≡ lines → ReadsLines text mode es left → ReadsLines text mode es lines
+lines_left text mode es left lines same read = subst (ReadsLines text mode es) same read
+
+-- one entry more
+pub one_more : (text line : List ℕ) (more : List (List ℕ)) (mode : Mode) (es fs : List Entry) (e : Entry) → fs ≡ es ++ e ∷ [] → ReadsLines text mode es (line ∷ more) → Reads IsProper entry_text line (Some e) → ReadsLines text mode fs more
+one_more text line more mode es fs e push read one =
+    let front : map entry_text es ++ line ∷ more ≡ (map entry_text es ++ line ∷ []) ++ more = sym (append_assoc (map entry_text es) (line ∷ []) more) in
+    let pushed : map entry_text es ++ line ∷ [] ≡ map entry_text fs = rw (one.found.1, push) (sym (map_push entry_text es e)) in
+    record {
+      header = read.header;
+      first = read.first;
+      each = rw push (all_push es e read.each (distinct_by line e one));
+      lines = read.lines ∙ ap (λ ls. read.header ∷ ls) (front ∙ ap (λ ls. ls ++ more) pushed);
+    }
+
 -- the first bad line after the first
-pub bad_entry : (text line : List ℕ) (more : List (List ℕ)) (es : List Entry) → lines_of text ≡ log_lines es ++ line ∷ more → AllByRecursion IsDistinct es → Reads IsProper entry_text line None → FirstBad AreLogLines text (suc (suc (length es)))
-bad_entry text line more es lines distinct none = record {
+bad_entry : (text line : List ℕ) (more : List (List ℕ)) (mode : Mode) (es : List Entry) → ReadsLines text mode es (line ∷ more) → Reads IsProper entry_text line None → FirstBad AreLogLines text (suc (suc (length es)))
+bad_entry text line more mode es read none = record {
   one = omega arith;
   bad = λ log.
-      let same : map entry_text es ++ line ∷ [] ≡ map entry_text log.0 = sym (upto es) ∙ ap (drop 1) (sym (ap (take (suc (suc (length es)))) lines) ∙ log.2) in
-      let last = last_is line es log.0 log.1 same in
+      let same : map entry_text es ++ line ∷ [] ≡ map entry_text log.2 = sym (upto es) ∙ ap (drop 1) (sym (ap (take (suc (suc (length es)))) read.lines) ∙ log.5) in
+      let last = last_is line es log.2 log.4 same in
       none-some last.0 (none.only last.0 last.1 last.2);
   before = before;
 }
@@ -107,51 +156,39 @@ bad_entry text line more es lines distinct none = record {
     before (suc j) some few =
         let long : j ≤ length (map entry_text es) = omega (arith, length-map es entry_text) in
         let front : take j (map entry_text es ++ line ∷ more) ≡ map entry_text (take j es) = take-append-le j (map entry_text es) (line ∷ more) long ∙ take-map entry_text j es in
-        (take j es, all_take j es (all_proper es distinct), ap (take (suc j)) lines ∙ ap (λ ls. codes "m161 log 1" ∷ ls) front)
+        (mode, read.header, take j es, read.first, all_take j es (all_proper es read.each), ap (take (suc j)) read.lines ∙ ap (λ ls. read.header ∷ ls) front)
 
-pub bad_entry_at : (text line : List ℕ) (more : List (List ℕ)) (es : List Entry) (n : ℕ) → n ≡ suc (suc (length es)) → lines_of text ≡ log_lines es ++ line ∷ more → AllByRecursion IsDistinct es → Reads IsProper entry_text line None → FirstBad AreLogLines text n
-bad_entry_at text line more es n e lines distinct none = rw e (bad_entry text line more es lines distinct none)
-
--- one entry more
-pub goes_on : (line : List ℕ) (more : List (List ℕ)) (es fs : List Entry) (e : Entry) → fs ≡ es ++ e ∷ [] → line ≡ entry_text e → log_lines es ++ line ∷ more ≡ log_lines fs ++ more
-goes_on line more es fs e push is =
-    let one : map entry_text es ++ line ∷ more ≡ (map entry_text es ++ line ∷ []) ++ more = sym (append_assoc (map entry_text es) (line ∷ []) more) in
-    let pushed : map entry_text es ++ line ∷ [] ≡ map entry_text fs = rw (is, push) (sym (map_push entry_text es e)) in
-    ap (λ ls. codes "m161 log 1" ∷ ls) (one ∙ ap (λ ls. ls ++ more) pushed)
-
--- an entry that was read is distinct
-pub distinct_by : (line : List ℕ) (e : Entry) → Reads IsProper entry_text line (Some e) → IsDistinct e
-distinct_by line e one = record { proper = one.found.0; alone = λ x proper same. same_Some e x (one.only x proper (one.found.1 ∙ same)) }
+pub bad_entry_at : (text line : List ℕ) (more : List (List ℕ)) (mode : Mode) (es : List Entry) (n : ℕ) → n ≡ suc (suc (length es)) → ReadsLines text mode es (line ∷ more) → Reads IsProper entry_text line None → FirstBad AreLogLines text n
+bad_entry_at text line more mode es n e read none = rw e (bad_entry text line more mode es read none)
 
 -- the log behind comments
-pub file_found : (text rest : List ℕ) (es : List Entry) → rest ≡ behind_comments text → AllByRecursion IsDistinct es × (lines_of rest ≡ log_lines es) → IsLogFile text es
-file_found text rest es is found = subst (λ t. IsLog t es) is (all_proper es found.0, is_log rest es found.1)
+pub file_found : (text rest : List ℕ) (mode : Mode) (es : List Entry) → rest ≡ behind_comments text → ReadsLines rest mode es [] → IsLogFile text mode es
+file_found text rest mode es is read = subst (λ t. IsLog t mode es) is (all_proper es read.each, is_log rest mode read.header es read.first (all_lines rest mode es read))
 
-pub file_only : (text rest : List ℕ) (es fs : List Entry) → rest ≡ behind_comments text → AllByRecursion IsDistinct es × (lines_of rest ≡ log_lines es) → IsLogFile text fs → es ≡ fs
-file_only text rest es fs is found log =
-    let own : IsLog rest fs = subst (λ t. IsLog t fs) (sym is) log in
-    log_same rest es fs found.0 found.1 own.0 own.1
+pub file_only : (text rest : List ℕ) (m n : Mode) (es fs : List Entry) → rest ≡ behind_comments text → ReadsLines rest m es [] → IsLogFile text n fs → (m ≡ n) × (es ≡ fs)
+file_only text rest m n es fs is read log = log_same rest m n es fs read (subst (λ t. IsLog t n fs) (sym is) log)
 
-pub file_bad : (text rest : List ℕ) (count n m : ℕ) → rest ≡ behind_comments text → count ≡ comment_count text → FirstBad AreLogLines rest n → m ≡ count + n → IsFirstBadOfLog text m
+file_bad : (text rest : List ℕ) (count n m : ℕ) → rest ≡ behind_comments text → count ≡ comment_count text → FirstBad AreLogLines rest n → m ≡ count + n → IsFirstBadOfLog text m
 file_bad text rest count n m is number bad sum = (n, sum ∙ ap (λ c. c + n) number, subst (λ t. FirstBad AreLogLines t n) is bad)
 
-pub file_no_bad : (text rest : List ℕ) (fs : List Entry) (n : ℕ) → rest ≡ behind_comments text → FirstBad AreLogLines rest n → IsLogFile text fs → ⊥
-file_no_bad text rest fs n is bad log =
-    let own : IsLog rest fs = subst (λ t. IsLog t fs) (sym is) log in
-    log_no_bad rest fs n own.0 own.1 bad
+file_no_bad : (text rest : List ℕ) (mode : Mode) (fs : List Entry) (n : ℕ) → rest ≡ behind_comments text → FirstBad AreLogLines rest n → IsLogFile text mode fs → ⊥
+file_no_bad text rest mode fs n is bad log = log_no_bad rest mode fs n (subst (λ t. IsLog t mode fs) (sym is) log) bad
 
 -- a fault behind lines
-pub fault_fits : (rest : List ℕ) (count total : ℕ) (f : Fault) → ((n : ℕ) → IsErrOf {T = Vec Entry Global} {E = Fault} (Err f) (faults.Line n) → FirstBad AreLogLines rest n) → count + length rest ≤ total → total < 2 ^ 63 → (n : ℕ) → f ≡ faults.Line n → count + n < 2 ^ 64
+abbrev Faults : List ℕ → Fault → Type 0
+Faults rest f = (n : ℕ) → IsErrOf {T = LogText} {E = Fault} (Err f) (faults.Line n) → FirstBad AreLogLines rest n
+
+pub fault_fits : (rest : List ℕ) (count total : ℕ) (f : Fault) → Faults rest f → count + length rest ≤ total → total < 2 ^ 63 → (n : ℕ) → f ≡ faults.Line n → count + n < 2 ^ 64
 fault_fits rest count total f line room small n is = omega (arith, bad_within AreLogLines rest n (line n (ap (λ x. Err x) is)))
 
-pub file_line : (text rest : List ℕ) (count : ℕ) (f : Fault) → rest ≡ behind_comments text → count ≡ comment_count text → ((n : ℕ) → IsErrOf {T = Vec Entry Global} {E = Fault} (Err f) (faults.Line n) → FirstBad AreLogLines rest n)
-    → (n : ℕ) → IsErrOf {T = Vec Entry Global} {E = Fault} (Err (fault_behind count f)) (faults.Line n) → IsFirstBadOfLog text n
+pub file_line : (text rest : List ℕ) (count : ℕ) (f : Fault) → rest ≡ behind_comments text → count ≡ comment_count text → Faults rest f
+    → (n : ℕ) → IsErrOf {T = LogText} {E = Fault} (Err (fault_behind count f)) (faults.Line n) → IsFirstBadOfLog text n
 file_line text rest count faults.NoMemory is number line n fault = absurd (cc)
 file_line text rest count (faults.Line k) is number line n fault =
     let sum : n ≡ count + k = cc in
     file_bad text rest count k n is number (line k refl) sum
 
-pub file_err : (text rest : List ℕ) (count : ℕ) (f : Fault) → rest ≡ behind_comments text → ((n : ℕ) → IsErrOf {T = Vec Entry Global} {E = Fault} (Err f) (faults.Line n) → FirstBad AreLogLines rest n)
-    → (es : List Entry) → IsLogFile text es → fault_behind count f ≡ faults.NoMemory
-file_err text rest count faults.NoMemory is line es log = refl
-file_err text rest count (faults.Line k) is line es log = absurd (file_no_bad text rest es k is (line k refl) log)
+pub file_err : (text rest : List ℕ) (count : ℕ) (f : Fault) → rest ≡ behind_comments text → Faults rest f
+    → (mode : Mode) (es : List Entry) → IsLogFile text mode es → fault_behind count f ≡ faults.NoMemory
+file_err text rest count faults.NoMemory is line mode es log = refl
+file_err text rest count (faults.Line k) is line mode es log = absurd (file_no_bad text rest mode es k is (line k refl) log)

@@ -1,6 +1,7 @@
 use Rattle.std.specs.Prelude.{◌≡◌, ℕ, zero, suc, ◌+◌, ◌==◌, if◌then◌else◌, Bool, false, List, [], ◌∷◌}
 use Rattle.m161_machine.specs.declared.event.Entry.{Entry}
 use Rattle.m161_text.specs.Lines.{lines_of, FirstBad}
+use Rattle.m161_steplog.specs.declared.mode.Mode.{Mode}
 use Rattle.m161_steplog.specs.Log.{IsLog, AreLogLines}
 
 -- A log's text may begin with comments: lines that begin with `#`.
@@ -32,9 +33,9 @@ after_lines (suc n) text = after_lines n (after_line text)
 unfoldable pub behind_comments : List ℕ → List ℕ
 behind_comments text = after_lines (comment_count text) text
 
--- comments, and behind them the text of a log with these entries
-abbrev pub IsLogFile : List ℕ → List Entry → Type 0
-IsLogFile text es = IsLog (behind_comments text) es
+-- comments, and behind them the text of a log of this mode with these entries
+abbrev pub IsLogFile : List ℕ → Mode → List Entry → Type 0
+IsLogFile text mode es = IsLog (behind_comments text) mode es
 
 -- line n of the whole text, from 1, is the first bad one
 abbrev pub IsFirstBadOfLog : List ℕ → ℕ → Type 0

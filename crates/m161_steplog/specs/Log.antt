@@ -1,34 +1,67 @@
-use Rattle.std.specs.Prelude.{◌≡◌, ◌⊎◌, ℕ, List, [], ◌∷◌, ◌++◌, map, flat_map, codes, decimal}
+use Rattle.std.specs.Prelude.{◌≡◌, ◌⊎◌, ℕ, List, [], ◌∷◌, ◌++◌, map, flat_map, codes, decimal, Result, MatchResult}
 use Rattle.std.specs.List.{AllByRecursion}
+use Rattle.m161_isa.specs.declared.link.LinkUnit.{LinkUnit}
+use Rattle.m161_isa.specs.declared.link.LinkUnit.TheVariants as units
 use Rattle.m161_machine.specs.declared.event.Entry.{Entry}
-use Rattle.m161_steplog.specs.Text.{entry_text, IsProper}
 use Rattle.m161_text.specs.Parts.{◌␣◌}
+use Rattle.m161_steplog.specs.declared.fault.Fault.{Fault}
+use Rattle.m161_steplog.specs.declared.fault.Fault.TheVariants as faults
+use Rattle.m161_steplog.specs.declared.log.LogText.{LogText}
+use Rattle.m161_steplog.specs.declared.mode.Mode.{Mode}
+use Rattle.m161_steplog.specs.Text.{entry_text, IsProper}
 
 -- The text of a log.
+
+abbrev pub unit_text : LinkUnit → List ℕ
+unit_text units.Word = codes "word"
+unit_text units.Line = codes "line"
+
+abbrev pub mode_text : Mode → List ℕ
+mode_text mode = unit_text mode.link
 
 -- a line for each entry
 abbrev pub entry_lines : List Entry → List ℕ
 entry_lines es = flat_map (λ e. entry_text e ++ codes "\n") es
 
 -- a first line, then a line for each entry
-abbrev pub log_text : List Entry → List ℕ
-log_text es = codes "m161 log 1\n" ++ entry_lines es
+abbrev pub headed_text : List ℕ → List Entry → List ℕ
+headed_text header es = header ++ codes "\n" ++ entry_lines es
+
+-- the first line of a log of this mode
+abbrev pub header_text : Mode → List ℕ
+header_text mode = codes "m161 log 2" ␣ mode_text mode
+
+abbrev pub log_text : Mode → List Entry → List ℕ
+log_text mode es = headed_text (header_text mode) es
 
 -- the text of the end of a log, of which so many entries before these were dropped
-abbrev pub tail_text : ℕ → List Entry → List ℕ
-tail_text dropped es = codes "m161 tail 1" ␣ decimal dropped ++ codes "\n" ++ entry_lines es
+abbrev pub tail_text : Mode → ℕ → List Entry → List ℕ
+tail_text mode dropped es =
+    headed_text (codes "m161 tail 2" ␣ mode_text mode ␣ decimal dropped) es
+
+-- the first line of a log of this mode, in format 2, or in format 1, where links are words
+abbrev pub IsHeader : Mode → List ℕ → Type 0
+IsHeader mode header =
+    (header ≡ header_text mode) ⊎ ((header ≡ codes "m161 log 1") × (mode.link ≡ units.Word))
 
 -- the text, or the text without its last line end
-abbrev pub IsLogText : List ℕ → List Entry → Type 0
-IsLogText text es = (text ≡ log_text es) ⊎ (text ++ 10 ∷ [] ≡ log_text es)
+abbrev pub IsLogText : List ℕ → Mode → List Entry → Type 0
+IsLogText text mode es = (header : List ℕ) × IsHeader mode header
+    × ((text ≡ headed_text header es) ⊎ (text ++ 10 ∷ [] ≡ headed_text header es))
 
--- this is the text of a log with these entries
-abbrev pub IsLog : List ℕ → List Entry → Type 0
-IsLog text es = AllByRecursion IsProper es × IsLogText text es
+-- this is the text of a log of this mode with these entries
+abbrev pub IsLog : List ℕ → Mode → List Entry → Type 0
+IsLog text mode es = AllByRecursion IsProper es × IsLogText text mode es
 
 -- the lines of a log, without their ends
-abbrev pub log_lines : List Entry → List (List ℕ)
-log_lines es = codes "m161 log 1" ∷ map entry_text es
+abbrev pub log_lines : List ℕ → List Entry → List (List ℕ)
+log_lines header es = header ∷ map entry_text es
 
 abbrev pub AreLogLines : List (List ℕ) → Type 0
-AreLogLines lines = (es : List Entry) × AllByRecursion IsProper es × (lines ≡ log_lines es)
+AreLogLines lines = (mode : Mode) × (header : List ℕ) × (es : List Entry)
+    × IsHeader mode header × AllByRecursion IsProper es × (lines ≡ log_lines header es)
+
+-- a log was read, with this mode and these entries; or memory was refused
+abbrev pub IsReadLog : Mode → List Entry → Result LogText Fault → Type 0
+IsReadLog mode es result = MatchResult result
+    (λ log. (log.mode ≡ mode) × (log.entries.items ≡ es)) (λ f. f ≡ faults.NoMemory)

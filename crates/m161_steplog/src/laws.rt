@@ -5,10 +5,11 @@ ghost use Rattle.std.specs.List.{AllByRecursion};
 ghost use Rattle.m161_machine.specs.declared.event.Event.{Event};
 ghost use Rattle.m161_machine.specs.declared.event.Entry.{Entry};
 ghost use Rattle.m161_text.specs.Lines.{lines_of, with_line_end};
-ghost use Rattle.m161_steplog.specs.Text.{IsEvent};
+ghost use Rattle.m161_steplog.specs.declared.mode.Mode.{Mode};
+ghost use Rattle.m161_steplog.specs.Text.{IsEvent, IsProper};
 ghost use Rattle.m161_steplog.specs.Schedule.{IsSchedule};
 ghost use Rattle.m161_steplog.specs.Written.{schedule_text};
-ghost use Rattle.m161_steplog.specs.Log.{IsLog};
+ghost use Rattle.m161_steplog.specs.Log.{log_text, IsLog};
 ghost use Rattle.m161_steplog.specs.Comments.{IsLogFile};
 ghost use Rattle.m161_steplog.specs.declared.machine.MachineLine.{MachineLine};
 ghost use Rattle.m161_steplog.specs.Machine.{machine_text, first_line, IsMachineLine};
@@ -20,9 +21,18 @@ pub fn written_schedule_is_read()
         → IsSchedule (lines_of (schedule_text es)) es }
 {}
 
+/// The law of written logs: the text of entries whose numbers fit their types, and whose outcomes
+/// are those of their events, is the text of a log with this mode and these entries, and so
+/// `read_log` gives them back.
+pub fn written_log_is_read()
+    ensures { (mode : Mode) (es : List Entry) → AllByRecursion IsProper es
+        → IsLogFile (log_text mode es) mode es }
+{}
+
 /// The law of a log's text without comments: `read_log` reads it.
 pub fn log_without_comments()
-    ensures { (text : List ℕ) (es : List Entry) → IsLog text es → IsLogFile text es }
+    ensures { (text : List ℕ) (mode : Mode) (es : List Entry) → IsLog text mode es
+        → IsLogFile text mode es }
 {}
 
 /// The law of a text behind a machine line: `read_machine` reads that line, and `read_log` the text,
@@ -30,6 +40,6 @@ pub fn log_without_comments()
 pub fn log_behind_machine_line()
     ensures machine { (m : MachineLine) (text : List ℕ) → IsMachineLine m
         → first_line (with_line_end (machine_text m) ++ text) ≡ machine_text m }
-    ensures log { (m : MachineLine) (text : List ℕ) (es : List Entry) → IsMachineLine m → IsLog text es
-        → IsLogFile (with_line_end (machine_text m) ++ text) es }
+    ensures log { (m : MachineLine) (text : List ℕ) (mode : Mode) (es : List Entry) → IsMachineLine m
+        → IsLog text mode es → IsLogFile (with_line_end (machine_text m) ++ text) mode es }
 {}

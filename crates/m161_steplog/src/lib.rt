@@ -10,13 +10,18 @@
 //!
 //! log       # machine RAM CPUS DIGEST    the machine line, a comment; there may be none
 //!           #...                         any comments
-//!           m161 log 1                   then a line for each entry:
+//!           m161 log 2 word              the unit of a link; or: m161 log 2 line; then a
+//!                                        line for each entry:
 //!           s P ran                      an instruction was executed
 //!           s P trap CODE VECTOR         a trap was entered
 //!           s P idle                     no instruction was executed
 //!           s P off                      the instruction switched the machine off
 //!           k HH taken    o taken        an input was accepted
 //! ```
+//!
+//! A tail, the end of a log, begins with `m161 tail 2 word N` or `m161 tail 2 line N` instead, where
+//! N is how many entries were dropped before it. The first line of a log of format 1 is
+//! `m161 log 1`, and its links are words; such a log is read, but no longer written.
 //!
 //! A schedule is written with neighbouring Steps of one processor in one line: `s P` for one Step,
 //! else `s P N`; where there are more than 1,000,000, full lines come first, and then the rest.
@@ -36,16 +41,21 @@ mod laws;
 mod line;
 mod log;
 mod machine;
+mod mode;
 mod schedule;
 mod shown;
 mod verdict;
 mod written;
 
 pub use fault::Fault;
-pub use laws::{log_behind_machine_line, log_without_comments, written_schedule_is_read};
-pub use log::{entry_line, read_log, write_log, write_tail};
+pub use laws::{
+    log_behind_machine_line, log_without_comments, written_log_is_read, written_schedule_is_read,
+};
+pub use log::{LogText, entry_line, read_log, write_log, write_tail};
+pub use m161_isa::LinkUnit;
 pub use m161_machine::{BootError, Conf, Entry, Event, Events, Exception, Outcome};
 pub use machine::{MachineLine, machine_line, read_machine};
+pub use mode::Mode;
 pub use schedule::read_schedule;
 pub use verdict::{Verdict, verify};
 pub use written::write_schedule;

@@ -1,23 +1,32 @@
 //! The text of a log.
 
-ghost use Rattle.std.specs.Prelude.{◌≡◌, ◌++◌, ◌+◌, ◌<◌, ◌^◌, ℕ, List, IfOk, OnOk, IsErrOf, string_bytes};
-ghost use Rattle.std.specs.List.{AllByRecursion};
+ghost use Rattle.std.specs.Prelude.{◌≡◌, ◌++◌, ◌+◌, ◌<◌, ◌^◌, ℕ, List, [], IfOk, OnOk, IsErrOf, string_bytes};
 ghost use Rattle.m161_machine.specs.declared.event.Entry.{Entry};
 ghost use Rattle.m161_steplog.specs.declared.fault.Fault.TheVariants as faults;
 ghost use Rattle.m161_steplog.specs.Text.{entry_text};
-ghost use Rattle.m161_text.specs.Lines.{lines_of, FirstBad};
-ghost use Rattle.m161_steplog.specs.Read.{IsRead};
-ghost use Rattle.m161_steplog.specs.Log.{entry_lines, log_text, log_lines, tail_text, AreLogLines};
+ghost use Rattle.m161_text.specs.Lines.{FirstBad};
+ghost use Rattle.m161_steplog.specs.declared.mode.Mode.{Mode};
+ghost use Rattle.m161_steplog.specs.Log.{entry_lines, log_text, tail_text, AreLogLines, IsReadLog};
 ghost use Rattle.m161_steplog.specs.Comments.{IsLogFile, IsFirstBadOfLog};
-ghost use Rattle.m161_steplog.specs.helpers.Log.{IsDistinct, fault_behind};
+ghost use Rattle.m161_steplog.specs.helpers.Log.{ReadsLines, fault_behind};
 
 use crate::comments::pass_comments;
 use crate::fault::Fault;
 use crate::line::parse_entry;
-use crate::shown::ShownEntry;
+use crate::mode::{Mode, parse_header};
+use crate::shown::{ShownEntry, ShownMode};
 use m161_machine::Entry;
 use m161_text::next_line;
 use std::alloc::{AllocError, Global};
+
+/// What the text of a log says.
+#[derive(Drop, Debug)]
+pub struct LogText {
+    /// The mode of its first line.
+    pub mode: Mode,
+    /// The entries, in order.
+    pub entries: Vec<Entry>,
+}
 
 /// An entry's line, without its end.
 ///
@@ -29,14 +38,15 @@ pub fn entry_line(alloc: Global, entry: &Entry) -> Result<String, AllocError>
     format!(in alloc; "{}", ShownEntry(*entry))
 }
 
-/// The text of a log. Every list of entries has a text, also a list that no machine makes.
+/// The text of a log, in format 2. Every list of entries has a text, also a list that no machine
+/// makes.
 ///
 /// # Errors
 /// Memory was refused.
-pub fn write_log(alloc: Global, entries: &[Entry]) -> Result<String, AllocError>
-    ensures { IfOk result (λ text. string_bytes text ≡ log_text entries.now) }
+pub fn write_log(alloc: Global, mode: Mode, entries: &[Entry]) -> Result<String, AllocError>
+    ensures { IfOk result (λ text. string_bytes text ≡ log_text mode entries.now) }
 {
-    let mut text = String::from_str(alloc, "m161 log 1\n")?;
+    let mut text = format!(in alloc; "m161 log 2 {}\n", ShownMode(mode))?;
     push_entries(alloc, &mut text, entries)?;
     Ok(text)
 }
@@ -46,10 +56,15 @@ pub fn write_log(alloc: Global, entries: &[Entry]) -> Result<String, AllocError>
 ///
 /// # Errors
 /// Memory was refused.
-pub fn write_tail(alloc: Global, dropped: u64, entries: &[Entry]) -> Result<String, AllocError>
-    ensures { IfOk result (λ text. string_bytes text ≡ tail_text dropped entries.now) }
+pub fn write_tail(
+    alloc: Global,
+    mode: Mode,
+    dropped: u64,
+    entries: &[Entry],
+) -> Result<String, AllocError>
+    ensures { IfOk result (λ text. string_bytes text ≡ tail_text mode dropped entries.now) }
 {
-    let mut text = format!(in alloc; "m161 tail 1 {dropped}\n")?;
+    let mut text = format!(in alloc; "m161 tail 2 {} {dropped}\n", ShownMode(mode))?;
     push_entries(alloc, &mut text, entries)?;
     Ok(text)
 }
@@ -67,18 +82,17 @@ fn push_entries(alloc: Global, text: &mut String, entries: &[Entry]) -> Result<(
     Ok(())
 }
 
-// The entries of a log's text, line by line.
-fn parse_entries(alloc: Global, text: &str) -> Result<Vec<Entry>, Fault>
-    ensures found { IfOk result (λ v.
-        AllByRecursion IsDistinct v.items × (lines_of text.now ≡ log_lines v.items)) }
+// The mode and the entries of a log's text, line by line.
+fn parse_log(alloc: Global, text: &str) -> Result<LogText, Fault>
+    ensures found { IfOk result (λ log. ReadsLines text.now log.mode log.entries.items []) }
     ensures line { (n : ℕ) → IsErrOf result (faults.Line n) → FirstBad AreLogLines text.now n }
 {
     let Some((header, after)) = next_line(text) else {
         return Err(Fault::Line(1));
     };
-    if header != "m161 log 1" {
+    let Some(mode) = parse_header(header) else {
         return Err(Fault::Line(1));
-    }
+    };
     let mut entries = Vec::new(alloc);
     let mut number = 1u64;
     let mut rest = after;
@@ -90,7 +104,7 @@ fn parse_entries(alloc: Global, text: &str) -> Result<Vec<Entry>, Fault>
         entries.push(entry)?;
         rest = more;
     }
-    Ok(entries)
+    Ok(LogText { mode, entries })
 }
 
 // A fault of a text behind so many lines, as one of the whole text.
@@ -104,20 +118,22 @@ fn fault_behind(fault: Fault, lines: u64) -> Fault
     }
 }
 
-/// The entries of a log's text, which may begin with comments: lines that begin with `#`.
+/// The mode and the entries of a log's text, of format 2 or 1, which may begin with comments: lines
+/// that begin with `#`.
 ///
 /// # Errors
 /// The first bad line, counted from the beginning of the whole text; or memory was refused.
-pub fn read_log(alloc: Global, text: &str) -> Result<Vec<Entry>, Fault>
+pub fn read_log(alloc: Global, text: &str) -> Result<LogText, Fault>
     // Behind its comments the text is the log of the result.
-    ensures found { IfOk result (λ entries. IsLogFile text.now entries.items) }
+    ensures found { IfOk result (λ log. IsLogFile text.now log.mode log.entries.items) }
     // If the text is a log behind comments, it is read, unless memory is refused.
-    ensures only { (es : List Entry) → IsLogFile text.now es → IsRead es result }
+    ensures only { (mode : Mode) (es : List Entry) → IsLogFile text.now mode es
+        → IsReadLog mode es result }
     ensures line { (n : ℕ) → IsErrOf result (faults.Line n) → IsFirstBadOfLog text.now n }
 {
     let (log, comments) = pass_comments(text);
-    match parse_entries(alloc, log) {
-        Ok(entries) => Ok(entries),
+    match parse_log(alloc, log) {
+        Ok(read) => Ok(read),
         Err(fault) => Err(fault_behind(fault, comments)),
     }
 }

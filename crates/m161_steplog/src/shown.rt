@@ -1,11 +1,29 @@
-//! Events, outcomes and entries as the lines of a log show them.
+//! Modes, events, outcomes and entries as the lines of a log show them.
 
 ghost use Rattle.std.specs.Prelude.{Some};
 ghost use Rattle.m161_steplog.specs.Text.{event_text, outcome_text, entry_text};
+ghost use Rattle.m161_steplog.specs.Log.{mode_text};
 
+use crate::mode::Mode;
+use m161_isa::LinkUnit;
 use m161_machine::{Entry, Event, Outcome};
 use m161_text::{Byte, Word};
 use std::fmt;
+
+/// A mode as the first line shows it.
+#[derive(Drop)]
+pub struct ShownMode(pub Mode);
+
+impl fmt::Display for ShownMode {
+    ghost output = { λ m. Some (mode_text m.0) };
+
+    fn fmt<W: fmt::Write>(&self, f: &mut fmt::Formatter<W>) -> fmt::Result {
+        match self.0.link {
+            LinkUnit::Word => write!(f, "word"),
+            LinkUnit::Line => write!(f, "line"),
+        }
+    }
+}
 
 /// An event as text.
 #[derive(Drop)]

@@ -6,11 +6,12 @@ pub mod files;
 pub mod kernel;
 pub mod outcomes;
 
-use m161_machine::Conf;
+use m161_machine::{Conf, LinkUnit};
 
 /// The size of the machine that the built-in image runs on.
 pub const DEMO_CONF: Conf = Conf {
     ram: 1_048_576,
     processors: 1,
     log: 7,
+    link: LinkUnit::Word,
 };

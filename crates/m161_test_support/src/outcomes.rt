@@ -1,6 +1,6 @@
 //! What events answer, by names.
 
-use m161_machine::{Conf, Event, Exception, Outcome, Refusal};
+use m161_machine::{Conf, Event, Exception, LinkUnit, Outcome, Refusal};
 
 /// Where programs begin.
 pub const ENTRY: u32 = 0x8000_0200;
@@ -10,6 +10,7 @@ pub const SMALLEST: Conf = Conf {
     ram: 4096,
     processors: 1,
     log: 100,
+    link: LinkUnit::Word,
 };
 
 /// What a Step answers.

@@ -1,8 +1,8 @@
 //! Tests of the machine and of the crates over it, with words and registers from outside. A file is
 //! named for the crate that it tests; `instructions` and `programs` run words on a machine. A worked
 //! row goes into `programs`, or with other events into `traps`, `cop0`, `tlb`, `fetches`, `bus` or
-//! `processors`, in the form that `listing` says. `sample` runs a whole small kernel of two
-//! processors.
+//! `processors`, in the form that `listing` says; one of links to lines into `links`. `sample` runs
+//! a whole small kernel of two processors.
 
 mod audit;
 mod bus;
@@ -11,6 +11,7 @@ mod dis;
 mod elf;
 mod fetches;
 mod instructions;
+mod links;
 mod listing;
 mod machine;
 mod processors;

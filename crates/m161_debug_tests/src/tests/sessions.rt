@@ -4,7 +4,7 @@ use super::same;
 use m161::{Console, Machine, Tlb};
 use m161_debug::CommandError;
 use m161_machine::Event::{Done, Key, Step};
-use m161_machine::{Conf, Event};
+use m161_machine::{Conf, Event, LinkUnit};
 use m161_test_support::files::file_from;
 use m161_test_support::kernel::{SCHEDULE, kernel_file};
 use m161_test_support::outcomes::ENTRY;
@@ -86,6 +86,7 @@ fn session_of(
         ram,
         processors,
         log,
+        link: LinkUnit::Word,
     };
     Ok(Session::new(Machine::boot(alloc, file, conf)?))
 }

@@ -3,7 +3,7 @@
 use super::same;
 use m161::Machine;
 use m161_drive::{Driven, Event, Order, OrderError, Policy, Stop, drive};
-use m161_machine::Conf;
+use m161_machine::{Conf, LinkUnit};
 use m161_test_support::files::file_from;
 use m161_test_support::outcomes::ENTRY;
 use std::alloc::AllocGlobal;
@@ -62,6 +62,7 @@ pub(crate) fn booted(rt: &impl AllocGlobal, kernel: &Kernel) -> Result<Machine, 
         ram: 4096,
         processors: kernel.processors,
         log: 5000,
+        link: LinkUnit::Word,
     };
     Ok(Machine::boot(rt.alloc(), &file, conf)?)
 }

@@ -4,7 +4,7 @@ use super::machines::{Kernel, TWO, WAIT, booted, check_end, event_of, policy};
 use super::same;
 use m161::Machine;
 use m161_drive::{Order, Stop, drive, drive_core, is_asleep};
-use m161_machine::Conf;
+use m161_machine::{Conf, LinkUnit};
 use m161_test_support::kernel::kernel_file;
 use m161_test_support::outcomes::IDLE;
 use std::alloc::AllocGlobal;
@@ -179,6 +179,7 @@ fn check_again(rt: &(impl Abort + AllocGlobal), order: Order) -> Result<(), Fail
         ram: 1_048_576,
         processors: 2,
         log: 100_000,
+        link: LinkUnit::Word,
     };
     let mut driven = Machine::boot(rt.alloc(), &file, conf)?;
     let run = drive(&mut driven, &policy(order)?, 100_000);

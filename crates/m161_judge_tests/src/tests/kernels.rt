@@ -1,6 +1,6 @@
 //! Kernels of a few words.
 
-use m161_judge::Conf;
+use m161_judge::{Conf, LinkUnit};
 use m161_test_support::files::file_from;
 use m161_test_support::outcomes::ENTRY;
 use std::alloc::{AllocError, Global};
@@ -50,6 +50,7 @@ pub(crate) const ONE: Conf = Conf {
     ram: 4096,
     processors: 1,
     log: 1000,
+    link: LinkUnit::Word,
 };
 
 /// The file of a kernel.

@@ -3,7 +3,9 @@
 use super::kernels::{HELLO, LETTER, LOOP, ONE, WAIT, file_with};
 use super::same;
 use m161::{Console, Tlb};
-use m161_judge::{AuditError, BootError, Conf, Event, Goal, Judged, Verdict, Watch, judge};
+use m161_judge::{
+    AuditError, BootError, Conf, Event, Goal, Judged, LinkUnit, Verdict, Watch, judge,
+};
 use m161_steplog::read_schedule;
 use m161_test_support::kernel::kernel_with;
 use std::alloc::{AllocGlobal, Global};
@@ -131,6 +133,7 @@ fn hasty(alloc: Global, schedule: &str, watches: &[Watch]) -> Result<Option<Judg
         ram: 1_048_576,
         processors: 2,
         log: 1000,
+        link: LinkUnit::Word,
     };
     let events = read_schedule(alloc, schedule)?.to_vec(alloc)?;
     let goal = Goal {

@@ -4,7 +4,7 @@ use super::kernels::{HELLO, LETTER, LOOP, ONE, WAIT, file_with};
 use super::same;
 use m161::{Console, Tlb};
 use m161_drive::Order;
-use m161_judge::{Conf, Judged, Policy, Run, Verdict, Watch, judge_run};
+use m161_judge::{Conf, Judged, LinkUnit, Policy, Run, Verdict, Watch, judge_run};
 use m161_test_support::kernel::kernel_with;
 use std::alloc::{AllocGlobal, Global};
 use std::process::Abort;
@@ -101,6 +101,7 @@ fn sample(alloc: Global, changes: &[(u32, u32)], order: Order) -> Result<Run, Fa
         ram: 1_048_576,
         processors: 2,
         log: 10_000,
+        link: LinkUnit::Word,
     };
     let policy = Policy::new(order, 100, Some(1000), &[])?;
     Ok(judge_run::<Tlb, Console>(alloc, &file, conf, &policy, 10_000, &[WATCH], None)?)

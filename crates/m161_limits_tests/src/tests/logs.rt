@@ -5,12 +5,15 @@ use m161_steplog::{Fault, read_log};
 use std::alloc::Global;
 use std::test::Fail;
 
-/// A log of two Steps: lines end at bytes 11, 19 and 27.
+/// A log of two Steps, of format 1: lines end at bytes 11, 19 and 27.
 const LOG: &str = "m161 log 1\ns 0 ran\ns 0 off\n";
+
+/// The same of format 2: its first line has five bytes more.
+const LOG_2: &str = "m161 log 2 word\ns 0 ran\ns 0 off\n";
 
 /// How many entries a text has, or its first bad line.
 fn entries(alloc: Global, text: &str) -> Result<usize, Fault> {
-    Ok(read_log(alloc, text)?.len())
+    Ok(read_log(alloc, text)?.entries.len())
 }
 
 #[test]
@@ -26,6 +29,8 @@ fn truncated_log(rt: HostRuntime) {
         };
         let found = entries(rt.alloc(), LOG.get(..length).unwrap_or(""));
         same(&rt, (length, found), (length, expected));
+        let found = entries(rt.alloc(), LOG_2.get(..length + 5).unwrap_or(""));
+        same(&rt, (length, found), (length, expected));
     }
 }
 
@@ -38,9 +43,11 @@ fn lines_of_no_log(rt: HostRuntime) -> Result<(), Fail> {
         "k 4A taken",
         "s 0 ran\r",
     ] {
-        let text = format!(in rt.alloc(); "m161 log 1\n{line}\n")?;
-        let found = entries(rt.alloc(), text.as_str());
-        same(&rt, (line, found), (line, Err(Fault::Line(2))));
+        for first in ["m161 log 1", "m161 log 2 word", "m161 log 2 line"] {
+            let text = format!(in rt.alloc(); "{first}\n{line}\n")?;
+            let found = entries(rt.alloc(), text.as_str());
+            same(&rt, (line, found), (line, Err(Fault::Line(2))));
+        }
     }
     Ok(())
 }

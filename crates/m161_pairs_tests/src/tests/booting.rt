@@ -3,7 +3,9 @@
 use super::same;
 use m161_bus::Console;
 use m161_console::{PlainConsole, RingConsole};
-use m161_machine::{BootError, Conf, Entry, Event, LoadError, Machine, Outcome, Refusal, Tlb};
+use m161_machine::{
+    BootError, Conf, Entry, Event, LinkUnit, LoadError, Machine, Outcome, Refusal, Tlb,
+};
 use m161_steplog::{Verdict, verify};
 use m161_test_support::DEMO_CONF;
 use m161_test_support::files::{PROGRAM, file_at, file_of};
@@ -63,6 +65,7 @@ static SIZES: [(Conf, bool); 7] = [
             ram: 4096,
             processors: 1,
             log: 1,
+            link: LinkUnit::Word,
         },
         true,
     ),
@@ -71,6 +74,7 @@ static SIZES: [(Conf, bool); 7] = [
             ram: 4097,
             processors: 1,
             log: 1,
+            link: LinkUnit::Word,
         },
         false,
     ),
@@ -79,6 +83,7 @@ static SIZES: [(Conf, bool); 7] = [
             ram: 0,
             processors: 1,
             log: 1,
+            link: LinkUnit::Word,
         },
         false,
     ),
@@ -87,6 +92,7 @@ static SIZES: [(Conf, bool); 7] = [
             ram: 16_777_217,
             processors: 1,
             log: 1,
+            link: LinkUnit::Word,
         },
         false,
     ),
@@ -95,6 +101,7 @@ static SIZES: [(Conf, bool); 7] = [
             ram: 4096,
             processors: 32,
             log: 1,
+            link: LinkUnit::Word,
         },
         true,
     ),
@@ -103,6 +110,7 @@ static SIZES: [(Conf, bool); 7] = [
             ram: 4096,
             processors: 33,
             log: 1,
+            link: LinkUnit::Word,
         },
         false,
     ),
@@ -111,6 +119,7 @@ static SIZES: [(Conf, bool); 7] = [
             ram: 4096,
             processors: 1,
             log: 0,
+            link: LinkUnit::Word,
         },
         false,
     ),
@@ -154,6 +163,7 @@ fn off_over<T: Tlb, D: Console>(rt: &(impl Abort + AllocGlobal)) -> Result<(), F
         ram: 4096,
         processors: 2,
         log: 1,
+        link: LinkUnit::Word,
     };
     let mut machine: Machine<T, D> = Machine::boot(rt.alloc(), &file, conf)?;
     for (event, answer) in &EVENTS {

@@ -6,7 +6,7 @@ use m161_console::{PlainConsole, RingConsole};
 use m161_debug::{Session, Stop};
 use m161_isa::Reg;
 use m161_machine::Event::Step;
-use m161_machine::{Conf, Event, Machine, Tlb};
+use m161_machine::{Conf, Event, LinkUnit, Machine, Tlb};
 use m161_test_support::files::file_at;
 use m161_test_support::outcomes::ENTRY;
 use m161_tlb_index::Index;
@@ -35,6 +35,7 @@ fn breakpoints_over<T: Tlb, D: Console>(rt: &(impl Abort + AllocGlobal)) -> Resu
         ram: 4096,
         processors: 2,
         log: 16,
+        link: LinkUnit::Word,
     };
     let machine: Machine<T, D> = Machine::boot(rt.alloc(), &file, conf)?;
     let mut session = Session::new(machine);

@@ -6,7 +6,7 @@ use super::same;
 use m161_bus::Console;
 use m161_console::{PlainConsole, RingConsole};
 use m161_machine::Event::{Done, Key, Step};
-use m161_machine::{Conf, Event, Machine, Refusal, Tlb};
+use m161_machine::{Conf, Event, LinkUnit, Machine, Refusal, Tlb};
 use m161_steplog::{Verdict, verify};
 use m161_test_support::files::file_at;
 use m161_test_support::outcomes::{Answer, ENTRY, IDLE, RAN, TAKEN};
@@ -41,6 +41,7 @@ fn boot<T: Tlb, D: Console>(alloc: Global) -> Result<(Vec<u8>, Machine<T, D>), F
         ram: 4096,
         processors: 2,
         log: 200,
+        link: LinkUnit::Word,
     };
     let machine = Machine::boot(alloc, &file, conf)?;
     Ok((file, machine))

@@ -5,7 +5,7 @@ use m161_bus::{Board, Console};
 use m161_console::PlainConsole;
 use m161_cop0::Exception;
 use m161_cpu::{Cpu, Links, Outcome, ProcessorState};
-use m161_isa::Reg;
+use m161_isa::{LinkUnit, Reg};
 use m161_ram::Ram;
 use m161_tlb_scan::Scan;
 use std::alloc::AllocError;
@@ -49,7 +49,7 @@ fn one_processor(rt: HostRuntime) -> Result<(), AllocError> {
     ram.set_word(0x208, 0x8fa8_0001);
     let console = PlainConsole::fresh(rt.alloc())?;
     let mut board = Board::new(console, 4096, 1);
-    let mut links = Links::new();
+    let mut links = Links::new(LinkUnit::Word);
     let mut expected = [0; 32];
 
     let mut cpu = Cpu::new();

@@ -1,13 +1,31 @@
-use Rattle.std.specs.Prelude.{◌≡◌, ℕ, ◌+◌}
+use Rattle.std.specs.Prelude.{◌≡◌, ℕ, ◌+◌, List, ◌++◌, Option, Some, IfSome}
+use Rattle.std.specs.List.{AllByRecursion}
 use Rattle.m161_machine.specs.declared.event.Entry.{Entry}
+use Rattle.m161_text.specs.Lines.{lines_of}
 use Rattle.m161_steplog.specs.declared.fault.Fault.{Fault}
 use Rattle.m161_steplog.specs.declared.fault.Fault.TheVariants as faults
+use Rattle.m161_steplog.specs.declared.mode.Mode.{Mode}
 use Rattle.m161_steplog.specs.Text.{entry_text, IsProper}
+use Rattle.m161_steplog.specs.Log.{log_lines, IsHeader}
 
 -- How the code sees an entry: no other entry has its line.
 pub record IsDistinct (e : Entry) : Type 0 where
   pub proper : IsProper e
   pub alone : (x : Entry) → IsProper x → entry_text e ≡ entry_text x → e ≡ x
+
+-- a first line is read: the result is its mode, or it has none
+pub record ReadsHeader (line : List ℕ) (result : Option Mode) : Type 0 where
+  pub found : IfSome result (λ mode. IsHeader mode line)
+  pub only : (mode : Mode) → IsHeader mode line → result ≡ Some mode
+
+-- a text was read line by line: a first line of this mode, lines that no other entries have, and
+-- the lines that are left
+pub record ReadsLines (text : List ℕ) (mode : Mode) (es : List Entry) (left : List (List ℕ))
+    : Type 0 where
+  pub header : List ℕ
+  pub first : IsHeader mode header
+  pub each : AllByRecursion IsDistinct es
+  pub lines : lines_of text ≡ log_lines header es ++ left
 
 -- a fault of a text behind so many lines, as one of the whole text
 abbrev pub fault_behind : ℕ → Fault → Fault

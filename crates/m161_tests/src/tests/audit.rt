@@ -4,7 +4,8 @@ use super::same;
 use m161::{Console, Tlb};
 use m161_asm::assemble;
 use m161_audit::{
-    AuditError, BootError, Conf, Event, Fault, Finding, Watch, audit, audit_events, read_watches,
+    AuditError, BootError, Conf, Event, Fault, Finding, LinkUnit, Watch, audit, audit_events,
+    read_watches,
 };
 use m161_elf_writer::write;
 use m161_steplog::read_schedule;
@@ -17,6 +18,7 @@ const CONF: Conf = Conf {
     ram: 1_048_576,
     processors: 2,
     log: 65_536,
+    link: LinkUnit::Word,
 };
 
 /// The kernel's watch.
@@ -52,7 +54,8 @@ const fn stale(place: usize) -> Finding {
     }
 }
 
-// Checks the finding of a run, over a list of events and over a schedule's.
+// Checks the finding of a run, over a list of events and over a schedule's, with links to words and
+// with links to lines.
 fn check(
     rt: &impl Abort,
     alloc: Global,
@@ -63,11 +66,14 @@ fn check(
 ) -> Result<(), Fail> {
     let file = kernel_with(alloc, changes)?;
     let events = read_schedule(alloc, schedule)?;
-    let found = audit_events::<Tlb, Console>(alloc, &file, CONF, &events, watches);
-    same(rt, found, expected);
     let list = events.to_vec(alloc)?;
-    let found = audit::<Tlb, Console>(alloc, &file, CONF, list.as_slice(), watches);
-    same(rt, found, expected);
+    for link in [LinkUnit::Word, LinkUnit::Line] {
+        let conf = Conf { link, ..CONF };
+        let found = audit_events::<Tlb, Console>(alloc, &file, conf, &events, watches);
+        same(rt, (link, found), (link, expected));
+        let found = audit::<Tlb, Console>(alloc, &file, conf, list.as_slice(), watches);
+        same(rt, (link, found), (link, expected));
+    }
     Ok(())
 }
 

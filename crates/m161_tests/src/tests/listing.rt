@@ -19,7 +19,8 @@ use m161_console::{PlainConsole, RingConsole};
 use m161_cop0::REGISTERS;
 use m161_isa::Reg;
 use m161_machine::{
-    Conf, Event, Exception, Machine, Outcome, ProcessorState, Refusal, Register as CopRegister,
+    Conf, Event, Exception, LinkUnit, Machine, Outcome, ProcessorState, Refusal,
+    Register as CopRegister,
 };
 use m161_steplog::{Verdict, verify};
 use m161_test_support::files::{file_at, file_from};
@@ -128,24 +129,34 @@ fn check_over<T: Tlb, D: Console>(
 
 /// The same of rows with events.
 pub(crate) fn check_runs(rt: &(impl Abort + AllocGlobal), runs: &[Run]) -> Result<(), Fail> {
-    check_runs_over::<Scan, PlainConsole>(rt, runs)?;
-    check_runs_over::<Scan, RingConsole>(rt, runs)?;
-    check_runs_over::<Index, PlainConsole>(rt, runs)?;
-    check_runs_over::<Index, RingConsole>(rt, runs)
-}
-
-fn check_runs_over<T: Tlb, D: Console>(
-    rt: &(impl Abort + AllocGlobal),
-    runs: &[Run],
-) -> Result<(), Fail> {
     for run in runs {
-        let words = words_of(rt.alloc(), run.program)?;
-        let file = file_from(rt.alloc(), run.entry, run.base, &words)?;
-        let mut machine: Machine<T, D> = boot_run(rt.alloc(), run, &file)?;
-        make_stages(rt, run.name, &mut machine, run.stages)?;
-        check_log(rt, run.name, &file, &machine)?;
+        check_run(rt, LinkUnit::Word, run)?;
     }
     Ok(())
+}
+
+/// The same of one row, with links to words or to lines.
+pub(crate) fn check_run(
+    rt: &(impl Abort + AllocGlobal),
+    link: LinkUnit,
+    run: &Run,
+) -> Result<(), Fail> {
+    check_run_over::<Scan, PlainConsole>(rt, link, run)?;
+    check_run_over::<Scan, RingConsole>(rt, link, run)?;
+    check_run_over::<Index, PlainConsole>(rt, link, run)?;
+    check_run_over::<Index, RingConsole>(rt, link, run)
+}
+
+fn check_run_over<T: Tlb, D: Console>(
+    rt: &(impl Abort + AllocGlobal),
+    link: LinkUnit,
+    run: &Run,
+) -> Result<(), Fail> {
+    let words = words_of(rt.alloc(), run.program)?;
+    let file = file_from(rt.alloc(), run.entry, run.base, &words)?;
+    let mut machine: Machine<T, D> = boot_run(rt.alloc(), link, run, &file)?;
+    make_stages(rt, run.name, &mut machine, run.stages)?;
+    check_log(rt, run.name, &file, &machine)
 }
 
 /// The same of a row with other words at places of its program, and with an end of its own.
@@ -157,14 +168,28 @@ pub(crate) fn check_with(
     events: &[Times],
     left: &[(u32, Left)],
 ) -> Result<(), Fail> {
-    check_with_over::<Scan, PlainConsole>(rt, run, others, text, events, left)?;
-    check_with_over::<Scan, RingConsole>(rt, run, others, text, events, left)?;
-    check_with_over::<Index, PlainConsole>(rt, run, others, text, events, left)?;
-    check_with_over::<Index, RingConsole>(rt, run, others, text, events, left)
+    check_linked(rt, LinkUnit::Word, run, others, text, events, left)
 }
 
-fn check_with_over<T: Tlb, D: Console>(
+/// The same with links to words or to lines.
+pub(crate) fn check_linked(
     rt: &(impl Abort + AllocGlobal),
+    link: LinkUnit,
+    run: &Run,
+    others: &[(usize, u32)],
+    text: &str,
+    events: &[Times],
+    left: &[(u32, Left)],
+) -> Result<(), Fail> {
+    check_linked_over::<Scan, PlainConsole>(rt, link, run, others, text, events, left)?;
+    check_linked_over::<Scan, RingConsole>(rt, link, run, others, text, events, left)?;
+    check_linked_over::<Index, PlainConsole>(rt, link, run, others, text, events, left)?;
+    check_linked_over::<Index, RingConsole>(rt, link, run, others, text, events, left)
+}
+
+fn check_linked_over<T: Tlb, D: Console>(
+    rt: &(impl Abort + AllocGlobal),
+    link: LinkUnit,
     run: &Run,
     others: &[(usize, u32)],
     text: &str,
@@ -178,7 +203,7 @@ fn check_with_over<T: Tlb, D: Console>(
         }
     }
     let file = file_from(rt.alloc(), run.entry, run.base, &words)?;
-    let mut machine: Machine<T, D> = boot_run(rt.alloc(), run, &file)?;
+    let mut machine: Machine<T, D> = boot_run(rt.alloc(), link, run, &file)?;
     make_stages(rt, text, &mut machine, run.stages)?;
     make(rt, text, &mut machine, events)?;
     compare(rt, text, &machine, left);
@@ -201,6 +226,7 @@ pub(crate) fn check_log<T: Tlb, D: Console>(
 /// The machine of a row, booted from its file.
 fn boot_run<T: Tlb, D: Console>(
     alloc: Global,
+    link: LinkUnit,
     run: &Run,
     file: &[u8],
 ) -> Result<Machine<T, D>, Fail> {
@@ -208,6 +234,7 @@ fn boot_run<T: Tlb, D: Console>(
         ram: run.ram,
         processors: run.processors,
         log: 1000,
+        link,
     };
     Ok(Machine::boot(alloc, file, conf)?)
 }

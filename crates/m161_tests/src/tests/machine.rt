@@ -5,7 +5,9 @@ use super::same;
 use m161::Machine;
 use m161_elf::LoadError;
 use m161_isa::Reg;
-use m161_machine::{BootError, Conf, Entry, Event, Outcome, ProcessorState, Refusal, Register};
+use m161_machine::{
+    BootError, Conf, Entry, Event, LinkUnit, Outcome, ProcessorState, Refusal, Register,
+};
 use m161_test_support::DEMO_CONF as CONF;
 use m161_test_support::files::{IMAGE, file_at};
 use m161_test_support::outcomes::{ENTRY, RAN};
@@ -63,6 +65,7 @@ fn library_lines(rt: HostRuntime) -> Result<(), Fail> {
         ram: 1_048_576,
         processors: 2,
         log: 65_536,
+        link: LinkUnit::Word,
     };
     let mut machine: Machine = Machine::boot(rt.alloc(), &file, conf)?;
     let (made, refusal) = machine.steps(0, 1000);
@@ -144,6 +147,7 @@ fn largest_sizes(rt: HostRuntime) -> Result<(), Fail> {
         ram: 16_777_216,
         processors: 1,
         log: 16_777_216,
+        link: LinkUnit::Word,
     };
     let mut machine = Machine::boot(rt.alloc(), &IMAGE, conf)?;
     same(&rt, machine.steps(0, 7), (7, None));
@@ -188,6 +192,7 @@ fn configuration(rt: HostRuntime) -> Result<(), Fail> {
             ram,
             processors,
             log,
+            link: LinkUnit::Word,
         };
         let found = boot_error(rt.alloc(), length, conf);
         same(&rt, (conf, length, found), (conf, length, error));
@@ -215,6 +220,7 @@ fn off_machine(rt: HostRuntime) -> Result<(), Fail> {
         ram: 4096,
         processors: 2,
         log: 2,
+        link: LinkUnit::Word,
     };
     let mut machine = Machine::boot(rt.alloc(), &file, conf)?;
     for (event, answer, entries) in [

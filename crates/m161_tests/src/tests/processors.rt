@@ -7,7 +7,7 @@ use m161_machine::{ProcessorState, Register as R};
 use m161_test_support::outcomes::{ADDRESS_STORE, ENTRY, IDLE, RAN, SYSCALL};
 use std::test::Fail;
 
-static PROCESSORS: [Run; 13] = [
+pub(crate) static PROCESSORS: [Run; 13] = [
     Run {
         name: "link-lost: a store of another processor",
         ram: 4_096,
@@ -480,7 +480,7 @@ static PROCESSORS: [Run; 13] = [
 ];
 
 /// Processor 0 links the word at 0x400, then 1 makes a store, then 0 an `sc` of 55.
-static LINKED: Run = Run {
+pub(crate) static LINKED: Run = Run {
     name: "a store between",
     ram: 4_096,
     processors: 2,
@@ -509,7 +509,7 @@ static LINKED: Run = Run {
 };
 
 /// Instructions of processor 1 between: the text, the word, and what the `sc` of 0 gives.
-static BETWEEN: [(&str, u32, u32); 21] = [
+pub(crate) static BETWEEN: [(&str, u32, u32); 21] = [
     ("sb $0, 1024($9)", 0xa120_0400, 0),
     ("sb $0, 1027($9)", 0xa120_0403, 0),
     ("sh $0, 1024($9)", 0xa520_0400, 0),

@@ -5,7 +5,7 @@ use super::listing::{Left, check_log, compare, make};
 use m161_bus::Console;
 use m161_console::{PlainConsole, RingConsole};
 use m161_machine::Event::Step;
-use m161_machine::{Conf, Machine};
+use m161_machine::{Conf, LinkUnit, Machine};
 use m161_test_support::kernel::{SCHEDULE, kernel_file};
 use m161_test_support::outcomes::{INTERRUPT, LOAD_MISS, OFF, RAN, Times};
 use m161_tlb::Tlb;
@@ -26,12 +26,16 @@ static LEFT: [(u32, Left); 8] = [
     (1, TlbRow(18, 0x8001_2000, 0)),
 ];
 
-fn shootdown_over<T: Tlb, D: Console>(rt: &(impl Abort + AllocGlobal)) -> Result<(), Fail> {
+fn shootdown_over<T: Tlb, D: Console>(
+    rt: &(impl Abort + AllocGlobal),
+    link: LinkUnit,
+) -> Result<(), Fail> {
     let file = kernel_file(rt.alloc())?;
     let conf = Conf {
         ram: 1_048_576,
         processors: 2,
         log: 1000,
+        link,
     };
     let mut machine: Machine<T, D> = Machine::boot(rt.alloc(), &file, conf)?;
     make(rt, "shootdown", &mut machine, &SCHEDULE)?;
@@ -41,8 +45,11 @@ fn shootdown_over<T: Tlb, D: Console>(rt: &(impl Abort + AllocGlobal)) -> Result
 
 #[test]
 fn shootdown(rt: HostRuntime) -> Result<(), Fail> {
-    shootdown_over::<Scan, PlainConsole>(&rt)?;
-    shootdown_over::<Scan, RingConsole>(&rt)?;
-    shootdown_over::<Index, PlainConsole>(&rt)?;
-    shootdown_over::<Index, RingConsole>(&rt)
+    for link in [LinkUnit::Word, LinkUnit::Line] {
+        shootdown_over::<Scan, PlainConsole>(&rt, link)?;
+        shootdown_over::<Scan, RingConsole>(&rt, link)?;
+        shootdown_over::<Index, PlainConsole>(&rt, link)?;
+        shootdown_over::<Index, RingConsole>(&rt, link)?;
+    }
+    Ok(())
 }

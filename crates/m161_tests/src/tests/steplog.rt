@@ -2,12 +2,15 @@
 
 use super::same;
 use m161::{Console, Tlb};
-use m161_machine::{Conf, Entry, Event, Outcome};
-use m161_steplog::{Fault, Verdict, entry_line, read_log, read_schedule, verify, write_log};
+use m161_machine::{Conf, Entry, Event, LinkUnit, Outcome};
+use m161_steplog::{
+    Fault, Mode, Verdict, entry_line, read_log, read_schedule, verify, write_log, write_tail,
+};
 use m161_test_support::files::file_at;
 use m161_test_support::outcomes::ENTRY;
 use m161_text::{Byte, Word, cut_at_space, next_line, parse_byte, parse_decimal, parse_word};
 use std::alloc::Global;
+use std::process::Abort;
 use std::test::Fail;
 
 const RAN: Entry = Entry {
@@ -23,10 +26,14 @@ const OFF: Entry = Entry {
 #[test]
 fn log_text(rt: HostRuntime) -> Result<(), Fail> {
     let alloc = rt.alloc();
-    let text = write_log(alloc, &[RAN, OFF])?;
-    same(&rt, text.as_str(), "m161 log 1\ns 0 ran\ns 0 off\n");
-    let entries = read_log(alloc, text.as_str())?;
-    same(&rt, entries.as_slice(), [RAN, OFF].as_slice());
+    for (link, expected) in [
+        (LinkUnit::Word, "m161 log 2 word\ns 0 ran\ns 0 off\n"),
+        (LinkUnit::Line, "m161 log 2 line\ns 0 ran\ns 0 off\n"),
+    ] {
+        let text = write_log(alloc, Mode { link }, &[RAN, OFF])?;
+        same(&rt, text.as_str(), expected);
+        check_read(&rt, alloc, expected, link, &[RAN, OFF])?;
+    }
     let line = entry_line(alloc, &OFF)?;
     same(&rt, line.as_str(), "s 0 off");
     let events = read_schedule(alloc, "s 0 2\nk 41\no\n")?.to_vec(alloc)?;
@@ -37,6 +44,74 @@ fn log_text(rt: HostRuntime) -> Result<(), Fail> {
         Event::Done,
     ];
     same(&rt, events.as_slice(), expected.as_slice());
+    Ok(())
+}
+
+// Fails the test where a text isn't read as a log of this mode and these entries.
+fn check_read(
+    rt: &impl Abort,
+    alloc: Global,
+    text: &str,
+    link: LinkUnit,
+    entries: &[Entry],
+) -> Result<(), Fault> {
+    let log = read_log(alloc, text)?;
+    same(rt, (text, log.mode), (text, Mode { link }));
+    same(rt, (text, log.entries.as_slice()), (text, entries));
+    Ok(())
+}
+
+#[test]
+fn first_lines(rt: HostRuntime) -> Result<(), Fail> {
+    let alloc = rt.alloc();
+    for (text, link) in [
+        ("m161 log 1", LinkUnit::Word),
+        ("m161 log 2 word\n", LinkUnit::Word),
+        ("#\n# machine\nm161 log 2 line", LinkUnit::Line),
+    ] {
+        check_read(&rt, alloc, text, link, &[])?;
+    }
+    for (text, line) in [
+        ("", 1),
+        ("#\n", 2),
+        ("m161 log 0", 1),
+        ("m161 log 1 word", 1),
+        ("m161 log 1 line", 1),
+        ("m161 log 2", 1),
+        ("m161 log 2 ", 1),
+        ("m161 log 2 Word", 1),
+        ("m161 log 2  word", 1),
+        ("m161 log 2 word ", 1),
+        ("m161 log 2 words", 1),
+        ("m161 log 2 word line", 1),
+        ("m161 log 3 word strict", 1),
+        ("m161 tail 1 1", 1),
+        ("#\nm161 tail 2 word 1\ns 0 off\n", 2),
+        ("m161 log 2 word\nm161 log 2 word\n", 2),
+    ] {
+        let found = read_log(alloc, text).err();
+        same(&rt, (text, found), (text, Some(Fault::Line(line))));
+    }
+    Ok(())
+}
+
+#[test]
+fn tails(rt: HostRuntime) -> Result<(), Fail> {
+    let alloc = rt.alloc();
+    for (link, dropped, expected) in [
+        (LinkUnit::Word, 1, "m161 tail 2 word 1\ns 0 off\n"),
+        (LinkUnit::Line, 1, "m161 tail 2 line 1\ns 0 off\n"),
+        (
+            LinkUnit::Line,
+            9_223_372_036_854_775_807,
+            "m161 tail 2 line 9223372036854775807\ns 0 off\n",
+        ),
+    ] {
+        let text = write_tail(alloc, Mode { link }, dropped, &[OFF])?;
+        same(&rt, text.as_str(), expected);
+        let found = read_log(alloc, text.as_str()).err();
+        same(&rt, found, Some(Fault::Line(1)));
+    }
     Ok(())
 }
 
@@ -154,6 +229,7 @@ fn verify_of_logs(rt: HostRuntime) -> Result<(), Fail> {
         ram: 4096,
         processors: 1,
         log: 16,
+        link: LinkUnit::Word,
     };
     let logs: [(&[Entry], Verdict); 3] = [
         (&[RAN, OFF], Verdict::Agrees),

@@ -8,7 +8,7 @@ use super::left::{Left, check_log, compare, make};
 use super::same;
 use m161::{Console, Machine, Tlb};
 use m161_machine::Event::{Done, Key, Step};
-use m161_machine::{Conf, Entry, Event, Outcome, Refusal, Start};
+use m161_machine::{Conf, Entry, Event, LinkUnit, Outcome, Refusal, Start};
 use m161_test_support::files::file_at;
 use m161_test_support::kernel::kernel_file;
 use m161_test_support::outcomes::{Answer, ENTRY, IDLE, RAN, TAKEN, Times};
@@ -47,6 +47,7 @@ pub(crate) fn boot(
         ram: 4096,
         processors,
         log,
+        link: LinkUnit::Word,
     };
     let machine = Machine::boot(alloc, &file, conf)?;
     Ok((file, machine))
@@ -249,6 +250,7 @@ fn sample_in_threads(rt: HostRuntime) -> Result<(), Fail> {
         ram: 1_048_576,
         processors: 2,
         log: 65_536,
+        link: LinkUnit::Word,
     };
     let mut machine = Machine::boot(rt.alloc(), &file, conf)?;
     make(&rt, name, &mut machine, &FIRST_STEPS);

@@ -4,8 +4,8 @@ use super::same;
 use m161::{Core, Machine};
 use m161_cop0::REGISTERS;
 use m161_isa::Reg;
-use m161_machine::{Conf, Entry, Event, Outcome, Refusal, worn};
-use m161_steplog::{Fault, read_log, write_tail};
+use m161_machine::{Conf, Entry, Event, LinkUnit, Outcome, Refusal, worn};
+use m161_steplog::{Fault, Mode, read_log, write_tail};
 use m161_test_support::files::file_at;
 use m161_test_support::kernel::{SCHEDULE, kernel_file};
 use m161_test_support::outcomes::ENTRY;
@@ -97,6 +97,7 @@ fn dropped_entry(rt: HostRuntime) -> Result<(), Fail> {
         ram: 4096,
         processors: 1,
         log: 1,
+        link: LinkUnit::Word,
     };
     let mut machine = Machine::boot(rt.alloc(), &file, conf)?;
     same(&rt, machine.step(0), Ok(Outcome::Ran));
@@ -111,8 +112,16 @@ fn dropped_entry(rt: HostRuntime) -> Result<(), Fail> {
     assert!(&rt; base.processors() > 0);
     same(&rt, (base.pc(0), base.count(0)), (0x8000_0204, 1));
     check_base(&rt, &machine)?;
-    let tail = write_tail(rt.alloc(), base.made(), &machine.copy_log(rt.alloc())?)?;
-    same(&rt, tail.as_str(), "m161 tail 1 1\ns 0 off\n");
+    let mode = Mode {
+        link: LinkUnit::Word,
+    };
+    let tail = write_tail(
+        rt.alloc(),
+        mode,
+        base.made(),
+        &machine.copy_log(rt.alloc())?,
+    )?;
+    same(&rt, tail.as_str(), "m161 tail 2 word 1\ns 0 off\n");
     same(
         &rt,
         read_log(rt.alloc(), tail.as_str()).err(),
@@ -137,6 +146,7 @@ pub(crate) fn sent_and_dropped(rt: &(impl Abort + AllocGlobal)) -> Result<Machin
         ram: 4096,
         processors: 1,
         log: 2,
+        link: LinkUnit::Word,
     };
     let mut machine = Machine::boot(rt.alloc(), &file, conf)?;
     same(rt, machine.done(), Err(Refusal::NothingSent));
@@ -164,6 +174,7 @@ fn windows_of(rt: &(impl Abort + AllocGlobal), file: &[u8], log: u32) -> Result<
         ram: 65_536,
         processors: 2,
         log,
+        link: LinkUnit::Word,
     };
     let mut machine = Machine::boot(rt.alloc(), file, conf)?;
     let mut made = 0u64;
@@ -211,6 +222,7 @@ fn link_across_a_drop(rt: HostRuntime) -> Result<(), Fail> {
         ram: 4096,
         processors: 1,
         log: 1,
+        link: LinkUnit::Word,
     };
     let mut machine = Machine::boot(rt.alloc(), &file, conf)?;
     for _ in 0..5 {
@@ -252,6 +264,7 @@ fn long_run(rt: HostRuntime) -> Result<(), Fail> {
         ram: 4096,
         processors: 1,
         log: 65_536,
+        link: LinkUnit::Word,
     };
     let mut machine = Machine::boot(rt.alloc(), &file, conf)?;
     for round in 1..16_668u32 {

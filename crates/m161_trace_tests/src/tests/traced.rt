@@ -3,7 +3,7 @@
 ghost use Rattle.std.specs.Prelude.{◌≡◌, IfOk, OnOk};
 
 use m161::{Console, Machine, Tlb};
-use m161_machine::{Conf, Event};
+use m161_machine::{Conf, Event, LinkUnit};
 use m161_test_support::files::file_from;
 use m161_test_support::outcomes::ENTRY;
 use m161_trace::{Naming, Tracer};
@@ -26,6 +26,7 @@ pub(crate) fn booted(rt: &impl AllocGlobal, file: &[u8], processors: u32) -> Res
         ram: 1_048_576,
         processors,
         log: 1_000,
+        link: LinkUnit::Word,
     };
     let machine = Machine::boot(rt.alloc(), file, conf)?;
     Ok(machine)
