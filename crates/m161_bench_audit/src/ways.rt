@@ -2,7 +2,6 @@
 
 use m161::{Conf, Console, Event, Events, LinkUnit, Machine, Tlb};
 use m161_audit::{Finding, Watch, audit_events};
-use m161_isa::LinkUnit;
 use std::alloc::Global;
 use std::time::{Clock, Instant};
 

@@ -2,7 +2,6 @@
 
 use m161::{Conf, Console, LinkUnit, Machine, Tlb};
 use m161_drive::{Order, Policy, drive};
-use m161_isa::LinkUnit;
 use m161_judge::{Booted, Watch, judge_booted};
 use std::alloc::Global;
 use std::time::{Clock, Instant};
