@@ -233,7 +233,7 @@ def words_and_faults(make):
     """Command lines without a task, help, and faults."""
     make.write("short.elf", b"\x7fELF")
     make.write("bad.schedule", "s 0\ns 0 0\n")
-    make.write("wrong.log", "m161 log 1\ns 0 went\n")
+    make.write("wrong.log", "m161 log 2 word\ns 0 went\n")
     make.write("bad.watches", "w 5 0400 00003000 00003004\n")
     make.write("far.watches", "w 64 00400 00003000 00003004\n")
     make.write("bytes", b"# \xff\n")

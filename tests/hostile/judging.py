@@ -128,8 +128,8 @@ def entries_of(log):
     """How many events the log of a run has, with those that its tail dropped."""
     lines = [line for line in log.splitlines() if not line.startswith(b"#")]
     head = lines[0].split() if lines else []
-    if head[:3] == [b"m161", b"tail", b"1"]:
-        return int(head[3]) + len(lines) - 1
+    if head[:3] == [b"m161", b"tail", b"2"]:
+        return int(head[4]) + len(lines) - 1
     return len(lines) - 1
 
 

@@ -113,6 +113,7 @@ pub fn audit<'a, F: FileSource, I: Read>(
         ram: task.size.ram,
         processors: task.size.processors,
         log: task.size.log,
+        link: task.size.link,
     };
     let finding = match audit_events::<Tlb, Console>(alloc, &file, conf, &events, &watches) {
         Ok(finding) => finding,

@@ -5,4 +5,9 @@ use Rattle.s161_command.specs.declared.task.Size.{Size}
 
 -- the machine of this size
 abbrev pub conf_of : Size → Conf
-conf_of size = record { ram = size.ram; processors = size.processors; log = size.log }
+conf_of size = record {
+  ram = size.ram;
+  processors = size.processors;
+  log = size.log;
+  link = size.link;
+}

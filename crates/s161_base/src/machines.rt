@@ -1,12 +1,13 @@
 //! The machine that a log names.
 
-ghost use Rattle.std.specs.Prelude.{◌≡◌, bytes_eq};
+ghost use Rattle.std.specs.Prelude.{◌≡◌};
 ghost use Rattle.sha2.specs.Sha256.{sha256};
-ghost use Rattle.s161_base.specs.Machines.{asked_conf, is_other, machine_fault};
+ghost use Rattle.s161_base.specs.Machines.{asked_conf, is_image, is_other, is_other_size, is_other_unit, line_in, machine_fault, unit_in};
 
 use crate::fault::Fault;
+use m161_isa::LinkUnit;
 use m161_machine::Conf;
-use m161_steplog::MachineLine;
+use m161_steplog::{MachineLine, Mode};
 use s161_command::AskedSize;
 use sha2::{Digest, Sha256};
 
@@ -15,6 +16,15 @@ const DEFAULT_RAM: u32 = 1_048_576;
 
 const DEFAULT_PROCESSORS: u32 = 1;
 
+/// What a log says of its machine.
+#[derive(Clone, Copy)]
+pub struct LoggedMachine {
+    /// Its machine line, if it has one.
+    pub line: Option<MachineLine>,
+    /// The mode of its first line.
+    pub mode: Mode,
+}
+
 /// The digest by which a log names an image.
 pub fn image_digest(file: &[u8]) -> [u8; 32]
     ensures { result ≡ sha256 file.now }
@@ -22,11 +32,11 @@ pub fn image_digest(file: &[u8]) -> [u8; 32]
     Sha256::digest(file)
 }
 
-/// The machine that is asked for; what isn't given is as the log's machine line says.
-pub fn asked_conf(asked: AskedSize, line: Option<MachineLine>) -> Conf
-    ensures { result ≡ asked_conf asked line }
+/// The machine that is asked for; what isn't given is as the log says, if there is one.
+pub fn asked_conf(asked: AskedSize, logged: Option<LoggedMachine>) -> Conf
+    ensures { result ≡ asked_conf asked logged }
 {
-    let (ram, processors) = match line {
+    let (ram, processors) = match line_in(logged) {
         Some(line) => (line.ram, line.processors),
         None => (DEFAULT_RAM, DEFAULT_PROCESSORS),
     };
@@ -34,22 +44,40 @@ pub fn asked_conf(asked: AskedSize, line: Option<MachineLine>) -> Conf
         ram: asked.ram.unwrap_or(ram),
         processors: asked.processors.unwrap_or(processors),
         log: asked.log,
+        link: asked.link.unwrap_or(unit_in(logged)),
     }
 }
 
-/// Why an image, in the size that is asked for, isn't the machine that a log names in its machine
-/// line: `LogMachine`, or else `LogImage`.
+// The machine line of the log, if there is a log, and if it has one.
+fn line_in(logged: Option<LoggedMachine>) -> Option<MachineLine>
+    ensures { result ≡ line_in logged }
+{
+    logged?.line
+}
+
+// The unit of the log's links; without a log a word.
+fn unit_in(logged: Option<LoggedMachine>) -> LinkUnit
+    ensures { result ≡ unit_in logged }
+{
+    match logged {
+        Some(logged) => logged.mode.link,
+        None => LinkUnit::Word,
+    }
+}
+
+/// Why an image, in the machine that is asked for, isn't the one that a log names: `LogMachine`, or
+/// else `LogImage`.
 pub fn machine_fault<'a>(
     asked: AskedSize,
     file: &[u8],
-    line: Option<MachineLine>,
+    logged: Option<LoggedMachine>,
 ) -> Option<Fault<'a>>
-    ensures { result ≡ machine_fault asked file.now line }
+    ensures { result ≡ machine_fault asked file.now logged }
 {
-    let line = line?;
-    if is_other(asked.ram, line.ram) || is_other(asked.processors, line.processors) {
+    let logged = logged?;
+    if is_other_unit(asked.link, logged.mode.link) || is_other_size(asked, logged.line) {
         Some(Fault::LogMachine)
-    } else if is_image(file, &line.digest) {
+    } else if is_image(file, logged.line) {
         None
     } else {
         Some(Fault::LogImage)
@@ -66,9 +94,35 @@ fn is_other(given: Option<u32>, named: u32) -> bool
     }
 }
 
-// Whether an image has this digest.
-fn is_image(file: &[u8], digest: &[u8; 32]) -> bool
-    ensures { result ≡ bytes_eq (sha256 file.now) digest.now }
+// Whether a unit is given, and isn't this one.
+fn is_other_unit(given: Option<LinkUnit>, named: LinkUnit) -> bool
+    ensures { result ≡ is_other_unit given named }
 {
-    image_digest(file).as_slice() == digest.as_slice()
+    match (given, named) {
+        (Some(LinkUnit::Word), LinkUnit::Line) => true,
+        (Some(LinkUnit::Line), LinkUnit::Word) => true,
+        _ => false,
+    }
+}
+
+// Whether another size is given than that of a log's machine line.
+fn is_other_size(asked: AskedSize, line: Option<MachineLine>) -> bool
+    ensures { result ≡ is_other_size asked line }
+{
+    match line {
+        Some(line) => {
+            is_other(asked.ram, line.ram) || is_other(asked.processors, line.processors)
+        }
+        None => false,
+    }
+}
+
+// Whether an image has the digest of a log's machine line.
+fn is_image(file: &[u8], line: Option<MachineLine>) -> bool
+    ensures { result ≡ is_image file.now line }
+{
+    match line {
+        Some(line) => image_digest(file).as_slice() == line.digest.as_slice(),
+        None => true,
+    }
 }

@@ -2,13 +2,14 @@
 
 ghost use Rattle.std.specs.Prelude.{IfErr, IfOk};
 ghost use Rattle.m161_text.specs.Lines.{lines_of};
-ghost use Rattle.m161_steplog.specs.Comments.{IsLogFile};
 ghost use Rattle.m161_steplog.specs.Schedule.{IsSchedule};
+ghost use Rattle.s161_base.specs.Machines.{IsLogOf};
 ghost use Rattle.s161_base.specs.Texts.{IsLogFault, IsScheduleFault};
 
 use crate::fault::{Fault, fault_of_log, fault_of_schedule};
+use crate::machines::LoggedMachine;
 use m161_machine::{Entry, Events};
-use m161_steplog::{read_log, read_schedule};
+use m161_steplog::{read_log, read_machine, read_schedule};
 use std::alloc::Global;
 
 /// The events of a schedule's text.
@@ -25,16 +26,31 @@ pub fn events_of<'a>(alloc: Global, text: &str) -> Result<Events, Fault<'a>>
     }
 }
 
-/// The entries of a log's text.
+/// What a log's text says.
+#[derive(Drop)]
+pub struct Log {
+    /// What it says of its machine.
+    pub machine: LoggedMachine,
+    /// Its entries, in order.
+    pub entries: Vec<Entry>,
+}
+
+/// The log of a text.
 ///
 /// # Errors
 /// Its first bad line; or memory was refused.
-pub fn entries_of<'a>(alloc: Global, text: &str) -> Result<Vec<Entry>, Fault<'a>>
-    ensures found { IfOk result (λ entries. IsLogFile text.now entries.items) }
+pub fn log_of<'a>(alloc: Global, text: &str) -> Result<Log, Fault<'a>>
+    ensures found { IfOk result (λ log. IsLogOf text.now log.machine log.entries.items) }
     ensures fault { IfErr result (IsLogFault text.now) }
 {
     match read_log(alloc, text) {
-        Ok(entries) => Ok(entries),
+        Ok(log) => Ok(Log {
+            machine: LoggedMachine {
+                line: read_machine(text),
+                mode: log.mode,
+            },
+            entries: log.entries,
+        }),
         Err(error) => Err(fault_of_log(error)),
     }
 }

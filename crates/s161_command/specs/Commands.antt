@@ -33,6 +33,7 @@ use Rattle.s161_command.specs.declared.task.TraceTask.{TraceTask}
 use Rattle.s161_command.specs.declared.task.Task.{Task}
 use Rattle.s161_command.specs.declared.task.Task.TheVariants.{Assemble, Audit, Console, Debug, Demo, Disassemble, Replay, Run, RunDriven, RunInThreads, Schedule, Search, Trace}
 use Rattle.s161_command.specs.Drives.{AsksDrive, AsksDriveIf, Clashes, IsLongNumberOf, go_together, has_order, long_rule, optional_rule, text_rule, with_console_pace_rules, with_order_rules, with_pace_rules, with_priority_rules}
+use Rattle.s161_command.specs.Links.{IsLink, IsLinkIf, RefusesLink}
 use Rattle.s161_command.specs.Numbers.{IsNumberIf, IsNumberOf, is_set}
 
 -- The command line, in clap's own words.
@@ -62,13 +63,18 @@ threads_rule = optional_rule (codes "threads") 0 1_000_000
 abbrev pub burst_rule : Rule
 burst_rule = optional_rule (codes "burst") 1 1_024
 
--- a command, with the options of a machine's size added; the last number is the log's default
+-- what `ll` links a processor to
+abbrev pub link_rule : Rule
+link_rule = record (text_rule (codes "link")) { defaults = codes "word" ∷ [] }
+
+-- a command, with the options of a machine's size added; the text is the log's default
 abbrev pub with_size_rules : Text → App → App
 with_size_rules log command =
-    with_rule (with_rule (with_rule command
+    with_rule (with_rule (with_rule (with_rule command
     (number_rule (codes "ram") (codes "1048576")))
     (number_rule (codes "cpus") (codes "1")))
-    (number_rule (codes "log") log)
+    (number_rule (codes "log") log))
+    link_rule
 
 -- the same without defaults but the log's: what isn't given is a log's own
 abbrev pub with_asked_size_rules : Text → App → App
@@ -157,8 +163,9 @@ optional_file_rule name = record (new_rule name) { value_names = 1 }
 -- the arguments of `debug`, without those of a driven run: an image, a file and options
 abbrev pub plain_debug_line : App
 plain_debug_line =
-    with_asked_size_rules (codes "1048576")
-    (with_rule (on_image (codes "debug")) (optional_file_rule (codes "file")))
+    with_rule (with_asked_size_rules (codes "1048576")
+    (with_rule (on_image (codes "debug")) (optional_file_rule (codes "file"))))
+    (text_rule (codes "link"))
 
 -- the arguments of `debug`; its list of events has at most 16,777,216
 abbrev pub debug_line : App
@@ -217,6 +224,7 @@ pub record IsSize (kept : ℕ) (rows : List Row) (size : Size) : Type 0 where
   pub ram : IsNumberOf 1_048_576 (one_of (codes "ram") rows) size.ram
   pub cpus : IsNumberOf 1 (one_of (codes "cpus") rows) size.processors
   pub log : IsNumberOf kept (one_of (codes "log") rows) size.log
+  pub link : IsLink (first_of (codes "link") rows) size.link
 
 -- what `run` is asked to print
 abbrev pub shown_of : List Row → Shown
@@ -287,6 +295,7 @@ pub record AsksReplay (rows : List Row) (task : ReplayTask) : Type 0 where
   pub image : task.image.now ≡ given_of (codes "image") rows
   pub text : task.text.now ≡ given_of (codes "entries") rows
   pub size : IsAskedSize 65_536 rows task.size
+  pub link : task.size.link ≡ None
 
 -- how registers are shown
 abbrev pub registers_of : List Row → Registers
@@ -314,6 +323,7 @@ pub record AsksDebug (rows : List Row) (task : DebugTask) : Type 0 where
   pub image : task.image.now ≡ given_of (codes "image") rows
   pub source : IsSource rows task.source
   pub size : IsAskedSize 1_048_576 rows task.size
+  pub link : IsLinkIf (first_of (codes "link") rows) task.size.link
 
 -- `dis` asks for this
 pub record AsksListing (rows : List Row) (task : ListingTask) : Type 0 where
@@ -379,11 +389,15 @@ GoTogether command =
     IfSome command (λ given.
     IfSome (order_use given.0) (λ orders. go_together orders given.1 ≡ true))
 
+-- the options of a command that takes an order in this way, or none, can't be followed: why
+abbrev pub ClashesAs : Option OrderUse → List Row → Clash → Type 0
+ClashesAs None rows clash = RefusesLink rows clash
+ClashesAs (Some orders) rows clash = Clashes orders rows clash
+
 -- the options of a command can't be followed: why
 abbrev pub ClashesIn : Option (Text × List Row) → Clash → Type 0
 ClashesIn command clash =
-    IsSomeAnd command (λ given.
-    IsSomeAnd (order_use given.0) (λ orders. Clashes orders given.1 clash))
+    IsSomeAnd command (λ given. ClashesAs (order_use given.0) given.1 clash)
 
 -- the numbers of the order that gives the events of `debug` are within their limits
 abbrev pub HasSourceLimits : Source → Type 0

@@ -6,10 +6,11 @@ use Rattle.m161_order.specs.declared.order.Order.{Order}
 use Rattle.m161_order.specs.declared.order.Order.TheVariants.{Turns, Random, Priorities}
 use Rattle.m161_order.specs.Order.{order_fault}
 use Rattle.s161_command.specs.declared.drive.Clash.{Clash}
-use Rattle.s161_command.specs.declared.drive.Clash.TheVariants.{TwoOrders, HalfPriorities, ChangesWithoutSeed, NoOrder, PaceWithoutOrder, OrderInThreads, LogTwice, FileAndOrder, NoEvents, BadOrder, BadGap}
+use Rattle.s161_command.specs.declared.drive.Clash.TheVariants.{TwoOrders, HalfPriorities, ChangesWithoutSeed, NoOrder, PaceWithoutOrder, OrderInThreads, LogTwice, FileAndOrder, NoEvents, BadOrder, BadGap, BadLink}
 use Rattle.s161_command.specs.declared.drive.OrderUse.{OrderUse}
 use Rattle.s161_command.specs.declared.drive.OrderUse.TheVariants.{Optional, Needed, Assumed, Seeded, OrFile}
 use Rattle.s161_command.specs.declared.drive.Drive.{Drive}
+use Rattle.s161_command.specs.Links.{IsBadLink}
 use Rattle.s161_command.specs.Numbers.{IsNumber, IsNumberOf, is_set}
 
 -- The options of a driven run, and which options go together.
@@ -231,6 +232,7 @@ Clashes orders rows OrderInThreads = order_in_threads rows ≡ true
 Clashes orders rows (BadOrder e) =
     (order : Order) × IsOrder orders rows order × (order_fault order ≡ Some e)
 Clashes orders rows BadGap = IsBadGap (first_of (codes "gap") rows)
+Clashes orders rows BadLink = IsBadLink (first_of (codes "link") rows)
 Clashes orders rows LogTwice = shows_log_twice rows ≡ true
 Clashes orders rows FileAndOrder = file_and_order orders rows ≡ true
 Clashes orders rows NoEvents = lacks_events orders rows ≡ true

@@ -1,4 +1,5 @@
 pub mod Numbers
+pub mod Links
 pub mod Drives
 pub mod Commands
 pub mod helpers

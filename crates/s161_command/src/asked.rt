@@ -4,25 +4,31 @@ ghost use Rattle.std.specs.Prelude.{◌≡◌, IfErr, IfOk, codes, false, true};
 ghost use Rattle.clap.specs.Words.{found_of, rows_of, subcommand_rows_of};
 ghost use Rattle.s161_command.specs.Commands.{AsksConsole, AsksDebug, AsksFiles, AsksListing, AsksReplay, AsksRun, AsksSchedule, AsksSearch, AsksTrace, ClashesIn, GoTogether, HasLimits, IsAskedSize, IsRunTask, IsSize, IsSource, IsTask, registers_of, shown_of};
 ghost use Rattle.s161_command.specs.Drives.{AsksDrive, AsksDriveIf, Clashes, go_together, has_order};
+ghost use Rattle.s161_command.specs.Links.{RefusesLink};
 ghost use Rattle.s161_command.specs.declared.drive.OrderUse.TheVariants.{Assumed, Needed, Optional, OrFile, Seeded};
 
 use crate::drive::{Clash, Drive, OrderUse, clash_of, drive_given, has_order};
 use crate::given::{file_given, is_set, long_given, number_given, number_if_given};
+use crate::link::{link_given, link_if_given};
 use crate::task::{
     AskedSize, ConsoleTask, DebugTask, DrivenTask, FilesTask, ListingTask, Registers, ReplayTask,
     RunTask, ScheduleTask, SearchTask, Shown, Size, Source, Task, ThreadsTask, TraceTask,
 };
 use clap::ArgMatches;
+use m161_isa::LinkUnit;
 
 // The size of a machine; the log's number of entries has this default.
-fn size_given<'a>(given: &ArgMatches<'a>, log: u32) -> Size
-    ensures { IsSize log (rows_of (found_of given.now)) result }
+fn size_given<'a>(given: &ArgMatches<'a>, log: u32) -> Result<Size, Clash>
+    ensures size { IfOk result (IsSize log (rows_of (found_of given.now))) }
+    ensures clash { IfErr result (RefusesLink (rows_of (found_of given.now))) }
 {
-    Size {
+    let link = link_given(given)?;
+    Ok(Size {
         ram: number_given(given, "ram", 1_048_576),
         processors: number_given(given, "cpus", 1),
         log: number_given(given, "log", log),
-    }
+        link,
+    })
 }
 
 // What `run` is asked to print.
@@ -40,30 +46,33 @@ fn shown_given<'a>(given: &ArgMatches<'a>) -> Shown
 }
 
 // The arguments of `run`.
-fn run_task_of<'a>(given: &ArgMatches<'a>) -> RunTask<'a>
-    ensures { AsksRun (rows_of (found_of given.now)) result }
+fn run_task_of<'a>(given: &ArgMatches<'a>) -> Result<RunTask<'a>, Clash>
+    ensures task { IfOk result (AsksRun (rows_of (found_of given.now))) }
+    ensures clash { IfErr result (RefusesLink (rows_of (found_of given.now))) }
 {
-    RunTask {
+    let size = size_given(given, 65_536)?;
+    Ok(RunTask {
         image: file_given(given, "image"),
-        size: size_given(given, 65_536),
+        size,
         shown: shown_given(given),
-    }
+    })
 }
 
 // The task of `run` under a schedule, or in threads.
-fn task_without_order<'a>(given: &ArgMatches<'a>) -> Task<'a>
+fn task_without_order<'a>(given: &ArgMatches<'a>) -> Result<Task<'a>, Clash>
     requires { has_order (rows_of (found_of given.now)) ≡ false }
-    ensures task { IsRunTask (rows_of (found_of given.now)) result }
-    ensures limits { HasLimits result }
+    ensures task { IfOk result (IsRunTask (rows_of (found_of given.now))) }
+    ensures limits { IfOk result HasLimits }
+    ensures clash { IfErr result (Clashes Optional (rows_of (found_of given.now))) }
 {
-    let task = run_task_of(given);
+    let task = run_task_of(given)?;
     match number_given(given, "threads", 0) {
-        0 => Task::Run(task),
-        quota => Task::RunInThreads(ThreadsTask {
+        0 => Ok(Task::Run(task)),
+        quota => Ok(Task::RunInThreads(ThreadsTask {
             run: task,
             quota,
             burst: number_given(given, "burst", 1),
-        }),
+        })),
     }
 }
 
@@ -75,10 +84,8 @@ fn task_with_order<'a>(given: &ArgMatches<'a>) -> Result<Task<'a>, Clash>
     ensures clash { IfErr result (Clashes Optional (rows_of (found_of given.now))) }
 {
     let drive = drive_given(given, OrderUse::Optional)?;
-    Ok(Task::RunDriven(DrivenTask {
-        run: run_task_of(given),
-        drive,
-    }))
+    let run = run_task_of(given)?;
+    Ok(Task::RunDriven(DrivenTask { run, drive }))
 }
 
 // The task of the words of `run`.
@@ -94,7 +101,7 @@ fn task_of_run<'a>(given: &ArgMatches<'a>) -> Result<Task<'a>, Clash>
     if has_order(given) {
         task_with_order(given)
     } else {
-        Ok(task_without_order(given))
+        task_without_order(given)
     }
 }
 
@@ -117,9 +124,10 @@ fn task_of_schedule<'a>(given: &ArgMatches<'a>) -> Result<ScheduleTask<'a>, Clas
     ensures clash { IfErr result (Clashes Needed (rows_of (found_of given.now))) }
 {
     let drive = drive_of(given, OrderUse::Needed)?;
+    let size = size_given(given, 65_536)?;
     Ok(ScheduleTask {
         image: file_given(given, "image"),
-        size: size_given(given, 65_536),
+        size,
         drive,
     })
 }
@@ -131,9 +139,10 @@ fn task_of_console<'a>(given: &ArgMatches<'a>) -> Result<ConsoleTask<'a>, Clash>
     ensures clash { IfErr result (Clashes Assumed (rows_of (found_of given.now))) }
 {
     let drive = drive_of(given, OrderUse::Assumed)?;
+    let size = size_given(given, 65_536)?;
     Ok(ConsoleTask {
         image: file_given(given, "image"),
-        size: size_given(given, 65_536),
+        size,
         drive,
     })
 }
@@ -145,9 +154,10 @@ fn task_of_search<'a>(given: &ArgMatches<'a>) -> Result<SearchTask<'a>, Clash>
     ensures clash { IfErr result (Clashes Seeded (rows_of (found_of given.now))) }
 {
     let drive = drive_of(given, OrderUse::Seeded)?;
+    let size = size_given(given, 65_536)?;
     Ok(SearchTask {
         image: file_given(given, "image"),
-        size: size_given(given, 65_536),
+        size,
         drive,
         seeds: number_given(given, "seeds", 1),
         watches: given.get_str("watches"),
@@ -158,13 +168,15 @@ fn task_of_search<'a>(given: &ArgMatches<'a>) -> Result<SearchTask<'a>, Clash>
 
 // The size of a machine, of which a log may say what isn't given; how many entries its own log keeps
 // has this default.
-fn asked_size_given<'a>(given: &ArgMatches<'a>, log: u32) -> AskedSize
-    ensures { IsAskedSize log (rows_of (found_of given.now)) result }
+fn asked_size_given<'a>(given: &ArgMatches<'a>, log: u32, link: Option<LinkUnit>) -> AskedSize
+    ensures size { IsAskedSize log (rows_of (found_of given.now)) result }
+    ensures link { result.link ≡ link }
 {
     AskedSize {
         ram: number_if_given(given, "ram"),
         processors: number_if_given(given, "cpus"),
         log: number_given(given, "log", log),
+        link,
     }
 }
 
@@ -175,7 +187,7 @@ fn replay_task_of<'a>(given: &ArgMatches<'a>) -> ReplayTask<'a>
     ReplayTask {
         image: file_given(given, "image"),
         text: file_given(given, "entries"),
-        size: asked_size_given(given, 65_536),
+        size: asked_size_given(given, 65_536, None),
     }
 }
 
@@ -214,9 +226,10 @@ fn task_of_trace<'a>(given: &ArgMatches<'a>) -> Result<TraceTask<'a>, Clash>
     ensures clash { IfErr result (Clashes Optional (rows_of (found_of given.now))) }
 {
     let drive = drive_if_ordered(given)?;
+    let size = size_given(given, 65_536)?;
     Ok(TraceTask {
         image: file_given(given, "image"),
-        size: size_given(given, 65_536),
+        size,
         from: long_given(given, "from", 0),
         count: long_given(given, "count", u64::MAX),
         registers: registers_given(given),
@@ -248,10 +261,11 @@ fn task_of_debug<'a>(given: &ArgMatches<'a>) -> Result<DebugTask<'a>, Clash>
     ensures clash { IfErr result (Clashes OrFile (rows_of (found_of given.now))) }
 {
     let source = source_of(given)?;
+    let link = link_if_given(given)?;
     Ok(DebugTask {
         image: file_given(given, "image"),
         source,
-        size: asked_size_given(given, 1_048_576),
+        size: asked_size_given(given, 1_048_576, link),
     })
 }
 
@@ -267,14 +281,16 @@ fn listing_task_of<'a>(given: &ArgMatches<'a>) -> ListingTask<'a>
 
 // The arguments of a command over an image and a text: the name of the second one, and the default
 // of the log's number of entries.
-fn files_task_of<'a>(given: &ArgMatches<'a>, text: &str, log: u32) -> FilesTask<'a>
-    ensures { AsksFiles text.now log (rows_of (found_of given.now)) result }
+fn files_task_of<'a>(given: &ArgMatches<'a>, text: &str, log: u32) -> Result<FilesTask<'a>, Clash>
+    ensures task { IfOk result (AsksFiles text.now log (rows_of (found_of given.now))) }
+    ensures clash { IfErr result (RefusesLink (rows_of (found_of given.now))) }
 {
-    FilesTask {
+    let size = size_given(given, log)?;
+    Ok(FilesTask {
         image: file_given(given, "image"),
         text: file_given(given, text),
-        size: size_given(given, log),
-    }
+        size,
+    })
 }
 
 /// The task of the words of a command line.
@@ -293,7 +309,7 @@ pub(crate) fn task_of<'a>(matches: &ArgMatches<'a>) -> Result<Task<'a>, Clash>
         Some(("trace", given)) => Ok(Task::Trace(task_of_trace(given)?)),
         Some(("replay", given)) => Ok(Task::Replay(replay_task_of(given))),
         Some(("debug", given)) => Ok(Task::Debug(task_of_debug(given)?)),
-        Some(("audit", given)) => Ok(Task::Audit(files_task_of(given, "watches", 65_536))),
+        Some(("audit", given)) => Ok(Task::Audit(files_task_of(given, "watches", 65_536)?)),
         Some(("as", _)) => Ok(Task::Assemble),
         Some(("dis", given)) => Ok(Task::Disassemble(listing_task_of(given))),
         Some(_) => Ok(Task::Demo),

@@ -17,6 +17,7 @@ use crate::help::{
     AFTER_HELP, AFTER_REPLAY_HELP, AFTER_RUN_HELP, AFTER_SCHEDULE_HELP, AFTER_SEARCH_HELP,
     AFTER_TRACE_HELP, IMAGE_HELP,
 };
+use crate::link::{asked_link_option, link_option};
 use crate::task::{Rejection, Task};
 use clap::{Arg, ArgAction, ArgMatches, Command, Error, value_parser};
 use std::alloc::{AllocError, Global};
@@ -99,7 +100,8 @@ fn with_size<'a>(
     command
         .arg(number_option(alloc, "ram", ram_help, "1048576"))?
         .arg(number_option(alloc, "cpus", "Processors, 1 to 32", "1"))?
-        .arg(number_option(alloc, "log", LOG_HELP, log))
+        .arg(number_option(alloc, "log", LOG_HELP, log))?
+        .arg(link_option(alloc))
 }
 
 // The same without defaults but the log's: what isn't given is a log's own.
@@ -293,7 +295,7 @@ fn plain_debug_definition<'a>(alloc: Global) -> Result<Command<'a>, AllocError>
     let debug = debug
         .arg(file_argument(alloc, "image", "IMAGE", IMAGE_HELP))?
         .arg(optional_file(alloc, "file", "FILE", file_help))?;
-    with_asked_size(alloc, debug, "1048576")
+    with_asked_size(alloc, debug, "1048576")?.arg(asked_link_option(alloc))
 }
 
 // The definition of `debug`.

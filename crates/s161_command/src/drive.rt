@@ -70,6 +70,8 @@ pub enum Clash {
     BadOrder(OrderError),
     #[error("--gap is a number of events, 0 to 4294967295, or none")]
     BadGap,
+    #[error("--link is word, or line, the aligned 16 bytes")]
+    BadLink,
 }
 
 /// An option with a number of 32 bits that has no default.

@@ -40,9 +40,9 @@ after the last one; both also where no processor is ready.
 
 The log keeps the last N entries (--log). --show-log prints it before the last
 line, --only-log prints it alone; its first line names the machine and the
-image. Where entries before them were
-dropped, `m161 tail 1 DROPPED` stands in place of `m161 log 1`, with their
-number. A log can be replayed, and its tail can't: the same
+image. The next one is `m161 log 2 word` or `m161 log 2 line`, by --link; where
+entries before them were dropped, `m161 tail 2 word DROPPED` or the same with
+line, with their number. A log can be replayed, and its tail can't: the same
 run with a greater --log has the whole log.
 
 Exit status:
@@ -137,8 +137,10 @@ pub(crate) const AFTER_REPLAY_HELP: &str = "\
 The log is what run --only-log prints; it may be longer than --log. Its first line names the size of
 the machine and the image's SHA-256: a size that isn't given is taken from it, one that is given has
 to be the same, and so has the image. A log without this line is replayed with the size that is
-given, 1048576 bytes and 1 processor where nothing is. The answer is `agrees`, or `differs K` where
-entry K, from 0, is the first that another run makes otherwise. A file has at most 402653184 bytes.
+given, 1048576 bytes and 1 processor where nothing is. What ll links to is said by the next line,
+`m161 log 2 word` or `m161 log 2 line`; after `m161 log 1`, of an older log, it is a word. The answer
+is `agrees`, or `differs K` where entry K, from 0, is the first that another run makes otherwise. A
+file has at most 402653184 bytes.
 
 Exit status:
   0  the log agrees
@@ -152,9 +154,9 @@ Example:
 /// The end of the help of `debug`.
 pub(crate) const AFTER_DEBUG_HELP: &str = "\
 The events are those of FILE, a schedule or a log (run --only-log), or those that an order chooses:
-give one of the two. A log says the machine's size, as for replay; without one it is 1048576 bytes
-and 1 processor where nothing is given. The commands are read from standard input, one a line, and
-each is answered before the next one is read:
+give one of the two. A log says the machine's size and what ll links to, as for replay; without one
+it is 1048576 bytes, 1 processor and a word where nothing is given. The commands are read from
+standard input, one a line, and each is answered before the next one is read:
   b P ADDR  d P ADDR   sets or deletes a breakpoint of processor P
   g  g N               makes the other events, or N of them, up to a breakpoint
   u m ADDR  u r P N  u i P I  u t P  u o

@@ -6,6 +6,7 @@ mod command;
 mod drive;
 mod given;
 mod help;
+mod link;
 mod task;
 
 pub use command::parse;

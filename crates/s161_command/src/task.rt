@@ -2,6 +2,7 @@
 
 use crate::drive::{Clash, Drive};
 use clap::Error;
+use m161_isa::LinkUnit;
 
 /// The task of a command line.
 #[derive(Clone, Copy)]
@@ -43,6 +44,8 @@ pub struct Size {
     pub processors: u32,
     /// Entries that the log keeps.
     pub log: u32,
+    /// What `ll` links a processor to.
+    pub link: LinkUnit,
 }
 
 /// What `run` prints.
@@ -192,6 +195,8 @@ pub struct AskedSize {
     pub processors: Option<u32>,
     /// Entries that the log keeps.
     pub log: u32,
+    /// What `ll` links a processor to, if it is given. `replay` has it from its log alone.
+    pub link: Option<LinkUnit>,
 }
 
 /// The arguments of `replay`.

@@ -51,6 +51,7 @@ pub fn console<'a, F: FileSource, I: Read, O: Write>(
             ram: task.size.ram,
             processors: task.size.processors,
             log: task.size.log,
+            link: task.size.link,
         },
     )?;
     let driven = serve(&mut machine, task.drive, input, output)?;

@@ -1,15 +1,14 @@
-use Rattle.std.proofs.Common.{◌≡◌, ℕ, List, Bool, true, false, ◌||◌, if◌then◌else◌, bytes_eq, Option, None, Some, Err, refl, subst}
-use Rattle.sha2.specs.Sha256.{sha256}
+use Rattle.std.proofs.Common.{◌≡◌, ℕ, List, Bool, true, false, ◌||◌, if◌then◌else◌, Option, None, Some, Err, refl, subst}
 use Rattle.m161_machine.specs.declared.conf.BootError.{BootError}
 use Rattle.m161_machine.specs.declared.conf.BootError.TheVariants.{Load}
 use Rattle.m161_machine.specs.declared.conf.Conf.{Conf as MachineConf}
 use Rattle.m161_machine.specs.History.{Boots, boot_fault}
-use Rattle.m161_steplog.specs.declared.machine.MachineLine.{MachineLine}
 use Rattle.m161_steplog.specs.Comments.{IsFirstBadOfLog}
 use Rattle.s161_command.specs.declared.task.AskedSize.{AskedSize}
 use Rattle.s161_base.specs.declared.fault.Fault.{Fault}
 use Rattle.s161_base.specs.declared.fault.Fault.TheVariants.{Conf, File, Image, Input, Log, LogImage, LogMachine, Memory, Output, Schedule, Source, Threads, Watch, Watches, Word}
-use Rattle.s161_base.specs.Machines.{is_other, machine_fault}
+use Rattle.s161_base.specs.declared.machines.LoggedMachine.{LoggedMachine}
+use Rattle.s161_base.specs.Machines.{is_image, is_other_size, is_other_unit, machine_fault}
 use Rattle.s161_base.specs.Faults.{fault_of_boot}
 use Rattle.s161_base.specs.Texts.{IsLogFault, IsScheduleFault}
 use Rattle.s161_base.proofs.Failing.{boot_failed, schedule_failed}
@@ -59,28 +58,28 @@ chosen P true same fault machine image is = let found : LogMachine ≡ fault = c
 chosen P false true fault machine image is = absurd (cc)
 chosen P false false fault machine image is = let found : LogImage ≡ fault = cc in subst P found (image refl)
 
-pub refused : (IsBooted : MachineConf → Type 0) (asked : AskedSize) (file : List ℕ) (line : Option MachineLine) (fault : Fault) →
-    machine_fault asked file line ≡ Some fault → IsMachineFault asked file line IsBooted fault
+pub refused : (IsBooted : MachineConf → Type 0) (asked : AskedSize) (file : List ℕ) (logged : Option LoggedMachine) (fault : Fault) →
+    machine_fault asked file logged ≡ Some fault → IsMachineFault asked file logged IsBooted fault
 refused IsBooted asked file None fault is = absurd (cc)
 refused IsBooted asked file (Some m) fault is =
-    chosen (IsMachineFault asked file (Some m) IsBooted) (is_other asked.ram m.ram || is_other asked.processors m.processors) (bytes_eq (sha256 file) m.digest) fault
+    chosen (IsMachineFault asked file (Some m) IsBooted) (is_other_unit asked.link m.mode.link || is_other_size asked m.line) (is_image file m.line) fault
     (λ e. e) (λ e. e) is
 
 -- the machine isn't booted
-pub not_booted : (IsBooted : MachineConf → Type 0) (asked : AskedSize) (file : List ℕ) (line : Option MachineLine) (conf : MachineConf) (fault : Fault) →
-    machine_fault asked file line ≡ None → IsBooted conf → IsBootFault file conf fault → IsMachineFault asked file line IsBooted fault
-not_booted IsBooted asked file line conf Conf none is h = (none, (conf, is, h))
-not_booted IsBooted asked file line conf (Image e) none is h = (none, (conf, is, h))
-not_booted IsBooted asked file line conf Memory none is h = tt
-not_booted IsBooted asked file line conf (File name why) none is h = absurd h
-not_booted IsBooted asked file line conf (Schedule n) none is h = absurd h
-not_booted IsBooted asked file line conf (Log n) none is h = absurd h
-not_booted IsBooted asked file line conf (Watches n) none is h = absurd h
-not_booted IsBooted asked file line conf (Watch k) none is h = absurd h
-not_booted IsBooted asked file line conf (Threads cause) none is h = absurd h
-not_booted IsBooted asked file line conf (Input why) none is h = absurd h
-not_booted IsBooted asked file line conf Word none is h = absurd h
-not_booted IsBooted asked file line conf LogMachine none is h = absurd h
-not_booted IsBooted asked file line conf LogImage none is h = absurd h
-not_booted IsBooted asked file line conf Output none is h = absurd h
-not_booted IsBooted asked file line conf (Source e) none is h = absurd h
+pub not_booted : (IsBooted : MachineConf → Type 0) (asked : AskedSize) (file : List ℕ) (logged : Option LoggedMachine) (conf : MachineConf) (fault : Fault) →
+    machine_fault asked file logged ≡ None → IsBooted conf → IsBootFault file conf fault → IsMachineFault asked file logged IsBooted fault
+not_booted IsBooted asked file logged conf Conf none is h = (none, (conf, is, h))
+not_booted IsBooted asked file logged conf (Image e) none is h = (none, (conf, is, h))
+not_booted IsBooted asked file logged conf Memory none is h = tt
+not_booted IsBooted asked file logged conf (File name why) none is h = absurd h
+not_booted IsBooted asked file logged conf (Schedule n) none is h = absurd h
+not_booted IsBooted asked file logged conf (Log n) none is h = absurd h
+not_booted IsBooted asked file logged conf (Watches n) none is h = absurd h
+not_booted IsBooted asked file logged conf (Watch k) none is h = absurd h
+not_booted IsBooted asked file logged conf (Threads cause) none is h = absurd h
+not_booted IsBooted asked file logged conf (Input why) none is h = absurd h
+not_booted IsBooted asked file logged conf Word none is h = absurd h
+not_booted IsBooted asked file logged conf LogMachine none is h = absurd h
+not_booted IsBooted asked file logged conf LogImage none is h = absurd h
+not_booted IsBooted asked file logged conf Output none is h = absurd h
+not_booted IsBooted asked file logged conf (Source e) none is h = absurd h

@@ -7,8 +7,7 @@ use Rattle.m161_machine.specs.declared.event.Event.{Event}
 use Rattle.m161_machine.specs.Conf.{is_within_limits}
 use Rattle.m161_machine.specs.History.{History, boot_fault, events_of}
 use Rattle.m161_text.specs.Lines.{FirstBad, lines_of}
-use Rattle.m161_steplog.specs.declared.machine.MachineLine.{MachineLine}
-use Rattle.m161_steplog.specs.Comments.{IsFirstBadOfLog, IsLogFile, is_comment}
+use Rattle.m161_steplog.specs.Comments.{IsFirstBadOfLog, is_comment}
 use Rattle.m161_steplog.specs.Schedule.{AreScheduleLines, IsSchedule}
 use Rattle.s161_command.specs.declared.drive.Drive.{Drive}
 use Rattle.s161_command.specs.declared.task.AskedSize.{AskedSize}
@@ -19,7 +18,8 @@ use Rattle.s161_base.specs.declared.fault.Fault.{Fault}
 use Rattle.s161_base.specs.declared.fault.Fault.TheVariants.{Conf, Image, Log, LogImage, LogMachine, Memory, Schedule}
 use Rattle.s161_base.specs.Faults.{BootsTo}
 use Rattle.s161_base.specs.Known.{OfKnown, OfText}
-use Rattle.s161_base.specs.Machines.{NamesMachine, asked_conf, machine_fault}
+use Rattle.s161_base.specs.declared.machines.LoggedMachine.{LoggedMachine}
+use Rattle.s161_base.specs.Machines.{IsLogOf, asked_conf, machine_fault}
 use Rattle.s161_base.specs.Reading.{IsFileUnread, IsOfBytes, IsOfText}
 use Rattle.s161_base.specs.Samples.{IsFileName}
 use Rattle.s161_base.specs.Streams.{AreUntouched, Streams}
@@ -38,16 +38,19 @@ first_plain (line ∷ lines) = if is_comment line then first_plain lines else li
 unfoldable pub is_log : List ℕ → Bool
 is_log text = starts_with nat_eq (first_plain (lines_of text)) (codes "m161 ")
 
--- the events of a text, and what its machine line says if it has one: those of a log, whose outcomes
--- don't count; or those of a schedule
-abbrev pub ListsAs : Bool → List ℕ → List Event → Option MachineLine → Type 0
-ListsAs true text events line =
-    ((entries : List Entry) × IsLogFile text entries × (events ≡ events_of entries))
-    × NamesMachine text line
-ListsAs false text events line = IsSchedule (lines_of text) events × (line ≡ None)
+-- the events of a log, whose outcomes don't count, and what it says of its machine
+abbrev pub ListsLog : List ℕ → List Event → Option LoggedMachine → Type 0
+ListsLog text events None = ⊥
+ListsLog text events (Some logged) =
+    (entries : List Entry) × IsLogOf text logged entries × (events ≡ events_of entries)
 
-abbrev pub Lists : List ℕ → List Event → Option MachineLine → Type 0
-Lists text events line = ListsAs (is_log text) text events line
+-- the events of a text: those of a log; or those of a schedule, which says nothing of a machine
+abbrev pub ListsAs : Bool → List ℕ → List Event → Option LoggedMachine → Type 0
+ListsAs true text events logged = ListsLog text events logged
+ListsAs false text events logged = IsSchedule (lines_of text) events × (logged ≡ None)
+
+abbrev pub Lists : List ℕ → List Event → Option LoggedMachine → Type 0
+Lists text events logged = ListsAs (is_log text) text events logged
 
 -- the machine of a driven run: as the session's, but its log keeps all of the run's events
 abbrev pub driven_conf : AskedSize → Drive → MachineConf
@@ -63,22 +66,22 @@ pub record ChoseFrom (file : List ℕ) (size : AskedSize) (drive : Drive) (keys 
 
 -- where the events come from: the text of a file; or a driven run, whose keys are the bytes of a file
 abbrev pub ComesFrom :
-    Source → AskedSize → (List ℕ → Option (List ℕ)) → List ℕ → List Event → Option MachineLine →
+    Source → AskedSize → (List ℕ → Option (List ℕ)) → List ℕ → List Event → Option LoggedMachine →
     Type 0
-ComesFrom (source.File name) size files file events line =
-    OfText (files name.now) (λ text. Lists text events line)
-ComesFrom (source.Driven drive) size files file events line =
+ComesFrom (source.File name) size files file events logged =
+    OfText (files name.now) (λ text. Lists text events logged)
+ComesFrom (source.Driven drive) size files file events logged =
     ((keys : List ℕ) × AreKeys drive.keys files keys × ChoseFrom file size drive keys events)
-    × (line ≡ None)
+    × (logged ≡ None)
 
 -- a session's machine was booted from a file, and these are its events
 pub record IsOpened
     (from : Source) (size : AskedSize) (files : List ℕ → Option (List ℕ)) (file : List ℕ)
     (booted : History) (events : List Event) : Type 0 where
-  pub line : Option MachineLine
-  pub come : ComesFrom from size files file events line
-  pub is_that : machine_fault size file line ≡ None
-  pub boots : BootsTo file (asked_conf size line) booted
+  pub logged : Option LoggedMachine
+  pub come : ComesFrom from size files file events logged
+  pub is_that : machine_fault size file logged ≡ None
+  pub boots : BootsTo file (asked_conf size logged) booted
 
 -- the session of a task: its image's file was booted; the files have these bytes, and that of the
 -- image, as far as they are known
@@ -105,21 +108,21 @@ IsListFault text (Log n) = (is_log text ≡ true) × IsFirstBadOfLog text n
 IsListFault text Memory = Unit {0}
 IsListFault text _ = ⊥
 
--- a file, in the size that is asked for, isn't the machine of a machine line; or it is, and isn't
+-- a file, in the machine that is asked for, isn't the one that a log names; or it is, and isn't
 -- booted in one of these sizes; or memory was refused
 abbrev pub IsMachineFault :
-    AskedSize → List ℕ → Option MachineLine → (MachineConf → Type 0) → Fault → Type 0
-IsMachineFault size file line IsBooted LogMachine =
-    machine_fault size file line ≡ Some LogMachine
-IsMachineFault size file line IsBooted LogImage = machine_fault size file line ≡ Some LogImage
-IsMachineFault size file line IsBooted Conf =
-    (machine_fault size file line ≡ None)
+    AskedSize → List ℕ → Option LoggedMachine → (MachineConf → Type 0) → Fault → Type 0
+IsMachineFault size file logged IsBooted LogMachine =
+    machine_fault size file logged ≡ Some LogMachine
+IsMachineFault size file logged IsBooted LogImage = machine_fault size file logged ≡ Some LogImage
+IsMachineFault size file logged IsBooted Conf =
+    (machine_fault size file logged ≡ None)
     × ((conf : MachineConf) × IsBooted conf × (is_within_limits conf ≡ false))
-IsMachineFault size file line IsBooted (Image e) =
-    (machine_fault size file line ≡ None)
+IsMachineFault size file logged IsBooted (Image e) =
+    (machine_fault size file logged ≡ None)
     × ((conf : MachineConf) × IsBooted conf × (boot_fault file conf ≡ Some (Load e)))
-IsMachineFault size file line IsBooted Memory = Unit {0}
-IsMachineFault size file line IsBooted _ = ⊥
+IsMachineFault size file logged IsBooted Memory = Unit {0}
+IsMachineFault size file logged IsBooted _ = ⊥
 
 -- why a session isn't opened over an image's file. A text isn't read, or lists no events; or else
 -- the machine's fault. Or the keys of a driven run aren't read; or else a machine's fault, that of the
@@ -130,8 +133,8 @@ IsSourceFault (source.File name) size files file fault =
     IsFileUnread name (IsOfText (files name.now)) fault
     ⊎ OfText (files name.now) (λ text. IsListFault text fault)
     ⊎ OfText (files name.now) (λ text.
-    (events : List Event) × (line : Option MachineLine) × Lists text events line
-    × IsMachineFault size file line (λ conf. conf ≡ asked_conf size line) fault)
+    (events : List Event) × (logged : Option LoggedMachine) × Lists text events logged
+    × IsMachineFault size file logged (λ conf. conf ≡ asked_conf size logged) fault)
 IsSourceFault (source.Driven drive) size files file fault =
     IsKeysFile drive.keys fault
     ⊎ IsMachineFault size file None

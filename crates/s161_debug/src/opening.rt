@@ -14,14 +14,13 @@ ghost use Rattle.s161_debug.specs.helpers.Debugs.{IsBootFault};
 
 use m161::Machine;
 use m161_machine::{Conf, Event};
-use m161_steplog::{MachineLine, read_machine};
 use m161_text::next_line;
 use s161_base::fault::Fault;
 use s161_base::files::FileSource;
 use s161_base::input::read_text;
-use s161_base::machines::{asked_conf, machine_fault};
+use s161_base::machines::{LoggedMachine, asked_conf, machine_fault};
 use s161_base::sample::read_image;
-use s161_base::texts::{entries_of, events_of};
+use s161_base::texts::{events_of, log_of};
 use s161_command::{AskedSize, DebugTask, Drive, Source};
 use s161_drive::policy::read_keys;
 use s161_drive::schedule::{chosen_events, events_made, log_for};
@@ -34,11 +33,11 @@ pub(crate) struct Opened {
     pub(crate) events: Vec<Event>,
 }
 
-// The events of a text, and what its machine line says.
+// The events of a text, and what it says of its machine if it is a log.
 #[derive(Drop)]
 struct Listed {
     events: Vec<Event>,
-    line: Option<MachineLine>,
+    logged: Option<LoggedMachine>,
 }
 
 /// Reads the image and then the file of the events, or of the keys of the driven run that chooses
@@ -117,23 +116,23 @@ fn open_driven<'a, F: FileSource>(
     open_chosen(alloc, image, size, drive, &keys)
 }
 
-// Boots the machine that is asked for, if the log's machine line names no other.
+// Boots the machine that is asked for, if a log names no other.
 fn open_listed<'a>(
     alloc: Global,
     image: &[u8],
     size: AskedSize,
     listed: Listed,
 ) -> Result<Opened, Fault<'a>>
-    ensures ok { IfOk result (λ opened. (machine_fault size image.now listed.line ≡ None)
-        × BootsTo image.now (asked_conf size listed.line) opened.machine
+    ensures ok { IfOk result (λ opened. (machine_fault size image.now listed.logged ≡ None)
+        × BootsTo image.now (asked_conf size listed.logged) opened.machine
         × (opened.events.items ≡ listed.events.items)) }
-    ensures fault { IfErr result (IsMachineFault size image.now listed.line
-        (λ conf. conf ≡ asked_conf size listed.line)) }
+    ensures fault { IfErr result (IsMachineFault size image.now listed.logged
+        (λ conf. conf ≡ asked_conf size listed.logged)) }
 {
-    if let Some(fault) = machine_fault(size, image, listed.line) {
+    if let Some(fault) = machine_fault(size, image, listed.logged) {
         return Err(fault);
     }
-    let machine = boot(alloc, image, asked_conf(size, listed.line))?;
+    let machine = boot(alloc, image, asked_conf(size, listed.logged))?;
     Ok(Opened {
         machine,
         events: listed.events,
@@ -190,6 +189,7 @@ fn driven_conf(size: AskedSize, drive: Drive<'_>) -> Conf
         ram: conf.ram,
         processors: conf.processors,
         log: log_for(size.log, drive.events),
+        link: conf.link,
     }
 }
 
@@ -204,7 +204,7 @@ fn boot<'a>(alloc: Global, image: &[u8], conf: Conf) -> Result<Machine, Fault<'a
 
 // The events of a text, which is a log or a schedule.
 fn list_text<'a>(alloc: Global, text: &str) -> Result<Listed, Fault<'a>>
-    ensures ok { IfOk result (λ listed. Lists text.now listed.events.items listed.line) }
+    ensures ok { IfOk result (λ listed. Lists text.now listed.events.items listed.logged) }
     ensures fault { IfErr result (IsListFault text.now) }
 {
     if is_log(text) {
@@ -236,25 +236,28 @@ fn first_plain(text: &str) -> &str
     ""
 }
 
-// The events of a log, and what its machine line says.
+// The events of a log, and what it says of its machine.
 fn list_log<'a>(alloc: Global, text: &str) -> Result<Listed, Fault<'a>>
-    ensures ok { IfOk result (λ listed. ListsAs true text.now listed.events.items listed.line) }
+    ensures ok { IfOk result (λ listed. ListsAs true text.now listed.events.items listed.logged) }
     ensures fault { IfErr result (IsLogFault text.now) }
 {
-    let entries = entries_of(alloc, text)?;
-    let events = events_made(alloc, &entries)?;
+    let log = log_of(alloc, text)?;
+    let events = events_made(alloc, &log.entries)?;
     Ok(Listed {
         events,
-        line: read_machine(text),
+        logged: Some(log.machine),
     })
 }
 
 // The events of a schedule.
 fn list_schedule<'a>(alloc: Global, text: &str) -> Result<Listed, Fault<'a>>
-    ensures ok { IfOk result (λ listed. ListsAs false text.now listed.events.items listed.line) }
+    ensures ok { IfOk result (λ listed. ListsAs false text.now listed.events.items listed.logged) }
     ensures fault { IfErr result (IsScheduleFault text.now) }
 {
     let events = events_of(alloc, text)?;
     let events = events.to_vec(alloc)?;
-    Ok(Listed { events, line: None })
+    Ok(Listed {
+        events,
+        logged: None,
+    })
 }

@@ -32,6 +32,7 @@ schedule_conf task = record {
   ram = task.size.ram;
   processors = task.size.processors;
   log = log_for task.size.log task.drive.events;
+  link = task.size.link;
 }
 
 -- from a machine these are the events that a policy chooses, at most n; each is accepted, and memory

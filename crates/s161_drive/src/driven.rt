@@ -47,6 +47,7 @@ pub fn run_driven<'a, F: FileSource>(
             ram: task.run.size.ram,
             processors: task.run.size.processors,
             log: task.run.size.log,
+            link: task.run.size.link,
         },
     )?;
     let driven = make_driven(&mut machine, task.drive, &keys);

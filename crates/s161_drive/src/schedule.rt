@@ -45,6 +45,7 @@ pub fn schedule<'a, F: FileSource>(
             ram: task.size.ram,
             processors: task.size.processors,
             log: log_for(task.size.log, task.drive.events),
+            link: task.size.link,
         },
     )?;
     // So that the proof knows that the log has its room.

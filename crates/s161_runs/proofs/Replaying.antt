@@ -1,10 +1,9 @@
-use Rattle.std.proofs.Common.{◌≡◌, ℕ, List, Bool, true, false, ◌||◌, if◌then◌else◌, bytes_eq, Option, None, Some, refl, subst}
-use Rattle.sha2.specs.Sha256.{sha256}
-use Rattle.m161_steplog.specs.declared.machine.MachineLine.{MachineLine}
+use Rattle.std.proofs.Common.{◌≡◌, ℕ, List, Bool, true, false, ◌||◌, if◌then◌else◌, Option, None, Some, refl, subst}
 use Rattle.s161_command.specs.declared.task.AskedSize.{AskedSize}
 use Rattle.s161_base.specs.declared.fault.Fault.{Fault}
 use Rattle.s161_base.specs.declared.fault.Fault.TheVariants.{LogImage, LogMachine}
-use Rattle.s161_base.specs.Machines.{is_other, machine_fault}
+use Rattle.s161_base.specs.declared.machines.LoggedMachine.{LoggedMachine}
+use Rattle.s161_base.specs.Machines.{is_image, is_other_size, is_other_unit, machine_fault}
 
 -- Why the machine that is asked for isn't the one that a log names: `P` is what is said of the fault.
 
@@ -17,9 +16,8 @@ chosen P true same fault machine image is = let found : LogMachine ≡ fault = c
 chosen P false true fault machine image is = absurd (cc)
 chosen P false false fault machine image is = let found : LogImage ≡ fault = cc in subst P found (image refl)
 
-pub refused : (P : Fault → Type 0) (asked : AskedSize) (file : List ℕ) (line : Option MachineLine) (fault : Fault) →
-    (machine_fault asked file line ≡ Some LogMachine → P LogMachine) → (machine_fault asked file line ≡ Some LogImage → P LogImage) →
-    machine_fault asked file line ≡ Some fault → P fault
-refused P asked file None fault machine image is = absurd (cc)
-refused P asked file (Some m) fault machine image is =
-    chosen P (is_other asked.ram m.ram || is_other asked.processors m.processors) (bytes_eq (sha256 file) m.digest) fault machine image is
+pub refused : (P : Fault → Type 0) (asked : AskedSize) (file : List ℕ) (logged : LoggedMachine) (fault : Fault) →
+    (machine_fault asked file (Some logged) ≡ Some LogMachine → P LogMachine) → (machine_fault asked file (Some logged) ≡ Some LogImage → P LogImage) →
+    machine_fault asked file (Some logged) ≡ Some fault → P fault
+refused P asked file logged fault machine image is =
+    chosen P (is_other_unit asked.link logged.mode.link || is_other_size asked logged.line) (is_image file logged.line) fault machine image is

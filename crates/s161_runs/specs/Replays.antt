@@ -3,18 +3,18 @@ use Rattle.m161_machine.specs.declared.conf.BootError.TheVariants.{Load}
 use Rattle.m161_machine.specs.declared.event.Entry.{Entry}
 use Rattle.m161_machine.specs.Conf.{is_within_limits}
 use Rattle.m161_machine.specs.History.{boot_fault}
-use Rattle.m161_steplog.specs.declared.machine.MachineLine.{MachineLine}
 use Rattle.m161_steplog.specs.declared.verdict.Verdict.{Verdict}
 use Rattle.m161_steplog.specs.declared.verdict.Verdict.TheVariants.{Agrees, Differs}
 use Rattle.m161_text.specs.Lines.{with_line_end}
-use Rattle.m161_steplog.specs.Comments.{IsFirstBadOfLog, IsLogFile}
+use Rattle.m161_steplog.specs.Comments.{IsFirstBadOfLog}
 use Rattle.m161_text.specs.Parts.{◌␣◌}
 use Rattle.m161_steplog.specs.Verdict.{Verifies}
 use Rattle.s161_command.specs.declared.task.ReplayTask.{ReplayTask}
 use Rattle.s161_base.specs.declared.fault.Fault.{Fault}
 use Rattle.s161_base.specs.declared.fault.Fault.TheVariants.{Conf, File, Image, Log, LogImage, LogMachine, Memory}
 use Rattle.s161_base.specs.Known.{IsText, OfKnown, OfText}
-use Rattle.s161_base.specs.Machines.{NamesMachine, asked_conf, machine_fault}
+use Rattle.s161_base.specs.declared.machines.LoggedMachine.{LoggedMachine}
+use Rattle.s161_base.specs.Machines.{IsLogOf, asked_conf, machine_fault}
 use Rattle.s161_base.specs.Reading.{IsOfBytes, IsOfText}
 use Rattle.s161_base.specs.Samples.{IsFileName}
 
@@ -38,25 +38,24 @@ pub record IsReplayed
   pub entries_text : List ℕ
   pub is_file_of_entries : IfSome log (λ bytes. entries_text ≡ bytes)
   pub is_text : IsText entries_text
+  pub logged : LoggedMachine
   pub entries : List Entry
-  pub is_log : IsLogFile entries_text entries
-  pub line : Option MachineLine
-  pub names : NamesMachine entries_text line
-  pub is_that : machine_fault task.size file line ≡ None
+  pub is_log : IsLogOf entries_text logged entries
+  pub is_that : machine_fault task.size file (Some logged) ≡ None
   pub verdict : Verdict
   pub verifies :
-      Verifies file (asked_conf task.size line) (boot_fault file (asked_conf task.size line)) entries
-      (Ok verdict)
+      Verifies file (asked_conf task.size (Some logged))
+      (boot_fault file (asked_conf task.size (Some logged))) entries (Ok verdict)
   pub text_is : text ≡ with_line_end (verdict_text verdict)
   pub status_is : status ≡ status_of_verdict verdict
 
--- this holds of the image's bytes and of the machine line of the log, if it has one; as far as the
--- files are known
+-- this holds of the image's bytes and of what the log says of its machine; as far as the files are
+-- known
 abbrev pub OfReplay :
-    Option (List ℕ) → Option (List ℕ) → (List ℕ → Option MachineLine → Type 0) → Type 0
+    Option (List ℕ) → Option (List ℕ) → (List ℕ → LoggedMachine → Type 0) → Type 0
 OfReplay image log IsSo =
-    OfKnown image (λ file. OfText log (λ text. (entries : List Entry) × IsLogFile text entries
-    × ((line : Option MachineLine) × NamesMachine text line × IsSo file line)))
+    OfKnown image (λ file. OfText log (λ text. (logged : LoggedMachine) × (entries : List Entry)
+    × IsLogOf text logged entries × IsSo file logged))
 
 -- what a fault that ends a replay says of its inputs: of a file, that it is the image's or the
 -- log's; of the log, its first bad line; then, that the log has none, and that the machine isn't the
@@ -69,14 +68,14 @@ IsReplayFault task image log (File name why) =
 IsReplayFault task image log (Log n) =
     OfText log (λ text. IsFirstBadOfLog text n)
 IsReplayFault task image log LogMachine =
-    OfReplay image log (λ file line. machine_fault task.size file line ≡ Some LogMachine)
+    OfReplay image log (λ file logged. machine_fault task.size file (Some logged) ≡ Some LogMachine)
 IsReplayFault task image log LogImage =
-    OfReplay image log (λ file line. machine_fault task.size file line ≡ Some LogImage)
+    OfReplay image log (λ file logged. machine_fault task.size file (Some logged) ≡ Some LogImage)
 IsReplayFault task image log Conf =
-    OfReplay image log (λ file line. (machine_fault task.size file line ≡ None)
-    × (is_within_limits (asked_conf task.size line) ≡ false))
+    OfReplay image log (λ file logged. (machine_fault task.size file (Some logged) ≡ None)
+    × (is_within_limits (asked_conf task.size (Some logged)) ≡ false))
 IsReplayFault task image log (Image e) =
-    OfReplay image log (λ file line. (machine_fault task.size file line ≡ None)
-    × (boot_fault file (asked_conf task.size line) ≡ Some (Load e)))
+    OfReplay image log (λ file logged. (machine_fault task.size file (Some logged) ≡ None)
+    × (boot_fault file (asked_conf task.size (Some logged)) ≡ Some (Load e)))
 IsReplayFault task image log Memory = Unit {0}
 IsReplayFault task image log _ = ⊥

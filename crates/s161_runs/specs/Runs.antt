@@ -13,6 +13,7 @@ use Rattle.m161_machine.specs.History.{History, Continues, Refuses, boot_fault}
 use Rattle.m161_display.specs.Shows.{show_regs_text}
 use Rattle.m161_text.specs.Lines.{with_line_end, FirstBad, lines_of}
 use Rattle.m161_steplog.specs.declared.machine.MachineLine.{MachineLine}
+use Rattle.m161_steplog.specs.declared.mode.Mode.{Mode}
 use Rattle.m161_steplog.specs.Log.{log_text, tail_text}
 use Rattle.m161_steplog.specs.Machine.{machine_text}
 use Rattle.m161_text.specs.Parts.{◌␣◌}
@@ -96,11 +97,19 @@ line_of m file = record {
   digest = sha256 file;
 }
 
--- the machine line, and the text of the log, or of its end if entries were dropped
+-- what the outcomes of its events hang on
+abbrev pub mode_of : History → Mode
+mode_of m = record { link = m.start.conf.link }
+
+-- the text of the log, or of its end if entries were dropped
+abbrev pub kept_text : History → List ℕ
+kept_text m =
+    if m.base.made == 0 then log_text (mode_of m) m.log
+    else tail_text (mode_of m) m.base.made m.log
+
+-- the machine line, and that text
 abbrev pub shown_log : History → List ℕ → List ℕ
-shown_log m file =
-    with_line_end (machine_text (line_of m file))
-    ++ (if m.base.made == 0 then log_text m.log else tail_text m.base.made m.log)
+shown_log m file = with_line_end (machine_text (line_of m file)) ++ kept_text m
 
 -- what a machine shows, with the text of a log before the last line
 abbrev pub summary_with : List ℕ → History → Stop → List ℕ

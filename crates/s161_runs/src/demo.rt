@@ -5,15 +5,17 @@ ghost use Rattle.s161_runs.specs.Demos.{IsDemo};
 
 use m161::Machine;
 use m161_display::show_regs;
+use m161_isa::LinkUnit;
 use m161_machine::Conf;
 use s161_base::fault::Fault;
 use std::alloc::Global;
 
-/// The size of the demo's machine.
+/// The demo's machine.
 pub const CONF: Conf = Conf {
     ram: 1_048_576,
     processors: 1,
     log: 7,
+    link: LinkUnit::Word,
 };
 
 /// An ELF file of one segment at 80000200, with the program below.

@@ -6,20 +6,20 @@ ghost use Rattle.s161_runs.specs.Replays.{IsReplayed, IsReplayFault, status_of_v
 ghost use Rattle.s161_base.specs.Samples.{image_file};
 
 use m161::{Console, Tlb};
-use m161_steplog::{Verdict, read_machine, verify};
+use m161_steplog::{Verdict, verify};
 use s161_base::fault::Fault;
 use s161_base::files::FileSource;
 use s161_base::finished::Finished;
 use s161_base::input::read_text;
 use s161_base::machines::{asked_conf, machine_fault};
 use s161_base::sample::read_image;
-use s161_base::texts::entries_of;
+use s161_base::texts::log_of;
 use s161_command::ReplayTask;
 use std::alloc::{AllocError, Global};
 
-/// Reads the image and then the log, boots the image, on the machine that the log names if it has a
-/// machine line, and makes the log's events until one is refused or its outcome differs from its
-/// entry's.
+/// Reads the image and then the log, boots the image, on the machine that the log names, and makes
+/// the log's events until one is refused or its outcome differs from its entry's. The unit of links
+/// is that of the log's first line; its size is that of its machine line, if it has one.
 ///
 /// # Errors
 /// The first fault.
@@ -39,15 +39,15 @@ pub fn replay<'a, F: FileSource>(
 {
     let file = read_image(alloc, files, task.image)?;
     let image = file.as_slice();
-    let log = read_text(alloc, files, task.text)?;
-    let text = log.as_str();
-    let entries = entries_of(alloc, text)?;
-    let line = read_machine(text);
-    if let Some(fault) = machine_fault(task.size, image, line) {
+    let listed = read_text(alloc, files, task.text)?;
+    let text = listed.as_str();
+    let log = log_of(alloc, text)?;
+    let logged = Some(log.machine);
+    if let Some(fault) = machine_fault(task.size, image, logged) {
         return Err(fault);
     }
-    let conf = asked_conf(task.size, line);
-    let verdict = verify::<Tlb, Console>(alloc, image, conf, &entries)?;
+    let conf = asked_conf(task.size, logged);
+    let verdict = verify::<Tlb, Console>(alloc, image, conf, &log.entries)?;
     let shown = verdict_line(alloc, verdict)?;
     Ok(Finished {
         text: shown.into_bytes(),

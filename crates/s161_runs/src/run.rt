@@ -48,6 +48,7 @@ pub fn run<'a, F: FileSource, I: Read>(
             ram: task.size.ram,
             processors: task.size.processors,
             log: task.size.log,
+            link: task.size.link,
         },
     )?;
     let stop = make_events(&mut machine, &events);

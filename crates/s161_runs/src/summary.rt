@@ -7,7 +7,7 @@ use crate::events::Stop;
 use m161::Machine;
 use m161_display::show_regs;
 use m161_machine::ProcessorState;
-use m161_steplog::{machine_line, write_log, write_tail};
+use m161_steplog::{Mode, machine_line, write_log, write_tail};
 use s161_base::machines::image_digest;
 use s161_command::Shown;
 use std::alloc::{AllocError, Global};
@@ -94,9 +94,10 @@ fn shown_log(alloc: Global, machine: &Machine, file: &[u8]) -> Result<String, Al
     let conf = machine.conf();
     let mut text = machine_line(alloc, conf.ram, conf.processors, &image_digest(file))?;
     let entries = machine.copy_log(alloc)?;
+    let mode = Mode { link: conf.link };
     let log = match machine.base().made() {
-        0 => write_log(alloc, &entries)?,
-        dropped => write_tail(alloc, dropped, &entries)?,
+        0 => write_log(alloc, mode, &entries)?,
+        dropped => write_tail(alloc, mode, dropped, &entries)?,
     };
     text.push_str(log.as_str())?;
     Ok(text)

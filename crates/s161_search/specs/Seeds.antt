@@ -45,6 +45,7 @@ search_conf task = record {
   ram = task.size.ram;
   processors = task.size.processors;
   log = log_for task.size.log task.drive.events;
+  link = task.size.link;
 }
 
 -- run k, and its verdict

@@ -49,6 +49,7 @@ pub(crate) fn conf_of(task: SearchTask<'_>) -> Conf
         ram: task.size.ram,
         processors: task.size.processors,
         log: log_for(task.size.log, task.drive.events),
+        link: task.size.link,
     }
 }
 

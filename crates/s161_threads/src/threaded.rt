@@ -58,6 +58,7 @@ pub fn run_in_threads<'a, R: Threads + Wait + Sync, F: FileSource>(
             ram: run.size.ram,
             processors: run.size.processors,
             log: run.size.log,
+            link: run.size.link,
         },
     )?;
     machine.replay();

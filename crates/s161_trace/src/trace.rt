@@ -74,6 +74,7 @@ fn conf_of(size: Size) -> Conf
         ram: size.ram,
         processors: size.processors,
         log: size.log,
+        link: size.link,
     }
 }
 

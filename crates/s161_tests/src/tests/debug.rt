@@ -5,7 +5,7 @@ use super::same;
 use m161::{Console, Machine, Tlb};
 use m161_debug::{BreakError, CommandError, Stop};
 use m161_elf::is_in_ram;
-use m161_isa::Reg;
+use m161_isa::{LinkUnit, Reg};
 use m161_machine::Event::{Done, Key, Step};
 use m161_machine::{Conf, Event, Refusal};
 use m161_test_support::files::file_from;
@@ -391,6 +391,7 @@ fn session_of(
         ram,
         processors,
         log,
+        link: LinkUnit::Word,
     };
     Ok(Session::new(Machine::boot(alloc, &file, conf)?))
 }

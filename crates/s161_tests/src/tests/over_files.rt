@@ -1,6 +1,6 @@
 //! `replay` and `debug`: an image with a log or a schedule, and what is printed.
 
-use super::run::{POWER_OFF, REST, START_OTHER, ZEROS, join, work_over};
+use super::run::{LINKED, POWER_OFF, REST, START_OTHER, ZEROS, join, work_over};
 use super::same;
 use super::streams::{Failing, Memory, TwoFiles, all};
 use m161_test_support::files::file_at;
@@ -15,11 +15,14 @@ use std::thread::Threads;
 /// A loop: `addiu $8, $8, 1`, `beq $0, $0, 0x80000200`, `nop`.
 const LOOP: [u32; 3] = [0x2508_0001, 0x1000_fffe, 0x0000_0000];
 
+/// The log of seven Steps of `LINKED` where links are to words, without the first line.
+const SEVEN: &str = "s 0 ran\ns 0 ran\ns 0 ran\ns 0 ran\ns 0 ran\ns 0 ran\ns 0 ran\n";
+
 /// A log of `power-off`'s run.
-const LOG: &str = "m161 log 1\ns 0 ran\ns 0 off\n";
+const LOG: &str = "m161 log 2 word\ns 0 ran\ns 0 off\n";
 
 /// A run of two processors.
-const TWO: &str = "m161 log 1
+const TWO: &str = "m161 log 2 word
 s 0 ran
 s 0 ran
 s 0 ran
@@ -32,7 +35,7 @@ s 0 ran
 /// The same behind its machine line. The SHA-256 is that of Python's hashlib.
 const TWO_WITH_MACHINE: &str =
     "# machine 1048576 2 e6ec51dc5abde77f019250c2dec06f12480265fd72b4cf0d3bd9748e203fc382
-m161 log 1
+m161 log 2 word
 s 0 ran
 s 0 ran
 s 0 ran
@@ -46,7 +49,7 @@ s 0 ran
 struct Case {
     words: &'static [&'static str],
     program: &'static [u32],
-    text: &'static str,
+    text: &'static [&'static str],
     input: &'static str,
     status: u8,
     output: &'static [&'static str],
@@ -60,25 +63,26 @@ fn check(
 ) -> Result<(), Fail> {
     for case in cases {
         let image = file_at(rt.alloc(), ENTRY, case.program)?;
+        let text = join(rt, &[case.text])?;
         let mut files = TwoFiles {
             image: &image,
-            text: case.text.as_bytes(),
+            text: text.as_bytes(),
         };
         let output = join(rt, &[case.output])?;
         let texts = [output.as_str(), case.errors];
         let mut input = case.input.as_bytes();
         let found = work_over(rt, case.words, &mut files, &mut input, texts);
         let expected = (case.status, all(texts[0]), all(texts[1]));
-        same(rt, (case.text, found), (case.text, expected));
+        same(rt, (text.as_str(), found), (text.as_str(), expected));
     }
     Ok(())
 }
 
-static VERDICTS: [Case; 9] = [
+static VERDICTS: [Case; 10] = [
     Case {
         words: &["s161", "replay", "image", "text"],
         program: &POWER_OFF,
-        text: LOG,
+        text: &[LOG],
         input: "",
         status: 0,
         output: &["agrees\n"],
@@ -87,7 +91,7 @@ static VERDICTS: [Case; 9] = [
     Case {
         words: &["s161", "replay", "image", "text"],
         program: &POWER_OFF,
-        text: "m161 log 1\ns 0 ran\ns 0 ran\n",
+        text: &["m161 log 2 word\ns 0 ran\ns 0 ran\n"],
         input: "",
         status: 4,
         output: &["differs 1\n"],
@@ -96,7 +100,7 @@ static VERDICTS: [Case; 9] = [
     Case {
         words: &["s161", "replay", "image", "text"],
         program: &POWER_OFF,
-        text: "m161 log 1\ns 0 ran\ns 0 off\ns 0 ran",
+        text: &["m161 log 2 word\ns 0 ran\ns 0 off\ns 0 ran"],
         input: "",
         status: 4,
         output: &["differs 2\n"],
@@ -106,7 +110,7 @@ static VERDICTS: [Case; 9] = [
     Case {
         words: &["s161", "replay", "image", "text"],
         program: &POWER_OFF,
-        text: "m161 log 1",
+        text: &["m161 log 2 word"],
         input: "not read",
         status: 0,
         output: &["agrees\n"],
@@ -115,7 +119,7 @@ static VERDICTS: [Case; 9] = [
     Case {
         words: &["s161", "replay", "image", "text"],
         program: &POWER_OFF,
-        text: "m161 log 1\nk 41 taken\ns 0 ran\ns 0 off\n",
+        text: &["m161 log 2 word\nk 41 taken\ns 0 ran\ns 0 off\n"],
         input: "",
         status: 0,
         output: &["agrees\n"],
@@ -124,7 +128,7 @@ static VERDICTS: [Case; 9] = [
     Case {
         words: &["s161", "replay", "image", "text", "--cpus=2"],
         program: &START_OTHER,
-        text: TWO,
+        text: &[TWO],
         input: "",
         status: 0,
         output: &["agrees\n"],
@@ -134,7 +138,17 @@ static VERDICTS: [Case; 9] = [
     Case {
         words: &["s161", "replay", "image", "text"],
         program: &START_OTHER,
-        text: TWO_WITH_MACHINE,
+        text: &[TWO_WITH_MACHINE],
+        input: "",
+        status: 0,
+        output: &["agrees\n"],
+        errors: "",
+    },
+    // format 1
+    Case {
+        words: &["s161", "replay", "image", "text"],
+        program: &POWER_OFF,
+        text: &["m161 log 1\ns 0 ran\ns 0 off\n"],
         input: "",
         status: 0,
         output: &["agrees\n"],
@@ -144,7 +158,7 @@ static VERDICTS: [Case; 9] = [
     Case {
         words: &["s161", "replay", "image", "text"],
         program: &START_OTHER,
-        text: TWO,
+        text: &[TWO],
         input: "",
         status: 4,
         output: &["differs 5\n"],
@@ -153,7 +167,7 @@ static VERDICTS: [Case; 9] = [
     Case {
         words: &["s161", "replay", "--log", "1", "image", "text"],
         program: &POWER_OFF,
-        text: LOG,
+        text: &[LOG],
         input: "",
         status: 0,
         output: &["agrees\n"],
@@ -165,7 +179,7 @@ static REPLAY_FAULTS: [Case; 10] = [
     Case {
         words: &["s161", "replay", "other", "none"],
         program: &POWER_OFF,
-        text: "",
+        text: &[""],
         input: "",
         status: 1,
         output: &[],
@@ -174,7 +188,7 @@ static REPLAY_FAULTS: [Case; 10] = [
     Case {
         words: &["s161", "replay", "image", "none"],
         program: &POWER_OFF,
-        text: "",
+        text: &[""],
         input: "",
         status: 1,
         output: &[],
@@ -184,7 +198,7 @@ static REPLAY_FAULTS: [Case; 10] = [
     Case {
         words: &["s161", "replay", "image", "text", "--cpus=1"],
         program: &POWER_OFF,
-        text: TWO_WITH_MACHINE,
+        text: &[TWO_WITH_MACHINE],
         input: "",
         status: 1,
         output: &[],
@@ -193,7 +207,7 @@ static REPLAY_FAULTS: [Case; 10] = [
     Case {
         words: &["s161", "replay", "image", "text"],
         program: &POWER_OFF,
-        text: TWO_WITH_MACHINE,
+        text: &[TWO_WITH_MACHINE],
         input: "",
         status: 1,
         output: &[],
@@ -203,7 +217,7 @@ static REPLAY_FAULTS: [Case; 10] = [
     Case {
         words: &["s161", "replay", "image", "image"],
         program: &POWER_OFF,
-        text: "",
+        text: &[""],
         input: "",
         status: 1,
         output: &[],
@@ -212,36 +226,36 @@ static REPLAY_FAULTS: [Case; 10] = [
     Case {
         words: &["s161", "replay", "image", "text"],
         program: &POWER_OFF,
-        text: "",
+        text: &[""],
         input: "",
         status: 1,
         output: &[],
-        errors: "s161: log line 1 (after m161 log 1 a line is s P ran, s P trap CODE VECTOR, s P idle, s P off, k HH taken or o taken)\n",
+        errors: "s161: log line 1 (after m161 log 2 word, m161 log 2 line or m161 log 1 a line is s P ran, s P trap CODE VECTOR, s P idle, s P off, k HH taken or o taken)\n",
     },
     // the end of a log
     Case {
         words: &["s161", "replay", "image", "text"],
         program: &POWER_OFF,
-        text: "m161 tail 1 1\ns 0 off\n",
+        text: &["m161 tail 2 word 1\ns 0 off\n"],
         input: "",
         status: 1,
         output: &[],
-        errors: "s161: log line 1 (after m161 log 1 a line is s P ran, s P trap CODE VECTOR, s P idle, s P off, k HH taken or o taken)\n",
+        errors: "s161: log line 1 (after m161 log 2 word, m161 log 2 line or m161 log 1 a line is s P ran, s P trap CODE VECTOR, s P idle, s P off, k HH taken or o taken)\n",
     },
     // a log's fault comes before the machine's
     Case {
         words: &["s161", "replay", "image", "text", "--ram", "4097"],
         program: &POWER_OFF,
-        text: "m161 log 1\ns 0 ran\n\n",
+        text: &["m161 log 2 word\ns 0 ran\n\n"],
         input: "",
         status: 1,
         output: &[],
-        errors: "s161: log line 3 (after m161 log 1 a line is s P ran, s P trap CODE VECTOR, s P idle, s P off, k HH taken or o taken)\n",
+        errors: "s161: log line 3 (after m161 log 2 word, m161 log 2 line or m161 log 1 a line is s P ran, s P trap CODE VECTOR, s P idle, s P off, k HH taken or o taken)\n",
     },
     Case {
         words: &["s161", "replay", "image", "text", "--ram", "4097"],
         program: &POWER_OFF,
-        text: LOG,
+        text: &[LOG],
         input: "",
         status: 1,
         output: &[],
@@ -250,7 +264,7 @@ static REPLAY_FAULTS: [Case; 10] = [
     Case {
         words: &["s161", "replay", "text", "text"],
         program: &POWER_OFF,
-        text: LOG,
+        text: &[LOG],
         input: "",
         status: 1,
         output: &[],
@@ -263,7 +277,7 @@ static COMMANDS: [Case; 6] = [
     Case {
         words: &["s161", "debug", "image", "text", "--cpus", "2"],
         program: &LOOP,
-        text: "s 0 7\n",
+        text: &["s 0 7\n"],
         input: "b 0 80000200\ng\ng 2\ng\ng\ng\nr 0\n",
         status: 0,
         output: &[
@@ -278,7 +292,7 @@ static COMMANDS: [Case; 6] = [
     Case {
         words: &["s161", "debug", "image", "text", "--cpus", "2"],
         program: &LOOP,
-        text: "s 0 7\n",
+        text: &["s 0 7\n"],
         input: "b 1 80000200\ng\nd 1 80000200\nd 1 80000200",
         status: 0,
         output: &["break 1 80000200\nend 7\ndeleted\nnone\n"],
@@ -288,7 +302,7 @@ static COMMANDS: [Case; 6] = [
     Case {
         words: &["s161", "debug", "image", "text"],
         program: &LOOP,
-        text: "s 0\nk 41\n",
+        text: &["s 0\nk 41\n"],
         input: "s 0\ng 1\nx 80000204 1\nm 00000200 1\ng\nk 42\no\n",
         status: 0,
         output: &[
@@ -301,7 +315,7 @@ static COMMANDS: [Case; 6] = [
     Case {
         words: &["s161", "debug", "image", "text"],
         program: &POWER_OFF,
-        text: "s 0 3\n",
+        text: &["s 0 3\n"],
         input: "\nz\nr  0\nr 1\ng 2\ng\ng\n",
         status: 0,
         output: &[
@@ -314,7 +328,7 @@ static COMMANDS: [Case; 6] = [
     Case {
         words: &["s161", "debug", "image", "text", "--log", "1"],
         program: &POWER_OFF,
-        text: "s 0 3\n",
+        text: &["s 0 3\n"],
         input: "l 5\ng\r\ng\nl 5\nl 0\ng\n",
         status: 0,
         output: &["? Unknown\noff 1\ns 0 off\n? BadArgument\nrefused 0 2 Off\n"],
@@ -323,7 +337,7 @@ static COMMANDS: [Case; 6] = [
     Case {
         words: &["s161", "debug", "image", "text"],
         program: &POWER_OFF,
-        text: "",
+        text: &[""],
         input: "",
         status: 0,
         output: &[],
@@ -335,7 +349,7 @@ static DEBUG_FAULTS: [Case; 5] = [
     Case {
         words: &["s161", "debug", "other", "none"],
         program: &POWER_OFF,
-        text: "",
+        text: &[""],
         input: "",
         status: 1,
         output: &[],
@@ -344,7 +358,7 @@ static DEBUG_FAULTS: [Case; 5] = [
     Case {
         words: &["s161", "debug", "image", "none"],
         program: &POWER_OFF,
-        text: "",
+        text: &[""],
         input: "",
         status: 1,
         output: &[],
@@ -354,7 +368,7 @@ static DEBUG_FAULTS: [Case; 5] = [
     Case {
         words: &["s161", "debug", "image", "text", "--cpus", "0"],
         program: &POWER_OFF,
-        text: "s 0\ns 0 0\n",
+        text: &["s 0\ns 0 0\n"],
         input: "g\n",
         status: 1,
         output: &[],
@@ -363,7 +377,7 @@ static DEBUG_FAULTS: [Case; 5] = [
     Case {
         words: &["s161", "debug", "image", "text", "--cpus", "0"],
         program: &POWER_OFF,
-        text: "s 0\n",
+        text: &["s 0\n"],
         input: "g\n",
         status: 1,
         output: &[],
@@ -372,13 +386,125 @@ static DEBUG_FAULTS: [Case; 5] = [
     Case {
         words: &["s161", "debug", "text", "text"],
         program: &POWER_OFF,
-        text: "s 0\n",
+        text: &["s 0\n"],
         input: "g\n",
         status: 1,
         output: &[],
         errors: "s161: image 1 Truncated (the file is shorter than an ELF header)\n",
     },
 ];
+
+/// The unit of links that a log names, or that is given.
+static UNITS: [Case; 11] = [
+    // line-replay
+    Case {
+        words: &["s161", "replay", "image", "text"],
+        program: &LINKED,
+        text: &["m161 log 1\n", SEVEN],
+        input: "",
+        status: 0,
+        output: &["agrees\n"],
+        errors: "",
+    },
+    Case {
+        words: &["s161", "replay", "image", "text"],
+        program: &LINKED,
+        text: &["m161 log 2 word\n", SEVEN],
+        input: "",
+        status: 0,
+        output: &["agrees\n"],
+        errors: "",
+    },
+    Case {
+        words: &["s161", "replay", "image", "text"],
+        program: &LINKED,
+        text: &["m161 log 2 line\n", SEVEN],
+        input: "",
+        status: 4,
+        output: &["differs 6\n"],
+        errors: "",
+    },
+    // debug over a log, with the unit of its first line given or not
+    Case {
+        words: &["s161", "debug", "image", "text"],
+        program: &LINKED,
+        text: &["m161 log 1\n", SEVEN],
+        input: "g\nl 1\n",
+        status: 0,
+        output: &["end 7\ns 0 ran\n"],
+        errors: "",
+    },
+    Case {
+        words: &["s161", "debug", "image", "text"],
+        program: &LINKED,
+        text: &["m161 log 2 line\n", SEVEN],
+        input: "g\nl 1\n",
+        status: 0,
+        output: &["end 7\ns 0 trap 9 80000080\n"],
+        errors: "",
+    },
+    Case {
+        words: &["s161", "debug", "image", "text", "--link", "line"],
+        program: &LINKED,
+        text: &["m161 log 2 line\n", SEVEN],
+        input: "g\nl 1\n",
+        status: 0,
+        output: &["end 7\ns 0 trap 9 80000080\n"],
+        errors: "",
+    },
+    // another unit than the log's, whose machine line comes after it
+    Case {
+        words: &["s161", "debug", "image", "text", "--link", "word"],
+        program: &LINKED,
+        text: &["m161 log 2 line\n", SEVEN],
+        input: "g\n",
+        status: 1,
+        output: &[],
+        errors: "s161: log machine (an option that is given isn't that of the log's machine)\n",
+    },
+    Case {
+        words: &["s161", "debug", "image", "text", "--link=line"],
+        program: &LINKED,
+        text: &["m161 log 1\n", SEVEN],
+        input: "g\n",
+        status: 1,
+        output: &[],
+        errors: "s161: log machine (an option that is given isn't that of the log's machine)\n",
+    },
+    Case {
+        words: &["s161", "debug", "image", "text", "--link=line"],
+        program: &LINKED,
+        text: &[TWO_WITH_MACHINE],
+        input: "g\n",
+        status: 1,
+        output: &[],
+        errors: "s161: log machine (an option that is given isn't that of the log's machine)\n",
+    },
+    // a schedule names no unit
+    Case {
+        words: &["s161", "debug", "image", "text"],
+        program: &LINKED,
+        text: &["s 0 7\n"],
+        input: "g\nl 1\n",
+        status: 0,
+        output: &["end 7\ns 0 ran\n"],
+        errors: "",
+    },
+    Case {
+        words: &["s161", "debug", "image", "text", "--link", "line"],
+        program: &LINKED,
+        text: &["s 0 7\n"],
+        input: "g\nl 1\n",
+        status: 0,
+        output: &["end 7\ns 0 trap 9 80000080\n"],
+        errors: "",
+    },
+];
+
+#[test]
+fn line_replay(rt: HostRuntime) -> Result<(), Fail> {
+    check(&rt, &UNITS)
+}
 
 #[test]
 fn verify_by_replay(rt: HostRuntime) -> Result<(), Fail> {
@@ -423,10 +549,12 @@ fn commands_that_are_not_read(rt: HostRuntime) -> Result<(), Fail> {
 #[test]
 fn rejected_words(rt: HostRuntime) -> Result<(), Fail> {
     let image = file_at(rt.alloc(), ENTRY, &POWER_OFF)?;
-    let cases: [&[&str]; 6] = [
+    let cases: [&[&str]; 8] = [
         &["s161", "replay", "image"],
         &["s161", "replay", "image", "text", "text"],
         &["s161", "replay", "image", "text", "--show-log"],
+        &["s161", "replay", "image", "text", "--link", "word"],
+        &["s161", "debug", "image", "text", "--link", "half"],
         &["s161", "debug"],
         &["s161", "debug", "image"],
         &["s161", "debug", "image", "text", "--ram", "x"],

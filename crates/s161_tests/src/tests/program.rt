@@ -241,7 +241,7 @@ fn fault_texts(rt: HostRuntime) -> Result<(), Fail> {
         ),
         (
             Fault::Log(3),
-            "s161: log line 3 (after m161 log 1 a line is s P ran, s P trap CODE VECTOR, s P idle, s P off, k HH taken or o taken)",
+            "s161: log line 3 (after m161 log 2 word, m161 log 2 line or m161 log 1 a line is s P ran, s P trap CODE VECTOR, s P idle, s P off, k HH taken or o taken)",
         ),
         (Fault::Conf, CONF_LINE),
         (

@@ -93,6 +93,26 @@ pub(crate) const START_OTHER: [u32; 9] = [
 const START_OTHER_MACHINE: &str =
     "# machine 1048576 2 e6ec51dc5abde77f019250c2dec06f12480265fd72b4cf0d3bd9748e203fc382\n";
 
+/// Whether `sc` succeeds after a store to the next word but one: `lui $8, 0x8000`,
+/// `ll $9, 4096($8)`, `sw $0, 4104($8)`, `sc $9, 4096($8)`, `bne $9, $0, 0x8000021c`, `nop`, `break`,
+/// `nop`.
+pub(crate) const LINKED: [u32; 8] = [
+    0x3c08_8000,
+    0xc109_1000,
+    0xad00_1008,
+    0xe109_1000,
+    0x1520_0002,
+    0x0000_0000,
+    0x0000_000d,
+    0x0000_0000,
+];
+
+const LINKED_MACHINE: &str =
+    "# machine 1048576 1 b84f42d16ce4d4efd038a5421b9ae0753eaa6a9af454a9320d38a45da43e52bb\n";
+
+/// The Steps before the last one of seven.
+const SIX: &str = "s 0 ran\ns 0 ran\ns 0 ran\ns 0 ran\ns 0 ran\ns 0 ran\n";
+
 /// Both processors after eight Steps.
 const TWO: [&str; 7] = [
     "cpu 0 running pc 8000021c\n",
@@ -216,7 +236,7 @@ static STOPS: [Case; 6] = [
             &POWERED_OFF,
             &[
                 POWER_OFF_MACHINE,
-                "m161 log 1\nk 41 taken\ns 0 ran\ns 0 off\n",
+                "m161 log 2 word\nk 41 taken\ns 0 ran\ns 0 off\n",
             ],
             &["stop: off\n"],
         ],
@@ -258,7 +278,11 @@ static WINDOWS: [Case; 4] = [
         status: 0,
         output: &[
             &POWERED_OFF,
-            &[POWER_OFF_MACHINE, "m161 tail 1 1\ns 0 off\n", "stop: off\n"],
+            &[
+                POWER_OFF_MACHINE,
+                "m161 tail 2 word 1\ns 0 off\n",
+                "stop: off\n",
+            ],
         ],
         errors: "",
     },
@@ -271,7 +295,7 @@ static WINDOWS: [Case; 4] = [
             &POWERED_OFF,
             &[
                 POWER_OFF_MACHINE,
-                "m161 log 1\ns 0 ran\ns 0 off\n",
+                "m161 log 2 word\ns 0 ran\ns 0 off\n",
                 "stop: off\n",
             ],
         ],
@@ -283,7 +307,7 @@ static WINDOWS: [Case; 4] = [
         schedule: "s 0 12\nk 41\n",
         status: 3,
         output: &[
-            &[AT_ENTRY, STAND_STILL_MACHINE, "m161 tail 1 10\n"],
+            &[AT_ENTRY, STAND_STILL_MACHINE, "m161 tail 2 word 10\n"],
             &["s 0 ran\ns 0 ran\nk 41 taken\n", "stop: end\n"],
         ],
         errors: "",
@@ -304,7 +328,12 @@ static EMPTY_SCHEDULES: [Case; 2] = [
         program: &POWER_OFF,
         schedule: "",
         status: 3,
-        output: &[&[AT_ENTRY, POWER_OFF_MACHINE, "m161 log 1\n", "stop: end\n"]],
+        output: &[&[
+            AT_ENTRY,
+            POWER_OFF_MACHINE,
+            "m161 log 2 word\n",
+            "stop: end\n",
+        ]],
         errors: "",
     },
 ];
@@ -316,7 +345,7 @@ static OUTPUTS: [Case; 7] = [
         program: &POWER_OFF,
         schedule: "s 0 2\n",
         status: 0,
-        output: &[&[POWER_OFF_MACHINE, "m161 log 1\ns 0 ran\ns 0 off\n"]],
+        output: &[&[POWER_OFF_MACHINE, "m161 log 2 word\ns 0 ran\ns 0 off\n"]],
         errors: "",
     },
     Case {
@@ -370,7 +399,7 @@ static OUTPUTS: [Case; 7] = [
             &ONE,
             &[
                 START_OTHER_MACHINE,
-                "m161 log 1\ns 0 ran\ns 0 ran\ns 0 ran\ns 0 ran\ns 0 ran\n",
+                "m161 log 2 word\ns 0 ran\ns 0 ran\ns 0 ran\ns 0 ran\ns 0 ran\n",
             ],
             &["s 1 idle\ns 0 ran\nstop: end\n"],
         ],
@@ -383,6 +412,87 @@ static OUTPUTS: [Case; 7] = [
         schedule: "",
         status: 3,
         output: &[&[AT_ENTRY, "stop: end\n"]],
+        errors: "",
+    },
+];
+
+// What `ll` links a processor to: the last Step is one behind the branch, or traps.
+static UNITS: [Case; 6] = [
+    Case {
+        words: &["s161", "run", "image", "--only-log"],
+        program: &LINKED,
+        schedule: "s 0 7\n",
+        status: 3,
+        output: &[&[LINKED_MACHINE, "m161 log 2 word\n", SIX, "s 0 ran\n"]],
+        errors: "",
+    },
+    Case {
+        words: &["s161", "run", "image", "--link", "word", "--only-log"],
+        program: &LINKED,
+        schedule: "s 0 7\n",
+        status: 3,
+        output: &[&[LINKED_MACHINE, "m161 log 2 word\n", SIX, "s 0 ran\n"]],
+        errors: "",
+    },
+    Case {
+        words: &["s161", "run", "image", "--link=line", "--only-log"],
+        program: &LINKED,
+        schedule: "s 0 7\n",
+        status: 3,
+        output: &[&[
+            LINKED_MACHINE,
+            "m161 log 2 line\n",
+            SIX,
+            "s 0 trap 9 80000080\n",
+        ]],
+        errors: "",
+    },
+    Case {
+        words: &[
+            "s161",
+            "run",
+            "image",
+            "--link=line",
+            "--only-log",
+            "--log=1",
+            "--threads=7",
+        ],
+        program: &LINKED,
+        schedule: "",
+        status: 3,
+        output: &[&[LINKED_MACHINE, "m161 tail 2 line 6\ns 0 trap 9 80000080\n"]],
+        errors: "",
+    },
+    Case {
+        words: &[
+            "s161",
+            "run",
+            "image",
+            "--turns=1",
+            "--events=7",
+            "--link=line",
+            "--only-log",
+        ],
+        program: &LINKED,
+        schedule: "",
+        status: 3,
+        output: &[&[
+            LINKED_MACHINE,
+            "m161 log 2 line\n",
+            SIX,
+            "s 0 trap 9 80000080\n",
+        ]],
+        errors: "",
+    },
+    Case {
+        words: &["s161", "trace", "image", "--link=line", "--from=6"],
+        program: &LINKED,
+        schedule: "s 0 7\n",
+        status: 3,
+        output: &[
+            &["6 0 80000218 0000000d break  cause=00000024 epc=80000218 trap 9 80000080\n"],
+            &["stop: end\n"],
+        ],
         errors: "",
     },
 ];
@@ -462,6 +572,11 @@ fn stops(rt: HostRuntime) -> Result<(), Fail> {
 }
 
 #[test]
+fn link_units(rt: HostRuntime) -> Result<(), Fail> {
+    check(&rt, &UNITS)
+}
+
+#[test]
 fn windows(rt: HostRuntime) -> Result<(), Fail> {
     check(&rt, &WINDOWS)
 }
@@ -526,7 +641,7 @@ static THREADED: [Case; 11] = [
             &POWERED_OFF,
             &[
                 POWER_OFF_MACHINE,
-                "m161 log 1\ns 0 ran\ns 0 off\n",
+                "m161 log 2 word\ns 0 ran\ns 0 off\n",
                 "stop: off\n",
             ],
         ],
@@ -582,7 +697,7 @@ static THREADED: [Case; 11] = [
             &[AT_ENTRY],
             &[
                 STAND_STILL_MACHINE,
-                "m161 tail 1 2\ns 0 ran\ns 0 ran\n",
+                "m161 tail 2 word 2\ns 0 ran\ns 0 ran\n",
                 "stop: end\n",
             ],
         ],
@@ -646,7 +761,7 @@ const SAMPLE_MACHINE: &str =
 /// The text of the sample's log of these events.
 fn log_of(alloc: Global, events: &[Times]) -> Result<String, Fail> {
     let mut text = String::from_str(alloc, SAMPLE_MACHINE)?;
-    text.push_str("m161 log 1\n")?;
+    text.push_str("m161 log 2 word\n")?;
     for (event, times, answer) in events {
         let Ok(outcome) = *answer else {
             continue;

@@ -3,6 +3,7 @@
 use super::same;
 use super::streams::{NoFiles, OneFile};
 use m161::Machine;
+use m161_isa::LinkUnit;
 use m161_machine::Conf;
 use m161_steplog::read_schedule;
 use m161_test_support::files::file_from;
@@ -128,6 +129,7 @@ fn sample_machine(alloc: Global, schedule: &str) -> Result<Option<(Machine, Stop
         ram: 1_048_576,
         processors: 2,
         log: 100,
+        link: LinkUnit::Word,
     };
     let Ok(file) = sample_image(alloc) else {
         return Ok(None);

@@ -6,7 +6,7 @@ use Rattle.s161_command.proofs.asked.task_of_search.Goals as goal
 pub returns-clause-task : goal.returns-clause-task
 returns-clause-task c = record {
   image = c.file_given.ensures;
-  size = c.size_given.ensures;
+  size = c.in_ok-size.ensures.size;
   drive = c.in_ok-drive.ensures.drive;
   seeds = c.number_given.ensures;
   watches = c.get_str.ensures ∙ first_value-rows (found_of c.args.given.now) (codes "watches");

@@ -15,11 +15,13 @@ returns-clause-shape c =
     let one_local = local_more c.in_ok-arg.ensures base_local c.file_argument.ensures.local in
     let two = c.in_ok-debug.ensures.shape c.optional_file.ensures.local ∙ ap₂ with_rule one c.optional_file.ensures.rule in
     let two_local = local_more c.in_ok-debug.ensures one_local c.optional_file.ensures.local in
-    IfOk-weaker c.with_asked_size.result _ _ (λ command h. h ∙ ap (with_asked_size_rules _) two) (c.with_asked_size.ensures.shape two_local)
+    let three = c.in_ok-with_asked_size.ensures.shape two_local ∙ ap (with_asked_size_rules _) two in
+    IfOk-weaker c.arg-3.result _ _ (λ command h. h.shape c.asked_link_option.ensures.local ∙ ap₂ with_rule three c.asked_link_option.ensures.rule) c.arg-3.ensures
 
 pub returns-clause-local : goal.returns-clause-local
 returns-clause-local c =
     let base : (out-Command c.after_help-debug.result).has_globals ≡ false = ap (λ f. f.has_globals) c.after_help-debug.ensures ∙ ap (λ f. f.has_globals) c.about.ensures ∙ c.new.ensures.local in
     let one = local_more c.in_ok-arg.ensures base c.file_argument.ensures.local in
     let two = local_more c.in_ok-debug.ensures one c.optional_file.ensures.local in
-    c.with_asked_size.ensures.local two
+    let three = c.in_ok-with_asked_size.ensures.local two in
+    IfOk-weaker c.arg-3.result _ _ (λ command h. local_more h three c.asked_link_option.ensures.local) c.arg-3.ensures

@@ -8,10 +8,12 @@ pub returns-clause-shape : goal.returns-clause-shape
 returns-clause-shape c = λ local.
     let one = c.in_ok-arg.ensures.shape c.number_option.ensures.local ∙ ap (with_rule (app_of c.args.command)) c.number_option.ensures.rule in
     let two = c.in_ok-arg-2.ensures.shape c.number_option-2.ensures.local ∙ ap₂ with_rule one c.number_option-2.ensures.rule in
-    IfOk-weaker c.arg-3.result _ _ (λ command h. h.shape c.number_option-3.ensures.local ∙ ap₂ with_rule two c.number_option-3.ensures.rule) c.arg-3.ensures
+    let three = c.in_ok-arg-3.ensures.shape c.number_option-3.ensures.local ∙ ap₂ with_rule two c.number_option-3.ensures.rule in
+    IfOk-weaker c.arg-4.result _ _ (λ command h. h.shape c.link_option.ensures.local ∙ ap₂ with_rule three c.link_option.ensures.rule) c.arg-4.ensures
 
 pub returns-clause-local : goal.returns-clause-local
 returns-clause-local c = λ local.
     let one = local_more c.in_ok-arg.ensures local c.number_option.ensures.local in
     let two = local_more c.in_ok-arg-2.ensures one c.number_option-2.ensures.local in
-    IfOk-weaker c.arg-3.result _ _ (λ command h. local_more h two c.number_option-3.ensures.local) c.arg-3.ensures
+    let three = local_more c.in_ok-arg-3.ensures two c.number_option-3.ensures.local in
+    IfOk-weaker c.arg-4.result _ _ (λ command h. local_more h three c.link_option.ensures.local) c.arg-4.ensures

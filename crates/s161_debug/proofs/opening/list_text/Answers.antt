@@ -7,7 +7,7 @@ use Rattle.s161_debug.proofs.opening.list_text.Goals as goal
 pub returns-then-is_log-clause-ok : goal.returns-then-is_log-clause-ok
 returns-then-is_log-clause-ok c =
     let is : is_log c.args.text.now ≡ true = search rules in
-    if_ok c.list_log.result (λ listed lists. subst (λ (b : Bool). ListsAs b c.args.text.now listed.events.items listed.line) (sym is) lists) c.list_log.ensures.ok
+    if_ok c.list_log.result (λ listed lists. subst (λ (b : Bool). ListsAs b c.args.text.now listed.events.items listed.logged) (sym is) lists) c.list_log.ensures.ok
 
 pub returns-then-is_log-clause-fault : goal.returns-then-is_log-clause-fault
 returns-then-is_log-clause-fault c =
@@ -17,7 +17,7 @@ returns-then-is_log-clause-fault c =
 pub returns-else-is_log-clause-ok : goal.returns-else-is_log-clause-ok
 returns-else-is_log-clause-ok c =
     let is : is_log c.args.text.now ≡ false = search rules in
-    if_ok c.list_schedule.result (λ listed lists. subst (λ (b : Bool). ListsAs b c.args.text.now listed.events.items listed.line) (sym is) lists) c.list_schedule.ensures.ok
+    if_ok c.list_schedule.result (λ listed lists. subst (λ (b : Bool). ListsAs b c.args.text.now listed.events.items listed.logged) (sym is) lists) c.list_schedule.ensures.ok
 
 pub returns-else-is_log-clause-fault : goal.returns-else-is_log-clause-fault
 returns-else-is_log-clause-fault c =

@@ -17,7 +17,7 @@ returns-clause-ok g c =
     let files = g.F.FileSource.known c.args.files.now in
     let keys = subst (AreKeys c.args.drive.keys files) (sym c.deref.ensures.value) c.in_ok-keys.ensures.whole in
     if_ok c.open_chosen.result (λ opened h. record {
-      line = None;
+      logged = None;
       come = ((c.deref.result.now, keys, h.0), refl);
       is_that = refl;
       boots = h.1;

@@ -30,9 +30,9 @@ returns-clause-ok g c =
     let is = subst T (sym c.as_str.ensures.value) c.in_ok-text.ensures.whole in
     let utf8 = subst IsText (sym c.as_str.ensures.value) c.in_ok-text.text.ok in
     let listed = c.in_ok-listed.listed in
-    let L : List Event → Type 0 = λ events. Lists c.as_str.result.now events listed.line in
+    let L : List Event → Type 0 = λ events. Lists c.as_str.result.now events listed.logged in
     if_ok c.open_listed.result (λ opened h. record {
-      line = listed.line;
+      logged = listed.logged;
       come = (c.as_str.result.now, is, (utf8, subst L (sym h.2) c.in_ok-listed.ensures.ok));
       is_that = h.0;
       boots = h.1;
@@ -46,5 +46,5 @@ returns-clause-fault g c =
     let utf8 = subst IsText (sym c.as_str.ensures.value) c.in_ok-text.text.ok in
     let listed = c.in_ok-listed.listed in
     if_err c.open_listed.result (λ fault h.
-    inr (inr (inr (c.as_str.result.now, is, (utf8, (listed.events.items, listed.line, c.in_ok-listed.ensures.ok, h))))))
+    inr (inr (inr (c.as_str.result.now, is, (utf8, (listed.events.items, listed.logged, c.in_ok-listed.ensures.ok, h))))))
     c.open_listed.ensures.fault

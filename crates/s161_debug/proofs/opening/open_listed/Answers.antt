@@ -6,13 +6,13 @@ use Rattle.s161_debug.proofs.opening.open_listed.Goals as goal
 
 pub returns-in-Some-clause-fault : goal.returns-in-Some-clause-fault
 returns-in-Some-clause-fault c =
-    let conf = asked_conf c.args.size c.args.listed.line in
-    refused (λ x. x ≡ conf) c.args.size c.args.image.now c.args.listed.line c.in-Some.fault (search rules)
+    let conf = asked_conf c.args.size c.args.listed.logged in
+    refused (λ x. x ≡ conf) c.args.size c.args.image.now c.args.listed.logged c.in-Some.fault (search rules)
 
 pub returns-in_err-machine-clause-fault : goal.returns-in_err-machine-clause-fault
 returns-in_err-machine-clause-fault c =
     let made = err_from_is_err_and c.from_residual.result c.from_residual.ensures.1 in
-    let conf = asked_conf c.args.size c.args.listed.line in
-    let none : machine_fault c.args.size c.args.image.now c.args.listed.line ≡ None = search rules in
+    let conf = asked_conf c.args.size c.args.listed.logged in
+    let none : machine_fault c.args.size c.args.image.now c.args.listed.logged ≡ None = search rules in
     rw (made.1, made.2)
-    (not_booted (λ x. x ≡ conf) c.args.size c.args.image.now c.args.listed.line c.asked_conf.result c.in_err-machine.field-0.0 none c.asked_conf.ensures c.in_err-machine.ensures.fault)
+    (not_booted (λ x. x ≡ conf) c.args.size c.args.image.now c.args.listed.logged c.asked_conf.result c.in_err-machine.field-0.0 none c.asked_conf.ensures c.in_err-machine.ensures.fault)
