@@ -22,9 +22,9 @@ use Rattle.m161_audit.specs.helpers.Run.{Begins, BeginsBooted, FindsIn, IsAt}
 -- the state at boot, in which nothing was stored
 at_boot : (watches : List Watch) (b core : State) (items : List Shootdown) → core ≡ b → items ≡ tracked watches [] → IsAt watches (without_stores b) core items
 at_boot watches b core items core_is items_are = record {
-  core_is = core_is ∙ sym (image [] (map first_link b.links) b (links_first b.links));
+  core_is = core_is ∙ sym (image b.links.unit [] (map first_link b.links.live) b (links_first b.links));
   items_are = items_are;
-  made = made_first b.links;
+  made = made_first b.links.live;
 }
 
 -- the beginning, by the boot's answer

@@ -1,11 +1,12 @@
-use Rattle.std.proofs.Common.{◌≡◌, ◌∙◌, refl, ap, sym, ℕ, ◌-◌, ◌*◌, ◌^◌, ◌%◌, ◌<◌, ⊎_elim, true, false, if◌then◌else◌, List, length, map, set, get_or, Option, None, Some, is_some, arith, bit_and, bit_or}
+use Rattle.std.proofs.Common.{◌≡◌, ◌∙◌, refl, ap, sym, ℕ, ◌-◌, ◌*◌, ◌^◌, ◌%◌, ◌<◌, ⊎_elim, Bool, true, false, if◌then◌else◌, List, length, map, set, get_or, replicate, Option, None, Some, is_some, arith, bit_and, bit_or}
 use Rattle.std.specs.Int.{w32, bit_at, trailing_zeros}
 use Rattle.std.proofs.lemmas.Bool.{cases_eq}
 use Rattle.std.proofs.lemmas.Nat.{and_le_l}
 use Rattle.std.proofs.lemmas.Nat.Bits.{bit_at-zero, bit_at_set_other, bit_at_set_same, bit_at_clear_other, bit_at_clear_same, bit_at-trailing_zeros}
 use Rattle.std.proofs.lemmas.List.{same_lists, length-set, get_or-set_same, get_or-set_other, get_or_default, get_or-replicate, get_or-map, length-map}
-use Rattle.m161_cpu.specs.Links.{HasBits, no_links, is_to, unless_to}
+use Rattle.m161_cpu.specs.Links.{HasBits, LinkState, after_store, is_to, no_links, unless_to, with_link}
 use Rattle.m161_cpu.specs.helpers.Links.{IsWalked}
+use Rattle.m161_isa.specs.declared.link.LinkUnit.{LinkUnit}
 
 -- a mask with the bit of processor c, and without it
 abbrev pub with_bit : ℕ → ℕ → ℕ
@@ -27,15 +28,15 @@ pub no_link : (links : List (Option ℕ)) (live : ℕ) → HasBits links live �
 no_link links live h k within bit = dead (get_or links k None) (sym (h k within) ∙ bit)
 
 -- no link is live where no bit is set
-pub none_live : (links : List (Option ℕ)) → length links ≡ 32 → HasBits links 0 → links ≡ no_links
+pub none_live : (links : List (Option ℕ)) → length links ≡ 32 → HasBits links 0 → links ≡ replicate 32 None
 none_live links number h =
-    same_lists links no_links number (λ k d below.
+    same_lists links (replicate 32 None) number (λ k d below.
     let within : k < 32 = omega (arith, below, number) in
     get_or_default links k d None below ∙ no_link links 0 h k within (bit_at-zero k)
     ∙ sym (get_or-replicate 32 k None d within))
 
 -- at the start no link is live
-pub none_begins : HasBits no_links 0
+pub none_begins : HasBits (replicate 32 None) 0
 none_begins c below = bit_at-zero c ∙ sym (ap bit_of (get_or-replicate 32 c None None below))
 
 module _ (links : List (Option ℕ)) (live c : ℕ) (number : length links ≡ 32) (below : c < 32) where
@@ -68,27 +69,29 @@ module _ (links : List (Option ℕ)) (live c : ℕ) (number : length links ≡ 3
 abbrev pub last_of : ℕ → ℕ
 last_of left = trailing_zeros w32 left
 
-module _ (word : ℕ) (before : List (Option ℕ)) (number : length before ≡ 32) where
+module _ (at : ℕ) (before : LinkState) (number : length before.live ≡ 32) where
   -- before it
-  pub walk_begins : (live : ℕ) → HasBits before live → IsWalked word before live before
+  pub walk_begins : (live : ℕ) → HasBits before.live live → IsWalked at before live before
   walk_begins live h = record {
+    unit = refl;
     number = number;
     past = λ c below bit.
-        let none = no_link before live h c below bit in none ∙ sym (ap (unless_to word) none);
+        let none = no_link before.live live h c below bit in none ∙ sym (ap (unless_to before.unit at) none);
     rest = λ c below bit. refl;
   }
 
   -- after it
-  pub walk_ends : (links : List (Option ℕ)) → IsWalked word before 0 links
-      → links ≡ map (unless_to word) before
+  pub walk_ends : (links : LinkState) → IsWalked at before 0 links → links ≡ after_store (Some at) before
   walk_ends links walked =
-      same_lists links (map (unless_to word) before)
-      (walked.number ∙ sym (length-map before (unless_to word) ∙ number)) (λ k d below.
+      let all : links.live ≡ map (unless_to before.unit at) before.live =
+      same_lists links.live (map (unless_to before.unit at) before.live)
+      (walked.number ∙ sym (length-map before.live (unless_to before.unit at) ∙ number)) (λ k d below.
       let within : k < 32 = omega (arith, below, walked.number) in
-      get_or_default links k d None below ∙ walked.past k within (bit_at-zero k)
-      ∙ sym (get_or-map (unless_to word) before k None d (omega (arith, within, number))))
+      get_or_default links.live k d None below ∙ walked.past k within (bit_at-zero k)
+      ∙ sym (get_or-map (unless_to before.unit at) before.live k None d (omega (arith, within, number))))
+      in λ i. record { unit = walked.unit i; live = all i }
 
-  module _ (left : ℕ) (links : List (Option ℕ)) (walked : IsWalked word before left links)
+  module _ (left : ℕ) (links : LinkState) (walked : IsWalked at before left links)
       (some : 0 < left) (fits : left < 4294967296) where
     abbrev pub c : ℕ
     c = last_of left
@@ -109,18 +112,19 @@ module _ (word : ℕ) (before : List (Option ℕ)) (number : length before ≡ 3
     other_bit : (k : ℕ) → k < 32 → (k ≡ c → ⊥) → bit_at (without_bit left c) k ≡ bit_at left k
     other_bit k below other = bit_at_clear_other w32 left c found.0 k below other
 
-    -- this link is ended, if it is to the word; the others are as they were
-    pub walked_on : (after : List (Option ℕ)) → length after ≡ 32
-        → get_or after c None ≡ unless_to word (get_or links c None)
-        → ((k : ℕ) → (k ≡ c → ⊥) → get_or after k None ≡ get_or links k None)
-        → IsWalked word before (without_bit left c) after
-    walked_on after long here there = record {
+    -- this link is ended, if it is to the unit; the others are as they were
+    walked_on : (after : LinkState) → after.unit ≡ links.unit → length after.live ≡ 32
+        → get_or after.live c None ≡ unless_to before.unit at (get_or links.live c None)
+        → ((k : ℕ) → (k ≡ c → ⊥) → get_or after.live k None ≡ get_or links.live k None)
+        → IsWalked at before (without_bit left c) after
+    walked_on after same_unit long here there = record {
+      unit = same_unit ∙ walked.unit;
       number = long;
       past = λ k below bit.
           ⊎_elim
-          (λ same. ap (λ j. get_or after j None) same ∙ here
-          ∙ ap (unless_to word) (walked.rest c found.0 found.1)
-          ∙ ap (λ j. unless_to word (get_or before j None)) (sym same))
+          (λ same. ap (λ j. get_or after.live j None) same ∙ here
+          ∙ ap (unless_to before.unit at) (walked.rest c found.0 found.1)
+          ∙ ap (λ j. unless_to before.unit at (get_or before.live j None)) (sym same))
           (λ other. there k other ∙ walked.past k below (sym (other_bit k below other) ∙ bit))
           (cases_eq k c);
       rest = λ k below bit.
@@ -135,15 +139,22 @@ module _ (word : ℕ) (before : List (Option ℕ)) (number : length before ≡ 3
           (cases_eq k c);
     }
 
-    pub walked_over : is_to word (get_or links c None) ≡ false
-        → IsWalked word before (without_bit left c) links
-    walked_over other =
-        walked_on links walked.number (sym (ap (λ b. if b then None else get_or links c None) other)) (λ k apart_from. refl)
+    -- whether a link is to the unit, by the links' own unit
+    test_is : (t : Bool) → is_to links.unit at (get_or links.live c None) ≡ t
+        → is_to before.unit at (get_or links.live c None) ≡ t
+    test_is t h = ap (λ u. is_to u at (get_or links.live c None)) (sym walked.unit) ∙ h
 
-    pub walked_ending : is_to word (get_or links c None) ≡ true
-        → IsWalked word before (without_bit left c) (set links c None)
+    pub walked_over : is_to links.unit at (get_or links.live c None) ≡ false
+        → IsWalked at before (without_bit left c) links
+    walked_over other =
+        walked_on links refl walked.number
+        (sym (ap (λ b. if b then None else get_or links.live c None) (test_is false other)))
+        (λ k apart_from. refl)
+
+    pub walked_ending : is_to links.unit at (get_or links.live c None) ≡ true
+        → IsWalked at before (without_bit left c) (with_link c None links)
     walked_ending same =
-        walked_on (set links c None) (length-set links c None ∙ walked.number)
-        (get_or-set_same links c None None (omega (arith, found.0, walked.number))
-        ∙ sym (ap (λ b. if b then None else get_or links c None) same))
-        (λ k other. get_or-set_other links c k None None other)
+        walked_on (with_link c None links) refl (length-set links.live c None ∙ walked.number)
+        (get_or-set_same links.live c None None (omega (arith, found.0, walked.number))
+        ∙ sym (ap (λ b. if b then None else get_or links.live c None) (test_is true same)))
+        (λ k other. get_or-set_other links.live c k None None other)

@@ -36,12 +36,11 @@ use Rattle.m161_cpu.specs.declared.translation.Physical.{Physical}
 use Rattle.m161_cpu.specs.declared.uses.Via.{Via}
 use Rattle.m161_cpu.specs.declared.uses.Uses.{Uses}
 use Rattle.m161_cpu.specs.Processor.{Processor}
-use Rattle.m161_cpu.specs.Links.{is_to}
 use Rattle.m161_cpu.specs.Scene.{Scene, Change, and_then, result_map, stored_by}
 use Rattle.m161_cpu.specs.declared.fault.Fault.{Fault}
 use Rattle.m161_cpu.specs.Fault.{fault}
 use Rattle.m161_cpu.specs.Translation.{bus_error, is_misaddressed, physical, physical_at, reach, reach_word_of, read_word, translate}
-use Rattle.m161_cpu.specs.Effect.{load_linked, own_link, store_conditional, unless_overflow, write, write_board, write_read}
+use Rattle.m161_cpu.specs.Effect.{is_linked, load_linked, store_conditional, unless_overflow, write, write_board, write_read}
 use Rattle.m161_cpu.specs.helpers.Execute.{change_by}
 use Rattle.m161_cpu.specs.Step.{change_in, executable_word, is_unusable}
 use Rattle.m161_cpu.specs.Uses.{fetch_of, fetches, reference, reference_after, reference_by_row, reference_of_row, uses_of, via_in, via_of, via_row, via_reference}
@@ -134,7 +133,7 @@ in_ram_test : (t : Bool) (f : ℕ → Change) (at : ℕ) (e : Fault) (w : ℕ) �
 in_ram_test true f at e w here = here
 in_ram_test false f at e w here = refl
 
-in_linked : (t linked : Bool) (s : Scene) (r word at : ℕ) (e : Fault) → is_to at (own_link s) ≡ linked →
+in_linked : (t linked : Bool) (s : Scene) (r word at : ℕ) (e : Fault) → is_linked s at ≡ linked →
     stored_of (result_map (store_conditional s r word) (if t then Ok at else Err e)) ≡ (if t && linked then Some at else None)
 in_linked true true s r word at e h = rw h refl
 in_linked true false s r word at e h = rw h refl
@@ -146,14 +145,14 @@ no_word (Err f) = refl
 
 store_place : (s : Scene) (op : StoreOp) (rt o b at : ℕ) →
     physical_at Store (width_of_store op) (address_by s.processor o b) s.processor ≡ Ok at →
-    stored_of (change_by s (instrs.Store op rt o b)) ≡ place_of_store op at (length s.around.memory) (is_to at (own_link s))
+    stored_of (change_by s (instrs.Store op rt o b)) ≡ place_of_store op at (length s.around.memory) (is_linked s at)
 unfolding change_by
 store_place s store.Byte rt o b at h = rw h (in_ram_test (nat_le (at + 1) (length s.around.memory)) _ at _ _ refl)
 store_place s store.Half rt o b at h = rw h (in_ram_test (nat_le (at + 2) (length s.around.memory)) _ at _ _ refl)
 store_place s store.Word rt o b at h = rw h (in_test (nat_le (at + 4) (length s.around.memory)) _ _ at refl (no_word _))
 store_place s store.WordLeft rt o b at h = rw h (in_ram_test (nat_le (at / 4 * 4 + 4) (length s.around.memory)) _ (at / 4 * 4) _ _ refl)
 store_place s store.WordRight rt o b at h = rw h (in_ram_test (nat_le (at / 4 * 4 + 4) (length s.around.memory)) _ (at / 4 * 4) _ _ refl)
-store_place s store.Conditional rt o b at h = rw h (in_linked (nat_le (at + 4) (length s.around.memory)) (is_to at (own_link s)) s rt (slice_index s.processor.registers rt) at _ refl)
+store_place s store.Conditional rt o b at h = rw h (in_linked (nat_le (at + 4) (length s.around.memory)) (is_linked s at) s rt (slice_index s.processor.registers rt) at _ refl)
 
 pub store_not_located : (s : Scene) (fetch : Option Via) (op : StoreOp) (rt o b address width : ℕ) (f : Fault) →
     address_by s.processor o b ≡ address → width ≡ width_of_store op → translate Store width address s.processor ≡ Err f →
@@ -170,7 +169,7 @@ store_not_located s fetch op rt o b address width f is w h =
 
 pub store_located : (s : Scene) (fetch : Option Via) (op : StoreOp) (rt o b address width : ℕ) (to : Physical) (via : Option Via) (stored : Option ℕ) →
     address_by s.processor o b ≡ address → width ≡ width_of_store op → translate Store width address s.processor ≡ Ok to →
-    via ≡ via_of s.processor (reference Store width address) → stored ≡ place_of_store op to.at (length s.around.memory) (is_to to.at (own_link s)) →
+    via ≡ via_of s.processor (reference Store width address) → stored ≡ place_of_store op to.at (length s.around.memory) (is_linked s to.at) →
     record { fetch = fetch; access = via; stored = stored } ≡ uses_by s fetch (instrs.Store op rt o b)
 store_located s fetch op rt o b address width to via stored is w h v at =
     let here : translate Store (width_of_store op) (address_by s.processor o b) s.processor ≡ Ok to = ap (λ a. translate Store (width_of_store op) a s.processor) is ∙ ap (λ x. translate Store x address s.processor) (sym w) ∙ h in
@@ -333,7 +332,7 @@ direct_via access width address at p h = rw h (by_test (is_misaddressed width ad
 -- a store by kseg0 or kseg1
 pub store_direct : (s : Scene) (fetch : Option Via) (op : StoreOp) (rt o b address at : ℕ) (stored : Option ℕ) →
     address_by s.processor o b ≡ address → physical_at Store (width_of_store op) address s.processor ≡ Ok at → unmapped address ≡ Some at →
-    stored ≡ place_of_store op at (length s.around.memory) (is_to at (own_link s)) →
+    stored ≡ place_of_store op at (length s.around.memory) (is_linked s at) →
     ◌≡◌ {A = Uses} (record { fetch = fetch; access = None; stored = stored }) (uses_by s fetch (instrs.Store op rt o b))
 store_direct s fetch op rt o b address at stored is h segment place =
     let here : physical_at Store (width_of_store op) (address_by s.processor o b) s.processor ≡ Ok at = ap (λ a. physical_at Store (width_of_store op) a s.processor) is ∙ h in

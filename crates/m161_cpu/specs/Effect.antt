@@ -164,18 +164,23 @@ abbrev pub store_word_at : ℕ → ℕ → Scene → Result Change Fault
 store_word_at address word s =
     and_then (physical_at Store 4 address s.processor) (store_physical_word s word)
 
--- `ll` links the processor to the word
+-- `ll` links the processor to the unit that has the word
 abbrev pub load_linked : Scene → ℕ → ℕ → Change
 load_linked s r at = record (write r (word_at s.around.memory at)) { link = LinkTo at }
 
 -- the processor's link, if it is live
 abbrev pub own_link : Scene → Option ℕ
-own_link s = slice_index_or s.around.links s.around.number None
+own_link s = slice_index_or s.around.links.live s.around.number None
 
--- `sc` stores and gives 1 if the link is to the word, else it gives 0; the link ends
+-- that link is to the unit that has an address
+abbrev pub is_linked : Scene → ℕ → Bool
+is_linked s at = is_to s.around.links.unit at (own_link s)
+
+-- `sc` stores and gives 1 if the link is to the unit that has the word, else it gives 0; the link
+-- ends
 abbrev pub store_conditional : Scene → ℕ → ℕ → ℕ → Change
 store_conditional s r word at =
-    if is_to at (own_link s) then record (store_word word at) { register = Some (r, 1); link = End }
+    if is_linked s at then record (store_word word at) { register = Some (r, 1); link = End }
     else record (write r 0) { link = End }
 
 -- the row in EntryHi and EntryLo

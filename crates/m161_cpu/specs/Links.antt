@@ -1,12 +1,24 @@
-use Rattle.std.specs.Prelude.{◌≡◌, ℕ, ◌<◌, Bool, false, ◌==◌, if◌then◌else◌, List, map, slice_set, slice_index_or, replicate, Option, None, Some, is_some}
+use Rattle.std.specs.Prelude.{◌≡◌, ℕ, ◌*◌, ◌/◌, ◌<◌, Bool, false, ◌==◌, if◌then◌else◌, List, map, slice_set, slice_index_or, replicate, Option, None, Some, is_some}
 use Rattle.std.specs.Int.{bit_at}
+use Rattle.m161_isa.specs.declared.link.LinkUnit.{LinkUnit}
+use Rattle.m161_isa.specs.declared.link.LinkUnit.TheVariants.{Word, Line}
 
--- Links of `ll` and `sc`. MIPS II has the two instructions; when a link ends is this project's own
--- rule.
+-- Links of `ll` and `sc`. MIPS II has the two instructions; what a link is to, and when it ends, is
+-- this project's own rule.
 
--- the physical word that each of 32 processors is linked to, if its link is live
-abbrev pub no_links : List (Option ℕ)
-no_links = replicate 32 None
+-- the first byte of the unit that has a physical address
+abbrev pub unit_of : LinkUnit → ℕ → ℕ
+unit_of Word at = at / 4 * 4
+unit_of Line at = at / 16 * 16
+
+-- the links of 32 processors
+pub record LinkState : Type 0 where
+  pub unit : LinkUnit
+  -- the first byte of the unit that each processor is linked to, if its link is live
+  pub live : List (Option ℕ)
+
+abbrev pub no_links : LinkUnit → LinkState
+no_links unit = record { unit = unit; live = replicate 32 None }
 
 -- each processor's bit of a number is 1 if its link is live, else 0
 abbrev pub HasBits : List (Option ℕ) → ℕ → Type 0
@@ -16,28 +28,31 @@ HasBits links live =
 -- what a Step does to its own processor's link
 pub data LinkAct : Type 0 where
   Keep : LinkAct
-  LinkTo : (word : ℕ) → LinkAct
+  LinkTo : (at : ℕ) → LinkAct
   End : LinkAct
 
--- a link is to a word
-abbrev pub is_to : ℕ → Option ℕ → Bool
-is_to word None = false
-is_to word (Some linked) = linked == word
+-- a link is to the unit that has an address
+abbrev pub is_to : LinkUnit → ℕ → Option ℕ → Bool
+is_to unit at None = false
+is_to unit at (Some linked) = linked == unit_of unit at
 
--- a store to a word ends a link to it
-abbrev pub unless_to : ℕ → Option ℕ → Option ℕ
-unless_to word link = if is_to word link then None else link
+-- a store ends a link to the unit that has its address
+abbrev pub unless_to : LinkUnit → ℕ → Option ℕ → Option ℕ
+unless_to unit at link = if is_to unit at link then None else link
 
 -- the links after a store, if there was one
-abbrev pub after_store : Option ℕ → List (Option ℕ) → List (Option ℕ)
+abbrev pub after_store : Option ℕ → LinkState → LinkState
 after_store None links = links
-after_store (Some word) links = map (unless_to word) links
+after_store (Some at) links = record links { live = map (unless_to links.unit at) links.live }
+
+abbrev pub with_link : ℕ → Option ℕ → LinkState → LinkState
+with_link c link links = record links { live = slice_set links.live c link }
 
 -- the links after a processor's own
-abbrev pub after_act : ℕ → LinkAct → List (Option ℕ) → List (Option ℕ)
+abbrev pub after_act : ℕ → LinkAct → LinkState → LinkState
 after_act c Keep links = links
-after_act c (LinkTo word) links = slice_set links c (Some word)
-after_act c End links = slice_set links c None
+after_act c (LinkTo at) links = with_link c (Some (unit_of links.unit at)) links
+after_act c End links = with_link c None links
 
-abbrev pub links_after : ℕ → LinkAct → Option ℕ → List (Option ℕ) → List (Option ℕ)
+abbrev pub links_after : ℕ → LinkAct → Option ℕ → LinkState → LinkState
 links_after c act stored links = after_act c act (after_store stored links)

@@ -8,7 +8,7 @@ use Rattle.m161_cpu.specs.declared.processor.Flow.{Flow}
 use Rattle.m161_cpu.specs.declared.processor.Flow.TheVariants.{Next}
 use Rattle.m161_cpu.specs.declared.processor.ProcessorState.{ProcessorState}
 use Rattle.m161_cpu.specs.Processor.{Processor, with_register, with_hi_lo, with_control, with_row, with_state, with_flow}
-use Rattle.m161_cpu.specs.Links.{LinkAct, Keep, links_after}
+use Rattle.m161_cpu.specs.Links.{LinkAct, LinkState, Keep, links_after}
 
 -- What one Step of a processor sees, and what its instruction changes.
 
@@ -17,9 +17,9 @@ pub record Around : Type 0 where
   pub number : ℕ
   pub memory : List ℕ
   pub board : BoardState
-  pub links : List (Option ℕ)
+  pub links : LinkState
 
-abbrev pub around : ℕ → List ℕ → BoardState → List (Option ℕ) → Around
+abbrev pub around : ℕ → List ℕ → BoardState → LinkState → Around
 around number memory board links = record {
   number = number;
   memory = memory;
@@ -36,7 +36,7 @@ abbrev pub scene : Processor → Around → Scene
 scene p a = record { processor = p; around = a }
 
 -- processor p by this number, with this memory, board and links around it
-abbrev pub scene_of : Processor → ℕ → List ℕ → BoardState → List (Option ℕ) → Scene
+abbrev pub scene_of : Processor → ℕ → List ℕ → BoardState → LinkState → Scene
 scene_of p number memory board links = scene p (around number memory board links)
 
 -- what is stored, and from which physical address on

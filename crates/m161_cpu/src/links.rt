@@ -1,8 +1,9 @@
 //! Links of `ll` and `sc`.
 
-ghost use Rattle.std.specs.Prelude.{◌≡◌, ◌<◌, Some, None, length, slice_index_or, slice_set};
-ghost use Rattle.m161_cpu.specs.Links.{HasBits, no_links, after_store, is_to};
+ghost use Rattle.std.specs.Prelude.{◌≡◌, ◌<◌, Some, None, length, slice_index_or};
+ghost use Rattle.m161_cpu.specs.Links.{HasBits, after_store, is_to, no_links, unit_of, with_link};
 
+use m161_isa::LinkUnit;
 use std::marker::Model;
 
 /// The greatest number of processors of a machine.
@@ -11,32 +12,46 @@ const PROCESSORS: usize = 32;
 /// No link.
 const NONE: [Option<u32>; PROCESSORS] = [None; PROCESSORS];
 
-/// For each processor the physical word of RAM that it is linked to, if its link is live.
+/// What a link is to, and for each processor the unit of RAM that it is linked to, if its link is
+/// live.
 #[derive(Drop)]
 pub struct Links {
-    words: [Option<u32>; PROCESSORS],
+    unit: LinkUnit,
+    // The first byte of each processor's unit.
+    linked: [Option<u32>; PROCESSORS],
     // A processor whose link is live has its bit here: a store looks at these links alone.
     live: u32,
 }
 
 impl Model for Links {
-    ghost use Rattle.std.specs.Prelude.{◌≡◌, ℕ, List, Option, length};
-    ghost use Rattle.m161_cpu.specs.Links.{HasBits};
+    ghost use Rattle.std.specs.Prelude.{◌≡◌, length};
+    ghost use Rattle.m161_cpu.specs.Links.{HasBits, LinkState};
 
-    ghost Value = { List (Option ℕ) };
+    ghost Value = { LinkState };
 
-    ghost view = { λ l. l.words };
+    ghost view = { λ l. record { unit = l.unit; live = l.linked } };
 
-    ghost invariant = { λ l. (length l.words ≡ 32) × HasBits l.words l.live };
+    ghost invariant = { λ l. (length l.linked ≡ 32) × HasBits l.linked l.live };
+}
+
+// The first byte of the unit that has a physical address.
+fn unit_of(unit: LinkUnit, at: u32) -> u32
+    ensures { result ≡ unit_of unit at }
+{
+    match unit {
+        LinkUnit::Word => at / 4 * 4,
+        LinkUnit::Line => at / 16 * 16,
+    }
 }
 
 impl Links {
     /// No link, with room for 32 processors. Does not allocate.
-    pub fn new() -> Links
-        ensures { result ≡ no_links }
+    pub fn new(unit: LinkUnit) -> Links
+        ensures { result ≡ no_links unit }
     {
         Links {
-            words: NONE,
+            unit,
+            linked: NONE,
             live: 0,
         }
     }
@@ -46,35 +61,39 @@ impl Links {
         ensures { result ≡ self.now }
     {
         Links {
-            words: self.words,
+            unit: self.unit,
+            linked: self.linked,
             live: self.live,
         }
     }
 
-    /// The word that a processor is linked to, if its link is live.
-    pub fn linked_word(&self, c: u32) -> Option<u32>
+    /// The first byte of the unit that a processor is linked to, if its link is live.
+    pub fn linked_unit(&self, c: u32) -> Option<u32>
         requires { c < 32 }
-        ensures { result ≡ slice_index_or self.now c None }
+        ensures { result ≡ slice_index_or self.now.live c None }
     {
-        self.words[c as usize]
+        self.linked[c as usize]
     }
 
-    /// Whether a processor's link is live and to this word.
-    pub(crate) fn names(&self, c: u32, word: u32) -> bool
+    /// Whether a processor's link is live and to the unit that has this address.
+    pub(crate) fn names(&self, c: u32, at: u32) -> bool
         requires { c < 32 }
-        ensures { result ≡ is_to word (slice_index_or self.now c None) }
+        ensures { result ≡ is_to self.now.unit at (slice_index_or self.now.live c None) }
     {
-        self.words[c as usize] == Some(word)
+        match self.linked[c as usize] {
+            Some(linked) => linked == unit_of(self.unit, at),
+            None => false,
+        }
     }
 
-    /// Links a processor to a word.
+    /// Links a processor to the unit that has this address.
     #[cold]
     #[inline(never)]
-    pub(crate) fn link(&mut self, c: u32, word: u32)
+    pub(crate) fn link(&mut self, c: u32, at: u32)
         requires { c < 32 }
-        ensures { self.new ≡ slice_set self.old c (Some word) }
+        ensures { self.new ≡ with_link c (Some (unit_of self.old.unit at)) self.old }
     {
-        self.words[c as usize] = Some(word);
+        self.linked[c as usize] = Some(unit_of(self.unit, at));
         self.live |= 1 << c;
     }
 
@@ -83,41 +102,41 @@ impl Links {
     #[inline(never)]
     pub(crate) fn unlink(&mut self, c: u32)
         requires { c < 32 }
-        ensures { self.new ≡ slice_set self.old c None }
+        ensures { self.new ≡ with_link c None self.old }
     {
-        self.words[c as usize] = None;
+        self.linked[c as usize] = None;
         self.live &= !(1 << c);
     }
 
-    /// Ends the links to a word that was stored to.
+    /// Ends the links to the unit in which something was stored at this address.
     #[inline(always)]
-    pub(crate) fn store_to(&mut self, word: u32)
-        ensures { self.new ≡ after_store (Some word) self.old }
+    pub(crate) fn store_to(&mut self, at: u32)
+        ensures { self.new ≡ after_store (Some at) self.old }
     {
         if self.live != 0 {
-            self.end_links_to(word);
+            self.end_links_to(at);
         }
     }
 
     // The processors whose links are live, one bit each.
     #[inline(always)]
     fn live(&self) -> u32
-        ensures bits { HasBits self.now result }
-        ensures length { length self.now ≡ 32 }
+        ensures bits { HasBits self.now.live result }
+        ensures length { length self.now.live ≡ 32 }
     {
         self.live
     }
 
-    // Ends the links to a word.
+    // Ends the links to the unit that has this address.
     #[cold]
     #[inline(never)]
-    fn end_links_to(&mut self, word: u32)
-        ensures { self.new ≡ after_store (Some word) self.old }
+    fn end_links_to(&mut self, at: u32)
+        ensures { self.new ≡ after_store (Some at) self.old }
     {
         let mut left = self.live();
         while left != 0 {
             let c = left.trailing_zeros();
-            if self.names(c, word) {
+            if self.names(c, at) {
                 self.unlink(c);
             }
             left &= !(1 << c);

@@ -22,7 +22,8 @@ use Rattle.m161_machine.specs.State.{State, counts, next}
 
 -- The history of a machine: from its base, it is the replay of its log.
 
--- what a machine is booted from: all of RAM, the address of the first instruction, and its size
+-- what a machine is booted from: all of RAM, the address of the first instruction, its size and the
+-- unit of its links
 pub record Start : Type 0 where
   pub bytes : List ℕ
   pub entry : ℕ
@@ -37,7 +38,7 @@ boot_state start = record {
       ∷ replicate (start.conf.processors - 1) stopped_processor;
   memory = start.bytes;
   board = board_at_boot start.conf.ram start.conf.processors console_at_boot;
-  links = no_links;
+  links = no_links start.conf.link;
   made = 0;
 }
 

@@ -7,6 +7,7 @@ use Rattle.m161_bus.specs.Board.{BoardState, board_key, board_done, start_words}
 use Rattle.m161_isa.specs.Bits.{has_bit}
 use Rattle.m161_cpu.specs.declared.processor.Outcome.{Outcome}
 use Rattle.m161_cpu.specs.declared.processor.Outcome.TheVariants.{Taken}
+use Rattle.m161_cpu.specs.Links.{LinkState}
 use Rattle.m161_cpu.specs.Processor.{Processor, stopped_processor, started_processor}
 use Rattle.m161_cpu.specs.Scene.{around, scene}
 use Rattle.m161_cpu.specs.Step.{Stepped, step_of}
@@ -19,14 +20,14 @@ use Rattle.m161_machine.specs.declared.event.Refusal.TheVariants.{BadProcessor, 
 
 -- The state of a machine, and what an event does to it.
 
--- what a machine holds; of a link of `ll` only its word, if it is live
+-- what a machine holds; of a link of `ll` only its unit, if it is live
 pub record State : Type 0 where
   pub conf : Conf
   pub processors : List Processor
   pub memory : List ℕ
   pub board : BoardState
-  -- the physical word of a live link, or none, for each of 32 processors
-  pub links : List (Option ℕ)
+  -- the unit of links, and the first byte of each live link's
+  pub links : LinkState
   -- how many events were accepted since boot
   pub made : ℕ
 
@@ -35,7 +36,7 @@ abbrev pub processor_at : ℕ → List Processor → Processor
 processor_at p processors = slice_index_or processors p stopped_processor
 
 abbrev pub state_of :
-    Conf → List Processor → List ℕ → BoardState → List (Option ℕ) → ℕ → State
+    Conf → List Processor → List ℕ → BoardState → LinkState → ℕ → State
 state_of conf processors memory board links made = record {
   conf = conf;
   processors = processors;

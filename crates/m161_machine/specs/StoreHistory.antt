@@ -1,7 +1,8 @@
 use Rattle.std.specs.Prelude.{◌≡◌, ℕ, Bool, false, ◌==◌, ◌||◌, if◌then◌else◌, List, [], ◌∷◌, ◌++◌, drop, length, map, slice_set, Option, None, Some, Result, Ok, Err}
 use Rattle.m161_bus.specs.Board.{BoardState}
 use Rattle.m161_cpu.specs.declared.processor.Outcome.{Outcome}
-use Rattle.m161_cpu.specs.Links.{LinkAct, Keep, LinkTo, End}
+use Rattle.m161_isa.specs.declared.link.LinkUnit.{LinkUnit}
+use Rattle.m161_cpu.specs.Links.{LinkAct, LinkState, Keep, LinkTo, End, unit_of}
 use Rattle.m161_cpu.specs.Processor.{Processor}
 use Rattle.m161_machine.specs.declared.conf.Conf.{Conf}
 use Rattle.m161_machine.specs.declared.event.Entry.{Entry}
@@ -13,11 +14,11 @@ use Rattle.m161_machine.specs.History.{History}
 
 -- The history of the stores, which says when a link of `ll` is live. A state of it has the list of
 -- all stores to RAM, and each link with the number of stores when it was made. A machine's state
--- has of all this only the words of the live links; the law `StoresAgree` says that this is enough.
+-- has of all this only the units of the live links; the law `StoresAgree` says that this is enough.
 
--- a link of `ll`: the physical word, and how many stores there had been when it was made
+-- a link of `ll`: the first byte of its unit, and how many stores there had been when it was made
 pub record Link : Type 0 where
-  pub word : ℕ
+  pub at : ℕ
   pub made : ℕ
 
 pub record StoreState : Type 0 where
@@ -25,24 +26,27 @@ pub record StoreState : Type 0 where
   pub processors : List Processor
   pub memory : List ℕ
   pub board : BoardState
+  -- the unit of links
+  pub unit : LinkUnit
   -- a link, or none, for each of 32 processors
   pub links : List (Option Link)
   -- the physical words of RAM that stores have touched, the oldest first
   pub stores : List ℕ
   pub made : ℕ
 
--- one of these words is this one
-abbrev pub touches : ℕ → List ℕ → Bool
-touches word [] = false
-touches word (w ∷ ws) = (word == w) || touches word ws
+-- one of these words is in the unit that begins at this byte
+abbrev pub touches : LinkUnit → ℕ → List ℕ → Bool
+touches unit at [] = false
+touches unit at (word ∷ words) = (at == unit_of unit word) || touches unit at words
 
--- the word of a link that is live: no store since it was made has touched the word
-abbrev pub live : List ℕ → Option Link → Option ℕ
-live stores None = None
-live stores (Some link) = if touches link.word (drop link.made stores) then None else Some link.word
+-- the unit of a link that is live: no store since it was made has touched a word of the unit
+abbrev pub live : LinkUnit → List ℕ → Option Link → Option ℕ
+live unit stores None = None
+live unit stores (Some link) =
+    if touches unit link.at (drop link.made stores) then None else Some link.at
 
-abbrev pub live_links : List ℕ → List (Option Link) → List (Option ℕ)
-live_links stores links = map (live stores) links
+abbrev pub live_links : LinkUnit → List ℕ → List (Option Link) → LinkState
+live_links unit stores links = record { unit = unit; live = map (live unit stores) links }
 
 -- the image of a state with its stores: a machine's state, which has the live links alone
 abbrev pub live_state : StoreState → State
@@ -51,7 +55,7 @@ live_state s = record {
   processors = s.processors;
   memory = s.memory;
   board = s.board;
-  links = live_links s.stores s.links;
+  links = live_links s.unit s.stores s.links;
   made = s.made;
 }
 
@@ -60,12 +64,13 @@ abbrev pub stores_after : Option ℕ → List ℕ → List ℕ
 stores_after None stores = stores
 stores_after (Some word) stores = stores ++ word ∷ []
 
--- a processor's link after its Step, after this many stores in all
-abbrev pub with_link_act : ℕ → LinkAct → ℕ → List (Option Link) → List (Option Link)
-with_link_act p Keep stores links = links
-with_link_act p (LinkTo word) stores links =
-    slice_set links p (Some (record { word = word; made = stores }))
-with_link_act p End stores links = slice_set links p None
+-- the links after a processor's Step, by what it does to its own, after this many stores in all
+abbrev pub with_link_act :
+    ℕ → LinkAct → LinkUnit → ℕ → List (Option Link) → List (Option Link)
+with_link_act p Keep unit stores links = links
+with_link_act p (LinkTo at) unit stores links =
+    slice_set links p (Some (record { at = unit_of unit at; made = stores }))
+with_link_act p End unit stores links = slice_set links p None
 
 -- all stores after an accepted event: a Step appends the word of its store, if it makes one
 abbrev pub stores_of : Event → StoreState → List ℕ
@@ -76,7 +81,8 @@ stores_of event.Done s = s.stores
 -- the links after an accepted event
 abbrev pub links_of : Event → StoreState → List (Option Link)
 links_of (event.Step p) s =
-    with_link_act p (step_result p (live_state s)).link (length (stores_of (event.Step p) s)) s.links
+    with_link_act p (step_result p (live_state s)).link s.unit (length (stores_of (event.Step p) s))
+    s.links
 links_of (event.Key byte) s = s.links
 links_of event.Done s = s.links
 
@@ -87,6 +93,7 @@ with_stores stores links s = record {
   processors = s.processors;
   memory = s.memory;
   board = s.board;
+  unit = s.links.unit;
   links = links;
   stores = stores;
   made = s.made;
@@ -112,11 +119,11 @@ LeadsStores s (e ∷ es) t =
 -- a live link, made before any store
 abbrev pub first_link : Option ℕ → Option Link
 first_link None = None
-first_link (Some word) = Some (record { word = word; made = 0 })
+first_link (Some at) = Some (record { at = at; made = 0 })
 
 -- a state from which the stores are counted: there are none, and its live links were made before
 abbrev pub without_stores : State → StoreState
-without_stores s = with_stores [] (map first_link s.links) s
+without_stores s = with_stores [] (map first_link s.links.live) s
 
 -- the stores of a run, and the run, are one another's image
 abbrev pub StoresAgree : State → List Entry → State → Type 0

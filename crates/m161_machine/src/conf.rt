@@ -1,13 +1,14 @@
-//! The size of a machine, and why a machine isn't booted.
+//! The size of a machine and the unit of its links, and why a machine isn't booted.
 
 ghost use Rattle.std.specs.Prelude.{◌≡◌};
 ghost use Rattle.m161_machine.specs.Conf.{is_within_limits};
 
 use m161_elf::LoadError;
+use m161_isa::LinkUnit;
 use std::alloc::AllocError;
 use thiserror::Error;
 
-/// The size of a machine.
+/// The size of a machine, and the unit of its links.
 #[derive(Clone, Copy, Debug, PartialEq, Eq)]
 pub struct Conf {
     /// Bytes of RAM: 4,096 to 16,777,216, a multiple of 4,096.
@@ -16,6 +17,8 @@ pub struct Conf {
     pub processors: u32,
     /// Entries of the log: 1 to 16,777,216.
     pub log: u32,
+    /// What `ll` links a processor to.
+    pub link: LinkUnit,
 }
 
 impl Conf {

@@ -38,7 +38,7 @@ pub use m161_bus::{BoardWord, Console};
 pub use m161_cop0::{Exception, Register};
 pub use m161_cpu::{Outcome, ProcessorState, RowNumber, Uses, Via};
 pub use m161_elf::LoadError;
-pub use m161_isa::Reg;
+pub use m161_isa::{LinkUnit, Reg};
 pub use m161_tlb::{Frame, Identifier, Page, Row, Tlb};
 pub use machine::Machine;
 pub use start::Start;

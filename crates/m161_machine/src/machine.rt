@@ -28,8 +28,9 @@ use std::marker::Model;
 /// from, the state at the base of its log, the log, and the state that the log's events lead to.
 #[derive(Drop)]
 pub struct Machine<T: Tlb, D: Console> {
-    present: Core<T, D>,
-    base: Core<T, D>,
+    // On the heap, so that a machine is small where it is moved.
+    present: Box<Core<T, D>>,
+    base: Box<Core<T, D>>,
     window: Window,
     // Room for the entries of Steps that are made at once.
     fresh: Vec<Kept>,
@@ -47,20 +48,20 @@ impl<T: Tlb, D: Console> Model for Machine<T, D> {
 
     ghost view = { λ m. record {
       start = record { bytes = m.image.bytes.items; entry = m.image.entry; conf = m.conf };
-      base = m.base.state;
+      base = m.base.value.state;
       log = m.window.items;
-      state = m.present.state;
+      state = m.present.value.state;
     } };
 
     ghost invariant = { λ m.
         IsLawful (record {
           start = record { bytes = m.image.bytes.items; entry = m.image.entry; conf = m.conf };
-          base = m.base.state;
+          base = m.base.value.state;
           log = m.window.items;
-          state = m.present.state;
+          state = m.present.value.state;
         })
         × (m.window.capacity ≡ m.conf.log)
-        × (transfers_of m.window.items ≤ m.base.room)
+        × (transfers_of m.window.items ≤ m.base.value.room)
         × (length m.fresh.items ≡ 256) };
 }
 
@@ -97,8 +98,8 @@ impl<T: Tlb, D: Console> Machine<T, D> {
     pub fn copy(&self, alloc: Global) -> Result<Machine<T, D>, AllocError>
         ensures { IfOk result (λ machine. machine ≡ self.now) }
     {
-        let present = self.present.copy(alloc)?;
-        let base = self.base.copy(alloc)?;
+        let present = Box::new(alloc, self.present.copy(alloc)?)?;
+        let base = Box::new(alloc, self.base.copy(alloc)?)?;
         let window = self.window.copy(alloc)?;
         let fresh = blanks(alloc, AT_ONCE)?;
         let image = image_again(alloc, &self.image)?;
@@ -125,7 +126,7 @@ impl<T: Tlb, D: Console> Machine<T, D> {
             image: _,
             conf: _,
         } = self;
-        present
+        Box::into_inner(present)
     }
 
     /// The state at the base of the log alone: the log's events, made on it, lead to the machine's
@@ -142,7 +143,7 @@ impl<T: Tlb, D: Console> Machine<T, D> {
             image: _,
             conf: _,
         } = self;
-        base
+        Box::into_inner(base)
     }
 
     /// Makes one Step of a processor. Does not allocate.
@@ -155,7 +156,7 @@ impl<T: Tlb, D: Console> Machine<T, D> {
     {
         let outcome = self.present.step(p)?;
         let kept = [Kept::of_step(p, outcome)];
-        self.window.append(&mut self.base, &kept, 0);
+        self.window.append(&mut *self.base, &kept, 0);
         Ok(outcome)
     }
 
@@ -230,8 +231,8 @@ impl<T: Tlb, D: Console> Machine<T, D> {
             image: _,
             conf: _,
         } = self;
-        let made = advance_into(present, p, fresh, most as usize);
-        window.append(base, &fresh[..made], 0);
+        let made = advance_into(&mut **present, p, fresh, most as usize);
+        window.append(&mut **base, &fresh[..made], 0);
         made as u32
     }
 
@@ -244,7 +245,7 @@ impl<T: Tlb, D: Console> Machine<T, D> {
     {
         let outcome = self.present.key(byte)?;
         let kept = [Kept::of_key(byte)];
-        self.window.append(&mut self.base, &kept, 0);
+        self.window.append(&mut *self.base, &kept, 0);
         Ok(outcome)
     }
 
@@ -267,7 +268,7 @@ impl<T: Tlb, D: Console> Machine<T, D> {
         }
         let outcome = self.present.done()?;
         let kept = [Kept::of_done()];
-        self.window.append(&mut self.base, &kept, 1);
+        self.window.append(&mut *self.base, &kept, 1);
         Ok(outcome)
     }
 
@@ -366,8 +367,8 @@ fn machine_at_boot<T: Tlb, D: Console>(
     ensures { IfOk result (λ machine.
         machine ≡ history_at_boot (start_of image.bytes.items image.entry conf)) }
 {
-    let present = core_at_boot(alloc, &image, conf)?;
-    let base = core_at_boot(alloc, &image, conf)?;
+    let present = Box::new(alloc, core_at_boot(alloc, &image, conf)?)?;
+    let base = Box::new(alloc, core_at_boot(alloc, &image, conf)?)?;
     let window = Window::new(alloc, conf.log as usize)?;
     let fresh = blanks(alloc, AT_ONCE)?;
     Ok(Machine {

@@ -121,7 +121,7 @@ impl<T: Tlb, D: Console> Core<T, D> {
             processors,
             ram: Ram::from_bytes(bytes),
             board: Board::new(console, conf.ram, conf.processors),
-            links: Links::new(),
+            links: Links::new(conf.link),
             made: 0,
             conf,
         })

@@ -1,6 +1,7 @@
 use Rattle.std.proofs.Common.{◌≡◌, ◌≢◌, ◌⊎◌, inl, inr, ◌∙◌, refl, sym, ap, subst, ℕ, zero, suc, Bool, true, false, List, [], ◌∷◌, map, get_or, set, Option, None, Some, get_or-set_other}
 use Rattle.std.specs.Prelude.{if◌then◌else◌, ◌==◌}
-use Rattle.m161_cpu.specs.Links.{LinkAct, Keep, LinkTo, End, after_act, after_store, is_to, links_after, unless_to}
+use Rattle.m161_isa.specs.declared.link.LinkUnit.{LinkUnit}
+use Rattle.m161_cpu.specs.Links.{LinkAct, LinkState, Keep, LinkTo, End, after_act, after_store, is_to, links_after, unit_of, unless_to}
 use Rattle.m161_trace.specs.Items.{Item, changed, linked, linked_items, unlinked, unlinked_by}
 use Rattle.m161_trace.specs.Law.{Has}
 use Rattle.m161_trace.proofs.Members.{unchanged}
@@ -15,25 +16,25 @@ ended_if : (t : Bool) (x : Option ℕ) → EndsOrStays x (if t then None else x)
 ended_if true x = inr refl
 ended_if false x = inl refl
 
-map_at : (word : ℕ) (links : List (Option ℕ)) (q : ℕ) → get_or (map (unless_to word) links) q None ≡ unless_to word (get_or links q None)
-map_at word [] q = refl
-map_at word (x ∷ links) zero = refl
-map_at word (x ∷ links) (suc q) = map_at word links q
+map_at : (u : LinkUnit) (at : ℕ) (links : List (Option ℕ)) (q : ℕ) → get_or (map (unless_to u at) links) q None ≡ unless_to u at (get_or links q None)
+map_at u at [] q = refl
+map_at u at (x ∷ links) zero = refl
+map_at u at (x ∷ links) (suc q) = map_at u at links q
 
-by_store : (stored : Option ℕ) (links : List (Option ℕ)) (q : ℕ) → EndsOrStays (get_or links q None) (get_or (after_store stored links) q None)
+by_store : (stored : Option ℕ) (links : LinkState) (q : ℕ) → EndsOrStays (get_or links.live q None) (get_or (after_store stored links).live q None)
 by_store None links q = inl refl
-by_store (Some word) links q =
-    let Q : Option ℕ → Type 0 = EndsOrStays (get_or links q None) in
-    subst Q (sym (map_at word links q)) (ended_if (is_to word (get_or links q None)) (get_or links q None))
+by_store (Some at) links q =
+    let Q : Option ℕ → Type 0 = EndsOrStays (get_or links.live q None) in
+    subst Q (sym (map_at links.unit at links.live q)) (ended_if (is_to links.unit at (get_or links.live q None)) (get_or links.live q None))
 
-of_act : (p : ℕ) (act : LinkAct) (links : List (Option ℕ)) (q : ℕ) → q ≢ p → get_or (after_act p act links) q None ≡ get_or links q None
+of_act : (p : ℕ) (act : LinkAct) (links : LinkState) (q : ℕ) → q ≢ p → get_or (after_act p act links).live q None ≡ get_or links.live q None
 of_act p Keep links q ne = refl
-of_act p (LinkTo word) links q ne = get_or-set_other links p q (Some word) None ne
-of_act p End links q ne = get_or-set_other links p q None None ne
+of_act p (LinkTo at) links q ne = get_or-set_other links.live p q (Some (unit_of links.unit at)) None ne
+of_act p End links q ne = get_or-set_other links.live p q None None ne
 
-pub other_link : (p : ℕ) (act : LinkAct) (stored : Option ℕ) (links : List (Option ℕ)) (q : ℕ) → q ≢ p → EndsOrStays (get_or links q None) (get_or (links_after p act stored links) q None)
+pub other_link : (p : ℕ) (act : LinkAct) (stored : Option ℕ) (links : LinkState) (q : ℕ) → q ≢ p → EndsOrStays (get_or links.live q None) (get_or (links_after p act stored links).live q None)
 other_link p act stored links q ne =
-    let Q : Option ℕ → Type 0 = EndsOrStays (get_or links q None) in
+    let Q : Option ℕ → Type 0 = EndsOrStays (get_or links.live q None) in
     subst Q (sym (of_act p act (after_store stored links) q ne)) (by_store stored links q)
 
 -- without an item the link stays

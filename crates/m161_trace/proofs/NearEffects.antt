@@ -3,9 +3,9 @@ use Rattle.std.specs.Prelude.{IfOk, nat_le, if◌then◌else◌, is_some}
 use Rattle.m161_isa.specs.declared.effect.Effect.{Effect}
 use Rattle.m161_isa.specs.declared.effect.Effect.TheVariants as effect
 use Rattle.m161_bus.specs.Board.{board_written}
-use Rattle.m161_cpu.specs.Links.{End, is_to}
+use Rattle.m161_cpu.specs.Links.{End}
 use Rattle.m161_cpu.specs.Scene.{Change, Scene, and_then, result_map}
-use Rattle.m161_cpu.specs.Effect.{Argument, effect_of, own_link, store_physical_word, store_word, unless_overflow, write}
+use Rattle.m161_cpu.specs.Effect.{Argument, effect_of, is_linked, store_physical_word, store_word, unless_overflow, write}
 use Rattle.m161_trace.specs.helpers.Far.{is_far}
 
 -- What an effect changes of rows and of the board.
@@ -103,7 +103,7 @@ near_effect s effect.StoreWordLeft a b c = mapped _ _ _ (λ at. neither _ _ refl
 near_effect s effect.StoreWord a b c = written_at s a.value _
 near_effect s effect.StoreWordRight a b c = mapped _ _ _ (λ at. neither _ _ refl refl)
 near_effect s effect.LoadLinked a b c = mapped _ _ _ (λ at. neither _ _ refl refl)
-near_effect s effect.StoreConditional a b c = mapped _ _ _ (λ at. linked_if (is_to at (own_link s)) _ a.number a.value at)
+near_effect s effect.StoreConditional a b c = mapped _ _ _ (λ at. linked_if (is_linked s at) _ a.number a.value at)
 near_effect s effect.MoveFromCop0 a b c = neither _ _ refl refl
 near_effect s effect.MoveToCop0 a b c = neither _ _ refl refl
 near_effect s effect.ReadTlb a b c = neither _ _ refl refl

@@ -91,12 +91,12 @@ unlinked_true P q None y holds = every_none P
 unlinked_true P q (Some word) None holds = every_one P (unlinked q) (holds refl)
 unlinked_true P q (Some word) (Some other) holds = every_none P
 
-links_true : (p : ℕ) (s : State) (o : Outcome) (t : State) (n : ℕ) → Every (IsTrueOf p s o t) (link_items p n s.links t.links)
+links_true : (p : ℕ) (s : State) (o : Outcome) (t : State) (n : ℕ) → Every (IsTrueOf p s o t) (link_items p n s.links.live t.links.live)
 unfolding link_items
 links_true p s o t n =
     let P = IsTrueOf p s o t in
     every_append P _ _ (linked_true P (link_of p s) (link_of p t) (λ word is. is))
-    (every_each P 0 n (unlinked_item s.links t.links) (λ q. unlinked_true P q (link_of q s) (link_of q t) (λ is. is)))
+    (every_each P 0 n (unlinked_item s.links.live t.links.live) (λ q. unlinked_true P q (link_of q s) (link_of q t) (λ is. is)))
 
 latch_true : (P : Item → Type 0) (x y : Option ℕ) → ((byte : ℕ) → y ≡ Some byte → P (latched byte)) → Every P (latch_items x y)
 latch_true P x None holds = every_none P

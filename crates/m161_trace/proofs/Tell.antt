@@ -9,7 +9,7 @@ use Rattle.m161_cpu.specs.declared.processor.Outcome.TheVariants as outcomes
 use Rattle.m161_cpu.specs.declared.processor.ProcessorState.{ProcessorState}
 use Rattle.m161_cpu.specs.declared.processor.ProcessorState.TheVariants.{Stopped, Running, Waiting}
 use Rattle.m161_cpu.specs.Processor.{Processor, stopped_processor, with_state}
-use Rattle.m161_cpu.specs.Links.{links_after}
+use Rattle.m161_cpu.specs.Links.{LinkState, links_after}
 use Rattle.m161_cpu.specs.Scene.{Change, Scene, around, scene}
 use Rattle.m161_cpu.specs.Step.{Stepped, change_of_step, count_step, idle, lines_in, running_step, step_by_state, step_of, step_of_result, tick, with_processor}
 use Rattle.m161_cpu.proofs.Laws.{step_links}
@@ -97,7 +97,7 @@ link_by true p q s is lt no_link no_end =
     (λ h. none (has_unlinked p s (step_result p s).outcome (after p s) p _ there h)))
 link_by false p q s is lt no_link no_end =
     let ne : q ≢ p = grind (arith, nat_tests, is) in
-    let E = ap (λ links. get_or links q None) (result_links p s) in
+    let E = ap (λ (links : LinkState). get_or links.live q None) (result_links p s) in
     other_stays q (link_of q s) (link_of q (after p s))
     (subst (λ y. (y ≡ link_of q s) ⊎ (y ≡ None)) (sym E) (other_link p (step_result p s).link (step_result p s).stored s.links q ne))
     (λ h. no_end (has_unlinked p s (step_result p s).outcome (after p s) q _ lt h))

@@ -138,7 +138,7 @@ has_stored p s o t at word is there = in_stored p s o t _ (stored_there at word 
 
 -- links
 
-in_links : (p : ℕ) (s : State) (o : Outcome) (t : State) (i : Item) → Has i (link_items p (length s.processors) s.links t.links) → Has i (items p s o t)
+in_links : (p : ℕ) (s : State) (o : Outcome) (t : State) (i : Item) → Has i (link_items p (length s.processors) s.links.live t.links.live) → Has i (items p s o t)
 in_links p s o t i h =
     in_shared p s o t i
     (has_left i _ _ (has_left i _ _ (has_left i _ _ (has_left i _ _ (has_right i (stored_items (uses_in p s).stored t.memory) _ h)))))
@@ -153,21 +153,21 @@ unfolding link_items
 has_unlinked p s o t q i lt h =
     in_links p s o t i
     (has_right i (linked_items (link_of p s) (link_of p t)) _
-    (has_each 0 (length s.processors) q (unlinked_item s.links t.links) i (let z : 0 ≤ q = omega arith in z) (let l : q < 0 + length s.processors = omega (arith, lt) in l) h))
+    (has_each 0 (length s.processors) q (unlinked_item s.links.live t.links.live) i (let z : 0 ≤ q = omega arith in z) (let l : q < 0 + length s.processors = omega (arith, lt) in l) h))
 
 -- the console
 
 pub has_latched : (p : ℕ) (s : State) (o : Outcome) (t : State) (i : Item) → Has i (latch_items s.board.console.latch t.board.console.latch) → Has i (items p s o t)
 has_latched p s o t i h =
     in_shared p s o t i
-    (has_left i _ _ (has_left i _ _ (has_left i _ _ (has_right i (stored_items (uses_in p s).stored t.memory ++ link_items p (length s.processors) s.links t.links) _ h))))
+    (has_left i _ _ (has_left i _ _ (has_left i _ _ (has_right i (stored_items (uses_in p s).stored t.memory ++ link_items p (length s.processors) s.links.live t.links.live) _ h))))
 
 pub waiting_as_many : (p : ℕ) (s : State) (o : Outcome) (t : State) → Without waiting (items p s o t) → length t.board.console.waiting ≡ length s.board.console.waiting
 waiting_as_many p s o t none =
     unchanged _ _ (waiting (length t.board.console.waiting))
     (λ h. none _ (in_shared p s o t _
     (has_left _ _ _ (has_left _ _ _ (has_right _
-    (stored_items (uses_in p s).stored t.memory ++ link_items p (length s.processors) s.links t.links ++ latch_items s.board.console.latch t.board.console.latch) _ h)))))
+    (stored_items (uses_in p s).stored t.memory ++ link_items p (length s.processors) s.links.live t.links.live ++ latch_items s.board.console.latch t.board.console.latch) _ h)))))
 
 -- the board
 
@@ -175,13 +175,13 @@ in_common : (p : ℕ) (s : State) (o : Outcome) (t : State) (i : Item) → Has i
 in_common p s o t i h =
     in_shared p s o t i
     (has_left i _ _ (has_right i
-    (stored_items (uses_in p s).stored t.memory ++ link_items p (length s.processors) s.links t.links ++ latch_items s.board.console.latch t.board.console.latch ++ waiting_items s.board.console t.board.console) _ h))
+    (stored_items (uses_in p s).stored t.memory ++ link_items p (length s.processors) s.links.live t.links.live ++ latch_items s.board.console.latch t.board.console.latch ++ waiting_items s.board.console t.board.console) _ h))
 
 in_places : (p : ℕ) (s : State) (o : Outcome) (t : State) (i : Item) → Has i (places_items (length s.processors) s.board t.board) → Has i (items p s o t)
 in_places p s o t i h =
     in_shared p s o t i
     (has_right i
-    (stored_items (uses_in p s).stored t.memory ++ link_items p (length s.processors) s.links t.links ++ latch_items s.board.console.latch t.board.console.latch ++ waiting_items s.board.console t.board.console
+    (stored_items (uses_in p s).stored t.memory ++ link_items p (length s.processors) s.links.live t.links.live ++ latch_items s.board.console.latch t.board.console.latch ++ waiting_items s.board.console t.board.console
     ++ common_items s.board t.board) _ h)
 
 below : (n q : ℕ) → q < n → q < 0 + n

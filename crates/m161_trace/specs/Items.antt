@@ -34,8 +34,8 @@ pub data Item : Type 0 where
   row : (i high low : ℕ) → Item
   -- the word of RAM that the Step stored to
   stored : (at word : ℕ) → Item
-  -- the word that its link names
-  linked : (word : ℕ) → Item
+  -- the first byte of the unit that its link is to
+  linked : (at : ℕ) → Item
   -- a processor whose link ended
   unlinked : (q : ℕ) → Item
   -- the console: the byte in the latch, and how many bytes wait
@@ -208,7 +208,7 @@ processor_items p s t =
 -- those of RAM, the links and the board
 abbrev pub shared_items : ℕ → State → State → List Item
 shared_items p s t =
-    stored_items (uses_in p s).stored t.memory ++ link_items p (length s.processors) s.links t.links
+    stored_items (uses_in p s).stored t.memory ++ link_items p (length s.processors) s.links.live t.links.live
     ++ latch_items s.board.console.latch t.board.console.latch
     ++ waiting_items s.board.console t.board.console ++ common_items s.board t.board
     ++ places_items (length s.processors) s.board t.board

@@ -25,7 +25,7 @@ abbrev pub Without : {V : Type 0} → (V → Item) → List Item → Type 0
 Without {V = V} item is = (v : V) → Has (item v) is → ⊥
 
 abbrev pub link_of : ℕ → State → Option ℕ
-link_of q s = slice_index_or s.links q None
+link_of q s = slice_index_or s.links.live q None
 
 -- the words of row i of processor p
 abbrev pub high_at : ℕ → ℕ → State → ℕ

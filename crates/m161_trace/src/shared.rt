@@ -97,8 +97,8 @@ fn add_own_link<T: Tlb, D: Console>(
 ) -> Result<(), AllocError>
     requires { Have p before.now.state after.now.state }
     ensures { OnOk result (Adds (string_bytes text.old)
-        (linked_items (slice_index_or before.now.state.links p None)
-        (slice_index_or after.now.state.links p None))
+        (linked_items (slice_index_or before.now.state.links.live p None)
+        (slice_index_or after.now.state.links.live p None))
         (string_bytes text.new)) }
 {
     add_linked(text, before.link(p), after.link(p))
@@ -140,7 +140,7 @@ fn add_unlinked<T: Tlb, D: Console>(
 ) -> Result<(), AllocError>
     requires { Have q before.now.state after.now.state }
     ensures { OnOk result (Adds (string_bytes text.old)
-        (unlinked_item before.now.state.links after.now.state.links q)
+        (unlinked_item before.now.state.links.live after.now.state.links.live q)
         (string_bytes text.new)) }
 {
     add_unlinked_by(text, q, before.link(q), after.link(q))
@@ -156,8 +156,8 @@ pub(crate) fn add_links<T: Tlb, D: Console>(
     requires have { Have p before.now.state after.now.state }
     requires length { length after.now.state.processors ≡ length before.now.state.processors }
     ensures { OnOk result (Adds (string_bytes text.old)
-        (link_items p (length before.now.state.processors) before.now.state.links
-        after.now.state.links)
+        (link_items p (length before.now.state.processors) before.now.state.links.live
+        after.now.state.links.live)
         (string_bytes text.new)) }
 {
     add_own_link(text, p, before, after)?;

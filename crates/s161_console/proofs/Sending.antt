@@ -14,8 +14,7 @@ use Rattle.m161_bus.specs.Registers.{RegisterLine, at, console_configuration, co
 use Rattle.m161_cpu.specs.declared.processor.Outcome.{Outcome}
 use Rattle.m161_cpu.specs.declared.processor.ProcessorState.{ProcessorState}
 use Rattle.m161_cpu.specs.declared.processor.ProcessorState.TheVariants.{Stopped, Running, Waiting}
-use Rattle.m161_cpu.specs.Effect.{Argument, arguments, effect_of, outside_slot, own_link, store_conditional, store_physical_word, with_three, write_board, write_read}
-use Rattle.m161_cpu.specs.Links.{is_to}
+use Rattle.m161_cpu.specs.Effect.{Argument, arguments, effect_of, is_linked, outside_slot, store_conditional, store_physical_word, with_three, write_board, write_read}
 use Rattle.m161_cpu.specs.Processor.{Processor, with_state}
 use Rattle.m161_cpu.specs.Scene.{Change, Scene, and_then, around, result_map, scene}
 use Rattle.m161_cpu.specs.Step.{change_by_row, change_in, change_of_step, executable_word, idle, lines_in, running_step, step_by_state, step_of, step_of_result, tick, with_processor}
@@ -195,7 +194,7 @@ effect_sends s effect.StoreWord a b c = stored s a.value _
 effect_sends s effect.StoreWordRight a b c = mapped s _ _ (λ x. refl)
 effect_sends s effect.LoadLinked a b c = mapped s _ _ (λ x. refl)
 effect_sends s effect.StoreConditional a b c =
-    mapped s _ (store_conditional s a.number a.value) (λ place. conditional (is_to place (own_link s)) _ _ refl refl)
+    mapped s _ (store_conditional s a.number a.value) (λ place. conditional (is_linked s place) _ _ refl refl)
 effect_sends s effect.MoveFromCop0 a b c = refl
 effect_sends s effect.MoveToCop0 a b c = refl
 effect_sends s effect.ReadTlb a b c = refl

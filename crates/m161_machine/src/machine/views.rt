@@ -91,7 +91,7 @@ impl<T: Tlb, D: Console> Machine<T, D> {
     pub fn core(&self) -> &Core<T, D>
         ensures { result.now.state ≡ self.now.state }
     {
-        &self.present
+        &*self.present
     }
 
     /// The state at the base of the log: the log's events, made on it, lead to the machine's state.
@@ -99,7 +99,7 @@ impl<T: Tlb, D: Console> Machine<T, D> {
     pub fn base(&self) -> &Core<T, D>
         ensures { result.now.state ≡ self.now.base }
     {
-        &self.base
+        &*self.base
     }
 
     /// How many events were accepted since boot.
@@ -240,10 +240,10 @@ impl<T: Tlb, D: Console> Machine<T, D> {
         self.present.board_word(word)
     }
 
-    /// The physical word that a processor's link of `ll` names, if the link is live.
+    /// The first byte of the unit that a processor's link of `ll` is to, if the link is live.
     pub fn link(&self, p: u32) -> Option<u32>
         requires { p < length self.now.state.processors }
-        ensures { result ≡ slice_index_or self.now.state.links p None }
+        ensures { result ≡ slice_index_or self.now.state.links.live p None }
     {
         self.present.link(p)
     }

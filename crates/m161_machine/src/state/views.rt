@@ -178,12 +178,12 @@ impl<T: Tlb, D: Console> Core<T, D> {
         self.board.word(word)
     }
 
-    /// The physical word that a processor's link of `ll` names, if the link is live.
+    /// The first byte of the unit that a processor's link of `ll` is to, if the link is live.
     pub fn link(&self, p: u32) -> Option<u32>
         requires { p < length self.now.state.processors }
-        ensures { result ≡ slice_index_or self.now.state.links p None }
+        ensures { result ≡ slice_index_or self.now.state.links.live p None }
     {
-        self.links.linked_word(p)
+        self.links.linked_unit(p)
     }
 
     /// The bytes that the console has sent, the first one first.

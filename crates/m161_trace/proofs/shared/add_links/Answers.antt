@@ -11,8 +11,8 @@ loop-q-init g c = c.in_ok-add_own_link.ensures ∙ ap (λ is. string_bytes c.arg
 
 pub loop-q-preserved : goal.loop-q-preserved
 loop-q-preserved g c =
-    let first = linked_items (slice_index_or c.args.before.now.state.links c.args.p None) (slice_index_or c.args.after.now.state.links c.args.p None) in
-    let item : ℕ → List Item = unlinked_item c.args.before.now.state.links c.args.after.now.state.links in
+    let first = linked_items (slice_index_or c.args.before.now.state.links.live c.args.p None) (slice_index_or c.args.after.now.state.links.live c.args.p None) in
+    let item : ℕ → List Item = unlinked_item c.args.before.now.state.links.live c.args.after.now.state.links.live in
     grown _ _ _ _ _ _
     (ap (λ is. first ++ is) (each_more 0 c.loop-q.q c.loop-q.q item (omega arith)) ∙ sym (append_assoc first (each 0 c.loop-q.q item) (item c.loop-q.q)))
     c.loop-q.invariant c.in_ok-add_unlinked.ensures
@@ -20,7 +20,7 @@ loop-q-preserved g c =
 pub returns : goal.returns
 unfolding link_items
 returns g c =
-    let first = linked_items (slice_index_or c.args.before.now.state.links c.args.p None) (slice_index_or c.args.after.now.state.links c.args.p None) in
-    let item : ℕ → List Item = unlinked_item c.args.before.now.state.links c.args.after.now.state.links in
+    let first = linked_items (slice_index_or c.args.before.now.state.links.live c.args.p None) (slice_index_or c.args.after.now.state.links.live c.args.p None) in
+    let item : ℕ → List Item = unlinked_item c.args.before.now.state.links.live c.args.after.now.state.links.live in
     let whole : c.loop-q.q ≡ length c.args.before.now.state.processors = omega (arith, c.processors-q-end.ensures) in
     c.loop-q.invariant ∙ ap (λ n. string_bytes c.args.text.now ++ spaced (first ++ each 0 n item)) whole

@@ -5,8 +5,9 @@ use Rattle.m161_cpu.proofs.links.Links.link.Goals as goal
 
 pub invariant_of-self : goal.invariant_of-self
 invariant_of-self c =
-    let words = c.self.inside.words in (
-      length-set words c.args.c (Some c.args.word) ∙ c.self.invariant.0,
-      bits_with words c.self.inside.live c.args.c c.self.invariant.0 (search rules) c.args.word
+    let linked = c.self.inside.linked in
+    let to = c.unit_of.result in (
+      length-set linked c.args.c (Some to) ∙ c.self.invariant.0,
+      bits_with linked c.self.inside.live c.args.c c.self.invariant.0 (search rules) to
           c.self.invariant.1,
     )

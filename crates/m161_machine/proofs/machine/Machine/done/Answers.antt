@@ -11,18 +11,18 @@ use Rattle.m161_machine.proofs.machine.Machine.done.Goals as goal
 abbrev before : (g : Over) (c : goal.After-append g) → History
 before g c = record {
   start = record { bytes = c.self.inside.image.bytes.items; entry = c.self.inside.image.entry; conf = c.self.inside.conf };
-  base = c.self.inside.base.state;
+  base = c.self.inside.base.value.state;
   log = c.self.inside.window.items;
-  state = c.self.inside.present.state;
+  state = c.self.inside.present.value.state;
 }
 
 entry_is : (g : Over) (c : goal.After-append g) → c.of_done.result ≡ entry Done c.in_ok-outcome.outcome
 entry_is g c =
     c.of_done.ensures
-    ∙ ap (entry Done) (sym (gives Done c.self.inside.present.state c.done.new.self.state c.in_ok-outcome.outcome c.in_ok-outcome.ensures.makes))
+    ∙ ap (entry Done) (sym (gives Done c.self.inside.present.value.state c.done.new.self.state c.in_ok-outcome.outcome c.in_ok-outcome.ensures.makes))
 
 slid : (g : Over) (c : goal.After-append g) →
-    Slid c.self.inside.base.state c.self.inside.window (c.of_done.result ∷ []) c.append.new.base.state c.append.new.self
+    Slid c.self.inside.base.value.state c.self.inside.window (c.of_done.result ∷ []) c.append.new.base.state c.append.new.self
 slid g c =
     subst (λ (s : State). Slid s c.self.inside.window (c.of_done.result ∷ []) c.append.new.base.state c.append.new.self)
     c.reserve.ensures.state c.append.ensures.slid
@@ -31,7 +31,7 @@ pub invariant_of-self-2 : goal.invariant_of-self-2
 invariant_of-self-2 g c = (
   lawful_slid (before g c) (c.of_done.result ∷ []) c.append.new.base.state c.done.new.self.state c.self.inside.window c.append.new.self c.self.invariant.0
       refl c.self.invariant.1
-      (leads_one c.self.inside.present.state c.done.new.self.state Done c.in_ok-outcome.outcome c.of_done.result (entry_is g c) c.in_ok-outcome.ensures.makes)
+      (leads_one c.self.inside.present.value.state c.done.new.self.state Done c.in_ok-outcome.outcome c.of_done.result (entry_is g c) c.in_ok-outcome.ensures.makes)
       c.in_ok-outcome.ensures.sizes (slid g c),
   (slid g c).capacity_is ∙ c.self.invariant.1,
   c.append.ensures.room,

@@ -9,21 +9,21 @@ use Rattle.m161_machine.proofs.machine.Machine.key.Goals as goal
 abbrev before : (g : Over) (c : goal.After-append g) → History
 before g c = record {
   start = record { bytes = c.self.inside.image.bytes.items; entry = c.self.inside.image.entry; conf = c.self.inside.conf };
-  base = c.self.inside.base.state;
+  base = c.self.inside.base.value.state;
   log = c.self.inside.window.items;
-  state = c.self.inside.present.state;
+  state = c.self.inside.present.value.state;
 }
 
 entry_is : (g : Over) (c : goal.After-append g) → c.of_key.result ≡ entry (Key c.args.byte) c.in_ok-outcome.outcome
 entry_is g c =
     c.of_key.ensures
-    ∙ ap (entry (Key c.args.byte)) (sym (gives (Key c.args.byte) c.self.inside.present.state c.key.new.self.state c.in_ok-outcome.outcome c.in_ok-outcome.ensures.makes))
+    ∙ ap (entry (Key c.args.byte)) (sym (gives (Key c.args.byte) c.self.inside.present.value.state c.key.new.self.state c.in_ok-outcome.outcome c.in_ok-outcome.ensures.makes))
 
 pub invariant_of-self-2 : goal.invariant_of-self-2
 invariant_of-self-2 g c = (
   lawful_slid (before g c) (c.of_key.result ∷ []) c.append.new.base.state c.key.new.self.state c.self.inside.window c.append.new.self c.self.invariant.0
       refl c.self.invariant.1
-      (leads_one c.self.inside.present.state c.key.new.self.state (Key c.args.byte) c.in_ok-outcome.outcome c.of_key.result (entry_is g c) c.in_ok-outcome.ensures.makes)
+      (leads_one c.self.inside.present.value.state c.key.new.self.state (Key c.args.byte) c.in_ok-outcome.outcome c.of_key.result (entry_is g c) c.in_ok-outcome.ensures.makes)
       c.in_ok-outcome.ensures.sizes c.append.ensures.slid,
   c.append.ensures.slid.capacity_is ∙ c.self.invariant.1,
   c.append.ensures.room,

@@ -8,9 +8,9 @@ use Rattle.m161_machine.proofs.machine.Machine.step.Goals as goal
 abbrev before : (g : Over) (c : goal.After-append g) → History
 before g c = record {
   start = record { bytes = c.self.inside.image.bytes.items; entry = c.self.inside.image.entry; conf = c.self.inside.conf };
-  base = c.self.inside.base.state;
+  base = c.self.inside.base.value.state;
   log = c.self.inside.window.items;
-  state = c.self.inside.present.state;
+  state = c.self.inside.present.value.state;
 }
 
 entry_is : (g : Over) (c : goal.After-append g) → c.of_step.result ≡ entry (Step c.args.p) c.in_ok-outcome.outcome
@@ -20,7 +20,7 @@ pub invariant_of-self-2 : goal.invariant_of-self-2
 invariant_of-self-2 g c = (
   lawful_slid (before g c) (c.of_step.result ∷ []) c.append.new.base.state c.step.new.self.state c.self.inside.window c.append.new.self c.self.invariant.0
       refl c.self.invariant.1
-      (leads_one c.self.inside.present.state c.step.new.self.state (Step c.args.p) c.in_ok-outcome.outcome c.of_step.result (entry_is g c) c.in_ok-outcome.ensures.makes)
+      (leads_one c.self.inside.present.value.state c.step.new.self.state (Step c.args.p) c.in_ok-outcome.outcome c.of_step.result (entry_is g c) c.in_ok-outcome.ensures.makes)
       c.in_ok-outcome.ensures.sizes c.append.ensures.slid,
   c.append.ensures.slid.capacity_is ∙ c.self.invariant.1,
   c.append.ensures.room,

@@ -14,17 +14,17 @@ use Rattle.m161_machine.proofs.machine.Machine.steps_at_once.Goals as goal
 abbrev before : (g : Over) (c : goal.After-append g) → History
 before g c = record {
   start = record { bytes = c.self.inside.image.bytes.items; entry = c.self.inside.image.entry; conf = c.self.inside.conf };
-  base = c.self.inside.base.state;
+  base = c.self.inside.base.value.state;
   log = c.self.inside.window.items;
-  state = c.self.inside.present.state;
+  state = c.self.inside.present.value.state;
 }
 
 -- the entries that were made, as they are appended
 advances : (g : Over) (c : goal.After-append g) →
-    Advances c.args.p c.self.inside.present.state (take c.advance_into-made.result c.deref.result.now) c.advance_into-made.new.core.state
+    Advances c.args.p c.self.inside.present.value.state (take c.advance_into-made.result c.deref.result.now) c.advance_into-made.new.core.state
 advances g c =
     let same : c.advance_into-made.new.room.items ≡ c.deref.result.now = search rules in
-    subst (λ es. Advances c.args.p c.self.inside.present.state (take c.advance_into-made.result es) c.advance_into-made.new.core.state) same
+    subst (λ es. Advances c.args.p c.self.inside.present.value.state (take c.advance_into-made.result es) c.advance_into-made.new.core.state) same
     c.advance_into-made.ensures.advances
 
 pub append-requires-clause-transfers : goal.append-requires-clause-transfers
@@ -64,7 +64,7 @@ returns-clause-run g c =
 
 pub returns-clause-made : goal.returns-clause-made
 returns-clause-made g c =
-    let made = counted (take c.advance_into-made.result c.advance_into-made.new.room.items) c.self.inside.present.state c.advance_into-made.new.core.state
+    let made = counted (take c.advance_into-made.result c.advance_into-made.new.room.items) c.self.inside.present.value.state c.advance_into-made.new.core.state
     c.advance_into-made.ensures.advances.0 in
     let within = c.advance_into-made.ensures.within in
     let room = c.requires.room.0 in
