@@ -12,4 +12,4 @@ mod place;
 
 pub use laws::no_symbols_no_places;
 pub use names::Symbols;
-pub use place::{push_place, push_place_behind};
+pub use place::{PLACE_MARKS, push_place, push_place_behind, put_place_behind};

@@ -2,14 +2,14 @@
 
 ghost use Rattle.std.specs.Prelude.{◌≡◌, ◌+◌, ◌≤◌, ◌++◌, ◌∷◌, [], Some, if◌then◌else◌, is_ok, length, string_bytes, string_capacity, string_len};
 ghost use Rattle.m161_text.specs.Parts.{hex_text};
-ghost use Rattle.m161_symbols.specs.Names.{distance_text, hex_size, place_behind, place_of, place_text};
+ghost use Rattle.m161_symbols.specs.Names.{behind_of, distance_text, hex_size, place_behind, place_of, place_text};
 
 use crate::names::Symbols;
 use m161_text::push_hex;
 use std::alloc::AllocError;
 
 /// The most bytes of a place beside its name, with a space before it.
-const MARKS: usize = 12;
+pub const PLACE_MARKS: usize = 12;
 
 /// How many hexadecimal digits a number has without leading zeros.
 fn hex_size(number: u32) -> u32
@@ -73,6 +73,17 @@ fn put_place(text: &mut String, name: &str, distance: u32)
     put(text, ">");
 }
 
+/// Appends a place, which `Symbols::nearest` gave, behind its address: `<name>` or `<name+N>` with a
+/// space before it. There is room for the name and `PLACE_MARKS` bytes, so that this can't fail.
+pub fn put_place_behind(text: &mut String, name: &str, distance: u32)
+    requires { string_len text.old + length name.now + PLACE_MARKS ≤ string_capacity text.old }
+    ensures { string_bytes text.new
+        ≡ string_bytes text.old ++ behind_of (Some (name.now, distance)) }
+{
+    put(text, " ");
+    put_place(text, name, distance);
+}
+
 /// Appends the place of an address: `<name>` or `<name+N>` by the nearest symbol; nothing if there
 /// is none.
 ///
@@ -86,7 +97,7 @@ pub fn push_place(text: &mut String, symbols: &Symbols, address: u32) -> Result<
     let Some((name, distance)) = symbols.nearest(address) else {
         return Ok(());
     };
-    text.reserve(name.len() + MARKS)?;
+    text.reserve(name.len() + PLACE_MARKS)?;
     put_place(text, name, distance);
     Ok(())
 }
@@ -108,8 +119,7 @@ pub fn push_place_behind(
     let Some((name, distance)) = symbols.nearest(address) else {
         return Ok(());
     };
-    text.reserve(name.len() + MARKS)?;
-    put(text, " ");
-    put_place(text, name, distance);
+    text.reserve(name.len() + PLACE_MARKS)?;
+    put_place_behind(text, name, distance);
     Ok(())
 }
