@@ -1,9 +1,8 @@
-use Rattle.std.proofs.Common.{◌≡◌, refl, ℕ, false, Option, None, Some}
+use Rattle.std.proofs.Common.{◌≡◌, refl, ℕ, false}
 use Rattle.std.specs.Prelude.{◌==◌}
-use Rattle.m161_isa.specs.declared.table.Row.{Row}
 use Rattle.m161_dis.specs.declared.naming.Naming.{Naming}
 use Rattle.m161_dis.specs.declared.naming.Naming.TheVariants.{Numbers, Names}
-use Rattle.m161_dis.specs.Canon.{canon_as, canon_by, canonical_row, named_by}
+use Rattle.m161_dis.specs.Canon.{canon_as, canonical_row}
 use Rattle.m161_dis.specs.helpers.Naming.{canon_as_by}
 
 -- A word's text in either naming.

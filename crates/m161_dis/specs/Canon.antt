@@ -1,8 +1,10 @@
+use Rattle.std.specs.Option.{option_or}
 use Rattle.std.specs.Prelude.{ℕ, ◌+◌, ◌-◌, ◌*◌, ◌/◌, ◌%◌, ◌^◌, ◌==◌, nat_lt, if◌then◌else◌, List, [], ◌∷◌, ◌++◌, slice_index_or, Option, None, Some, codes, decimal}
 use Rattle.m161_isa.specs.declared.table.Row.{Row}
 use Rattle.m161_isa.specs.declared.operand.Operand.{Operand}
 use Rattle.m161_isa.specs.declared.operand.Operand.TheVariants as operand
 use Rattle.m161_asm.specs.Tokens.{register_names}
+use Rattle.m161_symbols.specs.Names.{place_behind}
 use Rattle.m161_text.specs.Parts.{hex_text}
 use Rattle.m161_dis.specs.declared.naming.Naming.{Naming}
 use Rattle.m161_dis.specs.declared.naming.Naming.TheVariants.{Numbers, Names}
@@ -118,3 +120,44 @@ canon_named word at = if word == 0 then codes "nop" else named_by word at (canon
 abbrev pub canon_as : Naming → ℕ → ℕ → List ℕ
 canon_as Numbers word at = canon word at
 canon_as Names word at = canon_named word at
+
+-- The same text with the place of its target: a branch's or a jump's target is the last part of its
+-- text.
+
+-- the address that an operand names
+abbrev pub target_of_operand : ℕ → Operand → ℕ → Option ℕ
+target_of_operand at operand.Rd n = None
+target_of_operand at operand.Rs n = None
+target_of_operand at operand.Rt n = None
+target_of_operand at operand.Cop0 n = None
+target_of_operand at operand.Amount n = None
+target_of_operand at operand.Signed n = None
+target_of_operand at operand.Offset n = None
+target_of_operand at operand.Unsigned n = None
+target_of_operand at operand.Base n = None
+target_of_operand at operand.Branch n = Some (branch_target at n)
+target_of_operand at operand.Jump n = Some (jump_target at n)
+
+-- the first of operands that names one
+abbrev pub target_among : ℕ → ℕ → List Operand → Option ℕ
+target_among word at [] = None
+target_among word at (o ∷ os) =
+    option_or (target_of_operand at o (number_of word o)) (target_among word at os)
+
+abbrev pub target_by : ℕ → ℕ → Option Row → Option ℕ
+target_by word at None = None
+target_by word at (Some r) = target_among word at (table r).operands
+
+-- where the instruction of a word at an address goes, if that is a branch or a jump
+abbrev pub target_of : ℕ → ℕ → Option ℕ
+target_of word at = target_by word at (canonical_row word)
+
+-- by the nearest symbol, with a space before it
+abbrev pub target_place : List (List ℕ × ℕ) → Option ℕ → List ℕ
+target_place symbols None = []
+target_place symbols (Some target) = place_behind symbols target
+
+-- symbols are a list, each a name and a value
+abbrev pub canon_with : Naming → List (List ℕ × ℕ) → ℕ → ℕ → List ℕ
+canon_with naming symbols word at =
+    canon_as naming word at ++ target_place symbols (target_of word at)

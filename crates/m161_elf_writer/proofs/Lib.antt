@@ -1,5 +1,9 @@
 pub mod ReadBack
+pub mod LabelTable
+pub mod LabelsRead
+pub mod LabelsListed
 mod Rows
 pub mod Views
-mod WrittenFaults
+pub mod LabelsLoad
+pub mod WrittenFaults
 pub mod WrittenLaw

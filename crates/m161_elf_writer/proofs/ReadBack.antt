@@ -18,18 +18,18 @@ use Rattle.std.proofs.lemmas.Bool.{and_parts}
 -- What the loader reads of a file that was written.
 
 -- half-words and words
-half_behind : (before file : List ℕ) (at : ℕ)
+pub half_behind : (before file : List ℕ) (at : ℕ)
     → half_at (before ++ file) (length before + at) ≡ half_at file at
 half_behind before file at = grind (arith, get_or-append-add)
 
-word_behind : (before file : List ℕ) (place at : ℕ) → place ≡ length before + at
+pub word_behind : (before file : List ℕ) (place at : ℕ) → place ≡ length before + at
     → word_at (before ++ file) place ≡ word_at file at
 word_behind before file place at e = rw e (grind (arith, get_or-append-add))
 
-half_read : (half : ℕ) → half < 2 ^ 16 → half_at (to_be_bytes w16 half) 0 ≡ half
+pub half_read : (half : ℕ) → half < 2 ^ 16 → half_at (to_be_bytes w16 half) 0 ≡ half
 half_read half fits = grind arith
 
-word_read : (word : ℕ) → word < 2 ^ 32 → word_at (to_be_bytes w32 word) 0 ≡ word
+pub word_read : (word : ℕ) → word < 2 ^ 32 → word_at (to_be_bytes w32 word) 0 ≡ word
 word_read word fits = grind arith
 
 -- the ELF header
@@ -78,7 +78,7 @@ header_read before rest at offset s e low fits small =
     (word_behind before file (at + 16) 16 (omega (arith, e)) ∙ word_read (size s) small)
     (word_behind before file (at + 20) 20 (omega (arith, e)) ∙ word_read (size s) small)
 
-headers_from : (file before rest : List ℕ) (k offset : ℕ) (ss : List Segment)
+pub headers_from : (file before rest : List ℕ) (k offset : ℕ) (ss : List Segment)
     → file ≡ before ++ (segment_headers offset ss ++ rest) → length before ≡ 52 + 32 * k
     → AllByRecursion (λ s. s.0 < 2 ^ 32) ss → offset + 4 * word_count ss < 2 ^ 32
     → filter is_load (map (λ i. header_at file (52 + 32 * i)) (range_with_len k (length ss)))
@@ -149,7 +149,7 @@ pub last_value-cons : {X : Type 0} (f : X → ℕ) (test : X → Bool) (x : X) (
 last_value-cons f test x xs other =
     rw (reverse-append (x ∷ []) xs) (first_or f test (reverse xs) x other)
 
-same_if : (test : Bool) (a b other : ℕ) → (test ≡ true → a ≡ b)
+pub same_if : (test : Bool) (a b other : ℕ) → (test ≡ true → a ≡ b)
     → (if test then a else other) ≡ (if test then b else other)
 same_if true a b other e = e refl
 same_if false a b other e = refl
@@ -169,7 +169,7 @@ byte_at before mine rest offset place size at e f here =
     let within : at - place < length mine = grind (arith, nat_tests, tests.0, tests.1) in
     rw tests.1 (byte_in before mine rest offset (at - place) e within)
 
-byte_read : (before rest : List ℕ) (offset at : ℕ) (s : Segment) → length before ≡ offset
+pub byte_read : (before rest : List ℕ) (offset at : ℕ) (s : Segment) → length before ≡ offset
     → has_byte at s ≡ true
     → segment_byte (before ++ (words_bytes s.1 ++ rest)) at (load_header offset s) ≡ byte_of at s
 byte_read before rest offset at s e =

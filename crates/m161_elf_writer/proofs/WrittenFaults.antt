@@ -18,7 +18,7 @@ use Rattle.m161_elf_writer.proofs.WrittenLaw.{all_low}
 
 -- The faults that the file of a program may have.
 
-length-segment_bytes : (ss : List Segment) → length (segment_bytes ss) ≡ 4 * word_count ss
+pub length-segment_bytes : (ss : List Segment) → length (segment_bytes ss) ≡ 4 * word_count ss
 length-segment_bytes [] = refl
 length-segment_bytes (s ∷ ss) =
     omega (
@@ -29,7 +29,7 @@ length-segment_bytes (s ∷ ss) =
       length-segment_bytes ss,
     )
 
-length-elf_bytes : (entry : ℕ) (ss : List Segment)
+pub length-elf_bytes : (entry : ℕ) (ss : List Segment)
     → length (elf_bytes entry ss) ≡ 52 + 32 * length ss + 4 * word_count ss
 length-elf_bytes entry ss =
     let headers = segment_headers (52 + 32 * length ss) ss in
@@ -41,14 +41,14 @@ length-elf_bytes entry ss =
       length-segment_bytes ss,
     )
 
-not_below : (small large : ℕ) → small ≤ large → nat_lt large small ≡ false
+pub not_below : (small large : ℕ) → small ≤ large → nat_lt large small ≡ false
 not_below small large e = grind (arith, nat_tests)
 
 and_false : (a b : Bool) → b ≡ false → (a && b) ≡ false
 and_false true b e = e
 and_false false b e = refl
 
-none_outside_file : (file : List ℕ) (offset : ℕ) (ss : List Segment)
+pub none_outside_file : (file : List ℕ) (offset : ℕ) (ss : List Segment)
     → offset + 4 * word_count ss ≤ length file
     → list_any (is_outside_file file) (load_headers offset ss) ≡ false
 none_outside_file file offset [] room = refl
@@ -57,7 +57,7 @@ none_outside_file file offset (s ∷ ss) room =
     (not_below (offset + size s) (length file) (omega (arith, room))) in
     rw here (none_outside_file file (offset + size s) ss (omega (arith, room)))
 
-none_larger : (offset : ℕ) (ss : List Segment)
+pub none_larger : (offset : ℕ) (ss : List Segment)
     → list_any is_larger_in_file (load_headers offset ss) ≡ false
 none_larger offset [] = refl
 none_larger offset (s ∷ ss) =
@@ -67,7 +67,7 @@ has_some : (n : ℕ) (test : Bool) → 0 < n → (not (4 * n == 0) && test) ≡ 
 has_some n true some = grind (arith, nat_tests)
 has_some n false some = and_false (not (4 * n == 0)) false refl
 
-outside_ram : (ram offset : ℕ) (ss : List Segment) → AllByRecursion (λ s. 0 < length s.1) ss
+pub outside_ram : (ram offset : ℕ) (ss : List Segment) → AllByRecursion (λ s. 0 < length s.1) ss
     → list_any (is_outside_ram ram) (load_headers offset ss) ≡ list_any (lies_outside ram) ss
 outside_ram ram offset [] some = refl
 outside_ram ram offset (s ∷ ss) some =
@@ -75,15 +75,15 @@ outside_ram ram offset (s ∷ ss) some =
     ap (λ test. test || rest) (has_some (length s.1) (lies_outside ram s) some.0)
     ∙ ap (λ tests. lies_outside ram s || tests) (outside_ram ram (offset + size s) ss some.1)
 
-some_from : (ss : List Segment) → ArePlaced ss → AllByRecursion (λ s. 0 < length s.1) ss
+pub some_from : (ss : List Segment) → ArePlaced ss → AllByRecursion (λ s. 0 < length s.1) ss
 some_from [] placed = tt
 some_from (s ∷ ss) placed = (placed.0.0, some_from ss placed.1)
 
-has_table : (n length : ℕ) → 52 + 32 * n ≤ length
+pub has_table : (n length : ℕ) → 52 + 32 * n ≤ length
     → (not (n == 0) && (false || nat_lt length (52 + 32 * n))) ≡ false
 has_table n length room = and_false (not (n == 0)) _ (not_below (52 + 32 * n) length room)
 
-left : (t n x m h o r l e outside bad : Bool) → t ≡ false → n ≡ false → x ≡ false → m ≡ false
+pub left : (t n x m h o r l e outside bad : Bool) → t ≡ false → n ≡ false → x ≡ false → m ≡ false
     → h ≡ false → o ≡ false → r ≡ outside → l ≡ false → e ≡ bad
     → first_answer ((t, fault.Truncated) ∷ (n, fault.NotElf32Big) ∷ (x, fault.NotExecutable)
     ∷ (m, fault.NotMips) ∷ (h, fault.BadHeaderTable)

@@ -1,2 +1,4 @@
+pub mod Labels
+pub mod LabelsLaw
 pub mod Written
 pub mod WrittenLaw

@@ -101,7 +101,7 @@ fn push_segment_bytes(file: &mut Vec<u8>, segments: &[Segment]) -> Result<(), Al
 }
 
 // The bytes of half-words.
-fn push_halves(file: &mut Vec<u8>, halves: &[u16]) -> Result<(), AllocError>
+pub(crate) fn push_halves(file: &mut Vec<u8>, halves: &[u16]) -> Result<(), AllocError>
     ensures { OnOk result (file.new.items ≡ file.old.items ++ halves_bytes halves.now) }
 {
     for half in halves {
@@ -111,7 +111,7 @@ fn push_halves(file: &mut Vec<u8>, halves: &[u16]) -> Result<(), AllocError>
 }
 
 // The bytes of words.
-fn push_words(file: &mut Vec<u8>, words: &[u32]) -> Result<(), AllocError>
+pub(crate) fn push_words(file: &mut Vec<u8>, words: &[u32]) -> Result<(), AllocError>
     ensures { OnOk result (file.new.items ≡ file.old.items ++ words_bytes words.now) }
 {
     for word in words {

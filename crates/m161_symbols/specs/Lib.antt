@@ -1,3 +1,4 @@
+pub mod Law
 pub mod Names
 pub mod Table
 pub mod helpers

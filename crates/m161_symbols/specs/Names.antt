@@ -52,3 +52,11 @@ place_of (Some p) = 60 ∷ p.0 ++ distance_text p.1 ++ 62 ∷ []
 
 abbrev pub place_text : List (List ℕ × ℕ) → ℕ → List ℕ
 place_text symbols address = place_of (nearest_in symbols address)
+
+-- the place behind an address in a text, with a space before it; nothing where there is no symbol
+abbrev pub behind_of : Option (List ℕ × ℕ) → List ℕ
+behind_of None = []
+behind_of (Some p) = 32 ∷ place_of (Some p)
+
+abbrev pub place_behind : List (List ℕ × ℕ) → ℕ → List ℕ
+place_behind symbols address = behind_of (nearest_in symbols address)

@@ -5,9 +5,11 @@
 //! is that of binutils.
 #![tactic(auto)]
 
+mod laws;
 mod named;
 mod names;
 mod place;
 
+pub use laws::no_symbols_no_places;
 pub use names::Symbols;
-pub use place::push_place;
+pub use place::{PLACE_MARKS, push_place, push_place_behind, put_place_behind};
