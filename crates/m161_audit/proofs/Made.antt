@@ -1,5 +1,6 @@
-use Rattle.std.proofs.Common.{◌≡◌, ◌≢◌, ◌∙◌, refl, ap, sym, subst, arith, ℕ, zero, suc, ◌+◌, ◌-◌, ◌<◌, List, [], ◌∷◌, ◌++◌, length, replicate, append_assoc, append-nil, Option, None, Some, Result, Ok, Err}
-use Rattle.std.proofs.lemmas.List.{length-append, length-replicate, replicate-append-replicate}
+use Rattle.std.proofs.Common.{◌≡◌, ◌≢◌, ◌∙◌, refl, ap, sym, subst, arith, ℕ, zero, suc, ◌+◌, ◌-◌, ◌<◌, List, [], ◌∷◌, ◌++◌, length, take, drop, get_or, replicate, append_assoc, append-nil, Option, None, Some, Result, Ok, Err}
+use Rattle.std.proofs.lemmas.List.{length-append, length-replicate, length-take-le, replicate-append-replicate, take_more, take-append-drop}
+use Rattle.std.proofs.Math.Seq.{drop-cons}
 use Rattle.m161_cpu.specs.declared.processor.Outcome.{Outcome}
 use Rattle.m161_cpu.specs.declared.uses.Via.{Via}
 use Rattle.m161_machine.specs.declared.event.Event.{Event}
@@ -154,6 +155,28 @@ finds_first watches s xs ys k p v f = record {
   place_is = f.place_is;
   none = f.none;
   stale = f.stale;
+}
+
+-- one event of a list
+
+pub passes_next : (watches : List Watch) (s : StoreState) (events : List Event) (k : ℕ) (d : Event) (core new : State) (items after : List Shootdown) → k < length events →
+    Passes watches s (take k events) core items →
+    (IsAt watches (after_events s (take k events)) core items → Passes watches (after_events s (take k events)) (get_or events k d ∷ []) new after) →
+    Passes watches s (take (k + 1) events) new after
+passes_next watches s events k d core new items after below h go =
+    subst (λ es. Passes watches s es new after) (sym (take_more events k d below))
+    (passes_more watches s (take k events) (get_or events k d ∷ []) core new items after h go)
+
+pub finds_next : (watches : List Watch) (s : StoreState) (events : List Event) (k p : ℕ) (d : Event) (v : Via) → k < length events → NoneStale watches s (take k events) →
+    IsStale (after_events s (take k events)) watches (get_or events k d) p v → Finds watches s events k p v
+finds_next watches s events k p d v below none stale = record {
+  before = take k events;
+  event = get_or events k d;
+  rest = drop (suc k) events;
+  events_are = sym (take-append-drop k events) ∙ ap (λ l. take k events ++ l) (drop-cons events k d below);
+  place_is = length-take-le k events (omega (arith, below));
+  none = none;
+  stale = stale;
 }
 
 -- one event so many times

@@ -4,6 +4,7 @@ use Rattle.m161_machine.specs.declared.conf.BootError.{BootError}
 use Rattle.m161_machine.specs.declared.conf.BootError.TheVariants.{NoMemory}
 use Rattle.m161_machine.specs.declared.event.Event.{Event}
 use Rattle.m161_machine.specs.History.{History, IsBooted, boot_state}
+use Rattle.m161_machine.specs.State.{State}
 use Rattle.m161_machine.specs.StoreHistory.{without_stores}
 use Rattle.m161_audit.specs.declared.finding.AuditError.{AuditError}
 use Rattle.m161_audit.specs.declared.finding.AuditError.TheVariants.{Boot, BadWatch}
@@ -31,3 +32,12 @@ abbrev pub Audits :
     List ℕ → Conf → Option BootError → List Event → List Watch → Result Finding AuditError → Type 0
 Audits file conf (Some first) events watches result = result ≡ Err (Boot first)
 Audits file conf None events watches result = AuditsBooted file conf events watches result
+
+-- the same of a run from any state, before which nothing counts as stored
+abbrev pub AuditsState : State → List Event → List Watch → Result Finding AuditError → Type 0
+AuditsState s events watches (Ok finding) =
+    ((k : ℕ) → AreGood s.conf.ram watches k)
+    × IsFinding (without_stores s) events watches finding
+AuditsState s events watches (Err (Boot e)) = e ≡ NoMemory
+AuditsState s events watches (Err (BadWatch k)) =
+    IsBad s.conf.ram watches k × AreGood s.conf.ram watches k

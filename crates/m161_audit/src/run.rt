@@ -8,10 +8,10 @@ ghost use Rattle.m161_machine.specs.StoreHistory.{StoreState, stores_after};
 ghost use Rattle.m161_machine.specs.Uses.{MakesStep};
 ghost use Rattle.m161_audit.specs.declared.shootdown.Shootdown.{Shootdown};
 ghost use Rattle.m161_audit.specs.declared.watch.Watch.{Watch};
-ghost use Rattle.m161_audit.specs.Audit.{Audits};
+ghost use Rattle.m161_audit.specs.Audit.{Audits, AuditsState};
 ghost use Rattle.m161_audit.specs.Watch.{AreGood, IsBad};
 ghost use Rattle.m161_audit.specs.helpers.Progress.{tracked};
-ghost use Rattle.m161_audit.specs.helpers.Run.{AuditsEvents, AuditsInputs, AuditsStep, AuditsSteps, Begins, FindsIn, IsAt, IsInput};
+ghost use Rattle.m161_audit.specs.helpers.Run.{AuditsEvent, AuditsEvents, AuditsInputs, AuditsStep, AuditsSteps, Begins, FindsIn, IsAt, IsInput};
 
 use crate::finding::{AuditError, Finding};
 use crate::shootdown::Shootdowns;
@@ -229,6 +229,57 @@ fn find<T: Tlb, D: Console>(
     Ok(Finding::Clean)
 }
 
+// Audits an event, and makes it if it is no stale use. Returns the use and its processor.
+#[inline(always)]
+fn audit_event<T: Tlb, D: Console>(
+    core: &mut Core<T, D>,
+    event: Event,
+    shootdowns: &mut Shootdowns,
+) -> Result<Option<(u32, Via)>, AuditError>
+    ensures { (watches : List Watch) (s : StoreState)
+        → IsAt watches s core.old.state shootdowns.old
+        → AuditsEvent watches s event result core.new.state shootdowns.new }
+{
+    match event {
+        Event::Step(p) => {
+            if make_clean_step(core, p, shootdowns) {
+                return Ok(None);
+            }
+            match audit_step(core, p, shootdowns) {
+                Some(via) => Ok(Some((p, via))),
+                None => Ok(None),
+            }
+        }
+        Event::Key(_) | Event::Done => {
+            make_input(core, event)?;
+            Ok(None)
+        }
+    }
+}
+
+// Audits a list of events from a state on.
+fn find_in<T: Tlb, D: Console>(
+    core: &mut Core<T, D>,
+    events: &[Event],
+    shootdowns: &mut Shootdowns,
+) -> Result<Finding, AuditError>
+    ensures { (watches : List Watch) (s : StoreState)
+        → IsAt watches s core.old.state shootdowns.old
+        → FindsIn watches s events.now result }
+{
+    for (place, event) in events.iter().enumerate() {
+        if let Some((processor, via)) = audit_event(core, *event, shootdowns)? {
+            return Ok(Finding::Stale {
+                place,
+                processor,
+                address: via.address,
+                row: via.row.number(),
+            });
+        }
+    }
+    Ok(Finding::Clean)
+}
+
 // The state of a machine that is booted from a file, and the shootdowns of watches that aren't bad.
 #[inline(never)]
 fn begin<T: Tlb, D: Console>(
@@ -281,6 +332,24 @@ pub fn audit<T: Tlb, D: Console>(
     ensures { Audits file.now conf (boot_fault file.now conf) events.now watches.now result }
 {
     let (mut core, mut shootdowns) = begin::<T, D>(alloc, file, conf, watches)?;
-    let events = Events::from_slice(alloc, events)?;
-    find(&mut core, &events, &mut shootdowns)
+    find_in(&mut core, events, &mut shootdowns)
+}
+
+/// The same, from a state on. What was stored before it doesn't count.
+///
+/// # Errors
+/// The first bad watch; or memory was refused, also at an event `Done`.
+pub fn audit_core<T: Tlb, D: Console>(
+    alloc: Global,
+    core: &mut Core<T, D>,
+    events: &[Event],
+    watches: &[Watch],
+) -> Result<Finding, AuditError>
+    ensures { AuditsState core.old.state events.now watches.now result }
+{
+    if let Some(k) = first_bad(core.conf().ram, watches) {
+        return Err(AuditError::BadWatch(k));
+    }
+    let mut shootdowns = Shootdowns::new(alloc, watches)?;
+    find_in(core, events, &mut shootdowns)
 }

@@ -82,7 +82,7 @@ fn judge_seeds(alloc: Global, image: &[u8], seeds: u32, watches: &[Watch]) -> Op
         let order = Order::Random(u64::from(seed));
         let policy = Policy::new(order, 100, Some(1_000), &[]).ok()?;
         let events = u64::from(EVENTS);
-        let run = judge_booted(alloc, &booted, image, conf, &policy, events, watches, None).ok()?;
+        let run = judge_booted(alloc, &booted, &policy, events, watches, None).ok()?;
         made = made.checked_add(run.events.len() as u64)?;
     }
     Some(made)

@@ -4,7 +4,7 @@ use Rattle.m161_machine.specs.declared.conf.BootError.{BootError}
 use Rattle.m161_machine.specs.declared.conf.BootError.TheVariants.{NoMemory}
 use Rattle.m161_machine.specs.declared.conf.Conf.{Conf}
 use Rattle.m161_machine.specs.declared.event.Event.{Event}
-use Rattle.m161_machine.specs.History.{Boots, History, boot_state}
+use Rattle.m161_machine.specs.History.{Boots, History, IsBooted}
 use Rattle.m161_machine.specs.State.{State}
 use Rattle.m161_machine.specs.StoreHistory.{without_stores}
 use Rattle.m161_audit.specs.declared.finding.AuditError.{AuditError}
@@ -12,7 +12,8 @@ use Rattle.m161_audit.specs.declared.finding.AuditError.TheVariants.{Boot, BadWa
 use Rattle.m161_audit.specs.declared.finding.Finding.{Finding}
 use Rattle.m161_audit.specs.declared.finding.Finding.TheVariants as finding
 use Rattle.m161_audit.specs.declared.watch.Watch.{Watch}
-use Rattle.m161_audit.specs.Audit.{Audits}
+use Rattle.m161_audit.specs.Audit.{AuditsState}
+use Rattle.m161_audit.specs.Watch.{AreGood, IsBad}
 use Rattle.m161_audit.specs.Stale.{IsFinding}
 use Rattle.m161_drive.specs.Policy.{Rules}
 use Rattle.m161_judge.specs.declared.run.Run.{Run}
@@ -28,32 +29,29 @@ use Rattle.m161_judge.proofs.Judging.{place_is_below}
 
 -- The audit, as it is used.
 
-the_error : (a b : AuditError) → ◌≡◌ {A = Result Finding AuditError} (Err a) (Err b) → a ≡ b
-the_error a b h = cc
+-- a state that was just booted has the configuration
+conf_of : (file : List ℕ) (conf : Conf) (m : History) (s : State) → IsBooted file conf m → s ≡ m.state → s.conf ≡ conf
+conf_of file conf m s booted is = ap (λ (x : State). x.conf) (is ∙ booted.state_is) ∙ booted.conf_is
 
--- the finding of an audit is that of every machine that was booted so
-pub finds : (file : List ℕ) (conf : Conf) (fault : Option BootError) (events : List Event) (watches : List Watch) (result : Result Finding AuditError) →
-    Audits file conf fault events watches result → FindsStale file conf fault events watches result
-finds file conf (Some first) events watches (Ok found) h = tt
-finds file conf (Some first) events watches (Err error) h = the_error error (Boot first) h
-finds file conf None events watches (Ok found) h = (
-  h.0,
-  λ m booted. subst (λ s. IsFinding (without_stores s) events watches found)
-      (sym h.1.1.state_is ∙ booted_as_one file conf h.1.0 m h.1.1 booted) h.1.2,
-)
-finds file conf None events watches (Err (Boot e)) h = h
-finds file conf None events watches (Err (BadWatch k)) h = h
+-- the finding from a state that was just booted is that of every machine that was booted so
+pub finds : (file : List ℕ) (conf : Conf) (fault : Option BootError) (s : State) (events : List Event) (watches : List Watch) (result : Result Finding AuditError) →
+    BootsState file conf fault (Ok s) → AuditsState s events watches result → FindsStale file conf fault events watches result
+finds file conf (Some first) s events watches result boots h = absurd boots
+finds file conf None s events watches (Ok found) boots h =
+    let same = conf_of file conf boots.0 s boots.1 boots.2 in (
+      subst (λ (c : Conf). (k : ℕ) → AreGood c.ram watches k) same h.0,
+      λ m booted. subst (λ x. IsFinding (without_stores x) events watches found)
+          (boots.2 ∙ booted_as_one file conf boots.0 m boots.1 booted) h.1,
+    )
+finds file conf None s events watches (Err (Boot e)) boots h = h
+finds file conf None s events watches (Err (BadWatch k)) boots h =
+    subst (λ (c : Conf). IsBad c.ram watches k × AreGood c.ram watches k) (conf_of file conf boots.0 s boots.1 boots.2) h
 
-not_error : (found : Finding) (error : AuditError) → ◌≡◌ {A = Result Finding AuditError} (Ok found) (Err error) → ⊥
-not_error found error h = cc
-
-pub found_below : (file : List ℕ) (conf : Conf) (fault : Option BootError) (events : List Event) (watches : List Watch) (result : Result Finding AuditError) →
-    Audits file conf fault events watches result → IfOk result (IsBelow (length events))
-found_below file conf (Some first) events watches (Ok found) h = absurd (not_error found (Boot first) h)
-found_below file conf (Some first) events watches (Err error) h = tt
-found_below file conf None events watches (Ok found) h =
-    place_is_below (record { watches = watches; output = None; keys = [] }) (boot_state h.1.0.start) events found h.1.2
-found_below file conf None events watches (Err error) h = tt
+pub found_below : (s : State) (events : List Event) (watches : List Watch) (result : Result Finding AuditError) →
+    AuditsState s events watches result → IfOk result (IsBelow (length events))
+found_below s events watches (Ok found) h =
+    place_is_below (record { watches = watches; output = None; keys = [] }) s events found h.1
+found_below s events watches (Err error) h = tt
 
 boot_is : (a b : BootError) → ◌≡◌ {A = AuditError} (Boot a) (Boot b) → a ≡ b
 boot_is a b h = cc

@@ -39,6 +39,13 @@ impl<T: Tlb, D: Console> Booted<T, D> {
         })
     }
 
+    /// The state.
+    pub(crate) fn core(&self) -> &Core<T, D>
+        ensures { result.now.state ≡ self.now }
+    {
+        &self.core
+    }
+
     /// The same state again, to go on from.
     pub(crate) fn copy_core(&self, alloc: Global) -> Result<Core<T, D>, AllocError>
         ensures { IfOk result (λ core. core.state ≡ self.now) }

@@ -28,9 +28,9 @@ pub fn judge<T: Tlb, D: Console>(
 ) -> Result<Option<Judged>, AuditError>
     ensures { Judges file.now conf (boot_fault file.now conf) events.now goal.now result }
 {
-    let finding = find_stale::<T, D>(alloc, file, conf, events, goal.watches)?;
     let machine: Machine<T, D> = Machine::boot(alloc, file, conf)?;
     let mut core = machine.into_core();
+    let finding = find_stale(alloc, &core, events, goal.watches)?;
     match walk_along(&mut core, events, goal)? {
         Walk::Refused => Ok(None),
         Walk::Made(beside) => Ok(first_verdict(finding, beside)),

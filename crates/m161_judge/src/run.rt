@@ -1,6 +1,7 @@
 //! The verdict of a driven run.
 
-ghost use Rattle.std.specs.Prelude.{◌≡◌, ◌≤◌, Ok};
+ghost use Rattle.std.specs.Prelude.{◌≡◌, ◌≤◌, ℕ, List, Ok};
+ghost use Rattle.m161_machine.specs.declared.conf.Conf.{Conf as ConfValue};
 ghost use Rattle.m161_machine.specs.History.{boot_fault};
 ghost use Rattle.m161_judge.specs.Judge.{bytes_of};
 ghost use Rattle.m161_judge.specs.Run.{BootsState, Runs, criteria, is_cut};
@@ -78,29 +79,27 @@ fn drive_copy<T: Tlb, D: Console>(
     drive_run(alloc, &mut core, policy, n, output)
 }
 
-/// Drives a machine that was booted from a file, over any TLB and any console, for at most `n` events
-/// that a policy chooses, and judges the run. The machine's log has room for all of them. The same
-/// as `judge_run`, of a state that isn't booted again for each run.
+/// Drives a machine that was just booted, over any TLB and any console, for at most `n` events that a
+/// policy chooses, and judges the run. The same as `judge_run` of the file from which it was booted,
+/// if the machine's log has room for all of them; but nothing is booted again.
 ///
 /// # Errors
 /// The first bad watch; or memory was refused, also at an event `Done`.
 pub fn judge_booted<T: Tlb, D: Console>(
     alloc: Global,
     booted: &Booted<T, D>,
-    file: &[u8],
-    conf: Conf,
     policy: &Policy,
     n: u64,
     watches: &[Watch],
     output: Option<&[u8]>,
 ) -> Result<Run, AuditError>
-    requires booted { BootsState file.now conf (boot_fault file.now conf) (Ok booted.now) }
-    requires room { n ≤ conf.log }
-    ensures { Runs file.now conf (boot_fault file.now conf) policy.now n
+    ensures { (file : List ℕ) (conf : ConfValue)
+        → BootsState file conf (boot_fault file conf) (Ok booted.now) → n ≤ conf.log
+        → Runs file conf (boot_fault file conf) policy.now n
         (criteria watches.now (bytes_of output.entry) policy.now) result }
 {
     let run = drive_copy(alloc, booted, policy, n, output)?;
-    let finding = find_stale::<T, D>(alloc, file, conf, &run.events, watches)?;
+    let finding = find_stale(alloc, booted.core(), &run.events, watches)?;
     Ok(Run {
         events: run.events,
         judged: first_verdict(finding, run.judged),
@@ -128,5 +127,5 @@ pub fn judge_run<T: Tlb, D: Console>(
         (criteria watches.now (bytes_of output.entry) policy.now) result }
 {
     let booted = Booted::<T, D>::new(alloc, file, conf)?;
-    judge_booted(alloc, &booted, file, conf, policy, n, watches, output)
+    judge_booted(alloc, &booted, policy, n, watches, output)
 }

@@ -2,33 +2,33 @@
 
 ghost use Rattle.std.specs.Prelude.{◌-◌, ◌^◌, IfOk, List};
 ghost use Rattle.m161_machine.specs.declared.event.Event.{Event as EventValue};
-ghost use Rattle.m161_machine.specs.History.{boot_fault};
 ghost use Rattle.m161_machine.specs.State.{State};
 ghost use Rattle.m161_judge.specs.Verdict.{Criteria};
-ghost use Rattle.m161_judge.specs.helpers.Walk.{FindsStale, IsBelow, Joins};
+ghost use Rattle.m161_audit.specs.Audit.{AuditsState};
+ghost use Rattle.m161_judge.specs.helpers.Walk.{IsBelow, Joins};
 
 use crate::verdict::{Judged, Verdict};
-use m161_audit::{AuditError, Finding, Watch, audit};
+use m161_audit::{AuditError, Finding, Watch, audit_core};
 use m161_bus::Console;
-use m161_machine::{Conf, Event};
+use m161_machine::{Core, Event};
 use m161_tlb::Tlb;
 use std::alloc::Global;
 
-/// The first stale use. Without watches there is none, and nothing is booted.
+/// The first stale use of a run from a state. Without watches there is none, and nothing is made.
 pub(crate) fn find_stale<T: Tlb, D: Console>(
     alloc: Global,
-    file: &[u8],
-    conf: Conf,
+    core: &Core<T, D>,
     events: &[Event],
     watches: &[Watch],
 ) -> Result<Finding, AuditError>
-    ensures found { FindsStale file.now conf (boot_fault file.now conf) events.now watches.now result }
+    ensures found { AuditsState core.now.state events.now watches.now result }
     ensures within { IfOk result (IsBelow (2 ^ 64 - 1)) }
 {
     if watches.is_empty() {
         return Ok(Finding::Clean);
     }
-    audit::<T, D>(alloc, file, conf, events, watches)
+    let mut copy = core.copy(alloc)?;
+    audit_core(alloc, &mut copy, events, watches)
 }
 
 /// The first verdict: that of a finding, or else the first one but Stale.

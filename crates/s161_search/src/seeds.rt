@@ -138,8 +138,6 @@ fn run_seed<'a>(
     match judge_booted(
         alloc,
         booted,
-        &inputs.file,
-        conf_of(task),
         &policy,
         task.drive.events,
         &inputs.watches,

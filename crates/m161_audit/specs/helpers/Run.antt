@@ -54,6 +54,14 @@ abbrev pub AuditsStep :
 AuditsStep watches s p (Some v) core items = IsStale s watches (Step p) p v
 AuditsStep watches s p None core items = Passes watches s (Step p ∷ []) core items
 
+-- one event, or memory was refused
+abbrev pub AuditsEvent :
+    List Watch → StoreState → Event → Result (Option (ℕ × Via)) AuditError → State → List Shootdown
+    → Type 0
+AuditsEvent watches s e (Ok (Some (p, v))) core items = IsStale s watches e p v
+AuditsEvent watches s e (Ok None) core items = Passes watches s (e ∷ []) core items
+AuditsEvent watches s e (Err error) core items = error ≡ Boot NoMemory
+
 -- Steps of one processor, and a place among them
 abbrev pub AuditsSteps :
     List Watch → StoreState → ℕ → List Event → Option (ℕ × Via) → State → List Shootdown → Type 0

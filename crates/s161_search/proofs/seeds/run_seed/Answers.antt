@@ -4,14 +4,8 @@ use Rattle.s161_drive.specs.Driven.{rules_of}
 use Rattle.s161_search.specs.helpers.Inputs.{given_of}
 use Rattle.s161_search.specs.Seeds.{IsRunFault, drive_at, search_conf}
 use Rattle.s161_search.proofs.Failing.{run_failed}
-use Rattle.s161_search.proofs.Judging.{boots_as, rules_are, run_made, same_run}
+use Rattle.s161_search.proofs.Judging.{rules_are, run_made, same_run}
 use Rattle.s161_search.proofs.seeds.run_seed.Goals as goal
-
-pub judge_booted-requires-clause-booted : goal.judge_booted-requires-clause-booted
-judge_booted-requires-clause-booted c =
-    let given = given_of c.args.inputs.now in
-    boots_as given.file c.deref-2.result.now (search_conf c.args.task) c.conf_of.result (Ok c.args.booted.now) (sym c.deref-2.ensures.value) (sym c.conf_of.ensures)
-    c.requires.booted
 
 pub returns-in-Ok-judge_booted-clause-ok : goal.returns-in-Ok-judge_booted-clause-ok
 returns-in-Ok-judge_booted-clause-ok c =
@@ -20,8 +14,8 @@ returns-in-Ok-judge_booted-clause-ok c =
     let rules = rules_are task.drive c.args.k c.seed_at.result c.with_seed-order.result c.in-Ok.policy c.deref.result.now given.keys
     c.in-Ok.ensures.1 c.with_seed-order.ensures.value c.seed_at.ensures c.deref.ensures.value in
     run_made task given (rules_of (drive_at task.drive c.args.k) given.keys) (boot_fault given.file (search_conf task)) c.in-Ok-judge_booted.run'
-    (same_run task given c.args.k c.deref-2.result.now c.conf_of.result c.in-Ok.policy c.deref-3.result.now _ (Ok c.in-Ok-judge_booted.run')
-    c.deref-2.ensures.value c.conf_of.ensures rules c.deref-3.ensures.value c.output.ensures c.in-Ok-judge_booted.ensures)
+    (same_run task given c.args.k given.file (search_conf task) c.in-Ok.policy c.deref-2.result.now _ (Ok c.in-Ok-judge_booted.run')
+    refl refl rules c.deref-2.ensures.value c.output.ensures (c.in-Ok-judge_booted.ensures given.file (search_conf task) c.requires.booted c.requires.room))
 
 pub returns-in-Err-clause-fault : goal.returns-in-Err-clause-fault
 returns-in-Err-clause-fault c =
@@ -31,5 +25,5 @@ returns-in-Err-clause-fault c =
     c.in-Ok.ensures.1 c.with_seed-order.ensures.value c.seed_at.ensures c.deref.ensures.value in
     subst (IsRunFault task given) (sym c.fault_of_audit.ensures)
     (run_failed task given (rules_of (drive_at task.drive c.args.k) given.keys) task.drive.events (boot_fault given.file (search_conf task)) c.in-Err.error refl
-    (same_run task given c.args.k c.deref-2.result.now c.conf_of.result c.in-Ok.policy c.deref-3.result.now _ (Err c.in-Err.error)
-    c.deref-2.ensures.value c.conf_of.ensures rules c.deref-3.ensures.value c.output.ensures c.in-Err.ensures))
+    (same_run task given c.args.k given.file (search_conf task) c.in-Ok.policy c.deref-2.result.now _ (Err c.in-Err.error)
+    refl refl rules c.deref-2.ensures.value c.output.ensures (c.in-Err.ensures given.file (search_conf task) c.requires.booted c.requires.room)))
