@@ -1,11 +1,10 @@
 use Rattle.std.proofs.Common.{◌≡◌, ◌≢◌, ◌⊎◌, inl, inr, ◌∙◌, refl, ap, sym, ℕ, Bool, true, false, List, [], ◌∷◌, ◌++◌, append_assoc, append-nil, subst}
 use Rattle.std.proofs.lemmas.Bool.Decides.{eqb_tells}
 use Rattle.std.specs.Prelude.{◌==◌, ◌||◌, if◌then◌else◌}
-use Rattle.m161_machine.specs.StoreHistory.{touches}
 use Rattle.m161_audit.specs.declared.watch.Watch.{Watch}
 use Rattle.m161_audit.specs.declared.shootdown.Progress.{Progress}
 use Rattle.m161_audit.specs.declared.shootdown.Progress.TheVariants.{Before, Changed, GoneOn}
-use Rattle.m161_audit.specs.Stale.{HasGoneOn}
+use Rattle.m161_audit.specs.Stale.{HasGoneOn, touches}
 use Rattle.m161_audit.specs.helpers.Progress.{if_changed, progress_after, progress_from, progress_of}
 
 -- The code's progress says whether the initiator has gone on.

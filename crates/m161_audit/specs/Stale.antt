@@ -7,7 +7,7 @@ use Rattle.m161_machine.specs.declared.event.Event.{Event}
 use Rattle.m161_machine.specs.declared.event.Event.TheVariants.{Step}
 use Rattle.m161_machine.specs.declared.event.Refusal.{Refusal}
 use Rattle.m161_machine.specs.State.{State, next, processor_at, word_in}
-use Rattle.m161_machine.specs.StoreHistory.{StoreState, live_state, next_store, touches}
+use Rattle.m161_machine.specs.StoreHistory.{StoreState, live_state, next_store}
 use Rattle.m161_machine.specs.Uses.{uses_in}
 use Rattle.m161_audit.specs.declared.finding.Finding.{Finding}
 use Rattle.m161_audit.specs.declared.finding.Finding.TheVariants.{Clean, Stale}
@@ -17,6 +17,11 @@ use Rattle.m161_audit.specs.declared.watch.Watch.{Watch}
 -- Approach, 1989: one processor, the initiator, changes a page table; the others drop the old
 -- mapping from their TLBs before the initiator goes on. After that no processor uses the old
 -- mapping.
+
+-- one of these words is this one
+abbrev pub touches : ℕ → List ℕ → Bool
+touches word [] = false
+touches word (w ∷ ws) = (word == w) || touches word ws
 
 -- the initiator has gone on: a store changed the page table's entry, and after the last one to it
 -- came one to the word that marks the end. What the image put there is no store
