@@ -13,7 +13,7 @@ use Rattle.m161_debug.specs.declared.command.CommandError.TheVariants.{BadArgume
 use Rattle.m161_debug.specs.declared.command.Display.TheVariants.{Regs, Cop0, Tlb}
 use Rattle.m161_debug.specs.declared.condition.Condition.{Condition}
 use Rattle.m161_debug.specs.declared.condition.Condition.TheVariants as conditions
-use Rattle.m161_debug.specs.Commands.{arguments_of, change_word, condition_word, first_word, word_of, AreNumbers, AreParts, HasArguments, IsAddress, IsAsked, IsAskedOf, IsCondition, IsConditionOf, IsConditionWith, IsNumber}
+use Rattle.m161_debug.specs.Commands.{arguments_of, change_word, condition_word, first_word, word_of, AreNumbers, AreParts, HasArguments, IsAsked, IsAskedOf, IsCondition, IsConditionOf, IsConditionWith, IsNumber, IsPlace}
 use Rattle.m161_debug.specs.helpers.Reading.{Finds}
 
 first_word_alone : (line : List ℕ) → Lacks 32 line → first_word line ≡ line
@@ -41,11 +41,11 @@ cut_is P line word rest cut p =
 alone_is : (P : List ℕ → Option (List ℕ) → Type 0) (line : List ℕ) → Lacks 32 line → P line None → P (first_word line) (arguments_of line)
 alone_is P line lacks p = subst (λ w. P w (arguments_of line)) (sym (first_word_alone line lacks)) (subst (λ a. P line a) (sym (arguments_alone line lacks)) p)
 
-pub asked_cut : (line word rest : List ℕ) (r : Result Command CommandError) → Lacks 32 word × (line ≡ word ␣ rest) → IsAskedOf word (Some rest) r → IsAsked line r
-asked_cut line word rest r cut asked = cut_is (λ w a. IsAskedOf w a r) line word rest cut asked
+pub asked_cut : (symbols : List (List ℕ × ℕ)) (line word rest : List ℕ) (r : Result Command CommandError) → Lacks 32 word × (line ≡ word ␣ rest) → IsAskedOf symbols word (Some rest) r → IsAsked symbols line r
+asked_cut symbols line word rest r cut asked = cut_is (λ w a. IsAskedOf symbols w a r) line word rest cut asked
 
-pub asked_alone : (line : List ℕ) (r : Result Command CommandError) → Lacks 32 line → IsAskedOf line None r → IsAsked line r
-asked_alone line r lacks asked = alone_is (λ w a. IsAskedOf w a r) line lacks asked
+pub asked_alone : (symbols : List (List ℕ × ℕ)) (line : List ℕ) (r : Result Command CommandError) → Lacks 32 line → IsAskedOf symbols line None r → IsAsked symbols line r
+asked_alone symbols line r lacks asked = alone_is (λ w a. IsAskedOf symbols w a r) line lacks asked
 
 -- the same of a condition
 
@@ -54,27 +54,27 @@ both_sides : {Says Tells : Condition → List ℕ → Type 0} {a b : List ℕ} (
 both_sides None there back finds = record { found = tt; none = λ c t. finds.none c (back c t) }
 both_sides (Some c) there back finds = record { found = there c finds.found; none = tt }
 
-back_cut : (line word rest : List ℕ) → Lacks 32 word × (line ≡ word ␣ rest) → (c : Condition) → IsCondition c line → IsConditionOf word (Some rest) c
-back_cut line word rest cut c is =
-    subst (λ a. IsConditionOf word a c) (arguments_cut word rest cut.0)
-    (subst (λ w. IsConditionOf w (arguments_of (word ␣ rest)) c) (first_word_cut word rest cut.0) (subst (λ l. IsCondition c l) cut.1 is))
+back_cut : (symbols : List (List ℕ × ℕ)) (line word rest : List ℕ) → Lacks 32 word × (line ≡ word ␣ rest) → (c : Condition) → IsCondition symbols c line → IsConditionOf symbols word (Some rest) c
+back_cut symbols line word rest cut c is =
+    subst (λ a. IsConditionOf symbols word a c) (arguments_cut word rest cut.0)
+    (subst (λ w. IsConditionOf symbols w (arguments_of (word ␣ rest)) c) (first_word_cut word rest cut.0) (subst (λ l. IsCondition symbols c l) cut.1 is))
 
-back_alone : (line : List ℕ) → Lacks 32 line → (c : Condition) → IsCondition c line → IsConditionOf line None c
-back_alone line lacks c is = subst (λ a. IsConditionOf line a c) (arguments_alone line lacks) (subst (λ w. IsConditionOf w (arguments_of line) c) (first_word_alone line lacks) is)
+back_alone : (symbols : List (List ℕ × ℕ)) (line : List ℕ) → Lacks 32 line → (c : Condition) → IsCondition symbols c line → IsConditionOf symbols line None c
+back_alone symbols line lacks c is = subst (λ a. IsConditionOf symbols line a c) (arguments_alone line lacks) (subst (λ w. IsConditionOf symbols w (arguments_of line) c) (first_word_alone line lacks) is)
 
-pub condition_cut : (line word rest : List ℕ) (r : Option Condition) → Lacks 32 word × (line ≡ word ␣ rest)
-    → Finds (λ c text. IsConditionOf word (Some text) c) rest r → Finds IsCondition line r
-condition_cut line word rest r cut finds =
-    both_sides r (λ c is. cut_is (λ w a. IsConditionOf w a c) line word rest cut is) (back_cut line word rest cut) finds
+pub condition_cut : (symbols : List (List ℕ × ℕ)) (line word rest : List ℕ) (r : Option Condition) → Lacks 32 word × (line ≡ word ␣ rest)
+    → Finds (λ c text. IsConditionOf symbols word (Some text) c) rest r → Finds (IsCondition symbols) line r
+condition_cut symbols line word rest r cut finds =
+    both_sides r (λ c is. cut_is (λ w a. IsConditionOf symbols w a c) line word rest cut is) (back_cut symbols line word rest cut) finds
 
-pub condition_alone : (line : List ℕ) (r : Option Condition) → Lacks 32 line → Finds (λ c text. IsConditionOf line None c) line r → Finds IsCondition line r
-condition_alone line r lacks finds = both_sides r (λ c is. alone_is (λ w a. IsConditionOf w a c) line lacks is) (back_alone line lacks) finds
+pub condition_alone : (symbols : List (List ℕ × ℕ)) (line : List ℕ) (r : Option Condition) → Lacks 32 line → Finds (λ c text. IsConditionOf symbols line None c) line r → Finds (IsCondition symbols) line r
+condition_alone symbols line r lacks finds = both_sides r (λ c is. alone_is (λ w a. IsConditionOf symbols w a c) line lacks is) (back_alone symbols line lacks) finds
 
 -- `s` with what is neither a processor nor a processor and a number
-pub no_steps : (text : List ℕ) → Finds IsNumber text None → Finds AreNumbers text None → IsAskedOf (codes "s") (Some text) (Err BadArgument)
-no_steps text one two = (λ unknown. unknown.1.1.0 refl, λ command is. by command is.0 is.1)
+pub no_steps : (symbols : List (List ℕ × ℕ)) (text : List ℕ) → Finds IsNumber text None → Finds AreNumbers text None → IsAskedOf symbols (codes "s") (Some text) (Err BadArgument)
+no_steps symbols text one two = (λ unknown. unknown.1.1.0 refl, λ command is. by command is.0 is.1)
   where
-    by : (command : Command) → word_of command ≡ codes "s" → HasArguments command text → ⊥
+    by : (command : Command) → word_of command ≡ codes "s" → HasArguments symbols command text → ⊥
     by (Breakpoint Set p address) word is = omega (arith, ap (λ ds. get_or ds 0 0) word)
     by (Breakpoint Delete p address) word is = omega (arith, ap (λ ds. get_or ds 0 0) word)
     by (Make (events.Step p)) word is = one.none p is
@@ -94,10 +94,10 @@ no_steps text one two = (λ unknown. unknown.1.1.0 refl, λ command is. by comma
     by (Log n) word is = omega (arith, ap (λ ds. get_or ds 0 0) word)
 
 -- `b` with what is no processor and address
-pub no_break : (text : List ℕ) → Finds (AreParts IsNumber IsAddress) text None → IsAskedOf (codes "b") (Some text) (Err BadArgument)
-no_break text none = (λ unknown. unknown.0 refl, λ command is. by command is.0 is.1)
+pub no_break : (symbols : List (List ℕ × ℕ)) (text : List ℕ) → Finds (AreParts IsNumber (IsPlace symbols)) text None → IsAskedOf symbols (codes "b") (Some text) (Err BadArgument)
+no_break symbols text none = (λ unknown. unknown.0 refl, λ command is. by command is.0 is.1)
   where
-    by : (command : Command) → word_of command ≡ codes "b" → HasArguments command text → ⊥
+    by : (command : Command) → word_of command ≡ codes "b" → HasArguments symbols command text → ⊥
     by (Breakpoint Set p address) word is = none.none (p, address) is
     by (Breakpoint Delete p address) word is = omega (arith, ap (λ ds. get_or ds 0 0) word)
     by (Make (events.Step p)) word is = omega (arith, ap (λ ds. get_or ds 0 0) word)
@@ -117,10 +117,10 @@ no_break text none = (λ unknown. unknown.0 refl, λ command is. by command is.0
     by (Log n) word is = omega (arith, ap (λ ds. get_or ds 0 0) word)
 
 -- and `d`
-pub no_delete : (text : List ℕ) → Finds (AreParts IsNumber IsAddress) text None → IsAskedOf (codes "d") (Some text) (Err BadArgument)
-no_delete text none = (λ unknown. unknown.1.0 refl, λ command is. by command is.0 is.1)
+pub no_delete : (symbols : List (List ℕ × ℕ)) (text : List ℕ) → Finds (AreParts IsNumber (IsPlace symbols)) text None → IsAskedOf symbols (codes "d") (Some text) (Err BadArgument)
+no_delete symbols text none = (λ unknown. unknown.1.0 refl, λ command is. by command is.0 is.1)
   where
-    by : (command : Command) → word_of command ≡ codes "d" → HasArguments command text → ⊥
+    by : (command : Command) → word_of command ≡ codes "d" → HasArguments symbols command text → ⊥
     by (Breakpoint Set p address) word is = omega (arith, ap (λ ds. get_or ds 0 0) word)
     by (Breakpoint Delete p address) word is = none.none (p, address) is
     by (Make (events.Step p)) word is = omega (arith, ap (λ ds. get_or ds 0 0) word)
@@ -140,10 +140,10 @@ no_delete text none = (λ unknown. unknown.1.0 refl, λ command is. by command i
     by (Log n) word is = omega (arith, ap (λ ds. get_or ds 0 0) word)
 
 -- `m` with what is no address and number
-pub no_memory : (text : List ℕ) → Finds (AreParts IsAddress IsNumber) text None → IsAskedOf (codes "m") (Some text) (Err BadArgument)
-no_memory text none = (λ unknown. unknown.1.1.1.1.1.1.1.1.1.0 refl, λ command is. by command is.0 is.1)
+pub no_memory : (symbols : List (List ℕ × ℕ)) (text : List ℕ) → Finds (AreParts (IsPlace symbols) IsNumber) text None → IsAskedOf symbols (codes "m") (Some text) (Err BadArgument)
+no_memory symbols text none = (λ unknown. unknown.1.1.1.1.1.1.1.1.1.0 refl, λ command is. by command is.0 is.1)
   where
-    by : (command : Command) → word_of command ≡ codes "m" → HasArguments command text → ⊥
+    by : (command : Command) → word_of command ≡ codes "m" → HasArguments symbols command text → ⊥
     by (Breakpoint Set p address) word is = omega (arith, ap (λ ds. get_or ds 0 0) word)
     by (Breakpoint Delete p address) word is = omega (arith, ap (λ ds. get_or ds 0 0) word)
     by (Make (events.Step p)) word is = omega (arith, ap (λ ds. get_or ds 0 0) word)
@@ -163,10 +163,10 @@ no_memory text none = (λ unknown. unknown.1.1.1.1.1.1.1.1.1.0 refl, λ command 
     by (Log n) word is = omega (arith, ap (λ ds. get_or ds 0 0) word)
 
 -- `x` with what is neither this, nor an address, a number and a processor
-pub no_code : (text : List ℕ) → Finds (AreParts IsAddress IsNumber) text None → Finds (AreParts IsAddress AreNumbers) text None → IsAskedOf (codes "x") (Some text) (Err BadArgument)
-no_code text none more = (λ unknown. unknown.1.1.1.1.1.1.1.1.1.1.0 refl, λ command is. by command is.0 is.1)
+pub no_code : (symbols : List (List ℕ × ℕ)) (text : List ℕ) → Finds (AreParts (IsPlace symbols) IsNumber) text None → Finds (AreParts (IsPlace symbols) AreNumbers) text None → IsAskedOf symbols (codes "x") (Some text) (Err BadArgument)
+no_code symbols text none more = (λ unknown. unknown.1.1.1.1.1.1.1.1.1.1.0 refl, λ command is. by command is.0 is.1)
   where
-    by : (command : Command) → word_of command ≡ codes "x" → HasArguments command text → ⊥
+    by : (command : Command) → word_of command ≡ codes "x" → HasArguments symbols command text → ⊥
     by (Breakpoint Set p address) word is = omega (arith, ap (λ ds. get_or ds 0 0) word)
     by (Breakpoint Delete p address) word is = omega (arith, ap (λ ds. get_or ds 0 0) word)
     by (Make (events.Step p)) word is = omega (arith, ap (λ ds. get_or ds 0 0) word)
@@ -185,39 +185,39 @@ no_code text none more = (λ unknown. unknown.1.1.1.1.1.1.1.1.1.1.0 refl, λ com
     by (Fetched address n p) word is = more.none (address, (n, p)) is
     by (Log n) word is = omega (arith, ap (λ ds. get_or ds 0 0) word)
 
-pub no_change : (change : Change) (text : List ℕ) → Finds (AreParts IsNumber IsAddress) text None → IsAskedOf (change_word change) (Some text) (Err BadArgument)
-no_change Set text none = no_break text none
-no_change Delete text none = no_delete text none
+pub no_change : (symbols : List (List ℕ × ℕ)) (change : Change) (text : List ℕ) → Finds (AreParts IsNumber (IsPlace symbols)) text None → IsAskedOf symbols (change_word change) (Some text) (Err BadArgument)
+no_change symbols Set text none = no_break symbols text none
+no_change symbols Delete text none = no_delete symbols text none
 
 -- conditions whose arguments aren't read
 
-abbrev NoCondition : List ℕ → List ℕ → Type 0
-NoCondition word text = Finds (λ condition arguments. IsConditionOf word (Some arguments) condition) text None
+abbrev NoCondition : List (List ℕ × ℕ) → List ℕ → List ℕ → Type 0
+NoCondition symbols word text = Finds (λ condition arguments. IsConditionOf symbols word (Some arguments) condition) text None
 
-pub no_word_of_memory : (word text : List ℕ) → word ≡ codes "m" → Finds IsAddress text None → NoCondition word text
-no_word_of_memory word text same none = record { found = tt; none = λ condition is. by condition (is.0 ∙ same) is.1 }
+pub no_word_of_memory : (symbols : List (List ℕ × ℕ)) (word text : List ℕ) → word ≡ codes "m" → Finds (IsPlace symbols) text None → NoCondition symbols word text
+no_word_of_memory symbols word text same none = record { found = tt; none = λ condition is. by condition (is.0 ∙ same) is.1 }
   where
-    by : (condition : Condition) → condition_word condition ≡ codes "m" → IsConditionWith condition (Some text) → ⊥
+    by : (condition : Condition) → condition_word condition ≡ codes "m" → IsConditionWith symbols condition (Some text) → ⊥
     by (conditions.Memory address) w is = none.none address is
     by (conditions.Trap p) w is = omega (arith, ap (λ ds. get_or ds 0 0) w)
     by (conditions.Register p r) w is = omega (arith, ap (λ ds. get_or ds 0 0) w)
     by (conditions.Row p i) w is = omega (arith, ap (λ ds. get_or ds 0 0) w)
     by conditions.Output w is = absurd is
 
-pub no_register : (word text : List ℕ) → word ≡ codes "r" → Finds AreNumbers text None → NoCondition word text
-no_register word text same none = record { found = tt; none = λ condition is. by condition (is.0 ∙ same) is.1 }
+pub no_register : (symbols : List (List ℕ × ℕ)) (word text : List ℕ) → word ≡ codes "r" → Finds AreNumbers text None → NoCondition symbols word text
+no_register symbols word text same none = record { found = tt; none = λ condition is. by condition (is.0 ∙ same) is.1 }
   where
-    by : (condition : Condition) → condition_word condition ≡ codes "r" → IsConditionWith condition (Some text) → ⊥
+    by : (condition : Condition) → condition_word condition ≡ codes "r" → IsConditionWith symbols condition (Some text) → ⊥
     by (conditions.Memory address) w is = omega (arith, ap (λ ds. get_or ds 0 0) w)
     by (conditions.Trap p) w is = omega (arith, ap (λ ds. get_or ds 0 0) w)
     by (conditions.Register p r) w is = none.none (p, r) is
     by (conditions.Row p i) w is = omega (arith, ap (λ ds. get_or ds 0 0) w)
     by conditions.Output w is = absurd is
 
-pub no_row : (word text : List ℕ) → word ≡ codes "i" → Finds AreNumbers text None → NoCondition word text
-no_row word text same none = record { found = tt; none = λ condition is. by condition (is.0 ∙ same) is.1 }
+pub no_row : (symbols : List (List ℕ × ℕ)) (word text : List ℕ) → word ≡ codes "i" → Finds AreNumbers text None → NoCondition symbols word text
+no_row symbols word text same none = record { found = tt; none = λ condition is. by condition (is.0 ∙ same) is.1 }
   where
-    by : (condition : Condition) → condition_word condition ≡ codes "i" → IsConditionWith condition (Some text) → ⊥
+    by : (condition : Condition) → condition_word condition ≡ codes "i" → IsConditionWith symbols condition (Some text) → ⊥
     by (conditions.Memory address) w is = omega (arith, ap (λ ds. get_or ds 0 0) w)
     by (conditions.Trap p) w is = omega (arith, ap (λ ds. get_or ds 0 0) w)
     by (conditions.Register p r) w is = omega (arith, ap (λ ds. get_or ds 0 0) w)

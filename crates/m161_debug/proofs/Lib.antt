@@ -1,6 +1,7 @@
 mod Sets
 mod Going
 mod Asked
+mod Names
 mod Parts
 mod Numerals
 mod Obeying

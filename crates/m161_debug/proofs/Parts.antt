@@ -65,7 +65,7 @@ both S T text a b x y cut first second = record { found = (a, b, first.found, se
 
 -- addresses
 
-x_is_no_digit : (k n : ℕ) (rest : List ℕ) → codes "0x" ++ rest ≡ hex_text k n → ⊥
+pub x_is_no_digit : (k n : ℕ) (rest : List ℕ) → codes "0x" ++ rest ≡ hex_text k n → ⊥
 x_is_no_digit k n rest same =
     let long : 2 ≤ k = omega (arith, ap length same, length-hex_text k n) in
     let digit = hex_text_at k n 1 (omega (arith, long)) in

@@ -1,16 +1,18 @@
 use Rattle.std.specs.Prelude.{◌≡◌, ℕ, Bool, false, not, nat_le, ◌==◌, ◌&&◌, if◌then◌else◌, List, [], ◌∷◌, ◌++◌, length, filter, Option, None, Some, Result, Ok, Err}
 use Rattle.std.specs.List.{list_any}
+use Rattle.m161_dis.specs.declared.naming.Style.{Style}
 use Rattle.m161_machine.specs.History.{History}
 use Rattle.m161_debug.specs.declared.breakpoints.Breakpoint.{Breakpoint}
 use Rattle.m161_debug.specs.declared.breakpoints.BreakError.{BreakError}
 use Rattle.m161_debug.specs.declared.breakpoints.BreakError.TheVariants.{BadProcessor, TooMany}
 
--- A session: a machine, and a set of breakpoints, as the list of those that were set, the oldest
--- first.
+-- A session: a machine; a set of breakpoints, as the list of those that were set, the oldest first;
+-- and how registers and addresses are shown, with the symbols by which an address may be named.
 
 pub record SessionState : Type 0 where
   pub machine : History
   pub breakpoints : List Breakpoint
+  pub style : Style
 
 abbrev pub breakpoint : ℕ → ℕ → Breakpoint
 breakpoint p address = record { processor = p; address = address }

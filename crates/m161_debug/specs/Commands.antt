@@ -1,9 +1,10 @@
-use Rattle.std.specs.Prelude.{◌≡◌, ◌≢◌, ◌⊎◌, ℕ, ◌-◌, ◌^◌, ◌<◌, ◌≤◌, ◌==◌, if◌then◌else◌, List, [], ◌∷◌, ◌++◌, Option, None, Some, Result, Ok, Err, codes, decimal, length, min, get_or}
+use Rattle.std.specs.Prelude.{◌≡◌, ◌≢◌, ◌⊎◌, ℕ, ◌+◌, ◌-◌, ◌^◌, ◌<◌, ◌≤◌, ◌==◌, if◌then◌else◌, List, [], ◌∷◌, ◌++◌, Option, None, Some, Result, Ok, Err, codes, decimal, length, min, get_or}
 use Rattle.std.specs.List.{AllByRecursion}
 use Rattle.std.specs.Str.Parse.{IsNumeral, digits_value}
 use Rattle.m161_machine.specs.declared.event.Event.{Event}
 use Rattle.m161_machine.specs.declared.event.Event.TheVariants as events
-use Rattle.m161_text.specs.Parts.{◌␣◌, IsByte, IsWord, hex_text}
+use Rattle.m161_symbols.specs.Names.{value_in}
+use Rattle.m161_text.specs.Parts.{◌␣◌, IsByte, IsWord, Lacks, hex_text}
 use Rattle.m161_debug.specs.declared.command.Area.{Area}
 use Rattle.m161_debug.specs.declared.command.Area.TheVariants.{Memory, Code}
 use Rattle.m161_debug.specs.declared.command.Change.{Change}
@@ -75,6 +76,34 @@ IsHex k n text = (text ≡ hex_text k n) ⊎ (text ≡ codes "0x" ++ hex_text k 
 abbrev pub IsAddress : ℕ → List ℕ → Type 0
 IsAddress address text = (k : ℕ) × (1 ≤ k) × (k ≤ 8) × (address < 16 ^ k) × IsHex k address text
 
+-- a name: a word without a space that is no address
+abbrev pub IsName : List ℕ → Type 0
+IsName text = Lacks 32 text × ((address : ℕ) → IsAddress address text → ⊥)
+
+-- so many bytes behind a symbol: its name, +, and how many, written as an address is
+pub record IsBehind (symbols : List (List ℕ × ℕ)) (address : ℕ) (text : List ℕ) : Type 0 where
+  pub name : List ℕ
+  pub distance : List ℕ
+  pub value : ℕ
+  pub bytes : ℕ
+  pub text_is : text ≡ name ++ 43 ∷ distance
+  pub value_is : value_in symbols name ≡ Some value
+  pub distance_is : IsAddress bytes distance
+  pub address_is : address ≡ value + bytes
+  pub fits : address < 2 ^ 32
+
+-- the address of a symbol, or so many bytes behind one where no symbol has the whole word as its
+-- name
+abbrev pub IsNamed : List (List ℕ × ℕ) → ℕ → List ℕ → Type 0
+IsNamed symbols address text =
+    (value_in symbols text ≡ Some address)
+    ⊎ ((value_in symbols text ≡ None) × IsBehind symbols address text)
+
+-- an address, or a name for one
+abbrev pub IsPlace : List (List ℕ × ℕ) → ℕ → List ℕ → Type 0
+IsPlace symbols address text =
+    IsAddress address text ⊎ (IsName text × IsNamed symbols address text)
+
 -- a decimal number of any size, without leading zeros
 abbrev pub IsDecimal : List ℕ → Type 0
 IsDecimal digits = IsNumeral 10 digits × (get_or digits 0 0 ≡ 48 → length digits ≡ 1)
@@ -114,24 +143,25 @@ condition_word (conditions.Register p r) = codes "r"
 condition_word (conditions.Row p i) = codes "i"
 condition_word conditions.Output = codes "o"
 
-abbrev pub IsConditionWith : Condition → Option (List ℕ) → Type 0
-IsConditionWith (conditions.Memory address) None = ⊥
-IsConditionWith (conditions.Memory address) (Some text) = IsAddress address text
-IsConditionWith (conditions.Trap p) None = ⊥
-IsConditionWith (conditions.Trap p) (Some text) = IsNumber p text
-IsConditionWith (conditions.Register p r) None = ⊥
-IsConditionWith (conditions.Register p r) (Some text) = AreNumbers (p, r) text
-IsConditionWith (conditions.Row p i) None = ⊥
-IsConditionWith (conditions.Row p i) (Some text) = AreNumbers (p, i) text
-IsConditionWith conditions.Output None = Unit {0}
-IsConditionWith conditions.Output (Some text) = ⊥
+abbrev pub IsConditionWith : List (List ℕ × ℕ) → Condition → Option (List ℕ) → Type 0
+IsConditionWith symbols (conditions.Memory address) None = ⊥
+IsConditionWith symbols (conditions.Memory address) (Some text) = IsPlace symbols address text
+IsConditionWith symbols (conditions.Trap p) None = ⊥
+IsConditionWith symbols (conditions.Trap p) (Some text) = IsNumber p text
+IsConditionWith symbols (conditions.Register p r) None = ⊥
+IsConditionWith symbols (conditions.Register p r) (Some text) = AreNumbers (p, r) text
+IsConditionWith symbols (conditions.Row p i) None = ⊥
+IsConditionWith symbols (conditions.Row p i) (Some text) = AreNumbers (p, i) text
+IsConditionWith symbols conditions.Output None = Unit {0}
+IsConditionWith symbols conditions.Output (Some text) = ⊥
 
-abbrev pub IsConditionOf : List ℕ → Option (List ℕ) → Condition → Type 0
-IsConditionOf word arguments condition =
-    (condition_word condition ≡ word) × IsConditionWith condition arguments
+abbrev pub IsConditionOf : List (List ℕ × ℕ) → List ℕ → Option (List ℕ) → Condition → Type 0
+IsConditionOf symbols word arguments condition =
+    (condition_word condition ≡ word) × IsConditionWith symbols condition arguments
 
-abbrev pub IsCondition : Condition → List ℕ → Type 0
-IsCondition condition text = IsConditionOf (first_word text) (arguments_of text) condition
+abbrev pub IsCondition : List (List ℕ × ℕ) → Condition → List ℕ → Type 0
+IsCondition symbols condition text =
+    IsConditionOf symbols (first_word text) (arguments_of text) condition
 
 -- commands without arguments
 abbrev pub StandsAlone : Command → Type 0
@@ -150,28 +180,29 @@ StandsAlone (Fetched address n p) = ⊥
 StandsAlone (Log n) = ⊥
 
 -- and with these
-abbrev pub HasArguments : Command → List ℕ → Type 0
-HasArguments (Breakpoint change p address) text = AreParts IsNumber IsAddress (p, address) text
-HasArguments (Make (events.Step p)) text = IsNumber p text
-HasArguments (Make (events.Key byte)) text = IsByteText byte text
-HasArguments (Make events.Done) text = ⊥
-HasArguments (Steps p n) text = AreNumbers (p, n) text
-HasArguments Go text = ⊥
-HasArguments (GoFirst n) text = IsCount n text
-HasArguments (Until condition) text = IsCondition condition text
-HasArguments (Show display p) text = IsNumber p text
-HasArguments Where text = ⊥
-HasArguments (Words area address n) text = AreParts IsAddress IsNumber (address, n) text
-HasArguments (Fetched address n p) text = AreParts IsAddress AreNumbers (address, (n, p)) text
-HasArguments (Log n) text = IsNumber n text
+abbrev pub HasArguments : List (List ℕ × ℕ) → Command → List ℕ → Type 0
+HasArguments symbols (Breakpoint change p address) text = AreParts IsNumber (IsPlace symbols) (p, address) text
+HasArguments symbols (Make (events.Step p)) text = IsNumber p text
+HasArguments symbols (Make (events.Key byte)) text = IsByteText byte text
+HasArguments symbols (Make events.Done) text = ⊥
+HasArguments symbols (Steps p n) text = AreNumbers (p, n) text
+HasArguments symbols Go text = ⊥
+HasArguments symbols (GoFirst n) text = IsCount n text
+HasArguments symbols (Until condition) text = IsCondition symbols condition text
+HasArguments symbols (Show display p) text = IsNumber p text
+HasArguments symbols Where text = ⊥
+HasArguments symbols (Words area address n) text = AreParts (IsPlace symbols) IsNumber (address, n) text
+HasArguments symbols (Fetched address n p) text = AreParts (IsPlace symbols) AreNumbers (address, (n, p)) text
+HasArguments symbols (Log n) text = IsNumber n text
 
-abbrev pub IsCommandWith : Command → Option (List ℕ) → Type 0
-IsCommandWith command None = StandsAlone command
-IsCommandWith command (Some text) = HasArguments command text
+abbrev pub IsCommandWith : List (List ℕ × ℕ) → Command → Option (List ℕ) → Type 0
+IsCommandWith symbols command None = StandsAlone command
+IsCommandWith symbols command (Some text) = HasArguments symbols command text
 
 -- a word with these arguments, if any, is this command
-abbrev pub IsCommandOf : List ℕ → Option (List ℕ) → Command → Type 0
-IsCommandOf word arguments command = (word_of command ≡ word) × IsCommandWith command arguments
+abbrev pub IsCommandOf : List (List ℕ × ℕ) → List ℕ → Option (List ℕ) → Command → Type 0
+IsCommandOf symbols word arguments command =
+    (word_of command ≡ word) × IsCommandWith symbols command arguments
 
 -- a word is none of the commands'
 abbrev pub IsNoWord : List ℕ → Type 0
@@ -179,18 +210,20 @@ IsNoWord word = AllByRecursion (λ w. word ≢ w) command_words
 
 -- what a word with these arguments asks for: a command; or the word is unknown; or it is known, but
 -- no command has it with these arguments
-abbrev pub IsAskedOf : List ℕ → Option (List ℕ) → Result Command CommandError → Type 0
-IsAskedOf word arguments (Ok command) = IsCommandOf word arguments command
-IsAskedOf word arguments (Err Unknown) = IsNoWord word
-IsAskedOf word arguments (Err BadArgument) =
-    (IsNoWord word → ⊥) × ((command : Command) → IsCommandOf word arguments command → ⊥)
-IsAskedOf word arguments (Err BadProcessor) = ⊥
-IsAskedOf word arguments (Err TooMany) = ⊥
-IsAskedOf word arguments (Err NoMemory) = ⊥
+abbrev pub IsAskedOf :
+    List (List ℕ × ℕ) → List ℕ → Option (List ℕ) → Result Command CommandError → Type 0
+IsAskedOf symbols word arguments (Ok command) = IsCommandOf symbols word arguments command
+IsAskedOf symbols word arguments (Err Unknown) = IsNoWord word
+IsAskedOf symbols word arguments (Err BadArgument) =
+    (IsNoWord word → ⊥) × ((command : Command) → IsCommandOf symbols word arguments command → ⊥)
+IsAskedOf symbols word arguments (Err BadProcessor) = ⊥
+IsAskedOf symbols word arguments (Err TooMany) = ⊥
+IsAskedOf symbols word arguments (Err NoMemory) = ⊥
 
--- what a line asks for: its first word, and behind one space its arguments, if it has any
-abbrev pub IsAsked : List ℕ → Result Command CommandError → Type 0
-IsAsked line asked = IsAskedOf (first_word line) (arguments_of line) asked
+-- what a line asks for, where addresses may have these names: its first word, and behind one space
+-- its arguments, if it has any
+abbrev pub IsAsked : List (List ℕ × ℕ) → List ℕ → Result Command CommandError → Type 0
+IsAsked symbols line asked = IsAskedOf symbols (first_word line) (arguments_of line) asked
 
 -- the names that errors are printed by
 abbrev pub name_of_error : CommandError → List ℕ

@@ -17,11 +17,12 @@ jump_fault k m =
     else None
 
 -- the session after it: the machine is booted anew, and the first k events of its log are made of
--- it; the others are undone. The breakpoints stay
+-- it; the others are undone. The breakpoints and the style stay
 pub record JumpsTo (k : ℕ) (s : SessionState) (undone : List Event) (t : SessionState) : Type 0 where
   pub again : Continues (history_at_boot s.machine.start) (take k (events_of s.machine.log)) t.machine
   pub undone_are : undone ≡ drop k (events_of s.machine.log)
   pub breakpoints : t.breakpoints ≡ s.breakpoints
+  pub style : t.style ≡ s.style
 
 -- the result, by the first reason not to: that; or without one the events that are undone, or that
 -- memory was refused. After an error the session is as it was

@@ -1,6 +1,7 @@
 use Rattle.std.specs.Prelude.{◌≡◌, ℕ, ◌+◌, ◌*◌, ◌%◌, ◌^◌, ◌==◌, ◌&&◌, not, nat_le, Bool, if◌then◌else◌, is_some, List, ◌++◌, length, replicate, take, Option, None, Some, Result, Ok, Err, codes, decimal}
 use Rattle.std.specs.List.{list_all, range_with_len}
 use Rattle.std.specs.Option.{option_map}
+use Rattle.m161_dis.specs.declared.naming.Style.{Style}
 use Rattle.m161_elf.specs.Image.{is_in_ram}
 use Rattle.m161_cpu.specs.declared.processor.Outcome.{Outcome}
 use Rattle.m161_cpu.specs.Fetch.{fetched_word}
@@ -121,9 +122,9 @@ display_text Regs p s = show_regs_text p s
 display_text Cop0 p s = show_cop0_text p s
 display_text Tlb p s = show_tlb_text p s
 
-abbrev pub area_text : Area → ℕ → ℕ → State → List ℕ
-area_text Memory address n s = show_mem_text (physical_of address) n s
-area_text Code address n s = show_code_text address n s
+abbrev pub area_text : Style → Area → ℕ → ℕ → State → List ℕ
+area_text style Memory address n s = show_mem_text (physical_of address) n s
+area_text style Code address n s = show_code_text style address n s
 
 -- a run over these events
 pub record Goes
@@ -132,6 +133,7 @@ pub record Goes
   pub stop : Stop
   pub stops : Stops s.breakpoints s.machine events stop t.machine
   pub breakpoints : t.breakpoints ≡ s.breakpoints
+  pub style : t.style ≡ s.style
   pub used_is : used ≡ used_by stop
   pub printed_is : printed ≡ with_line_end (stop_text stop)
 
@@ -143,6 +145,7 @@ pub record Awaits
   pub stop : Stop
   pub stops : StopsUntil condition s.breakpoints s.machine events stop t.machine
   pub breakpoints : t.breakpoints ≡ s.breakpoints
+  pub style : t.style ≡ s.style
   pub used_is : used ≡ used_by stop
   pub printed_is : printed ≡ with_line_end (stop_text stop)
 
@@ -152,6 +155,7 @@ pub record MakesEvent
   pub answer : Result Outcome Refusal
   pub answers : Answers s.machine event answer t.machine
   pub breakpoints : t.breakpoints ≡ s.breakpoints
+  pub style : t.style ≡ s.style
   pub printed_is : printed ≡ with_line_end (answer_text event answer)
 
 -- the effect of a command: the session after it, how many of the remaining events it uses up, and
@@ -176,11 +180,11 @@ HasEffect (Until condition) s rest used t printed = Awaits condition s rest used
 HasEffect (Show display p) s rest used t printed =
     (used ≡ 0) × (t ≡ s) × (printed ≡ display_text display p s.machine.state)
 HasEffect Where s rest used t printed =
-    (used ≡ 0) × (t ≡ s) × (printed ≡ show_where_text s.machine.state)
+    (used ≡ 0) × (t ≡ s) × (printed ≡ show_where_text s.style s.machine.state)
 HasEffect (Words area address n) s rest used t printed =
-    (used ≡ 0) × (t ≡ s) × (printed ≡ area_text area address n s.machine.state)
+    (used ≡ 0) × (t ≡ s) × (printed ≡ area_text s.style area address n s.machine.state)
 HasEffect (Fetched address n p) s rest used t printed =
-    (used ≡ 0) × (t ≡ s) × (printed ≡ show_fetched_text p address n s.machine.state)
+    (used ≡ 0) × (t ≡ s) × (printed ≡ show_fetched_text s.style p address n s.machine.state)
 HasEffect (Log n) s rest used t printed =
     (used ≡ 0) × (t ≡ s) × (printed ≡ show_log_text n s.machine.log)
 
@@ -213,5 +217,5 @@ abbrev pub Commands :
     List ℕ → SessionState → List Event → Result ℕ CommandError → SessionState → List ℕ → List ℕ →
     Type 0
 Commands line s rest result t before after =
-    (asked : Result Command CommandError) × IsAsked line asked
+    (asked : Result Command CommandError) × IsAsked s.style.symbols line asked
     × Obeys asked s rest result t before after

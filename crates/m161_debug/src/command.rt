@@ -1,16 +1,17 @@
 //! The commands of a debugger.
 
-ghost use Rattle.std.specs.Prelude.{◌≡◌, Some, None, codes};
+ghost use Rattle.std.specs.Prelude.{◌≡◌, ℕ, List, Some, None, codes};
 ghost use Rattle.m161_debug.specs.Commands.{change_word, display_word, name_of_error, IsAsked, IsAskedOf, IsCondition, IsConditionOf};
 ghost use Rattle.m161_debug.specs.helpers.Reading.{Finds};
 
 use crate::breakpoints::BreakError;
 use crate::condition::Condition;
 use crate::reading::{
-    address, address_and_count, address_count_and_processor, byte, count, number, numbers,
+    address_and_count, address_count_and_processor, byte, count, number, numbers, place,
     processor_and_address,
 };
 use m161_machine::Event;
+use m161_symbols::Symbols;
 use m161_text::cut_at_space;
 use std::alloc::AllocError;
 use thiserror::Error;
@@ -125,19 +126,20 @@ impl From<BreakError> for CommandError {
     }
 }
 
-/// The command of a line. The error is that its word is unknown, or that its arguments are bad.
-pub(crate) fn command_of(line: &str) -> Result<Command, CommandError>
-    ensures { IsAsked line.now result }
+/// The command of a line, in which addresses may have the names of these symbols. The error is that
+/// its word is unknown, or that its arguments are bad.
+pub(crate) fn command_of(symbols: &Symbols, line: &str) -> Result<Command, CommandError>
+    ensures { IsAsked symbols.now line.now result }
 {
     match cut_at_space(line) {
-        Some((word, arguments)) => command_with(word, arguments),
+        Some((word, arguments)) => command_with(symbols, word, arguments),
         None => command_alone(line),
     }
 }
 
 // The command of a line without a space.
 fn command_alone(line: &str) -> Result<Command, CommandError>
-    ensures { IsAskedOf line.now None result }
+    ensures { (symbols : List (List ℕ × ℕ)) → IsAskedOf symbols line.now None result }
 {
     match line {
         "o" => Ok(Command::Make(Event::Done)),
@@ -151,32 +153,36 @@ fn command_alone(line: &str) -> Result<Command, CommandError>
 }
 
 // The command of a word with arguments.
-fn command_with(word: &str, arguments: &str) -> Result<Command, CommandError>
-    ensures { IsAskedOf word.now (Some arguments.now) result }
+fn command_with(symbols: &Symbols, word: &str, arguments: &str) -> Result<Command, CommandError>
+    ensures { IsAskedOf symbols.now word.now (Some arguments.now) result }
 {
     match word {
-        "b" => breakpoint_of(Change::Set, arguments),
-        "d" => breakpoint_of(Change::Delete, arguments),
+        "b" => breakpoint_of(symbols, Change::Set, arguments),
+        "d" => breakpoint_of(symbols, Change::Delete, arguments),
         "s" => steps_of(arguments),
         "k" => key_command(arguments),
         "o" => Err(CommandError::BadArgument),
         "g" => go_of(arguments),
-        "u" => until_of(arguments),
+        "u" => until_of(symbols, arguments),
         "r" => show_of(Display::Regs, arguments),
         "c" => show_of(Display::Cop0, arguments),
         "t" => show_of(Display::Tlb, arguments),
         "w" => Err(CommandError::BadArgument),
-        "m" => memory_of(arguments),
-        "x" => code_of(arguments),
+        "m" => memory_of(symbols, arguments),
+        "x" => code_of(symbols, arguments),
         "l" => log_command(arguments),
         _ => Err(CommandError::Unknown),
     }
 }
 
-fn breakpoint_of(change: Change, arguments: &str) -> Result<Command, CommandError>
-    ensures { IsAskedOf (change_word change) (Some arguments.now) result }
+fn breakpoint_of(
+    symbols: &Symbols,
+    change: Change,
+    arguments: &str,
+) -> Result<Command, CommandError>
+    ensures { IsAskedOf symbols.now (change_word change) (Some arguments.now) result }
 {
-    match processor_and_address(arguments) {
+    match processor_and_address(symbols, arguments) {
         Some((p, at)) => Ok(Command::Breakpoint(change, p, at)),
         None => Err(CommandError::BadArgument),
     }
@@ -184,7 +190,8 @@ fn breakpoint_of(change: Change, arguments: &str) -> Result<Command, CommandErro
 
 // One Step, or several.
 fn steps_of(arguments: &str) -> Result<Command, CommandError>
-    ensures { IsAskedOf (codes "s") (Some arguments.now) result }
+    ensures { (symbols : List (List ℕ × ℕ)) →
+        IsAskedOf symbols (codes "s") (Some arguments.now) result }
 {
     if let Some(p) = number(arguments) {
         return Ok(Command::Make(Event::Step(p)));
@@ -196,7 +203,8 @@ fn steps_of(arguments: &str) -> Result<Command, CommandError>
 }
 
 fn key_command(arguments: &str) -> Result<Command, CommandError>
-    ensures { IsAskedOf (codes "k") (Some arguments.now) result }
+    ensures { (symbols : List (List ℕ × ℕ)) →
+        IsAskedOf symbols (codes "k") (Some arguments.now) result }
 {
     match byte(arguments) {
         Some(byte) => Ok(Command::Make(Event::Key(byte))),
@@ -205,7 +213,8 @@ fn key_command(arguments: &str) -> Result<Command, CommandError>
 }
 
 fn go_of(arguments: &str) -> Result<Command, CommandError>
-    ensures { IsAskedOf (codes "g") (Some arguments.now) result }
+    ensures { (symbols : List (List ℕ × ℕ)) →
+        IsAskedOf symbols (codes "g") (Some arguments.now) result }
 {
     match count(arguments) {
         Some(n) => Ok(Command::GoFirst(n)),
@@ -213,27 +222,28 @@ fn go_of(arguments: &str) -> Result<Command, CommandError>
     }
 }
 
-fn until_of(arguments: &str) -> Result<Command, CommandError>
-    ensures { IsAskedOf (codes "u") (Some arguments.now) result }
+fn until_of(symbols: &Symbols, arguments: &str) -> Result<Command, CommandError>
+    ensures { IsAskedOf symbols.now (codes "u") (Some arguments.now) result }
 {
-    match condition_of(arguments) {
+    match condition_of(symbols, arguments) {
         Some(condition) => Ok(Command::Until(condition)),
         None => Err(CommandError::BadArgument),
     }
 }
 
 // What a run waits for.
-fn condition_of(text: &str) -> Option<Condition>
-    ensures { Finds IsCondition text.now result }
+fn condition_of(symbols: &Symbols, text: &str) -> Option<Condition>
+    ensures { Finds (IsCondition symbols.now) text.now result }
 {
     match cut_at_space(text) {
-        Some((word, arguments)) => condition_with(word, arguments),
+        Some((word, arguments)) => condition_with(symbols, word, arguments),
         None => condition_alone(text),
     }
 }
 
 fn condition_alone(text: &str) -> Option<Condition>
-    ensures { Finds (λ condition _. IsConditionOf text.now None condition) text.now result }
+    ensures { (symbols : List (List ℕ × ℕ)) →
+        Finds (λ condition _. IsConditionOf symbols text.now None condition) text.now result }
 {
     match text {
         "o" => Some(Condition::Output),
@@ -241,12 +251,12 @@ fn condition_alone(text: &str) -> Option<Condition>
     }
 }
 
-fn condition_with(word: &str, arguments: &str) -> Option<Condition>
-    ensures { Finds (λ condition text. IsConditionOf word.now (Some text) condition) arguments.now
-        result }
+fn condition_with(symbols: &Symbols, word: &str, arguments: &str) -> Option<Condition>
+    ensures { Finds (λ condition text. IsConditionOf symbols.now word.now (Some text) condition)
+        arguments.now result }
 {
     match word {
-        "m" => Some(Condition::Memory(address(arguments)?)),
+        "m" => Some(Condition::Memory(place(symbols, arguments)?)),
         "t" => Some(Condition::Trap(number(arguments)?)),
         "r" => {
             let (p, r) = numbers(arguments)?;
@@ -261,7 +271,8 @@ fn condition_with(word: &str, arguments: &str) -> Option<Condition>
 }
 
 fn show_of(display: Display, arguments: &str) -> Result<Command, CommandError>
-    ensures { IsAskedOf (display_word display) (Some arguments.now) result }
+    ensures { (symbols : List (List ℕ × ℕ)) →
+        IsAskedOf symbols (display_word display) (Some arguments.now) result }
 {
     match number(arguments) {
         Some(p) => Ok(Command::Show(display, p)),
@@ -269,30 +280,31 @@ fn show_of(display: Display, arguments: &str) -> Result<Command, CommandError>
     }
 }
 
-fn memory_of(arguments: &str) -> Result<Command, CommandError>
-    ensures { IsAskedOf (codes "m") (Some arguments.now) result }
+fn memory_of(symbols: &Symbols, arguments: &str) -> Result<Command, CommandError>
+    ensures { IsAskedOf symbols.now (codes "m") (Some arguments.now) result }
 {
-    match address_and_count(arguments) {
+    match address_and_count(symbols, arguments) {
         Some((at, n)) => Ok(Command::Words(Area::Memory, at, n)),
         None => Err(CommandError::BadArgument),
     }
 }
 
 // Code by an address in kseg0 or kseg1, or as a processor would fetch it.
-fn code_of(arguments: &str) -> Result<Command, CommandError>
-    ensures { IsAskedOf (codes "x") (Some arguments.now) result }
+fn code_of(symbols: &Symbols, arguments: &str) -> Result<Command, CommandError>
+    ensures { IsAskedOf symbols.now (codes "x") (Some arguments.now) result }
 {
-    if let Some((at, n)) = address_and_count(arguments) {
+    if let Some((at, n)) = address_and_count(symbols, arguments) {
         return Ok(Command::Words(Area::Code, at, n));
     }
-    match address_count_and_processor(arguments) {
+    match address_count_and_processor(symbols, arguments) {
         Some((at, (n, p))) => Ok(Command::Fetched(at, n, p)),
         None => Err(CommandError::BadArgument),
     }
 }
 
 fn log_command(arguments: &str) -> Result<Command, CommandError>
-    ensures { IsAskedOf (codes "l") (Some arguments.now) result }
+    ensures { (symbols : List (List ℕ × ℕ)) →
+        IsAskedOf symbols (codes "l") (Some arguments.now) result }
 {
     match number(arguments) {
         Some(n) => Ok(Command::Log(n)),

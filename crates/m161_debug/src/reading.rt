@@ -1,11 +1,12 @@
 //! Reading the parts of a command.
 
-ghost use Rattle.std.specs.Prelude.{◌<◌, ◌≤◌, ◌≡◌, ◌↔◌, ℕ, length, true, false, get_or};
+ghost use Rattle.std.specs.Prelude.{◌<◌, ◌≤◌, ◌≡◌, ◌↔◌, ℕ, None, length, true, false, get_or};
 ghost use Rattle.std.specs.Str.Parse.{AllDigits};
 ghost use Rattle.m161_text.specs.Parts.{hex_text};
-ghost use Rattle.m161_debug.specs.Commands.{AreNumbers, AreParts, IsAddress, IsByteText, IsCount, IsDecimal, IsHex, IsNumber};
-ghost use Rattle.m161_debug.specs.helpers.Reading.{Finds};
+ghost use Rattle.m161_debug.specs.Commands.{AreNumbers, AreParts, IsAddress, IsByteText, IsCount, IsBehind, IsDecimal, IsHex, IsNamed, IsNumber, IsPlace};
+ghost use Rattle.m161_debug.specs.helpers.Reading.{CutsLast, Finds};
 
+use m161_symbols::Symbols;
 use m161_text::{cut_at_space, parse_byte, parse_decimal, parse_hex};
 
 /// A number below 2^32.
@@ -40,8 +41,8 @@ fn is_short(text: &str) -> bool
     1 <= text.len() && text.len() <= 8
 }
 
-/// An address.
-pub(crate) fn address(text: &str) -> Option<u32>
+// An address.
+fn address(text: &str) -> Option<u32>
     ensures { Finds IsAddress text.now result }
 {
     let digits = digits_of(text);
@@ -49,6 +50,54 @@ pub(crate) fn address(text: &str) -> Option<u32>
         parse_hex(digits.as_bytes())
     } else {
         None
+    }
+}
+
+// The parts of a text before and after its last `+`.
+fn cut_at_last_plus(text: &str) -> Option<(&str, &str)>
+    ensures { CutsLast 43 text.now result }
+{
+    text.rsplit_once('+')
+}
+
+// An address so many bytes behind a symbol.
+fn behind(symbols: &Symbols, text: &str) -> Option<u32>
+    ensures { Finds (IsBehind symbols.now) text.now result }
+{
+    let (name, distance) = cut_at_last_plus(text)?;
+    let value = symbols.value(name)?;
+    let bytes = address(distance)?;
+    value.checked_add(bytes)
+}
+
+// The address of a symbol, or one behind it.
+fn named(symbols: &Symbols, text: &str) -> Option<u32>
+    ensures { Finds (IsNamed symbols.now) text.now result }
+{
+    match symbols.value(text) {
+        Some(value) => Some(value),
+        None => behind(symbols, text),
+    }
+}
+
+// The address that a name stands for.
+fn name(symbols: &Symbols, text: &str) -> Option<u32>
+    requires { Finds IsAddress text.now None }
+    ensures { Finds (IsPlace symbols.now) text.now result }
+{
+    match cut_at_space(text) {
+        Some(_) => None,
+        None => named(symbols, text),
+    }
+}
+
+/// An address, or a name for one.
+pub(crate) fn place(symbols: &Symbols, text: &str) -> Option<u32>
+    ensures { Finds (IsPlace symbols.now) text.now result }
+{
+    match address(text) {
+        Some(at) => Some(at),
+        None => name(symbols, text),
     }
 }
 
@@ -62,32 +111,35 @@ pub(crate) fn numbers(text: &str) -> Option<(u32, u32)>
     Some((a, b))
 }
 
-/// A processor and an address.
-pub(crate) fn processor_and_address(text: &str) -> Option<(u32, u32)>
-    ensures { Finds (AreParts IsNumber IsAddress) text.now result }
+/// A processor and an address, or a name for one.
+pub(crate) fn processor_and_address(symbols: &Symbols, text: &str) -> Option<(u32, u32)>
+    ensures { Finds (AreParts IsNumber (IsPlace symbols.now)) text.now result }
 {
     let (p, at) = cut_at_space(text)?;
     let p = number(p)?;
-    let at = address(at)?;
+    let at = place(symbols, at)?;
     Some((p, at))
 }
 
-/// An address and how many words.
-pub(crate) fn address_and_count(text: &str) -> Option<(u32, u32)>
-    ensures { Finds (AreParts IsAddress IsNumber) text.now result }
+/// An address, or a name for one, and how many words.
+pub(crate) fn address_and_count(symbols: &Symbols, text: &str) -> Option<(u32, u32)>
+    ensures { Finds (AreParts (IsPlace symbols.now) IsNumber) text.now result }
 {
     let (at, n) = cut_at_space(text)?;
-    let at = address(at)?;
+    let at = place(symbols, at)?;
     let n = number(n)?;
     Some((at, n))
 }
 
-/// An address, how many words, and a processor.
-pub(crate) fn address_count_and_processor(text: &str) -> Option<(u32, (u32, u32))>
-    ensures { Finds (AreParts IsAddress AreNumbers) text.now result }
+/// An address, or a name for one, how many words, and a processor.
+pub(crate) fn address_count_and_processor(
+    symbols: &Symbols,
+    text: &str,
+) -> Option<(u32, (u32, u32))>
+    ensures { Finds (AreParts (IsPlace symbols.now) AreNumbers) text.now result }
 {
     let (at, rest) = cut_at_space(text)?;
-    let at = address(at)?;
+    let at = place(symbols, at)?;
     let rest = numbers(rest)?;
     Some((at, rest))
 }

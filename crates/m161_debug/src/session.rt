@@ -1,6 +1,7 @@
 //! A session.
 
 ghost use Rattle.std.specs.Prelude.{◌≡◌, ◌+◌, ◌*◌, ◌%◌, ◌^◌, ◌<◌, ◌≤◌, [], true, length, replicate, take, string_bytes, IfOk, IfSome};
+ghost use Rattle.m161_dis.specs.Style.{plain};
 ghost use Rattle.m161_elf.specs.Image.{is_in_ram};
 ghost use Rattle.m161_machine.specs.declared.event.Event.TheVariants as events;
 ghost use Rattle.m161_machine.specs.History.{Answers, Continues, boot_state, events_of, history_at_boot};
@@ -24,17 +25,19 @@ use crate::log::show_log;
 use crate::mark::{is_met, mark_of};
 use crate::stop::Stop;
 use m161_bus::Console;
+use m161_dis::Style;
 use m161_display::{show_code, show_cop0, show_fetched, show_mem, show_regs, show_tlb, show_where};
 use m161_machine::{Event, Machine, Outcome, Refusal};
 use m161_tlb::Tlb;
 use std::alloc::{AllocError, Global};
 use std::marker::Model;
 
-/// A machine that is debugged, with its breakpoints.
+/// A machine that is debugged, with its breakpoints, and with the style of its displays of code.
 #[derive(Drop)]
 pub struct Session<T: Tlb, D: Console> {
     machine: Machine<T, D>,
     breakpoints: Breakpoints,
+    style: Style,
 }
 
 impl<T: Tlb, D: Console> Model for Session<T, D> {
@@ -42,20 +45,34 @@ impl<T: Tlb, D: Console> Model for Session<T, D> {
 
     ghost Value = { SessionState };
 
-    ghost view = { λ s. record { machine = s.machine; breakpoints = s.breakpoints } };
+    ghost view = { λ s. record {
+      machine = s.machine;
+      breakpoints = s.breakpoints;
+      style = s.style;
+    } };
 
     ghost invariant = { λ s. IsSet s.breakpoints };
 }
 
 impl<T: Tlb, D: Console> Session<T, D> {
-    /// A session of a machine as it is, without breakpoints. Displays and commands allocate with
-    /// the machine's allocator.
+    /// A session of a machine as it is, without breakpoints. Displays show registers by their
+    /// numbers, and no names of addresses. Displays and commands allocate with the machine's
+    /// allocator.
     pub fn new(machine: Machine<T, D>) -> Session<T, D>
-        ensures { result ≡ record { machine = machine; breakpoints = [] } }
+        ensures { result ≡ record { machine = machine; breakpoints = []; style = plain } }
+    {
+        let style = Style::plain(machine.allocator());
+        Session::with_style(machine, style)
+    }
+
+    /// The same with displays in this style, and with commands in which its symbols name addresses.
+    pub fn with_style(machine: Machine<T, D>, style: Style) -> Session<T, D>
+        ensures { result ≡ record { machine = machine; breakpoints = []; style = style } }
     {
         Session {
             machine,
             breakpoints: Breakpoints::new(),
+            style,
         }
     }
 
@@ -126,6 +143,7 @@ impl<T: Tlb, D: Console> Session<T, D> {
     pub fn step(&mut self, event: Event) -> Result<Outcome, Refusal>
         ensures answers { Answers self.old.machine event result self.new.machine }
         ensures breakpoints { self.new.breakpoints ≡ self.old.breakpoints }
+        ensures style { self.new.style ≡ self.old.style }
     {
         self.machine.event(event)
     }
@@ -190,9 +208,15 @@ impl<T: Tlb, D: Console> Session<T, D> {
         requires aligned { address % 4 ≡ 0 }
         requires inside { is_in_ram (length self.now.machine.state.memory) address (4 * n) ≡ true }
         ensures { IfOk result (λ text. string_bytes text
-            ≡ show_code_text address n self.now.machine.state) }
+            ≡ show_code_text self.now.style address n self.now.machine.state) }
     {
-        show_code(self.machine.allocator(), &self.machine, address, n)
+        show_code(
+            self.machine.allocator(),
+            &self.machine,
+            &self.style,
+            address,
+            n,
+        )
     }
 
     /// `n` instructions from a virtual address on, as processor `p` would fetch them now, one a
@@ -205,9 +229,16 @@ impl<T: Tlb, D: Console> Session<T, D> {
         requires processor { p < length self.now.machine.state.processors }
         requires inside { address + 4 * n ≤ 2 ^ 32 }
         ensures { IfOk result (λ text. string_bytes text
-            ≡ show_fetched_text p address n self.now.machine.state) }
+            ≡ show_fetched_text self.now.style p address n self.now.machine.state) }
     {
-        show_fetched(self.machine.allocator(), &self.machine, p, address, n)
+        show_fetched(
+            self.machine.allocator(),
+            &self.machine,
+            &self.style,
+            p,
+            address,
+            n,
+        )
     }
 
     /// Where each started processor is, one a line: its number, what it is doing, its address, and
@@ -218,9 +249,9 @@ impl<T: Tlb, D: Console> Session<T, D> {
     /// Memory was refused.
     pub fn show_where(&self) -> Result<String, AllocError>
         ensures { IfOk result (λ text. string_bytes text
-            ≡ show_where_text self.now.machine.state) }
+            ≡ show_where_text self.now.style self.now.machine.state) }
     {
-        show_where(self.machine.allocator(), &self.machine)
+        show_where(self.machine.allocator(), &self.machine, &self.style)
     }
 
     /// The last `n` entries of the log, or all if it has fewer, one a line, the oldest of them
@@ -255,6 +286,7 @@ impl<T: Tlb, D: Console> Session<T, D> {
         ensures stop { Stops self.old.breakpoints self.old.machine events.now result
             self.new.machine }
         ensures breakpoints { self.new.breakpoints ≡ self.old.breakpoints }
+        ensures style { self.new.style ≡ self.old.style }
         ensures within { used_by result ≤ length events.now }
     {
         self.run(None, Batch::Listed(events))
@@ -265,6 +297,7 @@ impl<T: Tlb, D: Console> Session<T, D> {
         ensures stop { Stops self.old.breakpoints self.old.machine (replicate n (events.Step p))
             result self.new.machine }
         ensures breakpoints { self.new.breakpoints ≡ self.old.breakpoints }
+        ensures style { self.new.style ≡ self.old.style }
         ensures within { used_by result ≤ n }
     {
         self.run(None, Batch::Steps(p, n))
@@ -278,6 +311,7 @@ impl<T: Tlb, D: Console> Session<T, D> {
         ensures stop { StopsUntil condition self.old.breakpoints self.old.machine events.now result
             self.new.machine }
         ensures breakpoints { self.new.breakpoints ≡ self.old.breakpoints }
+        ensures style { self.new.style ≡ self.old.style }
         ensures within { used_by result ≤ length events.now }
     {
         self.run(Some(condition), Batch::Listed(events))
@@ -289,6 +323,7 @@ impl<T: Tlb, D: Console> Session<T, D> {
         ensures stop { StopsBy (wait_from (holds_if condition self.old.machine.state)
             self.old.breakpoints) self.old.machine (events_in events.entry) result self.new.machine }
         ensures breakpoints { self.new.breakpoints ≡ self.old.breakpoints }
+        ensures style { self.new.style ≡ self.old.style }
         ensures within { used_by result ≤ length (events_in events.entry) }
     {
         self.machine.replay();
@@ -315,7 +350,7 @@ impl<T: Tlb, D: Console> Session<T, D> {
 
     /// Goes back to the state before event `k`, counted from 0 since the boot: the machine is booted
     /// anew, and the first `k` events of its log are made of it. Returns the log's other events, in
-    /// order: they are undone. The breakpoints stay.
+    /// order: they are undone. The breakpoints and the style stay.
     ///
     /// # Errors
     /// The first that holds: the session has accepted fewer than `k` events; its log has dropped

@@ -6,6 +6,7 @@ use Rattle.m161_isa.specs.declared.operand.Operand.TheVariants as operand
 use Rattle.m161_asm.specs.Tokens.{register_names}
 use Rattle.m161_symbols.specs.Names.{place_behind}
 use Rattle.m161_text.specs.Parts.{hex_text}
+use Rattle.m161_dis.specs.declared.naming.Style.{Style}
 use Rattle.m161_dis.specs.declared.naming.Naming.{Naming}
 use Rattle.m161_dis.specs.declared.naming.Naming.TheVariants.{Numbers, Names}
 use Rattle.m161_isa.specs.Table.{table, row_that_fits, number_of, numbers_of, word_with}
@@ -152,12 +153,11 @@ target_by word at (Some r) = target_among word at (table r).operands
 abbrev pub target_of : ℕ → ℕ → Option ℕ
 target_of word at = target_by word at (canonical_row word)
 
--- by the nearest symbol, with a space before it
+-- its place by the nearest symbol, with a space before it
 abbrev pub target_place : List (List ℕ × ℕ) → Option ℕ → List ℕ
 target_place symbols None = []
 target_place symbols (Some target) = place_behind symbols target
 
--- symbols are a list, each a name and a value
-abbrev pub canon_with : Naming → List (List ℕ × ℕ) → ℕ → ℕ → List ℕ
-canon_with naming symbols word at =
-    canon_as naming word at ++ target_place symbols (target_of word at)
+abbrev pub canon_with : Style → ℕ → ℕ → List ℕ
+canon_with style word at =
+    canon_as style.registers word at ++ target_place style.symbols (target_of word at)

@@ -34,7 +34,7 @@ use m161_asm::register_name;
 use m161_decode::{is_canonical, row_that_fits};
 use m161_isa::{Operand, Row};
 use m161_symbols::{PLACE_MARKS, Symbols, put_place_behind};
-pub use naming::Naming;
+pub use naming::{Naming, Style};
 use std::alloc::{AllocError, Global};
 
 /// The most bytes of a text: of a name, and of three operands.
@@ -85,20 +85,19 @@ pub fn push_line(text: &mut String, naming: Naming, word: u32, at: u32) -> Resul
 /// Memory was refused. The text is as before then.
 pub fn push_line_with(
     text: &mut String,
-    naming: Naming,
-    symbols: &Symbols,
+    style: &Style,
     word: u32,
     at: u32,
 ) -> Result<(), AllocError>
     ensures { string_bytes text.new ≡ (if is_ok result
-        then string_bytes text.old ++ canon_with naming symbols.now word at
+        then string_bytes text.old ++ canon_with style.now word at
         else string_bytes text.old) }
 {
-    let Some((name, distance)) = place_of_target(symbols, word, at) else {
-        return push_line(text, naming, word, at);
+    let Some((name, distance)) = place_of_target(&style.symbols, word, at) else {
+        return push_line(text, style.registers, word, at);
     };
     text.reserve(LONGEST + name.len() + PLACE_MARKS)?;
-    put_line(text, naming, word, at);
+    put_line(text, style.registers, word, at);
     put_place_behind(text, name, distance);
     Ok(())
 }

@@ -3,7 +3,9 @@ use Rattle.std.specs.List.{range_with_len}
 use Rattle.std.specs.Option.{option_map_or}
 use Rattle.m161_isa.specs.Address.{unmapped}
 use Rattle.m161_isa.specs.Bits.{has_bit}
-use Rattle.m161_dis.specs.Canon.{canon}
+use Rattle.m161_dis.specs.declared.naming.Style.{Style}
+use Rattle.m161_dis.specs.Canon.{canon_with}
+use Rattle.m161_symbols.specs.Names.{place_behind}
 use Rattle.m161_tlb.specs.declared.row.Row.{Row}
 use Rattle.m161_tlb.specs.Row.{hi_word, lo_word}
 use Rattle.m161_tlb.specs.Rows.{blank_row}
@@ -110,44 +112,50 @@ show_mem_text address n s = text_of (numbered_lines n (λ i. memory_line s.memor
 abbrev pub code_word : List ℕ → ℕ → ℕ
 code_word memory at = option_map_or (word_at memory) (unmapped at) 0
 
-abbrev pub listing_text : ℕ → ℕ → List ℕ
-listing_text at word = word_text at ␣ word_text word ␣ canon word at
+-- an address with its place behind it
+abbrev pub address_text : Style → ℕ → List ℕ
+address_text style at = word_text at ++ place_behind style.symbols at
 
-abbrev pub code_line : List ℕ → ℕ → List ℕ
-code_line memory at = listing_text at (code_word memory at)
+abbrev pub listing_text : Style → ℕ → ℕ → List ℕ
+listing_text style at word = address_text style at ␣ word_text word ␣ canon_with style word at
 
-unfoldable pub show_code_text : ℕ → ℕ → State → List ℕ
-show_code_text address n s = text_of (numbered_lines n (λ i. code_line s.memory (address + 4 * i)))
+abbrev pub code_line : Style → List ℕ → ℕ → List ℕ
+code_line style memory at = listing_text style at (code_word memory at)
+
+unfoldable pub show_code_text : Style → ℕ → ℕ → State → List ℕ
+show_code_text style address n s =
+    text_of (numbered_lines n (λ i. code_line style s.memory (address + 4 * i)))
 
 -- Code as a processor would fetch it now, by its mode and its TLB.
 
 -- an instruction's line; or that no word can be fetched at the address
-abbrev pub fetched_text : ℕ → Option ℕ → List ℕ
-fetched_text at None = word_text at ␣ codes "-"
-fetched_text at (Some word) = listing_text at word
+abbrev pub fetched_text : Style → ℕ → Option ℕ → List ℕ
+fetched_text style at None = address_text style at ␣ codes "-"
+fetched_text style at (Some word) = listing_text style at word
 
-abbrev pub fetched_line : ℕ → State → ℕ → List ℕ
-fetched_line p s at = fetched_text at (fetched_word s.memory at (processor_at p s.processors))
+abbrev pub fetched_line : Style → ℕ → State → ℕ → List ℕ
+fetched_line style p s at =
+    fetched_text style at (fetched_word s.memory at (processor_at p s.processors))
 
 -- n instructions from a virtual address on
-unfoldable pub show_fetched_text : ℕ → ℕ → ℕ → State → List ℕ
-show_fetched_text p address n s =
-    text_of (numbered_lines n (λ i. fetched_line p s (address + 4 * i)))
+unfoldable pub show_fetched_text : Style → ℕ → ℕ → ℕ → State → List ℕ
+show_fetched_text style p address n s =
+    text_of (numbered_lines n (λ i. fetched_line style p s (address + 4 * i)))
 
 -- The places of the processors: a line for each that was started.
 
 -- its number, what it is doing, and the instruction at its address as it would fetch it
-abbrev pub where_line : State → ℕ → List ℕ
-where_line s p =
+abbrev pub where_line : Style → State → ℕ → List ℕ
+where_line style s p =
     decimal p ␣ state_text (processor_at p s.processors).state
-    ␣ fetched_line p s (processor_at p s.processors).pc
+    ␣ fetched_line style p s (processor_at p s.processors).pc
 
 -- its bit of CPUE is set
 abbrev pub is_started : State → ℕ → Bool
 is_started s p = has_bit s.board.started p
 
-abbrev pub where_text : State → ℕ → List ℕ
-where_text s p = if is_started s p then with_line_end (where_line s p) else []
+abbrev pub where_text : Style → State → ℕ → List ℕ
+where_text style s p = if is_started s p then with_line_end (where_line style s p) else []
 
-unfoldable pub show_where_text : State → List ℕ
-show_where_text s = flat_map (where_text s) (range_with_len 0 (length s.processors))
+unfoldable pub show_where_text : Style → State → List ℕ
+show_where_text style s = flat_map (where_text style s) (range_with_len 0 (length s.processors))

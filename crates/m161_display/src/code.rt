@@ -2,21 +2,21 @@
 
 ghost use Rattle.std.specs.Prelude.{◌≡◌, ◌+◌, ◌*◌, ◌%◌, ◌++◌, true, length, string_bytes, IfOk, OnOk};
 ghost use Rattle.m161_elf.specs.Image.{is_in_ram};
-ghost use Rattle.m161_display.specs.Shows.{listing_text, code_word, code_line, show_code_text};
+ghost use Rattle.m161_display.specs.Shows.{address_text, code_line, code_word, listing_text, show_code_text};
 ghost use Rattle.m161_text.specs.Lines.{with_line_end};
 
 use crate::memory::word;
 use m161_bus::Console;
-use m161_dis::line;
+use m161_dis::{Style, push_line_with};
 use m161_isa::unmapped;
 use m161_machine::Machine;
-use m161_text::Word;
+use m161_symbols::push_place_behind;
+use m161_text::push_hex;
 use m161_tlb::Tlb;
 use std::alloc::{AllocError, Global};
-use std::fmt::Write;
 
-/// `n` instructions from an address in kseg0 or kseg1 on, one a line: its address, its word and its
-/// text.
+/// `n` instructions from an address in kseg0 or kseg1 on, one a line: its address with its place, its
+/// word, and its text, in this style.
 ///
 /// # Errors
 /// Memory was refused.
@@ -24,34 +24,35 @@ use std::fmt::Write;
 pub fn show_code<T: Tlb, D: Console>(
     alloc: Global,
     machine: &Machine<T, D>,
+    style: &Style,
     address: u32,
     n: u32,
 ) -> Result<String, AllocError>
     requires aligned { address % 4 ≡ 0 }
     requires inside { is_in_ram (length machine.now.state.memory) address (4 * n) ≡ true }
     ensures { IfOk result (λ text. string_bytes text
-        ≡ show_code_text address n machine.now.state) }
+        ≡ show_code_text style.now address n machine.now.state) }
 {
     let mut text = String::new(alloc);
     for i in 0..n {
-        write_code_at(alloc, &mut text, machine, address + 4 * i)?;
+        write_code_at(&mut text, machine, style, address + 4 * i)?;
     }
     Ok(text)
 }
 
 // The line of an address.
 fn write_code_at<T: Tlb, D: Console>(
-    alloc: Global,
     text: &mut String,
     machine: &Machine<T, D>,
+    style: &Style,
     at: u32,
 ) -> Result<(), AllocError>
     requires aligned { at % 4 ≡ 0 }
     requires inside { is_in_ram (length machine.now.state.memory) at 4 ≡ true }
     ensures { OnOk result (string_bytes text.new ≡ string_bytes text.old
-        ++ with_line_end (code_line machine.now.state.memory at)) }
+        ++ with_line_end (code_line style.now machine.now.state.memory at)) }
 {
-    write_code(alloc, text, code_at(machine, at), at)
+    write_code(text, style, code_at(machine, at), at)
 }
 
 // The word at an address in kseg0 or kseg1.
@@ -66,16 +67,29 @@ fn code_at<T: Tlb, D: Console>(machine: &Machine<T, D>, at: u32) -> u32
     }
 }
 
+/// Appends an address, with its place behind it.
+pub(crate) fn write_address(text: &mut String, style: &Style, at: u32) -> Result<(), AllocError>
+    ensures { OnOk result (string_bytes text.new ≡ string_bytes text.old
+        ++ address_text style.now at) }
+{
+    push_hex(text, 8, at)?;
+    push_place_behind(text, &style.symbols, at)
+}
+
 /// Appends the line of an instruction: its address, its word and its text.
 pub(crate) fn write_code(
-    alloc: Global,
     text: &mut String,
+    style: &Style,
     word: u32,
     at: u32,
 ) -> Result<(), AllocError>
     ensures { OnOk result (string_bytes text.new ≡ string_bytes text.old
-        ++ with_line_end (listing_text at word)) }
+        ++ with_line_end (listing_text style.now at word)) }
 {
-    let instruction = line(alloc, word, at)?;
-    writeln!(text, "{} {} {instruction}", Word(at), Word(word))
+    write_address(text, style, at)?;
+    text.push(' ')?;
+    push_hex(text, 8, word)?;
+    text.push(' ')?;
+    push_line_with(text, style, word, at)?;
+    text.push('\n')
 }

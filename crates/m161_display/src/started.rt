@@ -9,14 +9,15 @@ ghost use Rattle.m161_text.specs.Parts.{◌␣◌};
 use crate::fetched::write_fetched;
 use crate::regs::ShownState;
 use m161_bus::Console;
+use m161_dis::Style;
 use m161_machine::{BoardWord, Machine};
 use m161_tlb::Tlb;
 use std::alloc::{AllocError, Global};
 use std::fmt::Write;
 
-/// Where each started processor is, one a line: its number, what it is doing, its address, and the
-/// word and the text of the instruction that it would fetch there. If it can't fetch there, `-`
-/// stands in the place of these two.
+/// Where each started processor is, one a line: its number, what it is doing, its address with its
+/// place, and the word and the text of the instruction that it would fetch there, in this style. If
+/// it can't fetch there, `-` stands for word and text.
 ///
 /// # Errors
 /// Memory was refused.
@@ -24,29 +25,30 @@ use std::fmt::Write;
 pub fn show_where<T: Tlb, D: Console>(
     alloc: Global,
     machine: &Machine<T, D>,
+    style: &Style,
 ) -> Result<String, AllocError>
-    ensures { IfOk result (λ text. string_bytes text ≡ show_where_text machine.now.state) }
+    ensures { IfOk result (λ text. string_bytes text ≡ show_where_text style.now machine.now.state) }
 {
     let mut text = String::new(alloc);
     for p in 0..machine.processors() {
-        write_if_started(alloc, &mut text, machine, p)?;
+        write_if_started(&mut text, machine, style, p)?;
     }
     Ok(text)
 }
 
 // The line of a processor, if it was started.
 fn write_if_started<T: Tlb, D: Console>(
-    alloc: Global,
     text: &mut String,
     machine: &Machine<T, D>,
+    style: &Style,
     p: u32,
 ) -> Result<(), AllocError>
     requires { p < length machine.now.state.processors }
     ensures { OnOk result (string_bytes text.new ≡ string_bytes text.old
-        ++ where_text machine.now.state p) }
+        ++ where_text style.now machine.now.state p) }
 {
     if is_started(machine, p) {
-        write_place(alloc, text, machine, p)
+        write_place(text, machine, style, p)
     } else {
         Ok(())
     }
@@ -64,15 +66,15 @@ fn is_started<T: Tlb, D: Console>(machine: &Machine<T, D>, p: u32) -> bool
 
 // The line of a started processor.
 fn write_place<T: Tlb, D: Console>(
-    alloc: Global,
     text: &mut String,
     machine: &Machine<T, D>,
+    style: &Style,
     p: u32,
 ) -> Result<(), AllocError>
     requires { p < length machine.now.state.processors }
     ensures { OnOk result (string_bytes text.new ≡ string_bytes text.old
-        ++ with_line_end (where_line machine.now.state p)) }
+        ++ with_line_end (where_line style.now machine.now.state p)) }
 {
     write!(text, "{p} {} ", ShownState(machine.state(p)))?;
-    write_fetched(alloc, text, machine, p, machine.pc(p))
+    write_fetched(text, machine, style, p, machine.pc(p))
 }

@@ -1,7 +1,8 @@
 use Rattle.std.specs.Prelude.{ℕ, Bool, true, false, ◌==◌, if◌then◌else◌, List, [], ◌∷◌, ◌++◌, flat_map, Option, None, Some, codes, decimal}
 use Rattle.m161_text.specs.Parts.{◌␣◌, hex_text, word_text}
-use Rattle.m161_dis.specs.declared.naming.Naming.{Naming}
-use Rattle.m161_dis.specs.Canon.{canon_as}
+use Rattle.m161_dis.specs.declared.naming.Style.{Style}
+use Rattle.m161_dis.specs.Canon.{canon_with}
+use Rattle.m161_symbols.specs.Names.{place_behind}
 use Rattle.m161_cop0.specs.Registers.{name_of_register, number_of_exception}
 use Rattle.m161_bus.specs.declared.register.BoardWord.{BoardWord}
 use Rattle.m161_bus.specs.declared.register.BoardWord.TheVariants as words
@@ -76,25 +77,25 @@ fetched p s o =
     if fetches_none o then None
     else fetched_word s.memory (processor_at p s.processors).pc (processor_at p s.processors)
 
--- the place of an instruction
-abbrev pub address_text : ℕ → List ℕ
-address_text at = word_text at
+-- the address of an instruction with its place behind it
+abbrev pub address_text : Style → ℕ → List ℕ
+address_text style at = word_text at ++ place_behind style.symbols at
 
-abbrev pub instruction_text : Naming → ℕ → Option ℕ → List ℕ
-instruction_text naming at None = codes "-"
-instruction_text naming at (Some word) = word_text word ␣ canon_as naming word at
+abbrev pub instruction_text : Style → ℕ → Option ℕ → List ℕ
+instruction_text style at None = codes "-"
+instruction_text style at (Some word) = word_text word ␣ canon_with style word at
 
 -- a Step of processor p, up to its items
-abbrev pub step_head : Naming → ℕ → ℕ → State → Outcome → List ℕ
-step_head naming number p s o =
-    decimal number ␣ decimal p ␣ address_text (processor_at p s.processors).pc
-    ␣ instruction_text naming (processor_at p s.processors).pc (fetched p s o)
+abbrev pub step_head : Style → ℕ → ℕ → State → Outcome → List ℕ
+step_head style number p s o =
+    decimal number ␣ decimal p ␣ address_text style (processor_at p s.processors).pc
+    ␣ instruction_text style (processor_at p s.processors).pc (fetched p s o)
 
-unfoldable pub step_line : Naming → ℕ → ℕ → State → Outcome → State → List ℕ
-step_line naming number p s o t = step_head naming number p s o ++ behind (items p s o t)
+unfoldable pub step_line : Style → ℕ → ℕ → State → Outcome → State → List ℕ
+step_line style number p s o t = step_head style number p s o ++ behind (items p s o t)
 
 -- the line of an event, without its end, by the state before it, its outcome and the state after it
-unfoldable pub event_line : Naming → ℕ → Event → State → Outcome → State → List ℕ
-event_line naming number (events.Step p) s o t = step_line naming number p s o t
-event_line naming number (events.Key byte) s o t = decimal number ␣ codes "k" ␣ hex_text 2 byte
-event_line naming number events.Done s o t = decimal number ␣ codes "o"
+unfoldable pub event_line : Style → ℕ → Event → State → Outcome → State → List ℕ
+event_line style number (events.Step p) s o t = step_line style number p s o t
+event_line style number (events.Key byte) s o t = decimal number ␣ codes "k" ␣ hex_text 2 byte
+event_line style number events.Done s o t = decimal number ␣ codes "o"

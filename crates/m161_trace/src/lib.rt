@@ -36,5 +36,5 @@ mod text;
 mod tracer;
 
 pub use laws::items_tell;
-pub use m161_dis::Naming;
+pub use m161_dis::{Naming, Style};
 pub use tracer::Tracer;

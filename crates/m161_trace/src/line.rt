@@ -20,9 +20,10 @@ use crate::shared::{
 };
 use m161_bus::Console;
 use m161_decode::row_that_fits;
-use m161_dis::{Naming, push_line};
+use m161_dis::{Style, push_line_with};
 use m161_isa::Effect;
 use m161_machine::{Core, Event, Outcome};
+use m161_symbols::push_place_behind;
 use m161_text::push_hex;
 use m161_tlb::Tlb;
 use std::alloc::AllocError;
@@ -131,29 +132,31 @@ fn fetched(fetch: Option<u32>, outcome: Outcome) -> Option<u32>
     if took_none(outcome) { None } else { fetch }
 }
 
-// Appends the place of an instruction.
-fn push_address(text: &mut String, at: u32) -> Result<(), AllocError>
-    ensures { OnOk result (string_bytes text.new ≡ string_bytes text.old ++ address_text at) }
+// Appends the address of an instruction with its place behind it.
+fn push_address(text: &mut String, style: &Style, at: u32) -> Result<(), AllocError>
+    ensures { OnOk result (string_bytes text.new
+        ≡ string_bytes text.old ++ address_text style.now at) }
 {
-    push_hex(text, 8, at)
+    push_hex(text, 8, at)?;
+    push_place_behind(text, &style.symbols, at)
 }
 
 // Appends the word that was fetched and its text, or that there was none.
 fn push_instruction(
     text: &mut String,
-    naming: Naming,
+    style: &Style,
     at: u32,
     word: Option<u32>,
 ) -> Result<(), AllocError>
     ensures { OnOk result (string_bytes text.new
-        ≡ string_bytes text.old ++ instruction_text naming at word) }
+        ≡ string_bytes text.old ++ instruction_text style.now at word) }
 {
     match word {
         None => text.push_str("-"),
         Some(word) => {
             push_hex(text, 8, word)?;
             text.push(' ')?;
-            push_line(text, naming, word, at)
+            push_line_with(text, style, word, at)
         }
     }
 }
@@ -161,19 +164,19 @@ fn push_instruction(
 // Appends a Step up to its items.
 fn push_step(
     text: &mut String,
-    naming: Naming,
+    style: &Style,
     number: u64,
     p: u32,
     pc: u32,
     word: Option<u32>,
 ) -> Result<(), AllocError>
     ensures { OnOk result (string_bytes text.new ≡ string_bytes text.old
-        ++ (decimal number ␣ decimal p ␣ address_text pc ␣ instruction_text naming pc word)) }
+        ++ (decimal number ␣ decimal p ␣ address_text style.now pc ␣ instruction_text style.now pc word)) }
 {
     write!(text, "{number} {p} ")?;
-    push_address(text, pc)?;
+    push_address(text, style, pc)?;
     text.push(' ')?;
-    push_instruction(text, naming, pc, word)
+    push_instruction(text, style, pc, word)
 }
 
 // Appends a part.
@@ -208,7 +211,7 @@ fn fetch_of<T: Tlb, D: Console>(p: u32, before: &Core<T, D>) -> Option<u32>
 // Appends a Step of processor `p`, which would fetch this word, up to its items.
 fn push_head<T: Tlb, D: Console>(
     text: &mut String,
-    naming: Naming,
+    style: &Style,
     number: u64,
     p: u32,
     before: &Core<T, D>,
@@ -220,11 +223,11 @@ fn push_head<T: Tlb, D: Console>(
         (processor_at p before.now.state.processors).pc
         (processor_at p before.now.state.processors) }
     ensures { OnOk result (string_bytes text.new ≡ string_bytes text.old
-        ++ step_head naming number p before.now.state outcome) }
+        ++ step_head style.now number p before.now.state outcome) }
 {
     push_step(
         text,
-        naming,
+        style,
         number,
         p,
         before.pc(p),
@@ -257,7 +260,7 @@ fn fill_items<T: Tlb, D: Console>(
 fn push_step_line<T: Tlb, D: Console>(
     text: &mut String,
     items: &mut String,
-    naming: Naming,
+    style: &Style,
     number: u64,
     p: u32,
     before: &Core<T, D>,
@@ -266,10 +269,10 @@ fn push_step_line<T: Tlb, D: Console>(
 ) -> Result<(), AllocError>
     requires { next before.now.state (events.Step p) ≡ Ok (outcome, after.now.state) }
     ensures { OnOk result (string_bytes text.new ≡ string_bytes text.old
-        ++ step_line naming number p before.now.state outcome after.now.state) }
+        ++ step_line style.now number p before.now.state outcome after.now.state) }
 {
     let fetch = fetch_of(p, before);
-    push_head(text, naming, number, p, before, fetch, outcome)?;
+    push_head(text, style, number, p, before, fetch, outcome)?;
     fill_items(items, p, before, fetch, outcome, after)?;
     push_items(text, items.as_str())
 }
@@ -296,7 +299,7 @@ fn push_done(text: &mut String, number: u64) -> Result<(), AllocError>
 pub(crate) fn write_line<T: Tlb, D: Console>(
     text: &mut String,
     items: &mut String,
-    naming: Naming,
+    style: &Style,
     number: u64,
     event: Event,
     before: &Core<T, D>,
@@ -305,11 +308,11 @@ pub(crate) fn write_line<T: Tlb, D: Console>(
 ) -> Result<(), AllocError>
     requires { next before.now.state event ≡ Ok (outcome, after.now.state) }
     ensures { OnOk result (string_bytes text.new ≡
-        with_line_end (event_line naming number event before.now.state outcome after.now.state)) }
+        with_line_end (event_line style.now number event before.now.state outcome after.now.state)) }
 {
     text.clear();
     match event {
-        Event::Step(p) => push_step_line(text, items, naming, number, p, before, outcome, after)?,
+        Event::Step(p) => push_step_line(text, items, style, number, p, before, outcome, after)?,
         Event::Key(byte) => push_key(text, number, byte)?,
         Event::Done => push_done(text, number)?,
     }

@@ -9,7 +9,7 @@ ghost use Rattle.m161_trace.specs.Line.{event_line};
 
 use crate::line::write_line;
 use m161_bus::Console;
-use m161_dis::Naming;
+use m161_dis::Style;
 use m161_machine::{Core, Event, Machine, Outcome, Refusal};
 use m161_tlb::Tlb;
 use std::alloc::{AllocError, Global};
@@ -59,7 +59,8 @@ impl<T: Tlb, D: Console> Tracer<T, D> {
     }
 
     /// Appends the line of an event that the machine has just accepted, with its end, and makes the
-    /// event on the state here. `number` is the event's in its run.
+    /// event on the state here. `number` is the event's in its run; registers and addresses are shown
+    /// in this style.
     ///
     /// # Errors
     /// Memory was refused. The text and the state are as before then.
@@ -69,12 +70,12 @@ impl<T: Tlb, D: Console> Tracer<T, D> {
         event: Event,
         outcome: Outcome,
         number: u64,
-        naming: Naming,
+        style: &Style,
         text: &mut String,
     ) -> Result<(), AllocError>
         requires { next self.old event ≡ Ok (outcome, machine.now.state) }
         ensures text { OnOk result (string_bytes text.new ≡ string_bytes text.old
-            ++ with_line_end (event_line naming number event self.old outcome machine.now.state)) }
+            ++ with_line_end (event_line style.now number event self.old outcome machine.now.state)) }
         ensures state { OnOk result (self.new ≡ machine.now.state) }
         ensures err { OnErr result ((string_bytes text.new ≡ string_bytes text.old)
             × (self.new ≡ self.old)) }
@@ -87,7 +88,7 @@ impl<T: Tlb, D: Console> Tracer<T, D> {
         write_line(
             line,
             items,
-            naming,
+            style,
             number,
             event,
             before,

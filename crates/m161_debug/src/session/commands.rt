@@ -43,7 +43,7 @@ impl<T: Tlb, D: Console> Session<T, D> {
         ensures { Commands line.now self.old rest.now result self.new
             (string_bytes text.old) (string_bytes text.new) }
     {
-        let command = command_of(line)?;
+        let command = command_of(&self.style.symbols, line)?;
         self.obey(command, rest, text)
     }
 
@@ -265,7 +265,7 @@ impl<T: Tlb, D: Console> Session<T, D> {
     fn words(&self, area: Area, address: u32, n: u32) -> Result<String, AllocError>
         requires { is_shown area self.now.machine.state address n ≡ true }
         ensures { IfOk result (λ text. string_bytes text
-            ≡ area_text area address n self.now.machine.state) }
+            ≡ area_text self.now.style area address n self.now.machine.state) }
     {
         match area {
             Area::Memory => self.show_mem(physical_of(address), n),

@@ -5,6 +5,6 @@ use Rattle.m161_debug.proofs.Asked.{no_steps}
 use Rattle.m161_debug.proofs.command.steps_of.Goals as goal
 
 pub returns-in-None : goal.returns-in-None
-returns-in-None c =
+returns-in-None c = λ symbols.
     let none : c.number.result ≡ None = search rules in
-    no_steps c.args.arguments.now (subst (λ r. Finds IsNumber c.args.arguments.now r) none c.number.ensures) c.in-None.ensures
+    no_steps symbols c.args.arguments.now (subst (λ r. Finds IsNumber c.args.arguments.now r) none c.number.ensures) c.in-None.ensures

@@ -7,7 +7,7 @@ use Rattle.m161_trace.proofs.line.push_head.Goals as goal
 
 pub returns : goal.returns
 returns g c =
-    let text : ℕ → Option ℕ → List ℕ = λ pc word. decimal c.args.number ␣ decimal c.args.p ␣ address_text pc ␣ instruction_text c.args.naming pc word in
+    let text : ℕ → Option ℕ → List ℕ = λ pc word. decimal c.args.number ␣ decimal c.args.p ␣ address_text c.args.style.now pc ␣ instruction_text c.args.style.now pc word in
     let pc : ℕ = (processor_at c.args.p c.args.before.now.state.processors).pc in
     let word_is : c.fetched.result ≡ fetched c.args.p c.args.before.now.state c.args.outcome =
     c.fetched.ensures ∙ ap (λ (x : Option ℕ). if fetches_none c.args.outcome then None else x) c.requires.fetch in

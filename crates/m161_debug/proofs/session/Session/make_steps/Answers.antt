@@ -6,4 +6,4 @@ pub returns : goal.returns
 returns g c = λ rest.
     let few : c.is_number_of_steps.result ≡ true = search rules in
     steps_done c.args.self.now _ c.args.p c.args.n rest c.go_steps-stop.result _ _ _
-    (no_fault_if (nat_le 1 c.args.n && nat_le c.args.n 1000000) (sym c.is_number_of_steps.ensures ∙ few)) c.go_steps-stop.ensures.stop c.go_steps-stop.ensures.breakpoints (search rules)
+    (no_fault_if (nat_le 1 c.args.n && nat_le c.args.n 1000000) (sym c.is_number_of_steps.ensures ∙ few)) c.go_steps-stop.ensures.stop c.go_steps-stop.ensures.breakpoints c.go_steps-stop.ensures.style (search rules)

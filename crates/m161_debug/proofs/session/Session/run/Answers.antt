@@ -18,6 +18,7 @@ loop-k-init g c =
       made = continues_none c.args.self.now.machine (subst (λ (m : History). length m.log ≤ m.start.conf.log) same fits);
       no_stop = refl;
       same = refl;
+      style = refl;
     }
 
 pub returns-then-is_at_break-clause-stop : goal.returns-then-is_at_break-clause-stop
@@ -85,4 +86,5 @@ loop-k-preserved g c =
       made = made_more _ _ _ _ _ _ _ at c.loop-k.invariant.made c.in-Ok.ensures.answers;
       no_stop = goes_on _ _ c.args.self.now.machine c.loop-k.self.machine c.step.new.self.machine _ _ _ _ at c.loop-k.invariant.no_stop passes c.in-Ok.ensures.answers (search rules) (found ∙ unmet);
       same = c.in-Ok.ensures.breakpoints ∙ c.loop-k.invariant.same;
+      style = c.in-Ok.ensures.style ∙ c.loop-k.invariant.style;
     }

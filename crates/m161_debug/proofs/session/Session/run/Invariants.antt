@@ -13,4 +13,5 @@ invariant-loop-k g l =
       no_stop : wait_from awaited l.initial.self.breakpoints 0 l.initial.self.machine.state (events_in l.events)
           ≡ wait_from awaited l.initial.self.breakpoints l.k l.self.machine.state (drop l.k (events_in l.events));
       same : l.self.breakpoints ≡ l.initial.self.breakpoints;
+      style : l.self.style ≡ l.initial.self.style;
     }
