@@ -11,7 +11,7 @@ use Rattle.m161_machine.proofs.Continuing.{continues_more}
 use Rattle.m161_debug.specs.declared.breakpoints.Breakpoint.{Breakpoint}
 use Rattle.m161_debug.specs.declared.stop.Stop.{Stop}
 use Rattle.m161_debug.specs.declared.stop.Stop.TheVariants.{Break, End, Off, Refused, Until}
-use Rattle.m161_debug.specs.Stops.{is_break, is_power_off, never, stop_after, stop_from, wait_after, wait_from, LacksMemory, Stops, StopsBy}
+use Rattle.m161_debug.specs.Stops.{is_break, is_power_off, never, stop_after, stop_from, wait_after, wait_from, StopsBy}
 
 -- what a run waits for
 abbrev Awaited : Type 0

@@ -1,10 +1,10 @@
 -- Going back to an earlier event.
-use Rattle.std.proofs.Common.{◌≡◌, ◌<◌, ◌≤◌, ℕ, length, Option, None, Some, Result, Ok, Err, Vec, Global, arith}
+use Rattle.std.proofs.Common.{◌≡◌, ◌≤◌, ℕ, length, Option, None, Some, Ok, Err, Vec, Global, arith}
 use Rattle.std.proofs.lemmas.Bool.Decides.{nat_tests}
 use Rattle.m161_machine.specs.declared.event.Event.{Event}
 use Rattle.m161_machine.specs.History.{History}
 use Rattle.m161_debug.specs.declared.jump.JumpError.{JumpError}
-use Rattle.m161_debug.specs.declared.jump.JumpError.TheVariants.{BadArgument, Dropped, NoMemory}
+use Rattle.m161_debug.specs.declared.jump.JumpError.TheVariants.{NoMemory}
 use Rattle.m161_debug.specs.Breakpoints.{SessionState}
 use Rattle.m161_debug.specs.Jumps.{jump_fault, Jumps, JumpsTo}
 

@@ -1,5 +1,5 @@
 -- Names for addresses.
-use Rattle.std.proofs.Common.{◌≡◌, ◌≢◌, ◌∙◌, ◌⊎◌, inl, inr, ℕ, zero, suc, ◌+◌, ◌<◌, ◌≤◌, ◌^◌, List, [], ◌∷◌, ◌++◌, length, take, drop, get_or, refl, sym, ap, ap₂, subst, arith, codes, Option, None, Some, Bor, length-append}
+use Rattle.std.proofs.Common.{◌≡◌, ◌≢◌, ◌∙◌, inl, inr, ℕ, zero, suc, ◌+◌, ◌<◌, ◌≤◌, ◌^◌, List, [], ◌∷◌, ◌++◌, length, take, drop, refl, sym, ap, ap₂, subst, arith, codes, Option, None, Some, Bor, length-append}
 use Rattle.std.specs.Option.{SomeIff}
 use Rattle.std.specs.Prelude.{MatchOption}
 use Rattle.std.specs.Str.Pattern.{RFindsChar}
@@ -97,16 +97,16 @@ pub no_value : (symbols : List (List ℕ × ℕ)) (text a b : List ℕ)
     → Finds (IsBehind symbols) text None
 no_value symbols text a b cut none =
     says_nothing (λ v is.
-      none-some is.value
-      (sym none ∙ ap (value_in symbols) (sym (parts_same symbols text a b v cut is).0) ∙ is.value_is))
+    none-some is.value
+    (sym none ∙ ap (value_in symbols) (sym (parts_same symbols text a b v cut is).0) ∙ is.value_is))
 
 pub no_distance : (symbols : List (List ℕ × ℕ)) (text a b : List ℕ)
     → Lacks 43 b × (text ≡ a ++ 43 ∷ b) → Finds IsAddress b None
     → Finds (IsBehind symbols) text None
 no_distance symbols text a b cut finds =
     says_nothing (λ v is.
-      finds.none is.bytes
-      (subst (IsAddress is.bytes) (parts_same symbols text a b v cut is).1 is.distance_is))
+    finds.none is.bytes
+    (subst (IsAddress is.bytes) (parts_same symbols text a b v cut is).1 is.distance_is))
 
 -- an address has one value
 digits_same : (k l m n : ℕ) → m < 16 ^ k → n < 16 ^ l → hex_text k m ≡ hex_text l n → m ≡ n
@@ -134,14 +134,14 @@ pub too_far : (symbols : List (List ℕ × ℕ)) (text a b : List ℕ) (value by
     → 2 ^ 32 ≤ value + bytes → Finds (IsBehind symbols) text None
 too_far symbols text a b value bytes cut valued is far =
     says_nothing (λ v other.
-      let same = parts_same symbols text a b v cut other in
-      let first : other.value ≡ value = same_Some _ _
-      (sym other.value_is ∙ ap (value_in symbols) same.0 ∙ valued) in
-      let second : other.bytes ≡ bytes =
-      address_same other.bytes bytes b (subst (IsAddress other.bytes) same.1 other.distance_is) is in
-      let sum = other.address_is in
-      let fits = other.fits in
-      omega (arith, first, second, sum, fits, far))
+    let same = parts_same symbols text a b v cut other in
+    let first : other.value ≡ value = same_Some _ _
+    (sym other.value_is ∙ ap (value_in symbols) same.0 ∙ valued) in
+    let second : other.bytes ≡ bytes =
+    address_same other.bytes bytes b (subst (IsAddress other.bytes) same.1 other.distance_is) is in
+    let sum = other.address_is in
+    let fits = other.fits in
+    omega (arith, first, second, sum, fits, far))
 
 pub is_behind : (symbols : List (List ℕ × ℕ)) (text a b : List ℕ) (value bytes address : ℕ)
     → Lacks 43 b × (text ≡ a ++ 43 ∷ b) → value_in symbols a ≡ Some value → IsAddress bytes b
@@ -191,14 +191,14 @@ by_address symbols text n is = record { found = inl is; none = tt }
 
 pub by_name : (symbols : List (List ℕ × ℕ)) (text : List ℕ) (r : Option ℕ) → Lacks 32 text
     → Finds IsAddress text None → Finds (IsNamed symbols) text r → Finds (IsPlace symbols) text r
-by_name symbols text (Some v) lacks no finds = record {
-  found = inr ((lacks, λ n is. no.none n is), finds.found);
+by_name symbols text (Some v) lacks none finds = record {
+  found = inr ((lacks, λ n is. none.none n is), finds.found);
   none = tt;
 }
-by_name symbols text None lacks no finds = says_nothing (λ v is. by v is)
+by_name symbols text None lacks none finds = says_nothing (λ v is. by v is)
   where
     by : (v : ℕ) → IsPlace symbols v text → ⊥
-    by v (inl is) = no.none v is
+    by v (inl is) = none.none v is
     by v (inr is) = finds.none v is.1
 
 pub no_word : (symbols : List (List ℕ × ℕ)) (text a b : List ℕ) → text ≡ a ␣ b

@@ -1,5 +1,5 @@
 -- Parts of commands that are read.
-use Rattle.std.proofs.Common.{◌≡◌, ◌≢◌, ◌∙◌, ◌⊎◌, ◌↔◌, inl, inr, ℕ, zero, suc, ◌+◌, ◌<◌, ◌≤◌, ◌^◌, List, [], ◌∷◌, ◌++◌, length, get_or, refl, sym, ap, subst, arith, codes, decimal, Option, None, Some}
+use Rattle.std.proofs.Common.{◌≡◌, ◌≢◌, ◌∙◌, ◌↔◌, inl, inr, ℕ, zero, suc, ◌<◌, ◌≤◌, ◌^◌, List, ◌∷◌, ◌++◌, length, get_or, sym, ap, subst, arith, codes, decimal, Option, None, Some}
 use Rattle.std.proofs.lemmas.Bool.Decides.{nat_tests}
 use Rattle.std.proofs.lemmas.List.{append_cancel_left}
 use Rattle.std.proofs.lemmas.Option.{none-some}
@@ -7,7 +7,7 @@ use Rattle.m161_text.specs.Parts.{◌␣◌, Lacks, IsByte, IsWord, Reads, hex_d
 use Rattle.m161_text.proofs.Decimal.{decimal_lacks_space}
 use Rattle.m161_text.proofs.Hex.{hex_lacks_space, hex_text_at, length-hex_text}
 use Rattle.m161_text.proofs.Parts.{cut_same, not_spaced}
-use Rattle.m161_debug.specs.Commands.{AreNumbers, AreParts, IsAddress, IsByteText, IsHex, IsNumber}
+use Rattle.m161_debug.specs.Commands.{AreParts, IsAddress, IsByteText, IsHex, IsNumber}
 use Rattle.m161_debug.specs.helpers.Reading.{Finds}
 
 -- a text that says nothing

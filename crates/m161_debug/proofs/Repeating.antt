@@ -1,5 +1,5 @@
 -- Events of a log that are made again.
-use Rattle.std.proofs.Common.{take-add, ◌≡◌, ◌∙◌, refl, sym, ap, subst, ℕ, zero, suc, ◌+◌, ◌-◌, ◌<◌, ◌≤◌, List, [], ◌∷◌, ◌++◌, length, map, take, drop, replicate, get_or, slice_get, Option, None, Some, Result, Ok, Err, arith}
+use Rattle.std.proofs.Common.{take-add, ◌≡◌, ◌∙◌, refl, sym, ap, subst, ℕ, zero, suc, ◌+◌, ◌-◌, ◌<◌, ◌≤◌, List, [], ◌∷◌, ◌++◌, length, take, drop, replicate, get_or, slice_get, Option, None, Some, Result, Ok, Err, arith}
 use Rattle.std.specs.List.{take-map, drop-map}
 use Rattle.std.proofs.lemmas.List.{at_drop_more, drop-append-le, drop-drop, drop_all, get_or-drop, get_or-map, length-drop, length-map, length-take, replicate-append-replicate, take-append-drop, take-replicate, take-take, take_all, take_more}
 use Rattle.std.proofs.lemmas.Option.{get_or_from_slice_get, slice_get-get_or}

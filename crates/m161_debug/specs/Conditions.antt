@@ -1,4 +1,4 @@
-use Rattle.std.specs.Prelude.{ℕ, Bool, true, false, not, nat_lt, nat_le, is_some, ◌==◌, ◌&&◌, if◌then◌else◌, length, slice_index, slice_index_or, unwrap_or}
+use Rattle.std.specs.Prelude.{ℕ, Bool, true, false, not, nat_lt, is_some, ◌==◌, ◌&&◌, length, slice_index, slice_index_or, unwrap_or}
 use Rattle.m161_isa.specs.Address.{unmapped}
 use Rattle.m161_ram.specs.Word.{word_at}
 use Rattle.m161_tlb.specs.declared.row.Row.{Row}

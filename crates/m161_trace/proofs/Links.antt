@@ -1,8 +1,8 @@
-use Rattle.std.proofs.Common.{◌≡◌, ◌≢◌, ◌⊎◌, inl, inr, ◌∙◌, refl, sym, ap, subst, ℕ, zero, suc, Bool, true, false, List, [], ◌∷◌, map, get_or, set, Option, None, Some, get_or-set_other}
-use Rattle.std.specs.Prelude.{if◌then◌else◌, ◌==◌}
+use Rattle.std.proofs.Common.{◌≡◌, ◌≢◌, ◌⊎◌, inl, inr, refl, sym, ap, subst, ℕ, zero, suc, Bool, true, false, List, [], ◌∷◌, map, get_or, Option, None, Some, get_or-set_other}
+use Rattle.std.specs.Prelude.{if◌then◌else◌}
 use Rattle.m161_isa.specs.declared.link.LinkUnit.{LinkUnit}
 use Rattle.m161_cpu.specs.Links.{LinkAct, LinkState, Keep, LinkTo, End, after_act, after_store, is_to, links_after, unit_of, unless_to}
-use Rattle.m161_trace.specs.Items.{Item, changed, linked, linked_items, unlinked, unlinked_by}
+use Rattle.m161_trace.specs.Items.{linked, linked_items, unlinked, unlinked_by}
 use Rattle.m161_trace.specs.Law.{Has}
 use Rattle.m161_trace.proofs.Members.{unchanged}
 

@@ -1,5 +1,5 @@
-use Rattle.std.proofs.Common.{◌≡◌, ◌⊎◌, inl, inr, ◌∙◌, refl, sym, ap, subst, ℕ, ◌+◌, ◌<◌, Bool, true, false, List, [], ◌∷◌, length, set, Option, None, Some, Result, Ok, Err, arith, get_or-set_same}
-use Rattle.std.specs.Prelude.{IfOk, not, ◌&&◌, if◌then◌else◌, is_some, nat_le, unwrap_or}
+use Rattle.std.proofs.Common.{◌≡◌, ◌⊎◌, inl, inr, ◌∙◌, refl, sym, ap, subst, ℕ, ◌<◌, Bool, true, false, List, [], ◌∷◌, length, set, Option, None, Some, Result, Ok, Err, arith, get_or-set_same}
+use Rattle.std.specs.Prelude.{IfOk, if◌then◌else◌, is_some, nat_le, unwrap_or}
 use Rattle.std.proofs.lemmas.Bool.Decides.{nat_tests}
 use Rattle.m161_isa.specs.Choice.{first_answer}
 use Rattle.m161_isa.specs.declared.effect.Effect.{Effect}
@@ -21,7 +21,7 @@ use Rattle.m161_cpu.specs.Uses.{uses_of}
 use Rattle.m161_machine.specs.declared.event.Event.TheVariants.{Step}
 use Rattle.m161_machine.specs.declared.event.Refusal.{Refusal}
 use Rattle.m161_machine.specs.declared.event.Refusal.TheVariants.{BadProcessor, Off, Worn}
-use Rattle.m161_machine.specs.State.{State, answer, next, processor_at, refusal, step_result, unless, with_step}
+use Rattle.m161_machine.specs.State.{State, next, processor_at, step_result, unless, with_step}
 use Rattle.m161_machine.specs.Uses.{uses_in}
 use Rattle.m161_trace.specs.helpers.Adds.{AreAlike}
 use Rattle.m161_trace.specs.helpers.Far.{is_far, is_far_found, is_far_row, is_far_word}

@@ -1,8 +1,7 @@
-use Rattle.std.proofs.Common.{◌≡◌, ◌⊎◌, inl, inr, ◌∙◌, refl, sym, ap, ℕ, ◌+◌, Bool, true, false, List, [], ◌∷◌, length, Option, None, Some, Result, Ok, Err}
+use Rattle.std.proofs.Common.{◌≡◌, ◌⊎◌, inl, inr, refl, ℕ, ◌+◌, Bool, true, false, length, Option, None, Some, Result, Ok, Err}
 use Rattle.std.specs.Prelude.{IfOk, nat_le, if◌then◌else◌, is_some}
 use Rattle.m161_isa.specs.declared.effect.Effect.{Effect}
 use Rattle.m161_isa.specs.declared.effect.Effect.TheVariants as effect
-use Rattle.m161_bus.specs.Board.{board_written}
 use Rattle.m161_cpu.specs.Links.{End}
 use Rattle.m161_cpu.specs.Scene.{Change, Scene, and_then, result_map}
 use Rattle.m161_cpu.specs.Effect.{Argument, effect_of, is_linked, store_physical_word, store_word, unless_overflow, write}

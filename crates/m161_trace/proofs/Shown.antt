@@ -1,20 +1,15 @@
-use Rattle.std.proofs.Common.{◌≡◌, ◌≢◌, ◌⊎◌, inl, inr, ◌∙◌, refl, sym, ap, ℕ, ◌+◌, ◌<◌, ◌≤◌, Bool, true, false, List, [], ◌∷◌, ◌++◌, length, Option, None, Some, arith}
-use Rattle.std.specs.Prelude.{not, nat_lt, ◌&&◌, ◌==◌, if◌then◌else◌, slice_index, slice_index_or}
+use Rattle.std.proofs.Common.{◌≡◌, ◌≢◌, refl, ℕ, ◌<◌, Bool, true, false, List, [], ◌∷◌, ◌++◌, length, Option, None, Some, arith}
+use Rattle.std.specs.Prelude.{◌&&◌, ◌==◌, if◌then◌else◌, slice_index}
 use Rattle.std.specs.List.{range_with_len}
-use Rattle.std.proofs.lemmas.Bool.Decides.{nat_tests}
-use Rattle.m161_tlb.specs.declared.row.Row.{Row}
-use Rattle.m161_cop0.specs.declared.register.Register.{Register}
 use Rattle.m161_bus.specs.declared.register.BoardWord.{BoardWord}
 use Rattle.m161_bus.specs.declared.register.BoardWord.TheVariants as words
-use Rattle.m161_bus.specs.Board.{BoardState}
 use Rattle.m161_cpu.specs.declared.processor.Outcome.{Outcome}
 use Rattle.m161_cpu.specs.declared.processor.Outcome.TheVariants as outcomes
 use Rattle.m161_cpu.specs.declared.processor.ProcessorState.{ProcessorState}
-use Rattle.m161_cpu.specs.declared.processor.ProcessorState.TheVariants as states
 use Rattle.m161_machine.specs.State.{State, processor_at, word_in}
 use Rattle.m161_machine.specs.Uses.{uses_in}
-use Rattle.m161_trace.specs.Items.{Item, doing, register, hi, lo, control, row, stored, linked, unlinked, latched, waiting, board, trapped, idle, off, starts, board_item, changed, common_items, control_item, control_items, control_word, each, hi_lo_items, items, latch_items, link_items, linked_items, outcome_items, places_items, processor_items, register_item, register_items, row_item, row_item_of, row_items, same_state, shared_items, shown_registers, start_item, start_items, state_items, stored_as, stored_items, unlinked_by, unlinked_item, waiting_items}
-use Rattle.m161_trace.specs.Law.{Has, IsTrueOf, as_started, high_at, link_of, low_at}
+use Rattle.m161_trace.specs.Items.{Item, doing, register, hi, lo, control, row, stored, linked, unlinked, latched, waiting, board, trapped, idle, off, starts, board_item, changed, common_items, control_item, control_items, control_word, each, hi_lo_items, items, latch_items, link_items, linked_items, outcome_items, places_items, processor_items, register_item, register_items, row_item, row_items, same_state, shared_items, shown_registers, start_item, start_items, state_items, stored_as, stored_items, unlinked_by, unlinked_item}
+use Rattle.m161_trace.specs.Law.{IsTrueOf, as_started, high_at, link_of, low_at}
 use Rattle.m161_trace.proofs.Members.{Every, every_append, every_changed, every_listed, every_none, every_numbered, every_one, every_unless}
 use Rattle.m161_trace.proofs.Started.{is_new}
 use Rattle.m161_trace.proofs.Telling.{now}

@@ -1,10 +1,9 @@
 use Rattle.std.proofs.Common.{◌≡◌, ◌≢◌, ◌∙◌, refl, sym, ap, ℕ, zero, suc, ◌+◌, ◌<◌, ◌≤◌, Bool, true, false, List, [], ◌∷◌, length, get_or, set, arith, get_or-set_other}
-use Rattle.std.specs.Prelude.{not, ◌&&◌, nat_lt, if◌then◌else◌}
-use Rattle.std.proofs.lemmas.Bool.Decides.{nat_tests}
+use Rattle.std.specs.Prelude.{not, ◌&&◌, if◌then◌else◌}
 use Rattle.std.proofs.lemmas.List.{length-set}
 use Rattle.m161_isa.specs.Bits.{has_bit}
 use Rattle.m161_bus.specs.Board.{BoardState, start_words}
-use Rattle.m161_cpu.specs.Processor.{Processor, started_processor, stopped_processor}
+use Rattle.m161_cpu.specs.Processor.{Processor, started_processor}
 use Rattle.m161_machine.specs.State.{started_by, with_starts}
 
 -- The processors after a Step: those that CPUE starts, and the others.

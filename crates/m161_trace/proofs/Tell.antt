@@ -1,4 +1,4 @@
-use Rattle.std.proofs.Common.{◌≡◌, ◌≢◌, ◌⊎◌, inl, inr, ◌∙◌, refl, sym, ap, subst, ℕ, ◌<◌, ◌≤◌, Bool, true, false, List, [], ◌∷◌, length, get_or, set, Option, None, Some, Result, Ok, Err, arith}
+use Rattle.std.proofs.Common.{◌≡◌, ◌≢◌, ◌⊎◌, inl, ◌∙◌, refl, sym, ap, subst, ℕ, ◌<◌, ◌≤◌, Bool, true, false, [], ◌∷◌, length, get_or, set, None, Result, Ok, Err, arith}
 use Rattle.std.specs.Prelude.{not, nat_lt, ◌&&◌, ◌==◌, if◌then◌else◌, unwrap_or}
 use Rattle.std.proofs.lemmas.Bool.Decides.{nat_tests}
 use Rattle.std.proofs.lemmas.List.{length-set}
@@ -13,9 +13,8 @@ use Rattle.m161_cpu.specs.Links.{LinkState, links_after}
 use Rattle.m161_cpu.specs.Scene.{Change, Scene, around, scene}
 use Rattle.m161_cpu.specs.Step.{Stepped, change_of_step, count_step, idle, lines_in, running_step, step_by_state, step_of, step_of_result, tick, with_processor}
 use Rattle.m161_cpu.proofs.Laws.{step_links}
-use Rattle.m161_machine.specs.declared.event.Event.TheVariants.{Step}
-use Rattle.m161_machine.specs.State.{State, next, processor_at, step_result, with_step}
-use Rattle.m161_trace.specs.Items.{Item, items, linked, off, outcome_items, starts, unlinked}
+use Rattle.m161_machine.specs.State.{State, processor_at, step_result, with_step}
+use Rattle.m161_trace.specs.Items.{items, linked, off, outcome_items, starts, unlinked}
 use Rattle.m161_trace.specs.Law.{Has, ItemsTell, Tells, Without, link_of}
 use Rattle.m161_trace.proofs.Links.{other_link, other_stays, own_stays}
 use Rattle.m161_trace.proofs.Near.{accepted}

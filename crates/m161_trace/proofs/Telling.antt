@@ -1,24 +1,20 @@
-use Rattle.std.proofs.Common.{◌≡◌, ◌≢◌, ◌⊎◌, inl, inr, ◌∙◌, refl, sym, ap, subst, ℕ, zero, suc, ◌+◌, ◌%◌, ◌<◌, ◌≤◌, Bool, true, false, List, [], ◌∷◌, ◌++◌, length, get_or, set, drop, Option, None, Some, arith}
-use Rattle.std.specs.Prelude.{not, ◌&&◌, ◌==◌, if◌then◌else◌, slice_index, slice_index_or}
+use Rattle.std.proofs.Common.{◌≡◌, inl, refl, ℕ, ◌+◌, ◌<◌, ◌≤◌, Bool, true, false, List, [], ◌∷◌, ◌++◌, length, Option, Some, arith}
+use Rattle.std.specs.Prelude.{◌&&◌, ◌==◌, if◌then◌else◌, slice_index}
 use Rattle.std.proofs.lemmas.Bool.Decides.{nat_tests}
-use Rattle.m161_isa.specs.Bits.{has_bit}
 use Rattle.m161_tlb.specs.declared.row.Row.{Row}
-use Rattle.m161_tlb.specs.Row.{hi_word, lo_word}
-use Rattle.m161_tlb.specs.Rows.{blank_row}
 use Rattle.m161_cop0.specs.declared.register.Register.{Register}
 use Rattle.m161_bus.specs.declared.register.BoardWord.{BoardWord}
 use Rattle.m161_bus.specs.declared.register.BoardWord.TheVariants as words
 use Rattle.m161_bus.specs.Board.{BoardState, IsShown, shown_word}
 use Rattle.m161_cpu.specs.declared.processor.Outcome.{Outcome}
-use Rattle.m161_cpu.specs.declared.processor.Outcome.TheVariants as outcomes
 use Rattle.m161_cpu.specs.declared.processor.ProcessorState.{ProcessorState}
 use Rattle.m161_cpu.specs.declared.processor.ProcessorState.TheVariants as states
 use Rattle.m161_cpu.specs.Processor.{Processor}
 use Rattle.m161_machine.specs.State.{State, processor_at, word_in}
 use Rattle.m161_machine.specs.Uses.{uses_in}
-use Rattle.m161_trace.specs.Items.{Item, doing, register, hi, lo, control, row, stored, linked, unlinked, latched, waiting, board, trapped, idle, off, starts, board_item, changed, common_items, control_item, control_items, control_word, each, hi_lo_items, items, latch_items, link_items, linked_items, outcome_items, places_items, processor_items, register_item, register_items, row_item, row_item_of, row_items, same_state, shared_items, shown_registers, start_item, start_items, state_items, stored_as, stored_items, unlinked_by, unlinked_item, waiting_items}
+use Rattle.m161_trace.specs.Items.{Item, doing, register, hi, lo, control, row, stored, waiting, board, board_item, changed, common_items, control_item, control_items, control_word, each, hi_lo_items, items, latch_items, link_items, linked_items, outcome_items, places_items, processor_items, register_item, register_items, row_item, row_items, shared_items, shown_registers, start_item, start_items, state_items, stored_items, unlinked_by, unlinked_item, waiting_items}
 use Rattle.m161_trace.specs.Law.{Has, Without, high_at, link_of, low_at}
-use Rattle.m161_trace.proofs.Members.{Every, every_append, every_changed, every_listed, every_none, every_one, has_each, has_left, has_listed, has_right, unchanged}
+use Rattle.m161_trace.proofs.Members.{has_each, has_left, has_listed, has_right, unchanged}
 
 -- What the items of a Step show, and what has no item.
 

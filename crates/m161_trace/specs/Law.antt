@@ -1,5 +1,4 @@
 use Rattle.std.specs.Prelude.{◌≡◌, ◌≢◌, ◌⊎◌, ℕ, ◌<◌, ◌≤◌, true, List, [], ◌∷◌, length, slice_index, slice_index_or, Option, None, Some, Ok}
-use Rattle.m161_isa.specs.Bits.{has_bit}
 use Rattle.m161_tlb.specs.Row.{hi_word, lo_word}
 use Rattle.m161_tlb.specs.Rows.{blank_row}
 use Rattle.m161_cop0.specs.declared.register.Register.{Register}
@@ -7,7 +6,6 @@ use Rattle.m161_bus.specs.declared.register.BoardWord.{BoardWord}
 use Rattle.m161_bus.specs.Board.{IsShown, shown_word, start_words}
 use Rattle.m161_cpu.specs.declared.processor.Outcome.{Outcome}
 use Rattle.m161_cpu.specs.declared.processor.Outcome.TheVariants as outcomes
-use Rattle.m161_cpu.specs.declared.processor.ProcessorState.{ProcessorState}
 use Rattle.m161_cpu.specs.Processor.{Processor, started_processor}
 use Rattle.m161_machine.specs.declared.event.Event.TheVariants.{Step}
 use Rattle.m161_machine.specs.State.{State, next, processor_at, word_in}

@@ -1,4 +1,4 @@
-use Rattle.std.specs.Prelude.{◌≡◌, ℕ, ◌+◌, ◌%◌, ◌<◌, ◌≤◌, Bool, false, not, nat_lt, ◌==◌, ◌&&◌, length, Option, None, Some}
+use Rattle.std.specs.Prelude.{◌≡◌, ◌+◌, ◌%◌, ◌<◌, ◌≤◌, Bool, false, not, nat_lt, ◌==◌, ◌&&◌, length, Option, None, Some}
 use Rattle.m161_ram.specs.Word.{word_at}
 use Rattle.m161_tlb.specs.Row.{hi_word, lo_word}
 use Rattle.m161_cpu.specs.declared.processor.Outcome.{Outcome}

@@ -1,4 +1,4 @@
-use Rattle.std.proofs.Common.{◌≡◌, ◌∙◌, ◌++◌, ◌∷◌, [], ap, arith, length, rules, sym}
+use Rattle.std.proofs.Common.{◌∙◌, ◌++◌, ◌∷◌, [], ap, arith, length, sym}
 use Rattle.std.proofs.lemmas.List.{length_push}
 use Rattle.m161_debug.proofs.Repeating.{all_kept, kept_more, none_kept}
 use Rattle.m161_debug.proofs.jump.events_from.Goals as goal

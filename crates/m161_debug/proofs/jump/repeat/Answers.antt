@@ -1,6 +1,5 @@
-use Rattle.std.proofs.Common.{arith, subst, ap, take}
+use Rattle.std.proofs.Common.{arith}
 use Rattle.m161_machine.proofs.Continuing.{continues_none}
-use Rattle.m161_machine.specs.History.{Continues, events_of}
 use Rattle.m161_debug.proofs.Repeating.{repeats_on}
 use Rattle.m161_debug.proofs.jump.repeat.Goals as goal
 

@@ -1,4 +1,3 @@
-use Rattle.std.proofs.Common.{◌∷◌, [], refl}
 use Rattle.m161_debug.proofs.Repeating.{event_made, event_repeats, run_of_one}
 use Rattle.m161_debug.proofs.jump.repeat_event.Goals as goal
 

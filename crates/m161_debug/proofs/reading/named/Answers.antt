@@ -1,4 +1,4 @@
-use Rattle.std.proofs.Common.{◌∙◌, sym}
+use Rattle.std.proofs.Common.{sym}
 use Rattle.m161_debug.proofs.Names.{named_behind, named_by_symbol}
 use Rattle.m161_debug.proofs.reading.named.Goals as goal
 

@@ -1,4 +1,4 @@
-use Rattle.std.proofs.Common.{◌≡◌, ◌⊎◌, ◌∙◌, sym, ap, subst, ℕ, Bool, true, false, Option}
+use Rattle.std.proofs.Common.{◌≡◌, ◌⊎◌, ap, subst, ℕ, true, false, Option}
 use Rattle.std.specs.Prelude.{is_some}
 use Rattle.m161_cpu.specs.Fetch.{fetched_word}
 use Rattle.m161_cpu.specs.declared.uses.Uses.{Uses}

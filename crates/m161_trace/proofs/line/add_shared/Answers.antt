@@ -1,4 +1,4 @@
-use Rattle.std.proofs.Common.{◌≡◌, ap, ◌∙◌, ◌++◌, string_bytes}
+use Rattle.std.proofs.Common.{ap, ◌∙◌, ◌++◌, string_bytes}
 use Rattle.m161_trace.specs.Items.{stored_items}
 use Rattle.m161_trace.specs.Line.{spaced}
 use Rattle.m161_trace.proofs.Spaced.{both, both_ok}

@@ -1,4 +1,4 @@
-use Rattle.std.proofs.Common.{◌≡◌, ◌∙◌}
+use Rattle.std.proofs.Common.{◌∙◌}
 use Rattle.m161_trace.specs.Items.{items}
 use Rattle.m161_trace.specs.Line.{step_line}
 use Rattle.m161_trace.proofs.Near.{alike}

@@ -1,9 +1,9 @@
-use Rattle.std.proofs.Common.{◌≡◌, ◌∙◌, ◌-◌, ◌++◌, ℕ, List, ap, arith, string_bytes}
+use Rattle.std.proofs.Common.{◌≡◌, ◌∙◌, ◌++◌, ℕ, List, ap, arith, string_bytes}
 use Rattle.m161_bus.specs.declared.register.BoardWord.TheVariants as words
 use Rattle.m161_trace.specs.Items.{board_item, each}
 use Rattle.m161_trace.specs.Items.{Item}
 use Rattle.m161_trace.specs.Line.{spaced}
-use Rattle.m161_trace.proofs.Spaced.{each_more, each_next, grown, spaced_none}
+use Rattle.m161_trace.proofs.Spaced.{each_more, grown, spaced_none}
 use Rattle.m161_trace.proofs.places.add_raised.Goals as goal
 
 pub loop-c-init : goal.loop-c-init

@@ -3,7 +3,7 @@ use Rattle.m161_machine.specs.State.{processor_at}
 use Rattle.m161_trace.specs.Items.{each, register_item, register_items}
 use Rattle.m161_trace.specs.Items.{Item}
 use Rattle.m161_trace.specs.Line.{spaced}
-use Rattle.m161_trace.proofs.Spaced.{each_more, each_next, grown, spaced_none}
+use Rattle.m161_trace.proofs.Spaced.{each_next, grown, spaced_none}
 use Rattle.m161_trace.proofs.processor.add_registers.Goals as goal
 
 pub loop-r-init : goal.loop-r-init

@@ -1,9 +1,9 @@
-use Rattle.std.proofs.Common.{◌≡◌, ◌∙◌, ◌-◌, ◌++◌, ℕ, List, ap, arith, string_bytes}
+use Rattle.std.proofs.Common.{◌≡◌, ◌∙◌, ◌++◌, ℕ, List, ap, arith, string_bytes}
 use Rattle.m161_machine.specs.State.{processor_at}
 use Rattle.m161_trace.specs.Items.{each, row_item, row_items}
 use Rattle.m161_trace.specs.Items.{Item}
 use Rattle.m161_trace.specs.Line.{spaced}
-use Rattle.m161_trace.proofs.Spaced.{each_more, each_next, grown, spaced_none}
+use Rattle.m161_trace.proofs.Spaced.{each_more, grown, spaced_none}
 use Rattle.m161_trace.proofs.processor.add_rows.Goals as goal
 
 pub loop-i-init : goal.loop-i-init

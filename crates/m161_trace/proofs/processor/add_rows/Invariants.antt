@@ -1,4 +1,4 @@
-use Rattle.std.proofs.Common.{◌≡◌, ◌++◌, ◌-◌, string_bytes}
+use Rattle.std.proofs.Common.{◌≡◌, ◌++◌, string_bytes}
 use Rattle.m161_machine.specs.State.{processor_at}
 use Rattle.m161_trace.specs.Line.{spaced}
 use Rattle.m161_trace.specs.Items.{each, row_item}

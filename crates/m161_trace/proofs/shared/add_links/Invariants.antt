@@ -1,5 +1,4 @@
-use Rattle.std.proofs.Common.{◌≡◌, ◌++◌, ◌-◌, string_bytes}
-use Rattle.m161_machine.specs.State.{processor_at}
+use Rattle.std.proofs.Common.{◌≡◌, ◌++◌, string_bytes}
 use Rattle.m161_trace.specs.Line.{spaced}
 use Rattle.std.specs.Prelude.{None, slice_index_or}
 use Rattle.m161_trace.specs.Items.{each, linked_items, unlinked_item}

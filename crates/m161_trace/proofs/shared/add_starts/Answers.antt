@@ -1,8 +1,8 @@
-use Rattle.std.proofs.Common.{◌≡◌, ◌∙◌, ◌-◌, ◌++◌, ℕ, List, ap, arith, string_bytes}
+use Rattle.std.proofs.Common.{◌≡◌, ◌∙◌, ◌++◌, ℕ, List, ap, arith, string_bytes}
 use Rattle.m161_trace.specs.Items.{each, start_item, start_items}
 use Rattle.m161_trace.specs.Items.{Item}
 use Rattle.m161_trace.specs.Line.{spaced}
-use Rattle.m161_trace.proofs.Spaced.{each_more, each_next, grown, spaced_none}
+use Rattle.m161_trace.proofs.Spaced.{each_more, grown, spaced_none}
 use Rattle.m161_trace.proofs.shared.add_starts.Goals as goal
 
 pub loop-q-init : goal.loop-q-init

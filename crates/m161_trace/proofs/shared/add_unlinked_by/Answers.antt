@@ -1,4 +1,4 @@
-use Rattle.m161_trace.proofs.Spaced.{one_ok, spaced_none}
+use Rattle.m161_trace.proofs.Spaced.{spaced_none}
 use Rattle.m161_trace.proofs.shared.add_unlinked_by.Goals as goal
 
 pub returns-in-None : goal.returns-in-None

@@ -1,4 +1,3 @@
-use Rattle.std.proofs.Common.{string_bytes}
 use Rattle.m161_trace.proofs.Spaced.{differs_ok, same}
 use Rattle.m161_trace.proofs.shared.add_waiting.Goals as goal
 

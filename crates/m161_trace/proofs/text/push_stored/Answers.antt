@@ -1,4 +1,4 @@
-use Rattle.std.proofs.Common.{◌∷◌, [], ◌++◌}
+use Rattle.std.proofs.Common.{◌∷◌, ◌++◌}
 use Rattle.std.specs.Prelude.{codes}
 use Rattle.m161_text.specs.Parts.{word_text}
 use Rattle.m161_trace.proofs.Spaced.{glued_ok}

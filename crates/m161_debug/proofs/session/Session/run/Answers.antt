@@ -1,11 +1,10 @@
 use Rattle.std.proofs.Common.{◌≡◌, ◌∙◌, ◌≤◌, ◌&&◌, ap, false, nat_lt, sym, true, subst, refl, length, arith, rules}
 use Rattle.m161_machine.specs.History.{History}
 use Rattle.m161_machine.proofs.Continuing.{continues_none}
-use Rattle.m161_debug.specs.helpers.Conditions.{holds_if}
 use Rattle.m161_debug.specs.Stops.{is_break}
 use Rattle.m161_debug.specs.helpers.Batch.{events_in}
 use Rattle.m161_debug.specs.helpers.Marks.{is_met, mark_of, IsMark}
-use Rattle.m161_debug.proofs.Going.{breaks, ends, goes_on, made_more, refused, switches_off, waits_no_more, IsAt, Passes}
+use Rattle.m161_debug.proofs.Going.{breaks, goes_on, made_more, refused, switches_off, waits_no_more, IsAt, Passes}
 use Rattle.m161_debug.proofs.Marking.{found_by, stays_mark}
 use Rattle.m161_debug.proofs.session.Session.run.Goals as goal
 use Rattle.m161_debug.proofs.session.Session.run.Goals.{else-k-gt0-via-then-k-gt0+else-is_at_break, else-k-gt0-via-else-k-gt0}
