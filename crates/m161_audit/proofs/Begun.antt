@@ -1,4 +1,4 @@
-use Rattle.std.proofs.Common.{◌≡◌, ◌∙◌, ap, sym, ℕ, List, [], map, Option, None, Some, Result, Ok, Err}
+use Rattle.std.proofs.Common.{◌≡◌, ◌∙◌, ap, refl, sym, ℕ, List, [], map, Option, None, Some, Result, Ok, Err}
 use Rattle.m161_machine.specs.declared.conf.Conf.{Conf}
 use Rattle.m161_machine.specs.declared.conf.BootError.{BootError}
 use Rattle.m161_machine.specs.declared.conf.BootError.TheVariants.{NoMemory}
@@ -12,7 +12,7 @@ use Rattle.m161_audit.specs.declared.finding.AuditError.TheVariants.{Boot, BadWa
 use Rattle.m161_audit.specs.declared.finding.Finding.{Finding}
 use Rattle.m161_audit.specs.declared.shootdown.Shootdown.{Shootdown}
 use Rattle.m161_audit.specs.declared.watch.Watch.{Watch}
-use Rattle.m161_audit.specs.Audit.{Audits, AuditsBooted}
+use Rattle.m161_audit.specs.Audit.{Audits, AuditsBooted, AuditsState}
 use Rattle.m161_audit.specs.Watch.{AreGood}
 use Rattle.m161_audit.specs.helpers.Progress.{tracked}
 use Rattle.m161_audit.specs.helpers.Run.{Begins, BeginsBooted, FindsIn, IsAt}
@@ -84,3 +84,13 @@ pub no_memory : (file : List ℕ) (conf : Conf) (fault : Option BootError) (even
 no_memory file conf (Some first) events watches core items e h is =
     absurd (let bad : ◌≡◌ {A = Result (CoreValue × List Shootdown) AuditError} (Ok (core, items)) (Err (Boot first)) = h in cc)
 no_memory file conf None events watches core items e h is = refused file conf events watches e is
+
+-- the audit from any state
+pub audits_state : (s : State) (events : List Event) (watches : List Watch) (items : List Shootdown) (r : Result Finding AuditError) → ((k : ℕ) → AreGood s.conf.ram watches k) → items ≡ tracked watches [] →
+    ((ws : List Watch) (x : StoreState) → IsAt ws x s items → FindsIn ws x events r) → AuditsState s events watches r
+audits_state s events watches items (Ok finding) good is finds =
+    (good, finds watches (without_stores s) (at_boot watches s s items refl is))
+audits_state s events watches items (Err (Boot e)) good is finds =
+    boot_is e (finds watches (without_stores s) (at_boot watches s s items refl is))
+audits_state s events watches items (Err (BadWatch k)) good is finds =
+    absurd (let bad : BadWatch k ≡ Boot NoMemory = finds watches (without_stores s) (at_boot watches s s items refl is) in cc)

@@ -10,7 +10,7 @@ use Rattle.m161_drive.specs.declared.run.Stop.{Stop}
 use Rattle.m161_drive.specs.declared.run.Stop.TheVariants.{Off, End, Stuck, Refused}
 use Rattle.m161_drive.specs.Policy.{Rules}
 use Rattle.m161_drive.specs.Choice.{cursor_at}
-use Rattle.m161_drive.specs.Drive.{Chooses, Drives, DrivesState, Goes, Stops}
+use Rattle.m161_drive.specs.Drive.{BeginsRun, Chooses, Drives, DrivesState, Goes, Stops}
 use Rattle.m161_drive.specs.helpers.Drive.{Makes, Rests, TurnState, last_stop}
 
 -- Driven runs.
@@ -85,6 +85,13 @@ drives_state_more rules s made c d t u es fs so_far turn =
       made_is = length-append es (turn.0 ∷ []) ∙ ap (λ n. n + 1) so_far.made_is;
       chosen_are = chooses_more rules es turn.0 (cursor_at rules s) c d s t u so_far.chosen_are turn.1;
     })
+
+-- the run up to here, if it goes no further
+pub begun_state : (rules : Rules) (n made : ℕ) (s t u : State) (c : Cursor) (es : List Event) → made < n →
+    DrivingState rules s made c t es → u ≡ t → BeginsRun rules n s u
+begun_state rules n made s t u c es less so_far same =
+    subst (λ x. BeginsRun rules n s x) (sym same)
+    (es, c, (let long = so_far.made_is in omega (arith, long, less)), so_far.chosen_are)
 
 pub stopped_state : (rules : Rules) (n made : ℕ) (stop : Stop) (s t u : State) (c : Cursor) (es fs : List Event) → made ≤ n →
     DrivingState rules s made c t es → Stops rules n made c t stop → u ≡ t → fs ≡ es →

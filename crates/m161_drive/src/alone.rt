@@ -1,7 +1,7 @@
 //! Driven runs on a state alone, which keeps no log: their events are written down as they are made.
 
-ghost use Rattle.std.specs.Prelude.{◌≡◌, IfOk};
-ghost use Rattle.m161_drive.specs.Drive.{DrivesState};
+ghost use Rattle.std.specs.Prelude.{◌≡◌, IfOk, OnErr};
+ghost use Rattle.m161_drive.specs.Drive.{BeginsRun, DrivesState};
 ghost use Rattle.m161_drive.specs.helpers.Drive.{IsMade, TurnState, last_stop};
 
 use crate::cursor::Cursor;
@@ -47,7 +47,8 @@ fn make<T: Tlb, D: Console>(core: &mut Core<T, D>, event: Event) -> Option<Refus
     make_any(core, event)
 }
 
-// Makes the next event and writes it down, or says why there is none.
+// Makes the next event and writes it down, or says why there is none. Room for it is made first, so
+// that an event is made only if it can be written down.
 #[inline(always)]
 fn drive_once<T: Tlb, D: Console>(
     core: &mut Core<T, D>,
@@ -55,12 +56,14 @@ fn drive_once<T: Tlb, D: Console>(
     cursor: &mut Cursor,
     events: &mut Vec<Event>,
 ) -> Result<Option<Stop>, AllocError>
-    ensures { IfOk result (λ stop. TurnState policy.now cursor.old core.old.state events.old.items
+    ensures turn { IfOk result (λ stop. TurnState policy.now cursor.old core.old.state events.old.items
         stop cursor.new core.new.state events.new.items) }
+    ensures err { OnErr result (core.new.state ≡ core.old.state) }
 {
     if core.is_off() {
         return Ok(Some(Stop::Off));
     }
+    events.reserve(1)?;
     let Some(event) = cursor.choose(policy, core) else {
         return Ok(Some(Stop::Stuck));
     };
@@ -68,7 +71,7 @@ fn drive_once<T: Tlb, D: Console>(
         return Ok(Some(Stop::Refused(refusal)));
     }
     cursor.took(event, core);
-    events.push(event)?;
+    events.push_reserved(event);
     Ok(None)
 }
 
@@ -76,16 +79,17 @@ fn drive_once<T: Tlb, D: Console>(
 /// them.
 ///
 /// # Errors
-/// Memory was refused for the list of the events. At an event `Done` it may also be refused for the
-/// console, which is a `Stop`.
+/// Memory was refused for the list of the events; those that were made are a beginning of the run. At
+/// an event `Done` it may also be refused for the console, which is a `Stop`.
 pub fn drive_core<T: Tlb, D: Console>(
     alloc: Global,
     core: &mut Core<T, D>,
     policy: &Policy,
     n: u64,
 ) -> Result<DrivenEvents, AllocError>
-    ensures { IfOk result (λ run.
+    ensures run { IfOk result (λ run.
         DrivesState policy.now n core.old.state run.driven run.events.items core.new.state) }
+    ensures err { OnErr result (BeginsRun policy.now n core.old.state core.new.state) }
 {
     let mut cursor = Cursor::new(policy, core);
     let mut events = Vec::new(alloc);

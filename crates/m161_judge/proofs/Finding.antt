@@ -132,6 +132,14 @@ pub state_unbooted : (file : List ℕ) (conf : Conf) (fault : Option BootError) 
 state_unbooted file conf (Some first) error h = ap Boot h
 state_unbooted file conf None error h = ap Boot h
 
+-- the finding from a machine's state at boot, by the goal's watches
+pub found_at_boot : (file : List ℕ) (conf : Conf) (fault : Option BootError) (events : List Event) (goal : Criteria) (watches : List Watch) (m : History) (s : State)
+    (result : Result Finding AuditError) →
+    Boots file conf fault (Ok m) → s ≡ m.state → watches ≡ goal.watches → AuditsState s events watches result → FindsStale file conf fault events goal.watches result
+found_at_boot file conf fault events goal watches m s result boots is same h =
+    subst (λ ws. FindsStale file conf fault events ws result) same
+    (finds file conf fault s events watches result (state_boots file conf fault m s boots is) h)
+
 pub run_unmade : (file : List ℕ) (conf : Conf) (fault : Option BootError) (rules : Rules) (n : ℕ) (watches : List Watch) (output : Option (List ℕ)) (error : AuditError) →
     BootsRun file conf fault rules n output (Err error) → Runs file conf fault rules n (criteria watches output rules) (Err error)
 run_unmade file conf (Some first) rules n watches output error h = h

@@ -10,6 +10,7 @@ use Rattle.s161_command.specs.declared.drive.Clash.{Clash}
 use Rattle.s161_command.specs.declared.drive.OrderUse.{OrderUse}
 use Rattle.s161_command.specs.declared.drive.OrderUse.TheVariants.{Optional, Needed, Assumed, Seeded, OrFile}
 use Rattle.s161_command.specs.declared.task.AskedSize.{AskedSize}
+use Rattle.s161_command.specs.declared.task.AssemblyTask.{AssemblyTask}
 use Rattle.s161_command.specs.declared.task.ConsoleTask.{ConsoleTask}
 use Rattle.s161_command.specs.declared.task.DebugTask.{DebugTask}
 use Rattle.s161_command.specs.declared.task.DrivenTask.{DrivenTask}
@@ -136,11 +137,12 @@ schedule_line =
 -- the arguments of `trace`, without those of a driven run: an image and options
 abbrev pub plain_trace_line : App
 plain_trace_line =
-    with_rule (with_rule (with_rule
+    with_rule (with_rule (with_rule (with_rule
     (with_size_rules (codes "65536") (on_image (codes "trace")))
     (long_rule (codes "from") 0 18_446_744_073_709_551_615))
     (long_rule (codes "count") 0 18_446_744_073_709_551_615))
-    (flag_rule (codes "names"))
+    (flag_rule (codes "names")))
+    (flag_rule (codes "symbols"))
 
 -- the arguments of `trace`; a driven run has at most as many events as any run
 abbrev pub trace_line : App
@@ -163,9 +165,10 @@ optional_file_rule name = record (new_rule name) { value_names = 1 }
 -- the arguments of `debug`, without those of a driven run: an image, a file and options
 abbrev pub plain_debug_line : App
 plain_debug_line =
-    with_rule (with_asked_size_rules (codes "1048576")
+    with_rule (with_rule (with_asked_size_rules (codes "1048576")
     (with_rule (on_image (codes "debug")) (optional_file_rule (codes "file"))))
-    (text_rule (codes "link"))
+    (text_rule (codes "link")))
+    (flag_rule (codes "symbols"))
 
 -- the arguments of `debug`; its list of events has at most 16,777,216
 abbrev pub debug_line : App
@@ -175,13 +178,15 @@ debug_line = with_pace_rules 16_777_216 (with_order_rules plain_debug_line)
 abbrev pub audit_line : App
 audit_line = files_line (codes "audit") (codes "watches") (codes "65536")
 
--- `as` has no arguments
+-- the argument of `as`: an option
 abbrev pub as_line : App
-as_line = new_app (codes "as")
+as_line = with_rule (new_app (codes "as")) (flag_rule (codes "symbols"))
 
--- the arguments of `dis`: an image and an option
+-- the arguments of `dis`: an image and options
 abbrev pub dis_line : App
-dis_line = with_rule (on_image (codes "dis")) (flag_rule (codes "names"))
+dis_line =
+    with_rule (with_rule (on_image (codes "dis")) (flag_rule (codes "names")))
+    (flag_rule (codes "symbols"))
 
 -- the program needs a command, and tells its version; `demo` has no arguments
 abbrev pub program_line : App
@@ -310,6 +315,7 @@ pub record AsksTrace (rows : List Row) (task : TraceTask) : Type 0 where
   pub count :
       IsLongNumberOf 18_446_744_073_709_551_615 (one_of (codes "count") rows) task.count
   pub registers : task.registers ≡ registers_of rows
+  pub symbols : task.symbols ≡ is_set (codes "symbols") rows
   pub drive : AsksDriveIf Optional rows task.drive
 
 -- the events of `debug` come from a file, or from a driven run if an order is given
@@ -324,11 +330,17 @@ pub record AsksDebug (rows : List Row) (task : DebugTask) : Type 0 where
   pub source : IsSource rows task.source
   pub size : IsAskedSize 1_048_576 rows task.size
   pub link : IsLinkIf (first_of (codes "link") rows) task.size.link
+  pub symbols : task.symbols ≡ is_set (codes "symbols") rows
 
 -- `dis` asks for this
 pub record AsksListing (rows : List Row) (task : ListingTask) : Type 0 where
   pub image : task.image.now ≡ given_of (codes "image") rows
   pub registers : task.registers ≡ registers_of rows
+  pub symbols : task.symbols ≡ is_set (codes "symbols") rows
+
+-- `as` asks for this
+pub record AsksAssembly (rows : List Row) (task : AssemblyTask) : Type 0 where
+  pub symbols : task.symbols ≡ is_set (codes "symbols") rows
 
 -- a command over an image and a text of this name asks for this; how many entries the log keeps has
 -- this default
@@ -369,7 +381,8 @@ IsTask command (Debug task) =
 IsTask command (Audit task) =
     IsSomeAnd command
     (λ given. (given.0 ≡ codes "audit") × AsksFiles (codes "watches") 65_536 given.1 task)
-IsTask command Assemble = IsSomeAnd command (λ given. given.0 ≡ codes "as")
+IsTask command (Assemble task) =
+    IsSomeAnd command (λ given. (given.0 ≡ codes "as") × AsksAssembly given.1 task)
 IsTask command (Disassemble task) =
     IsSomeAnd command (λ given. (given.0 ≡ codes "dis") × AsksListing given.1 task)
 

@@ -2,7 +2,7 @@
 
 ghost use Rattle.std.specs.Prelude.{◌≡◌, IfErr, IfOk, codes, false, true};
 ghost use Rattle.clap.specs.Words.{found_of, rows_of, subcommand_rows_of};
-ghost use Rattle.s161_command.specs.Commands.{AsksConsole, AsksDebug, AsksFiles, AsksListing, AsksReplay, AsksRun, AsksSchedule, AsksSearch, AsksTrace, ClashesIn, GoTogether, HasLimits, IsAskedSize, IsRunTask, IsSize, IsSource, IsTask, registers_of, shown_of};
+ghost use Rattle.s161_command.specs.Commands.{AsksAssembly, AsksConsole, AsksDebug, AsksFiles, AsksListing, AsksReplay, AsksRun, AsksSchedule, AsksSearch, AsksTrace, ClashesIn, GoTogether, HasLimits, IsAskedSize, IsRunTask, IsSize, IsSource, IsTask, registers_of, shown_of};
 ghost use Rattle.s161_command.specs.Drives.{AsksDrive, AsksDriveIf, Clashes, go_together, has_order};
 ghost use Rattle.s161_command.specs.Links.{RefusesLink};
 ghost use Rattle.s161_command.specs.declared.drive.OrderUse.TheVariants.{Assumed, Needed, Optional, OrFile, Seeded};
@@ -11,8 +11,9 @@ use crate::drive::{Clash, Drive, OrderUse, clash_of, drive_given, has_order};
 use crate::given::{file_given, is_set, long_given, number_given, number_if_given};
 use crate::link::{link_given, link_if_given};
 use crate::task::{
-    AskedSize, ConsoleTask, DebugTask, DrivenTask, FilesTask, ListingTask, Registers, ReplayTask,
-    RunTask, ScheduleTask, SearchTask, Shown, Size, Source, Task, ThreadsTask, TraceTask,
+    AskedSize, AssemblyTask, ConsoleTask, DebugTask, DrivenTask, FilesTask, ListingTask, Registers,
+    ReplayTask, RunTask, ScheduleTask, SearchTask, Shown, Size, Source, Task, ThreadsTask,
+    TraceTask,
 };
 use clap::ArgMatches;
 use m161_isa::LinkUnit;
@@ -233,6 +234,7 @@ fn task_of_trace<'a>(given: &ArgMatches<'a>) -> Result<TraceTask<'a>, Clash>
         from: long_given(given, "from", 0),
         count: long_given(given, "count", u64::MAX),
         registers: registers_given(given),
+        symbols: is_set(given, "symbols"),
         drive,
     })
 }
@@ -266,6 +268,7 @@ fn task_of_debug<'a>(given: &ArgMatches<'a>) -> Result<DebugTask<'a>, Clash>
         image: file_given(given, "image"),
         source,
         size: asked_size_given(given, 1_048_576, link),
+        symbols: is_set(given, "symbols"),
     })
 }
 
@@ -276,6 +279,16 @@ fn listing_task_of<'a>(given: &ArgMatches<'a>) -> ListingTask<'a>
     ListingTask {
         image: file_given(given, "image"),
         registers: registers_given(given),
+        symbols: is_set(given, "symbols"),
+    }
+}
+
+// The arguments of `as`.
+fn assembly_task_of<'a>(given: &ArgMatches<'a>) -> AssemblyTask
+    ensures { AsksAssembly (rows_of (found_of given.now)) result }
+{
+    AssemblyTask {
+        symbols: is_set(given, "symbols"),
     }
 }
 
@@ -310,7 +323,7 @@ pub(crate) fn task_of<'a>(matches: &ArgMatches<'a>) -> Result<Task<'a>, Clash>
         Some(("replay", given)) => Ok(Task::Replay(replay_task_of(given))),
         Some(("debug", given)) => Ok(Task::Debug(task_of_debug(given)?)),
         Some(("audit", given)) => Ok(Task::Audit(files_task_of(given, "watches", 65_536)?)),
-        Some(("as", _)) => Ok(Task::Assemble),
+        Some(("as", given)) => Ok(Task::Assemble(assembly_task_of(given))),
         Some(("dis", given)) => Ok(Task::Disassemble(listing_task_of(given))),
         Some(_) => Ok(Task::Demo),
         None => Ok(Task::Demo),

@@ -26,6 +26,9 @@ use std::convert::AsStr;
 // The help of `--names`.
 const NAMES_HELP: &str = "Shows registers of instructions by their names: $t0 for $8";
 
+// The help of `--symbols`, where it isn't that of `as`.
+const SYMBOLS_HELP: &str = "Shows names of addresses, from the image's symbol table";
+
 // The help of `--log`.
 const LOG_HELP: &str = "Entries that the log keeps, the last ones, 1 to 16777216";
 
@@ -249,7 +252,8 @@ fn plain_trace_definition<'a>(alloc: Global) -> Result<Command<'a>, AllocError>
     with_size(alloc, trace, "65536")?
         .arg(optional_long(alloc, "from", "K", from_help, 0, u64::MAX))?
         .arg(optional_long(alloc, "count", "N", count_help, 0, u64::MAX))?
-        .arg(flag_option(alloc, "names", NAMES_HELP))
+        .arg(flag_option(alloc, "names", NAMES_HELP))?
+        .arg(flag_option(alloc, "symbols", SYMBOLS_HELP))
 }
 
 // The definition of `trace`.
@@ -295,7 +299,9 @@ fn plain_debug_definition<'a>(alloc: Global) -> Result<Command<'a>, AllocError>
     let debug = debug
         .arg(file_argument(alloc, "image", "IMAGE", IMAGE_HELP))?
         .arg(optional_file(alloc, "file", "FILE", file_help))?;
-    with_asked_size(alloc, debug, "1048576")?.arg(asked_link_option(alloc))
+    with_asked_size(alloc, debug, "1048576")?
+        .arg(asked_link_option(alloc))?
+        .arg(flag_option(alloc, "symbols", SYMBOLS_HELP))
 }
 
 // The definition of `debug`.
@@ -320,13 +326,15 @@ fn audit_definition<'a>(alloc: Global) -> Result<Command<'a>, AllocError>
 }
 
 // The definition of `as`.
-fn as_definition<'a>(alloc: Global) -> Command<'a>
-    ensures shape { app_of result ≡ as_line }
-    ensures local { IsLocal result }
+fn as_definition<'a>(alloc: Global) -> Result<Command<'a>, AllocError>
+    ensures shape { IfOk result (λ command. app_of command ≡ as_line) }
+    ensures local { IfOk result IsLocal }
 {
+    let symbols_help = "Writes the labels as a symbol table too";
     Command::new(alloc, "as")
         .about("Assembles a text to an ELF file")
         .after_help(AFTER_AS_HELP)
+        .arg(flag_option(alloc, "symbols", symbols_help))
 }
 
 // The definition of `dis`.
@@ -338,7 +346,8 @@ fn dis_definition<'a>(alloc: Global) -> Result<Command<'a>, AllocError>
         .about("Prints the instructions of an image")
         .after_help(AFTER_DIS_HELP)
         .arg(file_argument(alloc, "image", "IMAGE", IMAGE_HELP))?
-        .arg(flag_option(alloc, "names", NAMES_HELP))
+        .arg(flag_option(alloc, "names", NAMES_HELP))?
+        .arg(flag_option(alloc, "symbols", SYMBOLS_HELP))
 }
 
 // The program with its demo, before the other commands.
@@ -429,7 +438,8 @@ fn with_audit<'a>(alloc: Global, program: Command<'a>) -> Result<Command<'a>, Al
 fn with_as<'a>(alloc: Global, program: Command<'a>) -> Result<Command<'a>, AllocError>
     ensures { IfOk result (λ more. app_of more ≡ with_subcommand (app_of program.entry) as_line.top) }
 {
-    program.subcommand(as_definition(alloc))
+    let assembler = as_definition(alloc)?;
+    program.subcommand(assembler)
 }
 
 // A program with `dis` added.

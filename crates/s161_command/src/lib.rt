@@ -13,7 +13,7 @@ pub use command::parse;
 pub use drive::{Clash, Drive, OrderUse};
 pub use m161_order::{Order, OrderError};
 pub use task::{
-    AskedSize, ConsoleTask, DebugTask, DrivenTask, FilesTask, ListingTask, Registers, Rejection,
-    ReplayTask, RunTask, ScheduleTask, SearchTask, Shown, Size, Source, Task, ThreadsTask,
-    TraceTask,
+    AskedSize, AssemblyTask, ConsoleTask, DebugTask, DrivenTask, FilesTask, ListingTask, Registers,
+    Rejection, ReplayTask, RunTask, ScheduleTask, SearchTask, Shown, Size, Source, Task,
+    ThreadsTask, TraceTask,
 };

@@ -30,7 +30,7 @@ pub enum Task<'a> {
     /// Look for stale uses of an image's run under a schedule, by the watches of a text.
     Audit(FilesTask<'a>),
     /// Assemble a text into its file.
-    Assemble,
+    Assemble(AssemblyTask),
     /// List the instructions of an image.
     Disassemble(ListingTask<'a>),
 }
@@ -153,6 +153,8 @@ pub struct TraceTask<'a> {
     pub count: u64,
     /// How registers are shown.
     pub registers: Registers,
+    /// Whether addresses are shown by the names of the image's symbol table.
+    pub symbols: bool,
     /// What the driven run is asked for; without it a schedule is read.
     pub drive: Option<Drive<'a>>,
 }
@@ -175,6 +177,15 @@ pub struct DebugTask<'a> {
     pub source: Source<'a>,
     /// The machine's size.
     pub size: AskedSize,
+    /// Whether addresses are shown by the names of the image's symbol table.
+    pub symbols: bool,
+}
+
+/// The arguments of `as`.
+#[derive(Clone, Copy)]
+pub struct AssemblyTask {
+    /// Whether the file has a table of the labels.
+    pub symbols: bool,
 }
 
 /// The arguments of `dis`.
@@ -184,6 +195,8 @@ pub struct ListingTask<'a> {
     pub image: &'a str,
     /// How registers are shown.
     pub registers: Registers,
+    /// Whether addresses are shown by the names of the image's symbol table.
+    pub symbols: bool,
 }
 
 /// The size of the machine that `replay` or `debug` asks for.

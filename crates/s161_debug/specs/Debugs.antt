@@ -6,12 +6,14 @@ use Rattle.m161_machine.specs.declared.event.Entry.{Entry}
 use Rattle.m161_machine.specs.declared.event.Event.{Event}
 use Rattle.m161_machine.specs.Conf.{is_within_limits}
 use Rattle.m161_machine.specs.History.{History, boot_fault, events_of}
+use Rattle.m161_dis.specs.declared.naming.Style.{Style}
 use Rattle.m161_text.specs.Lines.{FirstBad, lines_of}
 use Rattle.m161_steplog.specs.Comments.{IsFirstBadOfLog, is_comment}
 use Rattle.m161_steplog.specs.Schedule.{AreScheduleLines, IsSchedule}
 use Rattle.s161_command.specs.declared.drive.Drive.{Drive}
 use Rattle.s161_command.specs.declared.task.AskedSize.{AskedSize}
 use Rattle.s161_command.specs.declared.task.DebugTask.{DebugTask}
+use Rattle.s161_command.specs.declared.task.Registers.TheVariants.{Numbered}
 use Rattle.s161_command.specs.declared.task.Source.{Source}
 use Rattle.s161_command.specs.declared.task.Source.TheVariants as source
 use Rattle.s161_base.specs.declared.fault.Fault.{Fault}
@@ -20,6 +22,7 @@ use Rattle.s161_base.specs.Faults.{BootsTo}
 use Rattle.s161_base.specs.Known.{OfKnown, OfText}
 use Rattle.s161_base.specs.declared.machines.LoggedMachine.{LoggedMachine}
 use Rattle.s161_base.specs.Machines.{IsLogOf, asked_conf, machine_fault}
+use Rattle.s161_base.specs.Naming.{style_of}
 use Rattle.s161_base.specs.Reading.{IsFileUnread, IsOfBytes, IsOfText}
 use Rattle.s161_base.specs.Samples.{IsFileName}
 use Rattle.s161_base.specs.Streams.{AreUntouched, Streams}
@@ -83,14 +86,15 @@ pub record IsOpened
   pub is_that : machine_fault size file logged ≡ None
   pub boots : BootsTo file (asked_conf size logged) booted
 
--- the session of a task: its image's file was booted; the files have these bytes, and that of the
--- image, as far as they are known
+-- the session of a task: its image's file was booted, whose symbols name addresses if that is asked
+-- for; the files have these bytes, and that of the image, as far as they are known
 pub record Opens
     (task : DebugTask) (files : List ℕ → Option (List ℕ)) (image : Option (List ℕ))
-    (booted : History) (events : List Event) : Type 0 where
+    (booted : History) (events : List Event) (style : Style) : Type 0 where
   pub file : List ℕ
   pub is_file : IfSome image (λ bytes. file ≡ bytes)
   pub opened : IsOpened task.source task.size files file booted events
+  pub style_is : style ≡ style_of Numbered task.symbols file
 
 -- a finished session
 pub record IsDebug
@@ -98,8 +102,9 @@ pub record IsDebug
     : Type 0 where
   pub booted : History
   pub events : List Event
-  pub opens : Opens task files image booted events
-  pub ends : Ends (session_of booted) events x
+  pub style : Style
+  pub opens : Opens task files image booted events style
+  pub ends : Ends (session_of booted style) events x
 
 -- a text lists no events, by its first bad line; or memory was refused
 abbrev pub IsListFault : List ℕ → Fault → Type 0
@@ -153,8 +158,8 @@ IsEarlyFault task files image fault =
 abbrev pub FailsInSession :
     DebugTask → (List ℕ → Option (List ℕ)) → Option (List ℕ) → Streams → Fault → Type 0
 FailsInSession task files image x fault =
-    (booted : History) × (events : List Event) × Opens task files image booted events
-    × Breaks (session_of booted) events x fault
+    (booted : History) × (events : List Event) × (style : Style)
+    × Opens task files image booted events style × Breaks (session_of booted style) events x fault
 
 -- a fault that ends the task: before the session, and the streams are untouched; or in it
 abbrev pub IsDebugFault :

@@ -6,6 +6,7 @@ use Rattle.m161_machine.specs.History.{History}
 use Rattle.m161_text.specs.Lines.{lines_of, text_of}
 use Rattle.m161_text.specs.Parts.{Lacks}
 use Rattle.m161_debug.specs.Breakpoints.{SessionState}
+use Rattle.m161_dis.specs.declared.naming.Style.{Style}
 use Rattle.s161_base.specs.declared.fault.Fault.{Fault}
 use Rattle.s161_base.specs.declared.fault.Fault.TheVariants.{Input, Memory, Output}
 use Rattle.s161_base.specs.declared.fault.Unread.TheVariants.{Failed, NotUtf8, TooLong}
@@ -15,9 +16,9 @@ use Rattle.s161_debug.specs.Lines.{DoesLines}
 
 -- How a session ends, which reads its lines and writes what they print.
 
--- a session of a machine, without breakpoints
-abbrev pub session_of : History → SessionState
-session_of m = record { machine = m; breakpoints = [] }
+-- a session of a machine in this style, without breakpoints
+abbrev pub session_of : History → Style → SessionState
+session_of m style = record { machine = m; breakpoints = []; style = style }
 
 -- the session goes on after a line, which is UTF-8: it isn't `quit`
 abbrev pub IsPassed : List ℕ → Type 0

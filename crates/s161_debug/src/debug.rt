@@ -21,8 +21,8 @@ use std::io::{Read, Write};
 /// line is `quit`. What a line prints is written and flushed before a byte of the next one is read.
 ///
 /// The events are those of a log, where the file's first line that is no comment begins with
-/// `m161 `; else of a schedule. The machine is the one that a log names in its machine line, as far
-/// as its size isn't given.
+/// `m161 `; else of a schedule. The machine is the one that a log names: in its machine line, as far
+/// as its size isn't given, and in its first line the unit of links.
 ///
 /// # Errors
 /// The first fault. What was written stays.
@@ -46,7 +46,7 @@ pub fn debug<'a, F: FileSource, I: Read, O: Write>(
         (O.contents output.new))) }
 {
     let opened = open(alloc, files, task)?;
-    let session = Session::new(opened.machine);
+    let session = Session::with_style(opened.machine, opened.style);
     let left = Left::new(opened.events);
     serve(alloc, session, left, input, output)
 }

@@ -13,24 +13,34 @@ ghost use Rattle.s161_debug.specs.Debugs.{driven_conf, first_plain, is_log, Chos
 ghost use Rattle.s161_debug.specs.helpers.Debugs.{IsBootFault};
 
 use m161::Machine;
+use m161_dis::Style;
 use m161_machine::{Conf, Event};
 use m161_text::next_line;
 use s161_base::fault::Fault;
 use s161_base::files::FileSource;
 use s161_base::input::read_text;
 use s161_base::machines::{LoggedMachine, asked_conf, machine_fault};
+use s161_base::naming::style_of;
 use s161_base::sample::read_image;
 use s161_base::texts::{events_of, log_of};
-use s161_command::{AskedSize, DebugTask, Drive, Source};
+use s161_command::{AskedSize, DebugTask, Drive, Registers, Source};
 use s161_drive::policy::read_keys;
 use s161_drive::schedule::{chosen_events, events_made, log_for};
 use std::alloc::Global;
 
-/// The machine of a session, and its events.
+/// The machine of a session, its events, and how it shows registers and addresses.
 #[derive(Drop)]
 pub(crate) struct Opened {
     pub(crate) machine: Machine,
     pub(crate) events: Vec<Event>,
+    pub(crate) style: Style,
+}
+
+// The machine of a session, and its events.
+#[derive(Drop)]
+struct Booted {
+    machine: Machine,
+    events: Vec<Event>,
 }
 
 // The events of a text, and what it says of its machine if it is a log.
@@ -41,7 +51,7 @@ struct Listed {
 }
 
 /// Reads the image and then the file of the events, or of the keys of the driven run that chooses
-/// them; makes the driven run on a machine of its own; and boots the image.
+/// them; makes the driven run on a machine of its own; boots the image; and reads its symbols.
 ///
 /// # Errors
 /// The first fault.
@@ -52,12 +62,20 @@ pub(crate) fn open<'a, F: FileSource>(
 ) -> Result<Opened, Fault<'a>>
     requires { HasSourceLimits task.source }
     ensures ok { IfOk result (λ opened. Opens task.entry (F.known files.old)
-        (image_file (F.known files.old) task.entry.image.now) opened.machine opened.events.items) }
+        (image_file (F.known files.old) task.entry.image.now) opened.machine opened.events.items
+        opened.style) }
     ensures fault { IfErr result (IsEarlyFault task.entry (F.known files.old)
         (image_file (F.known files.old) task.entry.image.now)) }
 {
     let file = read_image(alloc, files, task.image)?;
-    open_image(alloc, files, file.as_slice(), task.size, task.source)
+    let image = file.as_slice();
+    let booted = open_image(alloc, files, image, task.size, task.source)?;
+    let style = style_of(alloc, Registers::Numbered, task.symbols, image)?;
+    Ok(Opened {
+        machine: booted.machine,
+        events: booted.events,
+        style,
+    })
 }
 
 // Boots an image, with the events of a source.
@@ -67,7 +85,7 @@ fn open_image<'a, F: FileSource>(
     image: &[u8],
     size: AskedSize,
     source: Source<'a>,
-) -> Result<Opened, Fault<'a>>
+) -> Result<Booted, Fault<'a>>
     requires { HasSourceLimits source }
     ensures ok { IfOk result (λ opened. IsOpened source.entry size (F.known files.old) image.now
         opened.machine opened.events.items) }
@@ -87,7 +105,7 @@ fn open_file<'a, F: FileSource>(
     image: &[u8],
     size: AskedSize,
     name: &'a str,
-) -> Result<Opened, Fault<'a>>
+) -> Result<Booted, Fault<'a>>
     ensures ok { IfOk result (λ opened. IsOpened (sources.File name.entry) size (F.known files.old)
         image.now opened.machine opened.events.items) }
     ensures fault { IfErr result (λ fault. (fault ≡ Fault.Memory)
@@ -105,7 +123,7 @@ fn open_driven<'a, F: FileSource>(
     image: &[u8],
     size: AskedSize,
     drive: Drive<'a>,
-) -> Result<Opened, Fault<'a>>
+) -> Result<Booted, Fault<'a>>
     requires { order_fault drive.order ≡ None }
     ensures ok { IfOk result (λ opened. IsOpened (sources.Driven drive.entry) size
         (F.known files.old) image.now opened.machine opened.events.items) }
@@ -122,7 +140,7 @@ fn open_listed<'a>(
     image: &[u8],
     size: AskedSize,
     listed: Listed,
-) -> Result<Opened, Fault<'a>>
+) -> Result<Booted, Fault<'a>>
     ensures ok { IfOk result (λ opened. (machine_fault size image.now listed.logged ≡ None)
         × BootsTo image.now (asked_conf size listed.logged) opened.machine
         × (opened.events.items ≡ listed.events.items)) }
@@ -133,7 +151,7 @@ fn open_listed<'a>(
         return Err(fault);
     }
     let machine = boot(alloc, image, asked_conf(size, listed.logged))?;
-    Ok(Opened {
+    Ok(Booted {
         machine,
         events: listed.events,
     })
@@ -146,7 +164,7 @@ fn open_chosen<'a>(
     size: AskedSize,
     drive: Drive<'_>,
     keys: &[u8],
-) -> Result<Opened, Fault<'a>>
+) -> Result<Booted, Fault<'a>>
     requires { order_fault drive.order ≡ None }
     ensures ok { IfOk result (λ opened.
         ChoseFrom image.now size drive.entry keys.now opened.events.items
@@ -156,7 +174,7 @@ fn open_chosen<'a>(
 {
     let events = drive_events(alloc, image, size, drive, keys)?;
     let machine = boot(alloc, image, asked_conf(size, None))?;
-    Ok(Opened { machine, events })
+    Ok(Booted { machine, events })
 }
 
 // The events that the policy chooses, on a machine of its own.

@@ -5,7 +5,7 @@ use Rattle.std.specs.List.{range_with_len}
 use Rattle.std.proofs.lemmas.Bool.Decides.{nat_tests}
 use Rattle.std.proofs.lemmas.List.{flat_map_more}
 use Rattle.std.proofs.lemmas.List.FromFn.{map-range_with_len_more}
-use Rattle.m161_dis.specs.declared.naming.Naming.{Naming}
+use Rattle.m161_dis.specs.declared.naming.Style.{Style}
 use Rattle.m161_display.specs.Shows.{numbered_lines}
 use Rattle.m161_text.specs.Lines.{with_line_end, text_of}
 use Rattle.m161_elf.specs.declared.header.ProgramHeader.{ProgramHeader}
@@ -78,18 +78,18 @@ pub listed : (file : List ℕ) (first : Option LoadError) (found : Vec Span Glob
 listed file (Some e) found h = absurd h
 listed file None found h = h
 
-pub is_listing : (naming : Naming) (file text : List ℕ) (image : Image) (found : Vec Span Global) (memory : List ℕ) (spans : List Span)
+pub is_listing : (style : Style) (file text : List ℕ) (image : Image) (found : Vec Span Global) (memory : List ℕ) (spans : List Span)
     → Loads file dis_ram (first_fault file dis_ram) (Ok image) → Lists file (first_fault file dis_ram) (Ok found)
-    → memory ≡ image.bytes.items → spans ≡ found.items → text ≡ dis_text naming memory spans → IsListing naming file text
-is_listing naming file text image found memory spans loads lists same_memory same_spans is =
+    → memory ≡ image.bytes.items → spans ≡ found.items → text ≡ dis_text style memory spans → IsListing style file text
+is_listing style file text image found memory spans loads lists same_memory same_spans is =
     let good = loaded file dis_ram (first_fault file dis_ram) image loads in
     record {
       loads = good.0;
       memory = image.bytes.items;
       is_image = record { entry_is = refl; size_is = good.1.size_is; bytes_are = good.1.bytes_are };
       text_is =
-          is ∙ ap (λ bytes. dis_text naming bytes spans) same_memory
-          ∙ ap (dis_text naming image.bytes.items) (same_spans ∙ listed file (first_fault file dis_ram) found lists);
+          is ∙ ap (λ bytes. dis_text style bytes spans) same_memory
+          ∙ ap (dis_text style image.bytes.items) (same_spans ∙ listed file (first_fault file dis_ram) found lists);
     }
 
 pub found_in_ram : (file : List ℕ) (image : Image) (found : Vec Span Global) → Loads file dis_ram (first_fault file dis_ram) (Ok image)

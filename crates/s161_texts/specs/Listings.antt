@@ -3,13 +3,11 @@ use Rattle.m161_elf.specs.declared.span.Span.{Span}
 use Rattle.m161_elf.specs.Header.{e_entry}
 use Rattle.m161_elf.specs.Image.{IsImage, first_fault}
 use Rattle.m161_elf.specs.Span.{spans}
-use Rattle.m161_dis.specs.declared.naming.Naming.{Naming}
-use Rattle.m161_dis.specs.Canon.{canon_as}
-use Rattle.m161_display.specs.Shows.{code_word, numbered_lines}
+use Rattle.m161_dis.specs.declared.naming.Style.{Style}
+use Rattle.m161_display.specs.Shows.{code_word, listing_text, numbered_lines}
 use Rattle.m161_text.specs.Lines.{text_of}
-use Rattle.m161_text.specs.Parts.{◌␣◌, word_text}
 use Rattle.s161_command.specs.declared.task.ListingTask.{ListingTask}
-use Rattle.s161_base.specs.Naming.{naming_of}
+use Rattle.s161_base.specs.Naming.{style_of}
 use Rattle.s161_base.specs.declared.fault.Fault.{Fault}
 use Rattle.s161_base.specs.declared.fault.Fault.TheVariants.{Image, Memory}
 
@@ -23,40 +21,37 @@ aligned_up address = (address + 3) / 4 * 4
 abbrev pub whole_words : Span → ℕ
 whole_words span = (span.address + span.size - aligned_up span.address) / 4
 
--- a line has an address, its word, and the word's text
-abbrev pub listing_line : Naming → ℕ → ℕ → List ℕ
-listing_line naming at word = word_text at ␣ word_text word ␣ canon_as naming word at
-
-abbrev pub memory_line : Naming → List ℕ → ℕ → List ℕ
-memory_line naming memory at = listing_line naming at (code_word memory at)
+-- a line has an address with its place, its word, and the word's text
+abbrev pub memory_line : Style → List ℕ → ℕ → List ℕ
+memory_line style memory at = listing_text style at (code_word memory at)
 
 -- a line for each of them, as memory has it
-abbrev pub span_text : Naming → List ℕ → Span → List ℕ
-span_text naming memory span =
+abbrev pub span_text : Style → List ℕ → Span → List ℕ
+span_text style memory span =
     text_of
     (numbered_lines (whole_words span)
-    (λ i. memory_line naming memory (aligned_up span.address + 4 * i)))
+    (λ i. memory_line style memory (aligned_up span.address + 4 * i)))
 
-abbrev pub dis_text : Naming → List ℕ → List Span → List ℕ
-dis_text naming memory = flat_map (span_text naming memory)
+abbrev pub dis_text : Style → List ℕ → List Span → List ℕ
+dis_text style memory = flat_map (span_text style memory)
 
 -- the largest RAM, into which a file is loaded for its listing
 abbrev pub dis_ram : ℕ
 dis_ram = 16777216
 
 -- the text is the listing of a file without a fault
-pub record IsListing (naming : Naming) (file text : List ℕ) : Type 0 where
+pub record IsListing (style : Style) (file text : List ℕ) : Type 0 where
   pub loads : first_fault file dis_ram ≡ None
   pub memory : List ℕ
   pub is_image : IsImage file dis_ram (e_entry file) memory
-  pub text_is : text ≡ dis_text naming memory (spans file)
+  pub text_is : text ≡ dis_text style memory (spans file)
 
 -- an image, which has these bytes, as far as they are known, has this listing
 pub record IsDisassembled
     (task : ListingTask) (image : Option (List ℕ)) (text : List ℕ) : Type 0 where
   pub file : List ℕ
   pub is_file : IfSome image (λ bytes. file ≡ bytes)
-  pub is_listing : IsListing (naming_of task.registers) file text
+  pub is_listing : IsListing (style_of task.registers task.symbols file) file text
 
 -- a file has no listing: it has this first fault; or it has no fault, and memory was refused
 abbrev pub IsUnlisted : List ℕ → Fault → Type 0

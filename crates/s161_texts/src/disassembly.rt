@@ -3,18 +3,19 @@
 ghost use Rattle.std.specs.Prelude.{◌≡◌, ◌+◌, ◌<◌, ◌≤◌, ◌^◌, ◌++◌, true, length, string_bytes, IfErr, IfOk, OnOk};
 ghost use Rattle.m161_elf.specs.Image.{is_in_ram};
 ghost use Rattle.m161_ram.specs.Word.{word_at};
-ghost use Rattle.m161_display.specs.Shows.{code_word};
+ghost use Rattle.m161_display.specs.Shows.{code_word, listing_text};
 ghost use Rattle.m161_text.specs.Lines.{with_line_end};
-ghost use Rattle.s161_base.specs.Naming.{naming_of};
-ghost use Rattle.s161_texts.specs.Listings.{aligned_up, dis_text, listing_line, memory_line, span_text, IsListing, IsUnlisted};
+ghost use Rattle.s161_base.specs.Naming.{style_of};
+ghost use Rattle.s161_texts.specs.Listings.{aligned_up, dis_text, memory_line, span_text, IsListing, IsUnlisted};
 ghost use Rattle.s161_texts.specs.helpers.Listings.{AreInRam};
 
-use m161_dis::{Naming, push_line};
+use m161_dis::{Style, push_line_with};
 use m161_elf::{Span, load, loads};
 use m161_isa::unmapped;
-use m161_text::Word;
+use m161_symbols::push_place_behind;
+use m161_text::{Word, push_hex};
 use s161_base::fault::Fault;
-use s161_base::naming::naming_of;
+use s161_base::naming::style_of;
 use s161_command::Registers;
 use std::alloc::{AllocError, Global};
 use std::fmt::Write;
@@ -24,7 +25,8 @@ const RAM: u32 = 16_777_216;
 
 /// The listing of an ELF file: for each segment, in the order of the program headers, a line for
 /// each whole word of its part of the file, from its first multiple of 4 on. A line has the
-/// address, the word that loading leaves there, and its text.
+/// address, the word that loading leaves there, and its text; with symbols the places of the address
+/// and of a target stand behind them.
 ///
 /// # Errors
 /// The first fault of the file; or memory was refused.
@@ -32,48 +34,45 @@ pub fn disassembly<'a>(
     alloc: Global,
     file: &[u8],
     registers: Registers,
+    symbols: bool,
 ) -> Result<String, Fault<'a>>
-    ensures ok { IfOk result (λ text. IsListing (naming_of registers) file.now (string_bytes text)) }
+    ensures ok { IfOk result (λ text.
+        IsListing (style_of registers symbols file.now) file.now (string_bytes text)) }
     ensures fault { IfErr result (IsUnlisted file.now) }
 {
     let image = load(alloc, file, RAM)?;
     let spans = loads(alloc, file, RAM)?;
-    let naming = naming_of(registers);
-    Ok(listing(alloc, naming, &image.bytes, &spans)?)
+    let style = style_of(alloc, registers, symbols, file)?;
+    Ok(listing(alloc, &style, &image.bytes, &spans)?)
 }
 
 // The lines of spans.
 fn listing(
     alloc: Global,
-    naming: Naming,
+    style: &Style,
     memory: &[u8],
     spans: &[Span],
 ) -> Result<String, AllocError>
     requires { AreInRam (length memory.now) spans.now }
-    ensures { IfOk result (λ text. string_bytes text ≡ dis_text naming memory.now spans.now) }
+    ensures { IfOk result (λ text. string_bytes text ≡ dis_text style.now memory.now spans.now) }
 {
     let mut text = String::new(alloc);
     for span in spans {
-        write_span(&mut text, naming, memory, *span)?;
+        write_span(&mut text, style, memory, *span)?;
     }
     Ok(text)
 }
 
 // The lines of a span.
-fn write_span(
-    text: &mut String,
-    naming: Naming,
-    memory: &[u8],
-    span: Span,
-) -> Result<(), AllocError>
+fn write_span(text: &mut String, style: &Style, memory: &[u8], span: Span) -> Result<(), AllocError>
     requires { is_in_ram (length memory.now) span.address span.size ≡ true }
     ensures { OnOk result (string_bytes text.new
-        ≡ string_bytes text.old ++ span_text naming memory.now span) }
+        ≡ string_bytes text.old ++ span_text style.now memory.now span) }
 {
     let start = aligned_up(span.address);
     let words = (span.address + span.size).saturating_sub(start) / 4;
     for i in 0..words {
-        write_word(text, naming, memory, start + 4 * i)?;
+        write_word(text, style, memory, start + 4 * i)?;
     }
     Ok(())
 }
@@ -87,12 +86,12 @@ fn aligned_up(address: u32) -> u32
 }
 
 // The line of an address.
-fn write_word(text: &mut String, naming: Naming, memory: &[u8], at: u32) -> Result<(), AllocError>
+fn write_word(text: &mut String, style: &Style, memory: &[u8], at: u32) -> Result<(), AllocError>
     requires { is_in_ram (length memory.now) at 4 ≡ true }
     ensures { OnOk result (string_bytes text.new
-        ≡ string_bytes text.old ++ with_line_end (memory_line naming memory.now at)) }
+        ≡ string_bytes text.old ++ with_line_end (memory_line style.now memory.now at)) }
 {
-    write_code(text, naming, code_at(memory, at), at)
+    write_code(text, style, code_at(memory, at), at)
 }
 
 // The word at an address in kseg0 or kseg1.
@@ -115,11 +114,13 @@ fn word(memory: &[u8], at: usize) -> u32
 }
 
 // The line of a word at an address.
-fn write_code(text: &mut String, naming: Naming, word: u32, at: u32) -> Result<(), AllocError>
+fn write_code(text: &mut String, style: &Style, word: u32, at: u32) -> Result<(), AllocError>
     ensures { OnOk result (string_bytes text.new
-        ≡ string_bytes text.old ++ with_line_end (listing_line naming at word)) }
+        ≡ string_bytes text.old ++ with_line_end (listing_text style.now at word)) }
 {
-    write!(text, "{} {} ", Word(at), Word(word))?;
-    push_line(text, naming, word, at)?;
+    push_hex(text, 8, at)?;
+    push_place_behind(text, &style.symbols, at)?;
+    write!(text, " {} ", Word(word))?;
+    push_line_with(text, style, word, at)?;
     text.push_str("\n")
 }

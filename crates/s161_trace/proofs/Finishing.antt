@@ -77,8 +77,13 @@ pub not_booted : (task : TraceTask) (file : List ℕ) (IsSome : History → Hist
     FailsRun task file IsSome IsAll a a fault
 not_booted task file IsSome IsAll a e fault answer is = inl (record { error = e; answer = answer; fault_is = is; same = refl })
 
+pub without_window : (task : TraceTask) (file : List ℕ) (IsSome : History → History → List Event → Type 0)
+    (IsAll : History → History → List Event → Stop → Type 0) (a : Option (List ℕ)) (m : History) → BootsTo file (conf_of task.size) m →
+    FailsRun task file IsSome IsAll a a Memory
+without_window task file IsSome IsAll a m boots = inr (record { booted = m; boots = boots; machine = m; fails = inl (refl, refl) })
+
 module _ (task : TraceTask) (file : List ℕ) (a c : Option (List ℕ)) (m n : History) (boots : BootsTo file (conf_of task.size) m)
-    (w : Window) (is : w ≡ window_of task) where
+    (w : Window) (is : w ≡ window_of task file) where
   pub run_fails : (IsSome : History → History → List Event → Type 0) (IsAll : History → History → List Event → Stop → Type 0)
       (r : Result Stop Fault) → IfErr r (IsUnprinted w m.state (IsSome m n) (IsAll m n) a c) → IfErr r (FailsRun task file IsSome IsAll a c)
   run_fails IsSome IsAll (Ok stop) h = tt
@@ -121,18 +126,18 @@ module _ (task : TraceTask) (file : List ℕ) (a c : Option (List ℕ)) (m n : H
 module _ (task : TraceTask) (files : List ℕ → Option (List ℕ)) (known input left a c : Option (List ℕ)) (booted n : History)
     (boots : BootsFor task known booted) (unread : IsUnread task.drive (streams input left a c)) where
   -- the lines that are asked for are those from the first event on
-  shown : (events : List Event) → text_of (lines_from (window_of task) 0 booted.state events) ≡ lines_text task booted.state events
+  shown : (events : List Event) → text_of (lines_from (window_of task boots.file) 0 booted.state events) ≡ lines_text task boots.file booted.state events
   shown events =
-      let w = window_of task in
+      let w = window_of task boots.file in
       let all : task.count - (0 - task.from) ≡ task.count = omega arith in
       let first : task.from - 0 ≡ task.from = omega arith in
-      λ i. text_of (take (all i) (drop (first i) (traced w.naming 0 booted.state events)))
+      λ i. text_of (take (all i) (drop (first i) (traced w.style 0 booted.state events)))
 
-  shown_whole : (events : List Event) (stop : Stop) → run_text (window_of task) booted.state events stop ≡ trace_text task booted.state events stop
+  shown_whole : (events : List Event) (stop : Stop) → run_text (window_of task boots.file) booted.state events stop ≡ trace_text task boots.file booted.state events stop
   shown_whole events stop = ap (λ text. text ++ with_line_end (stop_line stop)) (shown events)
 
   pub task_traced : (events : List Event) (stop : Stop) → Runs task.drive files input booted events stop n →
-      IsPrinted (window_of task) booted.state events stop a c → IsTraced task files known (streams input left a c) stop
+      IsPrinted (window_of task boots.file) booted.state events stop a c → IsTraced task files known (streams input left a c) stop
   task_traced events stop runs h = record {
     booted = booted;
     boots = boots;
@@ -147,15 +152,15 @@ module _ (task : TraceTask) (files : List ℕ → Option (List ℕ)) (known inpu
       (begins : (events : List Event) → IsSome events → Begins task.drive files input booted events n)
       (runs : (events : List Event) (stop : Stop) → IsAll events stop → Runs task.drive files input booted events stop n) where
     some_written : (events : List Event) →
-        (IsSome events × AppendsSome a c (text_of (lines_from (window_of task) 0 booted.state events)))
-        ⊎ ((stop : Stop) × IsAll events stop × AppendsSome a c (run_text (window_of task) booted.state events stop)) →
-        (Begins task.drive files input booted events n × AppendsSome a c (lines_text task booted.state events))
-        ⊎ ((stop : Stop) × Runs task.drive files input booted events stop n × AppendsSome a c (trace_text task booted.state events stop))
+        (IsSome events × AppendsSome a c (text_of (lines_from (window_of task boots.file) 0 booted.state events)))
+        ⊎ ((stop : Stop) × IsAll events stop × AppendsSome a c (run_text (window_of task boots.file) booted.state events stop)) →
+        (Begins task.drive files input booted events n × AppendsSome a c (lines_text task boots.file booted.state events))
+        ⊎ ((stop : Stop) × Runs task.drive files input booted events stop n × AppendsSome a c (trace_text task boots.file booted.state events stop))
     some_written events (inl x) = inl (begins events x.0, subst (AppendsSome a c) (shown events) x.1)
     some_written events (inr x) = inr (x.0, runs events x.0 x.1, subst (AppendsSome a c) (shown_whole events x.0) x.2)
 
     pub task_failed : IsEarlyFault task.drive task known input Memory → (fault : Fault) →
-        IsUnprinted (window_of task) booted.state IsSome IsAll a c fault → IsTraceFault task files known (streams input left a c) fault
+        IsUnprinted (window_of task boots.file) booted.state IsSome IsAll a c fault → IsTraceFault task files known (streams input left a c) fault
     task_failed early fault (inl h) = record {
       is_unread = unread;
       why = inl (subst (λ f. IsEarlyFault task.drive task known input f) (sym h.0) early, h.1);
@@ -204,11 +209,11 @@ module _ (task : TraceTask) (files : List ℕ → Option (List ℕ)) (known inpu
     })
 
     pub schedule_traced : (events : List Event) (stop : Stop) → MakesAll booted scheduled n events stop →
-        IsPrinted (window_of task) booted.state events stop a c → IsTraced task files known (streams input left a c) stop
+        IsPrinted (window_of task boots.file) booted.state events stop a c → IsTraced task files known (streams input left a c) stop
     schedule_traced events stop x = task_traced task files known input left a c booted n boots (unread_none a c) events stop (runs_none events stop x)
 
     pub schedule_failed : (fault : Fault) →
-        IsUnprinted (window_of task) booted.state (MakesSome booted scheduled n) (MakesAll booted scheduled n) a c fault →
+        IsUnprinted (window_of task boots.file) booted.state (MakesSome booted scheduled n) (MakesAll booted scheduled n) a c fault →
         IsTraceFault task files known (streams input left a c) fault
     schedule_failed =
         task_failed task files known input left a c booted n boots (unread_none a c) (MakesSome booted scheduled n) (MakesAll booted scheduled n) begins_none runs_none
@@ -290,11 +295,11 @@ module _ (task : TraceTask) (options : Drive) (files : List ℕ → Option (List
     })
 
     pub drive_traced : (events : List Event) (stop : Stop) → DrivesAll (rules_of options keys) options.events booted n events stop →
-        IsPrinted (window_of task) booted.state events stop a c → IsTraced task files known (streams input input a c) stop
+        IsPrinted (window_of task boots.file) booted.state events stop a c → IsTraced task files known (streams input input a c) stop
     drive_traced events stop x = task_traced task files known input input a c booted n boots (unread_some a c) events stop (runs_some events stop x)
 
     pub drive_failed : (fault : Fault) →
-        IsUnprinted (window_of task) booted.state (DrivesSome (rules_of options keys) options.events booted n)
+        IsUnprinted (window_of task boots.file) booted.state (DrivesSome (rules_of options keys) options.events booted n)
         (DrivesAll (rules_of options keys) options.events booted n) a c fault →
         IsTraceFault task files known (streams input input a c) fault
     drive_failed =

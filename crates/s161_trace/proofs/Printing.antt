@@ -67,7 +67,7 @@ part from count k x xs = part_by (nat_le from k) from count k x xs refl
 
 -- the line of an event, if it has one
 abbrev pub line_of : Window → ℕ → State → Event → Outcome → State → List (List ℕ)
-line_of w number s e o t = if has_line w number then event_line w.naming number e s o t ∷ [] else []
+line_of w number s e o t = if has_line w number then event_line w.style number e s o t ∷ [] else []
 
 module _ (w : Window) where
   pub no_lines : (number : ℕ) (s : State) → lines_from w number s [] ≡ []
@@ -77,8 +77,8 @@ module _ (w : Window) where
   pub first_line : (number : ℕ) (s : State) (e : Event) (es : List Event) (o : Outcome) (t : State) → next s e ≡ Ok (o, t) →
       lines_from w number s (e ∷ es) ≡ line_of w number s e o t ++ lines_from w (number + 1) t es
   first_line number s e es o t h =
-      ap (λ r. take (w.count - (number - w.from)) (drop (w.from - number) (line_and w.naming number s e r (λ u. traced w.naming (number + 1) u es)))) h
-      ∙ part w.from w.count number (event_line w.naming number e s o t) (traced w.naming (number + 1) t es)
+      ap (λ r. take (w.count - (number - w.from)) (drop (w.from - number) (line_and w.style number s e r (λ u. traced w.style (number + 1) u es)))) h
+      ∙ part w.from w.count number (event_line w.style number e s o t) (traced w.style (number + 1) t es)
 
   pub one_line : (number : ℕ) (s : State) (e : Event) (o : Outcome) (t : State) → next s e ≡ Ok (o, t) →
       lines_from w number s (e ∷ []) ≡ line_of w number s e o t
@@ -106,9 +106,9 @@ module _ (w : Window) where
 
   -- their text
   pub with_line : (number : ℕ) (s : State) (e : Event) (o : Outcome) (t : State) → has_line w number ≡ true → next s e ≡ Ok (o, t) →
-      text_of (lines_from w number s (e ∷ [])) ≡ with_line_end (event_line w.naming number e s o t)
+      text_of (lines_from w number s (e ∷ [])) ≡ with_line_end (event_line w.style number e s o t)
   with_line number s e o t has h =
-      let line = event_line w.naming number e s o t in
+      let line = event_line w.style number e s o t in
       ap text_of (one_line number s e o t h)
       ∙ ap (λ b. text_of (if b then line ∷ [] else [])) has
       ∙ append-nil (with_line_end line)
@@ -116,7 +116,7 @@ module _ (w : Window) where
   pub without_line : (number : ℕ) (s : State) (e : Event) (o : Outcome) (t : State) → has_line w number ≡ false → next s e ≡ Ok (o, t) →
       text_of (lines_from w number s (e ∷ [])) ≡ []
   without_line number s e o t has h =
-      let line = event_line w.naming number e s o t in
+      let line = event_line w.style number e s o t in
       ap text_of (one_line number s e o t h)
       ∙ ap (λ b. text_of (if b then line ∷ [] else [])) has
 

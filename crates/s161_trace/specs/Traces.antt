@@ -5,7 +5,7 @@ use Rattle.m161_machine.specs.declared.event.Event.{Event}
 use Rattle.m161_machine.specs.declared.event.Refusal.{Refusal}
 use Rattle.m161_machine.specs.State.{State, next}
 use Rattle.m161_machine.specs.History.{Continues, History}
-use Rattle.m161_dis.specs.declared.naming.Naming.{Naming}
+use Rattle.m161_dis.specs.declared.naming.Style.{Style}
 use Rattle.m161_drive.specs.declared.cursor.Cursor.{Cursor}
 use Rattle.m161_drive.specs.declared.run.Driven.{Driven}
 use Rattle.m161_drive.specs.Choice.{cursor_at}
@@ -17,7 +17,7 @@ use Rattle.s161_base.specs.declared.fault.Fault.{Fault}
 use Rattle.s161_base.specs.declared.fault.Fault.TheVariants.{Memory, Output}
 use Rattle.s161_base.specs.Faults.{BootsTo}
 use Rattle.s161_base.specs.Known.{OfText}
-use Rattle.s161_base.specs.Naming.{naming_of}
+use Rattle.s161_base.specs.Naming.{style_of}
 use Rattle.s161_base.specs.Sizes.{conf_of}
 use Rattle.s161_base.specs.Streams.{AppendsSome, Streams}
 use Rattle.s161_command.specs.declared.drive.Drive.{Drive}
@@ -33,30 +33,32 @@ use Rattle.s161_runs.specs.Runs.{IsFaultOf, MakesEvents, stop_line}
 
 -- an event's line, and then those of the events after it; none where it is refused
 abbrev pub line_and :
-    Naming → ℕ → State → Event → Result (Outcome × State) Refusal → (State → List (List ℕ)) →
+    Style → ℕ → State → Event → Result (Outcome × State) Refusal → (State → List (List ℕ)) →
     List (List ℕ)
-line_and naming number s e (Err refusal) rest = []
-line_and naming number s e (Ok given) rest =
-    event_line naming number e s given.0 given.1 ∷ rest given.1
+line_and style number s e (Err refusal) rest = []
+line_and style number s e (Ok given) rest =
+    event_line style number e s given.0 given.1 ∷ rest given.1
 
 -- the lines of events from a state on, the first of which has this number
-abbrev pub traced : Naming → ℕ → State → List Event → List (List ℕ)
-traced naming number s [] = []
-traced naming number s (e ∷ es) =
-    line_and naming number s e (next s e) (λ t. traced naming (number + 1) t es)
+abbrev pub traced : Style → ℕ → State → List Event → List (List ℕ)
+traced style number s [] = []
+traced style number s (e ∷ es) =
+    line_and style number s e (next s e) (λ t. traced style (number + 1) t es)
 
--- those that the task asks for
-abbrev pub shown_lines : TraceTask → State → List Event → List (List ℕ)
-shown_lines task s events =
-    take task.count (drop task.from (traced (naming_of task.registers) 0 s events))
+-- those that the task asks for, over this file of its image
+abbrev pub shown_lines : TraceTask → List ℕ → State → List Event → List (List ℕ)
+shown_lines task file s events =
+    take task.count
+    (drop task.from (traced (style_of task.registers task.symbols file) 0 s events))
 
 -- their text, of a run that made these events
-abbrev pub lines_text : TraceTask → State → List Event → List ℕ
-lines_text task s events = text_of (shown_lines task s events)
+abbrev pub lines_text : TraceTask → List ℕ → State → List Event → List ℕ
+lines_text task file s events = text_of (shown_lines task file s events)
 
 -- all that is printed of a run that stopped
-abbrev pub trace_text : TraceTask → State → List Event → Stop → List ℕ
-trace_text task s events stop = lines_text task s events ++ with_line_end (stop_line stop)
+abbrev pub trace_text : TraceTask → List ℕ → State → List Event → Stop → List ℕ
+trace_text task file s events stop =
+    lines_text task file s events ++ with_line_end (stop_line stop)
 
 -- the first events of a schedule, which is all of an input, are made of a machine, and leave n: so
 -- many as are made before it is off or one is refused
@@ -136,7 +138,7 @@ pub record IsTraced
   pub machine : History
   pub runs : Runs task.drive files x.input booted events stop machine
   pub is_unread : IsUnread task.drive x
-  pub written : Appends x.before x.after (trace_text task booted.state events stop)
+  pub written : Appends x.before x.after (trace_text task boots.file booted.state events stop)
 
 -- the run of a task, as `run` is asked for it
 abbrev pub run_of : TraceTask → RunTask
@@ -163,9 +165,9 @@ pub record FailsInRun
   pub machine : History
   pub some_written :
       (Begins task.drive files x.input booted events machine
-      × AppendsSome x.before x.after (lines_text task booted.state events))
+      × AppendsSome x.before x.after (lines_text task boots.file booted.state events))
       ⊎ ((stop : Stop) × Runs task.drive files x.input booted events stop machine
-      × AppendsSome x.before x.after (trace_text task booted.state events stop))
+      × AppendsSome x.before x.after (trace_text task boots.file booted.state events stop))
 
 -- a fault that ends the task: before the run, and nothing was written; or in the run
 pub record IsTraceFault

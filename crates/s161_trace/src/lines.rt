@@ -120,7 +120,7 @@ impl Lines {
         requires accepted { next self.old.tracer event ≡ Ok (outcome, machine.now.state) }
         requires few { self.old.number < 2 ^ 64 - 1 }
         ensures line { OnOk result (string_bytes self.new.line ≡ with_line_end
-            (event_line self.old.window.naming self.old.number event self.old.tracer outcome
+            (event_line self.old.window.style self.old.number event self.old.tracer outcome
             machine.now.state)) }
         ensures tracer { OnOk result (self.new.tracer ≡ machine.now.state) }
         ensures number { OnOk result (self.new.number ≡ self.old.number + 1) }
@@ -129,9 +129,9 @@ impl Lines {
     {
         self.line.clear();
         let number = self.number;
-        let naming = self.window.naming;
+        let style = &self.window.style;
         self.tracer
-            .line(machine, event, outcome, number, naming, &mut self.line)?;
+            .line(machine, event, outcome, number, style, &mut self.line)?;
         self.number += 1;
         Ok(())
     }

@@ -115,7 +115,8 @@ fn run_schedule<'a, O: Write>(
         (O.contents output.old) (O.contents output.new)) }
 {
     let mut machine = Machine::boot(alloc, file, conf_of(task.size))?;
-    print_schedule(alloc, &mut machine, events, Window::of(task), output)
+    let window = Window::of(alloc, task, file)?;
+    print_schedule(alloc, &mut machine, events, window, output)
 }
 
 // Prints the lines of a run by a schedule.
@@ -178,7 +179,8 @@ fn run_drive<'a, O: Write>(
         (O.contents output.old) (O.contents output.new)) }
 {
     let mut machine = Machine::boot(alloc, file, conf_of(task.size))?;
-    print_drive(alloc, &mut machine, options, keys, Window::of(task), output)
+    let window = Window::of(alloc, task, file)?;
+    print_drive(alloc, &mut machine, options, keys, window, output)
 }
 
 // Prints the lines of a driven run.

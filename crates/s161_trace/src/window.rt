@@ -1,17 +1,18 @@
 //! Which events have lines.
 
-ghost use Rattle.std.specs.Prelude.{◌≡◌};
+ghost use Rattle.std.specs.Prelude.{◌≡◌, IfOk};
 ghost use Rattle.s161_trace.specs.helpers.Printing.{has_line, window_of};
 
-use m161_dis::Naming;
-use s161_base::naming::naming_of;
+use m161_dis::Style;
+use s161_base::naming::style_of;
 use s161_command::TraceTask;
+use std::alloc::{AllocError, Global};
 
-/// Which events have lines, and how these name registers.
-#[derive(Clone, Copy)]
+/// Which events have lines, and how these show registers and addresses.
+#[derive(Drop)]
 pub(crate) struct Window {
-    /// How registers are named.
-    pub naming: Naming,
+    /// How registers and addresses are shown.
+    pub style: Style,
     /// The number of the first event that has a line.
     pub from: u64,
     /// How many have one, from it on.
@@ -19,20 +20,20 @@ pub(crate) struct Window {
 }
 
 impl Window {
-    /// The events that a task asks for.
-    pub(crate) fn of(task: &TraceTask<'_>) -> Window
-        ensures { result ≡ window_of task.now }
+    /// The events that a task over an image's file asks for.
+    pub(crate) fn of(alloc: Global, task: &TraceTask<'_>, file: &[u8]) -> Result<Window, AllocError>
+        ensures { IfOk result (λ window. window ≡ window_of task.now file.now) }
     {
-        Window {
-            naming: naming_of(task.registers),
+        Ok(Window {
+            style: style_of(alloc, task.registers, task.symbols, file)?,
             from: task.from,
             count: task.count,
-        }
+        })
     }
 
     /// Whether the event of a number has a line.
-    pub(crate) fn has(self, number: u64) -> bool
-        ensures { result ≡ has_line self number }
+    pub(crate) fn has(&self, number: u64) -> bool
+        ensures { result ≡ has_line self.now number }
     {
         number >= self.from && number - self.from < self.count
     }

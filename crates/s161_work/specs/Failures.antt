@@ -50,7 +50,7 @@ IsTaskFault (Replay task) files input fault =
     IsReplayFault task (image_file files task.image.now) (files task.text.now) fault
 IsTaskFault (Audit task) files input fault =
     IsAuditFault task (image_file files task.image.now) (files task.text.now) input fault
-IsTaskFault Assemble files input fault = IsAssemblyFault input fault
+IsTaskFault (Assemble task) files input fault = IsAssemblyFault input fault
 IsTaskFault (Disassemble task) files input fault =
     IsListingFault task.image.now (image_file files task.image.now) fault
 

@@ -70,7 +70,7 @@ IsResultOf (Replay task) files input =
     IsReplayed task (image_file files task.image.now) (files task.text.now)
 IsResultOf (Audit task) files input =
     IsAudited task (image_file files task.image.now) (files task.text.now) input
-IsResultOf Assemble files input = WithZero (IsAssembled input)
+IsResultOf (Assemble task) files input = WithZero (IsAssembled task input)
 IsResultOf (Disassemble task) files input =
     WithZero (IsDisassembled task (image_file files task.image.now))
 

@@ -80,9 +80,9 @@ fn finish<'a, R: Threads + Wait + Sync, F: FileSource, I: Read>(
         Task::Search(task) => search(alloc, files, task),
         Task::Replay(task) => replay(alloc, files, task),
         Task::Audit(task) => audit(alloc, files, input, task),
-        Task::Assemble => {
+        Task::Assemble(task) => {
             let source = read_input(alloc, input)?;
-            Ok(Finished::done(assembly(alloc, source.as_str())?))
+            Ok(Finished::done(assembly(alloc, source.as_str(), task.symbols)?))
         }
         Task::Disassemble(task) => Ok(Finished::done(listing(alloc, files, task)?)),
     }
@@ -100,5 +100,5 @@ fn listing<'a, F: FileSource>(
         (image_file (F.known files.old) task.entry.image.now)) }
 {
     let file = read_image(alloc, files, task.image)?;
-    Ok(disassembly(alloc, &file, task.registers)?.into_bytes())
+    Ok(disassembly(alloc, &file, task.registers, task.symbols)?.into_bytes())
 }

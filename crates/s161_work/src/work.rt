@@ -128,7 +128,7 @@ fn do_task<'a, R: Threads + Wait + Sync, F: FileSource, I: Read, O: Write, E: Wr
         | Task::Search(_)
         | Task::Replay(_)
         | Task::Audit(_)
-        | Task::Assemble
+        | Task::Assemble(_)
         | Task::Disassemble(_) => print_task(rt, alloc, task, files, input, output),
     }
 }

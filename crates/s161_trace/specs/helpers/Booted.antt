@@ -22,7 +22,7 @@ pub record PrintsRun
   pub events : List Event
   pub machine : History
   pub all : IsAll booted machine events stop
-  pub printed : IsPrinted (window_of task) booted.state events stop before after
+  pub printed : IsPrinted (window_of task file) booted.state events stop before after
 
 -- it isn't booted, and nothing is printed
 pub record IsUnbooted
@@ -43,7 +43,7 @@ pub record FailsBooted
   pub boots : BootsTo file (conf_of task.size) booted
   pub machine : History
   pub fails :
-      IsUnprinted (window_of task) booted.state (IsSome booted machine) (IsAll booted machine)
+      IsUnprinted (window_of task file) booted.state (IsSome booted machine) (IsAll booted machine)
       before after fault
 
 abbrev pub FailsRun :

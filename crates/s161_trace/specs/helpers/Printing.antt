@@ -5,7 +5,7 @@ use Rattle.m161_machine.specs.State.{State}
 use Rattle.m161_text.specs.Lines.{text_of, with_line_end}
 use Rattle.s161_base.specs.declared.fault.Fault.{Fault}
 use Rattle.s161_base.specs.declared.fault.Fault.TheVariants.{Memory, Output}
-use Rattle.s161_base.specs.Naming.{naming_of}
+use Rattle.s161_base.specs.Naming.{style_of}
 use Rattle.s161_base.specs.Streams.{AppendsSome}
 use Rattle.s161_command.specs.declared.task.TraceTask.{TraceTask}
 use Rattle.s161_runs.specs.declared.events.Stop.{Stop}
@@ -16,10 +16,10 @@ use Rattle.s161_trace.specs.Traces.{traced}
 
 -- How lines are printed as a run goes on.
 
--- which events have lines, and how these name registers
-abbrev pub window_of : TraceTask → Window
-window_of task = record {
-  naming = naming_of task.registers;
+-- which events have lines, and how these show registers and addresses, for an image's file
+abbrev pub window_of : TraceTask → List ℕ → Window
+window_of task file = record {
+  style = style_of task.registers task.symbols file;
   from = task.from;
   count = task.count;
 }
@@ -31,7 +31,7 @@ has_line w number = nat_le w.from number && nat_lt (number - w.from) w.count
 -- the lines that are asked for, of events from a state on, the first of which has this number
 abbrev pub lines_from : Window → ℕ → State → List Event → List (List ℕ)
 lines_from w number s events =
-    take (w.count - (number - w.from)) (drop (w.from - number) (traced w.naming number s events))
+    take (w.count - (number - w.from)) (drop (w.from - number) (traced w.style number s events))
 
 -- bytes are put behind those that are kept back, and some of all are written
 abbrev pub PutsOut :

@@ -16,6 +16,17 @@ returns-in_err-run g c = λ file conf boots room.
     (run_unmade file conf fault c.args.policy.now c.args.n c.args.watches.now output c.in_err-run.field-0.0
     (boots_run file conf fault c.args.policy.now c.args.n output c.args.booted.now (Err c.in_err-run.field-0.0) boots c.in_err-run.ensures))
 
+pub returns-in_err-finding : goal.returns-in_err-finding
+returns-in_err-finding g c = λ file conf boots room.
+    let fault = boot_fault file conf in
+    let output = bytes_of c.args.output in
+    let made = err_from_is_err_and c.from_residual-in_err-finding.result c.from_residual-in_err-finding.ensures.1 in
+    rw (made.1, made.2)
+    (run_unfound file conf fault c.args.policy.now c.args.n c.in_ok-run.run'.events.items c.args.watches.now output c.in_err-finding.field-0.0
+    (finds file conf fault c.args.booted.now c.in_ok-run.run'.events.items c.args.watches.now (Err c.in_err-finding.field-0.0) boots
+    (subst (λ s. AuditsState s c.in_ok-run.run'.events.items c.args.watches.now (Err c.in_err-finding.field-0.0)) c.core.ensures
+    (subst (λ es. AuditsState c.core.result.now.state es c.args.watches.now (Err c.in_err-finding.field-0.0)) c.deref.ensures.value c.in_err-finding.ensures.found))))
+
 pub returns : goal.returns
 returns g c = λ file conf boots room.
     let fault = boot_fault file conf in

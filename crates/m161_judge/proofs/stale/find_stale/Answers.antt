@@ -5,4 +5,4 @@ use Rattle.m161_judge.proofs.stale.find_stale.Goals as goal
 pub returns-clause-within : goal.returns-clause-within
 returns-clause-within g c =
     result_below (length c.args.events.now) 18446744073709551615 c.audit_core.result (omega arith)
-    (found_below c.args.core.now.state c.args.events.now c.args.watches.now c.audit_core.result c.audit_core.ensures)
+    (found_below _ c.args.events.now c.args.watches.now c.audit_core.result c.audit_core.ensures)

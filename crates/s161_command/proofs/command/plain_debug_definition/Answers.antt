@@ -16,7 +16,8 @@ returns-clause-shape c =
     let two = c.in_ok-debug.ensures.shape c.optional_file.ensures.local ∙ ap₂ with_rule one c.optional_file.ensures.rule in
     let two_local = local_more c.in_ok-debug.ensures one_local c.optional_file.ensures.local in
     let three = c.in_ok-with_asked_size.ensures.shape two_local ∙ ap (with_asked_size_rules _) two in
-    IfOk-weaker c.arg-3.result _ _ (λ command h. h.shape c.asked_link_option.ensures.local ∙ ap₂ with_rule three c.asked_link_option.ensures.rule) c.arg-3.ensures
+    let four = c.in_ok-arg-2.ensures.shape c.asked_link_option.ensures.local ∙ ap₂ with_rule three c.asked_link_option.ensures.rule in
+    IfOk-weaker c.arg-4.result _ _ (λ command h. h.shape c.flag_option.ensures.local ∙ ap₂ with_rule four c.flag_option.ensures.rule) c.arg-4.ensures
 
 pub returns-clause-local : goal.returns-clause-local
 returns-clause-local c =
@@ -24,4 +25,5 @@ returns-clause-local c =
     let one = local_more c.in_ok-arg.ensures base c.file_argument.ensures.local in
     let two = local_more c.in_ok-debug.ensures one c.optional_file.ensures.local in
     let three = c.in_ok-with_asked_size.ensures.local two in
-    IfOk-weaker c.arg-3.result _ _ (λ command h. local_more h three c.asked_link_option.ensures.local) c.arg-3.ensures
+    let four = local_more c.in_ok-arg-2.ensures three c.asked_link_option.ensures.local in
+    IfOk-weaker c.arg-4.result _ _ (λ command h. local_more h four c.flag_option.ensures.local) c.arg-4.ensures

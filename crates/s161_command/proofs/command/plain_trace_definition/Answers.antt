@@ -15,7 +15,8 @@ returns-clause-shape c =
     let two = c.in_ok-with_size.ensures.shape (local_more c.in_ok-trace.ensures base_local c.file_argument.ensures.local) ∙ ap (with_size_rules _) one in
     let three = c.in_ok-arg.ensures.shape c.optional_long.ensures.local ∙ ap₂ with_rule two c.optional_long.ensures.rule in
     let four = c.in_ok-arg-2.ensures.shape c.optional_long-2.ensures.local ∙ ap₂ with_rule three c.optional_long-2.ensures.rule in
-    IfOk-weaker c.arg-4.result _ _ (λ command h. h.shape c.flag_option.ensures.local ∙ ap₂ with_rule four c.flag_option.ensures.rule) c.arg-4.ensures
+    let five = c.in_ok-arg-3.ensures.shape c.flag_option.ensures.local ∙ ap₂ with_rule four c.flag_option.ensures.rule in
+    IfOk-weaker c.arg-5.result _ _ (λ command h. h.shape c.flag_option-2.ensures.local ∙ ap₂ with_rule five c.flag_option-2.ensures.rule) c.arg-5.ensures
 
 pub returns-clause-local : goal.returns-clause-local
 returns-clause-local c =
@@ -24,4 +25,5 @@ returns-clause-local c =
     let two = c.in_ok-with_size.ensures.local one in
     let three = local_more c.in_ok-arg.ensures two c.optional_long.ensures.local in
     let four = local_more c.in_ok-arg-2.ensures three c.optional_long-2.ensures.local in
-    IfOk-weaker c.arg-4.result _ _ (λ command h. local_more h four c.flag_option.ensures.local) c.arg-4.ensures
+    let five = local_more c.in_ok-arg-3.ensures four c.flag_option.ensures.local in
+    IfOk-weaker c.arg-5.result _ _ (λ command h. local_more h five c.flag_option-2.ensures.local) c.arg-5.ensures

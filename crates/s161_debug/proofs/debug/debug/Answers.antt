@@ -17,12 +17,13 @@ returns-clause-ok g c =
     let opened = c.in_ok-opened.opened in
     let x = streams (g.I.Read.remaining c.args.input.now) (g.I.Read.remaining c.serve.new.input) (g.O.Write.contents c.args.output.now) (g.O.Write.contents c.serve.new.output) in
     let S : SessionState → Type 0 = λ s. Ends s opened.events.items x in
-    let L : List Event → Type 0 = λ left. Ends c.new-session.result left x in
+    let L : List Event → Type 0 = λ left. Ends c.with_style-session.result left x in
     on_ok c.serve.result (λ ends. record {
       booted = opened.machine;
       events = opened.events.items;
+      style = opened.style;
       opens = c.in_ok-opened.ensures.ok;
-      ends = subst S c.new-session.ensures (subst L c.new-left.ensures ends);
+      ends = subst S c.with_style-session.ensures (subst L c.new-left.ensures ends);
     }) c.serve.ensures.ok
 
 pub returns-clause-fault : goal.returns-clause-fault
@@ -31,6 +32,6 @@ returns-clause-fault g c =
     let x = streams (g.I.Read.remaining c.args.input.now) (g.I.Read.remaining c.serve.new.input) (g.O.Write.contents c.args.output.now) (g.O.Write.contents c.serve.new.output) in
     if_err c.serve.result (λ fault breaks.
     let S : SessionState → Type 0 = λ s. Breaks s opened.events.items x fault in
-    let L : List Event → Type 0 = λ left. Breaks c.new-session.result left x fault in
-    inr (opened.machine, opened.events.items, c.in_ok-opened.ensures.ok, subst S c.new-session.ensures (subst L c.new-left.ensures breaks)))
+    let L : List Event → Type 0 = λ left. Breaks c.with_style-session.result left x fault in
+    inr (opened.machine, opened.events.items, opened.style, c.in_ok-opened.ensures.ok, subst S c.with_style-session.ensures (subst L c.new-left.ensures breaks)))
     c.serve.ensures.err

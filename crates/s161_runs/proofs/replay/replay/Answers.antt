@@ -66,7 +66,7 @@ returns-in-Some-clause-fault g c =
     let file = c.as_slice-image.result.now in
     let logged = c.in_ok-log.log.machine in
     let replays : (IsSo : List ℕ → LoggedMachine → Type 0) → IsSo file logged → OfReplay image text IsSo =
-    λ IsSo so. (file, is_file, (c.as_str-text.result.now, is, (utf8, (logged, (c.in_ok-log.log.entries.items, (c.in_ok-log.ensures.found, so)))))) in
+    λ IsSo so. (file, is_file, (c.as_str-text.result.now, is, (utf8, (logged, c.in_ok-log.log.entries.items, c.in_ok-log.ensures.found, so)))) in
     refused (IsReplayFault c.args.task image text) c.args.task.size file logged c.in-Some.fault
     (replays (λ f l. machine_fault c.args.task.size f (Some l) ≡ Some LogMachine))
     (replays (λ f l. machine_fault c.args.task.size f (Some l) ≡ Some LogImage)) (search rules)
@@ -86,7 +86,7 @@ returns-in_err-verdict-clause-fault g c =
     let file = c.as_slice-image.result.now in
     let logged = c.in_ok-log.log.machine in
     let replays : (IsSo : List ℕ → LoggedMachine → Type 0) → IsSo file logged → OfReplay image text IsSo =
-    λ IsSo so. (file, is_file, (c.as_str-text.result.now, is, (utf8, (logged, (c.in_ok-log.log.entries.items, (c.in_ok-log.ensures.found, so)))))) in
+    λ IsSo so. (file, is_file, (c.as_str-text.result.now, is, (utf8, (logged, c.in_ok-log.log.entries.items, c.in_ok-log.ensures.found, so)))) in
     let conf = asked_conf c.args.task.size (Some logged) in
     let none : machine_fault c.args.task.size file (Some logged) ≡ None = search rules in
     let made = err_from_is_err_and c.from_residual-in_err-verdict.result c.from_residual-in_err-verdict.ensures.1 in

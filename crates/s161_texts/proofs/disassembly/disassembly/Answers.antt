@@ -2,7 +2,7 @@ use Rattle.std.proofs.Common.{List, ℕ, Err, ap, length, refl, string_bytes, su
 use Rattle.std.proofs.lemmas.Result.{err_from_is_err_and}
 use Rattle.m161_elf.specs.Image.{first_fault}
 use Rattle.m161_elf.specs.declared.span.Span.{Span}
-use Rattle.m161_dis.specs.declared.naming.Naming.{Naming}
+use Rattle.m161_dis.specs.declared.naming.Style.{Style}
 use Rattle.s161_texts.specs.Listings.{IsListing, dis_ram}
 use Rattle.s161_texts.specs.helpers.Listings.{AreInRam}
 use Rattle.s161_texts.proofs.Listed.{found_in_ram, is_listing, unlisted, unloaded}
@@ -17,9 +17,9 @@ listing-requires c =
 
 pub returns-clause-ok : goal.returns-clause-ok
 returns-clause-ok c =
-    let P : Naming → Type 0 = λ naming. IsListing naming c.args.file.now (string_bytes c.in_ok-listing.field-0) in
-    subst P c.naming_of-naming.ensures
-    (is_listing c.naming_of-naming.result c.args.file.now _ c.in_ok-image.image c.in_ok-spans.spans _ _ c.in_ok-image.ensures.answer c.in_ok-spans.ensures.answer
+    let P : Style → Type 0 = λ style. IsListing style c.args.file.now (string_bytes c.in_ok-listing.field-0) in
+    subst P c.in_ok-style.ensures
+    (is_listing c.in_ok-style.style c.args.file.now _ c.in_ok-image.image c.in_ok-spans.spans _ _ c.in_ok-image.ensures.answer c.in_ok-spans.ensures.answer
     c.deref.ensures.value c.deref-2.ensures.value c.in_ok-listing.ensures)
 
 pub returns-in_err-image-clause-fault : goal.returns-in_err-image-clause-fault

@@ -11,14 +11,14 @@ write_word-requires c =
 
 pub loop-i-preserved : goal.loop-i-preserved
 loop-i-preserved c =
-    let line : ℕ → List ℕ = λ i. memory_line c.args.naming c.args.memory.now (c.aligned_up-start.result + 4 * i) in
+    let line : ℕ → List ℕ = λ i. memory_line c.args.style.now c.args.memory.now (c.aligned_up-start.result + 4 * i) in
     c.in_ok-write_word.ensures ∙ ap (λ bs. bs ++ with_line_end (line c.loop-i.i)) c.loop-i.invariant
     ∙ append_assoc (string_bytes c.args.text.now) (text_of (numbered_lines c.loop-i.i line)) (with_line_end (line c.loop-i.i))
     ∙ ap (λ bs. string_bytes c.args.text.now ++ bs) (sym (counted_more line c.loop-i.i))
 
 pub returns : goal.returns
 returns c =
-    let line : ℕ → ℕ → List ℕ = λ start i. memory_line c.args.naming c.args.memory.now (start + 4 * i) in
+    let line : ℕ → ℕ → List ℕ = λ start i. memory_line c.args.style.now c.args.memory.now (start + 4 * i) in
     let whole : c.loop-i.i ≡ whole_words c.args.span = omega arith in
     c.loop-i.invariant
     ∙ ap (λ n. string_bytes c.args.text.now ++ text_of (numbered_lines n (line c.aligned_up-start.result))) whole

@@ -6,4 +6,4 @@ use Rattle.s161_texts.proofs.disassembly.write_span.Given as goal
 
 abbrev pub invariant-loop-i : goal.invariant-loop-i
 invariant-loop-i l =
-    string_bytes l.text ≡ string_bytes l.fn.text ++ text_of (numbered_lines l.i (λ i. memory_line l.naming l.memory (l.start + 4 * i)))
+    string_bytes l.text ≡ string_bytes l.fn.text ++ text_of (numbered_lines l.i (λ i. memory_line l.style l.memory (l.start + 4 * i)))
