@@ -3,6 +3,7 @@
 mod addresses;
 mod fetched;
 mod jumps;
+mod names;
 mod sessions;
 mod steps;
 mod untils;

@@ -6,6 +6,7 @@ mod labels;
 mod layers;
 mod names;
 mod table;
+mod texts;
 
 use std::fmt::Debug;
 use std::process::Abort;

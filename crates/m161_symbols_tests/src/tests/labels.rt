@@ -1,15 +1,20 @@
 //! A file with the labels of its program.
 
 use crate::tests::same;
+use m161_asm::assemble;
 use m161_elf::load;
+use m161_elf_writer::{labels_are_listed, symbols_load_alike, write_with_symbols};
 use m161_symbols::{Symbols, push_place};
 use std::alloc::AllocGlobal;
 use std::process::Abort;
 use std::test::Fail;
 
-/// The file of `start: .word 0x11223344` and `end: .word 5`, written by a program of its own;
-/// binutils' `readelf -s` lists start and end in it.
-static FILE: [u8; 340] = [
+/// Two words with a label each.
+const TEXT: &str = "start: .word 0x11223344\nend:   .word 5\n";
+
+/// The text's file, written by a program of its own; binutils' `readelf -s` lists start and end in
+/// it.
+pub(crate) static FILE: [u8; 340] = [
     0x7f, 0x45, 0x4c, 0x46, 0x01, 0x02, 0x01, 0x00, 0x00, 0x00, 0x00, 0x00, 0x00, 0x00, 0x00, 0x00,
     0x00, 0x02, 0x00, 0x08, 0x00, 0x00, 0x00, 0x01, 0x80, 0x00, 0x02, 0x00, 0x00, 0x00, 0x00, 0x34,
     0x00, 0x00, 0x00, 0xb4, 0x00, 0x00, 0x00, 0x00, 0x00, 0x34, 0x00, 0x20, 0x00, 0x01, 0x00, 0x28,
@@ -47,5 +52,15 @@ fn labels_as_symbols(rt: HostRuntime) -> Result<(), Fail> {
     let image = load(rt.alloc(), &FILE, 4096)?;
     same(&rt, image.entry, 0x8000_0200);
     same(&rt, image.bytes.get(0x200).copied(), Some(0x11));
+    Ok(())
+}
+
+#[test]
+fn labels_in_a_file(rt: HostRuntime) -> Result<(), Fail> {
+    symbols_load_alike();
+    labels_are_listed();
+    let program = assemble(rt.alloc(), TEXT)?;
+    let file = write_with_symbols(rt.alloc(), &program)?;
+    same(&rt, file.as_slice() == &FILE[..], true);
     Ok(())
 }

@@ -2,9 +2,13 @@
 
 use super::same;
 use super::traced::{Run, lines_of, traced};
+use m161_asm::assemble;
+use m161_elf_writer::write_with_symbols;
 use m161_machine::Event::{Key, Step};
+use m161_symbols::Symbols;
 use m161_test_support::files::IMAGE;
-use m161_trace::Naming;
+use m161_trace::{Naming, Style};
+use std::alloc::AllocGlobal;
 use std::test::Fail;
 
 /// The lines of the built-in image.
@@ -27,6 +31,17 @@ const NAMED: &str = "\
 4 0 80000210 3c0b8000 lui $t3, 0x8000  r11=80000000
 5 0 80000214 ad6a0400 sw $t2, 1024($t3)  [00000400]=12345677
 6 0 80000218 8d6c0400 lw $t4, 1024($t3)  r12=12345677
+";
+
+/// A branch over a word to a `wait`.
+const SOURCE: &str = "start: beq $0, $0, again\n nop\nagain: wait\n";
+
+/// The lines of it with its labels.
+const LABELLED: &str = "\
+0 0 80000200 <start> 10000001 beq $0, $0, 0x80000208 <again>
+1 0 80000204 <start+4> 00000000 nop
+2 0 80000208 <again> 42000020 wait  state=waiting
+3 0 8000020c <again+4> -  idle
 ";
 
 /// HI, LO, Compare, a trap of each kind of word, and a delay slot.
@@ -96,15 +111,32 @@ const OF_WAITING: &str = "\
 
 #[test]
 fn trace_demo(rt: HostRuntime) -> Result<(), Fail> {
-    let text = traced(&rt, &IMAGE, 1, &[(Step(0), 7)], Naming::Numbers)?;
+    let text = traced(&rt, &IMAGE, 1, &[(Step(0), 7)], &Style::plain(rt.alloc()))?;
     same(&rt, text.as_str(), DEMO);
     Ok(())
 }
 
 #[test]
 fn trace_demo_by_names(rt: HostRuntime) -> Result<(), Fail> {
-    let text = traced(&rt, &IMAGE, 1, &[(Step(0), 7)], Naming::Names)?;
+    let style = Style {
+        registers: Naming::Names,
+        symbols: Symbols::none(rt.alloc()),
+    };
+    let text = traced(&rt, &IMAGE, 1, &[(Step(0), 7)], &style)?;
     same(&rt, text.as_str(), NAMED);
+    Ok(())
+}
+
+#[test]
+fn trace_with_symbols(rt: HostRuntime) -> Result<(), Fail> {
+    let program = assemble(rt.alloc(), SOURCE)?;
+    let file = write_with_symbols(rt.alloc(), &program)?;
+    let style = Style {
+        registers: Naming::Numbers,
+        symbols: Symbols::new(rt.alloc(), &file)?,
+    };
+    let text = traced(&rt, &file, 1, &[(Step(0), 4)], &style)?;
+    same(&rt, text.as_str(), LABELLED);
     Ok(())
 }
 

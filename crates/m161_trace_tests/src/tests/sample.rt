@@ -5,7 +5,7 @@ use super::same;
 use super::traced::traced;
 use m161_machine::Event::Step;
 use m161_test_support::kernel::kernel_file;
-use m161_trace::Naming;
+use m161_trace::Style;
 use std::test::Fail;
 
 /// The first 60 lines.
@@ -82,7 +82,7 @@ fn trace_sample(rt: HostRuntime) -> Result<(), Fail> {
         (Step(1), 23),
         (Step(0), 4),
     ];
-    let text = traced(&rt, file.as_slice(), 2, &events, Naming::Numbers)?;
+    let text = traced(&rt, file.as_slice(), 2, &events, &Style::plain(rt.alloc()))?;
     same(&rt, text.as_str(), LINES);
     Ok(())
 }

@@ -6,7 +6,7 @@ use m161::{Console, Machine, Tlb};
 use m161_machine::{Conf, Event, LinkUnit};
 use m161_test_support::files::file_from;
 use m161_test_support::outcomes::ENTRY;
-use m161_trace::{Naming, Tracer};
+use m161_trace::{Style, Tracer};
 use std::alloc::AllocGlobal;
 use std::test::Fail;
 
@@ -50,7 +50,7 @@ pub(crate) fn trace_one(
     machine: &mut Machine,
     tracer: &mut Tracer<Tlb, Console>,
     event: Event,
-    naming: Naming,
+    style: &Style,
     text: &mut String,
 ) -> Result<(), Fail>
     requires { tracer.old ≡ machine.old.state }
@@ -58,7 +58,7 @@ pub(crate) fn trace_one(
 {
     let number = machine.made();
     let outcome = machine.event(event)?;
-    tracer.line(machine, event, outcome, number, naming, text)?;
+    tracer.line(machine, event, outcome, number, style, text)?;
     Ok(())
 }
 
@@ -69,14 +69,14 @@ fn trace_times(
     tracer: &mut Tracer<Tlb, Console>,
     event: Event,
     times: u32,
-    naming: Naming,
+    style: &Style,
     text: &mut String,
 ) -> Result<(), Fail>
     requires { tracer.old ≡ machine.old.state }
     ensures { OnOk result (tracer.new ≡ machine.new.state) }
 {
     for _time in 0..times {
-        trace_one(machine, tracer, event, naming, text)?;
+        trace_one(machine, tracer, event, style, text)?;
     }
     Ok(())
 }
@@ -103,13 +103,13 @@ pub(crate) fn traced(
     file: &[u8],
     processors: u32,
     events: &[(Event, u32)],
-    naming: Naming,
+    style: &Style,
 ) -> Result<String, Fail> {
     let mut machine = booted(rt, file, processors)?;
     let mut tracer = tracer_of(rt, &machine)?;
     let mut text = String::new(rt.alloc());
     for (event, times) in events {
-        trace_times(&mut machine, &mut tracer, *event, *times, naming, &mut text)?;
+        trace_times(&mut machine, &mut tracer, *event, *times, style, &mut text)?;
     }
     Ok(text)
 }
@@ -117,11 +117,6 @@ pub(crate) fn traced(
 /// The lines of a run.
 pub(crate) fn lines_of(rt: &impl AllocGlobal, run: &Run) -> Result<String, Fail> {
     let file = file_from(rt.alloc(), ENTRY, ENTRY, run.words)?;
-    traced(
-        rt,
-        file.as_slice(),
-        run.processors,
-        run.events,
-        Naming::Numbers,
-    )
+    let style = Style::plain(rt.alloc());
+    traced(rt, file.as_slice(), run.processors, run.events, &style)
 }
