@@ -170,9 +170,9 @@ standard input, one a line, and each is answered before the next one is read:
   x ADDR N P           the same as processor P would fetch them
   l N                  shows the log's last N entries, 1 to 1024, or all that it keeps
   help  quit
-ADDR has one to eight hexadecimal digits, behind 0x or not. An error of a command is printed as
-`? Name`, and the next one is done. The image, FILE and keys have at most 402653184 bytes each, and
-so has a line of the input.
+ADDR has one to eight hexadecimal digits, behind 0x or not; with --symbols it may be a name too, or
+NAME+N, N being written so. An error of a command is printed as `? Name`, and the next one is done.
+The image, FILE and keys have at most 402653184 bytes each, and so has a line of the input.
 
 Exit status:
   0  the commands ended
@@ -205,12 +205,14 @@ Example:
 /// The end of the help of `as`.
 pub(crate) const AFTER_AS_HELP: &str = "\
 The text is read from standard input, and its ELF file is written to standard output. A fault is
-`s161: source LINE:COLUMN N Name (..)`. The text has at most 402653184 bytes.
+`s161: source LINE:COLUMN N Name (..)`. With --symbols the file has a symbol table of the labels. The
+text has at most 402653184 bytes.
 
 Example:
   s161 as < kernel.s > kernel.elf";
 
 /// The end of the help of `dis`.
 pub(crate) const AFTER_DIS_HELP: &str = "\
-For each segment that is loaded, a line a word: its address, the word, and its assembly text. The
-image is loaded into 16777216 bytes of RAM; its file has at most 402653184 bytes.";
+For each segment that is loaded, a line a word: its address, the word, and its assembly text. With
+--symbols the name of the nearest symbol, <NAME> or <NAME+N>, stands behind an address. The image is
+loaded into 16777216 bytes of RAM; its file has at most 402653184 bytes.";

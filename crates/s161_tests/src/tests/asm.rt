@@ -20,7 +20,7 @@ lw $12, 1024($11)
 
 /// The length of a text's file and whether it has these bytes.
 fn assemble_text(alloc: Global, source: &str, expected: &[u8]) -> (usize, bool) {
-    match assembly(alloc, source) {
+    match assembly(alloc, source, false) {
         Ok(file) => (file.len(), file.as_slice() == expected),
         Err(_) => (0, false),
     }
@@ -71,7 +71,7 @@ static FAULTS: [(&str, &str); 8] = [
 #[test]
 fn assembler_errors(rt: HostRuntime) -> Result<(), Fail> {
     for (source, expected) in &FAULTS {
-        match assembly(rt.alloc(), source) {
+        match assembly(rt.alloc(), source, false) {
             Ok(_) => same(&rt, *source, "accepted"),
             Err(fault) => {
                 let line = line_of(rt.alloc(), fault)?;
