@@ -149,7 +149,8 @@ quit
 
 def images(make):
     """The images that both sizes use."""
-    for name in ("hello", "turns", "words", "sum"):
+    make.write("named.elf", make.said(["as", "--symbols"], make.example("turns.s").encode()))
+    for name in ("hello", "turns", "words", "sum", "sharing"):
         make.assemble(f"{name}.elf", make.example(f"{name}.s"))
     shootdown = make.example("shootdown.s")
     make.assemble("hasty.elf", shootdown.replace("beq     $15, $0, acked", "nop"))
@@ -187,8 +188,10 @@ def small(make):
         Command(["demo"]),
         Command(["as"], text=make.example("hello.s").encode(), of="hello.s"),
         Command(["as"], text=make.example("words.s").encode(), of="words.s"),
+        Command(["as", "--symbols"], text=make.example("words.s").encode(), of="words.s"),
         Command(["dis", "hello.elf"]),
         Command(["dis", "words.elf", "--names"]),
+        Command(["dis", "named.elf", "--symbols"]),
         Command(["run", "hello.elf"], "scheduled", hello),
         Command(["run", "hello.elf", *one, "--show-log"], "scheduled", hello),
         Command(["run", "hello.elf", *one, "--only-log"], "scheduled", hello),
@@ -198,6 +201,8 @@ def small(make):
         Command(["run", "turns.elf", *two, *at_random, "--show-log"], "driven"),
         Command(["run", "turns.elf", *two, *priorities, "--only-log"], "driven"),
         Command(["run", "shell.elf", *two, *typed], "driven"),
+        Command(["run", "sharing.elf", *two, "--turns", "1", "--events", "300", "--link", "line",
+                 "--only-log"], "driven", ends=3),
         Command(["run", "off.elf", *one, "--threads", "5"], "threads"),
         Command(["run", "off.elf", *one, "--cpus", "3", "--threads", "5", "--burst", "2"], "threads"),
         Command(["run", "spin.elf", *two, "--threads", "4", "--only-log"], "threads", ends=3, sort=True),
@@ -224,6 +229,7 @@ def small(make):
         debug(["turns.elf", *two, *at_random], two, events_of(chosen)),
         Command(["trace", "hello.elf", *one], "traced", hello),
         Command(["trace", "turns.elf", *two, *at_random, "--names"], "traced"),
+        Command(["trace", "named.elf", *two, *at_random, "--symbols"], "traced"),
         Command(["trace", "shell.elf", *two, *typed, "--from", "900", "--count", "20"], "traced"),
         *words_and_faults(make),
     ]

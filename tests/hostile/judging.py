@@ -157,7 +157,7 @@ def without(words):
             skip -= 1
         elif word in ("--from", "--count"):
             skip = 1
-        elif word not in ("--show-log", "--only-log", "--names"):
+        elif word not in ("--show-log", "--only-log", "--names", "--symbols"):
             kept.append(word)
     return kept
 
