@@ -86,8 +86,11 @@ drives_state_more rules s made c d t u es fs so_far turn =
       chosen_are = chooses_more rules es turn.0 (cursor_at rules s) c d s t u so_far.chosen_are turn.1;
     })
 
+pub not_begun : (rules : Rules) (n : ℕ) (s : State) → BeginsRun rules n s s
+not_begun rules n s = ([], cursor_at rules s, (let none : 0 ≤ n = omega arith in none), (refl, refl))
+
 -- the run up to here, if it goes no further
-pub begun_state : (rules : Rules) (n made : ℕ) (s t u : State) (c : Cursor) (es : List Event) → made < n →
+pub begun_state : (rules : Rules) (n made : ℕ) (s t u : State) (c : Cursor) (es : List Event) → made ≤ n →
     DrivingState rules s made c t es → u ≡ t → BeginsRun rules n s u
 begun_state rules n made s t u c es less so_far same =
     subst (λ x. BeginsRun rules n s x) (sym same)

@@ -65,10 +65,10 @@ pub record DrivesState
   pub chosen_are : Chooses rules (cursor_at rules s) s events cursor t
   pub stops : Stops rules n driven.made cursor t driven.stop
 
--- fewer than n events that the policy chose, with a new cursor, lead from a state to another
+-- at most n events that the policy chose, with a new cursor, lead from a state to another
 abbrev pub BeginsRun : Rules → ℕ → State → State → Type 0
 BeginsRun rules n s t =
-    (events : List Event) × (cursor : Cursor) × (length events < n)
+    (events : List Event) × (cursor : Cursor) × (length events ≤ n)
     × Chooses rules (cursor_at rules s) s events cursor t
 
 -- the law of every choice: in a state that isn't off, the chosen event is refused for Worn or, by

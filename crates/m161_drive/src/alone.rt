@@ -12,6 +12,9 @@ use m161_machine::{Core, Event, Refusal};
 use m161_tlb::Tlb;
 use std::alloc::{AllocError, Global};
 
+/// Room for so many events is made at once, if a run may have as many.
+const AT_ONCE: u64 = 16_384;
+
 /// A driven run on a state, and its events.
 #[derive(Drop)]
 pub struct DrivenEvents {
@@ -92,7 +95,7 @@ pub fn drive_core<T: Tlb, D: Console>(
     ensures err { OnErr result (BeginsRun policy.now n core.old.state core.new.state) }
 {
     let mut cursor = Cursor::new(policy, core);
-    let mut events = Vec::new(alloc);
+    let mut events = Vec::with_capacity(alloc, n.min(AT_ONCE) as usize)?;
     for made in 0..n {
         let stop = drive_once(core, policy, &mut cursor, &mut events)?;
         if let Some(stop) = stop {

@@ -1,12 +1,12 @@
 use Rattle.std.proofs.Common.{subst, arith, rules}
 use Rattle.std.proofs.lemmas.Result.{err_from_is_err_and}
 use Rattle.m161_drive.specs.helpers.Drive.{TurnState}
-use Rattle.m161_drive.proofs.Driving.{begun_state, drives_state_more, ended_state, state_begins, stopped_state, stops_so}
+use Rattle.m161_drive.proofs.Driving.{begun_state, not_begun, drives_state_more, ended_state, state_begins, stopped_state, stops_so}
 use Rattle.m161_drive.proofs.alone.drive_core.Goals as goal
 
 pub loop-made-init : goal.loop-made-init
 loop-made-init g c =
-    state_begins c.args.policy.now c.args.core.now.state c.new-cursor.result c.new-events.result.items c.new-cursor.ensures c.new-events.ensures.items
+    state_begins c.args.policy.now c.args.core.now.state c.new-cursor.result c.in_ok-events.events.items c.new-cursor.ensures c.in_ok-events.ensures.items
 
 pub loop-made-preserved : goal.loop-made-preserved
 loop-made-preserved g c =
@@ -40,7 +40,12 @@ returns-clause-run g c =
 
 pub returns-in_err-stop-clause-err : goal.returns-in_err-stop-clause-err
 returns-in_err-stop-clause-err g c =
-    let made = err_from_is_err_and c.from_residual.result c.from_residual.ensures.1 in
+    let made = err_from_is_err_and c.from_residual-in_err-stop.result c.from_residual-in_err-stop.ensures.1 in
     rw made.1
     (begun_state c.args.policy.now c.args.n c.loop-made.made c.args.core.now.state c.loop-made.core.state c.drive_once.new.core.state
     c.loop-made.cursor c.loop-made.events.items (omega arith) c.loop-made.invariant (search rules))
+
+pub returns-in_err-events-clause-err : goal.returns-in_err-events-clause-err
+returns-in_err-events-clause-err g c =
+    let made = err_from_is_err_and c.from_residual.result c.from_residual.ensures.1 in
+    rw made.1 (not_begun c.args.policy.now c.args.n c.args.core.now.state)
