@@ -147,6 +147,25 @@ quit
 """
 
 
+# Some of them by names of addresses.
+NAMED_SESSION = """b 0 take
+b 1 count+8
+g
+w
+x both 4
+u m take
+m sent 2
+g
+d 0 take
+g 40
+j 12
+w
+x 0x80000230 3 0
+g
+quit
+"""
+
+
 def images(make):
     """The images that both sizes use."""
     make.write("named.elf", make.said(["as", "--symbols"], make.example("turns.s").encode()))
@@ -227,6 +246,7 @@ def small(make):
         debug(["hello.elf", "hello.schedule", *one], one, events_of(hello.decode())),
         debug(["@sample", "sample.log"], ["--cpus", "2"], events_of(sample)),
         debug(["turns.elf", *two, *at_random], two, events_of(chosen)),
+        debug(["named.elf", *two, *at_random, "--symbols"], two, events_of(chosen), NAMED_SESSION),
         Command(["trace", "hello.elf", *one], "traced", hello),
         Command(["trace", "turns.elf", *two, *at_random, "--names"], "traced"),
         Command(["trace", "named.elf", *two, *at_random, "--symbols"], "traced"),

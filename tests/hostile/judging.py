@@ -182,7 +182,7 @@ class Session:
         first += self.breakpoints
         script = "".join(f"{line}\nzz\n" for line in first + lines)
         place = running.place
-        image, options = self.command.words[1], (*self.command.size, *self.log())
+        image, options = self.command.words[1], (*self.command.size, *self.shown())
         key = (image, *options, text, script)
         if key not in place.known:
             words = ["debug", image, place.file("schedule", text.encode()), *options]
@@ -190,9 +190,11 @@ class Session:
             place.known[key] = answer.output.split(b"? Unknown\n")[len(first) :]
         return place.known[key]
 
-    def log(self):
+    def shown(self):
+        """The command's options that answers depend on, but for the machine's size."""
         words = self.command.words
-        return ["--log", words[words.index("--log") + 1]] if "--log" in words else []
+        symbols = ["--symbols"] if "--symbols" in words else []
+        return symbols + (["--log", words[words.index("--log") + 1]] if "--log" in words else [])
 
     def judge(self):
         lines = self.command.text.decode().splitlines()

@@ -1,6 +1,8 @@
 //! What a session's lines do.
 
-ghost use Rattle.std.specs.Prelude.{◌≡◌, ◌+◌, ◌-◌, ◌≤◌, [], length, string_bytes, vec_capacity, IfNone, IfOk};
+ghost use Rattle.std.specs.Prelude.{◌≡◌, ◌+◌, ◌-◌, ◌≤◌, [], codes, decimal, length, string_bytes, vec_capacity, IfNone, IfOk};
+ghost use Rattle.m161_text.specs.Lines.{with_line_end};
+ghost use Rattle.m161_text.specs.Parts.{◌␣◌};
 ghost use Rattle.m161_debug.specs.Jumps.{jump_fault};
 ghost use Rattle.s161_debug.specs.Lines.{asked_by, error_line, name_of_jump_error, Does, DoesCommand, DoesJump, DoesJumpIf};
 ghost use Rattle.s161_debug.specs.helpers.Lines.{Jumped};
@@ -78,7 +80,7 @@ fn jump(alloc: Global, session: &mut Session, k: u64, left: &mut Left) -> Result
         (string_bytes text)) }
 {
     match go_back(alloc, session, k, left) {
-        Ok(()) => format!(in alloc; "at {k}\n"),
+        Ok(text) => Ok(text),
         Err(error) => line_of_error(alloc, error),
     }
 }
@@ -103,17 +105,25 @@ fn name_of(error: JumpError) -> &'static str
 }
 
 // Goes to the state before event k, and puts the events that are undone before those that are left.
-// Room for all of them is taken first, since a jump can't be taken back.
-fn go_back(alloc: Global, session: &mut Session, k: u64, left: &mut Left) -> Result<(), JumpError>
-    ensures { Jumped k session.old left.old result session.new left.new }
+// Returns what that prints. Memory for the text and for all of the events is taken first, since a
+// jump can't be taken back.
+fn go_back(
+    alloc: Global,
+    session: &mut Session,
+    k: u64,
+    left: &mut Left,
+) -> Result<String, JumpError>
+    ensures jumped { Jumped k session.old left.old result session.new left.new }
+    ensures text { IfOk result (λ text. string_bytes text ≡ with_line_end (codes "at" ␣ decimal k)) }
 {
     if let Some(error) = fault_of(session, k) {
         return Err(error);
     }
+    let text = format!(in alloc; "at {k}\n")?;
     let room = room_for(alloc, session, k, left)?;
     let undone = session.jump(alloc, k)?;
     left.put_before(&undone, room);
-    Ok(())
+    Ok(text)
 }
 
 // A list with room for the events from event k on, and for those that are left.

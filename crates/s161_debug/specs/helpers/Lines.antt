@@ -1,4 +1,4 @@
-use Rattle.std.specs.Prelude.{◌≡◌, ℕ, List, ◌++◌, Result, Ok, Err, Vec}
+use Rattle.std.specs.Prelude.{◌≡◌, ℕ, List, ◌++◌, Result, Ok, Err, String, Vec}
 use Rattle.std.specs.Global.{Global}
 use Rattle.m161_machine.specs.declared.event.Event.{Event}
 use Rattle.m161_debug.specs.declared.jump.JumpError.{JumpError}
@@ -10,8 +10,9 @@ use Rattle.m161_debug.specs.Jumps.{Jumps, jump_fault}
 -- the session went to the state before event k, and these are the remaining events; or it didn't,
 -- and they stay
 abbrev pub Jumped :
-    ℕ → SessionState → List Event → Result Unit JumpError → SessionState → List Event → Type 0
-Jumped k s events (Ok done) t left =
+    ℕ → SessionState → List Event → Result (String Global) JumpError → SessionState → List Event →
+    Type 0
+Jumped k s events (Ok text) t left =
     (undone : Vec Event Global) × Jumps (jump_fault k s.machine) k s (Ok undone) t
     × (left ≡ undone.items ++ events)
 Jumped k s events (Err e) t left =

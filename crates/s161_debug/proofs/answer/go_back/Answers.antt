@@ -9,6 +9,6 @@ put_before-requires-clause-room c =
     let deref = ap length c.deref.ensures.value in
     omega (arith, many, room, deref)
 
-pub returns : goal.returns
-returns c =
+pub returns-clause-jumped : goal.returns-clause-jumped
+returns-clause-jumped c =
     (c.in_ok-undone.undone, c.in_ok-undone.ensures, c.put_before.ensures ∙ ap (λ events. events ++ c.args.left.now) c.deref.ensures.value)
