@@ -169,7 +169,7 @@ quit
 def images(make):
     """The images that both sizes use."""
     make.write("named.elf", make.said(["as", "--symbols"], make.example("turns.s").encode()))
-    for name in ("hello", "turns", "words", "sum", "sharing"):
+    for name in ("hello", "turns", "words", "sum", "sharing", "conflict"):
         make.assemble(f"{name}.elf", make.example(f"{name}.s"))
     shootdown = make.example("shootdown.s")
     make.assemble("hasty.elf", shootdown.replace("beq     $15, $0, acked", "nop"))
@@ -222,6 +222,7 @@ def small(make):
         Command(["run", "shell.elf", *two, *typed], "driven"),
         Command(["run", "sharing.elf", *two, "--turns", "1", "--events", "300", "--link", "line",
                  "--only-log"], "driven", ends=3),
+        Command(["run", "conflict.elf", *one, "--turns", "1", "--strict", "--show-log"], "driven", ends=4),
         Command(["run", "off.elf", *one, "--threads", "5"], "threads"),
         Command(["run", "off.elf", *one, "--cpus", "3", "--threads", "5", "--burst", "2"], "threads"),
         Command(["run", "spin.elf", *two, "--threads", "4", "--only-log"], "threads", ends=3, sort=True),

@@ -12,8 +12,8 @@
 #![tactic(auto)]
 
 pub use m161_machine::{
-    BoardWord, BootError, Conf, Entry, Event, Events, Exception, Frame, Identifier, LinkUnit,
-    LoadError, Outcome, Page, ProcessorState, Refusal, Reg, Register, Row, Runs, Start,
+    BoardWord, BootError, Conf, Conflict, Entry, Event, Events, Exception, Frame, Identifier,
+    LinkUnit, LoadError, Outcome, Page, ProcessorState, Refusal, Reg, Register, Row, Runs, Start,
 };
 
 /// The TLB of the machine that the program runs.

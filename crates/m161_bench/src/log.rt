@@ -1,8 +1,8 @@
 //! Writing the log of a run as text, and reading it back.
 
 use crate::steps::run;
-use m161_machine::Entry;
-use m161_steplog::{LinkUnit, Mode, read_log, write_log};
+use m161::Machine;
+use m161_steplog::{Mode, read_log, write_log};
 use std::time::Instant;
 
 /// The result of writing and reading.
@@ -18,13 +18,20 @@ pub(crate) struct Measured {
     pub(crate) read: u128,
 }
 
-// The text of a log, and the nanoseconds of its writing.
-fn write_text(rt: &HostRuntime, log: &[Entry]) -> Option<(String, u128)> {
-    let start = Instant::now(rt).ok()?;
+// The text of a machine's log, and the nanoseconds of its writing.
+fn write_text(rt: &HostRuntime, machine: &Machine) -> Option<(String, u128)> {
+    // So that the proof knows that only a strict machine's log has conflicts.
+    machine.replay();
+    let conf = machine.conf();
     let mode = Mode {
-        link: LinkUnit::Word,
+        link: conf.link,
+        strict: conf.strict,
     };
-    let text = write_log(rt.alloc(), mode, log).ok()?;
+    let Ok(log) = machine.copy_log(rt.alloc()) else {
+        return None;
+    };
+    let start = Instant::now(rt).ok()?;
+    let text = write_log(rt.alloc(), mode, &log).ok()?;
     let took = start.elapsed(rt).ok()?;
     Some((text, took.as_nanos()))
 }
@@ -40,8 +47,7 @@ fn read_text(rt: &HostRuntime, text: &str) -> Option<(usize, u128)> {
 /// Writes the log of a run of `steps` Steps as text, and reads it back.
 pub(crate) fn measure(rt: &HostRuntime, image: &[u8], steps: u32) -> Option<Measured> {
     let machine = run(rt.alloc(), image, steps, steps)?;
-    let log = machine.copy_log(rt.alloc()).ok()?;
-    let (text, write) = write_text(rt, log.as_slice())?;
+    let (text, write) = write_text(rt, &machine)?;
     let (entries, read) = read_text(rt, text.as_str())?;
     Some(Measured {
         bytes: text.len(),

@@ -11,6 +11,7 @@ pub(crate) fn run(alloc: Global, image: &[u8], steps: u32, log: u32) -> Option<M
         processors: 1,
         log,
         link: LinkUnit::Word,
+        strict: false,
     };
     let mut machine = Machine::boot(alloc, image, conf).ok()?;
     machine.step(0).ok()?;

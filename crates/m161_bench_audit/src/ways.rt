@@ -25,6 +25,7 @@ fn conf(steps: u32) -> Conf {
         processors: 1,
         log: steps,
         link: LinkUnit::Word,
+        strict: false,
     }
 }
 

@@ -45,6 +45,7 @@ fn machine(alloc: Global, image: &[u8], events: u32) -> Option<Machine> {
         processors: 2,
         log: events,
         link: LinkUnit::Word,
+        strict: false,
     };
     Machine::boot(alloc, image, conf).ok()
 }
@@ -73,6 +74,7 @@ fn judge_seeds(alloc: Global, image: &[u8], seeds: u32, watches: &[Watch]) -> Op
         processors: 2,
         log: EVENTS,
         link: LinkUnit::Word,
+        strict: false,
     };
     let Ok(booted) = Booted::<Tlb, Console>::new(alloc, image, conf) else {
         return None;

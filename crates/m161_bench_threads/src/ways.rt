@@ -58,6 +58,7 @@ fn start_machine(alloc: Global, image: &[u8], task: Task) -> Option<Machine> {
             .checked_add(START)?
             .min(16_777_216),
         link: LinkUnit::Word,
+        strict: false,
     };
     let mut machine = Machine::boot(alloc, image, conf).ok()?;
     let _ = machine.steps(0, START);

@@ -131,6 +131,10 @@ abbrev pub after_read : Register → BoardState → BoardState
 after_read (Console register) b = record b { console = after_console_read register b.console }
 after_read other b = b
 
+-- the board after the machine is switched off
+abbrev pub switched_off : BoardState → BoardState
+switched_off b = record b { off = true }
+
 -- the board after a word is written to a register
 abbrev pub with_slot_word : Register → ℕ → BoardState → BoardState
 with_slot_word (Constant word) value b = b
@@ -138,7 +142,7 @@ with_slot_word (Console register) value b =
     record b { console = console_written register value b.console }
 with_slot_word RamSize value b = b
 with_slot_word Irqs value b = b
-with_slot_word Power value b = record b { off = true }
+with_slot_word Power value b = switched_off b
 with_slot_word Irqe value b = record b { irqe = value }
 with_slot_word Cpus value b = b
 -- the existing processors with a bit are started; a zero bit stops none

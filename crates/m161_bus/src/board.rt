@@ -1,7 +1,7 @@
 //! The board.
 
 ghost use Rattle.std.specs.Prelude.{◌≡◌, ◌-◌, ◌%◌, ◌^◌, ◌<◌, ◌≤◌, length, IfOk};
-ghost use Rattle.m161_bus.specs.Board.{KeepsLines, KeepsSizeAndRoom, ReadsSlot, after_read, board_at_boot, board_read, board_written, irqs_through, irqs_with, with_slot_word, slot_word};
+ghost use Rattle.m161_bus.specs.Board.{KeepsLines, KeepsSizeAndRoom, ReadsSlot, after_read, board_at_boot, board_read, board_written, irqs_through, irqs_with, slot_word, switched_off, with_slot_word};
 ghost use Rattle.m161_bus.specs.Console.{after_console_read, console_read, console_written};
 ghost use Rattle.m161_bus.specs.Outcome.{LeavesUnlessRefused};
 ghost use Rattle.m161_bus.specs.helpers.Registers.{IsThere};
@@ -188,6 +188,14 @@ impl<D: Console> Board<D> {
         Ok(())
     }
 
+    /// Switches the machine off, as a write to PWR does. Does not allocate.
+    pub fn switch_off(&mut self)
+        ensures state { self.new.state ≡ switched_off self.old.state }
+        ensures room { self.new.room ≡ self.old.room }
+    {
+        self.off = true;
+    }
+
     // The word that processor `c` reads from a register.
     fn read_register(&mut self, c: u32, register: Register) -> u32
         requires processor { c < self.old.state.processors }
@@ -229,7 +237,7 @@ impl<D: Console> Board<D> {
             | Register::Cpus
             | Register::SelfBit => {}
             Register::Console(register) => self.write_console(register, word),
-            Register::Power => self.off = true,
+            Register::Power => self.switch_off(),
             Register::Irqe => self.set_irqe(word),
             Register::Cpue => self.started |= word & cpus_of(self.processors),
             Register::Cirqe(p) => {

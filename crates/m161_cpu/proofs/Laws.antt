@@ -1,4 +1,4 @@
-use Rattle.std.proofs.Common.{◌≡◌, refl, Bool, true, false, Result, Ok, Err}
+use Rattle.std.proofs.Common.{◌≡◌, ℕ, refl, Bool, true, false, Option, None, Some, Result, Ok, Err}
 use Rattle.std.specs.Prelude.{not, ◌&&◌, if◌then◌else◌}
 use Rattle.m161_cop0.specs.Control.{is_pending}
 use Rattle.m161_cpu.specs.declared.processor.ProcessorState.{ProcessorState}
@@ -6,9 +6,9 @@ use Rattle.m161_cpu.specs.declared.processor.ProcessorState.TheVariants.{Stopped
 use Rattle.m161_cpu.specs.declared.processor.Outcome.TheVariants.{Ran, PoweredOff}
 use Rattle.m161_cpu.specs.Processor.{with_state}
 use Rattle.m161_cpu.specs.Links.{links_after}
-use Rattle.m161_cpu.specs.Scene.{Around, Scene, Change, scene_after}
+use Rattle.m161_cpu.specs.Scene.{Around, Scene, Change, around_after}
 use Rattle.m161_cpu.specs.declared.fault.Fault.{Fault}
-use Rattle.m161_cpu.specs.Step.{Stepped, step_of_result, change_of_step, idle, lines_in, running_step, step_by_state, step_of, tick, with_processor}
+use Rattle.m161_cpu.specs.Step.{Stepped, conflict_of, step_by_conflict, step_of_result, change_of_step, idle, lines_in, running_step, step_by_state, step_of, tick, with_processor}
 
 -- What a Step leaves of the links is told by what it does to its own, and by its store.
 
@@ -46,8 +46,12 @@ on_by true off on h = absurd (let bad : true ≡ false = on in cc)
 on_by false true on h = absurd (let bad : PoweredOff ≡ Ran = h in cc)
 on_by false false on h = refl
 
+on_changed : (conflict : Option (ℕ × ℕ)) (s : Scene) (change : Change) → s.around.board.off ≡ false → IsOn (step_by_conflict conflict s change)
+on_changed None s change on = on_by s.around.board.off (around_after change s.around).board.off on
+on_changed (Some conflict) s change on = λ h. absurd (cc)
+
 on_ended : (s : Scene) (r : Result Change Fault) → s.around.board.off ≡ false → IsOn (step_of_result s r)
-on_ended s (Ok change) on = on_by s.around.board.off (scene_after change s).around.board.off on
+on_ended s (Ok change) on = on_changed (conflict_of s change) s change on
 on_ended s (Err f) on = λ h. absurd (cc)
 
 on_waiting : (s : Scene) (pending : Bool) → s.around.board.off ≡ false →

@@ -9,3 +9,4 @@ pub mod Laws
 pub mod Awake
 mod Used
 mod Told
+pub mod Apart

@@ -4,9 +4,8 @@ use Rattle.std.proofs.lemmas.Bool.{cases_eq}
 use Rattle.std.proofs.lemmas.Nat.{and_le_l}
 use Rattle.std.proofs.lemmas.Nat.Bits.{bit_at-zero, bit_at_set_other, bit_at_set_same, bit_at_clear_other, bit_at_clear_same, bit_at-trailing_zeros}
 use Rattle.std.proofs.lemmas.List.{same_lists, length-set, get_or-set_same, get_or-set_other, get_or_default, get_or-replicate, get_or-map, length-map}
-use Rattle.m161_cpu.specs.Links.{HasBits, LinkState, after_store, is_to, no_links, unless_to, with_link}
+use Rattle.m161_cpu.specs.Links.{HasBits, LinkState, after_store, is_to, unless_to, with_link}
 use Rattle.m161_cpu.specs.helpers.Links.{IsWalked}
-use Rattle.m161_isa.specs.declared.link.LinkUnit.{LinkUnit}
 
 -- a mask with the bit of processor c, and without it
 abbrev pub with_bit : ℕ → ℕ → ℕ

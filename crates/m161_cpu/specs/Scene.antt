@@ -1,4 +1,4 @@
-use Rattle.std.specs.Prelude.{ℕ, ◌*◌, ◌/◌, List, slice_set, Option, None, Some, unwrap_or, Result, Ok, Err}
+use Rattle.std.specs.Prelude.{ℕ, Bool, ◌*◌, ◌/◌, List, slice_set, Option, None, Some, unwrap_or, Result, Ok, Err}
 use Rattle.m161_alu.specs.declared.arithmetic.HiLoPair.{HiLoPair}
 use Rattle.m161_tlb.specs.declared.row.Row.{Row}
 use Rattle.m161_ram.specs.Word.{with_half, with_word}
@@ -12,19 +12,22 @@ use Rattle.m161_cpu.specs.Links.{LinkAct, LinkState, Keep, links_after}
 
 -- What one Step of a processor sees, and what its instruction changes.
 
--- what is around a processor: its number, RAM, the board, and the links of all processors
+-- what is around a processor: its number, RAM, the board, the links of all processors, and whether
+-- the machine is strict: it stops where a row of a TLB would overlap another
 pub record Around : Type 0 where
   pub number : ℕ
   pub memory : List ℕ
   pub board : BoardState
   pub links : LinkState
+  pub strict : Bool
 
-abbrev pub around : ℕ → List ℕ → BoardState → LinkState → Around
-around number memory board links = record {
+abbrev pub around : ℕ → List ℕ → BoardState → LinkState → Bool → Around
+around number memory board links strict = record {
   number = number;
   memory = memory;
   board = board;
   links = links;
+  strict = strict;
 }
 
 -- a processor and what is around it
@@ -35,9 +38,10 @@ pub record Scene : Type 0 where
 abbrev pub scene : Processor → Around → Scene
 scene p a = record { processor = p; around = a }
 
--- processor p by this number, with this memory, board and links around it
-abbrev pub scene_of : Processor → ℕ → List ℕ → BoardState → LinkState → Scene
-scene_of p number memory board links = scene p (around number memory board links)
+-- processor p by this number, with this memory, board and links around it, on a strict machine or
+-- not
+abbrev pub scene_of : Processor → ℕ → List ℕ → BoardState → LinkState → Bool → Scene
+scene_of p number memory board links strict = scene p (around number memory board links strict)
 
 -- what is stored, and from which physical address on
 pub data Store : Type 0 where
@@ -110,9 +114,6 @@ around_after c a = record a {
   board = unwrap_or c.board a.board;
   links = links_after a.number c.link (stored_by c.store) a.links;
 }
-
-abbrev pub scene_after : Change → Scene → Scene
-scene_after c s = scene (processor_after c s.processor) (around_after c s.around)
 
 -- a function of a result
 abbrev pub result_map : {T U E : Type 0} → (T → U) → Result T E → Result U E

@@ -1,4 +1,4 @@
-use Rattle.std.specs.Prelude.{◌≡◌, ℕ, ◌+◌, Bool, not, ◌==◌, ◌&&◌, if◌then◌else◌, List, length, Option, None, Some, Result, Ok, Err}
+use Rattle.std.specs.Prelude.{◌≡◌, ◌≢◌, ℕ, ◌<◌, ◌+◌, ◌%◌, ◌^◌, Bool, not, ◌==◌, ◌&&◌, if◌then◌else◌, List, length, option_map, Option, None, Some, Result, Ok, Err}
 use Rattle.m161_isa.specs.declared.table.Row.{Row}
 use Rattle.m161_isa.specs.declared.instr.Coprocessor.{Coprocessor}
 use Rattle.m161_isa.specs.declared.instr.Coprocessor.TheVariants as coprocessor
@@ -8,17 +8,19 @@ use Rattle.m161_ram.specs.Word.{word_at}
 use Rattle.m161_cop0.specs.Control.{Control, is_pending, is_interrupted, may_use_cop0}
 use Rattle.m161_cop0.specs.Clock.{after_tick}
 use Rattle.m161_cop0.specs.Trap.{IsVector}
-use Rattle.m161_bus.specs.Board.{BoardState, interrupt_lines}
+use Rattle.m161_tlb.specs.declared.row.Row.{Row as TlbRow}
+use Rattle.m161_tlb.specs.Rows.{find_overlap}
+use Rattle.m161_bus.specs.Board.{BoardState, interrupt_lines, switched_off}
 use Rattle.m161_cpu.specs.declared.fault.Access.TheVariants.{Fetch}
 use Rattle.m161_cpu.specs.declared.fault.FaultKind.{FaultKind}
 use Rattle.m161_cpu.specs.declared.fault.FaultKind.TheVariants as kind
 use Rattle.m161_cpu.specs.declared.processor.ProcessorState.{ProcessorState}
 use Rattle.m161_cpu.specs.declared.processor.ProcessorState.TheVariants.{Stopped, Running, Waiting}
 use Rattle.m161_cpu.specs.declared.processor.Outcome.{Outcome}
-use Rattle.m161_cpu.specs.declared.processor.Outcome.TheVariants.{Ran, Trapped, Idle, PoweredOff, Taken}
+use Rattle.m161_cpu.specs.declared.processor.Outcome.TheVariants.{Ran, Trapped, Idle, PoweredOff, Conflict, Taken}
 use Rattle.m161_cpu.specs.Processor.{Processor, with_state}
 use Rattle.m161_cpu.specs.Links.{LinkAct, Keep, End, links_after}
-use Rattle.m161_cpu.specs.Scene.{Around, Scene, Change, scene, result_map, and_then, scene_after, stored_by}
+use Rattle.m161_cpu.specs.Scene.{Around, Scene, Change, scene, result_map, and_then, stored_by, processor_after, around_after}
 use Rattle.m161_cpu.specs.declared.fault.Fault.{Fault}
 use Rattle.m161_cpu.specs.Fault.{fault, exception_of, vector, with_trap}
 use Rattle.m161_cpu.specs.Translation.{reach}
@@ -54,14 +56,50 @@ idle f s = record { outcome = Idle; after = with_processor f s; link = Keep; sto
 abbrev pub switches_off : BoardState → BoardState → Bool
 switches_off before after = after.off && not before.off
 
--- what an instruction leaves
-abbrev pub step_of_change : Scene → Change → Stepped
-step_of_change s change = record {
-  outcome = if switches_off s.around.board (scene_after change s).around.board then PoweredOff else Ran;
-  after = with_processor tick (scene_after change s);
+-- the number of a row that is written, and that of the lowest other row that it would overlap
+abbrev pub overlap_in : List TlbRow → ℕ → TlbRow → Option (ℕ × ℕ)
+overlap_in rows i row = option_map (λ j. (i, j)) (find_overlap rows i row)
+
+-- these two on a strict machine, where there is such another row; a row's number has six bits
+abbrev pub conflict_in : Bool → List TlbRow → Option (ℕ × TlbRow) → Option (ℕ × ℕ)
+conflict_in strict rows None = None
+conflict_in strict rows (Some written) =
+    if strict then overlap_in rows (written.0 % 2 ^ 6) written.1 else None
+
+abbrev pub conflict_of : Scene → Change → Option (ℕ × ℕ)
+conflict_of s change = conflict_in s.around.strict s.processor.rows change.row
+
+-- a conflict leaves the row as it was
+abbrev pub without_row : Option (ℕ × ℕ) → Change → Change
+without_row None change = change
+without_row (Some conflict) change = record change { row = None }
+
+-- and switches the machine off
+abbrev pub off_after : Option (ℕ × ℕ) → BoardState → BoardState
+off_after None board = board
+off_after (Some conflict) board = switched_off board
+
+abbrev pub outcome_after : Option (ℕ × ℕ) → Bool → Outcome
+outcome_after None off = if off then PoweredOff else Ran
+outcome_after (Some conflict) off = Conflict conflict.0 conflict.1
+
+-- what is left by an instruction that has this conflict, or none
+abbrev pub step_by_conflict : Option (ℕ × ℕ) → Scene → Change → Stepped
+step_by_conflict conflict s change = record {
+  outcome =
+      outcome_after conflict (switches_off s.around.board (around_after change s.around).board);
+  after = scene
+      (tick (processor_after (without_row conflict change) s.processor))
+      (record (around_after change s.around) {
+        board = off_after conflict (around_after change s.around).board;
+      });
   link = change.link;
   stored = stored_by change.store;
 }
+
+-- what an instruction leaves
+abbrev pub step_of_change : Scene → Change → Stepped
+step_of_change s change = step_by_conflict (conflict_of s change) s change
 
 -- the end of a processor's link
 abbrev pub without_link : Around → Around
@@ -143,12 +181,18 @@ step_by_state Waiting s =
 unfoldable pub step_of : Scene → Stepped
 step_of s = step_by_state s.processor.state s
 
--- a Step's outcome: it isn't that of an input, and its vector is one of the four
+-- two different rows of the 64
+abbrev pub AreTwoRows : ℕ → ℕ → Type 0
+AreTwoRows i j = (i < 64) × (j < 64) × (i ≢ j)
+
+-- a Step's outcome: it isn't that of an input, its vector is one of the four, and a conflict is of
+-- two rows
 abbrev pub IsOfStep : Outcome → Type 0
 IsOfStep Ran = Unit {0}
 IsOfStep (Trapped code vector) = IsVector vector
 IsOfStep Idle = Unit {0}
 IsOfStep PoweredOff = Unit {0}
+IsOfStep (Conflict row other) = AreTwoRows row other
 IsOfStep Taken = ⊥
 
 -- the outcome of a Step, and the scene after it, are these

@@ -6,7 +6,7 @@ ghost use Rattle.m161_cpu.specs.Scene.{scene_of};
 ghost use Rattle.m161_cpu.specs.Step.{change_in, misfit_kind};
 ghost use Rattle.m161_cpu.specs.helpers.Execute.{change_by, Performs};
 
-use crate::fault::{Fault, FaultKind, Stop, stopped};
+use crate::fault::{Fault, FaultKind, Stop, settled, stopped};
 use crate::links::Links;
 use crate::processor::Cpu;
 use m161_bus::{Board, Console};
@@ -37,17 +37,18 @@ impl<T: Tlb> Cpu<T> {
         ram: &mut Ram,
         board: &mut Board<D>,
         links: &mut Links,
+        strict: bool,
     ) -> Result<(), Stop>
         requires processor { (c < board.old.state.processors) × (board.old.state.processors ≤ 32) }
         requires ram { length ram.old ≤ 2 ^ 29 }
         ensures change { Performs
-            (change_in (scene_of self.old c ram.old board.old.state links.old) word)
-            (scene_of self.old c ram.old board.old.state links.old) result
-            (scene_of self.new c ram.new board.new.state links.new) }
+            (change_in (scene_of self.old c ram.old board.old.state links.old strict) word)
+            (scene_of self.old c ram.old board.old.state links.old strict) result
+            (scene_of self.new c ram.new board.new.state links.new strict) }
         ensures board { KeepsSizeAndRoom board.old board.new }
         ensures size { length ram.new ≡ length ram.old }
     {
-        self.execute(&decode_in_step(word), c, ram, board, links)
+        self.execute(&decode_in_step(word), c, ram, board, links, strict)
     }
 
     // Executes an instruction of the table.
@@ -60,13 +61,14 @@ impl<T: Tlb> Cpu<T> {
         ram: &mut Ram,
         board: &mut Board<D>,
         links: &mut Links,
+        strict: bool,
     ) -> Result<(), Stop>
         requires processor { (c < board.old.state.processors) × (board.old.state.processors ≤ 32) }
         requires ram { length ram.old ≤ 2 ^ 29 }
         ensures change { Performs (change_by
-            (scene_of self.old c ram.old board.old.state links.old) instr.now)
-            (scene_of self.old c ram.old board.old.state links.old) result
-            (scene_of self.new c ram.new board.new.state links.new) }
+            (scene_of self.old c ram.old board.old.state links.old strict) instr.now)
+            (scene_of self.old c ram.old board.old.state links.old strict) result
+            (scene_of self.new c ram.new board.new.state links.new strict) }
         ensures board { KeepsSizeAndRoom board.old board.new }
         ensures size { length ram.new ≡ length ram.old }
     {
@@ -106,7 +108,7 @@ impl<T: Tlb> Cpu<T> {
                 offset,
                 base,
             } => self.store(op, rt, offset, base, c, ram, board, links),
-            Instr::Plain(op) => stopped(self.plain(op, c, links)),
+            Instr::Plain(op) => settled(self.plain(op, c, links, strict)),
             Instr::MoveFromCop0 { rt, register } => {
                 self.read_cop0(rt, register, board.lines(c));
                 Ok(())

@@ -5,7 +5,7 @@ ghost use Rattle.m161_cpu.specs.declared.fault.Fault.{Fault};
 ghost use Rattle.m161_cpu.specs.declared.fault.Stop.TheVariants as stops;
 ghost use Rattle.m161_cpu.specs.Fault.{exception_of, fault, fault_at, unit_of_kind, is_user_miss_kind};
 ghost use Rattle.m161_cpu.specs.Scene.{Change, Scene};
-ghost use Rattle.m161_cpu.specs.helpers.Execute.{Executes, Performs};
+ghost use Rattle.m161_cpu.specs.helpers.Execute.{Executes, Performs, Settles};
 
 use m161_cop0::Exception;
 
@@ -125,6 +125,8 @@ pub(crate) enum Stop {
     Fault(Fault),
     /// It is executed, and switches the machine off.
     PoweredOff,
+    /// It is executed but for the row of the TLB that it writes, which would overlap another one.
+    Conflict { row: u8, other: u8 },
 }
 
 impl From<Fault> for Stop {
@@ -147,4 +149,15 @@ pub(crate) fn stopped(executed: Result<(), Fault>) -> Result<(), Stop>
         Ok(()) => Ok(()),
         Err(fault) => Err(Stop::Fault(fault)),
     }
+}
+
+/// The same of an instruction that may write a row of the TLB.
+#[inline(always)]
+pub(crate) fn settled(executed: Result<(), Stop>) -> Result<(), Stop>
+    ensures { (r : Result Change Fault) (before after : Scene)
+        → after.around.board.off ≡ before.around.board.off
+        → Settles r before executed after
+        → Performs r before result after }
+{
+    executed
 }

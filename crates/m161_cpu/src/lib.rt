@@ -15,7 +15,8 @@
 //!            3 an interrupt that is enabled traps; there is no fetch
 //!            4 fetch at pc
 //!            5 opcode 16 in user mode without CU0 traps, then words that fit no row
-//!            6 the effect, or its trap
+//!            6 the effect, or its trap; on a strict machine a row of the TLB that would overlap
+//!              another one isn't written: that is a conflict, and the machine is off
 //!            7 Random and Count tick, also if the Step trapped or the processor waits
 //!
 //! addresses  kseg0 80000000, kseg1 a0000000 to physical 0; kuseg below and kseg2 above by the TLB

@@ -1,6 +1,6 @@
 //! Loads and stores.
 
-ghost use Rattle.std.specs.Prelude.{◌≡◌, ◌+◌, ◌-◌, ◌*◌, ◌/◌, ◌%◌, ◌^◌, ◌≤◌, ◌<◌, length, slice_index, Some, Ok, Err};
+ghost use Rattle.std.specs.Prelude.{◌≡◌, ◌+◌, ◌-◌, ◌*◌, ◌/◌, ◌%◌, ◌^◌, ◌≤◌, ◌<◌, Bool, length, slice_index, Some, Ok, Err};
 ghost use Rattle.m161_isa.specs.declared.instr.Instr.TheVariants.{Load, Store};
 ghost use Rattle.m161_bus.specs.Board.{BoardState, KeepsSizeAndRoom};
 ghost use Rattle.m161_alu.specs.Word.{sign_extended_half};
@@ -49,10 +49,10 @@ impl<T: Tlb> Cpu<T> {
     ) -> Result<(), Fault>
         requires processor { (c < board.old.state.processors) × (board.old.state.processors ≤ 32) }
         requires ram { length ram.now ≤ 2 ^ 29 }
-        ensures load { Executes (change_by (scene_of self.old c ram.now board.old.state links.old)
+        ensures load { (strict : Bool) → Executes (change_by (scene_of self.old c ram.now board.old.state links.old strict)
             (Load op rt offset base))
-            (scene_of self.old c ram.now board.old.state links.old) result
-            (scene_of self.new c ram.now board.new.state links.new) }
+            (scene_of self.old c ram.now board.old.state links.old strict) result
+            (scene_of self.new c ram.now board.new.state links.new strict) }
         ensures board { KeepsSizeAndRoom board.old board.new }
         ensures off { board.new.state.off ≡ board.old.state.off }
     {
@@ -182,10 +182,10 @@ impl<T: Tlb> Cpu<T> {
     ) -> Result<(), Stop>
         requires processor { (c < board.old.state.processors) × (board.old.state.processors ≤ 32) }
         requires ram { length ram.old ≤ 2 ^ 29 }
-        ensures store { Performs (change_by (scene_of self.old c ram.old board.old.state links.old)
+        ensures store { (strict : Bool) → Performs (change_by (scene_of self.old c ram.old board.old.state links.old strict)
             (Store op rt offset base))
-            (scene_of self.old c ram.old board.old.state links.old) result
-            (scene_of self.new c ram.new board.new.state links.new) }
+            (scene_of self.old c ram.old board.old.state links.old strict) result
+            (scene_of self.new c ram.new board.new.state links.new strict) }
         ensures board { KeepsSizeAndRoom board.old board.new }
         ensures size { length ram.new ≡ length ram.old }
     {
@@ -227,11 +227,11 @@ impl<T: Tlb> Cpu<T> {
     fn store_conditional(&mut self, at: u32, rt: Reg, c: u32, ram: &mut Ram, links: &mut Links)
         requires processor { c < 32 }
         requires within { at + 4 ≤ length ram.old }
-        ensures store { (b : BoardState) → Executes
-            (Ok (store_conditional (scene_of self.old c ram.old b links.old) rt
+        ensures store { (b : BoardState) (strict : Bool) → Executes
+            (Ok (store_conditional (scene_of self.old c ram.old b links.old strict) rt
             (slice_index self.old.registers rt) at))
-            (scene_of self.old c ram.old b links.old) (Ok result)
-            (scene_of self.new c ram.new b links.new) }
+            (scene_of self.old c ram.old b links.old strict) (Ok result)
+            (scene_of self.new c ram.new b links.new strict) }
         ensures size { length ram.new ≡ length ram.old }
     {
         let word = self.reg(rt);
@@ -267,10 +267,10 @@ impl<T: Tlb> Cpu<T> {
     ) -> Result<(), Stop>
         requires processor { c < board.old.state.processors }
         requires ram { length ram.old ≤ 2 ^ 29 }
-        ensures store { Performs
-            (store_word_at address word (scene_of self.old c ram.old board.old.state links.old))
-            (scene_of self.old c ram.old board.old.state links.old) result
-            (scene_of self.new c ram.new board.new.state links.new) }
+        ensures store { (strict : Bool) → Performs
+            (store_word_at address word (scene_of self.old c ram.old board.old.state links.old strict))
+            (scene_of self.old c ram.old board.old.state links.old strict) result
+            (scene_of self.new c ram.new board.new.state links.new strict) }
         ensures board { KeepsSizeAndRoom board.old board.new }
         ensures size { length ram.new ≡ length ram.old }
     {
@@ -296,10 +296,10 @@ impl<T: Tlb> Cpu<T> {
         links: &mut Links,
     ) -> Result<(), Stop>
         requires processor { c < board.old.state.processors }
-        ensures store { Performs
-            (store_word_at address word (scene_of self.old c ram.old board.old.state links.old))
-            (scene_of self.old c ram.old board.old.state links.old) result
-            (scene_of self.new c ram.new board.new.state links.new) }
+        ensures store { (strict : Bool) → Performs
+            (store_word_at address word (scene_of self.old c ram.old board.old.state links.old strict))
+            (scene_of self.old c ram.old board.old.state links.old strict) result
+            (scene_of self.new c ram.new board.new.state links.new strict) }
         ensures board { KeepsSizeAndRoom board.old board.new }
         ensures size { length ram.new ≡ length ram.old }
     {

@@ -46,6 +46,14 @@ pub enum Outcome {
     Idle,
     /// An instruction was executed that switched the machine off.
     PoweredOff,
+    /// A `tlbwi` or `tlbwr` of a strict machine didn't write its row, which would have overlapped
+    /// another one, and switched the machine off.
+    Conflict {
+        /// The row that was to be written: 0 to 63.
+        row: u8,
+        /// The lowest other row that it would overlap: 0 to 63.
+        other: u8,
+    },
     /// An input of a device was accepted; never the outcome of a Step.
     Taken,
 }

@@ -1,6 +1,7 @@
 //! One Step.
 
-ghost use Rattle.std.specs.Prelude.{◌≡◌, ◌+◌, ◌-◌, ◌^◌, ◌<◌, ◌≤◌, None, length};
+ghost use Rattle.std.specs.Prelude.{◌≡◌, ◌+◌, ◌-◌, ◌^◌, ◌<◌, ◌≤◌, None, length, true};
+ghost use Rattle.m161_tlb.specs.Rows.{AreApart};
 ghost use Rattle.m161_bus.specs.Board.{KeepsSizeAndRoom, interrupt_lines};
 ghost use Rattle.m161_cpu.specs.Links.{End, links_after};
 ghost use Rattle.m161_cpu.specs.Scene.{scene_of};
@@ -18,7 +19,7 @@ use m161_ram::Ram;
 use m161_tlb::Tlb;
 
 impl<T: Tlb> Cpu<T> {
-    /// One Step of processor `c`. Does not allocate.
+    /// One Step of processor `c`, on a strict machine or not. Does not allocate.
     #[inline(always)]
     pub fn step<D: Console>(
         &mut self,
@@ -26,12 +27,38 @@ impl<T: Tlb> Cpu<T> {
         ram: &mut Ram,
         board: &mut Board<D>,
         links: &mut Links,
+        strict: bool,
     ) -> Outcome
         requires processor { c < board.old.state.processors }
         requires ram { length ram.old ≤ 2 ^ 29 }
         requires room { self.old.count < 2 ^ 64 - 1 }
-        ensures step { Leaves (step_of (scene_of self.old c ram.old board.old.state links.old))
-            result (scene_of self.new c ram.new board.new.state links.new) }
+        ensures step { Leaves (step_of (scene_of self.old c ram.old board.old.state links.old strict))
+            result (scene_of self.new c ram.new board.new.state links.new strict) }
+        ensures counted { self.new.count ≡ self.old.count + 1 }
+        ensures size { length ram.new ≡ length ram.old }
+        ensures board { KeepsSizeAndRoom board.old board.new }
+        ensures proper { IsOfStep result }
+        // On a strict machine no two rows of its TLB come to overlap.
+        ensures apart { strict ≡ true → AreApart self.old.rows → AreApart self.new.rows }
+    {
+        self.rest_or_run(c, ram, board, links, strict)
+    }
+
+    #[inline(always)]
+    fn rest_or_run<D: Console>(
+        &mut self,
+        c: u32,
+        ram: &mut Ram,
+        board: &mut Board<D>,
+        links: &mut Links,
+        strict: bool,
+    ) -> Outcome
+        requires processor { c < board.old.state.processors }
+        requires ram { length ram.old ≤ 2 ^ 29 }
+        requires room { self.old.count < 2 ^ 64 - 1 }
+        ensures step { Leaves
+            (step_of (scene_of self.old c ram.old board.old.state links.old strict))
+            result (scene_of self.new c ram.new board.new.state links.new strict) }
         ensures counted { self.new.count ≡ self.old.count + 1 }
         ensures size { length ram.new ≡ length ram.old }
         ensures board { KeepsSizeAndRoom board.old board.new }
@@ -41,7 +68,7 @@ impl<T: Tlb> Cpu<T> {
         if self.rests(lines) {
             return Outcome::Idle;
         }
-        self.running_step(c, lines, ram, board, links)
+        self.running_step(c, lines, ram, board, links, strict)
     }
 
     // One Step of a processor that doesn't rest.
@@ -53,19 +80,20 @@ impl<T: Tlb> Cpu<T> {
         ram: &mut Ram,
         board: &mut Board<D>,
         links: &mut Links,
+        strict: bool,
     ) -> Outcome
         requires processor { (c < board.old.state.processors) × (board.old.state.processors ≤ 32) }
         requires lines { lines ≡ interrupt_lines c board.old.state }
         requires ram { length ram.old ≤ 2 ^ 29 }
         requires room { self.old.count < 2 ^ 64 - 1 }
-        ensures step { Leaves (running_step (scene_of self.old c ram.old board.old.state links.old))
-            result (scene_of self.new c ram.new board.new.state links.new) }
+        ensures step { Leaves (running_step (scene_of self.old c ram.old board.old.state links.old strict))
+            result (scene_of self.new c ram.new board.new.state links.new strict) }
         ensures counted { self.new.count ≡ self.old.count + 1 }
         ensures size { length ram.new ≡ length ram.old }
         ensures board { KeepsSizeAndRoom board.old board.new }
         ensures proper { IsOfStep result }
     {
-        match self.execute_next(c, lines, ram, board, links) {
+        match self.execute_next(c, lines, ram, board, links, strict) {
             Ok(()) => {
                 self.tick();
                 Outcome::Ran
@@ -73,6 +101,11 @@ impl<T: Tlb> Cpu<T> {
             Err(Stop::PoweredOff) => {
                 self.tick();
                 Outcome::PoweredOff
+            }
+            Err(Stop::Conflict { row, other }) => {
+                board.switch_off();
+                self.tick();
+                Outcome::Conflict { row, other }
             }
             Err(Stop::Fault(fault)) => self.trap_aside(fault, c, links),
         }
@@ -125,14 +158,15 @@ impl<T: Tlb> Cpu<T> {
         ram: &mut Ram,
         board: &mut Board<D>,
         links: &mut Links,
+        strict: bool,
     ) -> Result<(), Stop>
         requires processor { (c < board.old.state.processors) × (board.old.state.processors ≤ 32) }
         requires lines { lines ≡ interrupt_lines c board.old.state }
         requires ram { length ram.old ≤ 2 ^ 29 }
         ensures change { Performs
-            (change_of_step (scene_of self.old c ram.old board.old.state links.old))
-            (scene_of self.old c ram.old board.old.state links.old) result
-            (scene_of self.new c ram.new board.new.state links.new) }
+            (change_of_step (scene_of self.old c ram.old board.old.state links.old strict))
+            (scene_of self.old c ram.old board.old.state links.old strict) result
+            (scene_of self.new c ram.new board.new.state links.new strict) }
         ensures board { KeepsSizeAndRoom board.old board.new }
         ensures size { length ram.new ≡ length ram.old }
     {
@@ -140,7 +174,7 @@ impl<T: Tlb> Cpu<T> {
             return Err(Stop::Fault(Fault::of(FaultKind::Interrupt)));
         }
         let word = self.fetch(ram)?;
-        self.perform(word, c, ram, board, links)
+        self.perform(word, c, ram, board, links, strict)
     }
 
     // The word at pc, if the processor may execute it. By kseg0 in kernel mode it may execute any.

@@ -1,7 +1,7 @@
 //! What the next Step uses: the rows of the TLB through which it gets physical addresses, and the
 //! word of RAM that it stores to.
 
-ghost use Rattle.std.specs.Prelude.{◌≡◌, ℕ, ◌+◌, ◌<◌, ◌≤◌, ◌^◌, nat_le, if◌then◌else◌, false, Ok, Some, None, IfSome, length};
+ghost use Rattle.std.specs.Prelude.{◌≡◌, ℕ, ◌+◌, ◌<◌, ◌≤◌, ◌^◌, Bool, nat_le, if◌then◌else◌, false, Ok, Some, None, IfSome, length};
 ghost use Rattle.m161_isa.specs.declared.instr.Instr.TheVariants as instrs;
 ghost use Rattle.m161_isa.specs.Address.{unmapped};
 ghost use Rattle.m161_bus.specs.Board.{BoardState, interrupt_lines};
@@ -115,7 +115,8 @@ impl<T: Tlb> Cpu<T> {
     pub fn uses<D: Console>(&self, c: u32, ram: &Ram, board: &Board<D>, links: &Links) -> Uses
         requires processor { c < board.now.state.processors }
         requires ram { length ram.now ≤ 2 ^ 29 }
-        ensures { result ≡ uses_of (scene_of self.now c ram.now board.now.state links.now) }
+        ensures { (strict : Bool)
+            → result ≡ uses_of (scene_of self.now c ram.now board.now.state links.now strict) }
     {
         if !self.fetches(board.lines(c)) {
             return NOTHING;
@@ -151,9 +152,9 @@ impl<T: Tlb> Cpu<T> {
     fn direct_uses(&self, c: u32, ram: &Ram, links: &Links) -> Option<Option<u32>>
         requires processor { c < 32 }
         requires ram { length ram.now ≤ 2 ^ 29 }
-        ensures { (b : BoardState)
+        ensures { (b : BoardState) (strict : Bool)
             → IfSome result (λ stored.
-            stores_only stored ≡ uses_fetched (scene_of self.now c ram.now b links.now)) }
+            stores_only stored ≡ uses_fetched (scene_of self.now c ram.now b links.now strict)) }
     {
         match self.direct(4, self.pc(), ram.size()) {
             Some(at) => self.direct_uses_of_word(ram.word(at), c, ram, links),
@@ -172,9 +173,9 @@ impl<T: Tlb> Cpu<T> {
     ) -> Option<Option<u32>>
         requires processor { c < 32 }
         requires ram { length ram.now ≤ 2 ^ 29 }
-        ensures { (b : BoardState)
+        ensures { (b : BoardState) (strict : Bool)
             → IfSome result (λ stored.
-            stores_only stored ≡ uses_of_word (scene_of self.now c ram.now b links.now) None word) }
+            stores_only stored ≡ uses_of_word (scene_of self.now c ram.now b links.now strict) None word) }
     {
         if word >> 26 < 32 {
             return Some(None);
@@ -193,9 +194,9 @@ impl<T: Tlb> Cpu<T> {
     ) -> Option<Option<u32>>
         requires processor { c < 32 }
         requires ram { length ram.now ≤ 2 ^ 29 }
-        ensures { (b : BoardState)
+        ensures { (b : BoardState) (strict : Bool)
             → IfSome result (λ stored.
-            stores_only stored ≡ uses_by (scene_of self.now c ram.now b links.now) None instr.now) }
+            stores_only stored ≡ uses_by (scene_of self.now c ram.now b links.now strict) None instr.now) }
     {
         match *instr {
             Instr::Load {
@@ -229,10 +230,10 @@ impl<T: Tlb> Cpu<T> {
     ) -> Option<Option<u32>>
         requires processor { c < 32 }
         requires ram { length ram.now ≤ 2 ^ 29 }
-        ensures { (b : BoardState) (rt offset base : ℕ)
+        ensures { (b : BoardState) (strict : Bool) (rt offset base : ℕ)
             → address_by self.now offset base ≡ address
             → IfSome result (λ stored.
-            stores_only stored ≡ uses_by (scene_of self.now c ram.now b links.now) None
+            stores_only stored ≡ uses_by (scene_of self.now c ram.now b links.now strict) None
             (instrs.Store op rt offset base)) }
     {
         match self.direct_store(op, address, ram.size()) {
@@ -247,8 +248,8 @@ impl<T: Tlb> Cpu<T> {
     fn uses_aside(&self, c: u32, ram: &Ram, links: &Links) -> Uses
         requires processor { c < 32 }
         requires ram { length ram.now ≤ 2 ^ 29 }
-        ensures { (b : BoardState)
-            → result ≡ uses_fetched (scene_of self.now c ram.now b links.now) }
+        ensures { (b : BoardState) (strict : Bool)
+            → result ≡ uses_fetched (scene_of self.now c ram.now b links.now strict) }
     {
         let Uses {
             fetch,
@@ -268,8 +269,8 @@ impl<T: Tlb> Cpu<T> {
     fn uses_elsewhere(&self, c: u32, ram: &Ram, links: &Links) -> Uses
         requires processor { c < 32 }
         requires ram { length ram.now ≤ 2 ^ 29 }
-        ensures { (b : BoardState)
-            → result ≡ uses_fetched (scene_of self.now c ram.now b links.now) }
+        ensures { (b : BoardState) (strict : Bool)
+            → result ≡ uses_fetched (scene_of self.now c ram.now b links.now strict) }
     {
         let (fetch, word) = self.fetched(ram);
         match word {
@@ -301,8 +302,8 @@ impl<T: Tlb> Cpu<T> {
     #[inline(always)]
     fn uses_of_word(&self, fetch: Option<Via>, word: u32, c: u32, ram: &Ram, links: &Links) -> Uses
         requires processor { c < 32 }
-        ensures { (b : BoardState)
-            → result ≡ uses_of_word (scene_of self.now c ram.now b links.now) fetch word }
+        ensures { (b : BoardState) (strict : Bool)
+            → result ≡ uses_of_word (scene_of self.now c ram.now b links.now strict) fetch word }
     {
         if word >> 26 < 32 {
             return Uses { fetch, ..NOTHING };
@@ -320,8 +321,8 @@ impl<T: Tlb> Cpu<T> {
         links: &Links,
     ) -> Uses
         requires processor { c < 32 }
-        ensures { (b : BoardState)
-            → result ≡ uses_by (scene_of self.now c ram.now b links.now) fetch instr.now }
+        ensures { (b : BoardState) (strict : Bool)
+            → result ≡ uses_by (scene_of self.now c ram.now b links.now strict) fetch instr.now }
     {
         match *instr {
             Instr::Load {
@@ -371,9 +372,9 @@ impl<T: Tlb> Cpu<T> {
         links: &Links,
     ) -> Uses
         requires processor { c < 32 }
-        ensures { (b : BoardState) (rt offset base : ℕ)
+        ensures { (b : BoardState) (strict : Bool) (rt offset base : ℕ)
             → address_by self.now offset base ≡ address
-            → result ≡ uses_by (scene_of self.now c ram.now b links.now) fetch
+            → result ≡ uses_by (scene_of self.now c ram.now b links.now strict) fetch
             (instrs.Store op rt offset base) }
     {
         let Ok(to) = self.locate(Access::Store, store_width(op), address) else {

@@ -1,8 +1,9 @@
 -- A run, one event after the other.
-use Rattle.std.proofs.Common.{◌≡◌, ◌∙◌, inl, inr, sym, ap, refl, subst, ℕ, ◌+◌, ◌<◌, ◌≤◌, ◌&&◌, Bool, true, false, nat_lt, if◌then◌else◌, List, [], ◌∷◌, ◌++◌, length, take, drop, slice_get, Some, IsOk, Result, Ok, Err}
+use Rattle.std.proofs.Common.{◌≡◌, ◌∙◌, inl, inr, sym, ap, refl, subst, ℕ, ◌+◌, ◌<◌, ◌≤◌, ◌&&◌, Bool, true, false, nat_lt, if◌then◌else◌, Option, None, List, [], ◌∷◌, ◌++◌, length, take, drop, slice_get, Some, IsOk, Result, Ok, Err}
 use Rattle.std.proofs.lemmas.List.{take_more, at_drop_more, drop_all}
 use Rattle.std.proofs.lemmas.Option.{get_or_from_slice_get}
 use Rattle.m161_cpu.specs.declared.processor.Outcome.{Outcome}
+use Rattle.m161_cpu.specs.declared.processor.Outcome.TheVariants as outcomes
 use Rattle.m161_machine.specs.declared.event.Event.{Event}
 use Rattle.m161_machine.specs.declared.event.Refusal.{Refusal}
 use Rattle.m161_machine.specs.State.{State, next}
@@ -10,8 +11,8 @@ use Rattle.m161_machine.specs.History.{History, Answers, Continues, Refuses}
 use Rattle.m161_machine.proofs.Continuing.{continues_more}
 use Rattle.m161_debug.specs.declared.breakpoints.Breakpoint.{Breakpoint}
 use Rattle.m161_debug.specs.declared.stop.Stop.{Stop}
-use Rattle.m161_debug.specs.declared.stop.Stop.TheVariants.{Break, End, Off, Refused, Until}
-use Rattle.m161_debug.specs.Stops.{is_break, is_power_off, never, stop_after, stop_from, wait_after, wait_from, StopsBy}
+use Rattle.m161_debug.specs.declared.stop.Stop.TheVariants.{Break, Conflict, End, Off, Refused, Until}
+use Rattle.m161_debug.specs.Stops.{is_break, made_at, never, off_stop, stop_after, stop_from, stop_or, wait_after, wait_from, StopsBy}
 
 -- what a run waits for
 abbrev Awaited : Type 0
@@ -86,7 +87,7 @@ after aw bs m n t es k e o at no_stop passes answer =
 
 pub goes_on : (aw : Awaited) (bs : List Breakpoint) (m n t : History) (es : List Event) (k : ℕ) (e : Event) (o : Outcome) → IsAt es k e
     → NoStop aw bs m.state es k n.state → Passes bs k n.state e
-    → Answers n e (Ok o) t → is_power_off o ≡ false → aw e o t.state ≡ false → NoStop aw bs m.state es (k + 1) t.state
+    → Answers n e (Ok o) t → off_stop k o ≡ None → aw e o t.state ≡ false → NoStop aw bs m.state es (k + 1) t.state
 goes_on aw bs m n t es k e o at no_stop passes answer on unmet = after aw bs m n t es k e o at no_stop passes answer ∙ rw (on, unmet) refl
 
 pub made_more : (m n t : History) (es : List Event) (k : ℕ) (e : Event) (o : Outcome) → IsAt es k e
@@ -105,18 +106,30 @@ breaks aw bs m n es k e at made no_stop here = record {
 }
 
 -- event k switches the machine off
-pub switches_off : (aw : Awaited) (bs : List Breakpoint) (m n t : History) (es : List Event) (k : ℕ) (e : Event) (o : Outcome) → IsAt es k e
+
+pub none_some : (stop : Stop) → ◌≡◌ {A = Option Stop} None (Some stop) → ⊥
+none_some stop bad = cc
+
+off_made : (k : ℕ) (o : Outcome) (stop : Stop) → off_stop k o ≡ Some stop → made_at stop ≡ k + 1
+off_made k outcomes.Ran stop is = absurd (none_some stop is)
+off_made k (outcomes.Trapped code vector) stop is = absurd (none_some stop is)
+off_made k outcomes.Idle stop is = absurd (none_some stop is)
+off_made k outcomes.PoweredOff stop is = let same : Off k ≡ stop = cc in ap made_at (sym same)
+off_made k (outcomes.Conflict row other) stop is = let same : Conflict k ≡ stop = cc in ap made_at (sym same)
+off_made k outcomes.Taken stop is = absurd (none_some stop is)
+
+pub switches_off : (aw : Awaited) (bs : List Breakpoint) (m n t : History) (es : List Event) (k : ℕ) (e : Event) (o : Outcome) (stop : Stop) → IsAt es k e
     → Continues m (take k es) n → NoStop aw bs m.state es k n.state → Passes bs k n.state e
-    → Answers n e (Ok o) t → is_power_off o ≡ true → StopsBy (wait_from aw bs) m es (Off k) t
-switches_off aw bs m n t es k e o at made no_stop passes answer off = record {
-  made = made_more m n t es k e o at made answer;
+    → Answers n e (Ok o) t → off_stop k o ≡ Some stop → StopsBy (wait_from aw bs) m es stop t
+switches_off aw bs m n t es k e o stop at made no_stop passes answer off = record {
+  made = subst (λ i. Continues m (take i es) t) (sym (off_made k o stop off)) (made_more m n t es k e o at made answer);
   stop_is = inl (after aw bs m n t es k e o at no_stop passes answer ∙ rw off refl);
 }
 
 -- after event k, what the run waits for holds
 pub waits_no_more : (aw : Awaited) (bs : List Breakpoint) (m n t : History) (es : List Event) (k : ℕ) (e : Event) (o : Outcome) → IsAt es k e
     → Continues m (take k es) n → NoStop aw bs m.state es k n.state → Passes bs k n.state e
-    → Answers n e (Ok o) t → is_power_off o ≡ false → aw e o t.state ≡ true → StopsBy (wait_from aw bs) m es (Until k) t
+    → Answers n e (Ok o) t → off_stop k o ≡ None → aw e o t.state ≡ true → StopsBy (wait_from aw bs) m es (Until k) t
 waits_no_more aw bs m n t es k e o at made no_stop passes answer on met = record {
   made = made_more m n t es k e o at made answer;
   stop_is = inl (after aw bs m n t es k e o at no_stop passes answer ∙ rw (on, met) refl);
@@ -132,14 +145,10 @@ ends aw bs m n es k all made no_stop = record {
 
 -- a run that waits for what never holds
 
-same_made : (b : Bool) (k : ℕ) (t : State) (f g : State → Stop × State) → ((u : State) → f u ≡ g u) → (if b then (Off k, t) else f t) ≡ (if b then (Off k, t) else g t)
-same_made true k t f g same = refl
-same_made false k t f g same = same t
-
 same_after : (k : ℕ) (s : State) (e : Event) (x : Result (Outcome × State) Refusal) (f g : State → Stop × State) → ((t : State) → f t ≡ g t)
     → wait_after never k s e x f ≡ stop_after k s x g
 same_after k s e (Err refusal) f g same = refl
-same_after k s e (Ok r) f g same = same_made (is_power_off r.0) k r.1 f g same
+same_after k s e (Ok r) f g same = ap (stop_or (off_stop k r.0) r.1) (same r.1)
 
 same_event : (b : Bool) (k : ℕ) (s : State) (e : Event) (x : Result (Outcome × State) Refusal) (f g : State → Stop × State) → ((t : State) → f t ≡ g t)
     → (if b then (Break k, s) else wait_after never k s e x f) ≡ (if b then (Break k, s) else stop_after k s x g)

@@ -9,4 +9,5 @@ mod Decimals
 mod Fetching
 mod Repeating
 mod Jumping
+mod Conflicts
 mod Marking

@@ -41,10 +41,10 @@ no_fault_if false h = absurd (cc)
 
 pub steps_done : (s t : SessionState) (p n : ℕ) (rest : List Event) (stop : Stop) (before after : List ℕ) (fault : Option CommandError) → fault ≡ None
     → Stops s.breakpoints s.machine (replicate n (Step p)) stop t.machine → t.breakpoints ≡ s.breakpoints
-    → t.style ≡ s.style → after ≡ before ++ with_line_end (stop_text stop)
+    → t.style ≡ s.style → after ≡ before ++ with_line_end (stop_text stop t.machine.state.conflict)
     → HasEffectUnless fault (Steps p n) s rest (Ok 0) t before after
 steps_done s t p n rest stop before after None none stops same style text = (
-  with_line_end (stop_text stop),
+  with_line_end (stop_text stop t.machine.state.conflict),
   text,
   (refl, (used_by stop, record { stop = stop; stops = stops; breakpoints = same; style = style; used_is = refl; printed_is = refl })),
 )

@@ -33,6 +33,7 @@ is_trap outcomes.Ran = false
 is_trap (outcomes.Trapped code vector) = true
 is_trap outcomes.Idle = false
 is_trap outcomes.PoweredOff = false
+is_trap (outcomes.Conflict row other) = false
 is_trap outcomes.Taken = false
 
 -- the condition holds after an event with this outcome, which led to t, of a run that began at s:

@@ -1,10 +1,11 @@
-use Rattle.std.specs.Prelude.{◌≡◌, ℕ, ◌+◌, ◌*◌, ◌%◌, ◌^◌, ◌==◌, ◌&&◌, not, nat_le, Bool, if◌then◌else◌, is_some, List, ◌++◌, length, replicate, take, Option, None, Some, Result, Ok, Err, codes, decimal}
+use Rattle.std.specs.Prelude.{◌≡◌, ℕ, ◌+◌, ◌*◌, ◌%◌, ◌^◌, ◌==◌, ◌&&◌, not, nat_le, Bool, if◌then◌else◌, is_some, List, [], ◌∷◌, ◌++◌, length, replicate, take, Option, None, Some, Result, Ok, Err, codes, decimal}
 use Rattle.std.specs.List.{list_all, range_with_len}
 use Rattle.std.specs.Option.{option_map}
 use Rattle.m161_dis.specs.declared.naming.Style.{Style}
 use Rattle.m161_elf.specs.Image.{is_in_ram}
 use Rattle.m161_cpu.specs.declared.processor.Outcome.{Outcome}
 use Rattle.m161_cpu.specs.Fetch.{fetched_word}
+use Rattle.m161_machine.specs.declared.event.Conflict.{Conflict}
 use Rattle.m161_machine.specs.declared.event.Event.{Event}
 use Rattle.m161_machine.specs.declared.event.Event.TheVariants as events
 use Rattle.m161_machine.specs.declared.event.Refusal.{Refusal}
@@ -26,7 +27,7 @@ use Rattle.m161_debug.specs.declared.command.Display.{Display}
 use Rattle.m161_debug.specs.declared.command.Display.TheVariants.{Regs, Cop0, Tlb}
 use Rattle.m161_debug.specs.declared.condition.Condition.{Condition}
 use Rattle.m161_debug.specs.declared.stop.Stop.{Stop}
-use Rattle.m161_debug.specs.declared.stop.Stop.TheVariants.{Break, Refused, Off, Until as UntilAt, End}
+use Rattle.m161_debug.specs.declared.stop.Stop.TheVariants.{Break, Refused, Off, Conflict as ConflictAt, Until as UntilAt, End}
 use Rattle.m161_debug.specs.Breakpoints.{SessionState, breakpoint, break_fault, has, with_breakpoint, without_breakpoint}
 use Rattle.m161_debug.specs.Conditions.{has_processor, is_of_kind, physical_of}
 use Rattle.m161_debug.specs.Stops.{Stops, StopsUntil}
@@ -102,18 +103,26 @@ abbrev pub answer_text : Event → Result Outcome Refusal → List ℕ
 answer_text event (Ok outcome) = event_text event ␣ outcome_text outcome
 answer_text event (Err refusal) = codes "refused" ␣ refused_text refusal
 
-abbrev pub stop_text : Stop → List ℕ
-stop_text (Break k) = codes "break" ␣ decimal k
-stop_text (Refused k refusal) = codes "refused" ␣ decimal k ␣ refused_text refusal
-stop_text (Off k) = codes "off" ␣ decimal k
-stop_text (UntilAt k) = codes "until" ␣ decimal k
-stop_text (End n) = codes "end" ␣ decimal n
+-- the processor of a conflict, its row, and the other one, each behind a space; of none nothing
+abbrev pub conflict_text : Option Conflict → List ℕ
+conflict_text None = []
+conflict_text (Some c) = 32 ∷ (decimal c.processor ␣ decimal c.row ␣ decimal c.other)
+
+-- a stop, with the conflict that the machine tells then
+abbrev pub stop_text : Stop → Option Conflict → List ℕ
+stop_text (Break k) told = codes "break" ␣ decimal k
+stop_text (Refused k refusal) told = codes "refused" ␣ decimal k ␣ refused_text refusal
+stop_text (Off k) told = codes "off" ␣ decimal k
+stop_text (ConflictAt k) told = (codes "conflict" ␣ decimal k) ++ conflict_text told
+stop_text (UntilAt k) told = codes "until" ␣ decimal k
+stop_text (End n) told = codes "end" ␣ decimal n
 
 -- how many events a stop uses up, including a refused event, and the last one that was made
 abbrev pub used_by : Stop → ℕ
 used_by (Break k) = k
 used_by (Refused k refusal) = k + 1
 used_by (Off k) = k + 1
+used_by (ConflictAt k) = k + 1
 used_by (UntilAt k) = k + 1
 used_by (End n) = n
 
@@ -135,7 +144,7 @@ pub record Goes
   pub breakpoints : t.breakpoints ≡ s.breakpoints
   pub style : t.style ≡ s.style
   pub used_is : used ≡ used_by stop
-  pub printed_is : printed ≡ with_line_end (stop_text stop)
+  pub printed_is : printed ≡ with_line_end (stop_text stop t.machine.state.conflict)
 
 -- a run over them that waits for a condition
 pub record Awaits
@@ -147,7 +156,7 @@ pub record Awaits
   pub breakpoints : t.breakpoints ≡ s.breakpoints
   pub style : t.style ≡ s.style
   pub used_is : used ≡ used_by stop
-  pub printed_is : printed ≡ with_line_end (stop_text stop)
+  pub printed_is : printed ≡ with_line_end (stop_text stop t.machine.state.conflict)
 
 -- an event is made
 pub record MakesEvent

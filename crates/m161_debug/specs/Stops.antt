@@ -1,4 +1,4 @@
-use Rattle.std.specs.Prelude.{◌≡◌, ◌⊎◌, ℕ, ◌+◌, Bool, true, false, nat_lt, ◌&&◌, if◌then◌else◌, List, [], ◌∷◌, length, take, drop, slice_get, Some, IsOk, Result, Ok, Err}
+use Rattle.std.specs.Prelude.{◌≡◌, ◌⊎◌, ℕ, ◌+◌, Bool, true, false, nat_lt, ◌&&◌, if◌then◌else◌, is_some, List, [], ◌∷◌, length, take, drop, slice_get, Option, None, Some, IsOk, Result, Ok, Err}
 use Rattle.m161_cpu.specs.declared.processor.Outcome.{Outcome}
 use Rattle.m161_cpu.specs.declared.processor.Outcome.TheVariants as outcomes
 use Rattle.m161_machine.specs.declared.event.Event.{Event}
@@ -9,7 +9,7 @@ use Rattle.m161_machine.specs.State.{State, processor_at, next}
 use Rattle.m161_machine.specs.History.{History, Continues}
 use Rattle.m161_debug.specs.declared.breakpoints.Breakpoint.{Breakpoint}
 use Rattle.m161_debug.specs.declared.stop.Stop.{Stop}
-use Rattle.m161_debug.specs.declared.stop.Stop.TheVariants.{Break, Refused, Off, Until, End}
+use Rattle.m161_debug.specs.declared.stop.Stop.TheVariants.{Break, Refused, Off, Conflict, Until, End}
 use Rattle.m161_debug.specs.Breakpoints.{breakpoint, has}
 use Rattle.m161_debug.specs.declared.condition.Condition.{Condition}
 use Rattle.m161_debug.specs.Conditions.{holds}
@@ -23,18 +23,25 @@ is_break bs s (events.Step p) =
 is_break bs s (events.Key byte) = false
 is_break bs s events.Done = false
 
-abbrev pub is_power_off : Outcome → Bool
-is_power_off outcomes.PoweredOff = true
-is_power_off outcomes.Ran = false
-is_power_off (outcomes.Trapped code vector) = false
-is_power_off outcomes.Idle = false
-is_power_off outcomes.Taken = false
+-- the stop after event k with this outcome, if it switched the machine off
+abbrev pub off_stop : ℕ → Outcome → Option Stop
+off_stop k outcomes.Ran = None
+off_stop k (outcomes.Trapped code vector) = None
+off_stop k outcomes.Idle = None
+off_stop k outcomes.PoweredOff = Some (Off k)
+off_stop k (outcomes.Conflict row other) = Some (Conflict k)
+off_stop k outcomes.Taken = None
+
+-- a run at this stop, if it is one, in this state
+abbrev pub stop_or : Option Stop → State → Stop × State → Stop × State
+stop_or None t rest = rest
+stop_or (Some stop) t rest = (stop, t)
 
 -- after event k: it was refused, it switched the machine off, or the run goes on
 abbrev pub stop_after :
     ℕ → State → Result (Outcome × State) Refusal → (State → Stop × State) → Stop × State
 stop_after k s (Err refusal) rest = (Refused k refusal, s)
-stop_after k s (Ok r) rest = if is_power_off r.0 then (Off k, r.1) else rest r.1
+stop_after k s (Ok r) rest = stop_or (off_stop k r.0) r.1 (rest r.1)
 
 -- where a run over the events from place k on stops, and the state at the stop; no breakpoint is
 -- looked for at place 0
@@ -45,13 +52,13 @@ stop_from bs k s (e ∷ es) =
     else stop_after k s (next s e) (λ t. stop_from bs (k + 1) t es)
 
 -- the same with one stop more: after event k, what the run waits for holds. One that switches the
--- machine off stops the run as Off
+-- machine off stops the run as Off or Conflict
 abbrev pub wait_after :
     (Event → Outcome → State → Bool) → ℕ → State → Event → Result (Outcome × State) Refusal →
     (State → Stop × State) → Stop × State
 wait_after awaited k s e (Err refusal) rest = (Refused k refusal, s)
 wait_after awaited k s e (Ok r) rest =
-    if is_power_off r.0 then (Off k, r.1) else if awaited e r.0 r.1 then (Until k, r.1) else rest r.1
+    stop_or (off_stop k r.0) r.1 (if awaited e r.0 r.1 then (Until k, r.1) else rest r.1)
 
 abbrev pub wait_from :
     (Event → Outcome → State → Bool) → List Breakpoint → ℕ → State → List Event → Stop × State
@@ -70,6 +77,7 @@ abbrev pub made_at : Stop → ℕ
 made_at (Break k) = k
 made_at (Refused k refusal) = k
 made_at (Off k) = k + 1
+made_at (Conflict k) = k + 1
 made_at (Until k) = k + 1
 made_at (End n) = n
 
@@ -106,3 +114,10 @@ abbrev pub WaitsForNothing : Type 0
 WaitsForNothing =
     (bs : List Breakpoint) (k : ℕ) (s : State) (es : List Event)
     → wait_from never bs k s es ≡ stop_from bs k s es
+
+-- the law: a run that stops at a conflict leaves a state that tells it
+abbrev pub TellsConflict : Type 0
+TellsConflict =
+    (awaited : Event → Outcome → State → Bool) (bs : List Breakpoint) (k : ℕ) (s : State)
+    (es : List Event) (j : ℕ) (t : State)
+    → wait_from awaited bs k s es ≡ (Conflict j, t) → is_some t.conflict ≡ true

@@ -6,6 +6,7 @@
 //!              Break(k)      event k is a Step at a breakpoint, and k isn't 0
 //!              Refused(k, r) event k is refused
 //!              Off(k)        event k switched the machine off
+//!              Conflict(k)   event k switched a strict machine off by a conflict
 //!              End(n)        all n events are made
 //! until        the same, and also
 //!              Until(k)      after event k, what the run waits for holds
@@ -15,7 +16,8 @@
 //! b P ADDR               break P ADDR
 //! d P ADDR               deleted, or none
 //! s P     k HH     o     the log's line of the event, or: refused N NAME
-//! g       g N            break K, refused K N NAME, off K, or end N
+//! g       g N            break K, refused K N NAME, off K, end N, or: conflict K P I J, where
+//!                        row I of P was to be written, and would have overlapped row J
 //! s P N                  the same, over 1 to 1,000,000 Steps of P; the remaining events stay
 //! u m ADDR               the same as g, or: until K, after the first event after which the word of
 //!                        RAM at ADDR has changed since the command
@@ -55,7 +57,7 @@ pub use breakpoints::BreakError;
 pub use command::CommandError;
 pub use condition::Condition;
 pub use jump::JumpError;
-pub use laws::waits_for_nothing;
+pub use laws::{tells_conflict, waits_for_nothing};
 pub use m161_machine::{Event, Machine, Outcome, Refusal};
 pub use session::Session;
 pub use stop::Stop;

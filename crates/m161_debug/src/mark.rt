@@ -118,6 +118,10 @@ fn is_trap(outcome: Outcome) -> bool
 {
     match outcome {
         Outcome::Trapped { .. } => true,
-        Outcome::Ran | Outcome::Idle | Outcome::PoweredOff | Outcome::Taken => false,
+        Outcome::Ran
+        | Outcome::Idle
+        | Outcome::PoweredOff
+        | Outcome::Conflict { .. }
+        | Outcome::Taken => false,
     }
 }

@@ -5,10 +5,10 @@ ghost use Rattle.m161_machine.specs.Refusal.{name_of_refusal};
 ghost use Rattle.m161_text.specs.Lines.{with_line_end};
 ghost use Rattle.m161_text.specs.Parts.{hex_text};
 ghost use Rattle.m161_steplog.specs.Text.{event_text, outcome_text};
-ghost use Rattle.m161_debug.specs.Obeys.{refused_text, stop_text};
+ghost use Rattle.m161_debug.specs.Obeys.{conflict_text, refused_text, stop_text};
 
 use crate::stop::Stop;
-use m161_machine::{Event, Outcome, Refusal};
+use m161_machine::{Conflict, Event, Outcome, Refusal};
 use m161_text::push_hex;
 
 /// Appends a part.
@@ -89,11 +89,11 @@ pub(crate) fn put_event(text: &mut String, event: Event)
     }
 }
 
-/// Appends an outcome, as a log shows it: 34 bytes at most.
+/// Appends an outcome, as a log shows it: 50 bytes at most.
 pub(crate) fn put_outcome(text: &mut String, outcome: Outcome)
-    requires { string_len text.old + 34 ≤ string_capacity text.old }
+    requires { string_len text.old + 50 ≤ string_capacity text.old }
     ensures bytes { string_bytes text.new ≡ string_bytes text.old ++ outcome_text outcome }
-    ensures len { string_len text.new ≤ string_len text.old + 34 }
+    ensures len { string_len text.new ≤ string_len text.old + 50 }
     ensures capacity { string_capacity text.old ≤ string_capacity text.new }
 {
     match outcome {
@@ -106,6 +106,12 @@ pub(crate) fn put_outcome(text: &mut String, outcome: Outcome)
         }
         Outcome::Idle => put(text, "idle"),
         Outcome::PoweredOff => put(text, "off"),
+        Outcome::Conflict { row, other } => {
+            put(text, "conflict ");
+            put_decimal(text, u64::from(row));
+            put(text, " ");
+            put_decimal(text, u64::from(other));
+        }
         Outcome::Taken => put(text, "taken"),
     }
 }
@@ -130,11 +136,28 @@ fn name(refusal: Refusal) -> &'static str
     refusal.name()
 }
 
-// Appends a stop: 62 bytes at most.
-fn put_stop(text: &mut String, stop: Stop)
-    requires { string_len text.old + 62 ≤ string_capacity text.old }
-    ensures bytes { string_bytes text.new ≡ string_bytes text.old ++ stop_text stop }
-    ensures len { string_len text.new ≤ string_len text.old + 62 }
+// Appends what the machine tells of a conflict: 63 bytes at most.
+fn put_conflict(text: &mut String, told: Option<Conflict>)
+    requires { string_len text.old + 63 ≤ string_capacity text.old }
+    ensures bytes { string_bytes text.new ≡ string_bytes text.old ++ conflict_text told }
+    ensures len { string_len text.new ≤ string_len text.old + 63 }
+    ensures capacity { string_capacity text.old ≤ string_capacity text.new }
+{
+    if let Some(conflict) = told {
+        put(text, " ");
+        put_decimal(text, u64::from(conflict.processor));
+        put(text, " ");
+        put_decimal(text, u64::from(conflict.row));
+        put(text, " ");
+        put_decimal(text, u64::from(conflict.other));
+    }
+}
+
+// Appends a stop, with the conflict that the machine tells then: 92 bytes at most.
+fn put_stop(text: &mut String, stop: Stop, told: Option<Conflict>)
+    requires { string_len text.old + 92 ≤ string_capacity text.old }
+    ensures bytes { string_bytes text.new ≡ string_bytes text.old ++ stop_text stop told }
+    ensures len { string_len text.new ≤ string_len text.old + 92 }
     ensures capacity { string_capacity text.old ≤ string_capacity text.new }
 {
     match stop {
@@ -152,6 +175,11 @@ fn put_stop(text: &mut String, stop: Stop)
             put(text, "off ");
             put_decimal(text, k as u64);
         }
+        Stop::Conflict(k) => {
+            put(text, "conflict ");
+            put_decimal(text, k as u64);
+            put_conflict(text, told);
+        }
         Stop::Until(k) => {
             put(text, "until ");
             put_decimal(text, k as u64);
@@ -163,11 +191,12 @@ fn put_stop(text: &mut String, stop: Stop)
     }
 }
 
-/// Appends the line of a stop: 63 bytes at most.
-pub(crate) fn put_stop_line(text: &mut String, stop: Stop)
-    requires { string_len text.old + 63 ≤ string_capacity text.old }
-    ensures { string_bytes text.new ≡ string_bytes text.old ++ with_line_end (stop_text stop) }
+/// Appends the line of a stop, with the conflict that the machine tells then: 93 bytes at most.
+pub(crate) fn put_stop_line(text: &mut String, stop: Stop, told: Option<Conflict>)
+    requires { string_len text.old + 93 ≤ string_capacity text.old }
+    ensures { string_bytes text.new
+        ≡ string_bytes text.old ++ with_line_end (stop_text stop told) }
 {
-    put_stop(text, stop);
+    put_stop(text, stop, told);
     put(text, "\n");
 }

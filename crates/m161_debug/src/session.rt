@@ -23,7 +23,7 @@ use crate::condition::Condition;
 use crate::jump::{JumpError, events_from, jump_fault, repeat};
 use crate::log::show_log;
 use crate::mark::{is_met, mark_of};
-use crate::stop::Stop;
+use crate::stop::{Stop, off_stop};
 use m161_bus::Console;
 use m161_dis::Style;
 use m161_display::{show_code, show_cop0, show_fetched, show_mem, show_regs, show_tlb, show_where};
@@ -280,8 +280,8 @@ impl<T: Tlb, D: Console> Session<T, D> {
     }
 
     /// Makes events in order, up to the first stop: before a Step at a breakpoint, unless it is the
-    /// first event; at an event that is refused; after one that switches the machine off; or after
-    /// the last. Allocates only for an event `Done`.
+    /// first event; at an event that is refused; after one that switches the machine off, by a
+    /// conflict or not; or after the last. Allocates only for an event `Done`.
     pub fn go(&mut self, events: &[Event]) -> Stop
         ensures stop { Stops self.old.breakpoints self.old.machine events.now result
             self.new.machine }
@@ -304,8 +304,8 @@ impl<T: Tlb, D: Console> Session<T, D> {
     }
 
     /// Makes events in order, up to the first stop: those of `go`, and after the first event after
-    /// which the condition holds. An event that switches the machine off stops the run as `Off`,
-    /// also where the condition holds after it.
+    /// which the condition holds. An event that switches the machine off stops the run as `Off` or
+    /// `Conflict`, also where the condition holds after it.
     pub fn until(&mut self, condition: Condition, events: &[Event]) -> Stop
         requires { is_watchable condition self.old.machine.state ≡ true }
         ensures stop { StopsUntil condition self.old.breakpoints self.old.machine events.now result
@@ -336,8 +336,8 @@ impl<T: Tlb, D: Console> Session<T, D> {
             match self.step(*event) {
                 Err(refusal) => return Stop::Refused(k, refusal),
                 Ok(outcome) => {
-                    if outcome == Outcome::PoweredOff {
-                        return Stop::Off(k);
+                    if let Some(stop) = off_stop(k, outcome) {
+                        return stop;
                     }
                     if is_met(&self.machine, mark, *event, outcome) {
                         return Stop::Until(k);

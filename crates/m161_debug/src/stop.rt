@@ -1,9 +1,10 @@
 //! Why a run stops.
 
-ghost use Rattle.std.specs.Prelude.{◌≡◌, ◌<◌, ◌^◌};
+ghost use Rattle.std.specs.Prelude.{◌≡◌, ◌+◌, ◌<◌, ◌^◌, IfSome};
 ghost use Rattle.m161_debug.specs.Obeys.{used_by};
+ghost use Rattle.m161_debug.specs.Stops.{off_stop};
 
-use m161_machine::Refusal;
+use m161_machine::{Outcome, Refusal};
 
 /// Why a run over a list of events stops, and before or at which event, counted from 0.
 #[derive(Clone, Copy, Debug, PartialEq, Eq)]
@@ -14,6 +15,8 @@ pub enum Stop {
     Refused(usize, Refusal),
     /// The event switched the machine off.
     Off(usize),
+    /// The event switched a strict machine off by a conflict, of which the machine tells.
+    Conflict(usize),
     /// After the event, what the run waited for holds.
     Until(usize),
     /// All events, this number of them, are made.
@@ -30,8 +33,21 @@ impl Stop {
             Stop::Break(k) => k,
             Stop::Refused(k, _) => k + 1,
             Stop::Off(k) => k + 1,
+            Stop::Conflict(k) => k + 1,
             Stop::Until(k) => k + 1,
             Stop::End(n) => n,
         }
+    }
+}
+
+// The stop after event `k` with this outcome, if it switched the machine off.
+pub(crate) fn off_stop(k: usize, outcome: Outcome) -> Option<Stop>
+    ensures value { result ≡ off_stop k outcome }
+    ensures used { IfSome result (λ stop. used_by stop ≡ k + 1) }
+{
+    match outcome {
+        Outcome::PoweredOff => Some(Stop::Off(k)),
+        Outcome::Conflict { .. } => Some(Stop::Conflict(k)),
+        Outcome::Ran | Outcome::Trapped { .. } | Outcome::Idle | Outcome::Taken => None,
     }
 }

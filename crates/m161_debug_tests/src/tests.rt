@@ -1,6 +1,7 @@
 //! Tests of the debugger. What is expected was worked out by hand from the kernels' words.
 
 mod addresses;
+mod conflicts;
 mod fetched;
 mod jumps;
 mod names;

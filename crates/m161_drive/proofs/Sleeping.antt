@@ -104,13 +104,13 @@ sleeps_by Waiting p a r t =
     )
 
 abbrev scene_in : ℕ → State → Scene
-scene_in p s = scene (processor_at p s.processors) (around p s.memory s.board s.links)
+scene_in p s = scene (processor_at p s.processors) (around p s.memory s.board s.links s.conf.strict)
 
 sleeps : (p : ℕ) (s : State) → rests p s ≡ true → ticks p s ≡ false →
-    Sleeps (interrupt_lines p s.board) (processor_at p s.processors) (around p s.memory s.board s.links) (step_result p s)
+    Sleeps (interrupt_lines p s.board) (processor_at p s.processors) (around p s.memory s.board s.links s.conf.strict) (step_result p s)
 unfolding rests ticks is_resting ticks_in step_result step_of
 sleeps p s r t =
-    sleeps_by (processor_at p s.processors).state (processor_at p s.processors) (around p s.memory s.board s.links) r t
+    sleeps_by (processor_at p s.processors).state (processor_at p s.processors) (around p s.memory s.board s.links s.conf.strict) r t
 
 -- a mask that is as before starts no processor
 not_again : (bit : Bool) (a b : Processor) → (if bit && not bit then a else b) ≡ b

@@ -5,7 +5,7 @@ ghost use Rattle.m161_machine.specs.Resting.{rests, ticks};
 ghost use Rattle.m161_machine.specs.State.{State};
 
 use m161_bus::Console;
-use m161_machine::{Core, Machine};
+use m161_machine::{Conflict, Core, Machine};
 use m161_tlb::Tlb;
 
 /// What a policy sees of a machine, and who judges its runs. A machine shows it, and so does a state
@@ -51,6 +51,10 @@ pub trait View {
     /// Whether it was switched off.
     fn is_off(&self) -> bool
         ensures { result ≡ (state self.now).board.off };
+
+    /// What switched a strict machine off.
+    fn conflict(&self) -> Option<Conflict>
+        ensures { result ≡ (state self.now).conflict };
 }
 
 impl<T: Tlb, D: Console> View for Machine<T, D> {
@@ -91,6 +95,10 @@ impl<T: Tlb, D: Console> View for Machine<T, D> {
     fn is_off(&self) -> bool {
         Machine::is_off(self)
     }
+
+    fn conflict(&self) -> Option<Conflict> {
+        Machine::conflict(self)
+    }
 }
 
 impl<T: Tlb, D: Console> View for Core<T, D> {
@@ -130,5 +138,9 @@ impl<T: Tlb, D: Console> View for Core<T, D> {
 
     fn is_off(&self) -> bool {
         Core::is_off(self)
+    }
+
+    fn conflict(&self) -> Option<Conflict> {
+        Core::conflict(self)
     }
 }

@@ -39,6 +39,7 @@ fn boot(rt: &HostRuntime) -> Result<Machine, Failure> {
         processors: 1,
         log: 100,
         link: LinkUnit::Word,
+        strict: false,
     };
     Ok(Machine::boot(rt.alloc(), &file, conf)?)
 }

@@ -36,7 +36,7 @@ booted_as_one file conf m n a b =
     a.state_is
     ∙ (λ i. state_of (same_conf i)
     (started_processor (same_entry i) 0 0 0 ∷ replicate ((same_conf i).processors - 1) stopped_processor) (same_memory i)
-    (board_at_boot (same_conf i).ram (same_conf i).processors console_at_boot) (no_links (same_conf i).link) 0)
+    (board_at_boot (same_conf i).ram (same_conf i).processors console_at_boot) (no_links (same_conf i).link) 0 None)
     ∙ sym b.state_is
 
 -- a boot that ends well

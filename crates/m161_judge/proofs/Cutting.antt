@@ -11,7 +11,7 @@ use Rattle.m161_audit.specs.declared.watch.Watch.{Watch}
 use Rattle.m161_audit.specs.Stale.{IsStale, IsStaleAt, after_events}
 use Rattle.m161_judge.specs.declared.verdict.Judged.{Judged}
 use Rattle.m161_judge.specs.declared.verdict.Verdict.{Verdict}
-use Rattle.m161_judge.specs.declared.verdict.Verdict.TheVariants.{Stale, Stuck, Output, End}
+use Rattle.m161_judge.specs.declared.verdict.Verdict.TheVariants.{Stale, Conflict, Stuck, Output, End}
 use Rattle.m161_judge.specs.Laws.{CutKeepsVerdict}
 use Rattle.m161_judge.specs.Verdict.{Criteria, Holds, IsJudged, IsRefused, IsStuckAfter, IsStuckBadly, LeadsTo, after, has_keys, is_stuck, rank}
 
@@ -83,7 +83,7 @@ refused_up s events n few r =
     }
 
 -- what holds of the cut list holds of the whole, but for End
-up : (goal : Criteria) (s : State) (events : List Event) (n : ℕ) (v : Verdict) (k : ℕ) → n ≤ length events → rank v < 3 →
+up : (goal : Criteria) (s : State) (events : List Event) (n : ℕ) (v : Verdict) (k : ℕ) → n ≤ length events → rank v < 4 →
     Holds goal s (take n events) v k → Holds goal s events v k
 up goal s events n (Stale place p address row) k few low h =
     let use_is = h.0.1 in
@@ -94,6 +94,8 @@ up goal s events n (Stale place p address row) k few low h =
       ),
       h.1,
     )
+up goal s events n (Conflict conflict) k few low h =
+    (h.0, (leads_up s events n k h.0 few h.1).1, h.2, h.3)
 up goal s events n Stuck k few low h =
     let at = badly_up goal s events n k few h.0 in
     (at.1, λ j less bad. h.1 j less (badly_down goal s events n j few (omega (arith, less, at.0)) bad))
@@ -112,6 +114,8 @@ down goal s events n (Stale place p address row) few h =
       ),
       h.1,
     )
+down goal s events n (Conflict conflict) few h =
+    (h.0, leads_down s events n n h.0 few (omega arith) h.1, h.2, h.3)
 down goal s events n Stuck few h =
     (badly_down goal s events n n few (omega arith) h.0, λ j less bad. h.1 j less (badly_up goal s events n j few bad).1)
 down goal s events n Output few h =
@@ -128,12 +132,14 @@ few_enough : (goal : Criteria) (s : State) (events : List Event) (v : Verdict) (
 few_enough goal s events (Stale place p address row) n h =
     let at = h.0.1.3 in
     let within = slice_get_within events place at.0 at.1 in omega (arith, h.1, within)
+few_enough goal s events (Conflict conflict) n h = h.1.0
 few_enough goal s events Stuck n h = h.0.1.0.0
 few_enough goal s events Output n h = h.1.1.0
 few_enough goal s events End n h = omega (arith, h.1)
 
-rank_few : (v : Verdict) → rank v ≤ 3
+rank_few : (v : Verdict) → rank v ≤ 4
 rank_few (Stale place p address row) = omega arith
+rank_few (Conflict conflict) = omega arith
 rank_few Stuck = omega arith
 rank_few Output = omega arith
 rank_few End = omega arith

@@ -4,6 +4,7 @@ use Rattle.std.specs.Prelude.{Option, None, Some, Result, Ok, Err, is_some, slic
 use Rattle.std.proofs.lemmas.Bool.Decides.{eqb_tells}
 use Rattle.std.proofs.lemmas.Option.{slice_get_within}
 use Rattle.m161_cpu.specs.declared.processor.Outcome.{Outcome}
+use Rattle.m161_machine.specs.declared.event.Conflict.{Conflict as ConflictOf}
 use Rattle.m161_machine.specs.declared.event.Event.{Event}
 use Rattle.m161_machine.specs.declared.event.Refusal.{Refusal}
 use Rattle.m161_machine.specs.State.{State, next}
@@ -14,10 +15,10 @@ use Rattle.m161_audit.specs.Stale.{IsFinding}
 use Rattle.m161_judge.specs.declared.seen.Seen.{Seen}
 use Rattle.m161_judge.specs.declared.verdict.Judged.{Judged}
 use Rattle.m161_judge.specs.declared.verdict.Verdict.{Verdict}
-use Rattle.m161_judge.specs.declared.verdict.Verdict.TheVariants.{Stale, Stuck, Output, End}
+use Rattle.m161_judge.specs.declared.verdict.Verdict.TheVariants.{Stale, Conflict, Stuck, Output, End}
 use Rattle.m161_judge.specs.Judge.{bytes_of}
 use Rattle.m161_judge.specs.Verdict.{Criteria, HasSent, Holds, IsRefused, IsStuckAfter, IsStuckBadly, LeadsTo, rank}
-use Rattle.m161_judge.specs.helpers.Walk.{Ends, HasSeen, IsBelow, IsFirstBad, IsJudgedBeside, Joins, WasStuck}
+use Rattle.m161_judge.specs.helpers.Walk.{Ends, HasSeen, IsBelow, IsConflictOff, IsFirstBad, IsJudgedBehind, IsJudgedBeside, Joins, WasStuck}
 use Rattle.m161_judge.proofs.Running.{leads_to_one, made_within, none_past_off}
 
 -- Verdicts of runs that have ended.
@@ -100,25 +101,26 @@ none_stuck goal s events n t seen e none k u h =
 
 -- each kind
 
-not_below_stale : (v : Verdict) → 0 < rank v → rank v < 1 → ⊥
-not_below_stale v a b = omega (arith, a, b)
+none_between : (v : Verdict) → 1 < rank v → rank v < 2 → ⊥
+none_between v a b = omega (arith, a, b)
 
 pub judged_stuck : (goal : Criteria) (s : State) (events : List Event) (n first : ℕ) (t : State) (seen : Seen) → Ended goal s events n t seen →
-    seen.stuck ≡ Some first → IsJudgedBeside goal s events (Some (record { verdict = Stuck; events = first }))
+    seen.stuck ≡ Some first → IsJudgedBehind goal s events (Some (record { verdict = Stuck; events = first }))
 judged_stuck goal s events n first t seen e some =
     let at : IsFirstBad goal s events (n + 1) (Some first) = subst (IsFirstBad goal s events (n + 1)) some e.looked.0 in
-    (omega arith, (at.1, at.2), λ v k a b h. not_below_stale v a b)
+    (omega arith, (at.1, at.2), λ v k a b h. none_between v a b)
 
--- of those behind Stale
+-- of those behind Stale and Conflict
 behind : (goal : Criteria) (s : State) (events : List Event) → ((n : ℕ) → Holds goal s events Stuck n → ⊥) → ((n : ℕ) → Holds goal s events Output n → ⊥) →
-    ((n : ℕ) → Holds goal s events End n → ⊥) → (v : Verdict) (n : ℕ) → 0 < rank v → Holds goal s events v n → ⊥
+    ((n : ℕ) → Holds goal s events End n → ⊥) → (v : Verdict) (n : ℕ) → 1 < rank v → Holds goal s events v n → ⊥
 behind goal s events stuck output end (Stale place p address row) n a h = omega (arith, a)
+behind goal s events stuck output end (Conflict conflict) n a h = omega (arith, a)
 behind goal s events stuck output end Stuck n a h = stuck n h
 behind goal s events stuck output end Output n a h = output n h
 behind goal s events stuck output end End n a h = end n h
 
 pub judged_unasked : (goal : Criteria) (s : State) (events : List Event) (n : ℕ) (t : State) (seen : Seen) → Ended goal s events n t seen →
-    seen.stuck ≡ None → goal.output ≡ None → IsJudgedBeside goal s events None
+    seen.stuck ≡ None → goal.output ≡ None → IsJudgedBehind goal s events None
 judged_unasked goal s events n t seen e none unasked =
     behind goal s events (λ k h. none_bad goal s events n t seen e none k h.0) (λ k h. h.0 unasked) (λ k h. h.0 unasked)
 
@@ -128,8 +130,9 @@ true_is_not false h k = let bad : false ≡ true = h in cc
 
 -- the verdicts between
 only_stuck : (goal : Criteria) (s : State) (events : List Event) → ((n : ℕ) → Holds goal s events Stuck n → ⊥) →
-    (v : Verdict) (n : ℕ) → 0 < rank v → rank v < 2 → Holds goal s events v n → ⊥
+    (v : Verdict) (n : ℕ) → 1 < rank v → rank v < 3 → Holds goal s events v n → ⊥
 only_stuck goal s events stuck (Stale place p address row) n a b h = omega (arith, a)
+only_stuck goal s events stuck (Conflict conflict) n a b h = omega (arith, a)
 only_stuck goal s events stuck Stuck n a b h = stuck n h
 only_stuck goal s events stuck Output n a b h = omega (arith, b)
 only_stuck goal s events stuck End n a b h = omega (arith, b)
@@ -144,7 +147,7 @@ no_end goal s events n t seen e off k h =
     true_is_not t.board.off off (subst (λ v. v.board.off ≡ false) (sym same) h.2.2)
 
 pub judged_sent : (goal : Criteria) (s : State) (events : List Event) (n : ℕ) (t : State) (seen : Seen) → Ended goal s events n t seen →
-    seen.stuck ≡ None → t.board.off ≡ true → HasSent goal t → IsJudgedBeside goal s events None
+    seen.stuck ≡ None → t.board.off ≡ true → HasSent goal t → IsJudgedBehind goal s events None
 judged_sent goal s events n t seen e none off sent =
     behind goal s events (λ k h. none_bad goal s events n t seen e none k h.0)
     (λ k h. h.1.3 (subst (HasSent goal) (sym (off_at_end s events n t e.ends k h.1.0 h.1.1 h.1.2).1) sent))
@@ -152,9 +155,9 @@ judged_sent goal s events n t seen e none off sent =
 
 pub judged_output : (goal : Criteria) (s : State) (events : List Event) (n : ℕ) (t : State) (seen : Seen) → Ended goal s events n t seen →
     seen.stuck ≡ None → (goal.output ≢ None) → t.board.off ≡ true → (HasSent goal t → ⊥) →
-    IsJudgedBeside goal s events (Some (record { verdict = Output; events = n }))
+    IsJudgedBehind goal s events (Some (record { verdict = Output; events = n }))
 judged_output goal s events n t seen e none asked off not =
-    let lower : (v : Verdict) (k : ℕ) → 0 < rank v → rank v < 2 → Holds goal s events v k → ⊥ = only_stuck goal s events (λ k h. none_bad goal s events n t seen e none k h.0) in
+    let lower : (v : Verdict) (k : ℕ) → 1 < rank v → rank v < 3 → Holds goal s events v k → ⊥ = only_stuck goal s events (λ k h. none_bad goal s events n t seen e none k h.0) in
     (omega arith, (asked, (t, e.ends.leads, off, not)), lower)
 
 -- it isn't off
@@ -165,27 +168,67 @@ no_output goal s events n t seen e on k h =
     true_is_not t.board.off (subst (λ v. v.board.off ≡ true) at.1 h.1.2) on
 
 pub judged_waiting : (goal : Criteria) (s : State) (events : List Event) (n : ℕ) (t : State) (seen : Seen) → Ended goal s events n t seen →
-    seen.stuck ≡ None → t.board.off ≡ false → seen.was_stuck ≡ true → IsJudgedBeside goal s events None
+    seen.stuck ≡ None → t.board.off ≡ false → seen.was_stuck ≡ true → IsJudgedBehind goal s events None
 judged_waiting goal s events n t seen e none on was =
     let at : WasStuck goal s events (n + 1) true = subst (WasStuck goal s events (n + 1)) was e.looked.1 in
     behind goal s events (λ k h. none_bad goal s events n t seen e none k h.0) (no_output goal s events n t seen e on)
     (λ k h. h.3 at.0 at.1 at.2)
 
 not_behind : (goal : Criteria) (s : State) (events : List Event) → ((n : ℕ) → Holds goal s events Stuck n → ⊥) → ((n : ℕ) → Holds goal s events Output n → ⊥) →
-    (v : Verdict) (n : ℕ) → 0 < rank v → rank v < 3 → Holds goal s events v n → ⊥
+    (v : Verdict) (n : ℕ) → 1 < rank v → rank v < 4 → Holds goal s events v n → ⊥
 not_behind goal s events stuck output (Stale place p address row) n a b h = omega (arith, a)
+not_behind goal s events stuck output (Conflict conflict) n a b h = omega (arith, a)
 not_behind goal s events stuck output Stuck n a b h = stuck n h
 not_behind goal s events stuck output Output n a b h = output n h
 not_behind goal s events stuck output End n a b h = omega (arith, b)
 
 pub judged_end : (goal : Criteria) (s : State) (events : List Event) (n : ℕ) (t : State) (seen : Seen) → Ended goal s events n t seen →
     seen.stuck ≡ None → (goal.output ≢ None) → t.board.off ≡ false → seen.was_stuck ≡ false →
-    IsJudgedBeside goal s events (Some (record { verdict = End; events = n }))
+    IsJudgedBehind goal s events (Some (record { verdict = End; events = n }))
 judged_end goal s events n t seen e none asked on was = (
   omega arith,
   (asked, e.ends.is_last on, (t, e.ends.leads, on), none_stuck goal s events n t seen e was),
   not_behind goal s events (λ k h. none_bad goal s events n t seen e none k h.0) (no_output goal s events n t seen e on),
 )
+
+-- a conflict comes before them
+
+pub judged_conflict : (goal : Criteria) (s : State) (events : List Event) (n : ℕ) (t : State) (conflict : ConflictOf) → Ends s events n t →
+    IsConflictOff t (Some conflict) → IsJudgedBeside goal s events (Some (record { verdict = Conflict conflict; events = n }))
+judged_conflict goal s events n t conflict ends h =
+    (omega arith, (t, ends.leads, h.0, h.1), λ v k a b x. omega (arith, a, b))
+
+no_conflict : (conflict : ConflictOf) (o : Option ConflictOf) → o ≡ None → o ≡ Some conflict → ⊥
+no_conflict conflict o none some = let bad : ◌≡◌ {A = Option ConflictOf} None (Some conflict) = sym none ∙ some in cc
+
+-- without one
+unconflicted : (goal : Criteria) (s : State) (events : List Event) (n : ℕ) (t : State) → Ends s events n t → IsConflictOff t None →
+    (conflict : ConflictOf) (k : ℕ) → Holds goal s events (Conflict conflict) k → ⊥
+unconflicted goal s events n t ends none conflict k h =
+    let same = (off_at_end s events n t ends k h.0 h.1 h.2).1 in
+    no_conflict conflict t.conflict (none (subst (λ v. v.board.off ≡ true) same h.2)) (subst (λ v. v.conflict ≡ Some conflict) same h.3)
+
+beside_by : (goal : Criteria) (s : State) (events : List Event) → ((conflict : ConflictOf) (k : ℕ) → Holds goal s events (Conflict conflict) k → ⊥) →
+    (high : (v : Verdict) (n : ℕ) → 1 < rank v → Holds goal s events v n → ⊥) → (v : Verdict) (n : ℕ) → 0 < rank v → Holds goal s events v n → ⊥
+beside_by goal s events none high (Stale place p address row) n a h = omega (arith, a)
+beside_by goal s events none high (Conflict conflict) n a h = none conflict n h
+beside_by goal s events none high Stuck n a h = high Stuck n (omega arith) h
+beside_by goal s events none high Output n a h = high Output n (omega arith) h
+beside_by goal s events none high End n a h = high End n (omega arith) h
+
+before_by : (goal : Criteria) (s : State) (events : List Event) (r : ℕ) → ((conflict : ConflictOf) (k : ℕ) → Holds goal s events (Conflict conflict) k → ⊥) →
+    (high : (v : Verdict) (n : ℕ) → 1 < rank v → rank v < r → Holds goal s events v n → ⊥) → (v : Verdict) (n : ℕ) → 0 < rank v → rank v < r → Holds goal s events v n → ⊥
+before_by goal s events r none high (Stale place p address row) n a b h = omega (arith, a)
+before_by goal s events r none high (Conflict conflict) n a b h = none conflict n h
+before_by goal s events r none high Stuck n a b h = high Stuck n (omega arith) b h
+before_by goal s events r none high Output n a b h = high Output n (omega arith) b h
+before_by goal s events r none high End n a b h = high End n (omega arith) b h
+
+pub judged_behind : (goal : Criteria) (s : State) (events : List Event) (n : ℕ) (t : State) (behind : Option Judged) → Ends s events n t → IsConflictOff t None →
+    IsJudgedBehind goal s events behind → IsJudgedBeside goal s events behind
+judged_behind goal s events n t None ends none b = beside_by goal s events (unconflicted goal s events n t ends none) b
+judged_behind goal s events n t (Some judged) ends none b =
+    (omega (arith, b.0), b.1, before_by goal s events (rank judged.verdict) (unconflicted goal s events n t ends none) b.2)
 
 -- a finding comes first
 
@@ -195,12 +238,14 @@ is_place goal s events clean (Stale place p address row) n less h =
     let use_is = h.0.1 in
     let at = use_is.3 in
     clean place (slice_get_within events place at.0 at.1) p use_is.0 at
+is_place goal s events clean (Conflict conflict) n less h = omega (arith, less)
 is_place goal s events clean Stuck n less h = omega (arith, less)
 is_place goal s events clean Output n less h = omega (arith, less)
 is_place goal s events clean End n less h = omega (arith, less)
 
 no_stale : (P : Verdict → Type 0) → ((v : Verdict) → rank v < 1 → P v → ⊥) → ((v : Verdict) → 0 < rank v → P v → ⊥) → (v : Verdict) → P v → ⊥
 no_stale P low high (Stale place p address row) h = low (Stale place p address row) (omega arith) h
+no_stale P low high (Conflict conflict) h = high (Conflict conflict) (omega arith) h
 no_stale P low high Stuck h = high Stuck (omega arith) h
 no_stale P low high Output h = high Output (omega arith) h
 no_stale P low high End h = high End (omega arith) h

@@ -2,6 +2,7 @@ use Rattle.std.proofs.Common.{◌≡◌, ◌∙◌, refl, sym, ap, subst, ℕ, �
 use Rattle.std.specs.Prelude.{None, Some}
 use Rattle.std.proofs.lemmas.Bool.Decides.{eqb_tells}
 use Rattle.m161_cpu.specs.declared.uses.Via.{Via}
+use Rattle.m161_machine.specs.declared.event.Conflict.{Conflict as ConflictOf}
 use Rattle.m161_machine.specs.declared.event.Event.{Event}
 use Rattle.m161_machine.specs.declared.event.Event.TheVariants.{Step}
 use Rattle.m161_machine.specs.State.{State}
@@ -10,10 +11,10 @@ use Rattle.m161_audit.specs.declared.watch.Watch.{Watch}
 use Rattle.m161_audit.specs.Stale.{IsStaleAt, UsesStale, after_events}
 use Rattle.m161_judge.specs.declared.verdict.Judged.{Judged}
 use Rattle.m161_judge.specs.declared.verdict.Verdict.{Verdict}
-use Rattle.m161_judge.specs.declared.verdict.Verdict.TheVariants.{Stale, Stuck, Output, End}
+use Rattle.m161_judge.specs.declared.verdict.Verdict.TheVariants.{Stale, Conflict, Stuck, Output, End}
 use Rattle.m161_judge.specs.Verdict.{Criteria, Holds, IsJudged, IsStuckBadly, LeadsTo, rank}
 use Rattle.m161_judge.specs.Laws.{IsOneVerdict}
-use Rattle.m161_judge.proofs.Running.{none_past_off, some_is_one}
+use Rattle.m161_judge.proofs.Running.{leads_to_one, none_past_off, some_is_one}
 
 -- A run has one verdict.
 
@@ -68,14 +69,30 @@ stale_verdict goal s events k p a r j q b l n m h i =
 off_once : (s : State) (events : List Event) (n m : ℕ) (t u : State) → LeadsTo s events n t → LeadsTo s events m u → t.board.off ≡ true → n < m → ⊥
 off_once s events n m t u at on off less = none_past_off events n m s t u less (omega (arith, less, on.0)) off at.1 on.1
 
-output_is_one : (goal : Criteria) (s : State) (events : List Event) (n m : ℕ) → Holds goal s events Output n → Holds goal s events Output m → n ≡ m
-output_is_one goal s events n m h k = elim (eqb_tells n m) as (λ _. n ≡ m) [
+-- so it is off after one number of events
+off_is_one : (s : State) (events : List Event) (n m : ℕ) (t u : State) → LeadsTo s events n t → LeadsTo s events m u → t.board.off ≡ true → u.board.off ≡ true → n ≡ m
+off_is_one s events n m t u at on t_off u_off = elim (eqb_tells n m) as (λ _. n ≡ m) [
   | inl e ↦ e.1
   | inr e ↦ absurd (elim (eqb_tells (n + 1 + (m - (n + 1))) m) as (λ _. ⊥) [
-    | inl less ↦ off_once s events n m h.1.0 k.1.0 h.1.1 k.1.1 h.1.2 (omega (arith, less.1))
-    | inr not ↦ off_once s events m n k.1.0 h.1.0 k.1.1 h.1.1 k.1.2 (omega (arith, not.1, e.1))
+    | inl less ↦ off_once s events n m t u at on t_off (omega (arith, less.1))
+    | inr not ↦ off_once s events m n u t on at u_off (omega (arith, not.1, e.1))
   ])
 ]
+
+output_is_one : (goal : Criteria) (s : State) (events : List Event) (n m : ℕ) → Holds goal s events Output n → Holds goal s events Output m → n ≡ m
+output_is_one goal s events n m h k = off_is_one s events n m h.1.0 k.1.0 h.1.1 k.1.1 h.1.2 k.1.2
+
+-- and one conflict
+some_conflict : (a b : ConflictOf) → Some a ≡ Some b → a ≡ b
+some_conflict a b h = cc
+
+conflict_is_one : (goal : Criteria) (s : State) (events : List Event) (a b : ConflictOf) (n m : ℕ) → Holds goal s events (Conflict a) n → Holds goal s events (Conflict b) m →
+    ◌≡◌ {A = Judged} (record { verdict = Conflict a; events = n }) (record { verdict = Conflict b; events = m })
+conflict_is_one goal s events a b n m h k =
+    let place : n ≡ m = off_is_one s events n m h.0 k.0 h.1 k.1 h.2 k.2 in
+    let same : h.0 ≡ k.0 = leads_to_one s events m h.0 k.0 (subst (λ j. LeadsTo s events j h.0) place h.1) k.1 in
+    let conflict : a ≡ b = some_conflict a b (sym h.3 ∙ ap (λ (t : State). t.conflict) same ∙ k.3) in
+    λ i. record { verdict = Conflict (conflict i); events = place i }
 
 with_events : (v : Verdict) (n m : ℕ) → n ≡ m → ◌≡◌ {A = Judged} (record { verdict = v; events = n }) (record { verdict = v; events = m })
 with_events v n m h = λ i. record { verdict = v; events = h i }
@@ -84,18 +101,27 @@ with_events v n m h = λ i. record { verdict = v; events = h i }
 same_kind : (goal : Criteria) (s : State) (events : List Event) (v w : Verdict) (n m : ℕ) → rank v ≡ rank w → Holds goal s events v n → Holds goal s events w m →
     ◌≡◌ {A = Judged} (record { verdict = v; events = n }) (record { verdict = w; events = m })
 same_kind goal s events (Stale k p a r) (Stale j q b l) n m e h i = stale_verdict goal s events k p a r j q b l n m h i
+same_kind goal s events (Stale k p a r) (Conflict d) n m e h i = absurd (omega (arith, e))
 same_kind goal s events (Stale k p a r) Stuck n m e h i = absurd (omega (arith, e))
 same_kind goal s events (Stale k p a r) Output n m e h i = absurd (omega (arith, e))
 same_kind goal s events (Stale k p a r) End n m e h i = absurd (omega (arith, e))
+same_kind goal s events (Conflict c) (Stale j q b l) n m e h i = absurd (omega (arith, e))
+same_kind goal s events (Conflict c) (Conflict d) n m e h i = conflict_is_one goal s events c d n m h i
+same_kind goal s events (Conflict c) Stuck n m e h i = absurd (omega (arith, e))
+same_kind goal s events (Conflict c) Output n m e h i = absurd (omega (arith, e))
+same_kind goal s events (Conflict c) End n m e h i = absurd (omega (arith, e))
 same_kind goal s events Stuck (Stale j q b l) n m e h i = absurd (omega (arith, e))
+same_kind goal s events Stuck (Conflict d) n m e h i = absurd (omega (arith, e))
 same_kind goal s events Stuck Stuck n m e h i = with_events Stuck n m (least_is_one (IsStuckBadly goal s events) n m h.0 h.1 i.0 i.1)
 same_kind goal s events Stuck Output n m e h i = absurd (omega (arith, e))
 same_kind goal s events Stuck End n m e h i = absurd (omega (arith, e))
 same_kind goal s events Output (Stale j q b l) n m e h i = absurd (omega (arith, e))
+same_kind goal s events Output (Conflict d) n m e h i = absurd (omega (arith, e))
 same_kind goal s events Output Stuck n m e h i = absurd (omega (arith, e))
 same_kind goal s events Output Output n m e h i = with_events Output n m (output_is_one goal s events n m h i)
 same_kind goal s events Output End n m e h i = absurd (omega (arith, e))
 same_kind goal s events End (Stale j q b l) n m e h i = absurd (omega (arith, e))
+same_kind goal s events End (Conflict d) n m e h i = absurd (omega (arith, e))
 same_kind goal s events End Stuck n m e h i = absurd (omega (arith, e))
 same_kind goal s events End Output n m e h i = absurd (omega (arith, e))
 same_kind goal s events End End n m e h i = with_events End n m (h.1 ∙ sym i.1)

@@ -11,7 +11,7 @@ use Rattle.m161_audit.specs.Stale.{IsFinding}
 use Rattle.m161_drive.specs.Ready.{is_asleep, is_sending}
 use Rattle.m161_judge.specs.declared.verdict.Judged.{Judged}
 use Rattle.m161_judge.specs.declared.verdict.Verdict.{Verdict}
-use Rattle.m161_judge.specs.declared.verdict.Verdict.TheVariants.{Stale, Stuck, Output, End}
+use Rattle.m161_judge.specs.declared.verdict.Verdict.TheVariants.{Stale, Conflict, Stuck, Output, End}
 
 -- Whether a run goes wrong. The kinds of verdicts and their order are this project's own.
 
@@ -80,12 +80,14 @@ IsStuckBadly goal s events n =
     (t : State) × IsStuckAfter goal s events n t × (HasSent goal t → ⊥)
 
 -- the verdict holds of a run from s, and needs its first n events: up to the first stale use; up to
--- where it is stuck badly for the first time; up to the event that switches the machine off, which
--- is the last one to be accepted; or all
+-- the conflict that switches the machine off; up to where it is stuck badly for the first time; up to
+-- the event that switches the machine off, which is the last one to be accepted; or all
 abbrev pub Holds : Criteria → State → List Event → Verdict → ℕ → Type 0
 Holds goal s events (Stale place p address row) n =
     IsFinding (without_stores s) events goal.watches (finding.Stale place p address row)
     × (n ≡ place + 1)
+Holds goal s events (Conflict conflict) n =
+    (t : State) × LeadsTo s events n t × (t.board.off ≡ true) × (t.conflict ≡ Some conflict)
 Holds goal s events Stuck n =
     IsStuckBadly goal s events n × ((k : ℕ) → k < n → IsStuckBadly goal s events k → ⊥)
 Holds goal s events Output n =
@@ -99,9 +101,10 @@ Holds goal s events End n =
 -- the order of the kinds
 abbrev pub rank : Verdict → ℕ
 rank (Stale place p address row) = 0
-rank Stuck = 1
-rank Output = 2
-rank End = 3
+rank (Conflict conflict) = 1
+rank Stuck = 2
+rank Output = 3
+rank End = 4
 
 -- the verdict of a run from s is the first one, in this order, that holds; there is none where an
 -- event is refused before the machine is off, or where none holds

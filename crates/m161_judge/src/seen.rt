@@ -5,11 +5,12 @@ ghost use Rattle.m161_machine.specs.declared.event.Event.{Event};
 ghost use Rattle.m161_machine.specs.State.{State};
 ghost use Rattle.m161_judge.specs.Judge.{bytes_of};
 ghost use Rattle.m161_judge.specs.Verdict.{Criteria, LeadsTo, has_keys};
-ghost use Rattle.m161_judge.specs.helpers.Walk.{Ends, HasSeen, IsJudgedBeside};
+ghost use Rattle.m161_judge.specs.helpers.Walk.{Ends, HasSeen, IsConflictOff, IsJudgedBehind, IsJudgedBeside};
 
 use crate::stuck::{has_sent, is_stuck};
 use crate::verdict::{Judged, Verdict};
 use m161_drive::View;
+use m161_machine::Conflict;
 
 /// What was seen of a run's states so far.
 #[derive(Clone, Copy)]
@@ -35,6 +36,17 @@ fn judged(verdict: Verdict, events: usize) -> Judged
     ensures { result ≡ record { verdict = verdict; events = events } }
 {
     Judged { verdict, events }
+}
+
+// The conflict that switched the machine off.
+fn conflict_off<V: View>(machine: &V) -> Option<Conflict>
+    ensures { IsConflictOff (V.state machine.now) result }
+{
+    if machine.is_off() {
+        machine.conflict()
+    } else {
+        None
+    }
 }
 
 impl Seen {
@@ -81,6 +93,25 @@ impl Seen {
             → Ends s events made (V.state machine.now)
             → HasSeen goal s events (made + 1) self
             → IsJudgedBeside goal s events result }
+    {
+        match conflict_off(machine) {
+            Some(conflict) => Some(judged(Verdict::Conflict(conflict), made)),
+            None => self.verdict_behind(machine, made, output),
+        }
+    }
+
+    // The first verdict behind Stale and Conflict.
+    fn verdict_behind<V: View>(
+        self,
+        machine: &V,
+        made: usize,
+        output: Option<&[u8]>,
+    ) -> Option<Judged>
+        ensures { (goal : Criteria) (s : State) (events : List Event)
+            → goal.output ≡ bytes_of output.entry
+            → Ends s events made (V.state machine.now)
+            → HasSeen goal s events (made + 1) self
+            → IsJudgedBehind goal s events result }
     {
         if let Some(events) = self.stuck {
             return Some(judged(Verdict::Stuck, events));

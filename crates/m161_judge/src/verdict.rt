@@ -2,6 +2,8 @@
 
 ghost use Rattle.std.specs.Prelude.{◌≡◌};
 
+use m161_machine::Conflict;
+
 /// How a run went wrong. Of the kinds that hold the first one is the verdict.
 #[derive(Clone, Copy, Debug, PartialEq, Eq)]
 pub enum Verdict {
@@ -16,6 +18,8 @@ pub enum Verdict {
         /// The number of the row.
         row: u8,
     },
+    /// A `tlbwi` or `tlbwr` of a strict machine would have written a row that overlaps another one.
+    Conflict(Conflict),
     /// No policy with the keys that were left had an event to choose, and the console hadn't sent
     /// what is asked for.
     Stuck,

@@ -48,7 +48,7 @@ step_made s p o t place on few o_is t_is =
 -- a Step whose outcome is Ran leaves a machine on that was on
 pub stays_on : (p : ℕ) (s : State) → s.board.off ≡ false → (step_result p s).outcome ≡ Ran → (step_result p s).after.around.board.off ≡ false
 unfolding step_result
-stays_on p s on ran = ran_on (scene (processor_at p s.processors) (around p s.memory s.board s.links)) on ran
+stays_on p s on ran = ran_on (scene (processor_at p s.processors) (around p s.memory s.board s.links s.conf.strict)) on ran
 
 pub refused_by : (s : State) (e : Event) (r : Refusal) → refusal s e ≡ Some r → next s e ≡ Err r
 unfolding next

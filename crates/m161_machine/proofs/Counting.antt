@@ -11,7 +11,7 @@ use Rattle.m161_cpu.specs.declared.processor.ProcessorState.{ProcessorState}
 use Rattle.m161_cpu.specs.declared.processor.ProcessorState.TheVariants.{Stopped, Running, Waiting}
 use Rattle.m161_cpu.specs.Processor.{Processor, stopped_processor, with_register, with_hi_lo, with_control, with_row, with_state}
 use Rattle.m161_cpu.specs.Scene.{Change, Scene, apply_part, around, processor_after, scene}
-use Rattle.m161_cpu.specs.Step.{step_of_result, change_of_step, idle, lines_in, running_step, step_by_state, step_of, tick, with_processor}
+use Rattle.m161_cpu.specs.Step.{conflict_of, without_row, step_of_result, change_of_step, idle, lines_in, running_step, step_by_state, step_of, tick, with_processor}
 use Rattle.m161_machine.specs.declared.event.Event.{Event}
 use Rattle.m161_machine.specs.declared.event.Event.TheVariants.{Step, Key, Done}
 use Rattle.m161_machine.specs.declared.event.Refusal.{Refusal}
@@ -44,7 +44,7 @@ kept_by_change c p =
 
 count_ended : (s : Scene) (r : Result Change _) →
     (step_of_result s r).after.processor.count ≡ s.processor.count + 1
-count_ended s (Ok change) = ap (λ n. n + 1) (kept_by_change change s.processor)
+count_ended s (Ok change) = ap (λ n. n + 1) (kept_by_change (without_row (conflict_of s change) change) s.processor)
 count_ended s (Err f) = refl
 
 count_waiting : (s : Scene) (pending : Bool) →
@@ -86,7 +86,7 @@ counts_stepped p s =
     starts_count s.board.started x.after.around.board 0 (set s.processors p x.after.processor)
     ∙ map-set (λ (q : Processor). q.count) s.processors p x.after.processor
     ∙ ap (λ n. set (counts s) p n)
-    (step_count (scene (processor_at p s.processors) (around p s.memory s.board s.links))
+    (step_count (scene (processor_at p s.processors) (around p s.memory s.board s.links s.conf.strict))
     ∙ ap (λ n. n + 1) (sym (count_at s.processors p)))
 
 -- an answer that is given isn't refused

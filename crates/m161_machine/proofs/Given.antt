@@ -1,4 +1,4 @@
-use Rattle.std.proofs.Common.{◌≡◌, refl, ap, sym, subst, inl, inr, ℕ, Bool, true, false, List, [], ◌∷◌, Result, Ok, Err}
+use Rattle.std.proofs.Common.{◌≡◌, refl, ap, sym, subst, inl, inr, ℕ, Bool, true, false, List, [], ◌∷◌, Option, None, Some, Result, Ok, Err}
 use Rattle.std.specs.Prelude.{All, if◌then◌else◌}
 use Rattle.std.proofs.lemmas.List.Elements.{All-cons, All-nil}
 use Rattle.m161_bus.specs.declared.console.DoneError.{DoneError}
@@ -8,13 +8,14 @@ use Rattle.m161_cop0.specs.Control.{Control, is_pending}
 use Rattle.m161_cop0.specs.declared.trap.Trap.{Trap}
 use Rattle.m161_cop0.specs.Trap.{IsVector, vector_of}
 use Rattle.m161_cpu.specs.declared.processor.Outcome.{Outcome}
-use Rattle.m161_cpu.specs.declared.processor.Outcome.TheVariants.{Ran, PoweredOff, Taken}
+use Rattle.m161_cpu.specs.declared.processor.Outcome.TheVariants.{Taken}
 use Rattle.m161_cpu.specs.declared.processor.ProcessorState.{ProcessorState}
 use Rattle.m161_cpu.specs.declared.processor.ProcessorState.TheVariants.{Stopped, Running, Waiting}
 use Rattle.m161_cpu.specs.Fault.{trap_of}
 use Rattle.m161_cpu.specs.Processor.{with_state}
-use Rattle.m161_cpu.specs.Scene.{Change, Scene, around, scene_after, scene}
-use Rattle.m161_cpu.specs.Step.{IsOfStep, step_of_result, change_of_step, idle, lines_in, running_step, step_by_state, step_of, switches_off, tick, with_processor}
+use Rattle.m161_cpu.specs.Scene.{Change, Scene, around, around_after, scene}
+use Rattle.m161_cpu.specs.Step.{AreTwoRows, IsOfStep, conflict_of, outcome_after, step_of_result, change_of_step, idle, lines_in, running_step, step_by_state, step_of, switches_off, tick, with_processor}
+use Rattle.m161_cpu.proofs.Apart.{two_rows}
 use Rattle.m161_machine.specs.declared.event.Entry.{Entry}
 use Rattle.m161_machine.specs.declared.event.Event.{Event}
 use Rattle.m161_machine.specs.declared.event.Event.TheVariants.{Step, Key, Done}
@@ -37,12 +38,15 @@ is_vector : (trap : Trap) (c : Control) → IsVector (vector_of trap c)
 unfolding vector_of
 is_vector trap c = by_bits _ _
 
-by_power : (off : Bool) → IsOfStep (if off then PoweredOff else Ran)
-by_power true = tt
-by_power false = tt
+by_power : (conflict : Option (ℕ × ℕ)) (off : Bool) → ((rows : ℕ × ℕ) → conflict ≡ Some rows → AreTwoRows rows.0 rows.1) → IsOfStep (outcome_after conflict off)
+by_power None true two = tt
+by_power None false two = tt
+by_power (Some rows) off two = two rows refl
 
 ended_proper : (s : Scene) (r : Result Change _) → IsOfStep (step_of_result s r).outcome
-ended_proper s (Ok change) = by_power (switches_off s.around.board (scene_after change s).around.board)
+ended_proper s (Ok change) =
+    by_power (conflict_of s change) (switches_off s.around.board (around_after change s.around).board)
+    (two_rows s.around.strict s.processor.rows change.row)
 ended_proper s (Err f) = is_vector (trap_of f s.processor) s.processor.control
 
 waiting_proper : (s : Scene) (pending : Bool) →
@@ -63,10 +67,10 @@ step_proper s = proper_in s.processor.state s
 stepped_proper : (p : ℕ) (s : State) → IsOfStep (step_result p s).outcome
 unfolding step_result
 stepped_proper p s =
-    step_proper (scene (processor_at p s.processors) (around p s.memory s.board s.links))
+    step_proper (scene (processor_at p s.processors) (around p s.memory s.board s.links s.conf.strict))
 
 -- the outcome of an answer
-outcome_of : (x y : Outcome × State) → ◌≡◌ {A = Result (Outcome × State) Refusal} (Ok x) (Ok y) → x.0 ≡ y.0
+pub outcome_of : (x y : Outcome × State) → ◌≡◌ {A = Result (Outcome × State) Refusal} (Ok x) (Ok y) → x.0 ≡ y.0
 outcome_of x y h = let pair : x ≡ y = cc in ap (λ z. z.0) pair
 
 key_gives : (s t : State) (o : Outcome) (r : Result BoardState KeyFull) →

@@ -20,3 +20,4 @@ mod Booted
 mod Unfolding
 mod Using
 mod Idle
+mod Modes

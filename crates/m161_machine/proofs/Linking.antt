@@ -3,7 +3,7 @@ use Rattle.std.specs.Prelude.{◌==◌, ◌||◌, if◌then◌else◌, slice_set
 use Rattle.std.proofs.lemmas.List.{drop_all, drop-append-le, length-append, map-set}
 use Rattle.std.proofs.lemmas.List.Elements.{All-set, All-weaker, All-head, All-tail}
 use Rattle.m161_isa.specs.declared.link.LinkUnit.{LinkUnit}
-use Rattle.m161_cpu.specs.Links.{LinkAct, LinkState, Keep, LinkTo, End, unit_of, unless_to, after_store, after_act, links_after}
+use Rattle.m161_cpu.specs.Links.{LinkAct, Keep, LinkTo, End, unit_of, unless_to, after_store, after_act, links_after}
 use Rattle.m161_machine.specs.StoreHistory.{Link, live, live_links, touches, with_link_act, stores_after}
 use Rattle.std.proofs.Math.Bool.{or-false}
 

@@ -1,10 +1,12 @@
 use Rattle.std.proofs.Common.{◌≡◌, ◌∙◌, refl, ap, sym, subst, ℕ, zero, suc, ◌+◌, ◌<◌, ◌≤◌, Bool, true, false, List, [], ◌∷◌, ◌++◌, length, take, drop, set, get_or, arith}
-use Rattle.std.specs.Prelude.{not, ◌&&◌, if◌then◌else◌, All}
+use Rattle.std.specs.Prelude.{not, ◌&&◌, if◌then◌else◌, All, replicate}
 use Rattle.std.proofs.lemmas.List.Elements.{All-nil, All-cons, All-head, All-set, All-tail, All-weaker}
+use Rattle.m161_tlb.specs.Rows.{AreApart}
+use Rattle.m161_tlb.proofs.Apart.{start_apart}
 use Rattle.m161_bus.specs.Board.{BoardState, start_words}
-use Rattle.m161_cpu.specs.Processor.{Processor, started_processor}
+use Rattle.m161_cpu.specs.Processor.{Processor, started_processor, stopped_processor}
 use Rattle.m161_isa.specs.Bits.{has_bit}
-use Rattle.m161_machine.specs.State.{started_by, with_starts}
+use Rattle.m161_machine.specs.State.{AreAllApart, started_by, with_starts}
 
 -- The processors that CPUE starts.
 
@@ -102,3 +104,36 @@ pub counts_started : (n before : ℕ) (board : BoardState) (ps qs : List Process
 counts_started n before board ps qs p old new qs_are counts inside here counted =
     subst (All (λ (q : Processor). q.count ≤ n + 1)) (sym qs_are)
     (counts_kept (n + 1) before board 0 (set ps p new) (counts_stepped n ps p old new counts inside here counted))
+
+-- on a strict machine, rows that don't overlap
+
+apart_kept : (start : Bool) (a p : Processor) → AreApart a.rows → AreApart p.rows → AreApart (if start then a else p).rows
+apart_kept true a p new old = new
+apart_kept false a p new old = old
+
+starts_apart : (before : ℕ) (board : BoardState) (c : ℕ) (ps : List Processor) → AreAllApart ps → AreAllApart (with_starts before board c ps)
+starts_apart before board c [] h = All-nil (λ (p : Processor). AreApart p.rows)
+starts_apart before board c (p ∷ ps) h =
+    let P : Processor → Type 0 = λ q. AreApart q.rows in
+    All-cons P (started_by before board c p) (with_starts before board (c + 1) ps)
+    (apart_kept (has_bit board.started c && not (has_bit before c))
+    (started_processor (start_words c board).pc (start_words c board).r4 (start_words c board).r29 p.count) p start_apart (All-head P p ps h))
+    (starts_apart before board (c + 1) ps (All-tail P p ps h))
+
+-- after a Step of one processor, and once the processors were started that it starts
+pub apart_started : (before : ℕ) (board : BoardState) (ps qs : List Processor) (p : ℕ) (old new : Processor) →
+    qs ≡ with_starts before board 0 (set ps p new) →
+    AreAllApart ps → p < length ps → old ≡ get_or ps p old → (AreApart old.rows → AreApart new.rows) → AreAllApart qs
+apart_started before board ps qs p old new qs_are apart inside here keeps =
+    let P : Processor → Type 0 = λ q. AreApart q.rows in
+    let was : AreApart old.rows = subst P (sym here) (apart p old inside) in
+    subst AreAllApart (sym qs_are) (starts_apart before board 0 (set ps p new) (All-set P ps p new (keeps was) apart))
+
+all_stopped : (n : ℕ) → AreAllApart (replicate n stopped_processor)
+all_stopped zero = All-nil (λ (p : Processor). AreApart p.rows)
+all_stopped (suc n) = All-cons (λ (p : Processor). AreApart p.rows) stopped_processor (replicate n stopped_processor) start_apart (all_stopped n)
+
+-- the processors at boot
+pub apart_at_boot : (first : Processor) (n : ℕ) → AreApart first.rows → AreAllApart (first ∷ replicate n stopped_processor)
+apart_at_boot first n apart =
+    All-cons (λ (p : Processor). AreApart p.rows) first (replicate n stopped_processor) apart (all_stopped n)

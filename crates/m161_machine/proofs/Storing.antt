@@ -26,7 +26,7 @@ use Rattle.m161_machine.proofs.Linking.{IsMade, all_made, live_after}
 -- what a Step leaves of the links
 step_leaves : (p : ℕ) (s : State) → (step_result p s).after.around.links ≡ links_after p (step_result p s).link (step_result p s).stored s.links
 unfolding step_result
-step_leaves p s = step_links (scene (processor_at p s.processors) (around p s.memory s.board s.links))
+step_leaves p s = step_links (scene (processor_at p s.processors) (around p s.memory s.board s.links s.conf.strict))
 
 kept_by_key : (s : StoreState) (t : State) (o : Outcome) (r : Result BoardState KeyFull) → answered_key (live_state s) r ≡ Ok (o, t) →
     live_links s.unit s.stores s.links ≡ t.links
@@ -72,6 +72,7 @@ image_by stores links t same = λ i. record {
   board = t.board;
   links = same i;
   made = t.made;
+  conflict = t.conflict;
 }
 
 pub image : (u : LinkUnit) (stores : List ℕ) (links : List (Option Link)) (t : State) → live_links u stores links ≡ t.links → live_state (with_stores stores links t) ≡ t

@@ -3,7 +3,7 @@ use Rattle.std.specs.List.{count_by}
 use Rattle.m161_elf.specs.declared.image.LoadError.{LoadError}
 use Rattle.m161_elf.specs.Image.{first_fault, IsImage}
 use Rattle.m161_cpu.specs.declared.processor.Outcome.{Outcome}
-use Rattle.m161_cpu.specs.declared.processor.Outcome.TheVariants.{Taken}
+use Rattle.m161_cpu.specs.declared.processor.Outcome.TheVariants.{Ran, Trapped, Idle, PoweredOff, Conflict, Taken}
 use Rattle.m161_cpu.specs.Processor.{stopped_processor, started_processor}
 use Rattle.m161_cpu.specs.Step.{IsOfStep}
 use Rattle.m161_machine.specs.declared.conf.Conf.{Conf}
@@ -22,8 +22,8 @@ use Rattle.m161_machine.specs.State.{State, counts, next}
 
 -- The history of a machine: from its base, it is the replay of its log.
 
--- what a machine is booted from: all of RAM, the address of the first instruction, its size and the
--- unit of its links
+-- what a machine is booted from: all of RAM, the address of the first instruction, its size and its
+-- modes
 pub record Start : Type 0 where
   pub bytes : List ℕ
   pub entry : ℕ
@@ -40,6 +40,7 @@ boot_state start = record {
   board = board_at_boot start.conf.ram start.conf.processors console_at_boot;
   links = no_links start.conf.link;
   made = 0;
+  conflict = None;
 }
 
 abbrev pub events_of : List Entry → List Event
@@ -84,12 +85,21 @@ CountsSteps h =
     slice_index_or (counts h.state) p 0
     ≡ slice_index_or (counts h.base) p 0 + steps_of p (events_of h.log)
 
--- an outcome that an event can have: a Step's is never Taken, and its trap has one of the four
--- vectors; that of a byte typed or sent is Taken
+-- an outcome that an event can have: a Step's is never Taken, its trap has one of the four vectors,
+-- and its conflict is of two rows; that of a byte typed or sent is Taken
 abbrev pub CanGive : Event → Outcome → Type 0
 CanGive (Step p) o = IsOfStep o
 CanGive (Key byte) o = o ≡ Taken
 CanGive Done o = o ≡ Taken
+
+-- an outcome of a machine of this mode: only on a strict one is there a conflict
+abbrev pub FitsMode : Bool → Outcome → Type 0
+FitsMode strict Ran = Unit {0}
+FitsMode strict (Trapped code vector) = Unit {0}
+FitsMode strict Idle = Unit {0}
+FitsMode strict PoweredOff = Unit {0}
+FitsMode strict (Conflict row other) = strict ≡ true
+FitsMode strict Taken = Unit {0}
 
 abbrev pub entry : Event → Outcome → Entry
 entry e o = record { event = e; outcome = o }

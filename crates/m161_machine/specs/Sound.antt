@@ -1,6 +1,6 @@
 use Rattle.std.specs.Prelude.{◌≡◌, ◌≤◌, ◌^◌, min, true, length}
 use Rattle.m161_machine.specs.Conf.{is_within_limits}
-use Rattle.m161_machine.specs.State.{State, CountUpTo}
+use Rattle.m161_machine.specs.State.{State, AreAllApart, CountUpTo}
 use Rattle.m161_machine.specs.History.{History, IsLoaded, IsReached, IsReplay}
 
 -- What the types of states and of machines keep.
@@ -13,6 +13,7 @@ pub record IsSound (s : State) : Type 0 where
   pub limits_hold : is_within_limits s.conf ≡ true
   -- so no count of Steps overflows
   pub counts : CountUpTo s.made s.processors
+  pub apart : s.conf.strict ≡ true → AreAllApart s.processors
 
 -- what holds of every machine's history
 pub record IsLawful (h : History) : Type 0 where

@@ -1,18 +1,20 @@
 use Rattle.std.specs.Prelude.{◌≡◌, ℕ, ◌+◌, ◌≤◌, ◌%◌, Bool, not, nat_le, ◌==◌, ◌&&◌, if◌then◌else◌, List, [], ◌∷◌, length, map, slice_index_or, slice_set, Option, None, Some, Result, Ok, Err, All}
 use Rattle.m161_ram.specs.Word.{word_at}
+use Rattle.m161_tlb.specs.Rows.{AreApart}
 use Rattle.m161_bus.specs.declared.console.DoneError.{DoneError}
 use Rattle.m161_bus.specs.declared.console.DoneError.TheVariants as done
 use Rattle.m161_bus.specs.declared.console.KeyFull.{KeyFull}
 use Rattle.m161_bus.specs.Board.{BoardState, board_key, board_done, start_words}
 use Rattle.m161_isa.specs.Bits.{has_bit}
 use Rattle.m161_cpu.specs.declared.processor.Outcome.{Outcome}
-use Rattle.m161_cpu.specs.declared.processor.Outcome.TheVariants.{Taken}
+use Rattle.m161_cpu.specs.declared.processor.Outcome.TheVariants.{Ran, Trapped, Idle, PoweredOff, Conflict as ConflictOutcome, Taken}
 use Rattle.m161_cpu.specs.Links.{LinkState}
 use Rattle.m161_cpu.specs.Processor.{Processor, stopped_processor, started_processor}
 use Rattle.m161_cpu.specs.Scene.{around, scene}
 use Rattle.m161_cpu.specs.Step.{Stepped, step_of}
 use Rattle.m161_isa.specs.Choice.{first_answer}
 use Rattle.m161_machine.specs.declared.conf.Conf.{Conf}
+use Rattle.m161_machine.specs.declared.event.Conflict.{Conflict}
 use Rattle.m161_machine.specs.declared.event.Event.{Event}
 use Rattle.m161_machine.specs.declared.event.Event.TheVariants as event
 use Rattle.m161_machine.specs.declared.event.Refusal.{Refusal}
@@ -30,25 +32,30 @@ pub record State : Type 0 where
   pub links : LinkState
   -- how many events were accepted since boot
   pub made : ℕ
+  -- what switched a strict machine off
+  pub conflict : Option Conflict
 
 -- a processor by its number
 abbrev pub processor_at : ℕ → List Processor → Processor
 processor_at p processors = slice_index_or processors p stopped_processor
 
 abbrev pub state_of :
-    Conf → List Processor → List ℕ → BoardState → LinkState → ℕ → State
-state_of conf processors memory board links made = record {
+    Conf → List Processor → List ℕ → BoardState → LinkState → ℕ → Option Conflict → State
+state_of conf processors memory board links made conflict = record {
   conf = conf;
   processors = processors;
   memory = memory;
   board = board;
   links = links;
   made = made;
+  conflict = conflict;
 }
 
 -- what a Step of processor p gives
 abbrev pub step_on : ℕ → State → Stepped
-step_on p s = step_of (scene (processor_at p s.processors) (around p s.memory s.board s.links))
+step_on p s =
+    step_of
+    (scene (processor_at p s.processors) (around p s.memory s.board s.links s.conf.strict))
 
 unfoldable pub step_result : ℕ → State → Stepped
 step_result p s = step_on p s
@@ -68,6 +75,16 @@ with_starts before board c [] = []
 with_starts before board c (p ∷ ps) =
     started_by before board c p ∷ with_starts before board (c + 1) ps
 
+-- the conflict of a Step of processor p, if its outcome is one, else what was before
+abbrev pub conflict_after : ℕ → Outcome → Option Conflict → Option Conflict
+conflict_after p Ran before = before
+conflict_after p (Trapped code vector) before = before
+conflict_after p Idle before = before
+conflict_after p PoweredOff before = before
+conflict_after p (ConflictOutcome row other) before =
+    Some (record { processor = p; row = row; other = other })
+conflict_after p Taken before = before
+
 -- the state after a Step: what the Step gives, and then the processors that it started
 abbrev pub with_step : ℕ → Stepped → State → State
 with_step p x s = record s {
@@ -78,6 +95,7 @@ with_step p x s = record s {
   board = x.after.around.board;
   links = x.after.around.links;
   made = s.made + 1;
+  conflict = conflict_after p x.outcome s.conflict;
 }
 
 -- the state after an input of a device
@@ -137,6 +155,10 @@ word_in memory at =
 -- each of these processors has made at most n Steps
 abbrev pub CountUpTo : ℕ → List Processor → Type 0
 CountUpTo n processors = All (λ (p : Processor). p.count ≤ n) processors
+
+-- of none of these processors two rows of its TLB overlap
+abbrev pub AreAllApart : List Processor → Type 0
+AreAllApart processors = All (λ (p : Processor). AreApart p.rows) processors
 
 -- the configuration and the sizes of a state stay
 abbrev pub KeepsSizes : State → State → Type 0

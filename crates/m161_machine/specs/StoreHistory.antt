@@ -5,6 +5,7 @@ use Rattle.m161_isa.specs.declared.link.LinkUnit.{LinkUnit}
 use Rattle.m161_cpu.specs.Links.{LinkAct, LinkState, Keep, LinkTo, End, unit_of}
 use Rattle.m161_cpu.specs.Processor.{Processor}
 use Rattle.m161_machine.specs.declared.conf.Conf.{Conf}
+use Rattle.m161_machine.specs.declared.event.Conflict.{Conflict}
 use Rattle.m161_machine.specs.declared.event.Entry.{Entry}
 use Rattle.m161_machine.specs.declared.event.Event.{Event}
 use Rattle.m161_machine.specs.declared.event.Event.TheVariants as event
@@ -33,6 +34,7 @@ pub record StoreState : Type 0 where
   -- the physical words of RAM that stores have touched, the oldest first
   pub stores : List ℕ
   pub made : ℕ
+  pub conflict : Option Conflict
 
 -- one of these words is in the unit that begins at this byte
 abbrev pub touches : LinkUnit → ℕ → List ℕ → Bool
@@ -57,6 +59,7 @@ live_state s = record {
   board = s.board;
   links = live_links s.unit s.stores s.links;
   made = s.made;
+  conflict = s.conflict;
 }
 
 -- the stores with one more, if there was one
@@ -97,6 +100,7 @@ with_stores stores links s = record {
   links = links;
   stores = stores;
   made = s.made;
+  conflict = s.conflict;
 }
 
 -- an answer with the stores and links after the event

@@ -11,7 +11,9 @@ use Rattle.m161_machine.specs.State.{State, next, processor_at}
 -- the rows of the TLB through which a Step of processor p gets physical addresses, and the word of
 -- RAM that it stores to, if it is the next event
 unfoldable pub uses_in : ℕ → State → Uses
-uses_in p s = uses_of (scene (processor_at p s.processors) (around p s.memory s.board s.links))
+uses_in p s =
+    uses_of
+    (scene (processor_at p s.processors) (around p s.memory s.board s.links s.conf.strict))
 
 -- a Step of processor p is accepted, and leads to this state
 abbrev pub MakesStep : State → ℕ → State → Type 0

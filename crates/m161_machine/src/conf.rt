@@ -1,4 +1,4 @@
-//! The size of a machine and the unit of its links, and why a machine isn't booted.
+//! The size of a machine and its modes, and why a machine isn't booted.
 
 ghost use Rattle.std.specs.Prelude.{◌≡◌};
 ghost use Rattle.m161_machine.specs.Conf.{is_within_limits};
@@ -8,7 +8,7 @@ use m161_isa::LinkUnit;
 use std::alloc::AllocError;
 use thiserror::Error;
 
-/// The size of a machine, and the unit of its links.
+/// The size of a machine, and its modes.
 #[derive(Clone, Copy, Debug, PartialEq, Eq)]
 pub struct Conf {
     /// Bytes of RAM: 4,096 to 16,777,216, a multiple of 4,096.
@@ -19,6 +19,8 @@ pub struct Conf {
     pub log: u32,
     /// What `ll` links a processor to.
     pub link: LinkUnit,
+    /// Whether it stops where a row of a TLB would overlap another one.
+    pub strict: bool,
 }
 
 impl Conf {

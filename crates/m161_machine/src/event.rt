@@ -26,6 +26,17 @@ pub struct Entry {
     pub outcome: Outcome,
 }
 
+/// What switched a strict machine off.
+#[derive(Clone, Copy, Debug, PartialEq, Eq)]
+pub struct Conflict {
+    /// The processor whose `tlbwi` or `tlbwr` it was.
+    pub processor: u32,
+    /// The row that was to be written, and stays as it was: 0 to 63.
+    pub row: u8,
+    /// The lowest other row that it would have overlapped: 0 to 63.
+    pub other: u8,
+}
+
 /// Why an event is refused. Each is returned only if none above it holds.
 #[derive(Clone, Copy, Debug, PartialEq, Eq, Error)]
 pub enum Refusal {

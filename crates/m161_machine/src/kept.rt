@@ -3,7 +3,7 @@
 ghost use Rattle.std.specs.Prelude.{◌≡◌, ◌+◌, ◌*◌, ◌/◌, ◌%◌, ◌<◌, ◌≤◌, ◌^◌, IfOk, length};
 ghost use Rattle.m161_cop0.specs.Trap.{IsVector};
 ghost use Rattle.m161_cpu.specs.declared.processor.Outcome.TheVariants as outcomes;
-ghost use Rattle.m161_cpu.specs.Step.{IsOfStep};
+ghost use Rattle.m161_cpu.specs.Step.{AreTwoRows, IsOfStep};
 ghost use Rattle.m161_machine.specs.declared.event.Event.TheVariants as events;
 ghost use Rattle.m161_machine.specs.History.{entry, is_step_of};
 ghost use Rattle.m161_machine.specs.helpers.Kept.{number_of_vector, outcome_with, place_of, vector_with};
@@ -13,6 +13,9 @@ use m161_cop0::Exception;
 use m161_cpu::Outcome;
 use std::alloc::{AllocError, Global};
 use std::marker::Model;
+
+/// The code of a conflict.
+const CONFLICT: u32 = 3;
 
 /// The code of a typed byte.
 const KEY: u32 = 62;
@@ -27,7 +30,7 @@ pub(crate) struct Kept {
 }
 
 impl Model for Kept {
-    ghost use Rattle.std.specs.Prelude.{◌≡◌, ◌/◌, ◌%◌, ◌<◌};
+    ghost use Rattle.std.specs.Prelude.{◌≡◌, ◌/◌, ◌%◌, ◌^◌, ◌<◌};
     ghost use Rattle.m161_machine.specs.declared.event.Entry.{Entry};
     ghost use Rattle.m161_machine.specs.helpers.Kept.{entry_in_word, word_of_entry};
 
@@ -35,9 +38,11 @@ impl Model for Kept {
 
     ghost view = { λ k. entry_in_word k.word };
 
-    // the word is that of its entry, and the number with the code of a typed byte is a byte
+    // the word is that of its entry, the number with the code of a typed byte is a byte, and with
+    // that of a conflict there are 23 bits
     ghost invariant = { λ k. (word_of_entry (entry_in_word k.word) ≡ k.word)
-        × (k.word % 64 ≡ 62 → k.word / 64 < 256) };
+        × (k.word % 64 ≡ 62 → k.word / 64 < 256)
+        × (k.word % 64 ≡ 3 → k.word < 2 ^ 23) };
 
     ghost inverse = { λ e. record { word = word_of_entry e } };
 
@@ -71,13 +76,13 @@ fn vector_at(number: u32) -> u32
     }
 }
 
-// The code of a Step's outcome.
+// The code of a Step's outcome, with the rows of a conflict in their places.
 #[inline(always)]
 fn place(outcome: Outcome) -> u32
     requires { IsOfStep outcome }
-    ensures small { result < 62 }
+    ensures small { (result % 2048 < 62) × (result < 2 ^ 23) }
     ensures place { result ≡ place_of outcome }
-    ensures value { outcome_with result ≡ outcome }
+    ensures value { outcome_with (result % 64) (result / 2048) ≡ outcome }
 {
     match outcome {
         Outcome::Ran => 0,
@@ -90,17 +95,27 @@ fn place(outcome: Outcome) -> u32
 #[inline(never)]
 fn place_of_other(outcome: Outcome) -> u32
     requires { IsOfStep outcome }
-    ensures small { result < 62 }
+    ensures small { (result % 2048 < 62) × (result < 2 ^ 23) }
     ensures place { result ≡ place_of outcome }
-    ensures value { outcome_with result ≡ outcome }
+    ensures value { outcome_with (result % 64) (result / 2048) ≡ outcome }
 {
     match outcome {
         Outcome::Ran => 0,
         Outcome::Idle => 1,
         Outcome::PoweredOff => 2,
+        Outcome::Conflict { row, other } => place_of_conflict(row, other),
         Outcome::Trapped { code, vector } => place_of_trap(code, vector),
         Outcome::Taken => 0,
     }
+}
+
+fn place_of_conflict(row: u8, other: u8) -> u32
+    requires { AreTwoRows row other }
+    ensures small { (result % 2048 < 62) × (result < 2 ^ 23) }
+    ensures place { result ≡ place_of (outcomes.Conflict row other) }
+    ensures value { outcome_with (result % 64) (result / 2048) ≡ outcomes.Conflict row other }
+{
+    (u32::from(row) * 64 + u32::from(other)) * 2048 + CONFLICT
 }
 
 fn place_of_trap(code: Exception, vector: u32) -> u32
@@ -108,22 +123,27 @@ fn place_of_trap(code: Exception, vector: u32) -> u32
     ensures small { result < 62 }
     ensures large { 4 ≤ result }
     ensures place { result ≡ place_of (outcomes.Trapped code vector) }
-    ensures value { outcome_with result ≡ outcomes.Trapped code vector }
+    ensures value { outcome_with (result % 64) (result / 2048) ≡ outcomes.Trapped code vector }
 {
     4 + u32::from(code.number()) * 4 + vector_number(vector)
 }
 
-// The outcome of a Step with a code.
-fn outcome_at(place: u32) -> Outcome
-    requires { place < 62 }
-    ensures { result ≡ outcome_with place }
+// The outcome of a Step with a code and, of a conflict, these rows.
+fn outcome_at(code: u32, rows: u32) -> Outcome
+    requires code { code < 62 }
+    requires rows { code ≡ 3 → rows < 64 * 64 }
+    ensures { result ≡ outcome_with code rows }
 {
-    match place {
+    match code {
         0 => Outcome::Ran,
         1 => Outcome::Idle,
         2 => Outcome::PoweredOff,
+        CONFLICT => Outcome::Conflict {
+            row: (rows / 64) as u8,
+            other: (rows % 64) as u8,
+        },
         _ => {
-            let trap = place.saturating_sub(4);
+            let trap = code.saturating_sub(4);
             Outcome::Trapped {
                 code: Exception::from_number((trap / 4) as u8).unwrap_or(Exception::Interrupt),
                 vector: vector_at(trap % 4),
@@ -136,7 +156,7 @@ impl Kept {
     /// A Step of a processor, and its outcome.
     #[inline(always)]
     pub(crate) fn of_step(p: u32, outcome: Outcome) -> Kept
-        requires small { p < 2 ^ 26 }
+        requires small { p < 32 }
         requires proper { IsOfStep outcome }
         ensures { result ≡ entry (events.Step p) outcome }
     {
@@ -174,9 +194,9 @@ impl Kept {
                 event: Event::Done,
                 outcome: Outcome::Taken,
             },
-            place => Entry {
-                event: Event::Step(self.word / 64),
-                outcome: outcome_at(place),
+            code => Entry {
+                event: Event::Step(self.word / 64 % 32),
+                outcome: outcome_at(code, self.word / 2048),
             },
         }
     }
@@ -186,7 +206,7 @@ impl Kept {
     pub(crate) fn is_step_of(&self, p: u32) -> bool
         ensures { result ≡ is_step_of p self.now.event }
     {
-        self.word % 64 < KEY && self.word / 64 == p
+        self.word % 64 < KEY && self.word / 64 % 32 == p
     }
 }
 

@@ -31,7 +31,7 @@ mod step;
 mod window;
 
 pub use conf::{BootError, Conf};
-pub use event::{Entry, Event, Refusal};
+pub use event::{Conflict, Entry, Event, Refusal};
 pub use events::{Events, Runs};
 pub use laws::stores_agree;
 pub use m161_bus::{BoardWord, Console};

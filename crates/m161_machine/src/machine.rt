@@ -4,8 +4,8 @@ ghost use Rattle.std.specs.Prelude.{◌≡◌, ◌⊎◌, ◌+◌, ◌-◌, ◌%
 ghost use Rattle.m161_elf.specs.Image.{is_in_ram};
 ghost use Rattle.m161_machine.specs.declared.event.Event.TheVariants as events;
 ghost use Rattle.m161_machine.specs.Conf.{is_within_limits};
-ghost use Rattle.m161_machine.specs.State.{CountUpTo, KeepsSizes};
-ghost use Rattle.m161_machine.specs.History.{boot_fault, boot_state, history_at_boot, Boots, Answers, CanGive, Continues, CountsSteps, Ends, IsLoaded, IsReached, IsReplay};
+ghost use Rattle.m161_machine.specs.State.{AreAllApart, CountUpTo, KeepsSizes};
+ghost use Rattle.m161_machine.specs.History.{boot_fault, boot_state, history_at_boot, Boots, Answers, CanGive, Continues, CountsSteps, Ends, FitsMode, IsLoaded, IsReached, IsReplay};
 ghost use Rattle.m161_machine.specs.StoreHistory.{StoresReplay};
 ghost use Rattle.m161_machine.specs.helpers.History.{start_of};
 ghost use Rattle.m161_machine.specs.helpers.Sound.{Advances};
@@ -68,7 +68,7 @@ impl<T: Tlb, D: Console> Model for Machine<T, D> {
 impl<T: Tlb, D: Console> Machine<T, D> {
     /// Boots a file. The machine keeps the loaded image and the state at its log's base beside its
     /// memory, so it allocates three times the RAM of its configuration, four bytes for each entry
-    /// of the log, and the room of two consoles.
+    /// of the log, the room of two consoles, and two boxes with the rest of a state.
     ///
     /// # Errors
     /// The configuration is outside the limits; or the file can't be loaded; or memory was refused.
@@ -291,7 +291,8 @@ impl<T: Tlb, D: Console> Machine<T, D> {
     /// base is reached from the state at boot; it is that state while no entry was dropped. The log
     /// has the last entries for which there is room. The configuration is within the limits and
     /// never changes. Since the base each processor has counted exactly its Steps in the log, and
-    /// each entry's outcome is one that its event can have.
+    /// each entry's outcome is one that its event can have, and a conflict only on a strict machine.
+    /// On that no two rows of a processor's TLB overlap, in the state and in the base.
     pub fn replay(&self)
         ensures replay { IsReplay self.now }
         ensures reached { IsReached self.now.start self.now.base }
@@ -307,9 +308,13 @@ impl<T: Tlb, D: Console> Machine<T, D> {
         ensures counts { CountUpTo self.now.state.made self.now.state.processors }
         ensures steps { CountsSteps self.now }
         ensures outcomes { All (λ e. CanGive e.event e.outcome) self.now.log }
+        ensures mode { All (λ e. FitsMode self.now.start.conf.strict e.outcome) self.now.log }
+        ensures apart { self.now.start.conf.strict ≡ true
+            → AreAllApart self.now.state.processors × AreAllApart self.now.base.processors }
     {
         let _window = &self.window;
         self.present.law();
+        self.base.law();
     }
 
     /// The law of the stores: the machine's live links are those of the history of its stores. From

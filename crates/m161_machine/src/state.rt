@@ -5,7 +5,7 @@ ghost use Rattle.m161_cpu.specs.Processor.{started_processor, stopped_processor}
 ghost use Rattle.m161_cpu.specs.Step.{IsOfStep};
 ghost use Rattle.m161_cpu.specs.declared.processor.Outcome.{Outcome};
 ghost use Rattle.m161_machine.specs.declared.event.Event.TheVariants as events;
-ghost use Rattle.m161_machine.specs.State.{CountUpTo, KeepsSizes, State, is_worn, next, refusal, step_result, with_step};
+ghost use Rattle.m161_machine.specs.State.{AreAllApart, CountUpTo, KeepsSizes, State, is_worn, next, refusal, step_result, with_step};
 ghost use Rattle.m161_machine.specs.declared.event.Refusal.{Refusal};
 ghost use Rattle.m161_machine.specs.Uses.{MakesStep};
 ghost use Rattle.m161_machine.specs.Conf.{is_within_limits};
@@ -17,7 +17,7 @@ mod again;
 mod views;
 
 use crate::conf::Conf;
-use crate::event::{Event, Refusal};
+use crate::event::{Conflict, Event, Refusal};
 use crate::kept::Kept;
 use crate::step::step_parts;
 use m161_bus::{Board, Console, DoneError};
@@ -37,6 +37,8 @@ pub struct Core<T: Tlb, D: Console> {
     links: Links,
     // How many events were accepted since boot.
     made: u64,
+    // What switched a strict machine off.
+    conflict: Option<Conflict>,
     conf: Conf,
 }
 
@@ -47,12 +49,14 @@ impl<T: Tlb, D: Console> Model for Core<T, D> {
     ghost Value = { CoreValue };
 
     ghost view = { λ c. record {
-      state = state_of c.conf c.processors.items c.ram c.board.state c.links c.made;
+      state =
+          state_of c.conf c.processors.items c.ram c.board.state c.links c.made c.conflict;
       room = c.board.room;
     } };
 
     ghost invariant = { λ c.
-        IsSound (state_of c.conf c.processors.items c.ram c.board.state c.links c.made) };
+        IsSound
+        (state_of c.conf c.processors.items c.ram c.board.state c.links c.made c.conflict) };
 }
 
 /// So many events a machine accepts.
@@ -123,6 +127,7 @@ impl<T: Tlb, D: Console> Core<T, D> {
             board: Board::new(console, conf.ram, conf.processors),
             links: Links::new(conf.link),
             made: 0,
+            conflict: None,
             conf,
         })
     }
@@ -142,6 +147,7 @@ impl<T: Tlb, D: Console> Core<T, D> {
             board,
             links: self.links.copy(),
             made: self.made,
+            conflict: self.conflict,
             conf: self.conf,
         })
     }
@@ -227,9 +233,10 @@ impl<T: Tlb, D: Console> Core<T, D> {
             board,
             links,
             made,
-            conf: _,
+            conflict,
+            conf,
         } = self;
-        let outcome = step_parts(processors, p, ram, board, links);
+        let outcome = step_parts(processors, p, ram, board, links, conflict, conf.strict);
         *made += 1;
         outcome
     }
@@ -365,13 +372,14 @@ impl<T: Tlb, D: Console> Core<T, D> {
     }
 
     /// The law of every state: there are as many processors as the board says, at most 32; the
-    /// configuration is within the limits; and no processor has made more Steps than events were
-    /// accepted.
+    /// configuration is within the limits; no processor has made more Steps than events were
+    /// accepted; and on a strict machine no two rows of a processor's TLB overlap.
     pub fn law(&self)
         ensures number { length self.now.state.processors ≡ self.now.state.board.processors }
         ensures few { length self.now.state.processors ≤ 32 }
         ensures limits { is_within_limits self.now.state.conf ≡ true }
         ensures counts { CountUpTo self.now.state.made self.now.state.processors }
+        ensures apart { self.now.state.conf.strict ≡ true → AreAllApart self.now.state.processors }
     {
         let _processors = &self.processors;
     }

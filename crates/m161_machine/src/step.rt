@@ -1,17 +1,19 @@
 //! A Step on the parts of a state.
 
-ghost use Rattle.std.specs.Prelude.{◌≡◌, ◌+◌, ◌-◌, ◌^◌, ◌<◌, ◌≤◌, length, ℕ};
+ghost use Rattle.std.specs.Prelude.{◌≡◌, ◌+◌, ◌-◌, ◌^◌, ◌<◌, ◌≤◌, length, true, ℕ};
 ghost use Rattle.m161_bus.specs.Board.{KeepsSizeAndRoom};
 ghost use Rattle.m161_cpu.specs.Step.{IsOfStep};
 ghost use Rattle.m161_machine.specs.declared.conf.Conf.{Conf};
-ghost use Rattle.m161_machine.specs.State.{CountUpTo, started_by, state_of, step_on, with_starts, with_step};
+ghost use Rattle.m161_machine.specs.State.{AreAllApart, CountUpTo, conflict_after, started_by, state_of, step_on, with_starts, with_step};
 
+use crate::event::Conflict;
 use m161_bus::{Board, Console};
 use m161_cpu::{Cpu, Links, Outcome};
 use m161_ram::Ram;
 use m161_tlb::Tlb;
 
-/// Makes a Step of processor `p`, and then starts the processors that the Step put into CPUE.
+/// Makes a Step of processor `p`, on a strict machine or not, and then starts the processors that the
+/// Step put into CPUE.
 #[inline(always)]
 pub(crate) fn step_parts<T: Tlb, D: Console>(
     processors: &mut Vec<Cpu<T>>,
@@ -19,29 +21,35 @@ pub(crate) fn step_parts<T: Tlb, D: Console>(
     ram: &mut Ram,
     board: &mut Board<D>,
     links: &mut Links,
+    conflict: &mut Option<Conflict>,
+    strict: bool,
 ) -> Outcome
     requires processor { p < length processors.old.items }
     requires number { (length processors.old.items ≡ board.old.state.processors)
         × (board.old.state.processors ≤ 32) }
     requires ram { length ram.old ≤ 2 ^ 29 }
     requires room { (n : ℕ) × (n < 2 ^ 64 - 1) × CountUpTo n processors.old.items }
-    ensures outcome { (conf : Conf) (n : ℕ) → result ≡
+    ensures outcome { (conf : Conf) (n : ℕ) → conf.strict ≡ strict → result ≡
         (step_on p
-        (state_of conf processors.old.items ram.old board.old.state links.old n)).outcome }
-    ensures state { (conf : Conf) (n : ℕ) →
-        state_of conf processors.new.items ram.new board.new.state links.new (n + 1) ≡
+        (state_of conf processors.old.items ram.old board.old.state links.old n
+        conflict.old)).outcome }
+    ensures state { (conf : Conf) (n : ℕ) → conf.strict ≡ strict →
+        state_of conf processors.new.items ram.new board.new.state links.new (n + 1) conflict.new ≡
         with_step p
-        (step_on p (state_of conf processors.old.items ram.old board.old.state links.old n))
-        (state_of conf processors.old.items ram.old board.old.state links.old n) }
+        (step_on p (state_of conf processors.old.items ram.old board.old.state links.old n
+        conflict.old))
+        (state_of conf processors.old.items ram.old board.old.state links.old n conflict.old) }
     ensures counts { (n : ℕ)
         → CountUpTo n processors.old.items → CountUpTo (n + 1) processors.new.items }
     ensures number { length processors.new.items ≡ length processors.old.items }
     ensures size { length ram.new ≡ length ram.old }
     ensures board { KeepsSizeAndRoom board.old board.new }
     ensures proper { IsOfStep result }
+    ensures apart { strict ≡ true → AreAllApart processors.old.items
+        → AreAllApart processors.new.items }
 {
     let before = board.started();
-    match processors[p as usize].step(p, ram, board, links) {
+    match processors[p as usize].step(p, ram, board, links, strict) {
         // For LLVM: an arm of its own, so that the outcome of most Steps is known without a test.
         Outcome::Ran => {
             start_new(processors, board, before);
@@ -49,8 +57,23 @@ pub(crate) fn step_parts<T: Tlb, D: Console>(
         }
         other => {
             start_new(processors, board, before);
+            *conflict = conflict_after(p, other, *conflict);
             other
         }
+    }
+}
+
+// The conflict of a Step of processor `p`, if its outcome is one, else what was before.
+fn conflict_after(p: u32, outcome: Outcome, before: Option<Conflict>) -> Option<Conflict>
+    ensures { result ≡ conflict_after p outcome before }
+{
+    match outcome {
+        Outcome::Conflict { row, other } => Some(Conflict {
+            processor: p,
+            row,
+            other,
+        }),
+        _ => before,
     }
 }
 

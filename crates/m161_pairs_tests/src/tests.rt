@@ -1,8 +1,10 @@
-//! The rows of files, configurations, logs, breakpoints and threads, over each TLB and each console.
+//! The rows of files, configurations, logs, breakpoints, conflicts and threads, over each TLB and each
+//! console.
 //! Those of words on a machine run over all four pairs in `m161_tests`.
 
 mod booting;
 mod stopping;
+mod strict;
 mod threads;
 mod words;
 

@@ -1,5 +1,5 @@
 -- A line of a log.
-use Rattle.std.proofs.Common.{◌≡◌, ◌≢◌, inl, inr, false, ℕ, zero, suc, ◌<◌, List, [], ◌∷◌, ◌++◌, length, get_or, refl, sym, ap, ◌∙◌, ap₂, arith, length-append, Option, Some, None, codes, decimal, rules}
+use Rattle.std.proofs.Common.{◌≡◌, ◌≢◌, inl, inr, Bool, true, false, ℕ, zero, suc, ◌<◌, ◌≤◌, List, [], ◌∷◌, ◌++◌, length, get_or, refl, sym, ap, ◌∙◌, ap₂, arith, length-append, Option, Some, None, codes, decimal, rules}
 use Rattle.std.proofs.lemmas.Option.{none-some, some_pair_parts}
 use Rattle.std.proofs.lemmas.List.{append_cancel_left}
 use Rattle.m161_isa.specs.declared.link.LinkUnit.{LinkUnit}
@@ -15,14 +15,26 @@ use Rattle.m161_steplog.specs.Text.{event_text, code_text, outcome_text, entry_t
 use Rattle.m161_steplog.specs.declared.mode.Mode.{Mode}
 use Rattle.m161_steplog.specs.Log.{unit_text, mode_text, IsHeader}
 use Rattle.m161_steplog.specs.Comments.{is_comment}
-use Rattle.m161_steplog.specs.helpers.Text.{IsCode}
+use Rattle.m161_steplog.specs.helpers.Text.{rows_text, AreRows, IsCode}
 use Rattle.m161_cop0.specs.declared.exception.Exception.{Exception}
 use Rattle.m161_cop0.specs.Registers.{number_of_exception}
 use Rattle.m161_steplog.proofs.Codes.{code_small}
 use Rattle.m161_text.proofs.Reading.{nothing}
-use Rattle.m161_text.proofs.Parts.{cut_same, has_space, rest_lacks, one_lacks}
+use Rattle.m161_text.proofs.Parts.{cut_same, has_space, not_spaced, rest_lacks, one_lacks}
 use Rattle.m161_text.proofs.Hex.{hex_lacks, hex_lacks_space}
 use Rattle.m161_text.proofs.Decimal.{decimal_lacks}
+
+-- what lacks a byte
+pub lacks_nil : (c : ℕ) → Lacks c []
+lacks_nil c i lt = absurd (omega arith)
+
+pub lacks_cons : (c b : ℕ) (bs : List ℕ) → b ≢ c → Lacks c bs → Lacks c (b ∷ bs)
+lacks_cons c b bs other lacks zero lt e = other e
+lacks_cons c b bs other lacks (suc i) lt e = lacks i (omega arith) e
+
+pub lacks_append : (c : ℕ) (a b : List ℕ) → Lacks c a → Lacks c b → Lacks c (a ++ b)
+lacks_append c [] b first second = second
+lacks_append c (x ∷ a) b first second = lacks_cons c x (a ++ b) (first 0 (omega arith)) (lacks_append c a b (rest_lacks c x a first) second)
 
 -- the first part of a line decides its event
 abbrev Kind : List ℕ → List ℕ → Event → Outcome → Type 0
@@ -35,27 +47,95 @@ kind_of kind rest (events.Step p) o lacks same = cut_same 32 kind (codes "s") re
 kind_of kind rest (events.Key b) o lacks same = cut_same 32 kind (codes "k") rest (hex_text 2 b ␣ outcome_text o) lacks (one_lacks 107 (search rules)) same
 kind_of kind rest events.Done o lacks same = cut_same 32 kind (codes "o") rest (outcome_text o) lacks (one_lacks 111 (search rules)) same
 
+-- the first part of an outcome's text that has numbers decides it
+abbrev Numbered : List ℕ → List ℕ → Outcome → Type 0
+Numbered kind rest outcomes.Ran = ⊥
+Numbered kind rest (outcomes.Trapped c v) = (kind ≡ codes "trap") × (rest ≡ code_text c ␣ hex_text 8 v)
+Numbered kind rest outcomes.Idle = ⊥
+Numbered kind rest outcomes.PoweredOff = ⊥
+Numbered kind rest (outcomes.Conflict row other) = (kind ≡ codes "conflict") × (rest ≡ rows_text (row, other))
+Numbered kind rest outcomes.Taken = ⊥
+
+abbrev IsCut : List ℕ → List ℕ → List ℕ → Type 0
+IsCut kind rest text = Lacks 32 kind × (text ≡ kind ␣ rest)
+
+numbered : (kind rest text : List ℕ) (o : Outcome) → IsCut kind rest text → IsStepOutcome o → text ≡ outcome_text o → Numbered kind rest o
+numbered kind rest text outcomes.Ran cut fits same = not_spaced (codes "ran") kind rest (search (rules, lacks_cons, lacks_nil)) (sym same ∙ cut.1)
+numbered kind rest text (outcomes.Trapped c v) cut fits same = cut_same 32 kind (codes "trap") rest (code_text c ␣ hex_text 8 v) cut.0 (search (rules, lacks_cons, lacks_nil)) (sym cut.1 ∙ same)
+numbered kind rest text outcomes.Idle cut fits same = not_spaced (codes "idle") kind rest (search (rules, lacks_cons, lacks_nil)) (sym same ∙ cut.1)
+numbered kind rest text outcomes.PoweredOff cut fits same = not_spaced (codes "off") kind rest (search (rules, lacks_cons, lacks_nil)) (sym same ∙ cut.1)
+numbered kind rest text (outcomes.Conflict row other) cut fits same = cut_same 32 kind (codes "conflict") rest (rows_text (row, other)) cut.0 (search (rules, lacks_cons, lacks_nil)) (sym cut.1 ∙ same)
+numbered kind rest text outcomes.Taken cut fits same = fits
+
+-- an outcome without numbers is one word
+pub no_word : (text : List ℕ) → Lacks 32 text → text ≢ codes "ran" → text ≢ codes "idle" → text ≢ codes "off" → Reads IsStepOutcome outcome_text text None
+no_word text lacks not_ran not_idle not_off = nothing (λ o fits same. by_outcome o fits same)
+  where
+    by_outcome : (o : Outcome) → IsStepOutcome o → text ≡ outcome_text o → ⊥
+    by_outcome outcomes.Ran fits same = not_ran same
+    by_outcome (outcomes.Trapped c v) fits same = not_spaced text (codes "trap") (code_text c ␣ hex_text 8 v) lacks same
+    by_outcome outcomes.Idle fits same = not_idle same
+    by_outcome outcomes.PoweredOff fits same = not_off same
+    by_outcome (outcomes.Conflict row other) fits same = not_spaced text (codes "conflict") (rows_text (row, other)) lacks same
+    by_outcome outcomes.Taken fits same = fits
+
+pub no_outcome : (kind rest text : List ℕ) → IsCut kind rest text → kind ≢ codes "trap" → kind ≢ codes "conflict" → Reads IsStepOutcome outcome_text text None
+no_outcome kind rest text cut not_trap not_conflict = nothing (λ o fits same. by_outcome o (numbered kind rest text o cut fits same))
+  where
+    by_outcome : (o : Outcome) → Numbered kind rest o → ⊥
+    by_outcome outcomes.Ran it = it
+    by_outcome (outcomes.Trapped c v) it = not_trap it.0
+    by_outcome outcomes.Idle it = it
+    by_outcome outcomes.PoweredOff it = it
+    by_outcome (outcomes.Conflict row other) it = not_conflict it.0
+    by_outcome outcomes.Taken it = it
+
 -- a trap's outcome
 abbrev Trap : List ℕ → Option (Exception × ℕ) → Type 0
 Trap text r = ReadsBoth IsCode IsWord code_text (hex_text 8) text r
 
-trap_rest : (text rest : List ℕ) (o : Outcome) → text ≡ codes "trap " ++ rest → IsStepOutcome o → text ≡ outcome_text o → (t : Exception × ℕ) × (o ≡ outcomes.Trapped t.0 t.1) × IsWord t.1 × (rest ≡ code_text t.0 ␣ hex_text 8 t.1)
-trap_rest text rest outcomes.Ran is fits same = absurd (cc)
-trap_rest text rest (outcomes.Trapped c v) is fits same = ((c, v), refl, fits, append_cancel_left (codes "trap ") rest (code_text c ␣ hex_text 8 v) (sym is ∙ same))
-trap_rest text rest outcomes.Idle is fits same = absurd (cc)
-trap_rest text rest outcomes.PoweredOff is fits same = absurd (cc)
-trap_rest text rest outcomes.Taken is fits same = absurd fits
+trap_rest : (kind rest : List ℕ) (o : Outcome) → kind ≡ codes "trap" → IsStepOutcome o → Numbered kind rest o → (t : Exception × ℕ) × (o ≡ outcomes.Trapped t.0 t.1) × IsWord t.1 × (rest ≡ code_text t.0 ␣ hex_text 8 t.1)
+trap_rest kind rest outcomes.Ran is fits it = absurd it
+trap_rest kind rest (outcomes.Trapped c v) is fits it = ((c, v), refl, fits, it.1)
+trap_rest kind rest outcomes.Idle is fits it = absurd it
+trap_rest kind rest outcomes.PoweredOff is fits it = absurd it
+trap_rest kind rest (outcomes.Conflict row other) is fits it = absurd (omega (arith, ap (λ ds. get_or ds 0 0) (sym is ∙ it.0)))
+trap_rest kind rest outcomes.Taken is fits it = absurd it
 
-pub no_trap : (text rest : List ℕ) → text ≡ codes "trap " ++ rest → Trap rest None → Reads IsStepOutcome outcome_text text None
-no_trap text rest is none = nothing (λ o fits same. let t = trap_rest text rest o is fits same in none-some t.0 (none.only t.0 (tt, t.2) t.3))
+pub no_trap : (kind rest text : List ℕ) → IsCut kind rest text → kind ≡ codes "trap" → Trap rest None → Reads IsStepOutcome outcome_text text None
+no_trap kind rest text cut is none = nothing (λ o fits same. let t = trap_rest kind rest o is fits (numbered kind rest text o cut fits same) in none-some t.0 (none.only t.0 (tt, t.2) t.3))
 
-pub trap : (text rest : List ℕ) (c : Exception) (v : ℕ) → text ≡ codes "trap " ++ rest → Trap rest (Some (c, v)) → Reads IsStepOutcome outcome_text text (Some (outcomes.Trapped c v))
-trap text rest c v is one = record {
-  found = (one.found.0.1, is ∙ ap (λ r. codes "trap " ++ r) one.found.1);
+pub trap : (kind rest text : List ℕ) (c : Exception) (v : ℕ) → IsCut kind rest text → kind ≡ codes "trap" → Trap rest (Some (c, v)) → Reads IsStepOutcome outcome_text text (Some (outcomes.Trapped c v))
+trap kind rest text c v cut is one = record {
+  found = (one.found.0.1, cut.1 ∙ ap₂ (λ (k r : List ℕ). k ␣ r) is one.found.1);
   only = λ o fits same.
-      let t = trap_rest text rest o is fits same in
+      let t = trap_rest kind rest o is fits (numbered kind rest text o cut fits same) in
       let parts = some_pair_parts c t.0.0 v t.0.1 (one.only t.0 (tt, t.2) t.3) in
       ap₂ (λ m n. Some (outcomes.Trapped m n)) parts.0 parts.1 ∙ ap (λ x. Some x) (sym t.1);
+}
+
+-- a conflict's outcome
+abbrev Conflicting : List ℕ → Option (ℕ × ℕ) → Type 0
+Conflicting text r = Reads AreRows rows_text text r
+
+conflict_rest : (kind rest : List ℕ) (o : Outcome) → kind ≡ codes "conflict" → IsStepOutcome o → Numbered kind rest o → (t : ℕ × ℕ) × (o ≡ outcomes.Conflict t.0 t.1) × AreRows t × (rest ≡ rows_text t)
+conflict_rest kind rest outcomes.Ran is fits it = absurd it
+conflict_rest kind rest (outcomes.Trapped c v) is fits it = absurd (omega (arith, ap (λ ds. get_or ds 0 0) (sym is ∙ it.0)))
+conflict_rest kind rest outcomes.Idle is fits it = absurd it
+conflict_rest kind rest outcomes.PoweredOff is fits it = absurd it
+conflict_rest kind rest (outcomes.Conflict row other) is fits it = ((row, other), refl, fits, it.1)
+conflict_rest kind rest outcomes.Taken is fits it = absurd it
+
+pub no_conflict : (kind rest text : List ℕ) → IsCut kind rest text → kind ≡ codes "conflict" → Conflicting rest None → Reads IsStepOutcome outcome_text text None
+no_conflict kind rest text cut is none = nothing (λ o fits same. let t = conflict_rest kind rest o is fits (numbered kind rest text o cut fits same) in none-some t.0 (none.only t.0 t.2 t.3))
+
+pub conflict : (kind rest text : List ℕ) (row other : ℕ) → IsCut kind rest text → kind ≡ codes "conflict" → Conflicting rest (Some (row, other)) → Reads IsStepOutcome outcome_text text (Some (outcomes.Conflict row other))
+conflict kind rest text row other cut is one = record {
+  found = (one.found.0, cut.1 ∙ ap₂ (λ (k r : List ℕ). k ␣ r) is one.found.1);
+  only = λ o fits same.
+      let t = conflict_rest kind rest o is fits (numbered kind rest text o cut fits same) in
+      let parts = some_pair_parts row t.0.0 other t.0.1 (one.only t.0 t.2 t.3) in
+      ap₂ (λ m n. Some (outcomes.Conflict m n)) parts.0 parts.1 ∙ ap (λ x. Some x) (sym t.1);
 }
 
 -- a line by its first part
@@ -105,48 +185,59 @@ pub no_space : (line : List ℕ) → Lacks 32 line → Reads IsProper entry_text
 no_space line lacks = nothing (λ e proper same. has_space (event_text e.event) (outcome_text e.outcome) (rw (← same) lacks))
 
 -- No line has a line feed, and none is empty.
-pub lacks_nil : (c : ℕ) → Lacks c []
-lacks_nil c i lt = absurd (omega arith)
-
-pub lacks_cons : (c b : ℕ) (bs : List ℕ) → b ≢ c → Lacks c bs → Lacks c (b ∷ bs)
-lacks_cons c b bs other lacks zero lt e = other e
-lacks_cons c b bs other lacks (suc i) lt e = lacks i (omega arith) e
-
-pub lacks_append : (c : ℕ) (a b : List ℕ) → Lacks c a → Lacks c b → Lacks c (a ++ b)
-lacks_append c [] b first second = second
-lacks_append c (x ∷ a) b first second = lacks_cons c x (a ++ b) (first 0 (omega arith)) (lacks_append c a b (rest_lacks c x a first) second)
-
 unit_lacks_feed : (unit : LinkUnit) → Lacks 10 (unit_text unit)
 unit_lacks_feed units.Word = search (rules, lacks_cons, lacks_nil)
 unit_lacks_feed units.Line = search (rules, lacks_cons, lacks_nil)
 
+mode_of : Bool → LinkUnit → Mode
+mode_of strict unit = record { link = unit; strict = strict }
+
+mode_lacks_feed : (strict : Bool) (unit : LinkUnit) → Lacks 10 (mode_text (mode_of strict unit))
+unfolding mode_of
+mode_lacks_feed true unit = lacks_append 10 (codes "3 ") (unit_text unit ␣ codes "strict") (search (rules, lacks_cons, lacks_nil)) (lacks_append 10 (unit_text unit) (codes " strict") (unit_lacks_feed unit) (search (rules, lacks_cons, lacks_nil)))
+mode_lacks_feed false unit = lacks_append 10 (codes "2 ") (unit_text unit) (search (rules, lacks_cons, lacks_nil)) (unit_lacks_feed unit)
+
 pub header_lacks_feed : (mode : Mode) (header : List ℕ) → IsHeader mode header → Lacks 10 header
-header_lacks_feed mode header (inl is) = rw is (lacks_append 10 (codes "m161 log 2 ") (mode_text mode) (search (rules, lacks_cons, lacks_nil)) (unit_lacks_feed mode.link))
+unfolding mode_of
+header_lacks_feed mode header (inl is) = rw is (lacks_append 10 (codes "m161 log ") (mode_text mode) (search (rules, lacks_cons, lacks_nil)) (mode_lacks_feed mode.strict mode.link))
 header_lacks_feed mode header (inr is) = rw is.0 (search (rules, lacks_cons, lacks_nil))
 
 -- no other mode has a first line
+unit_lacks_space : (unit : LinkUnit) → Lacks 32 (unit_text unit)
+unit_lacks_space units.Word = search (rules, lacks_cons, lacks_nil)
+unit_lacks_space units.Line = search (rules, lacks_cons, lacks_nil)
+
 unit_same : (u v : LinkUnit) → unit_text u ≡ unit_text v → u ≡ v
 unit_same units.Word units.Word same = refl
 unit_same units.Word units.Line same = absurd (omega (arith, ap (λ ds. get_or ds 0 0) same))
 unit_same units.Line units.Word same = absurd (omega (arith, ap (λ ds. get_or ds 0 0) same))
 unit_same units.Line units.Line same = refl
 
-mode_of : LinkUnit → Mode
-mode_of unit = record { link = unit }
-
-mode_by_unit : (m n : Mode) → m.link ≡ n.link → m ≡ n
+text_same : (s t : Bool) (u v : LinkUnit) → mode_text (mode_of s u) ≡ mode_text (mode_of t v) → mode_of s u ≡ mode_of t v
 unfolding mode_of
-mode_by_unit m n same = ap mode_of same
+text_same true true u v same =
+    let cut = cut_same 32 (unit_text u) (unit_text v) (codes "strict") (codes "strict") (unit_lacks_space u) (unit_lacks_space v) (append_cancel_left (codes "3 ") (unit_text u ␣ codes "strict") (unit_text v ␣ codes "strict") same) in
+    ap (mode_of true) (unit_same u v cut.0)
+text_same true false u v same = absurd (omega (arith, ap (λ ds. get_or ds 0 0) same))
+text_same false true u v same = absurd (omega (arith, ap (λ ds. get_or ds 0 0) same))
+text_same false false u v same = ap (mode_of false) (unit_same u v (append_cancel_left (codes "2 ") (unit_text u) (unit_text v) same))
+
+-- no mode is written in format 1
+number_of : (strict : Bool) (unit : LinkUnit) → 50 ≤ get_or (mode_text (mode_of strict unit)) 0 0
+unfolding mode_of
+number_of true unit = omega arith
+number_of false unit = omega arith
 
 pub mode_same : (m n : Mode) (header : List ℕ) → IsHeader m header → IsHeader n header → m ≡ n
-mode_same m n header (inl a) (inl b) = mode_by_unit m n (unit_same m.link n.link (append_cancel_left (codes "m161 log 2 ") (mode_text m) (mode_text n) (sym a ∙ b)))
-mode_same m n header (inl a) (inr b) = absurd (omega (arith, ap (λ ds. get_or ds 9 0) (sym a ∙ b.0)))
-mode_same m n header (inr a) (inl b) = absurd (omega (arith, ap (λ ds. get_or ds 9 0) (sym b ∙ a.0)))
-mode_same m n header (inr a) (inr b) = mode_by_unit m n (a.1 ∙ sym b.1)
+unfolding mode_of
+mode_same m n header (inl a) (inl b) = text_same m.strict n.strict m.link n.link (append_cancel_left (codes "m161 log ") (mode_text m) (mode_text n) (sym a ∙ b))
+mode_same m n header (inl a) (inr b) = absurd (omega (arith, ap (λ ds. get_or ds 9 0) (sym a ∙ b.0), number_of m.strict m.link))
+mode_same m n header (inr a) (inl b) = absurd (omega (arith, ap (λ ds. get_or ds 9 0) (sym b ∙ a.0), number_of n.strict n.link))
+mode_same m n header (inr a) (inr b) = a.1 ∙ sym b.1
 
 -- a first line isn't empty, and no comment
 pub header_some : (mode : Mode) (header : List ℕ) → IsHeader mode header → 0 < length header
-header_some mode header (inl is) = omega (arith, ap length is, length-append (codes "m161 log 2 ") (mode_text mode))
+header_some mode header (inl is) = omega (arith, ap length is, length-append (codes "m161 log ") (mode_text mode))
 header_some mode header (inr is) = omega (arith, ap length is.0)
 
 pub header_first : (mode : Mode) (header : List ℕ) → IsHeader mode header → is_comment header ≡ false
@@ -167,6 +258,8 @@ outcome_lacks_feed (outcomes.Trapped c v) fits = lacks_append 10 (codes "trap ")
     (lacks_append 10 (code_text c) (32 ∷ hex_text 8 v) (decimal_lacks 10 (number_of_exception c) (omega arith) (omega (arith, code_small c))) (lacks_cons 10 32 (hex_text 8 v) (omega arith) (hex_lacks 10 8 v (omega arith))))
 outcome_lacks_feed outcomes.Idle fits = search (rules, lacks_cons, lacks_nil)
 outcome_lacks_feed outcomes.PoweredOff fits = search (rules, lacks_cons, lacks_nil)
+outcome_lacks_feed (outcomes.Conflict row other) fits = lacks_append 10 (codes "conflict ") (rows_text (row, other)) (search (rules, lacks_cons, lacks_nil))
+    (lacks_append 10 (decimal row) (32 ∷ decimal other) (decimal_lacks 10 row (omega arith) (omega (arith, fits.0))) (lacks_cons 10 32 (decimal other) (omega arith) (decimal_lacks 10 other (omega arith) (omega (arith, fits.1)))))
 outcome_lacks_feed outcomes.Taken fits = absurd fits
 
 taken_lacks_feed : Lacks 10 (codes "taken")

@@ -7,11 +7,11 @@ use Rattle.m161_machine.specs.declared.event.Entry.{Entry}
 use Rattle.m161_steplog.specs.declared.fault.Fault.{Fault}
 use Rattle.m161_steplog.specs.declared.fault.Fault.TheVariants as faults
 use Rattle.m161_text.specs.Parts.{Reads, Lacks}
-use Rattle.m161_steplog.specs.Text.{entry_text, IsProper}
+use Rattle.m161_steplog.specs.Text.{entry_text}
 use Rattle.m161_text.specs.Lines.{lines_of, text_of, FirstBad}
 use Rattle.m161_steplog.specs.declared.log.LogText.{LogText}
 use Rattle.m161_steplog.specs.declared.mode.Mode.{Mode}
-use Rattle.m161_steplog.specs.Log.{headed_text, header_text, log_text, log_lines, IsHeader, IsLogText, IsLog, AreLogLines}
+use Rattle.m161_steplog.specs.Log.{headed_text, header_text, log_text, log_lines, IsEntryOf, IsHeader, IsLogText, IsLog, AreLogLines}
 use Rattle.m161_steplog.specs.Comments.{comment_count, behind_comments, IsLogFile, IsFirstBadOfLog}
 use Rattle.m161_steplog.specs.helpers.Log.{IsDistinct, ReadsHeader, ReadsLines, fault_behind}
 use Rattle.m161_steplog.proofs.Passing.{bad_within}
@@ -29,54 +29,58 @@ ended-log_lines header es = ap (λ xs. (header ++ 10 ∷ []) ++ xs) (flat_map-ma
 is_log : (text : List ℕ) (mode : Mode) (header : List ℕ) (es : List Entry) → IsHeader mode header → lines_of text ≡ log_lines header es → IsLogText text mode es
 is_log text mode header es first lines = let whole = ended-lines_of text in (header, first, rw (lines, ended-log_lines header es) at whole)
 
-each_lacks : (es : List Entry) → AllByRecursion IsProper es → AllByRecursion (Lacks 10) (map entry_text es)
-each_lacks [] proper = tt
-each_lacks (e ∷ es) proper = (entry_lacks_feed e proper.0, each_lacks es proper.1)
+each_lacks : (mode : Mode) (es : List Entry) → AllByRecursion (IsEntryOf mode) es → AllByRecursion (Lacks 10) (map entry_text es)
+each_lacks mode [] each = tt
+each_lacks mode (e ∷ es) each = (entry_lacks_feed e each.0.proper, each_lacks mode es each.1)
 
 each_some : (es : List Entry) → AllByRecursion IsSome (map entry_text es)
 each_some [] = tt
 each_some (e ∷ es) = (entry_some e, each_some es)
 
-lines_of-headed : (header : List ℕ) (es : List Entry) → Lacks 10 header → AllByRecursion IsProper es → lines_of (headed_text header es) ≡ log_lines header es
-lines_of-headed header es lacks proper = ap lines_of (sym (ended-log_lines header es)) ∙ lines_of-ended (log_lines header es) (lacks, each_lacks es proper)
+lines_of-headed : (mode : Mode) (header : List ℕ) (es : List Entry) → Lacks 10 header → AllByRecursion (IsEntryOf mode) es → lines_of (headed_text header es) ≡ log_lines header es
+lines_of-headed mode header es lacks each = ap lines_of (sym (ended-log_lines header es)) ∙ lines_of-ended (log_lines header es) (lacks, each_lacks mode es each)
 
-headed_again : (text header : List ℕ) (es : List Entry) → Lacks 10 header → 0 < length header → AllByRecursion IsProper es → (text ≡ headed_text header es) ⊎ (text ++ 10 ∷ [] ≡ headed_text header es) → lines_of text ≡ log_lines header es
-headed_again text header es lacks some proper (inl e) = ap lines_of e ∙ lines_of-headed header es lacks proper
-headed_again text header es lacks some proper (inr e) =
-    let whole : lines_of (text ++ 10 ∷ []) ≡ log_lines header es = ap lines_of e ∙ lines_of-headed header es lacks proper in
+headed_again : (mode : Mode) (text header : List ℕ) (es : List Entry) → Lacks 10 header → 0 < length header → AllByRecursion (IsEntryOf mode) es → (text ≡ headed_text header es) ⊎ (text ++ 10 ∷ [] ≡ headed_text header es) → lines_of text ≡ log_lines header es
+headed_again mode text header es lacks some each (inl e) = ap lines_of e ∙ lines_of-headed mode header es lacks each
+headed_again mode text header es lacks some each (inr e) =
+    let whole : lines_of (text ++ 10 ∷ []) ≡ log_lines header es = ap lines_of e ∙ lines_of-headed mode header es lacks each in
     let long : 0 < length text = omega (arith, some, ap length e, length-append text (10 ∷ []), length-append (header ++ 10 ∷ []) (flat_map (λ (x : Entry). entry_text x ++ 10 ∷ []) es), length-append header (10 ∷ [])) in
     sym (unended text long (rw whole (each_some es))) ∙ whole
 
 -- the text of a log has its lines
-pub log_again : (text : List ℕ) (mode : Mode) (es : List Entry) → AllByRecursion IsProper es → (log : IsLogText text mode es) → lines_of text ≡ log_lines log.0 es
-log_again text mode es proper log = headed_again text log.0 es (header_lacks_feed mode log.0 log.1) (header_some mode log.0 log.1) proper log.2
+pub log_again : (text : List ℕ) (mode : Mode) (es : List Entry) → AllByRecursion (IsEntryOf mode) es → (log : IsLogText text mode es) → lines_of text ≡ log_lines log.0 es
+log_again text mode es each log = headed_again mode text log.0 es (header_lacks_feed mode log.0 log.1) (header_some mode log.0 log.1) each log.2
 
 -- an entry that was read is distinct
-distinct_by : (line : List ℕ) (e : Entry) → Reads IsProper entry_text line (Some e) → IsDistinct e
-distinct_by line e one = record { proper = one.found.0; alone = λ x proper same. same_Some e x (one.only x proper (one.found.1 ∙ same)) }
+distinct_by : (mode : Mode) (line : List ℕ) (e : Entry) → Reads (IsEntryOf mode) entry_text line (Some e) → IsDistinct mode e
+distinct_by mode line e one = record { fits = one.found.0; alone = λ x fits same. same_Some e x (one.only x fits (one.found.1 ∙ same)) }
 
-all_take : (j : ℕ) (es : List Entry) → AllByRecursion IsProper es → AllByRecursion IsProper (take j es)
-all_take zero es proper = tt
-all_take (suc j) [] proper = tt
-all_take (suc j) (e ∷ es) proper = (proper.0, all_take j es proper.1)
+all_take : (mode : Mode) (j : ℕ) (es : List Entry) → AllByRecursion (IsEntryOf mode) es → AllByRecursion (IsEntryOf mode) (take j es)
+all_take mode zero es each = tt
+all_take mode (suc j) [] each = tt
+all_take mode (suc j) (e ∷ es) each = (each.0, all_take mode j es each.1)
 
-all_proper : (es : List Entry) → AllByRecursion IsDistinct es → AllByRecursion IsProper es
-all_proper [] distinct = tt
-all_proper (e ∷ es) distinct = (distinct.0.proper, all_proper es distinct.1)
+all_fit : (mode : Mode) (es : List Entry) → AllByRecursion (IsDistinct mode) es → AllByRecursion (IsEntryOf mode) es
+all_fit mode [] distinct = tt
+all_fit mode (e ∷ es) distinct = (distinct.0.fits, all_fit mode es distinct.1)
 
-all_push : (es : List Entry) (e : Entry) → AllByRecursion IsDistinct es → IsDistinct e → AllByRecursion IsDistinct (es ++ e ∷ [])
-all_push [] e distinct one = (one, tt)
-all_push (x ∷ es) e distinct one = (distinct.0, all_push es e distinct.1 one)
+all_push : (mode : Mode) (es : List Entry) (e : Entry) → AllByRecursion (IsDistinct mode) es → IsDistinct mode e → AllByRecursion (IsDistinct mode) (es ++ e ∷ [])
+all_push mode [] e distinct one = (one, tt)
+all_push mode (x ∷ es) e distinct one = (distinct.0, all_push mode es e distinct.1 one)
 
 -- distinct entries with the lines of a log are the log
-distinct_same : (es fs : List Entry) → AllByRecursion IsDistinct es → AllByRecursion IsProper fs → map entry_text es ≡ map entry_text fs → es ≡ fs
-distinct_same [] [] distinct proper e = refl
-distinct_same [] (f ∷ fs) distinct proper e = absurd (omega (arith, ap length e))
-distinct_same (x ∷ es) [] distinct proper e = absurd (omega (arith, ap length e))
-distinct_same (x ∷ es) (f ∷ fs) distinct proper e =
+distinct_same : (mode : Mode) (es fs : List Entry) → AllByRecursion (IsDistinct mode) es → AllByRecursion (IsEntryOf mode) fs → map entry_text es ≡ map entry_text fs → es ≡ fs
+distinct_same mode [] [] distinct each e = refl
+distinct_same mode [] (f ∷ fs) distinct each e = absurd (omega (arith, ap length e))
+distinct_same mode (x ∷ es) [] distinct each e = absurd (omega (arith, ap length e))
+distinct_same mode (x ∷ es) (f ∷ fs) distinct each e =
     let head : entry_text x ≡ entry_text f = cc in
     let rest : map entry_text es ≡ map entry_text fs = cc in
-    ap₂ (λ (y : Entry) (ys : List Entry). y ∷ ys) (distinct.0.alone f proper.0 head) (distinct_same es fs distinct.1 proper.1 rest)
+    ap₂ (λ (y : Entry) (ys : List Entry). y ∷ ys) (distinct.0.alone f each.0 head) (distinct_same mode es fs distinct.1 each.1 rest)
+
+-- entries of one mode are those of the same mode
+of_same : (m n : Mode) (es : List Entry) → m ≡ n → AllByRecursion (IsEntryOf n) es → AllByRecursion (IsEntryOf m) es
+of_same m n es same each = subst (λ k. AllByRecursion (IsEntryOf k) es) (sym same) each
 
 -- all lines were read
 all_lines : (text : List ℕ) (mode : Mode) (es : List Entry) → (read : ReadsLines text mode es []) → lines_of text ≡ log_lines read.header es
@@ -88,17 +92,18 @@ log_same text m n es fs read log =
     let same : log_lines read.header es ≡ log_lines log.1.0 fs = sym (all_lines text m es read) ∙ log_again text n fs log.0 log.1 in
     let header : read.header ≡ log.1.0 = ap (λ ls. get_or ls 0 []) same in
     let rest : map entry_text es ≡ map entry_text fs = ap (drop 1) same in
-    (mode_same m n read.header read.first (subst (IsHeader n) (sym header) log.1.1), distinct_same es fs read.each log.0 rest)
+    let modes : m ≡ n = mode_same m n read.header read.first (subst (IsHeader n) (sym header) log.1.1) in
+    (modes, distinct_same m es fs read.each (of_same m n fs modes log.0) rest)
 
 -- a log has no bad line
 log_no_bad : (text : List ℕ) (mode : Mode) (es : List Entry) (n : ℕ) → IsLog text mode es → FirstBad AreLogLines text n → ⊥
 log_no_bad text mode es zero log fault = absurd (omega (arith, fault.one))
 log_no_bad text mode es (suc j) log fault =
-    fault.bad (mode, log.1.0, take j es, log.1.1, all_take j es log.0, ap (take (suc j)) (log_again text mode es log.0 log.1) ∙ ap (λ ls. log.1.0 ∷ ls) (take-map entry_text j es))
+    fault.bad (mode, log.1.0, take j es, log.1.1, all_take mode j es log.0, ap (take (suc j)) (log_again text mode es log.0 log.1) ∙ ap (λ ls. log.1.0 ∷ ls) (take-map entry_text j es))
 
 -- the text of a log, as it is written
-pub written_log : (mode : Mode) (es : List Entry) → AllByRecursion IsProper es → IsLog (log_text mode es) mode es
-written_log mode es proper = (proper, (header_text mode, inl refl, inl refl))
+pub written_log : (mode : Mode) (es : List Entry) → AllByRecursion (IsEntryOf mode) es → IsLog (log_text mode es) mode es
+written_log mode es each = (each, (header_text mode, inl refl, inl refl))
 
 -- a first line that no mode has
 pub bad_header : (text header : List ℕ) (more : List (List ℕ)) → lines_of text ≡ header ∷ more → ReadsHeader header None → FirstBad AreLogLines text 1
@@ -110,11 +115,11 @@ bad_header text header more lines none = record {
   before = λ k some few. absurd (omega arith);
 }
 
-last_is : (line : List ℕ) (es fs : List Entry) → AllByRecursion IsProper fs → map entry_text es ++ line ∷ [] ≡ map entry_text fs → (x : Entry) × IsProper x × (line ≡ entry_text x)
-last_is line [] [] proper e = absurd (omega (arith, ap length e))
-last_is line [] (f ∷ fs) proper e = (f, proper.0, (cc))
-last_is line (x ∷ es) [] proper e = absurd (omega (arith, ap length e))
-last_is line (x ∷ es) (f ∷ fs) proper e = last_is line es fs proper.1 (cc)
+last_is : (mode : Mode) (line : List ℕ) (es fs : List Entry) → AllByRecursion (IsEntryOf mode) fs → map entry_text es ++ line ∷ [] ≡ map entry_text fs → (x : Entry) × IsEntryOf mode x × (line ≡ entry_text x)
+last_is mode line [] [] each e = absurd (omega (arith, ap length e))
+last_is mode line [] (f ∷ fs) each e = (f, each.0, (cc))
+last_is mode line (x ∷ es) [] each e = absurd (omega (arith, ap length e))
+last_is mode line (x ∷ es) (f ∷ fs) each e = last_is mode line es fs each.1 (cc)
 
 -- the first line, whatever its mode
 pub after_header : (text header : List ℕ) (more : List (List ℕ)) (mode : Mode) (es : List Entry) → es ≡ [] → lines_of text ≡ header ∷ more → ReadsHeader header (Some mode) → ReadsLines text mode es more
@@ -125,24 +130,27 @@ pub lines_left : (text : List ℕ) (mode : Mode) (es : List Entry) (left lines :
 lines_left text mode es left lines same read = subst (ReadsLines text mode es) same read
 
 -- one entry more
-pub one_more : (text line : List ℕ) (more : List (List ℕ)) (mode : Mode) (es fs : List Entry) (e : Entry) → fs ≡ es ++ e ∷ [] → ReadsLines text mode es (line ∷ more) → Reads IsProper entry_text line (Some e) → ReadsLines text mode fs more
+pub one_more : (text line : List ℕ) (more : List (List ℕ)) (mode : Mode) (es fs : List Entry) (e : Entry) → fs ≡ es ++ e ∷ [] → ReadsLines text mode es (line ∷ more) → Reads (IsEntryOf mode) entry_text line (Some e) → ReadsLines text mode fs more
 one_more text line more mode es fs e push read one =
     let front : map entry_text es ++ line ∷ more ≡ (map entry_text es ++ line ∷ []) ++ more = sym (append_assoc (map entry_text es) (line ∷ []) more) in
     let pushed : map entry_text es ++ line ∷ [] ≡ map entry_text fs = rw (one.found.1, push) (sym (map_push entry_text es e)) in
     record {
       header = read.header;
       first = read.first;
-      each = rw push (all_push es e read.each (distinct_by line e one));
+      each = rw push (all_push mode es e read.each (distinct_by mode line e one));
       lines = read.lines ∙ ap (λ ls. read.header ∷ ls) (front ∙ ap (λ ls. ls ++ more) pushed);
     }
 
 -- the first bad line after the first
-bad_entry : (text line : List ℕ) (more : List (List ℕ)) (mode : Mode) (es : List Entry) → ReadsLines text mode es (line ∷ more) → Reads IsProper entry_text line None → FirstBad AreLogLines text (suc (suc (length es)))
+bad_entry : (text line : List ℕ) (more : List (List ℕ)) (mode : Mode) (es : List Entry) → ReadsLines text mode es (line ∷ more) → Reads (IsEntryOf mode) entry_text line None → FirstBad AreLogLines text (suc (suc (length es)))
 bad_entry text line more mode es read none = record {
   one = omega arith;
   bad = λ log.
-      let same : map entry_text es ++ line ∷ [] ≡ map entry_text log.2 = sym (upto es) ∙ ap (drop 1) (sym (ap (take (suc (suc (length es)))) read.lines) ∙ log.5) in
-      let last = last_is line es log.2 log.4 same in
+      let lines = sym (ap (take (suc (suc (length es)))) read.lines) ∙ log.5 in
+      let header : read.header ≡ log.1 = ap (λ ls. get_or ls 0 []) lines in
+      let modes : mode ≡ log.0 = mode_same mode log.0 read.header read.first (subst (IsHeader log.0) (sym header) log.3) in
+      let same : map entry_text es ++ line ∷ [] ≡ map entry_text log.2 = sym (upto es) ∙ ap (drop 1) lines in
+      let last = last_is mode line es log.2 (of_same mode log.0 log.2 modes log.4) same in
       none-some last.0 (none.only last.0 last.1 last.2);
   before = before;
 }
@@ -156,14 +164,14 @@ bad_entry text line more mode es read none = record {
     before (suc j) some few =
         let long : j ≤ length (map entry_text es) = omega (arith, length-map es entry_text) in
         let front : take j (map entry_text es ++ line ∷ more) ≡ map entry_text (take j es) = take-append-le j (map entry_text es) (line ∷ more) long ∙ take-map entry_text j es in
-        (mode, read.header, take j es, read.first, all_take j es (all_proper es read.each), ap (take (suc j)) read.lines ∙ ap (λ ls. read.header ∷ ls) front)
+        (mode, read.header, take j es, read.first, all_take mode j es (all_fit mode es read.each), ap (take (suc j)) read.lines ∙ ap (λ ls. read.header ∷ ls) front)
 
-pub bad_entry_at : (text line : List ℕ) (more : List (List ℕ)) (mode : Mode) (es : List Entry) (n : ℕ) → n ≡ suc (suc (length es)) → ReadsLines text mode es (line ∷ more) → Reads IsProper entry_text line None → FirstBad AreLogLines text n
+pub bad_entry_at : (text line : List ℕ) (more : List (List ℕ)) (mode : Mode) (es : List Entry) (n : ℕ) → n ≡ suc (suc (length es)) → ReadsLines text mode es (line ∷ more) → Reads (IsEntryOf mode) entry_text line None → FirstBad AreLogLines text n
 bad_entry_at text line more mode es n e read none = rw e (bad_entry text line more mode es read none)
 
 -- the log behind comments
 pub file_found : (text rest : List ℕ) (mode : Mode) (es : List Entry) → rest ≡ behind_comments text → ReadsLines rest mode es [] → IsLogFile text mode es
-file_found text rest mode es is read = subst (λ t. IsLog t mode es) is (all_proper es read.each, is_log rest mode read.header es read.first (all_lines rest mode es read))
+file_found text rest mode es is read = subst (λ t. IsLog t mode es) is (all_fit mode es read.each, is_log rest mode read.header es read.first (all_lines rest mode es read))
 
 pub file_only : (text rest : List ℕ) (m n : Mode) (es fs : List Entry) → rest ≡ behind_comments text → ReadsLines rest m es [] → IsLogFile text n fs → (m ≡ n) × (es ≡ fs)
 file_only text rest m n es fs is read log = log_same rest m n es fs read (subst (λ t. IsLog t n fs) (sym is) log)

@@ -3,6 +3,7 @@ use Rattle.m161_cop0.specs.declared.exception.Exception.{Exception}
 use Rattle.m161_cop0.specs.Registers.{number_of_exception}
 use Rattle.m161_cpu.specs.declared.processor.Outcome.{Outcome}
 use Rattle.m161_cpu.specs.declared.processor.Outcome.TheVariants as outcomes
+use Rattle.m161_cpu.specs.Step.{AreTwoRows}
 use Rattle.m161_machine.specs.declared.event.Event.{Event}
 use Rattle.m161_machine.specs.declared.event.Event.TheVariants as events
 use Rattle.m161_machine.specs.declared.event.Entry.{Entry}
@@ -25,6 +26,7 @@ outcome_text (outcomes.Trapped code vector) =
     codes "trap" ␣ code_text code ␣ hex_text 8 vector
 outcome_text outcomes.Idle = codes "idle"
 outcome_text outcomes.PoweredOff = codes "off"
+outcome_text (outcomes.Conflict row other) = codes "conflict" ␣ decimal row ␣ decimal other
 outcome_text outcomes.Taken = codes "taken"
 
 -- an entry's line, without its end
@@ -43,6 +45,7 @@ IsStepOutcome outcomes.Ran = Unit {0}
 IsStepOutcome (outcomes.Trapped code vector) = IsWord vector
 IsStepOutcome outcomes.Idle = Unit {0}
 IsStepOutcome outcomes.PoweredOff = Unit {0}
+IsStepOutcome (outcomes.Conflict row other) = AreTwoRows row other
 IsStepOutcome outcomes.Taken = ⊥
 
 -- an outcome that the event's line can say

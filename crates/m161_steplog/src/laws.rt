@@ -6,10 +6,10 @@ ghost use Rattle.m161_machine.specs.declared.event.Event.{Event};
 ghost use Rattle.m161_machine.specs.declared.event.Entry.{Entry};
 ghost use Rattle.m161_text.specs.Lines.{lines_of, with_line_end};
 ghost use Rattle.m161_steplog.specs.declared.mode.Mode.{Mode};
-ghost use Rattle.m161_steplog.specs.Text.{IsEvent, IsProper};
+ghost use Rattle.m161_steplog.specs.Text.{IsEvent};
 ghost use Rattle.m161_steplog.specs.Schedule.{IsSchedule};
 ghost use Rattle.m161_steplog.specs.Written.{schedule_text};
-ghost use Rattle.m161_steplog.specs.Log.{log_text, IsLog};
+ghost use Rattle.m161_steplog.specs.Log.{log_text, IsEntryOf, IsLog};
 ghost use Rattle.m161_steplog.specs.Comments.{IsLogFile};
 ghost use Rattle.m161_steplog.specs.declared.machine.MachineLine.{MachineLine};
 ghost use Rattle.m161_steplog.specs.Machine.{machine_text, first_line, IsMachineLine};
@@ -22,10 +22,10 @@ pub fn written_schedule_is_read()
 {}
 
 /// The law of written logs: the text of entries whose numbers fit their types, and whose outcomes
-/// are those of their events, is the text of a log with this mode and these entries, and so
-/// `read_log` gives them back.
+/// are those of their events and fit the mode, is the text of a log with this mode and these
+/// entries, and so `read_log` gives them back.
 pub fn written_log_is_read()
-    ensures { (mode : Mode) (es : List Entry) → AllByRecursion IsProper es
+    ensures { (mode : Mode) (es : List Entry) → AllByRecursion (IsEntryOf mode) es
         → IsLogFile (log_text mode es) mode es }
 {}
 

@@ -1,7 +1,8 @@
 //! The text of a log.
 
-ghost use Rattle.std.specs.Prelude.{◌≡◌, ◌++◌, ◌+◌, ◌<◌, ◌^◌, ℕ, List, [], IfOk, OnOk, IsErrOf, string_bytes};
+ghost use Rattle.std.specs.Prelude.{◌≡◌, ◌++◌, All, ◌+◌, ◌<◌, ◌^◌, ℕ, List, [], IfOk, OnOk, IsErrOf, string_bytes};
 ghost use Rattle.m161_machine.specs.declared.event.Entry.{Entry};
+ghost use Rattle.m161_machine.specs.History.{FitsMode};
 ghost use Rattle.m161_steplog.specs.declared.fault.Fault.TheVariants as faults;
 ghost use Rattle.m161_steplog.specs.Text.{entry_text};
 ghost use Rattle.m161_text.specs.Lines.{FirstBad};
@@ -38,21 +39,22 @@ pub fn entry_line(alloc: Global, entry: &Entry) -> Result<String, AllocError>
     format!(in alloc; "{}", ShownEntry(*entry))
 }
 
-/// The text of a log, in format 2. Every list of entries has a text, also a list that no machine
-/// makes.
+/// The text of a log, in format 3 if its machine was strict, else in format 2. Every list of
+/// entries has a text, also a list that no machine makes; only a strict machine's has conflicts.
 ///
 /// # Errors
 /// Memory was refused.
 pub fn write_log(alloc: Global, mode: Mode, entries: &[Entry]) -> Result<String, AllocError>
+    requires { All (λ (e : Entry). FitsMode mode.strict e.outcome) entries.now }
     ensures { IfOk result (λ text. string_bytes text ≡ log_text mode entries.now) }
 {
-    let mut text = format!(in alloc; "m161 log 2 {}\n", ShownMode(mode))?;
+    let mut text = format!(in alloc; "m161 log {}\n", ShownMode(mode))?;
     push_entries(alloc, &mut text, entries)?;
     Ok(text)
 }
 
-/// The text of the end of a log, of which so many entries before these were dropped. It isn't the
-/// text of a log: `read_log` refuses it.
+/// The text of the end of a log, of which so many entries before these were dropped; only a strict
+/// machine's has conflicts. It isn't the text of a log: `read_log` refuses it.
 ///
 /// # Errors
 /// Memory was refused.
@@ -62,9 +64,10 @@ pub fn write_tail(
     dropped: u64,
     entries: &[Entry],
 ) -> Result<String, AllocError>
+    requires { All (λ (e : Entry). FitsMode mode.strict e.outcome) entries.now }
     ensures { IfOk result (λ text. string_bytes text ≡ tail_text mode dropped entries.now) }
 {
-    let mut text = format!(in alloc; "m161 tail 2 {} {dropped}\n", ShownMode(mode))?;
+    let mut text = format!(in alloc; "m161 tail {} {dropped}\n", ShownMode(mode))?;
     push_entries(alloc, &mut text, entries)?;
     Ok(text)
 }
@@ -98,7 +101,7 @@ fn parse_log(alloc: Global, text: &str) -> Result<LogText, Fault>
     let mut rest = after;
     while let Some((line, more)) = next_line(rest) {
         number += 1;
-        let Some(entry) = parse_entry(line) else {
+        let Some(entry) = parse_entry(line, mode) else {
             return Err(Fault::Line(number));
         };
         entries.push(entry)?;
@@ -118,8 +121,8 @@ fn fault_behind(fault: Fault, lines: u64) -> Fault
     }
 }
 
-/// The mode and the entries of a log's text, of format 2 or 1, which may begin with comments: lines
-/// that begin with `#`.
+/// The mode and the entries of a log's text, of format 1, 2 or 3, which may begin with comments:
+/// lines that begin with `#`.
 ///
 /// # Errors
 /// The first bad line, counted from the beginning of the whole text; or memory was refused.

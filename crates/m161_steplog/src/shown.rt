@@ -1,8 +1,8 @@
 //! Modes, events, outcomes and entries as the lines of a log show them.
 
-ghost use Rattle.std.specs.Prelude.{Some};
+ghost use Rattle.std.specs.Prelude.{◌≡◌, Some};
 ghost use Rattle.m161_steplog.specs.Text.{event_text, outcome_text, entry_text};
-ghost use Rattle.m161_steplog.specs.Log.{mode_text};
+ghost use Rattle.m161_steplog.specs.Log.{mode_text, unit_text};
 
 use crate::mode::Mode;
 use m161_isa::LinkUnit;
@@ -10,7 +10,17 @@ use m161_machine::{Entry, Event, Outcome};
 use m161_text::{Byte, Word};
 use std::fmt;
 
-/// A mode as the first line shows it.
+// The word of a link's unit.
+fn unit_word(unit: LinkUnit) -> &'static str
+    ensures { result.now ≡ unit_text unit }
+{
+    match unit {
+        LinkUnit::Word => "word",
+        LinkUnit::Line => "line",
+    }
+}
+
+/// A mode as the first line shows it, with the number of the format before it.
 #[derive(Drop)]
 pub struct ShownMode(pub Mode);
 
@@ -18,9 +28,11 @@ impl fmt::Display for ShownMode {
     ghost output = { λ m. Some (mode_text m.0) };
 
     fn fmt<W: fmt::Write>(&self, f: &mut fmt::Formatter<W>) -> fmt::Result {
-        match self.0.link {
-            LinkUnit::Word => write!(f, "word"),
-            LinkUnit::Line => write!(f, "line"),
+        let unit = unit_word(self.0.link);
+        if self.0.strict {
+            write!(f, "3 {unit} strict")
+        } else {
+            write!(f, "2 {unit}")
         }
     }
 }
@@ -57,6 +69,7 @@ impl fmt::Display for ShownOutcome {
             }
             Outcome::Idle => write!(f, "idle"),
             Outcome::PoweredOff => write!(f, "off"),
+            Outcome::Conflict { row, other } => write!(f, "conflict {row} {other}"),
             Outcome::Taken => write!(f, "taken"),
         }
     }

@@ -14,4 +14,5 @@ pub const DEMO_CONF: Conf = Conf {
     processors: 1,
     log: 7,
     link: LinkUnit::Word,
+    strict: false,
 };

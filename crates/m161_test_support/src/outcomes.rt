@@ -11,6 +11,7 @@ pub const SMALLEST: Conf = Conf {
     processors: 1,
     log: 100,
     link: LinkUnit::Word,
+    strict: false,
 };
 
 /// What a Step answers.

@@ -47,3 +47,7 @@ WordsComeBack =
 -- a row translates a page of an address space
 abbrev pub matches : ℕ → ℕ → Row → Bool
 matches page id row = (row.page == page) && (row.g || (row.id == id))
+
+-- two rows overlap: they translate a page of one address space. V isn't looked at
+abbrev pub overlaps : Row → Row → Bool
+overlaps a b = (a.page == b.page) && (a.g || b.g || (a.id == b.id))

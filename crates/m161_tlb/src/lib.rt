@@ -7,6 +7,8 @@
 //! match     a row matches a page and an identifier if its page is that page, and it has G
 //!           or that identifier
 //! find      the lowest row that matches
+//! overlap   two rows overlap if their pages are equal, and one of them has G or their identifiers
+//!           are equal; the lowest row but one that overlaps a given row
 //! start     row i has page 0x80000 + i, all else zero
 //! ```
 //!
@@ -15,8 +17,8 @@
 //! the R3000; the start, and that the lowest row is used, are this project's own.
 #![tactic(auto)]
 
-ghost use Rattle.std.specs.Prelude.{◌≡◌, ◌<◌, List, Some, slice_get, slice_set, IfSome};
-ghost use Rattle.m161_tlb.specs.Rows.{find_row, start_rows};
+ghost use Rattle.std.specs.Prelude.{◌≡◌, ◌≢◌, ◌<◌, List, Some, slice_get, slice_set, IfSome};
+ghost use Rattle.m161_tlb.specs.Rows.{find_overlap, find_row, start_rows};
 
 mod frame;
 mod identifier;
@@ -57,4 +59,9 @@ pub trait Tlb: Drop {
     fn find(&self, page: u32, id: u8) -> Option<u8>
         ensures lowest { result ≡ find_row (rows self.now) page id }
         ensures within { IfSome result (λ i. i < 64) };
+
+    /// The number of the lowest row other than row `i` that overlaps a row.
+    fn overlap(&self, i: u8, row: Row) -> Option<u8>
+        ensures lowest { result ≡ find_overlap (rows self.now) i row }
+        ensures within { IfSome result (λ j. (j < 64) × (j ≢ i)) };
 }

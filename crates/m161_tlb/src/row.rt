@@ -1,7 +1,7 @@
 //! A row, and its two words.
 
 ghost use Rattle.std.specs.Prelude.{◌≡◌, if◌then◌else◌, ◌^◌, ◌≤◌, ◌<◌};
-ghost use Rattle.m161_tlb.specs.Row.{flag_of, hi_word, is_set, lo_word, matches, row_of_words, RowComesBack, WordsComeBack};
+ghost use Rattle.m161_tlb.specs.Row.{flag_of, hi_word, is_set, lo_word, matches, overlaps, row_of_words, RowComesBack, WordsComeBack};
 
 use crate::frame::Frame;
 use crate::identifier::Identifier;
@@ -69,6 +69,16 @@ impl Row {
         ensures { result ≡ matches page id self.now }
     {
         self.page.number() == page && (self.g || self.id.number() == id)
+    }
+
+    /// Whether it and another row translate a page of one address space: their pages are equal, and
+    /// one of them has G or their identifiers are equal. V isn't looked at.
+    #[inline(always)]
+    pub fn overlaps(&self, other: &Row) -> bool
+        ensures { result ≡ overlaps self.now other.now }
+    {
+        self.page.number() == other.page.number()
+            && (self.g || other.g || self.id.number() == other.id.number())
     }
 }
 

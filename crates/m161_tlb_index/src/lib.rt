@@ -8,17 +8,20 @@
 //! links     at places 0 to 63 the row after each row in its chain, at places 64 to 191 the first
 //!           row of each bucket; 64 is none
 //! find      the lower of the first matching rows in the two chains that may have one
+//! overlap   for a private row, the lower of the first other rows that overlap it in the same two
+//!           chains; for a row with G, looks at each row from row 0 on
 //! write     takes the row out of its old chain and puts it in its place in the new one
 //! ```
 //!
-//! A call costs what the chains that it follows are long; most have one row or none. `Index` proves
-//! the laws of `m161_tlb`'s `Tlb`, and none of its calls allocates.
+//! A call costs what the chains that it follows are long; most have one row or none. The rows that
+//! a row with G overlaps can be in each private bucket, so `overlap` follows no chain for it.
+//! `Index` proves the laws of `m161_tlb`'s `Tlb`, and none of its calls allocates.
 #![tactic(auto)]
 
-ghost use Rattle.std.specs.Prelude.{◌≡◌, ◌*◌, ◌+◌, ◌<◌, List, Some, length, get_or, slice_get, slice_set, IfSome};
-ghost use Rattle.m161_tlb.specs.Rows.{blank_row, find_row, start_row, start_rows};
+ghost use Rattle.std.specs.Prelude.{◌≡◌, ◌*◌, ◌+◌, ◌<◌, false, List, Some, length, get_or, slice_get, slice_set, IfSome};
+ghost use Rattle.m161_tlb.specs.Rows.{blank_row, find_overlap, find_row, is_overlap, start_row, start_rows};
 ghost use Rattle.m161_tlb_index.specs.Chains.{bucket_of, home, private_bucket, shared_bucket};
-ghost use Rattle.m161_tlb_index.specs.helpers.Search.{IsMatch, Precedes};
+ghost use Rattle.m161_tlb_index.specs.helpers.Search.{is_match, IsFirst, IsFirstOf, Precedes};
 
 use m161_tlb::{Frame, Identifier, Page, Row, Tlb};
 use std::marker::Model;
@@ -100,6 +103,17 @@ impl Tlb for Index {
         let first = private.min(shared);
         if first < NONE { Some(first) } else { None }
     }
+
+    fn overlap(&self, i: u8, row: Row) -> Option<u8> {
+        // So that the proof knows how many rows there are.
+        let _rows = &self.rows;
+        let first = if row.g {
+            self.overlap_in_rows(i, &row)
+        } else {
+            self.overlap_in_chains(i, &row)
+        };
+        if first < NONE { Some(first) } else { None }
+    }
 }
 
 impl Index {
@@ -107,13 +121,57 @@ impl Index {
     #[inline(always)]
     fn first_match(&self, bucket: u8, page: u32, id: u8) -> u8
         requires { bucket < 128 }
-        ensures { IsMatch self.now bucket page id result }
+        ensures { IsFirstOf (home self.now) bucket (is_match self.now page id) result }
     {
         let mut at = self.links[(BUCKETS + bucket) as usize];
         while at < NONE && !self.rows[at as usize].matches(page, id) {
             at = self.links[at as usize];
         }
         at
+    }
+
+    /// The first row other than row `i` that overlaps a row, or 64 if none does.
+    fn overlap_in_rows(&self, i: u8, row: &Row) -> u8
+        ensures { IsFirst (is_overlap self.now i row.now) result }
+    {
+        for j in 0..64u8 {
+            if self.is_overlap(i, row, j) {
+                return j;
+            }
+        }
+        NONE
+    }
+
+    /// The same, found in the two chains that may have a row that overlaps a private row.
+    fn overlap_in_chains(&self, i: u8, row: &Row) -> u8
+        requires { row.now.g ≡ false }
+        ensures { IsFirst (is_overlap self.now i row.now) result }
+    {
+        let page = row.page.number();
+        let private = self.first_overlap(private_bucket(page, row.id.number()), i, row);
+        let shared = self.first_overlap(shared_bucket(page), i, row);
+        private.min(shared)
+    }
+
+    /// The first row of a bucket, other than row `i`, that overlaps a row, or 64 if none does.
+    fn first_overlap(&self, bucket: u8, i: u8, row: &Row) -> u8
+        requires { bucket < 128 }
+        ensures { IsFirstOf (home self.now) bucket (is_overlap self.now i row.now) result }
+    {
+        let mut at = self.links[(BUCKETS + bucket) as usize];
+        while at < NONE && !self.is_overlap(i, row, at) {
+            at = self.links[at as usize];
+        }
+        at
+    }
+
+    /// Whether row `j` is another than row `i`, and overlaps a row.
+    #[inline(always)]
+    fn is_overlap(&self, i: u8, row: &Row, j: u8) -> bool
+        requires { j < 64 }
+        ensures { result ≡ is_overlap self.now i row.now j }
+    {
+        j != i && row.overlaps(&self.rows[j as usize])
     }
 
     /// The place whose link leads to a bucket's first row from row `i` on.

@@ -5,6 +5,7 @@
 //! pages   a copy of the page of each row, in an array of its own
 //! find    compares eight pages at a time, and looks at the rows themselves only if one of the
 //!         eight is the page
+//! overlap looks at each row from row 0 on
 //! ```
 //!
 //! A search for the page of row 53 executes about 100 machine instructions, as does one that finds
@@ -13,7 +14,7 @@
 
 ghost use Rattle.std.specs.Prelude.{◌≡◌, ◌*◌, ◌+◌, ◌<◌, false, List, Some, length, get_or, slice_get, slice_set, IfSome};
 ghost use Rattle.m161_tlb.specs.Row.{matches};
-ghost use Rattle.m161_tlb.specs.Rows.{blank_row, find_row, start_row, start_rows};
+ghost use Rattle.m161_tlb.specs.Rows.{blank_row, find_overlap, find_row, is_overlap, start_row, start_rows};
 ghost use Rattle.m161_tlb_scan.specs.helpers.Blocks.{LacksPage};
 
 use m161_tlb::{Frame, Identifier, Page, Row, Tlb};
@@ -90,6 +91,17 @@ impl Tlb for Scan {
         }
         None
     }
+
+    fn overlap(&self, i: u8, row: Row) -> Option<u8> {
+        // So that the proof knows how many rows there are.
+        let _rows = &self.rows;
+        for j in 0..64u8 {
+            if self.is_overlap(i, &row, j) {
+                return Some(j);
+            }
+        }
+        None
+    }
 }
 
 impl Scan {
@@ -100,6 +112,15 @@ impl Scan {
         ensures { result ≡ matches page id (get_or self.now i blank_row) }
     {
         self.rows[i as usize].matches(page, id)
+    }
+
+    /// Whether row `j` is another than row `i`, and overlaps a row.
+    #[inline(always)]
+    fn is_overlap(&self, i: u8, row: &Row, j: u8) -> bool
+        requires { j < 64 }
+        ensures { result ≡ is_overlap self.now i row.now j }
+    {
+        j != i && row.overlaps(&self.rows[j as usize])
     }
 
     /// The page of row `i`.

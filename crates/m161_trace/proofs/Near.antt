@@ -16,7 +16,7 @@ use Rattle.m161_cpu.specs.Processor.{Processor, stopped_processor, with_control,
 use Rattle.m161_cpu.specs.Scene.{Change, Scene, Store, and_then, apply_part, around, processor_after, scene, stored_by}
 use Rattle.m161_cpu.specs.Translation.{is_misaddressed, physical_at}
 use Rattle.m161_cpu.specs.Effect.{Argument, arguments, effect_of, with_three}
-use Rattle.m161_cpu.specs.Step.{Stepped, change_by_row, change_in, change_of_row, change_of_step, executable_word, idle, is_unusable, lines_in, running_step, step_by_state, step_of, step_of_change, step_of_fault, step_of_result, tick, usable, with_processor, word_at_pc}
+use Rattle.m161_cpu.specs.Step.{Stepped, change_by_row, change_in, change_of_step, conflict_in, executable_word, idle, is_unusable, lines_in, running_step, step_by_conflict, step_by_state, step_of, step_of_change, step_of_result, tick, usable, with_processor, word_at_pc}
 use Rattle.m161_cpu.specs.Uses.{uses_of}
 use Rattle.m161_machine.specs.declared.event.Event.TheVariants.{Step}
 use Rattle.m161_machine.specs.declared.event.Refusal.{Refusal}
@@ -47,7 +47,7 @@ kept_by_none : (o : Option (ℕ × Row)) (p : Processor) → o ≡ None → (app
 kept_by_none None p none = refl
 kept_by_none (Some x) p none = absurd (let bad : ◌≡◌ {A = Option (ℕ × Row)} (Some x) None = none in cc)
 
-kept_rows : (c : Change) (p : Processor) → c.row ≡ None → (processor_after c p).rows ≡ p.rows
+pub kept_rows : (c : Change) (p : Processor) → c.row ≡ None → (processor_after c p).rows ≡ p.rows
 kept_rows c p none =
     let with_words = apply_part (λ (x : ℕ × ℕ). with_register x.0 x.1) c.register p in
     let with_pair = apply_part with_hi_lo c.hi_lo with_words in
@@ -70,17 +70,7 @@ of_stored : (far : Bool) (o : Option Store) → FarOr far (stored_by o) → (far
 of_stored far o (inl h) = inl h
 of_stored far o (inr h) = inr (is_stored o h)
 
-near_change : (far : Bool) (s : Scene) (c : Change) → NearChange far c → FarOr far (stored_by c.store) → NearStep s (step_of_change s c)
-near_change far s c f h =
-    let n = f.near (of_stored far c.store h) in
-    record { rows = kept_rows c s.processor n.0; board = ap (λ (o : Option BoardState). unwrap_or o s.around.board) n.1 }
-
-near_fault : (s : Scene) (f : _) → NearStep s (step_of_fault s f)
-near_fault s f = record { rows = refl; board = refl }
-
-near_result : (far : Bool) (s : Scene) (r : Result Change _) → IfOk r (NearChange far) → FarOr far (step_of_result s r).stored → NearStep s (step_of_result s r)
-near_result far s (Ok c) f h = near_change far s c f h
-near_result far s (Err e) f h = near_fault s e
+-- the instruction of a Step
 
 three : (s : Scene) (e : Effect) (l : List Argument) → IfOk (with_three (effect_of s e) l) (NearChange (is_far e))
 three s e [] = near_effect s e _ _ _
@@ -88,36 +78,53 @@ three s e (a ∷ []) = near_effect s e a _ _
 three s e (a ∷ b ∷ []) = near_effect s e a b _
 three s e (a ∷ b ∷ c ∷ l) = near_effect s e a b c
 
-near_row : (s : Scene) (word : ℕ) (o : Option TableRow) → FarOr (is_far_row o) (step_of_result s (change_by_row s word o)).stored → NearStep s (step_of_result s (change_by_row s word o))
-near_row s word None h = near_fault s _
-near_row s word (Some r) h =
-    near_result (is_far (table r).effect) s (change_of_row s r (numbers_of word (Some r)))
-    (three s (table r).effect (arguments s.processor (table r).operands (numbers_of word (Some r)))) h
+of_row : (s : Scene) (word : ℕ) (o : Option TableRow) → IfOk (change_by_row s word o) (NearChange (is_far_row o))
+of_row s word None = tt
+of_row s word (Some r) = three s (table r).effect (arguments s.processor (table r).operands (numbers_of word (Some r)))
 
-near_usable : (t : Bool) (s : Scene) (word : ℕ) (f : _) → FarOr (is_far_word word) (step_of_result s (and_then (if t then Err f else Ok word) (change_in s))).stored
-    → NearStep s (step_of_result s (and_then (if t then Err f else Ok word) (change_in s)))
+of_usable : (t : Bool) (s : Scene) (word : ℕ) (f : _) → IfOk (and_then (if t then Err f else Ok word) (change_in s)) (NearChange (is_far_word word))
 unfolding is_far_word
-near_usable true s word f h = near_fault s f
-near_usable false s word f h = near_row s word (row_that_fits word) h
+of_usable true s word f = tt
+of_usable false s word f = of_row s word (row_that_fits word)
 
-near_word : (s : Scene) (w : Result ℕ _) → FarOr (is_far_found (word_found w)) (step_of_result s (and_then (and_then w (usable s.processor.control)) (change_in s))).stored
-    → NearStep s (step_of_result s (and_then (and_then w (usable s.processor.control)) (change_in s)))
-near_word s (Ok word) h = near_usable (is_unusable s.processor.control word) s word _ h
-near_word s (Err e) h = near_fault s e
+of_word : (s : Scene) (w : Result ℕ _) → IfOk (and_then (and_then w (usable s.processor.control)) (change_in s)) (NearChange (is_far_found (word_found w)))
+of_word s (Ok word) = of_usable (is_unusable s.processor.control word) s word _
+of_word s (Err e) = tt
 
-near_interrupt : (t : Bool) (s : Scene) (f : _) →
-    FarOr (is_far_found (word_found (word_at_pc s.around.memory s.processor))) (step_of_result s (if t then Err f else and_then (executable_word s.around.memory s.processor) (change_in s))).stored
-    → NearStep s (step_of_result s (if t then Err f else and_then (executable_word s.around.memory s.processor) (change_in s)))
-near_interrupt true s f h = near_fault s f
-near_interrupt false s f h = near_word s (word_at_pc s.around.memory s.processor) h
+-- the word that is fetched is that of a far instruction
+abbrev pub is_far_at : Scene → Bool
+is_far_at s = is_far_found (word_found (word_at_pc s.around.memory s.processor))
+
+of_interrupt : (t : Bool) (s : Scene) (f : _) → IfOk (if t then Err f else and_then (executable_word s.around.memory s.processor) (change_in s)) (NearChange (is_far_at s))
+of_interrupt true s f = tt
+of_interrupt false s f = of_word s (word_at_pc s.around.memory s.processor)
+
+pub near_instruction : (s : Scene) → IfOk (change_of_step s) (NearChange (is_far_at s))
+unfolding change_of_step
+near_instruction s = of_interrupt (is_interrupted (lines_in s) s.processor.control) s _
+
+-- a near Step has no conflict
+
+pub none_written : (strict : Bool) (rows : List Row) (o : Option (ℕ × Row)) → o ≡ None → conflict_in strict rows o ≡ None
+none_written strict rows None none = refl
+none_written strict rows (Some written) none = absurd (let bad : ◌≡◌ {A = Option (ℕ × Row)} (Some written) None = none in cc)
+
+near_change : (far : Bool) (s : Scene) (c : Change) → NearChange far c → FarOr far (stored_by c.store) → NearStep s (step_of_change s c)
+near_change far s c f h =
+    let n = f.near (of_stored far c.store h) in
+    subst (λ conflict. NearStep s (step_by_conflict conflict s c)) (sym (none_written s.around.strict s.processor.rows c.row n.0))
+    (record { rows = kept_rows c s.processor n.0; board = ap (λ (o : Option BoardState). unwrap_or o s.around.board) n.1 })
+
+near_result : (far : Bool) (s : Scene) (r : Result Change _) → IfOk r (NearChange far) → FarOr far (step_of_result s r).stored → NearStep s (step_of_result s r)
+near_result far s (Ok c) f h = near_change far s c f h
+near_result far s (Err e) f h = record { rows = refl; board = refl }
 
 -- the word that is fetched isn't that of a far instruction, or the Step stores to RAM
 abbrev Condition : Scene → Stepped → Type 0
-Condition s x = FarOr (is_far_found (word_found (word_at_pc s.around.memory s.processor))) x.stored
+Condition s x = FarOr (is_far_at s) x.stored
 
 near_running : (s : Scene) → Condition s (running_step s) → NearStep s (running_step s)
-unfolding change_of_step
-near_running s h = near_interrupt (is_interrupted (lines_in s) s.processor.control) s _ h
+near_running s h = near_result (is_far_at s) s (change_of_step s) (near_instruction s) h
 
 same_word : (memory : List ℕ) (p : Processor) → word_at_pc memory (with_state Running p) ≡ word_at_pc memory p
 unfolding physical_at is_misaddressed
@@ -182,20 +189,24 @@ unfolding uses_in uses_of step_result
 stored_is p s = refl
 
 near_of : (p : ℕ) (s : State) → FarOr (is_far_found (word_found (word_at_pc s.memory (processor_at p s.processors)))) (step_result p s).stored →
-    NearStep (scene (processor_at p s.processors) (around p s.memory s.board s.links)) (step_result p s)
+    NearStep (scene (processor_at p s.processors) (around p s.memory s.board s.links s.conf.strict)) (step_result p s)
 unfolding step_result
-near_of p s h = near_step (scene (processor_at p s.processors) (around p s.memory s.board s.links)) h
+near_of p s h = near_step (scene (processor_at p s.processors) (around p s.memory s.board s.links s.conf.strict)) h
 
-near_after : (p : ℕ) (s : State) → p < length s.processors → NearStep (scene (processor_at p s.processors) (around p s.memory s.board s.links)) (step_result p s) →
+-- the rows of the processor, where the Step starts none
+pub rows_after : (p : ℕ) (s : State) (x : Stepped) → p < length s.processors → x.after.around.board.started ≡ s.board.started → x.after.processor.rows ≡ (processor_at p s.processors).rows →
+    (processor_at p (with_step p x s).processors).rows ≡ (processor_at p s.processors).rows
+rows_after p s x place started rows =
+    let kept = no_starts s.board.started x.after.around.board 0 (set s.processors p x.after.processor) started in
+    let own = get_or-set_same s.processors p x.after.processor stopped_processor place in
+    ap (λ (ps : List Processor). (processor_at p ps).rows) kept ∙ ap (λ (q : Processor). q.rows) own ∙ rows
+
+near_after : (p : ℕ) (s : State) → p < length s.processors → NearStep (scene (processor_at p s.processors) (around p s.memory s.board s.links s.conf.strict)) (step_result p s) →
     IsNear p s (with_step p (step_result p s) s)
-near_after p s place n =
-    let started = ap (λ (b : BoardState). b.started) n.board in
-    let kept = no_starts s.board.started (step_result p s).after.around.board 0 (set s.processors p (step_result p s).after.processor) started in
-    let own = get_or-set_same s.processors p (step_result p s).after.processor stopped_processor place in
-    record {
-      rows = ap (λ (ps : List Processor). (processor_at p ps).rows) kept ∙ ap (λ (q : Processor). q.rows) own ∙ n.rows;
-      places = ap (λ (b : BoardState). b.places) n.board;
-    }
+near_after p s place n = record {
+  rows = rows_after p s (step_result p s) place (ap (λ (b : BoardState). b.started) n.board) n.rows;
+  places = ap (λ (b : BoardState). b.places) n.board;
+}
 
 pub near : (p : ℕ) (s : State) (o : Outcome) (t : State) → next s (Step p) ≡ Ok (o, t) →
     FarOr (is_far_found (fetched_word s.memory (processor_at p s.processors).pc (processor_at p s.processors))) (uses_in p s).stored → IsNear p s t

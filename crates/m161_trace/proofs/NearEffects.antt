@@ -12,10 +12,12 @@ use Rattle.m161_trace.specs.helpers.Far.{is_far}
 -- unless it is a far one, nothing; nor if it stores to RAM
 pub record NearChange (far : Bool) (c : Change) : Type 0 where
   pub near : (far ≡ false) ⊎ (is_some c.store ≡ true) → (c.row ≡ None) × (c.board ≡ None)
+  -- never both
+  pub apart : (c.row ≡ None) ⊎ (c.board ≡ None)
 
 -- a change of neither
 neither : (far : Bool) (c : Change) → c.row ≡ None → c.board ≡ None → NearChange far c
-neither far c r b = record { near = λ h. (r, b) }
+neither far c r b = record { near = λ h. (r, b); apart = inl r }
 
 -- one of either, which stores nothing to RAM
 no_store : {X : Type 0} → (true ≡ false) ⊎ (false ≡ true) → X
@@ -49,7 +51,7 @@ written_if false c r rows board h = h
 
 written_at : (s : Scene) (word : ℕ) (r : Result ℕ _) → IfOk (and_then r (store_physical_word s word)) (NearChange true)
 written_at s word (Ok at) =
-    written_if (nat_le (at + 4) (length s.around.memory)) (store_word word at) _ refl refl (board_moved _ _ (λ b. record { near = λ h. no_store h }))
+    written_if (nat_le (at + 4) (length s.around.memory)) (store_word word at) _ refl refl (board_moved _ _ (λ b. record { near = λ h. no_store h; apart = inl refl }))
 written_at s word (Err e) = tt
 
 pub near_effect : (s : Scene) (e : Effect) (a b c : Argument) → IfOk (effect_of s e a b c) (NearChange (is_far e))
@@ -92,7 +94,7 @@ near_effect s effect.LoadUpper a b c = neither _ _ refl refl
 near_effect s effect.LoadByte a b c = mapped _ _ _ (λ at. neither _ _ refl refl)
 near_effect s effect.LoadHalf a b c = mapped _ _ _ (λ at. neither _ _ refl refl)
 near_effect s effect.LoadWordLeft a b c = mapped _ _ _ (λ at. neither _ _ refl refl)
-near_effect s effect.LoadWord a b c = board_moved _ _ (λ read. record { near = λ h. no_store h })
+near_effect s effect.LoadWord a b c = board_moved _ _ (λ read. record { near = λ h. no_store h; apart = inl refl })
 near_effect s effect.LoadByteUnsigned a b c = mapped _ _ _ (λ at. neither _ _ refl refl)
 near_effect s effect.LoadHalfUnsigned a b c = mapped _ _ _ (λ at. neither _ _ refl refl)
 near_effect s effect.LoadWordRight a b c = mapped _ _ _ (λ at. neither _ _ refl refl)
@@ -106,8 +108,8 @@ near_effect s effect.StoreConditional a b c = mapped _ _ _ (λ at. linked_if (is
 near_effect s effect.MoveFromCop0 a b c = neither _ _ refl refl
 near_effect s effect.MoveToCop0 a b c = neither _ _ refl refl
 near_effect s effect.ReadTlb a b c = neither _ _ refl refl
-near_effect s effect.WriteTlbIndexed a b c = record { near = λ h. no_store h }
-near_effect s effect.WriteTlbRandom a b c = record { near = λ h. no_store h }
+near_effect s effect.WriteTlbIndexed a b c = record { near = λ h. no_store h; apart = inr refl }
+near_effect s effect.WriteTlbRandom a b c = record { near = λ h. no_store h; apart = inr refl }
 near_effect s effect.ProbeTlb a b c = neither _ _ refl refl
 near_effect s effect.RestoreFromException a b c = neither _ _ refl refl
 near_effect s effect.WaitForInterrupt a b c = neither _ _ refl refl

@@ -8,8 +8,8 @@ use Rattle.m161_cpu.specs.declared.processor.Outcome.TheVariants as outcomes
 use Rattle.m161_cpu.specs.declared.processor.ProcessorState.{ProcessorState}
 use Rattle.m161_machine.specs.State.{State, processor_at, word_in}
 use Rattle.m161_machine.specs.Uses.{uses_in}
-use Rattle.m161_trace.specs.Items.{Item, doing, register, hi, lo, control, row, stored, linked, unlinked, latched, waiting, board, trapped, idle, off, starts, board_item, changed, common_items, control_item, control_items, control_word, each, hi_lo_items, items, latch_items, link_items, linked_items, outcome_items, places_items, processor_items, register_item, register_items, row_item, row_items, same_state, shared_items, shown_registers, start_item, start_items, state_items, stored_as, stored_items, unlinked_by, unlinked_item}
-use Rattle.m161_trace.specs.Law.{IsTrueOf, as_started, high_at, link_of, low_at}
+use Rattle.m161_trace.specs.Items.{Item, doing, register, hi, lo, control, row, stored, linked, unlinked, latched, waiting, board, trapped, idle, off, conflict, starts, board_item, changed, common_items, control_item, control_items, control_word, each, hi_lo_items, items, latch_items, link_items, linked_items, outcome_items, places_items, processor_items, register_item, register_items, row_item, row_items, same_state, shared_items, shown_registers, start_item, start_items, state_items, stored_as, stored_items, unlinked_by, unlinked_item}
+use Rattle.m161_trace.specs.Law.{IsTrueOf, StopsAt, as_started, high_at, link_of, low_at}
 use Rattle.m161_trace.proofs.Members.{Every, every_append, every_changed, every_listed, every_none, every_numbered, every_one, every_unless}
 use Rattle.m161_trace.proofs.Started.{is_new}
 use Rattle.m161_trace.proofs.Telling.{now}
@@ -19,6 +19,7 @@ use Rattle.m161_trace.proofs.Telling.{now}
 -- what a Step says of the outcome, and of the processors that it started
 pub record Given (p : ℕ) (s : State) (o : Outcome) (t : State) : Type 0 where
   pub off : o ≡ outcomes.PoweredOff → t.board.off ≡ true
+  pub conflict : (i j : ℕ) → o ≡ outcomes.Conflict i j → StopsAt p i j s t
   pub starts : (q : ℕ) → q < length s.processors → is_new s.board.started t.board.started q ≡ true → q ≢ p
       → processor_at q t.processors ≡ as_started q t (processor_at q s.processors).count
 
@@ -136,6 +137,7 @@ outcome_true p s o outcomes.Ran t g is = every_none (IsTrueOf p s o t)
 outcome_true p s o (outcomes.Trapped code vector) t g is = every_one (IsTrueOf p s o t) (trapped code vector) is
 outcome_true p s o outcomes.Idle t g is = every_one (IsTrueOf p s o t) idle is
 outcome_true p s o outcomes.PoweredOff t g is = every_one (IsTrueOf p s o t) off (g.off is)
+outcome_true p s o (outcomes.Conflict i j) t g is = every_one (IsTrueOf p s o t) (conflict i j) (is, g.conflict i j is)
 outcome_true p s o outcomes.Taken t g is = every_none (IsTrueOf p s o t)
 
 -- the processors that were started

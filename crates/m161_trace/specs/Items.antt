@@ -47,6 +47,7 @@ pub data Item : Type 0 where
   trapped : (code : Exception) (vector : ℕ) → Item
   idle : Item
   off : Item
+  conflict : (row other : ℕ) → Item
   -- a processor that the Step started
   starts : (q : ℕ) → Item
 
@@ -185,6 +186,7 @@ outcome_items outcomes.Ran = []
 outcome_items (outcomes.Trapped code vector) = trapped code vector ∷ []
 outcome_items outcomes.Idle = idle ∷ []
 outcome_items outcomes.PoweredOff = off ∷ []
+outcome_items (outcomes.Conflict i j) = conflict i j ∷ []
 outcome_items outcomes.Taken = []
 
 -- The processors that were started.

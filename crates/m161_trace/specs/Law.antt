@@ -9,7 +9,7 @@ use Rattle.m161_cpu.specs.declared.processor.Outcome.TheVariants as outcomes
 use Rattle.m161_cpu.specs.Processor.{Processor, started_processor}
 use Rattle.m161_machine.specs.declared.event.Event.TheVariants.{Step}
 use Rattle.m161_machine.specs.State.{State, next, processor_at, word_in}
-use Rattle.m161_trace.specs.Items.{Item, doing, register, hi, lo, control, row, stored, linked, unlinked, latched, waiting, board, trapped, idle, off, starts, control_word, items, shown_registers}
+use Rattle.m161_trace.specs.Items.{Item, doing, register, hi, lo, control, row, stored, linked, unlinked, latched, waiting, board, trapped, idle, off, conflict, starts, control_word, items, shown_registers}
 
 -- The law of the items: they tell all that a Step changed.
 
@@ -37,6 +37,12 @@ abbrev pub as_started : ℕ → State → ℕ → Processor
 as_started q t count =
     let words = start_words q t.board in started_processor words.pc words.r4 words.r29 count
 
+-- a conflict in processor p, of row i with row j, switched the machine off, and p's rows stay
+pub record StopsAt (p i j : ℕ) (s t : State) : Type 0 where
+  pub conflict_is : t.conflict ≡ Some (record { processor = p; row = i; other = j })
+  pub off : t.board.off ≡ true
+  pub rows : (processor_at p t.processors).rows ≡ (processor_at p s.processors).rows
+
 -- an item of a Step of processor p, with this outcome from one state to the other, is true: it shows
 -- the value that its part has after the Step
 abbrev pub IsTrueOf : ℕ → State → Outcome → State → Item → Type 0
@@ -55,6 +61,7 @@ IsTrueOf p s o t (board place word) = shown_word place t.board ≡ word
 IsTrueOf p s o t (trapped code vector) = o ≡ outcomes.Trapped code vector
 IsTrueOf p s o t idle = o ≡ outcomes.Idle
 IsTrueOf p s o t off = t.board.off ≡ true
+IsTrueOf p s o t (conflict i j) = (o ≡ outcomes.Conflict i j) × StopsAt p i j s t
 IsTrueOf p s o t (starts q) =
     q ≢ p → processor_at q t.processors ≡ as_started q t (processor_at q s.processors).count
 
@@ -82,7 +89,10 @@ pub record Tells (p : ℕ) (s : State) (o : Outcome) (t : State) (is : List Item
       → (Has (unlinked q) is → ⊥) → link_of q t ≡ link_of q s
   pub word_stays : (place : BoardWord) → IsShown (length s.processors) place
       → Without (board place) is → shown_word place t.board ≡ shown_word place s.board
-  pub off_stays : (Has off is → ⊥) → t.board.off ≡ s.board.off
+  pub off_stays : (Has off is → ⊥) → Without (λ (rows : ℕ × ℕ). conflict rows.0 rows.1) is
+      → t.board.off ≡ s.board.off
+  pub conflict_stays : Without (λ (rows : ℕ × ℕ). conflict rows.0 rows.1) is
+      → t.conflict ≡ s.conflict
   pub other_stays : (q : ℕ) → q ≢ p → (Has (starts q) is → ⊥)
       → processor_at q t.processors ≡ processor_at q s.processors
   pub conf_stays : t.conf ≡ s.conf

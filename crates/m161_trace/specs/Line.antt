@@ -14,7 +14,7 @@ use Rattle.m161_cpu.specs.Fetch.{fetched_word}
 use Rattle.m161_machine.specs.declared.event.Event.{Event}
 use Rattle.m161_machine.specs.declared.event.Event.TheVariants as events
 use Rattle.m161_machine.specs.State.{State, processor_at}
-use Rattle.m161_trace.specs.Items.{Item, doing, register, hi, lo, control, row, stored, linked, unlinked, latched, waiting, board, trapped, idle, off, starts, items}
+use Rattle.m161_trace.specs.Items.{Item, doing, register, hi, lo, control, row, stored, linked, unlinked, latched, waiting, board, trapped, idle, off, conflict, starts, items}
 
 -- The line of an event. Words have eight digits; other numbers are decimal.
 
@@ -52,6 +52,7 @@ item_text (board place word) = value_text (place_text place) word
 item_text (trapped code vector) = codes "trap" ␣ decimal (number_of_exception code) ␣ word_text vector
 item_text idle = codes "idle"
 item_text off = codes "off"
+item_text (conflict i j) = codes "conflict" ␣ decimal i ␣ decimal j
 item_text (starts q) = codes "starts" ␣ decimal q
 
 -- items, a space before each
@@ -69,6 +70,7 @@ fetches_none outcomes.Ran = false
 fetches_none (outcomes.Trapped code vector) = number_of_exception code == 0
 fetches_none outcomes.Idle = true
 fetches_none outcomes.PoweredOff = false
+fetches_none (outcomes.Conflict i j) = false
 fetches_none outcomes.Taken = false
 
 -- the word that the Step of processor p fetched, if it could

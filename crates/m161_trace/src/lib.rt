@@ -18,7 +18,7 @@
 //! unlink 1                  a processor whose link ended
 //! latch=41 waiting=2        the byte that the console is sending, and how many typed bytes wait
 //! wirq= rirq= irqe= cpue= cirqe 1= cipi 1= cram 1 0=
-//! trap 2 80000000, idle, off  the outcome
+//! trap 2 80000000, idle, off, conflict 3 5  the outcome
 //! starts 1                  a processor that the Step started
 //! ```
 //!

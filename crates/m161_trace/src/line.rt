@@ -121,7 +121,7 @@ fn took_none(outcome: Outcome) -> bool
     match outcome {
         Outcome::Idle => true,
         Outcome::Trapped { code, vector: _ } => code.number() == 0,
-        Outcome::Ran | Outcome::PoweredOff | Outcome::Taken => false,
+        Outcome::Ran | Outcome::PoweredOff | Outcome::Conflict { .. } | Outcome::Taken => false,
     }
 }
 

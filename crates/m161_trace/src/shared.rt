@@ -8,8 +8,8 @@ ghost use Rattle.m161_trace.specs.Items.{changed, ended_by, latch_items, latched
 ghost use Rattle.m161_trace.specs.helpers.Adds.{Adds, Have};
 
 use crate::text::{
-    push_idle, push_latched, push_linked, push_off, push_starts, push_stored, push_trapped,
-    push_unlinked, push_waiting,
+    push_conflict, push_idle, push_latched, push_linked, push_off, push_starts, push_stored,
+    push_trapped, push_unlinked, push_waiting,
 };
 use m161_bus::Console;
 use m161_machine::{BoardWord, Core, Outcome};
@@ -250,6 +250,7 @@ pub(crate) fn add_outcome(text: &mut String, outcome: Outcome) -> Result<(), All
         Outcome::Trapped { code, vector } => push_trapped(text, code, vector),
         Outcome::Idle => push_idle(text),
         Outcome::PoweredOff => push_off(text),
+        Outcome::Conflict { row, other } => push_conflict(text, row, other),
     }
 }
 

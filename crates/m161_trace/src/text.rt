@@ -1,7 +1,7 @@
 //! Items as text, each behind a space.
 
 ghost use Rattle.std.specs.Prelude.{◌≡◌, ◌++◌, ◌∷◌, OnOk, codes, string_bytes};
-ghost use Rattle.m161_trace.specs.Items.{board, control, doing, hi, idle, latched, linked, lo, off, register, row, starts, stored, trapped, unlinked, waiting};
+ghost use Rattle.m161_trace.specs.Items.{board, conflict, control, doing, hi, idle, latched, linked, lo, off, register, row, starts, stored, trapped, unlinked, waiting};
 ghost use Rattle.m161_text.specs.Parts.{word_text};
 ghost use Rattle.m161_trace.specs.Line.{item_text, place_text, value_text};
 ghost use Rattle.m161_trace.specs.helpers.Adds.{AddsPart};
@@ -190,6 +190,15 @@ pub(crate) fn push_off(text: &mut String) -> Result<(), AllocError>
         (string_bytes text.new)) }
 {
     text.push_str(" off")
+}
+
+/// That the Step switched the machine off and left this row as it was, which would have overlapped
+/// the other one.
+pub(crate) fn push_conflict(text: &mut String, row: u8, other: u8) -> Result<(), AllocError>
+    ensures { OnOk result (AddsPart (string_bytes text.old) (item_text (conflict row other))
+        (string_bytes text.new)) }
+{
+    write!(text, " conflict {row} {other}")
 }
 
 /// A processor that was started.

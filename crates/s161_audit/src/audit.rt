@@ -9,13 +9,13 @@ ghost use Rattle.s161_base.specs.Samples.{image_file};
 use crate::watches::watches_of;
 use m161::{Console, Tlb};
 use m161_audit::{AuditError, Finding, audit_events};
-use m161_machine::Conf;
 use m161_text::Word;
 use s161_base::fault::Fault;
 use s161_base::files::FileSource;
 use s161_base::finished::Finished;
 use s161_base::input::{read_input, read_text};
 use s161_base::sample::read_image;
+use s161_base::sizes::conf_of;
 use s161_base::texts::events_of;
 use s161_command::FilesTask;
 use std::alloc::{AllocError, Global};
@@ -109,12 +109,7 @@ pub fn audit<'a, F: FileSource, I: Read>(
     let schedule = read_input(alloc, input)?;
     let watches = watches_of(alloc, text.as_str())?;
     let events = events_of(alloc, schedule.as_str())?;
-    let conf = Conf {
-        ram: task.size.ram,
-        processors: task.size.processors,
-        log: task.size.log,
-        link: task.size.link,
-    };
+    let conf = conf_of(task.size);
     let finding = match audit_events::<Tlb, Console>(alloc, &file, conf, &events, &watches) {
         Ok(finding) => finding,
         Err(error) => return Err(fault_of_audit(error)),

@@ -64,7 +64,7 @@ of_cause cause.Swapped = codes "the machine isn't the one that was passed in"
 abbrev pub explanation_of : Fault → Option (List ℕ)
 explanation_of (File name why) = Some (of_file why)
 explanation_of (Schedule n) = Some (codes "a line is s P, s P N, k HH, o, blank or # ..")
-explanation_of (Log n) = Some (codes "after m161 log 2 word, m161 log 2 line or m161 log 1 a line is s P ran, s P trap CODE VECTOR, s P idle, s P off, k HH taken or o taken")
+explanation_of (Log n) = Some (codes "after m161 log 2 word, m161 log 2 line or m161 log 1 a line is s P ran, s P trap CODE VECTOR, s P idle, s P off, k HH taken or o taken; after m161 log 3 word strict or m161 log 3 line strict also s P conflict I J")
 explanation_of LogMachine = Some (codes "an option that is given isn't that of the log's machine")
 explanation_of LogImage = Some (codes "the log is that of another image")
 explanation_of (Watches n) = Some (codes "a line is w ID PAGE PTE DONE, blank or # ..")

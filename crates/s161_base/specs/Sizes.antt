@@ -10,4 +10,5 @@ conf_of size = record {
   processors = size.processors;
   log = size.log;
   link = size.link;
+  strict = size.strict;
 }

@@ -17,7 +17,7 @@ pub fn explanation(fault: &Fault<'_>) -> Option<&'static str>
         Fault::File(_, why) => Some(of_file(why)),
         Fault::Schedule(_) => Some("a line is s P, s P N, k HH, o, blank or # .."),
         Fault::Log(_) => Some(
-            "after m161 log 2 word, m161 log 2 line or m161 log 1 a line is s P ran, s P trap CODE VECTOR, s P idle, s P off, k HH taken or o taken",
+            "after m161 log 2 word, m161 log 2 line or m161 log 1 a line is s P ran, s P trap CODE VECTOR, s P idle, s P off, k HH taken or o taken; after m161 log 3 word strict or m161 log 3 line strict also s P conflict I J",
         ),
         Fault::LogMachine => Some("an option that is given isn't that of the log's machine"),
         Fault::LogImage => Some("the log is that of another image"),

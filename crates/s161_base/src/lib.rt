@@ -13,6 +13,7 @@ mod line;
 pub mod machines;
 pub mod naming;
 pub mod sample;
+pub mod sizes;
 pub mod streams;
 pub mod texts;
 

@@ -2,7 +2,7 @@
 
 ghost use Rattle.std.specs.Prelude.{◌≡◌};
 ghost use Rattle.sha2.specs.Sha256.{sha256};
-ghost use Rattle.s161_base.specs.Machines.{asked_conf, is_image, is_other, is_other_size, is_other_unit, line_in, machine_fault, unit_in};
+ghost use Rattle.s161_base.specs.Machines.{asked_conf, is_image, is_other, is_other_machine, is_other_mode, is_other_size, is_other_unit, is_strict, line_in, machine_fault, unit_in};
 
 use crate::fault::Fault;
 use m161_isa::LinkUnit;
@@ -45,6 +45,7 @@ pub fn asked_conf(asked: AskedSize, logged: Option<LoggedMachine>) -> Conf
         processors: asked.processors.unwrap_or(processors),
         log: asked.log,
         link: asked.link.unwrap_or(unit_in(logged)),
+        strict: asked.strict || is_strict(logged),
     }
 }
 
@@ -65,6 +66,16 @@ fn unit_in(logged: Option<LoggedMachine>) -> LinkUnit
     }
 }
 
+// Whether the log is a strict machine's.
+fn is_strict(logged: Option<LoggedMachine>) -> bool
+    ensures { result ≡ is_strict logged }
+{
+    match logged {
+        Some(logged) => logged.mode.strict,
+        None => false,
+    }
+}
+
 /// Why an image, in the machine that is asked for, isn't the one that a log names: `LogMachine`, or
 /// else `LogImage`.
 pub fn machine_fault<'a>(
@@ -75,7 +86,7 @@ pub fn machine_fault<'a>(
     ensures { result ≡ machine_fault asked file.now logged }
 {
     let logged = logged?;
-    if is_other_unit(asked.link, logged.mode.link) || is_other_size(asked, logged.line) {
+    if is_other_machine(asked, logged) {
         Some(Fault::LogMachine)
     } else if is_image(file, logged.line) {
         None
@@ -103,6 +114,20 @@ fn is_other_unit(given: Option<LinkUnit>, named: LinkUnit) -> bool
         (Some(LinkUnit::Line), LinkUnit::Word) => true,
         _ => false,
     }
+}
+
+// Whether another machine is given than that of a log.
+fn is_other_machine(asked: AskedSize, logged: LoggedMachine) -> bool
+    ensures { result ≡ is_other_machine asked logged }
+{
+    is_other_mode(asked, logged.mode) || is_other_size(asked, logged.line)
+}
+
+// Whether another mode is given than that of a log.
+fn is_other_mode(asked: AskedSize, mode: Mode) -> bool
+    ensures { result ≡ is_other_mode asked mode }
+{
+    is_other_unit(asked.link, mode.link) || (asked.strict && !mode.strict)
 }
 
 // Whether another size is given than that of a log's machine line.

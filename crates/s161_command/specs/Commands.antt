@@ -68,14 +68,19 @@ burst_rule = optional_rule (codes "burst") 1 1_024
 abbrev pub link_rule : Rule
 link_rule = record (text_rule (codes "link")) { defaults = codes "word" ∷ [] }
 
+-- whether the machine is strict
+abbrev pub strict_rule : Rule
+strict_rule = flag_rule (codes "strict")
+
 -- a command, with the options of a machine's size added; the text is the log's default
 abbrev pub with_size_rules : Text → App → App
 with_size_rules log command =
-    with_rule (with_rule (with_rule (with_rule command
+    with_rule (with_rule (with_rule (with_rule (with_rule command
     (number_rule (codes "ram") (codes "1048576")))
     (number_rule (codes "cpus") (codes "1")))
     (number_rule (codes "log") log))
-    link_rule
+    link_rule)
+    strict_rule
 
 -- the same without defaults but the log's: what isn't given is a log's own
 abbrev pub with_asked_size_rules : Text → App → App
@@ -165,9 +170,10 @@ optional_file_rule name = record (new_rule name) { value_names = 1 }
 -- the arguments of `debug`, without those of a driven run: an image, a file and options
 abbrev pub plain_debug_line : App
 plain_debug_line =
-    with_rule (with_rule (with_asked_size_rules (codes "1048576")
+    with_rule (with_rule (with_rule (with_asked_size_rules (codes "1048576")
     (with_rule (on_image (codes "debug")) (optional_file_rule (codes "file"))))
     (text_rule (codes "link")))
+    strict_rule)
     (flag_rule (codes "symbols"))
 
 -- the arguments of `debug`; its list of events has at most 16,777,216
@@ -230,6 +236,7 @@ pub record IsSize (kept : ℕ) (rows : List Row) (size : Size) : Type 0 where
   pub cpus : IsNumberOf 1 (one_of (codes "cpus") rows) size.processors
   pub log : IsNumberOf kept (one_of (codes "log") rows) size.log
   pub link : IsLink (first_of (codes "link") rows) size.link
+  pub strict : size.strict ≡ is_set (codes "strict") rows
 
 -- what `run` is asked to print
 abbrev pub shown_of : List Row → Shown
@@ -301,6 +308,7 @@ pub record AsksReplay (rows : List Row) (task : ReplayTask) : Type 0 where
   pub text : task.text.now ≡ given_of (codes "entries") rows
   pub size : IsAskedSize 65_536 rows task.size
   pub link : task.size.link ≡ None
+  pub strict : task.size.strict ≡ false
 
 -- how registers are shown
 abbrev pub registers_of : List Row → Registers
@@ -330,6 +338,7 @@ pub record AsksDebug (rows : List Row) (task : DebugTask) : Type 0 where
   pub source : IsSource rows task.source
   pub size : IsAskedSize 1_048_576 rows task.size
   pub link : IsLinkIf (first_of (codes "link") rows) task.size.link
+  pub strict : task.size.strict ≡ is_set (codes "strict") rows
   pub symbols : task.symbols ≡ is_set (codes "symbols") rows
 
 -- `dis` asks for this

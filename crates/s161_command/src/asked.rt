@@ -29,6 +29,7 @@ fn size_given<'a>(given: &ArgMatches<'a>, log: u32) -> Result<Size, Clash>
         processors: number_given(given, "cpus", 1),
         log: number_given(given, "log", log),
         link,
+        strict: is_set(given, "strict"),
     })
 }
 
@@ -169,15 +170,22 @@ fn task_of_search<'a>(given: &ArgMatches<'a>) -> Result<SearchTask<'a>, Clash>
 
 // The size of a machine, of which a log may say what isn't given; how many entries its own log keeps
 // has this default.
-fn asked_size_given<'a>(given: &ArgMatches<'a>, log: u32, link: Option<LinkUnit>) -> AskedSize
+fn asked_size_given<'a>(
+    given: &ArgMatches<'a>,
+    log: u32,
+    link: Option<LinkUnit>,
+    strict: bool,
+) -> AskedSize
     ensures size { IsAskedSize log (rows_of (found_of given.now)) result }
     ensures link { result.link ≡ link }
+    ensures strict { result.strict ≡ strict }
 {
     AskedSize {
         ram: number_if_given(given, "ram"),
         processors: number_if_given(given, "cpus"),
         log: number_given(given, "log", log),
         link,
+        strict,
     }
 }
 
@@ -188,7 +196,7 @@ fn replay_task_of<'a>(given: &ArgMatches<'a>) -> ReplayTask<'a>
     ReplayTask {
         image: file_given(given, "image"),
         text: file_given(given, "entries"),
-        size: asked_size_given(given, 65_536, None),
+        size: asked_size_given(given, 65_536, None, false),
     }
 }
 
@@ -267,7 +275,7 @@ fn task_of_debug<'a>(given: &ArgMatches<'a>) -> Result<DebugTask<'a>, Clash>
     Ok(DebugTask {
         image: file_given(given, "image"),
         source,
-        size: asked_size_given(given, 1_048_576, link),
+        size: asked_size_given(given, 1_048_576, link, is_set(given, "strict")),
         symbols: is_set(given, "symbols"),
     })
 }

@@ -32,6 +32,9 @@ const SYMBOLS_HELP: &str = "Shows names of addresses, from the image's symbol ta
 // The help of `--log`.
 const LOG_HELP: &str = "Entries that the log keeps, the last ones, 1 to 16777216";
 
+// The help of `--strict`.
+const STRICT_HELP: &str = "Stops the machine at a write of the TLB that makes two rows overlap";
+
 /// What `--version` tells.
 const VERSION: &str = "1.0";
 
@@ -104,7 +107,8 @@ fn with_size<'a>(
         .arg(number_option(alloc, "ram", ram_help, "1048576"))?
         .arg(number_option(alloc, "cpus", "Processors, 1 to 32", "1"))?
         .arg(number_option(alloc, "log", LOG_HELP, log))?
-        .arg(link_option(alloc))
+        .arg(link_option(alloc))?
+        .arg(flag_option(alloc, "strict", STRICT_HELP))
 }
 
 // The same without defaults but the log's: what isn't given is a log's own.
@@ -293,6 +297,8 @@ fn plain_debug_definition<'a>(alloc: Global) -> Result<Command<'a>, AllocError>
     ensures local { IfOk result IsLocal }
 {
     let file_help = "A schedule's or a log's file; left out where an order is given";
+    let strict_help =
+        "Stops the machine at a write of the TLB that makes two rows overlap; a log says it itself";
     let debug = Command::new(alloc, "debug")
         .about("Does a debugger's commands on an image under a list of events")
         .after_help(AFTER_DEBUG_HELP);
@@ -301,6 +307,7 @@ fn plain_debug_definition<'a>(alloc: Global) -> Result<Command<'a>, AllocError>
         .arg(optional_file(alloc, "file", "FILE", file_help))?;
     with_asked_size(alloc, debug, "1048576")?
         .arg(asked_link_option(alloc))?
+        .arg(flag_option(alloc, "strict", strict_help))?
         .arg(flag_option(alloc, "symbols", SYMBOLS_HELP))
 }
 

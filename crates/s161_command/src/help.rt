@@ -13,7 +13,8 @@ Exit status:
      console
   2  a rejected command line
   3  the schedule, the events or the Steps of the threads ended
-  4  a log that differs, a stale use, or a run that goes wrong in search
+  4  a log that differs, a stale use, a run that goes wrong in search, or a
+     strict machine that a conflict switched off
   5  no processor can go on, and no byte or key is left";
 
 /// The end of the help of `run`.
@@ -40,15 +41,23 @@ after the last one; both also where no processor is ready.
 
 The log keeps the last N entries (--log). --show-log prints it before the last
 line, --only-log prints it alone; its first line names the machine and the
-image. The next one is `m161 log 2 word` or `m161 log 2 line`, by --link; where
-entries before them were dropped, `m161 tail 2 word DROPPED` or the same with
-line, with their number. A log can be replayed, and its tail can't: the same
-run with a greater --log has the whole log.
+image. The next one is `m161 log 2 word` or `m161 log 2 line`, by --link, and
+with --strict `m161 log 3 word strict` or the same with line; where entries
+before them were dropped, it says tail in place of log, and then their number,
+as `m161 tail 2 word DROPPED`. A log can be replayed, and its tail can't: the
+same run with a greater --log has the whole log.
+
+With --strict a tlbwi or tlbwr of a row that would overlap another one isn't
+done: it is a conflict, and switches the machine off. Two rows overlap where
+they have the same page and the same identifier, or the same page and one of
+them is global, valid or not. `stop: conflict P I J` tells the processor, the
+row that was to be written, and the lowest one that it would have overlapped.
 
 Exit status:
   0  the machine switched itself off
   1  a fault, named on standard error, or a refused event
   3  the schedule, the events or the Steps of the threads ended
+  4  a conflict switched the strict machine off
   5  no processor can go on, and no byte or key is left (stop: stuck)
 
 Example:
@@ -70,6 +79,7 @@ Why the run stopped goes to standard error. Exit status:
   0  the machine switched itself off
   1  a fault, named on standard error, or a refused event
   3  --events events were made
+  4  a conflict switched the strict machine off
   5  no processor can go on, and the input has ended (stop: stuck)";
 
 /// The end of the help of `search`.
@@ -77,6 +87,7 @@ pub(crate) const AFTER_SEARCH_HELP: &str = "\
 For each of N seeds, from --from on, a run is made whose order is drawn from the seed: at random, or
 by priorities with --changes and --within. The first run that goes wrong ends the search:
   stale PLACE PROCESSOR ADDRESS ROW   as audit says it, by the watches of --watches
+  conflict PROCESSOR ROW OTHER        with --strict: as the last line of run says it
   stuck     no processor can go on, and no byte or key is left; with --output only where
             the console's bytes aren't the file's
   output    with --output: the machine is off, and the console's bytes aren't the file's
@@ -118,14 +129,16 @@ The events are those of run: a schedule from standard input, or chosen by an ord
 ITEMS are state=, r1= to r31=, hi=, lo=, the registers of coprocessor 0 by their names, tlb ROW=,
 [ADDRESS]= for a stored word of RAM, link=ADDRESS, unlink P, and of the board latch=, waiting=,
 wirq=, rirq=, irqe=, cpue=, cirqe P=, cipi P=, cram P K=, each where it has changed; then trap CODE
-VECTOR, idle or off; and starts P. Random, Count and PRId aren't shown. The last line says why the
-run stopped. The run is made to its end, and events K to K + N - 1 have lines (--from, --count).
+VECTOR, idle, off or conflict ROW OTHER; and starts P. Random, Count and PRId aren't shown. The last
+line says why the run stopped. The run is made to its end, and events K to K + N - 1 have lines
+(--from, --count).
 The image, a schedule and keys have at most 402653184 bytes each.
 
 Exit status:
   0  the machine switched itself off
   1  a fault, named on standard error, or a refused event
   3  the schedule or the events ended
+  4  a conflict switched the strict machine off
   5  no processor can go on, and no byte or key is left (stop: stuck)
 
 Example:
@@ -138,9 +151,10 @@ The log is what run --only-log prints; it may be longer than --log. Its first li
 the machine and the image's SHA-256: a size that isn't given is taken from it, one that is given has
 to be the same, and so has the image. A log without this line is replayed with the size that is
 given, 1048576 bytes and 1 processor where nothing is. What ll links to is said by the next line,
-`m161 log 2 word` or `m161 log 2 line`; after `m161 log 1`, of an older log, it is a word. The answer
-is `agrees`, or `differs K` where entry K, from 0, is the first that another run makes otherwise. A
-file has at most 402653184 bytes.
+`m161 log 2 word` or `m161 log 2 line`; after `m161 log 1`, of an older log, it is a word. That of a
+strict machine is `m161 log 3 word strict` or the same with line. The answer is `agrees`, or
+`differs K` where entry K, from 0, is the first that another run makes otherwise. A file has at most
+402653184 bytes.
 
 Exit status:
   0  the log agrees
@@ -154,9 +168,10 @@ Example:
 /// The end of the help of `debug`.
 pub(crate) const AFTER_DEBUG_HELP: &str = "\
 The events are those of FILE, a schedule or a log (run --only-log), or those that an order chooses:
-give one of the two. A log says the machine's size and what ll links to, as for replay; without one
-it is 1048576 bytes, 1 processor and a word where nothing is given. The commands are read from
-standard input, one a line, and each is answered before the next one is read:
+give one of the two. A log says the machine's size, what ll links to and whether it is strict, as for
+replay; without one it is 1048576 bytes, 1 processor, a word and not strict where nothing is given.
+The commands are read from standard input, one a line, and each is answered before the next one is
+read:
   b P ADDR  d P ADDR   sets or deletes a breakpoint of processor P
   g  g N               makes the other events, or N of them, up to a breakpoint
   u m ADDR  u r P N  u i P I  u t P  u o

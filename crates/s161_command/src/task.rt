@@ -46,6 +46,8 @@ pub struct Size {
     pub log: u32,
     /// What `ll` links a processor to.
     pub link: LinkUnit,
+    /// Whether the machine is strict.
+    pub strict: bool,
 }
 
 /// What `run` prints.
@@ -210,6 +212,8 @@ pub struct AskedSize {
     pub log: u32,
     /// What `ll` links a processor to, if it is given. `replay` has it from its log alone.
     pub link: Option<LinkUnit>,
+    /// Whether a strict machine is asked for. `replay` has it from its log alone.
+    pub strict: bool,
 }
 
 /// The arguments of `replay`.

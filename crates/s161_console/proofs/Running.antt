@@ -88,11 +88,10 @@ abbrev pub serves : (options : Drive) (m k : History) (input left before after :
     Stops (rules_of options (keys ++ rest left)) n made c k.state stop →
     keys_taken (rules_of options (keys ++ rest left)) c k.state stop ≡ length keys →
     k.state.board.console.output ≡ written ++ unwritten → Appends before after written →
-    Serves options n m (streams input left before after) (record { made = made; stop = stop }) unwritten
+    Serves options n m (streams input left before after) (record { made = made; stop = stop }) k unwritten
 serves options m k input left before after n made c stop keys written unwritten read few driving stops count sent writes = record {
   keys = keys ++ rest left;
   are_keys = all_known input left keys read;
-  machine = k;
   drives = record {
     events = driving.events;
     cursor = c;
@@ -156,7 +155,7 @@ module _ (options : Drive) (m : History) (input before : Option (List ℕ)) (mad
     -- where the choice is none, or is refused
     stops_then : (n : ℕ) (stop : Stop) → made < n → p.machine.state.board.off ≡ false →
         Rests (rules_of options []) key p.cursor p.machine stop →
-        Serves options n m (streams input left before p.output) (record { made = made; stop = stop }) []
+        Serves options n m (streams input left before p.output) (record { made = made; stop = stop }) p.machine []
     stops_then n Off less on h = absurd h
     stops_then n End less on h = absurd h
     stops_then n Stuck less on h =
@@ -233,6 +232,7 @@ module _ (options : Drive) (m : History) (input before : Option (List ℕ)) (mad
             few = omega (arith, less);
             driven = record { made = made + 1; stop = last_stop k.state };
             unwritten = others;
+            machine = k;
             serves =
                 serves options m k input left before output (made + 1) (made + 1) d (last_stop k.state) keys_then (output_so_far ++ first) others read_then (omega arith)
                 (run_more (rest left) (λ is. none_left left (end_then is)))
@@ -246,7 +246,7 @@ module _ (options : Drive) (m : History) (input before : Option (List ℕ)) (mad
   -- the run stops without a choice
   stops_here : (n : ℕ) (stop : Stop) → made ≤ n → Stops (rules_of options (so_far.keys ++ rest p.left)) n made p.cursor p.machine.state stop →
       keys_taken (rules_of options (so_far.keys ++ rest p.left)) p.cursor p.machine.state stop ≡ p.cursor.typed →
-      Serves options n m (streams input p.left before p.output) (record { made = made; stop = stop }) []
+      Serves options n m (streams input p.left before p.output) (record { made = made; stop = stop }) p.machine []
   stops_here n stop few stops count =
       serves options m p.machine input p.left before p.output n made p.cursor stop so_far.keys output_so_far [] so_far.are_read few
       (so_far.run (rest p.left) (λ is. none_left p.left (so_far.at_end is))) stops (count ∙ sym so_far.are_typed)
@@ -254,10 +254,10 @@ module _ (options : Drive) (m : History) (input before : Option (List ℕ)) (mad
 
   -- after the last event
   pub at_last : made ≡ options.events →
-      Serves options options.events m (streams input p.left before p.output) (record { made = options.events; stop = last_stop p.machine.state }) []
+      Serves options options.events m (streams input p.left before p.output) (record { made = options.events; stop = last_stop p.machine.state }) p.machine []
   at_last all =
       let rules = rules_of options (so_far.keys ++ rest p.left) in
-      let P : ℕ → Type 0 = λ n. Serves options n m (streams input p.left before p.output) (record { made = n; stop = last_stop p.machine.state }) [] in
+      let P : ℕ → Type 0 = λ n. Serves options n m (streams input p.left before p.output) (record { made = n; stop = last_stop p.machine.state }) p.machine [] in
       subst P all
       (stops_here made (last_stop p.machine.state) (omega arith)
       (last_stops rules made p.cursor p.machine.state p.machine.state.board.off refl)
@@ -271,14 +271,15 @@ module _ (options : Drive) (m : History) (input before : Option (List ℕ)) (mad
 
   pub stopped : (q : Place) (stop : Stop) → made < options.events →
       IsOff p (Some stop) q ⊎ TakesTurn (rules_of options []) p (Some stop) q →
-      Serves options options.events m (streams input q.left before q.output) (record { made = made; stop = stop }) []
+      Serves options options.events m (streams input q.left before q.output) (record { made = made; stop = stop }) q.machine []
   stopped q stop less (inl off) =
       let e : ◌≡◌ {A = Option Stop} (Some stop) (Some Off) = off.1 in
       let same : stop ≡ Off = cc in
-      rw (off.2, off.3, same) (stops_here options.events Off (omega (arith, less)) off.0 refl)
+      rw (off.2, off.3, off.4, same) (stops_here options.events Off (omega (arith, less)) off.0 refl)
   stopped q stop less (inr x) =
       let here = stops_then x.key q.ended q.left x.gives options.events stop less x.is_on x.turn.0 in
-      subst (λ output. Serves options options.events m (streams input q.left before output) (record { made = made; stop = stop }) []) (sym x.turn.2) here
+      subst (λ k. Serves options options.events m (streams input q.left before q.output) (record { made = made; stop = stop }) k []) (sym x.turn.1)
+      (subst (λ output. Serves options options.events m (streams input q.left before output) (record { made = made; stop = stop }) p.machine []) (sym x.turn.2) here)
 
   -- after a fault
   input_fails : (q : Place) → made < options.events → p.machine.state.board.off ≡ false →
@@ -291,6 +292,7 @@ module _ (options : Drive) (m : History) (input before : Option (List ℕ)) (mad
         n = made;
         few = omega (arith, less);
         driven = record { made = made; stop = End };
+        machine = p.machine;
         serves =
             serves options m p.machine input q.left before q.output made made p.cursor End so_far.keys output_so_far [] read (omega arith)
             (so_far.run (rest q.left) (λ is. absurd (let bad : false ≡ true = sym unended ∙ is in cc)))

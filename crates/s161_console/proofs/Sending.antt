@@ -16,8 +16,8 @@ use Rattle.m161_cpu.specs.declared.processor.ProcessorState.{ProcessorState}
 use Rattle.m161_cpu.specs.declared.processor.ProcessorState.TheVariants.{Stopped, Running, Waiting}
 use Rattle.m161_cpu.specs.Effect.{Argument, arguments, effect_of, is_linked, outside_slot, store_conditional, store_physical_word, with_three, write_board, write_read}
 use Rattle.m161_cpu.specs.Processor.{Processor, with_state}
-use Rattle.m161_cpu.specs.Scene.{Change, Scene, and_then, around, result_map, scene}
-use Rattle.m161_cpu.specs.Step.{change_by_row, change_in, change_of_step, executable_word, idle, lines_in, running_step, step_by_state, step_of, step_of_result, tick, with_processor}
+use Rattle.m161_cpu.specs.Scene.{around_after, Change, Scene, and_then, around, result_map, scene}
+use Rattle.m161_cpu.specs.Step.{conflict_of, off_after, change_by_row, change_in, change_of_step, executable_word, idle, lines_in, running_step, step_by_state, step_of, step_of_result, tick, with_processor}
 use Rattle.m161_cpu.specs.Translation.{or_bus_error, read_physical_word}
 use Rattle.m161_machine.specs.declared.event.Event.{Event}
 use Rattle.m161_machine.specs.declared.event.Event.TheVariants.{Step, Key, Done}
@@ -227,9 +227,14 @@ change_sends : (s : Scene) → Silent s (change_of_step s)
 unfolding change_of_step
 change_sends s = interrupt_or_word (is_interrupted (lines_in s) s.processor.control) s _
 
+-- nor does the end of a conflict
+off_sends : (conflict : Option (ℕ × ℕ)) (board : BoardState) → sent (off_after conflict board) ≡ sent board
+off_sends None board = refl
+off_sends (Some conflict) board = refl
+
 -- nor does a Step
 result_sends : (s : Scene) (r : Result Change _) → Silent s r → sent (step_of_result s r).after.around.board ≡ sent s.around.board
-result_sends s (Ok change) h = h
+result_sends s (Ok change) h = off_sends (conflict_of s change) (around_after change s.around).board ∙ h
 result_sends s (Err f) h = refl
 
 waiting_sends : (pending : Bool) (s : Scene) →
@@ -246,7 +251,7 @@ state_sends Waiting s = waiting_sends (is_pending (lines_in s) s.processor.contr
 step_sends : (p : ℕ) (s : State) → sent (step_result p s).after.around.board ≡ sent s.board
 unfolding step_result step_of
 step_sends p s =
-    let here = scene (processor_at p s.processors) (around p s.memory s.board s.links) in state_sends here.processor.state here
+    let here = scene (processor_at p s.processors) (around p s.memory s.board s.links s.conf.strict) in state_sends here.processor.state here
 
 -- an event sends at most one byte
 pub record Sends (s t : State) : Type 0 where

@@ -35,14 +35,14 @@ keys_taken rules c s drive.End = c.typed
 keys_taken rules c s drive.Stuck = c.typed
 keys_taken rules c s (drive.Refused refusal) = (chosen rules c s).1.typed
 
--- a driven run of at most n events, with all bytes of the input as its keys. Exactly those that it
--- took were read, and all that the console has sent was written, but for some bytes at its end
+-- a driven run of at most n events, with all bytes of the input as its keys, which leaves this
+-- machine. Exactly those that it took were read, and all that the console has sent was written, but
+-- for some bytes at its end
 pub record Serves
-    (options : Drive) (n : ℕ) (m : History) (x : Streams) (driven : Driven)
+    (options : Drive) (n : ℕ) (m : History) (x : Streams) (driven : Driven) (machine : History)
     (unwritten : List ℕ) : Type 0 where
   pub keys : List ℕ
   pub are_keys : IfSome x.input (λ bytes. keys ≡ bytes)
-  pub machine : History
   pub drives : Drives (rules_of options keys) n m driven machine
   pub are_read : Consumes x.input x.left
       (take (keys_taken (rules_of options keys) drives.cursor machine.state driven.stop) keys)
@@ -55,9 +55,10 @@ pub record InputFails (options : Drive) (m : History) (x : Streams) : Type 0 whe
   pub n : ℕ
   pub few : n ≤ options.events
   pub driven : Driven
-  pub serves : Serves options n m x driven []
+  pub machine : History
+  pub serves : Serves options n m x driven machine []
   pub is_wanted :
-      wants_key (rules_of options serves.keys) serves.drives.cursor serves.machine.state ≡ true
+      wants_key (rules_of options serves.keys) serves.drives.cursor machine.state ≡ true
 
 -- the output fails: some events were made, and at most the last byte isn't written
 pub record OutputFails (options : Drive) (m : History) (x : Streams) : Type 0 where
@@ -66,7 +67,8 @@ pub record OutputFails (options : Drive) (m : History) (x : Streams) : Type 0 wh
   pub driven : Driven
   pub unwritten : List ℕ
   pub at_most_one : length unwritten ≤ 1
-  pub serves : Serves options n m x driven unwritten
+  pub machine : History
+  pub serves : Serves options n m x driven machine unwritten
 
 -- which stream a fault is of, and how it fails
 abbrev pub Fails : Drive → History → Streams → Fault → Type 0
@@ -87,8 +89,9 @@ pub record IsConsoleRun
   pub booted : History
   pub boots : BootsFor task known booted
   pub driven : Driven
-  pub serves : Serves task.drive task.drive.events booted x driven []
-  pub stop_is : stop ≡ stop_of driven
+  pub machine : History
+  pub serves : Serves task.drive task.drive.events booted x driven machine []
+  pub stop_is : stop ≡ stop_of driven machine
 
 -- what a fault before the run says of its inputs. File and Memory hold whatever else is at fault
 abbrev pub IsEarlyFault : ConsoleTask → Option (List ℕ) → Fault → Type 0

@@ -8,10 +8,10 @@ ghost use Rattle.s161_console.specs.Consoles.{IsConsoleRun, IsConsoleFault};
 
 use crate::serving::serve;
 use m161::Machine;
-use m161_machine::Conf;
 use s161_base::fault::Fault;
 use s161_base::files::FileSource;
 use s161_base::sample::read_image;
+use s161_base::sizes::conf_of;
 use s161_command::ConsoleTask;
 use s161_drive::driven::stop_of;
 use s161_runs::events::Stop;
@@ -44,16 +44,7 @@ pub fn console<'a, F: FileSource, I: Read, O: Write>(
         (O.contents output.new))) }
 {
     let file = read_image(alloc, files, task.image)?;
-    let mut machine = Machine::boot(
-        alloc,
-        &file,
-        Conf {
-            ram: task.size.ram,
-            processors: task.size.processors,
-            log: task.size.log,
-            link: task.size.link,
-        },
-    )?;
+    let mut machine = Machine::boot(alloc, &file, conf_of(task.size))?;
     let driven = serve(&mut machine, task.drive, input, output)?;
-    Ok(stop_of(driven))
+    Ok(stop_of(driven, &machine))
 }

@@ -108,7 +108,7 @@ pub(crate) fn serve<'a, I: Read, O: Write>(
     requires silent { machine.old.state.board.console.output ≡ [] }
     ensures ok { IfOk result (λ driven. Serves options.entry options.entry.events machine.old
         (streams (I.remaining input.old) (I.remaining input.new) (O.contents output.old)
-        (O.contents output.new)) driven []) }
+        (O.contents output.new)) driven machine.new []) }
     ensures err { IfErr result (Fails options.entry machine.old
         (streams (I.remaining input.old) (I.remaining input.new) (O.contents output.old)
         (O.contents output.new))) }

@@ -1,4 +1,4 @@
-use Rattle.std.proofs.Common.{◌≡◌, ℕ, List, Bool, true, false, ◌||◌, if◌then◌else◌, Option, None, Some, Err, refl, subst}
+use Rattle.std.proofs.Common.{◌≡◌, ℕ, List, Bool, true, false, if◌then◌else◌, Option, None, Some, Err, refl, subst}
 use Rattle.m161_machine.specs.declared.conf.BootError.{BootError}
 use Rattle.m161_machine.specs.declared.conf.BootError.TheVariants.{Load}
 use Rattle.m161_machine.specs.declared.conf.Conf.{Conf as MachineConf}
@@ -8,7 +8,7 @@ use Rattle.s161_command.specs.declared.task.AskedSize.{AskedSize}
 use Rattle.s161_base.specs.declared.fault.Fault.{Fault}
 use Rattle.s161_base.specs.declared.fault.Fault.TheVariants.{Conf, File, Image, Input, Log, LogImage, LogMachine, Memory, Output, Schedule, Source, Threads, Watch, Watches, Word}
 use Rattle.s161_base.specs.declared.machines.LoggedMachine.{LoggedMachine}
-use Rattle.s161_base.specs.Machines.{is_image, is_other_size, is_other_unit, machine_fault}
+use Rattle.s161_base.specs.Machines.{is_image, is_other_machine, machine_fault}
 use Rattle.s161_base.specs.Faults.{fault_of_boot}
 use Rattle.s161_base.specs.Texts.{IsLogFault, IsScheduleFault}
 use Rattle.s161_base.proofs.Failing.{boot_failed, schedule_failed}
@@ -62,7 +62,7 @@ pub refused : (IsBooted : MachineConf → Type 0) (asked : AskedSize) (file : Li
     machine_fault asked file logged ≡ Some fault → IsMachineFault asked file logged IsBooted fault
 refused IsBooted asked file None fault is = absurd (cc)
 refused IsBooted asked file (Some m) fault is =
-    chosen (IsMachineFault asked file (Some m) IsBooted) (is_other_unit asked.link m.mode.link || is_other_size asked m.line) (is_image file m.line) fault
+    chosen (IsMachineFault asked file (Some m) IsBooted) (is_other_machine asked m) (is_image file m.line) fault
     (λ e. e) (λ e. e) is
 
 -- the machine isn't booted

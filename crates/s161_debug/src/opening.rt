@@ -202,12 +202,9 @@ fn driven_conf(size: AskedSize, drive: Drive<'_>) -> Conf
     ensures value { result ≡ driven_conf size drive.entry }
     ensures room { 1 ≤ result.log → result.log ≤ 16_777_216 → drive.entry.events ≤ result.log }
 {
-    let conf = asked_conf(size, None);
     Conf {
-        ram: conf.ram,
-        processors: conf.processors,
         log: log_for(size.log, drive.events),
-        link: conf.link,
+        ..asked_conf(size, None)
     }
 }
 

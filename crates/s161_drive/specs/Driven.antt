@@ -1,6 +1,7 @@
 use Rattle.std.specs.Prelude.{◌≡◌, ◌⊎◌, ℕ, false, List, [], Option, None, Some, IfSome}
 use Rattle.std.proofs.Common.{Bor}
 use Rattle.m161_machine.specs.declared.conf.BootError.TheVariants.{Load}
+use Rattle.m161_machine.specs.declared.event.Conflict.{Conflict}
 use Rattle.m161_machine.specs.Conf.{is_within_limits}
 use Rattle.m161_machine.specs.History.{History, boot_fault}
 use Rattle.m161_drive.specs.declared.run.Driven.{Driven}
@@ -11,8 +12,8 @@ use Rattle.m161_drive.specs.Policy.{Rules}
 use Rattle.s161_command.specs.declared.drive.Drive.{Drive}
 use Rattle.s161_command.specs.declared.task.DrivenTask.{DrivenTask}
 use Rattle.s161_runs.specs.declared.events.Stop.{Stop}
-use Rattle.s161_runs.specs.declared.events.Stop.TheVariants.{Off, End, Stuck, Refused}
-use Rattle.s161_runs.specs.Runs.{status_of, summary_text}
+use Rattle.s161_runs.specs.declared.events.Stop.TheVariants.{End, Stuck, Refused}
+use Rattle.s161_runs.specs.Runs.{status_of, stop_off, summary_text}
 use Rattle.s161_base.specs.declared.fault.Fault.{Fault}
 use Rattle.s161_base.specs.declared.fault.Fault.TheVariants.{Conf, File, Image, Memory}
 use Rattle.s161_base.specs.Faults.{BootsTo}
@@ -37,15 +38,16 @@ abbrev pub AreKeys : Option (Bor (List ℕ)) → (List ℕ → Option (List ℕ)
 AreKeys None files keys = keys ≡ []
 AreKeys (Some name) files keys = IfSome (files name.now) (λ bytes. keys ≡ bytes)
 
--- how a driven run stopped, as a command tells it
-abbrev pub told : ℕ → DriveStop → Stop
-told made drive.Off = Off
-told made drive.End = End
-told made drive.Stuck = Stuck
-told made (drive.Refused refusal) = Refused made refusal
+-- how a driven run stopped that made so many events and has this conflict, as a command tells it
+abbrev pub told : ℕ → Option Conflict → DriveStop → Stop
+told made conflict drive.Off = stop_off conflict
+told made conflict drive.End = End
+told made conflict drive.Stuck = Stuck
+told made conflict (drive.Refused refusal) = Refused made refusal
 
-abbrev pub stop_of : Driven → Stop
-stop_of driven = told driven.made driven.stop
+-- how a driven run stopped that left this machine
+abbrev pub stop_of : Driven → History → Stop
+stop_of driven machine = told driven.made machine.state.conflict driven.stop
 
 -- a finished driven run: what it prints and its exit status; the files have these bytes, and that of
 -- the image, as far as they are known
@@ -61,8 +63,8 @@ pub record IsDriven
   pub driven : Driven
   pub machine : History
   pub drives : Drives (rules_of task.drive keys) task.drive.events booted driven machine
-  pub text_is : text ≡ summary_text machine file (stop_of driven) task.run.shown
-  pub status_is : status ≡ status_of (stop_of driven)
+  pub text_is : text ≡ summary_text machine file (stop_of driven machine) task.run.shown
+  pub status_is : status ≡ status_of (stop_of driven machine)
 
 -- a fault is that of the file of the keys
 abbrev pub IsKeysFile : Option (Bor (List ℕ)) → Fault → Type 0

@@ -17,6 +17,7 @@ use Rattle.s161_base.specs.Faults.{BootsTo}
 use Rattle.s161_base.specs.Known.{OfKnown}
 use Rattle.s161_base.specs.Reading.{IsOfBytes}
 use Rattle.s161_base.specs.Samples.{IsFileName}
+use Rattle.s161_base.specs.Sizes.{conf_of}
 use Rattle.s161_drive.specs.Driven.{AreKeys, IsKeysFile, rules_of}
 
 -- The output of `schedule`.
@@ -28,12 +29,8 @@ log_for asked events =
     if asked == 0 || nat_lt 16_777_216 asked then asked else min events 4_294_967_295
 
 abbrev pub schedule_conf : ScheduleTask → MachineConf
-schedule_conf task = record {
-  ram = task.size.ram;
-  processors = task.size.processors;
-  log = log_for task.size.log task.drive.events;
-  link = task.size.link;
-}
+schedule_conf task =
+    record (conf_of task.size) { log = log_for task.size.log task.drive.events }
 
 -- from a machine these are the events that a policy chooses, at most n; each is accepted, and memory
 -- isn't refused

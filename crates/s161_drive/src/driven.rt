@@ -8,13 +8,13 @@ ghost use Rattle.s161_drive.specs.Driven.{IsDriven, IsDrivenFault, stop_of};
 use crate::policy::{make_driven, read_keys};
 use m161::Machine;
 use m161_drive::Driven;
-use m161_machine::Conf;
 use s161_base::fault::Fault;
 use s161_base::files::FileSource;
 use s161_base::finished::Finished;
 use s161_base::sample::read_image;
+use s161_base::sizes::conf_of;
 use s161_command::DrivenTask;
-use s161_runs::events::Stop;
+use s161_runs::events::{Stop, stop_off};
 use s161_runs::run::status;
 use s161_runs::summary::summary;
 use std::alloc::Global;
@@ -40,30 +40,21 @@ pub fn run_driven<'a, F: FileSource>(
     let file = read_image(alloc, files, task.run.image)?;
     let image = file.as_slice();
     let keys = read_keys(alloc, files, task.drive.keys)?;
-    let mut machine = Machine::boot(
-        alloc,
-        image,
-        Conf {
-            ram: task.run.size.ram,
-            processors: task.run.size.processors,
-            log: task.run.size.log,
-            link: task.run.size.link,
-        },
-    )?;
+    let mut machine = Machine::boot(alloc, image, conf_of(task.run.size))?;
     let driven = make_driven(&mut machine, task.drive, &keys);
-    let stop = stop_of(driven);
+    let stop = stop_of(driven, &machine);
     Ok(Finished {
         text: summary(alloc, &machine, image, stop, task.run.shown)?,
         status: status(stop),
     })
 }
 
-/// How a driven run stopped, as a command tells it.
-pub fn stop_of(driven: Driven) -> Stop
-    ensures { result ≡ stop_of driven }
+/// How a driven run stopped that left this machine, as a command tells it.
+pub fn stop_of(driven: Driven, machine: &Machine) -> Stop
+    ensures { result ≡ stop_of driven machine.now }
 {
     match driven.stop {
-        m161_drive::Stop::Off => Stop::Off,
+        m161_drive::Stop::Off => stop_off(machine.conflict()),
         m161_drive::Stop::End => Stop::End,
         m161_drive::Stop::Stuck => Stop::Stuck,
         m161_drive::Stop::Refused(refusal) => Stop::Refused(driven.made as usize, refusal),

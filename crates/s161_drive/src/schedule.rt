@@ -15,6 +15,7 @@ use m161_steplog::write_schedule;
 use s161_base::fault::Fault;
 use s161_base::files::FileSource;
 use s161_base::sample::read_image;
+use s161_base::sizes::conf_of;
 use s161_command::{Drive, ScheduleTask};
 use std::alloc::{AllocError, Global};
 
@@ -42,10 +43,8 @@ pub fn schedule<'a, F: FileSource>(
         alloc,
         &file,
         Conf {
-            ram: task.size.ram,
-            processors: task.size.processors,
             log: log_for(task.size.log, task.drive.events),
-            link: task.size.link,
+            ..conf_of(task.size)
         },
     )?;
     // So that the proof knows that the log has its room.

@@ -2,6 +2,7 @@ use Rattle.std.proofs.Common.{◌≡◌, ◌∙◌, refl, sym, ap, subst, ℕ, z
 use Rattle.std.proofs.Math.Seq.{drop-append_seam}
 use Rattle.std.proofs.lemmas.List.{drop-drop, drop-take, length-append, length-drop, length-replicate, take-append-drop, take-append-le, take-replicate, take-take}
 use Rattle.m161_cpu.specs.declared.processor.Outcome.{Outcome}
+use Rattle.m161_machine.specs.declared.event.Conflict.{Conflict}
 use Rattle.m161_machine.specs.declared.event.Event.{Event}
 use Rattle.m161_machine.specs.declared.event.Event.TheVariants.{Step, Key, Done}
 use Rattle.m161_machine.specs.declared.event.Entry.{Entry}
@@ -10,7 +11,7 @@ use Rattle.m161_isa.specs.Choice.{first_answer}
 use Rattle.m161_machine.specs.State.{State, is_worn, next, unless, answer}
 use Rattle.m161_machine.specs.History.{History, events_of, Continues, Ends, Leads, Refuses}
 use Rattle.m161_machine.proofs.Continuing.{continues_on, refused_as}
-use Rattle.s161_runs.specs.Runs.{IsRefusedAt}
+use Rattle.s161_runs.specs.Runs.{IsRefusedAt, IsSwitchedOff, StopsAfter, stop_off}
 
 -- Runs of events, one after the other.
 
@@ -146,3 +147,8 @@ switched b0 m n (e ∷ es) is other c =
     by : (b : Bool) → n.state.board.off ≡ b → b0 ≡ false → b ≡ true
     by true e on = refl
     by false e on = absurd (other (e ∙ sym on))
+
+-- a machine that was switched off stopped by its conflict, if it has one
+pub stopped_off : (m n : History) (events : List Event) (made : ℕ) (conflict : Option Conflict) → n.state.conflict ≡ conflict → IsSwitchedOff m n → StopsAfter m events made (stop_off conflict) n
+stopped_off m n events made None is off = (off, is)
+stopped_off m n events made (Some conflict) is off = (off, is)

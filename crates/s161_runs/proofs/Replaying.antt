@@ -1,9 +1,9 @@
-use Rattle.std.proofs.Common.{◌≡◌, ℕ, List, Bool, true, false, ◌||◌, if◌then◌else◌, Option, None, Some, refl, subst}
+use Rattle.std.proofs.Common.{◌≡◌, ℕ, List, Bool, true, false, if◌then◌else◌, Option, None, Some, refl, subst}
 use Rattle.s161_command.specs.declared.task.AskedSize.{AskedSize}
 use Rattle.s161_base.specs.declared.fault.Fault.{Fault}
 use Rattle.s161_base.specs.declared.fault.Fault.TheVariants.{LogImage, LogMachine}
 use Rattle.s161_base.specs.declared.machines.LoggedMachine.{LoggedMachine}
-use Rattle.s161_base.specs.Machines.{is_image, is_other_size, is_other_unit, machine_fault}
+use Rattle.s161_base.specs.Machines.{is_image, is_other_machine, machine_fault}
 
 -- Why the machine that is asked for isn't the one that a log names: `P` is what is said of the fault.
 
@@ -20,4 +20,4 @@ pub refused : (P : Fault → Type 0) (asked : AskedSize) (file : List ℕ) (logg
     (machine_fault asked file (Some logged) ≡ Some LogMachine → P LogMachine) → (machine_fault asked file (Some logged) ≡ Some LogImage → P LogImage) →
     machine_fault asked file (Some logged) ≡ Some fault → P fault
 refused P asked file logged fault machine image is =
-    chosen P (is_other_unit asked.link logged.mode.link || is_other_size asked logged.line) (is_image file logged.line) fault machine image is
+    chosen P (is_other_machine asked logged) (is_image file logged.line) fault machine image is

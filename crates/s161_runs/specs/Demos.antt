@@ -1,4 +1,4 @@
-use Rattle.std.specs.Prelude.{◌≡◌, ℕ, List, [], ◌∷◌, Option, replicate}
+use Rattle.std.specs.Prelude.{◌≡◌, ℕ, false, List, [], ◌∷◌, Option, replicate}
 use Rattle.m161_elf_writer.specs.Written.{elf_bytes}
 use Rattle.m161_isa.specs.declared.link.LinkUnit.TheVariants.{Word}
 use Rattle.m161_machine.specs.declared.conf.Conf.{Conf}
@@ -20,9 +20,9 @@ demo_words =
 unfoldable pub demo_image : List ℕ
 demo_image = elf_bytes 0x80000200 ((0x80000200, demo_words) ∷ [])
 
--- one processor, 1 MiB, room for seven entries, and links to words
+-- one processor, 1 MiB, room for seven entries, links to words, and not strict
 abbrev pub demo_conf : Conf
-demo_conf = record { ram = 1_048_576; processors = 1; log = 7; link = Word }
+demo_conf = record { ram = 1_048_576; processors = 1; log = 7; link = Word; strict = false }
 
 -- a finished demo: the image is booted, seven Steps of processor 0 are made, unless one is refused,
 -- and the text is its registers

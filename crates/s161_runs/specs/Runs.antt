@@ -4,6 +4,7 @@ use Rattle.sha2.specs.Sha256.{sha256}
 use Rattle.m161_cpu.specs.declared.processor.ProcessorState.{ProcessorState}
 use Rattle.m161_cpu.specs.declared.processor.ProcessorState.TheVariants.{Stopped, Running, Waiting}
 use Rattle.m161_machine.specs.declared.conf.BootError.TheVariants.{Load}
+use Rattle.m161_machine.specs.declared.event.Conflict.{Conflict}
 use Rattle.m161_machine.specs.declared.event.Event.{Event}
 use Rattle.m161_machine.specs.declared.event.Refusal.{Refusal}
 use Rattle.m161_machine.specs.Conf.{is_within_limits}
@@ -22,7 +23,7 @@ use Rattle.s161_command.specs.declared.task.RunTask.{RunTask}
 use Rattle.s161_command.specs.declared.task.Shown.{Shown}
 use Rattle.s161_command.specs.declared.task.Shown.TheVariants as shown
 use Rattle.s161_runs.specs.declared.events.Stop.{Stop}
-use Rattle.s161_runs.specs.declared.events.Stop.TheVariants.{Off, End, Stuck, Refused}
+use Rattle.s161_runs.specs.declared.events.Stop.TheVariants.{Off, Conflict as ConflictStop, End, Stuck, Refused}
 use Rattle.s161_base.specs.declared.fault.Fault.{Fault}
 use Rattle.s161_base.specs.declared.fault.Fault.TheVariants.{Conf, File, Image, Input, Memory, Schedule}
 use Rattle.s161_base.specs.Faults.{BootsTo}
@@ -42,10 +43,23 @@ IsRefusedAt events k s refusal = IsSomeAnd (slice_get events k) (λ e. Refuses (
 abbrev pub IsSwitchedOff : History → History → Type 0
 IsSwitchedOff m n = (m.state.board.off ≡ false) × (n.state.board.off ≡ true)
 
+-- a conflict: its processor, the row that was to be written, and the other one
+abbrev pub conflict_text : Conflict → List ℕ
+conflict_text conflict =
+    codes "conflict" ␣ decimal conflict.processor ␣ decimal conflict.row ␣ decimal conflict.other
+
+-- why no more events are made of a machine that is off, by its conflict
+abbrev pub stop_off : Option Conflict → Stop
+stop_off None = Off
+stop_off (Some conflict) = ConflictStop conflict
+
 -- why this many of these events were made of m, which left n, and no more: they switched the
--- machine off; or they didn't, and there are no more, or the next is refused. Only a policy is stuck
+-- machine off, by a conflict or not; or they didn't, and there are no more, or the next is refused.
+-- Only a policy is stuck
 abbrev pub StopsAfter : History → List Event → ℕ → Stop → History → Type 0
-StopsAfter m events made Off n = IsSwitchedOff m n
+StopsAfter m events made Off n = IsSwitchedOff m n × (n.state.conflict ≡ None)
+StopsAfter m events made (ConflictStop conflict) n =
+    IsSwitchedOff m n × (n.state.conflict ≡ Some conflict)
 StopsAfter m events made End n = (n.state.board.off ≡ m.state.board.off) × (made ≡ length events)
 StopsAfter m events made Stuck n = ⊥
 StopsAfter m events made (Refused k refusal) n =
@@ -83,6 +97,7 @@ started_texts s n = flat_map (started_text s) (range_with_len 0 n)
 
 abbrev pub stop_line : Stop → List ℕ
 stop_line Off = codes "stop: off"
+stop_line (ConflictStop conflict) = codes "stop:" ␣ conflict_text conflict
 stop_line End = codes "stop: end"
 stop_line Stuck = codes "stop: stuck"
 stop_line (Refused k refusal) =
@@ -99,7 +114,7 @@ line_of m file = record {
 
 -- what the outcomes of its events hang on
 abbrev pub mode_of : History → Mode
-mode_of m = record { link = m.start.conf.link }
+mode_of m = record { link = m.start.conf.link; strict = m.start.conf.strict }
 
 -- the text of the log, or of its end if entries were dropped
 abbrev pub kept_text : History → List ℕ
@@ -129,6 +144,7 @@ abbrev pub status_of : Stop → ℕ
 status_of Off = 0
 status_of (Refused k refusal) = 1
 status_of End = 3
+status_of (ConflictStop conflict) = 4
 status_of Stuck = 5
 
 -- a finished run: what it prints and its exit status; the image's file and standard input have

@@ -16,6 +16,7 @@ pub const CONF: Conf = Conf {
     processors: 1,
     log: 7,
     link: LinkUnit::Word,
+    strict: false,
 };
 
 /// An ELF file of one segment at 80000200, with the program below.

@@ -3,17 +3,19 @@
 ghost use Rattle.std.specs.Prelude.{◌≡◌, ◌<◌, MatchOption, Some, replicate};
 ghost use Rattle.m161_machine.specs.History.{Continues, Refuses};
 ghost use Rattle.m161_machine.specs.State.{next};
-ghost use Rattle.s161_runs.specs.Runs.{MakesEvents, stop_line};
+ghost use Rattle.s161_runs.specs.Runs.{MakesEvents, conflict_text, stop_line, stop_off};
 
 use m161::Machine;
-use m161_machine::{Event, Events, Refusal};
+use m161_machine::{Conflict, Event, Events, Refusal};
 use std::fmt;
 
 /// Why no more events were made.
 #[derive(Clone, Copy, Debug, PartialEq, Eq, Drop)]
 pub enum Stop {
-    /// The last one switched the machine off.
+    /// The last one switched the machine off, and wasn't a conflict.
     Off,
+    /// The last one was this conflict, which switched the strict machine off.
+    Conflict(Conflict),
     /// There were no more.
     End,
     /// The policy that chooses them chose none.
@@ -22,12 +24,29 @@ pub enum Stop {
     Refused(usize, Refusal),
 }
 
+/// A conflict, as text.
+#[derive(Drop)]
+pub struct ShownConflict(pub Conflict);
+
+impl fmt::Display for ShownConflict {
+    ghost output = { λ conflict. Some (conflict_text conflict.0) };
+
+    fn fmt<W: fmt::Write>(&self, f: &mut fmt::Formatter<W>) -> fmt::Result {
+        let (processor, row, other) = (self.0.processor, self.0.row, self.0.other);
+        write!(f, "conflict {processor} {row} {other}")
+    }
+}
+
 impl fmt::Display for Stop {
     ghost output = { λ stop. Some (stop_line stop) };
 
     fn fmt<W: fmt::Write>(&self, f: &mut fmt::Formatter<W>) -> fmt::Result {
         match self {
             Stop::Off => write!(f, "stop: off"),
+            Stop::Conflict(conflict) => {
+                let shown = ShownConflict(*conflict);
+                write!(f, "stop: {shown}")
+            }
             Stop::End => write!(f, "stop: end"),
             Stop::Stuck => write!(f, "stop: stuck"),
             Stop::Refused(k, refusal) => {
@@ -35,6 +54,16 @@ impl fmt::Display for Stop {
                 write!(f, "stop: refused {k} {number} {name}")
             }
         }
+    }
+}
+
+/// Why no more events were made of a machine that is off, by its conflict.
+pub fn stop_off(conflict: Option<Conflict>) -> Stop
+    ensures { result ≡ stop_off conflict }
+{
+    match conflict {
+        Some(conflict) => Stop::Conflict(conflict),
+        None => Stop::Off,
     }
 }
 
@@ -51,7 +80,7 @@ pub fn make_events(machine: &mut Machine, events: &Events) -> Stop
         let (more, refusal) = make_alike(machine, event, times);
         made += more as usize;
         if machine.is_off() != was_off {
-            return Stop::Off;
+            return stop_off(machine.conflict());
         }
         if let Some(refusal) = refusal {
             return Stop::Refused(made, refusal);

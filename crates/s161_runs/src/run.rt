@@ -7,12 +7,12 @@ ghost use Rattle.s161_base.specs.Samples.{image_file};
 use crate::events::{Stop, make_events};
 use crate::summary::summary;
 use m161::Machine;
-use m161_machine::Conf;
 use s161_base::fault::Fault;
 use s161_base::files::FileSource;
 use s161_base::finished::Finished;
 use s161_base::input::read_input;
 use s161_base::sample::read_image;
+use s161_base::sizes::conf_of;
 use s161_base::texts::events_of;
 use s161_command::RunTask;
 use std::alloc::Global;
@@ -41,16 +41,7 @@ pub fn run<'a, F: FileSource, I: Read>(
     let image = file.as_slice();
     let schedule = read_input(alloc, input)?;
     let events = events_of(alloc, schedule.as_str())?;
-    let mut machine = Machine::boot(
-        alloc,
-        image,
-        Conf {
-            ram: task.size.ram,
-            processors: task.size.processors,
-            log: task.size.log,
-            link: task.size.link,
-        },
-    )?;
+    let mut machine = Machine::boot(alloc, image, conf_of(task.size))?;
     let stop = make_events(&mut machine, &events);
     Ok(Finished {
         text: summary(alloc, &machine, image, stop, task.shown)?,
@@ -66,6 +57,7 @@ pub fn status(stop: Stop) -> u8
         Stop::Off => 0,
         Stop::Refused(_, _) => 1,
         Stop::End => 3,
+        Stop::Conflict(_) => 4,
         Stop::Stuck => 5,
     }
 }

@@ -92,9 +92,14 @@ fn shown_log(alloc: Global, machine: &Machine, file: &[u8]) -> Result<String, Al
     ensures { IfOk result (λ text. string_bytes text ≡ shown_log machine.now file.now) }
 {
     let conf = machine.conf();
+    // So that the proof knows that only a strict machine's log has conflicts.
+    machine.replay();
     let mut text = machine_line(alloc, conf.ram, conf.processors, &image_digest(file))?;
     let entries = machine.copy_log(alloc)?;
-    let mode = Mode { link: conf.link };
+    let mode = Mode {
+        link: conf.link,
+        strict: conf.strict,
+    };
     let log = match machine.base().made() {
         0 => write_log(alloc, mode, &entries)?,
         dropped => write_tail(alloc, mode, dropped, &entries)?,

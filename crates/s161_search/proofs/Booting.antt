@@ -1,4 +1,4 @@
-use Rattle.std.proofs.Common.{◌≡◌, ◌∙◌, refl, sym, ap, subst, ℕ, ◌-◌, ◌<◌, ◌≤◌, Bool, true, false, List, ◌∷◌, replicate, arith}
+use Rattle.std.proofs.Common.{◌≡◌, ◌∙◌, refl, sym, ap, subst, ℕ, ◌-◌, ◌<◌, ◌≤◌, Bool, true, false, List, ◌∷◌, None, replicate, arith}
 use Rattle.std.specs.Prelude.{◌&&◌, ◌==◌, ◌%◌, ◌^◌, nat_le}
 use Rattle.std.proofs.lemmas.List.{ext_get_or}
 use Rattle.m161_bus.specs.Board.{board_at_boot}
@@ -28,7 +28,7 @@ booted_as_one file conf m n a b =
     a.state_is
     ∙ (λ i. state_of (same_conf i)
     (started_processor (same_entry i) 0 0 0 ∷ replicate ((same_conf i).processors - 1) stopped_processor) (same_memory i)
-    (board_at_boot (same_conf i).ram (same_conf i).processors console_at_boot) (no_links (same_conf i).link) 0)
+    (board_at_boot (same_conf i).ram (same_conf i).processors console_at_boot) (no_links (same_conf i).link) 0 None)
     ∙ sym b.state_is
 
 -- a log that has no room, or too much, is outside the limits

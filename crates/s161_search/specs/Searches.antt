@@ -2,7 +2,7 @@ use Rattle.std.specs.Prelude.{◌≡◌, ◌⊎◌, ℕ, ◌==◌, Bool, true, f
 use Rattle.m161_judge.specs.declared.run.Run.{Run}
 use Rattle.m161_judge.specs.declared.verdict.Judged.{Judged}
 use Rattle.m161_judge.specs.declared.verdict.Verdict.{Verdict}
-use Rattle.m161_judge.specs.declared.verdict.Verdict.TheVariants.{Stale, Stuck, Output as OutputVerdict, End}
+use Rattle.m161_judge.specs.declared.verdict.Verdict.TheVariants.{Stale, Conflict, Stuck, Output as OutputVerdict, End}
 use Rattle.m161_judge.specs.Verdict.{IsJudged, rank}
 use Rattle.m161_machine.specs.declared.event.Event.{Event}
 use Rattle.m161_machine.specs.History.{History, IsBooted}
@@ -40,6 +40,7 @@ HasKind task given events verdict =
 -- all events of a run are printed where that is asked for, and where the verdict is `end`
 abbrev pub is_whole : Bool → Verdict → Bool
 is_whole whole (Stale place processor address row) = whole
+is_whole whole (Conflict conflict) = whole
 is_whole whole Stuck = whole
 is_whole whole OutputVerdict = whole
 is_whole whole End = true

@@ -11,6 +11,7 @@ use Rattle.m161_order.specs.declared.order.Order.{Order}
 use Rattle.m161_order.specs.declared.order.Order.TheVariants.{Turns, Random, Priorities}
 use Rattle.s161_base.specs.declared.fault.Fault.{Fault}
 use Rattle.s161_base.specs.declared.fault.Fault.TheVariants.{Conf, Image, Memory, Watch}
+use Rattle.s161_base.specs.Sizes.{conf_of}
 use Rattle.s161_command.specs.declared.drive.Drive.{Drive}
 use Rattle.s161_command.specs.declared.task.SearchTask.{SearchTask}
 use Rattle.s161_drive.specs.Driven.{rules_of}
@@ -41,12 +42,8 @@ drive_at drive k = record drive { order = with_seed (seed_at drive.order k) driv
 
 -- the machine of each run: its log keeps all of the run's entries, as that of `schedule`
 abbrev pub search_conf : SearchTask → MachineConf
-search_conf task = record {
-  ram = task.size.ram;
-  processors = task.size.processors;
-  log = log_for task.size.log task.drive.events;
-  link = task.size.link;
-}
+search_conf task =
+    record (conf_of task.size) { log = log_for task.size.log task.drive.events }
 
 -- run k, and its verdict
 abbrev pub IsRunAt : SearchTask → Given → ℕ → Run → Type 0

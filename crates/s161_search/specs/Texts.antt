@@ -1,19 +1,21 @@
 use Rattle.std.specs.Prelude.{ℕ, ◌==◌, if◌then◌else◌, List, ◌++◌, codes, decimal}
 use Rattle.m161_audit.specs.declared.finding.Finding.TheVariants as finding
 use Rattle.m161_judge.specs.declared.verdict.Verdict.{Verdict}
-use Rattle.m161_judge.specs.declared.verdict.Verdict.TheVariants.{Stale, Stuck, Output, End}
+use Rattle.m161_judge.specs.declared.verdict.Verdict.TheVariants.{Stale, Conflict, Stuck, Output, End}
 use Rattle.m161_machine.specs.declared.event.Event.{Event}
 use Rattle.m161_steplog.specs.Written.{schedule_text}
 use Rattle.m161_text.specs.Lines.{with_line_end}
 use Rattle.m161_text.specs.Parts.{◌␣◌}
 use Rattle.s161_audit.specs.Audits.{finding_text}
+use Rattle.s161_runs.specs.Runs.{conflict_text}
 
 -- What a search prints.
 
--- a stale use as the audit prints it, else the verdict's name
+-- a stale use as the audit prints it, a conflict as a run does, else the verdict's name
 abbrev pub verdict_text : Verdict → List ℕ
 verdict_text (Stale place processor address row) =
     finding_text (finding.Stale place processor address row)
+verdict_text (Conflict conflict) = conflict_text conflict
 verdict_text Stuck = codes "stuck"
 verdict_text Output = codes "output"
 verdict_text End = codes "end"

@@ -6,7 +6,7 @@ ghost use Rattle.s161_search.specs.helpers.Inputs.{given_of};
 ghost use Rattle.s161_search.specs.Searches.{IsJudgedAt};
 
 use crate::inputs::Inputs;
-use crate::seeds::conf_of;
+use crate::seeds::search_conf;
 use m161::{Console, Tlb};
 use m161_judge::{Goal, Judged, Verdict, judge};
 use m161_machine::Event;
@@ -31,7 +31,7 @@ pub(crate) fn judge_again(
         output: inputs.output(),
         keys: &inputs.keys,
     };
-    match judge::<Tlb, Console>(alloc, &inputs.file, conf_of(task), events, &goal) {
+    match judge::<Tlb, Console>(alloc, &inputs.file, search_conf(task), events, &goal) {
         Ok(judged) => Ok(judged),
         Err(_) => Err(AllocError),
     }
@@ -43,9 +43,10 @@ pub(crate) fn rank(verdict: Verdict) -> u8
 {
     match verdict {
         Verdict::Stale { .. } => 0,
-        Verdict::Stuck => 1,
-        Verdict::Output => 2,
-        Verdict::End => 3,
+        Verdict::Conflict(_) => 1,
+        Verdict::Stuck => 2,
+        Verdict::Output => 3,
+        Verdict::End => 4,
     }
 }
 

@@ -27,7 +27,7 @@ fn is_whole(whole: bool, verdict: Verdict) -> bool
     ensures { result ≡ is_whole whole verdict }
 {
     match verdict {
-        Verdict::Stale { .. } | Verdict::Stuck | Verdict::Output => whole,
+        Verdict::Stale { .. } | Verdict::Conflict(_) | Verdict::Stuck | Verdict::Output => whole,
         Verdict::End => true,
     }
 }

@@ -17,6 +17,7 @@ use m161_machine::Conf;
 use m161_order::Order;
 use s161_audit::audit::fault_of_audit;
 use s161_base::fault::Fault;
+use s161_base::sizes::conf_of;
 use s161_command::SearchTask;
 use s161_drive::schedule::log_for;
 use std::alloc::Global;
@@ -42,14 +43,12 @@ pub(crate) enum Tried {
 }
 
 /// The machine of each run.
-pub(crate) fn conf_of(task: SearchTask<'_>) -> Conf
+pub(crate) fn search_conf(task: SearchTask<'_>) -> Conf
     ensures { result ≡ search_conf task.entry }
 {
     Conf {
-        ram: task.size.ram,
-        processors: task.size.processors,
         log: log_for(task.size.log, task.drive.events),
-        link: task.size.link,
+        ..conf_of(task.size)
     }
 }
 
@@ -110,7 +109,7 @@ fn boot<'a>(
         (boot_fault (given_of inputs.now).file (search_conf task.entry)) (Ok booted)) }
     ensures fault { IfErr result (IsRunFault task.entry (given_of inputs.now)) }
 {
-    match Booted::new(alloc, &inputs.file, conf_of(task)) {
+    match Booted::new(alloc, &inputs.file, search_conf(task)) {
         Ok(booted) => Ok(booted),
         Err(error) => Err(fault_of_audit(error)),
     }

@@ -10,6 +10,7 @@ use m161_judge::Verdict;
 use m161_machine::Event;
 use m161_steplog::write_schedule;
 use s161_audit::audit::ShownFinding;
+use s161_runs::events::ShownConflict;
 use std::alloc::{AllocError, Global};
 use std::fmt;
 
@@ -35,6 +36,10 @@ impl fmt::Display for ShownVerdict {
                     row,
                 });
                 write!(f, "{stale}")
+            }
+            Verdict::Conflict(conflict) => {
+                let shown = ShownConflict(conflict);
+                write!(f, "{shown}")
             }
             Verdict::Stuck => write!(f, "stuck"),
             Verdict::Output => write!(f, "output"),

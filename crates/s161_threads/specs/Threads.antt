@@ -1,15 +1,16 @@
 use Rattle.std.specs.Prelude.{◌≡◌, ℕ, Bool, false, if◌then◌else◌, List, Option, None, Some, IfSome, replicate}
 use Rattle.m161_machine.specs.declared.conf.BootError.TheVariants.{Load}
+use Rattle.m161_machine.specs.declared.event.Conflict.{Conflict}
 use Rattle.m161_machine.specs.Conf.{is_within_limits}
 use Rattle.m161_machine.specs.History.{History, boot_fault}
 use Rattle.m161_cause.specs.declared.cause.Cause.{Cause}
 use Rattle.m161_threads.specs.Runs.{Interleaves, IsOfRun, bad_call}
 use Rattle.s161_command.specs.declared.task.ThreadsTask.{ThreadsTask}
 use Rattle.s161_runs.specs.declared.events.Stop.{Stop}
-use Rattle.s161_runs.specs.declared.events.Stop.TheVariants.{End, Off}
+use Rattle.s161_runs.specs.declared.events.Stop.TheVariants.{End}
 use Rattle.s161_base.specs.declared.fault.Fault.{Fault}
 use Rattle.s161_base.specs.declared.fault.Fault.TheVariants.{Conf, File, Image, Memory, Threads}
-use Rattle.s161_runs.specs.Runs.{status_of, summary_text}
+use Rattle.s161_runs.specs.Runs.{status_of, stop_off, summary_text}
 use Rattle.s161_base.specs.Faults.{BootsTo}
 use Rattle.s161_base.specs.Known.{OfKnown}
 use Rattle.s161_base.specs.Reading.{IsOfBytes}
@@ -18,9 +19,9 @@ use Rattle.s161_base.specs.Sizes.{conf_of}
 
 -- The Steps, the output and the exit status of `run --threads`.
 
--- how a run in threads stopped, by whether the machine is off
-abbrev pub stop_of : Bool → Stop
-stop_of off = if off then Off else End
+-- how a run in threads stopped, by whether the machine is off, and its conflict
+abbrev pub stop_of : Bool → Option Conflict → Stop
+stop_of off conflict = if off then stop_off conflict else End
 
 -- a finished run in threads: what it prints and its exit status; the image's file has these bytes,
 -- as far as they are known
@@ -36,8 +37,9 @@ pub record IsRunInThreads
   pub machine : History
   pub interleaves :
       Interleaves booted (replicate task.run.size.processors task.quota) made off machine
-  pub text_is : text ≡ summary_text machine file (stop_of off) task.run.shown
-  pub status_is : status ≡ status_of (stop_of off)
+  pub text_is :
+      text ≡ summary_text machine file (stop_of off machine.state.conflict) task.run.shown
+  pub status_is : status ≡ status_of (stop_of off machine.state.conflict)
 
 -- the cause of a run that doesn't begin for this reason; or of one that began
 abbrev pub IsCause : Option Cause → Cause → Type 0

@@ -6,14 +6,15 @@ ghost use Rattle.s161_base.specs.Samples.{image_file};
 ghost use Rattle.s161_threads.specs.Threads.{IsRunInThreads, IsThreadsFault, stop_of};
 
 use m161::{Console, Machine, Tlb};
-use m161_machine::Conf;
+use m161_machine::Conflict;
 use m161_threads::{Gate, Report, run_bursts};
 use s161_base::fault::Fault;
 use s161_base::files::FileSource;
 use s161_base::finished::Finished;
 use s161_base::sample::read_image;
+use s161_base::sizes::conf_of;
 use s161_command::{Shown, ThreadsTask};
-use s161_runs::events::Stop;
+use s161_runs::events::{Stop, stop_off};
 use s161_runs::run::status;
 use s161_runs::summary::summary;
 use std::alloc::{AllocError, Global};
@@ -51,16 +52,7 @@ pub fn run_in_threads<'a, R: Threads + Wait + Sync, F: FileSource>(
     let ThreadsTask { run, quota, burst } = task;
     let file = read_image(alloc, files, run.image)?;
     let image = file.as_slice();
-    let machine = Machine::boot(
-        alloc,
-        image,
-        Conf {
-            ram: run.size.ram,
-            processors: run.size.processors,
-            log: run.size.log,
-            link: run.size.link,
-        },
-    )?;
+    let machine = Machine::boot(alloc, image, conf_of(run.size))?;
     machine.replay();
     let quotas = quotas_of(alloc, quota, machine.processors())?;
     let report = match run_bursts(rt, alloc, machine, quotas.as_slice(), &Open, burst) {
@@ -78,11 +70,11 @@ fn quotas_of(alloc: Global, quota: u32, processors: u32) -> Result<Vec<u32>, All
     vec![in alloc; quota; processors as usize]
 }
 
-// How a run in threads stopped, by whether the machine is off.
-fn stop_of(off: bool) -> Stop
-    ensures { result ≡ stop_of off }
+// How a run in threads stopped, by whether the machine is off, and its conflict.
+fn stop_of(off: bool, conflict: Option<Conflict>) -> Stop
+    ensures { result ≡ stop_of off conflict }
 {
-    if off { Stop::Off } else { Stop::End }
+    if off { stop_off(conflict) } else { Stop::End }
 }
 
 // The text that a report prints, and its exit status.
@@ -93,8 +85,10 @@ fn finish<'a>(
     shown: Shown,
 ) -> Result<Finished, Fault<'a>>
     ensures text { IfOk result (λ done.
-        done.text.items ≡ summary_text report.machine file.now (stop_of report.off) shown) }
-    ensures status { IfOk result (λ done. done.status ≡ status_of (stop_of report.off)) }
+        done.text.items ≡ summary_text report.machine file.now
+        (stop_of report.off report.machine.state.conflict) shown) }
+    ensures status { IfOk result (λ done.
+        done.status ≡ status_of (stop_of report.off report.machine.state.conflict)) }
     ensures err { IfErr result (λ fault. fault ≡ Fault.Memory) }
 {
     let Report {
@@ -102,7 +96,7 @@ fn finish<'a>(
         counts: _,
         off,
     } = report;
-    let stop = stop_of(off);
+    let stop = stop_of(off, machine.conflict());
     Ok(Finished {
         text: summary(alloc, &machine, file, stop, shown)?,
         status: status(stop),

@@ -109,7 +109,7 @@ module _ (task : TraceTask) (file : List ℕ) (a c : Option (List ℕ)) (m n : H
   schedule_printed events (Err fault) h = tt
 
   pub drive_printed : (rules : Rules) (most : ℕ) (r : Result Stop Fault) →
-      IfOk r (λ stop. (driven : Driven) × (stop ≡ stop_of driven) × (drives : Drives rules most m driven n)
+      IfOk r (λ stop. (driven : Driven) × (stop ≡ stop_of driven n) × (drives : Drives rules most m driven n)
       × IsPrinted w m.state drives.events stop a c) →
       IfOk r (PrintsRun task file (DrivesAll rules most) a c)
   drive_printed rules most (Ok stop) h = record {

@@ -7,8 +7,9 @@ use Rattle.m161_machine.specs.State.{next}
 use Rattle.m161_machine.specs.History.{Continues, History, Refuses}
 use Rattle.m161_machine.proofs.Continuing.{repeats_more}
 use Rattle.s161_base.specs.declared.fault.Fault.{Fault}
-use Rattle.s161_runs.specs.declared.events.Stop.TheVariants.{Off, End, Refused}
-use Rattle.s161_runs.proofs.Making.{at_most_all, run_made, run_passed, run_refused, run_within, switched}
+use Rattle.s161_runs.specs.declared.events.Stop.TheVariants.{End, Refused}
+use Rattle.s161_runs.specs.Runs.{stop_off}
+use Rattle.s161_runs.proofs.Making.{at_most_all, run_made, run_passed, run_refused, run_within, stopped_off, switched}
 use Rattle.s161_trace.specs.declared.lines.Lines.{Lines}
 use Rattle.s161_trace.specs.helpers.Printing.{FailsToPrint, Prints}
 use Rattle.s161_trace.specs.helpers.Scheduled.{FailsAlike, FailsInSchedule, FailsOnce, PrintsSchedule, Turn, TurnsAlike}
@@ -103,12 +104,14 @@ module _ (m n : History) (l k : Lines) (a b : Option (List ℕ)) (step : l.trace
         (prints_on l k a b c (take made events) (replicate given.0 e) n.state run_so_far prints k1 n1.state x.prints)
 
     pub off_then : n.state.board.off ≡ m.state.board.off → ¬ (n1.state.board.off ≡ m.state.board.off) →
-        PrintsSchedule m l a events Off n1 k1 c
+        PrintsSchedule m l a events (stop_off n1.state.conflict) n1 k1 c
     off_then stays other = record {
       makes = record {
         made = made + given.0;
         first = first_then;
-        why = switched m.state.board.off n n1 (replicate given.0 e) stays other x.made;
+        why =
+            stopped_off m n1 events (made + given.0) n1.state.conflict refl
+            (switched m.state.board.off n n1 (replicate given.0 e) stays other x.made);
       };
       prints = prints_then;
     }

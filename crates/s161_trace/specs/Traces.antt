@@ -79,7 +79,7 @@ pub record RunsDriven
   pub driven : Driven
   pub drives : Drives (rules_of options keys) options.events m driven n
   pub events_are : events ≡ drives.events
-  pub stop_is : stop ≡ stop_of driven
+  pub stop_is : stop ≡ stop_of driven n
 
 -- a whole run: without a drive by the schedule that the input holds
 abbrev pub Runs :

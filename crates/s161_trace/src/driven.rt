@@ -127,7 +127,7 @@ pub(crate) fn print_drive<'a, O: Write>(
     output: &mut O,
 ) -> Result<Told, Fault<'a>>
     requires { order_fault options.order ≡ None }
-    ensures ok { IfOk result (λ stop. (driven : Driven) × (stop ≡ stop_of driven)
+    ensures ok { IfOk result (λ stop. (driven : Driven) × (stop ≡ stop_of driven machine.new)
         × (drives : Drives (rules_of options.entry keys.now) options.entry.events machine.old driven
         machine.new)
         × IsPrinted window machine.old.state drives.events stop (O.contents output.old)
@@ -139,7 +139,7 @@ pub(crate) fn print_drive<'a, O: Write>(
 {
     let mut lines = Lines::new(alloc, machine, window)?;
     let driven = trace_drive(machine, options, keys, &mut lines, output)?;
-    let stop = stop_of(driven);
+    let stop = stop_of(driven, machine);
     lines.finish(alloc, stop, output)?;
     Ok(stop)
 }

@@ -10,7 +10,7 @@ use crate::window::Window;
 use m161::Machine;
 use m161_machine::{Event, Events, Refusal};
 use s161_base::fault::Fault;
-use s161_runs::events::Stop;
+use s161_runs::events::{Stop, stop_off};
 use std::alloc::Global;
 use std::io::Write;
 
@@ -87,7 +87,7 @@ fn trace_events<'a, O: Write>(
         let alike = trace_alike(machine, event, times, lines, output)?;
         made += alike.0 as usize;
         if machine.is_off() != was_off {
-            return Ok(Stop::Off);
+            return Ok(stop_off(machine.conflict()));
         }
         if let Some(refusal) = alike.1 {
             return Ok(Stop::Refused(made, refusal));

@@ -6,7 +6,6 @@ ghost use Rattle.m161_steplog.specs.Schedule.{IsSchedule};
 ghost use Rattle.m161_text.specs.Lines.{lines_of};
 ghost use Rattle.s161_base.specs.Known.{OfText};
 ghost use Rattle.s161_base.specs.Samples.{image_file};
-ghost use Rattle.s161_base.specs.Sizes.{conf_of};
 ghost use Rattle.s161_base.specs.Streams.{streams};
 ghost use Rattle.s161_drive.specs.Driven.{AreKeys, IsDrivenFault, rules_of};
 ghost use Rattle.s161_runs.specs.Runs.{IsFaultOf};
@@ -19,13 +18,14 @@ use crate::driven::print_drive;
 use crate::scheduled::print_schedule;
 use crate::window::Window;
 use m161::Machine;
-use m161_machine::{Conf, Events};
+use m161_machine::Events;
 use s161_base::fault::Fault;
 use s161_base::files::FileSource;
 use s161_base::input::read_input;
 use s161_base::sample::read_image;
+use s161_base::sizes::conf_of;
 use s161_base::texts::events_of;
-use s161_command::{Drive, Size, TraceTask};
+use s161_command::{Drive, TraceTask};
 use s161_drive::policy::read_keys;
 use s161_runs::events::Stop;
 use std::alloc::Global;
@@ -63,18 +63,6 @@ pub fn trace<'a, F: FileSource, I: Read, O: Write>(
             let stop = trace_driven(alloc, files, output, task, drive)?;
             Ok(stop)
         }
-    }
-}
-
-// The machine of this size.
-fn conf_of(size: Size) -> Conf
-    ensures { result ≡ conf_of size }
-{
-    Conf {
-        ram: size.ram,
-        processors: size.processors,
-        log: size.log,
-        link: size.link,
     }
 }
 

@@ -59,9 +59,10 @@ where
 /// Does the work of a command line. Returns the exit status: 0 for a finished demo, schedule, debug,
 /// as or dis, a machine that switched itself off, a log that agrees, a clean run or search, or help;
 /// 1 for a fault, or a refused event of a run; 2 for a command line that isn't followed; 3 if the
-/// schedule, the events or the Steps of the threads ended; 4 for a log that differs, a stale use or a
-/// run that goes wrong in a search; 5 if a policy is stuck. The output is complete in memory before it
-/// is written, but for that of `console`, `trace` and `debug`.
+/// schedule, the events or the Steps of the threads ended; 4 for a log that differs, a stale use, a
+/// run that goes wrong in a search or a conflict that switched a strict machine off; 5 if a policy is
+/// stuck. The output is complete in memory before it is written, but for that of `console`, `trace` and
+/// `debug`.
 pub fn work<A, S, F, I, O, E>(
     rt: &A,
     words: &[S],

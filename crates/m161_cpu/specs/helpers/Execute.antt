@@ -6,7 +6,8 @@ use Rattle.m161_isa.specs.Instr.{row_of_instr, numbers_of_instr}
 use Rattle.m161_isa.specs.declared.instr.Instr.TheVariants.{Absent}
 use Rattle.m161_bus.specs.Board.{BoardState}
 use Rattle.m161_cpu.specs.declared.processor.Outcome.TheVariants.{Idle}
-use Rattle.m161_cpu.specs.Processor.{Processor}
+use Rattle.m161_tlb.specs.declared.row.Row.{Row as TlbRow}
+use Rattle.m161_cpu.specs.Processor.{Processor, with_row}
 use Rattle.m161_cpu.specs.Links.{Keep}
 use Rattle.m161_cpu.specs.Scene.{Around, Scene, Change, scene, result_map, processor_after, around_after}
 use Rattle.m161_cpu.specs.declared.fault.Fault.{Fault}
@@ -14,7 +15,7 @@ use Rattle.m161_cpu.specs.declared.fault.Stop.{Stop}
 use Rattle.m161_cpu.specs.declared.fault.Stop.TheVariants as stop
 use Rattle.m161_cpu.specs.Fault.{fault}
 use Rattle.m161_cpu.specs.Effect.{write}
-use Rattle.m161_cpu.specs.Step.{Stepped, change_of_row, misfit_kind, running_step, switches_off}
+use Rattle.m161_cpu.specs.Step.{Stepped, AreTwoRows, change_of_row, conflict_of, misfit_kind, running_step, switches_off}
 
 -- A Step in two parts, and effects on the code's instructions.
 
@@ -50,28 +51,61 @@ pub record IsAfter (p : Processor) (a : Around) (after : Scene) : Type 0 where
   pub board_is : after.around.board ≡ a.board
   pub links_are : after.around.links ≡ a.links
 
--- a change was made; or this is why not, and nothing is changed
+-- a change was made, without a conflict; or this is why not, and nothing is changed
 abbrev pub Executes : Result Change Fault → Scene → Result Unit Fault → Scene → Type 0
 Executes (Ok c) before (Ok done) after =
-    IsAfter (processor_after c before.processor) (around_after c before.around) after
+    (conflict_of before c ≡ None)
+    × IsAfter (processor_after c before.processor) (around_after c before.around) after
 Executes (Ok c) before (Err f) after = ⊥
 Executes (Err f) before (Ok done) after = ⊥
 Executes (Err f) before (Err g) after =
     (g ≡ f) × IsAfter before.processor before.around after
 
+-- the same of a change that may be of a row, which may be a conflict: then the row stays
+abbrev pub Settles : Result Change Fault → Scene → Result Unit Stop → Scene → Type 0
+Settles (Ok c) before (Ok done) after =
+    (conflict_of before c ≡ None)
+    × IsAfter (processor_after c before.processor) (around_after c before.around) after
+Settles (Ok c) before (Err stop.PoweredOff) after = ⊥
+Settles (Ok c) before (Err (stop.Conflict row other)) after =
+    (conflict_of before c ≡ Some (row, other)) × AreTwoRows row other
+    × IsAfter (processor_after (record c { row = None }) before.processor)
+    (around_after c before.around) after
+Settles (Ok c) before (Err (stop.Fault f)) after = ⊥
+Settles (Err f) before (Ok done) after = ⊥
+Settles (Err f) before (Err stop.PoweredOff) after = ⊥
+Settles (Err f) before (Err (stop.Conflict row other)) after = ⊥
+Settles (Err f) before (Err (stop.Fault g)) after =
+    (g ≡ f) × IsAfter before.processor before.around after
+
 -- the same of a change that may switch the board off, which is told
 abbrev pub Performs : Result Change Fault → Scene → Result Unit Stop → Scene → Type 0
 Performs (Ok c) before (Ok done) after =
-    IsAfter (processor_after c before.processor) (around_after c before.around) after
+    (conflict_of before c ≡ None)
+    × IsAfter (processor_after c before.processor) (around_after c before.around) after
     × (switches_off before.around.board after.around.board ≡ false)
 Performs (Ok c) before (Err stop.PoweredOff) after =
-    IsAfter (processor_after c before.processor) (around_after c before.around) after
+    (conflict_of before c ≡ None)
+    × IsAfter (processor_after c before.processor) (around_after c before.around) after
     × (switches_off before.around.board after.around.board ≡ true)
+Performs (Ok c) before (Err (stop.Conflict row other)) after =
+    (conflict_of before c ≡ Some (row, other)) × AreTwoRows row other
+    × IsAfter (processor_after (record c { row = None }) before.processor)
+    (around_after c before.around) after
 Performs (Ok c) before (Err (stop.Fault f)) after = ⊥
 Performs (Err f) before (Ok done) after = ⊥
 Performs (Err f) before (Err stop.PoweredOff) after = ⊥
+Performs (Err f) before (Err (stop.Conflict row other)) after = ⊥
 Performs (Err f) before (Err (stop.Fault g)) after =
     (g ≡ f) × IsAfter before.processor before.around after
+
+-- a row is written; or it isn't, where that is a conflict
+abbrev pub WritesRow : Option (ℕ × ℕ) → ℕ → TlbRow → Processor → Result Unit Stop → Processor
+    → Type 0
+WritesRow None i row before result after = (result ≡ Ok tt) × (after ≡ with_row i row before)
+WritesRow (Some conflict) i row before result after =
+    (result ≡ Err (stop.Conflict conflict.0 conflict.1)) × AreTwoRows conflict.0 conflict.1
+    × (after ≡ before)
 
 -- an instruction was executed that changes only the processor
 abbrev pub ExecutesInProcessor : Instr → Processor → Result Unit Fault → Processor → Type 0

@@ -24,7 +24,7 @@ use std::alloc::AllocError;
 use std::fmt::Write;
 
 /// The longest line that a run or an event prints, with its end.
-const LONGEST: usize = 64;
+const LONGEST: usize = 93;
 
 impl<T: Tlb, D: Console> Session<T, D> {
     /// Does a command and appends what it prints; `rest` are the remaining events of a schedule.
@@ -139,7 +139,7 @@ impl<T: Tlb, D: Console> Session<T, D> {
     {
         text.reserve(LONGEST)?;
         let stop = self.go(rest);
-        put_stop_line(text, stop);
+        put_stop_line(text, stop, self.machine.conflict());
         Ok(stop.events_used())
     }
 
@@ -165,7 +165,7 @@ impl<T: Tlb, D: Console> Session<T, D> {
         }
         text.reserve(LONGEST)?;
         let stop = self.go_steps(p, n);
-        put_stop_line(text, stop);
+        put_stop_line(text, stop, self.machine.conflict());
         Ok(0)
     }
 
@@ -197,7 +197,7 @@ impl<T: Tlb, D: Console> Session<T, D> {
         }
         text.reserve(LONGEST)?;
         let stop = self.until(condition, rest);
-        put_stop_line(text, stop);
+        put_stop_line(text, stop, self.machine.conflict());
         Ok(stop.events_used())
     }
 

@@ -33,6 +33,7 @@ fn named_session(alloc: Global) -> Result<Session, Fail> {
         processors: 1,
         log: 100,
         link: LinkUnit::Word,
+        strict: false,
     };
     let machine = Machine::boot(alloc, &file, conf)?;
     let style = Style {

@@ -64,14 +64,21 @@ pub(crate) fn session(
     log: u32,
 ) -> Result<Session, Fail> {
     let file = file_from(alloc, ENTRY, ENTRY, words)?;
-    session_of(alloc, file.as_slice(), 4_096, processors, log)
+    session_of(alloc, file.as_slice(), 4_096, processors, log, false)
+}
+
+/// The same on a strict machine of one processor.
+#[inline(never)]
+pub(crate) fn strict_session(alloc: Global, words: &[u32]) -> Result<Session, Fail> {
+    let file = file_from(alloc, ENTRY, ENTRY, words)?;
+    session_of(alloc, file.as_slice(), 4_096, 1, 100, true)
 }
 
 /// A session of the kernel that moves a page.
 #[inline(never)]
 pub(crate) fn kernel_session(alloc: Global) -> Result<Session, Fail> {
     let file = kernel_file(alloc)?;
-    session_of(alloc, file.as_slice(), 1_048_576, 2, 1_000)
+    session_of(alloc, file.as_slice(), 1_048_576, 2, 1_000, false)
 }
 
 #[inline(never)]
@@ -81,12 +88,14 @@ fn session_of(
     ram: u32,
     processors: u32,
     log: u32,
+    strict: bool,
 ) -> Result<Session, Fail> {
     let conf = Conf {
         ram,
         processors,
         log,
         link: LinkUnit::Word,
+        strict,
     };
     Ok(Session::new(Machine::boot(alloc, file, conf)?))
 }

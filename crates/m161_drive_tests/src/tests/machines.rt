@@ -63,6 +63,7 @@ pub(crate) fn booted(rt: &impl AllocGlobal, kernel: &Kernel) -> Result<Machine, 
         processors: kernel.processors,
         log: 5000,
         link: LinkUnit::Word,
+        strict: false,
     };
     Ok(Machine::boot(rt.alloc(), &file, conf)?)
 }

@@ -180,6 +180,7 @@ fn check_again(rt: &(impl Abort + AllocGlobal), order: Order) -> Result<(), Fail
         processors: 2,
         log: 100_000,
         link: LinkUnit::Word,
+        strict: false,
     };
     let mut driven = Machine::boot(rt.alloc(), &file, conf)?;
     let run = drive(&mut driven, &policy(order)?, 100_000);

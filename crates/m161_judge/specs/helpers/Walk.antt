@@ -1,6 +1,7 @@
 use Rattle.std.specs.Prelude.{◌≡◌, ℕ, ◌≢◌, ◌-◌, ◌<◌, Bool, true, false, List, length, Option, None, Some, Result, Ok, Err}
 use Rattle.m161_cpu.specs.declared.processor.Outcome.{Outcome}
 use Rattle.m161_machine.specs.declared.conf.Conf.{Conf}
+use Rattle.m161_machine.specs.declared.event.Conflict.{Conflict as ConflictOf}
 use Rattle.m161_machine.specs.declared.conf.BootError.{BootError}
 use Rattle.m161_machine.specs.declared.conf.BootError.TheVariants.{NoMemory}
 use Rattle.m161_machine.specs.declared.event.Event.{Event}
@@ -57,6 +58,20 @@ IsJudgedBeside goal s events None =
 IsJudgedBeside goal s events (Some judged) =
     (0 < rank judged.verdict) × Holds goal s events judged.verdict judged.events
     × ((v : Verdict) (n : ℕ) → 0 < rank v → rank v < rank judged.verdict
+    → Holds goal s events v n → ⊥)
+
+-- a conflict that switched the machine off, or none did
+abbrev pub IsConflictOff : State → Option ConflictOf → Type 0
+IsConflictOff t (Some conflict) = (t.board.off ≡ true) × (t.conflict ≡ Some conflict)
+IsConflictOff t None = t.board.off ≡ true → t.conflict ≡ None
+
+-- the first verdict behind Stale and Conflict
+abbrev pub IsJudgedBehind : Criteria → State → List Event → Option Judged → Type 0
+IsJudgedBehind goal s events None =
+    (v : Verdict) (n : ℕ) → 1 < rank v → Holds goal s events v n → ⊥
+IsJudgedBehind goal s events (Some judged) =
+    (1 < rank judged.verdict) × Holds goal s events judged.verdict judged.events
+    × ((v : Verdict) (n : ℕ) → 1 < rank v → rank v < rank judged.verdict
     → Holds goal s events v n → ⊥)
 
 -- the run ends after n events: the machine is off, or there are no more

@@ -51,6 +51,7 @@ pub(crate) const ONE: Conf = Conf {
     processors: 1,
     log: 1000,
     link: LinkUnit::Word,
+    strict: false,
 };
 
 /// The file of a kernel.

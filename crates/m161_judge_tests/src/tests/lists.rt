@@ -134,6 +134,7 @@ fn hasty(alloc: Global, schedule: &str, watches: &[Watch]) -> Result<Option<Judg
         processors: 2,
         log: 1000,
         link: LinkUnit::Word,
+        strict: false,
     };
     let events = read_schedule(alloc, schedule)?.to_vec(alloc)?;
     let goal = Goal {

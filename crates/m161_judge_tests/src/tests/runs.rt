@@ -102,6 +102,7 @@ fn sample(alloc: Global, changes: &[(u32, u32)], order: Order) -> Result<Run, Fa
         processors: 2,
         log: 10_000,
         link: LinkUnit::Word,
+        strict: false,
     };
     let policy = Policy::new(order, 100, Some(1000), &[])?;
     Ok(judge_run::<Tlb, Console>(alloc, &file, conf, &policy, 10_000, &[WATCH], None)?)

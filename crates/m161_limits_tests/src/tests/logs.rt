@@ -11,6 +11,9 @@ const LOG: &str = "m161 log 1\ns 0 ran\ns 0 off\n";
 /// The same of format 2: its first line has five bytes more.
 const LOG_2: &str = "m161 log 2 word\ns 0 ran\ns 0 off\n";
 
+/// The same of format 3: its first line has twelve bytes more.
+const LOG_3: &str = "m161 log 3 word strict\ns 0 ran\ns 0 off\n";
+
 /// How many entries a text has, or its first bad line.
 fn entries(alloc: Global, text: &str) -> Result<usize, Fault> {
     Ok(read_log(alloc, text)?.entries.len())
@@ -31,6 +34,8 @@ fn truncated_log(rt: HostRuntime) {
         same(&rt, (length, found), (length, expected));
         let found = entries(rt.alloc(), LOG_2.get(..length + 5).unwrap_or(""));
         same(&rt, (length, found), (length, expected));
+        let found = entries(rt.alloc(), LOG_3.get(..length + 12).unwrap_or(""));
+        same(&rt, (length, found), (length, expected));
     }
 }
 
@@ -42,12 +47,43 @@ fn lines_of_no_log(rt: HostRuntime) -> Result<(), Fail> {
         "s 0 trap 13 80000080",
         "k 4A taken",
         "s 0 ran\r",
+        "s 0 conflict 64 5",
+        "s 0 conflict 3 64",
+        "s 0 conflict 3 3",
+        "s 0 conflict 03 5",
+        "s 0 conflict 3",
+        "k 41 conflict 3 5",
     ] {
-        for first in ["m161 log 1", "m161 log 2 word", "m161 log 2 line"] {
+        for first in [
+            "m161 log 1",
+            "m161 log 2 word",
+            "m161 log 2 line",
+            "m161 log 3 word strict",
+            "m161 log 3 line strict",
+        ] {
             let text = format!(in rt.alloc(); "{first}\n{line}\n")?;
             let found = entries(rt.alloc(), text.as_str());
             same(&rt, (line, found), (line, Err(Fault::Line(2))));
         }
+    }
+    Ok(())
+}
+
+#[test]
+fn conflict_by_mode(rt: HostRuntime) -> Result<(), Fail> {
+    for (first, expected) in [
+        ("m161 log 1", Err(Fault::Line(2))),
+        ("m161 log 2 word", Err(Fault::Line(2))),
+        ("m161 log 2 line", Err(Fault::Line(2))),
+        ("m161 log 2 word strict", Err(Fault::Line(1))),
+        ("m161 log 3 word", Err(Fault::Line(1))),
+        ("m161 tail 3 word strict 1", Err(Fault::Line(1))),
+        ("m161 log 3 word strict", Ok(1)),
+        ("m161 log 3 line strict", Ok(1)),
+    ] {
+        let text = format!(in rt.alloc(); "{first}\ns 0 conflict 3 5\n")?;
+        let found = entries(rt.alloc(), text.as_str());
+        same(&rt, (first, found), (first, expected));
     }
     Ok(())
 }

@@ -3,13 +3,19 @@ use Rattle.m161_cop0.specs.declared.exception.Exception.{Exception}
 use Rattle.m161_cop0.specs.declared.exception.Exception.TheVariants.{Interrupt}
 use Rattle.m161_cop0.specs.Registers.{exception_with, number_of_exception}
 use Rattle.m161_cpu.specs.declared.processor.Outcome.{Outcome}
-use Rattle.m161_cpu.specs.declared.processor.Outcome.TheVariants.{Ran, Trapped, Idle, PoweredOff, Taken}
+use Rattle.m161_cpu.specs.declared.processor.Outcome.TheVariants.{Ran, Trapped, Idle, PoweredOff, Conflict, Taken}
 use Rattle.m161_machine.specs.declared.event.Event.{Event}
 use Rattle.m161_machine.specs.declared.event.Event.TheVariants.{Step, Key, Done}
 use Rattle.m161_machine.specs.declared.event.Entry.{Entry}
 
--- The word in which the machine stores an entry: a processor or a byte, and a code below 64 for the
--- kind of event and its outcome.
+-- The word in which the machine stores an entry. Of a Step:
+--
+-- bits 5..0      the code of its outcome, below 62
+-- bits 10..6     the processor
+-- bits 16..11    of a conflict, the other row
+-- bits 22..17    of a conflict, the row that was to be written
+--
+-- Of another event: 62 or 63, and the byte.
 
 -- the four vectors of traps
 abbrev pub vector_with : ℕ → ℕ
@@ -21,16 +27,20 @@ abbrev pub or_interrupt : Option Exception → Exception
 or_interrupt (Some exception) = exception
 or_interrupt None = Interrupt
 
-abbrev pub outcome_with : ℕ → Outcome
-outcome_with place =
-    if place == 0 then Ran else if place == 1 then Idle else if place == 2 then PoweredOff
-    else Trapped (or_interrupt (exception_with ((place - 4) / 4))) (vector_with ((place - 4) % 4))
+abbrev pub outcome_with : ℕ → ℕ → Outcome
+outcome_with code rows =
+    if code == 0 then Ran else if code == 1 then Idle else if code == 2 then PoweredOff
+    else if code == 3 then Conflict (rows / 64) (rows % 64)
+    else Trapped (or_interrupt (exception_with ((code - 4) / 4))) (vector_with ((code - 4) % 4))
 
 abbrev pub entry_in_word : ℕ → Entry
 entry_in_word word =
     if word % 64 == 62 then record { event = Key (word / 64); outcome = Taken }
     else if word % 64 == 63 then record { event = Done; outcome = Taken }
-    else record { event = Step (word / 64); outcome = outcome_with (word % 64) }
+    else record {
+      event = Step (word / 64 % 32);
+      outcome = outcome_with (word % 64) (word / 2048);
+    }
 
 -- the same the other way round
 
@@ -43,6 +53,7 @@ abbrev pub place_of : Outcome → ℕ
 place_of Ran = 0
 place_of Idle = 1
 place_of PoweredOff = 2
+place_of (Conflict row other) = (row * 64 + other) * 2048 + 3
 place_of (Trapped code vector) = 4 + number_of_exception code * 4 + number_of_vector vector
 place_of Taken = 0
 

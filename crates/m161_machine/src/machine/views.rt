@@ -10,7 +10,7 @@ ghost use Rattle.m161_machine.specs.Resting.{IdleIsRest, rests, ticks};
 ghost use Rattle.m161_machine.specs.Uses.{uses_in};
 
 use crate::conf::Conf;
-use crate::event::Entry;
+use crate::event::{Conflict, Entry};
 use crate::machine::Machine;
 use crate::start::Start;
 use crate::state::Core;
@@ -267,6 +267,14 @@ impl<T: Tlb, D: Console> Machine<T, D> {
         ensures { result ≡ length self.now.state.processors }
     {
         self.conf.processors
+    }
+
+    /// What switched a strict machine off: the processor, the row that it was to write, and the
+    /// lowest other row that this would have overlapped.
+    pub fn conflict(&self) -> Option<Conflict>
+        ensures { result ≡ self.now.state.conflict }
+    {
+        self.present.conflict()
     }
 
     /// Whether it was switched off.

@@ -10,6 +10,7 @@ ghost use Rattle.m161_machine.specs.Resting.{IdleIsRest, rests, ticks};
 ghost use Rattle.m161_machine.specs.Uses.{uses_in};
 
 use crate::conf::Conf;
+use crate::event::Conflict;
 use crate::state::Core;
 use m161_bus::{BoardWord, Console};
 use m161_cop0::Register;
@@ -226,6 +227,14 @@ impl<T: Tlb, D: Console> Core<T, D> {
         ensures { result ≡ length self.now.state.processors }
     {
         self.board.processors()
+    }
+
+    /// What switched a strict machine off: the processor, the row that it was to write, and the
+    /// lowest other row that this would have overlapped.
+    pub fn conflict(&self) -> Option<Conflict>
+        ensures { result ≡ self.now.state.conflict }
+    {
+        self.conflict
     }
 
     /// Whether it was switched off.

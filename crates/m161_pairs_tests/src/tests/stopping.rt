@@ -36,6 +36,7 @@ fn breakpoints_over<T: Tlb, D: Console>(rt: &(impl Abort + AllocGlobal)) -> Resu
         processors: 2,
         log: 16,
         link: LinkUnit::Word,
+        strict: false,
     };
     let machine: Machine<T, D> = Machine::boot(rt.alloc(), &file, conf)?;
     let mut session = Session::new(machine);

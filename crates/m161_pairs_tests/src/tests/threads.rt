@@ -42,6 +42,7 @@ fn boot<T: Tlb, D: Console>(alloc: Global) -> Result<(Vec<u8>, Machine<T, D>), F
         processors: 2,
         log: 200,
         link: LinkUnit::Word,
+        strict: false,
     };
     let machine = Machine::boot(alloc, &file, conf)?;
     Ok((file, machine))

@@ -37,7 +37,7 @@ fn step(
     assert!(rt; cpu.count() < 100);
     assert!(rt; board.processors() == 1);
     assert!(rt; ram.size() == 4096);
-    cpu.step(0, ram, board, links)
+    cpu.step(0, ram, board, links, false)
 }
 
 #[test]

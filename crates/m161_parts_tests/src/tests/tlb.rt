@@ -23,6 +23,11 @@ fn row(page: u32, id: u8, g: bool) -> Row
     }
 }
 
+// A row, with V or without.
+fn with_v(row: Row, v: bool) -> Row {
+    Row { v, ..row }
+}
+
 // The row that is found is the least of those that match.
 fn least_row<T: Tlb>(rt: &impl Abort) {
     let mut tlb = T::empty();
@@ -67,11 +72,42 @@ fn second_of_two_rows<T: Tlb>(rt: &impl Abort) {
     same(rt, tlb.read(5), row(0x00401, 5, false));
 }
 
+// A row of page 00401.
+fn of_page(id: u8, g: bool, v: bool) -> Row {
+    with_v(row(0x00401, id, g), v)
+}
+
+// The row that is found is the least other one that overlaps, whether the rows have V (`v`) or not,
+// and whether the one given has (`w`).
+fn overlap<T: Tlb>(rt: &impl Abort, v: bool, w: bool) {
+    let mut tlb = T::empty();
+    tlb.write(5, of_page(5, false, v));
+    tlb.write(7, of_page(6, false, v));
+    same(rt, tlb.overlap(3, of_page(0, true, w)), Some(5));
+    same(rt, tlb.overlap(5, of_page(0, true, w)), Some(7));
+    same(rt, tlb.overlap(3, of_page(6, false, w)), Some(7));
+    same(rt, tlb.overlap(7, of_page(6, false, w)), None);
+    same(rt, tlb.overlap(3, of_page(9, false, w)), None);
+    tlb.write(2, of_page(0, true, v));
+    same(rt, tlb.overlap(3, of_page(6, false, w)), Some(2));
+    same(rt, tlb.overlap(2, of_page(6, false, w)), Some(7));
+    same(rt, tlb.overlap(3, of_page(9, false, w)), Some(2));
+}
+
+// The same with V and without, in the rows and in the one given.
+fn overlap_with_and_without_v<T: Tlb>(rt: &impl Abort) {
+    overlap::<T>(rt, true, true);
+    overlap::<T>(rt, true, false);
+    overlap::<T>(rt, false, true);
+    overlap::<T>(rt, false, false);
+}
+
 #[test]
 fn rows_found_by_scan(rt: HostRuntime) {
     least_row::<Scan>(&rt);
     global_rows::<Scan>(&rt);
     second_of_two_rows::<Scan>(&rt);
+    overlap_with_and_without_v::<Scan>(&rt);
 }
 
 #[test]
@@ -79,4 +115,5 @@ fn rows_found_by_hash(rt: HostRuntime) {
     least_row::<Index>(&rt);
     global_rows::<Index>(&rt);
     second_of_two_rows::<Index>(&rt);
+    overlap_with_and_without_v::<Index>(&rt);
 }

@@ -5,13 +5,13 @@ use Rattle.m161_text.specs.Lines.{lines_of}
 use Rattle.m161_steplog.specs.declared.fault.Fault.{Fault}
 use Rattle.m161_steplog.specs.declared.fault.Fault.TheVariants as faults
 use Rattle.m161_steplog.specs.declared.mode.Mode.{Mode}
-use Rattle.m161_steplog.specs.Text.{entry_text, IsProper}
-use Rattle.m161_steplog.specs.Log.{log_lines, IsHeader}
+use Rattle.m161_steplog.specs.Text.{entry_text}
+use Rattle.m161_steplog.specs.Log.{log_lines, IsEntryOf, IsHeader}
 
--- How the code sees an entry: no other entry has its line.
-pub record IsDistinct (e : Entry) : Type 0 where
-  pub proper : IsProper e
-  pub alone : (x : Entry) → IsProper x → entry_text e ≡ entry_text x → e ≡ x
+-- How the code sees an entry of a log of this mode: no other entry has its line.
+pub record IsDistinct (mode : Mode) (e : Entry) : Type 0 where
+  pub fits : IsEntryOf mode e
+  pub alone : (x : Entry) → IsEntryOf mode x → entry_text e ≡ entry_text x → e ≡ x
 
 -- a first line is read: the result is its mode, or it has none
 pub record ReadsHeader (line : List ℕ) (result : Option Mode) : Type 0 where
@@ -24,7 +24,7 @@ pub record ReadsLines (text : List ℕ) (mode : Mode) (es : List Entry) (left : 
     : Type 0 where
   pub header : List ℕ
   pub first : IsHeader mode header
-  pub each : AllByRecursion IsDistinct es
+  pub each : AllByRecursion (IsDistinct mode) es
   pub lines : lines_of text ≡ log_lines header es ++ left
 
 -- a fault of a text behind so many lines, as one of the whole text

@@ -19,6 +19,7 @@ const CONF: Conf = Conf {
     processors: 2,
     log: 65_536,
     link: LinkUnit::Word,
+    strict: false,
 };
 
 /// The kernel's watch.

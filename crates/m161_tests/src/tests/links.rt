@@ -134,6 +134,7 @@ fn line_replay(rt: HostRuntime) -> Result<(), Fail> {
             processors: 1,
             log: 16,
             link,
+            strict: false,
         };
         let mut machine = Machine::boot(alloc, &file, conf)?;
         for k in 0..6 {

@@ -235,6 +235,7 @@ fn boot_run<T: Tlb, D: Console>(
         processors: run.processors,
         log: 1000,
         link,
+        strict: false,
     };
     Ok(Machine::boot(alloc, file, conf)?)
 }

@@ -66,6 +66,7 @@ fn library_lines(rt: HostRuntime) -> Result<(), Fail> {
         processors: 2,
         log: 65_536,
         link: LinkUnit::Word,
+        strict: false,
     };
     let mut machine: Machine = Machine::boot(rt.alloc(), &file, conf)?;
     let (made, refusal) = machine.steps(0, 1000);
@@ -148,6 +149,7 @@ fn largest_sizes(rt: HostRuntime) -> Result<(), Fail> {
         processors: 1,
         log: 16_777_216,
         link: LinkUnit::Word,
+        strict: false,
     };
     let mut machine = Machine::boot(rt.alloc(), &IMAGE, conf)?;
     same(&rt, machine.steps(0, 7), (7, None));
@@ -193,6 +195,7 @@ fn configuration(rt: HostRuntime) -> Result<(), Fail> {
             processors,
             log,
             link: LinkUnit::Word,
+            strict: false,
         };
         let found = boot_error(rt.alloc(), length, conf);
         same(&rt, (conf, length, found), (conf, length, error));
@@ -221,6 +224,7 @@ fn off_machine(rt: HostRuntime) -> Result<(), Fail> {
         processors: 2,
         log: 2,
         link: LinkUnit::Word,
+        strict: false,
     };
     let mut machine = Machine::boot(rt.alloc(), &file, conf)?;
     for (event, answer, entries) in [

@@ -36,6 +36,7 @@ fn shootdown_over<T: Tlb, D: Console>(
         processors: 2,
         log: 1000,
         link,
+        strict: false,
     };
     let mut machine: Machine<T, D> = Machine::boot(rt.alloc(), &file, conf)?;
     make(rt, "shootdown", &mut machine, &SCHEDULE)?;

@@ -30,7 +30,14 @@ fn log_text(rt: HostRuntime) -> Result<(), Fail> {
         (LinkUnit::Word, "m161 log 2 word\ns 0 ran\ns 0 off\n"),
         (LinkUnit::Line, "m161 log 2 line\ns 0 ran\ns 0 off\n"),
     ] {
-        let text = write_log(alloc, Mode { link }, &[RAN, OFF])?;
+        let text = write_log(
+            alloc,
+            Mode {
+                link,
+                strict: false,
+            },
+            &[RAN, OFF],
+        )?;
         same(&rt, text.as_str(), expected);
         check_read(&rt, alloc, expected, link, &[RAN, OFF])?;
     }
@@ -56,7 +63,17 @@ fn check_read(
     entries: &[Entry],
 ) -> Result<(), Fault> {
     let log = read_log(alloc, text)?;
-    same(rt, (text, log.mode), (text, Mode { link }));
+    same(
+        rt,
+        (text, log.mode),
+        (
+            text,
+            Mode {
+                link,
+                strict: false,
+            },
+        ),
+    );
     same(rt, (text, log.entries.as_slice()), (text, entries));
     Ok(())
 }
@@ -84,7 +101,6 @@ fn first_lines(rt: HostRuntime) -> Result<(), Fail> {
         ("m161 log 2 word ", 1),
         ("m161 log 2 words", 1),
         ("m161 log 2 word line", 1),
-        ("m161 log 3 word strict", 1),
         ("m161 tail 1 1", 1),
         ("#\nm161 tail 2 word 1\ns 0 off\n", 2),
         ("m161 log 2 word\nm161 log 2 word\n", 2),
@@ -107,7 +123,15 @@ fn tails(rt: HostRuntime) -> Result<(), Fail> {
             "m161 tail 2 line 9223372036854775807\ns 0 off\n",
         ),
     ] {
-        let text = write_tail(alloc, Mode { link }, dropped, &[OFF])?;
+        let text = write_tail(
+            alloc,
+            Mode {
+                link,
+                strict: false,
+            },
+            dropped,
+            &[OFF],
+        )?;
         same(&rt, text.as_str(), expected);
         let found = read_log(alloc, text.as_str()).err();
         same(&rt, found, Some(Fault::Line(1)));
@@ -230,6 +254,7 @@ fn verify_of_logs(rt: HostRuntime) -> Result<(), Fail> {
         processors: 1,
         log: 16,
         link: LinkUnit::Word,
+        strict: false,
     };
     let logs: [(&[Entry], Verdict); 3] = [
         (&[RAN, OFF], Verdict::Agrees),

@@ -48,6 +48,7 @@ pub(crate) fn boot(
         processors,
         log,
         link: LinkUnit::Word,
+        strict: false,
     };
     let machine = Machine::boot(alloc, &file, conf)?;
     Ok((file, machine))
@@ -251,6 +252,7 @@ fn sample_in_threads(rt: HostRuntime) -> Result<(), Fail> {
         processors: 2,
         log: 65_536,
         link: LinkUnit::Word,
+        strict: false,
     };
     let mut machine = Machine::boot(rt.alloc(), &file, conf)?;
     make(&rt, name, &mut machine, &FIRST_STEPS);

@@ -98,6 +98,7 @@ fn dropped_entry(rt: HostRuntime) -> Result<(), Fail> {
         processors: 1,
         log: 1,
         link: LinkUnit::Word,
+        strict: false,
     };
     let mut machine = Machine::boot(rt.alloc(), &file, conf)?;
     same(&rt, machine.step(0), Ok(Outcome::Ran));
@@ -112,15 +113,15 @@ fn dropped_entry(rt: HostRuntime) -> Result<(), Fail> {
     assert!(&rt; base.processors() > 0);
     same(&rt, (base.pc(0), base.count(0)), (0x8000_0204, 1));
     check_base(&rt, &machine)?;
+    // So that the proof knows that only a strict machine's log has conflicts.
+    machine.replay();
+    let conf = machine.conf();
     let mode = Mode {
-        link: LinkUnit::Word,
+        link: conf.link,
+        strict: conf.strict,
     };
-    let tail = write_tail(
-        rt.alloc(),
-        mode,
-        base.made(),
-        &machine.copy_log(rt.alloc())?,
-    )?;
+    let log = machine.copy_log(rt.alloc())?;
+    let tail = write_tail(rt.alloc(), mode, base.made(), &log)?;
     same(&rt, tail.as_str(), "m161 tail 2 word 1\ns 0 off\n");
     same(
         &rt,
@@ -147,6 +148,7 @@ pub(crate) fn sent_and_dropped(rt: &(impl Abort + AllocGlobal)) -> Result<Machin
         processors: 1,
         log: 2,
         link: LinkUnit::Word,
+        strict: false,
     };
     let mut machine = Machine::boot(rt.alloc(), &file, conf)?;
     same(rt, machine.done(), Err(Refusal::NothingSent));
@@ -175,6 +177,7 @@ fn windows_of(rt: &(impl Abort + AllocGlobal), file: &[u8], log: u32) -> Result<
         processors: 2,
         log,
         link: LinkUnit::Word,
+        strict: false,
     };
     let mut machine = Machine::boot(rt.alloc(), file, conf)?;
     let mut made = 0u64;
@@ -223,6 +226,7 @@ fn link_across_a_drop(rt: HostRuntime) -> Result<(), Fail> {
         processors: 1,
         log: 1,
         link: LinkUnit::Word,
+        strict: false,
     };
     let mut machine = Machine::boot(rt.alloc(), &file, conf)?;
     for _ in 0..5 {
@@ -265,6 +269,7 @@ fn long_run(rt: HostRuntime) -> Result<(), Fail> {
         processors: 1,
         log: 65_536,
         link: LinkUnit::Word,
+        strict: false,
     };
     let mut machine = Machine::boot(rt.alloc(), &file, conf)?;
     for round in 1..16_668u32 {

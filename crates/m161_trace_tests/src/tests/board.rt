@@ -25,6 +25,7 @@ static BOARD: Run = Run {
         0xad60_0208, // sw $0, 520($11)
     ],
     processors: 1,
+    strict: false,
     events: &[
         (Step(0), 3),
         (Done, 1),
@@ -64,6 +65,7 @@ static LINK: Run = Run {
         0xe109_0400, // sc $9, 1024($8)
     ],
     processors: 1,
+    strict: false,
     events: &[(Step(0), 4)],
 };
 
@@ -89,6 +91,7 @@ static START: Run = Run {
         0xc10b_0620, // ll $11, 1568($8)
     ],
     processors: 2,
+    strict: false,
     events: &[(Step(1), 1), (Step(0), 7), (Step(1), 2), (Step(0), 1)],
 };
 

@@ -54,6 +54,7 @@ static REGISTERS: Run = Run {
         0xffff_ffff,
     ],
     processors: 1,
+    strict: false,
     events: &[(Step(0), 5)],
 };
 
@@ -73,6 +74,7 @@ static USER: Run = Run {
         0, // nop
     ],
     processors: 1,
+    strict: false,
     events: &[(Step(0), 3)],
 };
 
@@ -94,6 +96,7 @@ static WAITING: Run = Run {
         0x8d0b_0000, // lw $11, 0($8)
     ],
     processors: 1,
+    strict: false,
     events: &[(Step(0), 7), (Key(0x41), 1), (Step(0), 1)],
 };
 
@@ -109,9 +112,58 @@ const OF_WAITING: &str = "\
 8 0 80000218 8d0b0000 lw $11, 0($8)  state=running r11=00000041 cause=00000000 waiting=0 rirq=00000001
 ";
 
+/// Writes row 5, and then a row 3 that it would overlap.
+static CONFLICT: Run = Run {
+    words: &[
+        0x3408_0500, // ori $8, $0, 0x0500
+        0x4088_0000, // mtc0 $8, $0
+        0x3c09_0040, // lui $9, 0x0040
+        0x3529_1140, // ori $9, $9, 0x1140
+        0x4089_5000, // mtc0 $9, $10
+        0x4080_1000, // mtc0 $0, $2
+        0x4200_0002, // tlbwi
+        0x3408_0300, // ori $8, $0, 0x0300
+        0x4088_0000, // mtc0 $8, $0
+        0x3c09_0040, // lui $9, 0x0040
+        0x3529_1240, // ori $9, $9, 0x1240
+        0x4089_5000, // mtc0 $9, $10
+        0x340a_0100, // ori $10, $0, 0x0100
+        0x408a_1000, // mtc0 $10, $2
+        0x4200_0002, // tlbwi
+    ],
+    processors: 1,
+    strict: true,
+    events: &[(Step(0), 15)],
+};
+
+const OF_CONFLICT: &str = "\
+0 0 80000200 34080500 ori $8, $0, 0x0500  r8=00000500
+1 0 80000204 40880000 mtc0 $8, $0  index=00000500
+2 0 80000208 3c090040 lui $9, 0x0040  r9=00400000
+3 0 8000020c 35291140 ori $9, $9, 0x1140  r9=00401140
+4 0 80000210 40895000 mtc0 $9, $10  entryhi=00401140
+5 0 80000214 40801000 mtc0 $0, $2
+6 0 80000218 42000002 tlbwi  tlb 5=00401140 00000000
+7 0 8000021c 34080300 ori $8, $0, 0x0300  r8=00000300
+8 0 80000220 40880000 mtc0 $8, $0  index=00000300
+9 0 80000224 3c090040 lui $9, 0x0040  r9=00400000
+10 0 80000228 35291240 ori $9, $9, 0x1240  r9=00401240
+11 0 8000022c 40895000 mtc0 $9, $10  entryhi=00401240
+12 0 80000230 340a0100 ori $10, $0, 0x0100  r10=00000100
+13 0 80000234 408a1000 mtc0 $10, $2  entrylo=00000100
+14 0 80000238 42000002 tlbwi  conflict 3 5
+";
+
 #[test]
 fn trace_demo(rt: HostRuntime) -> Result<(), Fail> {
-    let text = traced(&rt, &IMAGE, 1, &[(Step(0), 7)], &Style::plain(rt.alloc()))?;
+    let text = traced(
+        &rt,
+        &IMAGE,
+        1,
+        false,
+        &[(Step(0), 7)],
+        &Style::plain(rt.alloc()),
+    )?;
     same(&rt, text.as_str(), DEMO);
     Ok(())
 }
@@ -122,7 +174,7 @@ fn trace_demo_by_names(rt: HostRuntime) -> Result<(), Fail> {
         registers: Naming::Names,
         symbols: Symbols::none(rt.alloc()),
     };
-    let text = traced(&rt, &IMAGE, 1, &[(Step(0), 7)], &style)?;
+    let text = traced(&rt, &IMAGE, 1, false, &[(Step(0), 7)], &style)?;
     same(&rt, text.as_str(), NAMED);
     Ok(())
 }
@@ -135,7 +187,7 @@ fn trace_with_symbols(rt: HostRuntime) -> Result<(), Fail> {
         registers: Naming::Numbers,
         symbols: Symbols::new(rt.alloc(), &file)?,
     };
-    let text = traced(&rt, &file, 1, &[(Step(0), 4)], &style)?;
+    let text = traced(&rt, &file, 1, false, &[(Step(0), 4)], &style)?;
     same(&rt, text.as_str(), LABELLED);
     Ok(())
 }
@@ -158,5 +210,12 @@ fn trace_fetch_in_user_mode(rt: HostRuntime) -> Result<(), Fail> {
 fn trace_wait(rt: HostRuntime) -> Result<(), Fail> {
     let text = lines_of(&rt, &WAITING)?;
     same(&rt, text.as_str(), OF_WAITING);
+    Ok(())
+}
+
+#[test]
+fn trace_conflict(rt: HostRuntime) -> Result<(), Fail> {
+    let text = lines_of(&rt, &CONFLICT)?;
+    same(&rt, text.as_str(), OF_CONFLICT);
     Ok(())
 }

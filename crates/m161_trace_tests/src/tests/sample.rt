@@ -82,7 +82,14 @@ fn trace_sample(rt: HostRuntime) -> Result<(), Fail> {
         (Step(1), 23),
         (Step(0), 4),
     ];
-    let text = traced(&rt, file.as_slice(), 2, &events, &Style::plain(rt.alloc()))?;
+    let text = traced(
+        &rt,
+        file.as_slice(),
+        2,
+        false,
+        &events,
+        &Style::plain(rt.alloc()),
+    )?;
     same(&rt, text.as_str(), LINES);
     Ok(())
 }

@@ -15,18 +15,25 @@ pub(crate) struct Run {
     /// The words from 80000200 on.
     pub words: &'static [u32],
     pub processors: u32,
+    pub strict: bool,
     /// Events, and how often each is made.
     pub events: &'static [(Event, u32)],
 }
 
-/// A machine of this size with a file, and its tracer.
+/// A machine of this size with a file, strict or not.
 #[inline(never)]
-pub(crate) fn booted(rt: &impl AllocGlobal, file: &[u8], processors: u32) -> Result<Machine, Fail> {
+pub(crate) fn booted(
+    rt: &impl AllocGlobal,
+    file: &[u8],
+    processors: u32,
+    strict: bool,
+) -> Result<Machine, Fail> {
     let conf = Conf {
         ram: 1_048_576,
         processors,
         log: 1_000,
         link: LinkUnit::Word,
+        strict,
     };
     let machine = Machine::boot(rt.alloc(), file, conf)?;
     Ok(machine)
@@ -102,10 +109,11 @@ pub(crate) fn traced(
     rt: &impl AllocGlobal,
     file: &[u8],
     processors: u32,
+    strict: bool,
     events: &[(Event, u32)],
     style: &Style,
 ) -> Result<String, Fail> {
-    let mut machine = booted(rt, file, processors)?;
+    let mut machine = booted(rt, file, processors, strict)?;
     let mut tracer = tracer_of(rt, &machine)?;
     let mut text = String::new(rt.alloc());
     for (event, times) in events {
@@ -118,5 +126,12 @@ pub(crate) fn traced(
 pub(crate) fn lines_of(rt: &impl AllocGlobal, run: &Run) -> Result<String, Fail> {
     let file = file_from(rt.alloc(), ENTRY, ENTRY, run.words)?;
     let style = Style::plain(rt.alloc());
-    traced(rt, file.as_slice(), run.processors, run.events, &style)
+    traced(
+        rt,
+        file.as_slice(),
+        run.processors,
+        run.strict,
+        run.events,
+        &style,
+    )
 }

@@ -92,7 +92,7 @@ pub record TakesTurn (rules : Rules) (p : Place) (stop : Option Stop) (q : Place
 abbrev pub IsOff : Place → Option Stop → Place → Type 0
 IsOff p stop q =
     (p.machine.state.board.off ≡ true) × (stop ≡ Some Off)
-    × (q.left ≡ p.left) × (q.output ≡ p.output)
+    × (q.left ≡ p.left) × (q.output ≡ p.output) × (q.machine ≡ p.machine)
 
 -- the input fails, and nothing else is changed
 abbrev pub FailsToRead : Rules → Place → Fault → Place → Type 0

@@ -392,6 +392,7 @@ fn session_of(
         processors,
         log,
         link: LinkUnit::Word,
+        strict: false,
     };
     Ok(Session::new(Machine::boot(alloc, &file, conf)?))
 }

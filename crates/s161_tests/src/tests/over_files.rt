@@ -230,7 +230,7 @@ static REPLAY_FAULTS: [Case; 10] = [
         input: "",
         status: 1,
         output: &[],
-        errors: "s161: log line 1 (after m161 log 2 word, m161 log 2 line or m161 log 1 a line is s P ran, s P trap CODE VECTOR, s P idle, s P off, k HH taken or o taken)\n",
+        errors: "s161: log line 1 (after m161 log 2 word, m161 log 2 line or m161 log 1 a line is s P ran, s P trap CODE VECTOR, s P idle, s P off, k HH taken or o taken; after m161 log 3 word strict or m161 log 3 line strict also s P conflict I J)\n",
     },
     // the end of a log
     Case {
@@ -240,7 +240,7 @@ static REPLAY_FAULTS: [Case; 10] = [
         input: "",
         status: 1,
         output: &[],
-        errors: "s161: log line 1 (after m161 log 2 word, m161 log 2 line or m161 log 1 a line is s P ran, s P trap CODE VECTOR, s P idle, s P off, k HH taken or o taken)\n",
+        errors: "s161: log line 1 (after m161 log 2 word, m161 log 2 line or m161 log 1 a line is s P ran, s P trap CODE VECTOR, s P idle, s P off, k HH taken or o taken; after m161 log 3 word strict or m161 log 3 line strict also s P conflict I J)\n",
     },
     // a log's fault comes before the machine's
     Case {
@@ -250,7 +250,7 @@ static REPLAY_FAULTS: [Case; 10] = [
         input: "",
         status: 1,
         output: &[],
-        errors: "s161: log line 3 (after m161 log 2 word, m161 log 2 line or m161 log 1 a line is s P ran, s P trap CODE VECTOR, s P idle, s P off, k HH taken or o taken)\n",
+        errors: "s161: log line 3 (after m161 log 2 word, m161 log 2 line or m161 log 1 a line is s P ran, s P trap CODE VECTOR, s P idle, s P off, k HH taken or o taken; after m161 log 3 word strict or m161 log 3 line strict also s P conflict I J)\n",
     },
     Case {
         words: &["s161", "replay", "image", "text", "--ram", "4097"],

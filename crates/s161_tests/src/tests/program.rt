@@ -54,7 +54,8 @@ Exit status:
      console
   2  a rejected command line
   3  the schedule, the events or the Steps of the threads ended
-  4  a log that differs, a stale use, or a run that goes wrong in search
+  4  a log that differs, a stale use, a run that goes wrong in search, or a
+     strict machine that a conflict switched off
   5  no processor can go on, and no byte or key is left
 ";
 
@@ -241,7 +242,7 @@ fn fault_texts(rt: HostRuntime) -> Result<(), Fail> {
         ),
         (
             Fault::Log(3),
-            "s161: log line 3 (after m161 log 2 word, m161 log 2 line or m161 log 1 a line is s P ran, s P trap CODE VECTOR, s P idle, s P off, k HH taken or o taken)",
+            "s161: log line 3 (after m161 log 2 word, m161 log 2 line or m161 log 1 a line is s P ran, s P trap CODE VECTOR, s P idle, s P off, k HH taken or o taken; after m161 log 3 word strict or m161 log 3 line strict also s P conflict I J)",
         ),
         (Fault::Conf, CONF_LINE),
         (

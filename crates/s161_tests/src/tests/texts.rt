@@ -130,6 +130,7 @@ fn sample_machine(alloc: Global, schedule: &str) -> Result<Option<(Machine, Stop
         processors: 2,
         log: 100,
         link: LinkUnit::Word,
+        strict: false,
     };
     let Ok(file) = sample_image(alloc) else {
         return Ok(None);

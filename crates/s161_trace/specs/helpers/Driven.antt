@@ -72,4 +72,4 @@ pub record DrivesAll
   pub driven : Driven
   pub drives : Drives rules most m driven n
   pub events_are : events ≡ drives.events
-  pub stop_is : stop ≡ stop_of driven
+  pub stop_is : stop ≡ stop_of driven n

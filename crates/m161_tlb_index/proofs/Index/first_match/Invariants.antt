@@ -1,9 +1,10 @@
 use Rattle.std.proofs.Common.{◌-◌}
-use Rattle.m161_tlb_index.specs.helpers.Search.{Reaches}
+use Rattle.m161_tlb_index.specs.Chains.{home}
+use Rattle.m161_tlb_index.specs.helpers.Search.{is_match, Reaches}
 use Rattle.m161_tlb_index.proofs.Index.first_match.Given as goal
 
 abbrev pub invariant-loop-at : goal.invariant-loop-at
-invariant-loop-at l = Reaches l.self l.bucket l.page l.id l.at
+invariant-loop-at l = Reaches (home l.self) l.bucket (is_match l.self l.page l.id) l.at
 
 abbrev pub decreases-loop-at : goal.decreases-loop-at
 decreases-loop-at l = 64 - l.at

@@ -15,3 +15,6 @@ returns-in-Idle c = rw c.in-Idle.is (one_ok _ _ _ _ c.push_idle.ensures)
 
 pub returns-in-PoweredOff : goal.returns-in-PoweredOff
 returns-in-PoweredOff c = rw c.in-PoweredOff.is (one_ok _ _ _ _ c.push_off.ensures)
+
+pub returns-in-Conflict : goal.returns-in-Conflict
+returns-in-Conflict c = rw c.in-Conflict.is (one_ok _ _ _ _ c.push_conflict.ensures)

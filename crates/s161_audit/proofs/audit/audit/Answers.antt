@@ -1,6 +1,8 @@
-use Rattle.std.proofs.Common.{◌≡◌, List, ℕ, Option, IfSome, rules, subst, sym}
+use Rattle.std.proofs.Common.{◌≡◌, List, ℕ, Ok, Err, Option, IfSome, rules, subst, sym}
 use Rattle.m161_audit.specs.declared.watch.Watch.{Watch as Watched}
+use Rattle.m161_audit.specs.Audit.{Audits}
 use Rattle.m161_audit.specs.WatchText.{AreWatches}
+use Rattle.m161_machine.specs.History.{boot_fault}
 use Rattle.m161_text.specs.Lines.{lines_of}
 use Rattle.s161_audit.proofs.Failing.{audit_failed, watches_failed}
 use Rattle.s161_base.proofs.Failing.{schedule_failed}
@@ -40,7 +42,8 @@ returns-clause-ok g c =
       events = c.in_ok-events.events;
       is_schedule = c.in_ok-events.ensures.found;
       finding = c.in-Ok.finding;
-      audits = c.in-Ok.ensures;
+      audits = subst (λ conf. Audits c.deref.result.now conf (boot_fault c.deref.result.now conf) c.in_ok-events.events c.deref-2.result.now (Ok c.in-Ok.finding))
+          c.conf_of-conf.ensures c.in-Ok.ensures;
       text_is = search rules;
       status_is = c.status.ensures;
     }
@@ -97,11 +100,12 @@ returns-in-Err-clause-fault g c =
     let watched = c.deref-2.result.now in
     let are_watches = subst S (sym c.deref-2.ensures.value) c.in_ok-watches.ensures.found in
     let watches : HasWatches text = (c.as_str.result.now, is_watches, (utf8_watches, (watched, are_watches, tt))) in
+    let answer = subst (λ conf. Audits c.deref.result.now conf (boot_fault c.deref.result.now conf) c.in_ok-events.events watched (Err c.in-Err.error)) c.conf_of-conf.ensures c.in-Err.ensures in
     let failed = audit_failed (IsAuditFault c.args.task image text input) image (conf_of c.args.task.size) c.deref.result.now c.in_ok-events.events watched c.in-Err.error
     (subst P (sym c.deref.ensures.value) c.in_ok-file.ensures.whole)
     (λ outside. (watches, schedule, outside))
     (λ e has. (watches, schedule, has))
     tt
     (λ k has bad. ((c.as_str.result.now, is_watches, (utf8_watches, (watched, are_watches, bad))), schedule, has))
-    c.in-Err.ensures in
+    answer in
     subst (IsAuditFault c.args.task image text input) (sym c.fault_of_audit.ensures) failed

@@ -17,7 +17,8 @@ returns-clause-shape c =
     let two_local = local_more c.in_ok-debug.ensures one_local c.optional_file.ensures.local in
     let three = c.in_ok-with_asked_size.ensures.shape two_local ∙ ap (with_asked_size_rules _) two in
     let four = c.in_ok-arg-2.ensures.shape c.asked_link_option.ensures.local ∙ ap₂ with_rule three c.asked_link_option.ensures.rule in
-    IfOk-weaker c.arg-4.result _ _ (λ command h. h.shape c.flag_option.ensures.local ∙ ap₂ with_rule four c.flag_option.ensures.rule) c.arg-4.ensures
+    let five = c.in_ok-arg-3.ensures.shape c.flag_option.ensures.local ∙ ap₂ with_rule four c.flag_option.ensures.rule in
+    IfOk-weaker c.arg-5.result _ _ (λ command h. h.shape c.flag_option-2.ensures.local ∙ ap₂ with_rule five c.flag_option-2.ensures.rule) c.arg-5.ensures
 
 pub returns-clause-local : goal.returns-clause-local
 returns-clause-local c =
@@ -26,4 +27,5 @@ returns-clause-local c =
     let two = local_more c.in_ok-debug.ensures one c.optional_file.ensures.local in
     let three = c.in_ok-with_asked_size.ensures.local two in
     let four = local_more c.in_ok-arg-2.ensures three c.asked_link_option.ensures.local in
-    IfOk-weaker c.arg-4.result _ _ (λ command h. local_more h four c.flag_option.ensures.local) c.arg-4.ensures
+    let five = local_more c.in_ok-arg-3.ensures four c.flag_option.ensures.local in
+    IfOk-weaker c.arg-5.result _ _ (λ command h. local_more h five c.flag_option-2.ensures.local) c.arg-5.ensures

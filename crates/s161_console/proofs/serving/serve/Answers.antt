@@ -66,7 +66,7 @@ returns-clause-ok g c =
     let after = g.O.Write.contents c.loop-made.output in
     let all = c.loop-made-test.false in
     let most = c.loop-made.auto.made-end in
-    subst (λ (stop : Stop). Serves options options.events c.args.machine.now (streams input left before after) (record { made = options.events; stop = stop }) [])
+    subst (λ (stop : Stop). Serves options options.events c.args.machine.now (streams input left before after) (record { made = options.events; stop = stop }) c.loop-made.machine [])
     (sym c.last_stop.ensures)
     (at_last options c.args.machine.now input before c.loop-made.made
     (place c.loop-made.cursor c.loop-made.machine c.loop-made.ended left after) c.loop-made.invariant (omega (arith, all, most)))

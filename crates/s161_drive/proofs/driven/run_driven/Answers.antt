@@ -1,5 +1,6 @@
 use Rattle.std.proofs.Common.{◌≡◌, ◌∙◌, ap, subst, sym, List, ℕ, IfSome}
 use Rattle.std.proofs.lemmas.Result.{err_from_is_err_and}
+use Rattle.s161_base.specs.Faults.{BootsTo}
 use Rattle.s161_base.specs.Samples.{image_file}
 use Rattle.s161_drive.specs.Driven.{AreKeys}
 use Rattle.s161_drive.proofs.Keeping.{keys_are}
@@ -25,7 +26,7 @@ returns-clause-ok g c =
       are_keys = subst (AreKeys c.args.task.drive.keys files) (sym c.deref.ensures.value)
           (keys_are c.args.task.drive.keys (g.F.FileSource.known c.read_image.new.files) files c.in_ok-keys.keys.items c.in_ok-file.ensures.still c.in_ok-keys.ensures.whole);
       booted = c.in_ok-machine.machine;
-      boots = c.in_ok-machine.ensures.answer;
+      boots = subst (λ conf. BootsTo c.as_slice-image.result.now conf c.in_ok-machine.machine) c.conf_of.ensures c.in_ok-machine.ensures.answer;
       driven = c.make_driven-driven.result;
       machine = machine;
       drives = c.make_driven-driven.ensures;

@@ -4,6 +4,7 @@ use Rattle.m161_machine.specs.declared.conf.Conf.{Conf}
 use Rattle.m161_machine.specs.History.{boot_fault}
 use Rattle.s161_base.specs.Faults.{BootsTo}
 use Rattle.s161_base.specs.Samples.{image_file}
+use Rattle.s161_base.specs.Sizes.{conf_of}
 use Rattle.s161_drive.specs.Driven.{AreKeys, rules_of}
 use Rattle.s161_drive.specs.Schedules.{Chose}
 use Rattle.s161_drive.proofs.Keeping.{booted_ok, keys_are, log_within}
@@ -12,7 +13,7 @@ use Rattle.s161_drive.proofs.schedule.schedule.Goals as goal
 pub chosen_events-requires-clause-room : goal.chosen_events-requires-clause-room
 chosen_events-requires-clause-room g c =
     let size = c.args.task.size in
-    let conf : Conf = record { ram = size.ram; processors = size.processors; log = c.log_for.result; link = size.link } in
+    let conf : Conf = record c.conf_of.result { log = c.log_for.result } in
     let machine = c.in_ok-machine.machine in
     let booted = booted_ok c.deref.result.now conf (boot_fault c.deref.result.now conf) machine c.in_ok-machine.ensures.answer in
     let log : machine.start.conf.log ≡ c.log_for.result = ap (λ (x : Conf). x.log) booted.conf_is in
@@ -47,8 +48,8 @@ returns-clause-ok g c =
       are_keys = subst (AreKeys options.keys files) (sym c.deref-2.ensures.value)
           (keys_are options.keys (g.F.FileSource.known c.read_image.new.files) files c.in_ok-keys.keys.items c.in_ok-file.ensures.still c.in_ok-keys.ensures.whole);
       booted = machine;
-      boots = subst (λ (n : ℕ). BootsTo file (record { ram = size.ram; processors = size.processors; log = n; link = size.link }) machine) c.log_for.ensures.value
-          c.in_ok-machine.ensures.answer;
+      boots = subst (λ (n : ℕ). BootsTo file (record (conf_of size) { log = n }) machine) c.log_for.ensures.value
+          (subst (λ (conf : Conf). BootsTo file (record conf { log = c.log_for.result }) machine) c.conf_of.ensures c.in_ok-machine.ensures.answer);
       events = c.deref-3.result.now;
       chose = subst (Chose (rules_of options keys) options.events machine) (sym c.deref-3.ensures.value) c.in_ok-events.ensures.ok;
       text_is = ap (λ v. v.items) c.into_bytes.ensures.value ∙ c.in_ok-text.ensures.text;

@@ -1,7 +1,9 @@
-use Rattle.std.proofs.Common.{◌≡◌, ◌≤◌, ◌+◌, ap, arith, length, refl, rules}
+use Rattle.std.proofs.Common.{◌≡◌, ◌∙◌, ◌≤◌, ◌+◌, ap, arith, length, refl, rules, subst, sym}
 use Rattle.std.proofs.lemmas.List.{length-drop}
 use Rattle.m161_machine.proofs.Continuing.{continues_none}
-use Rattle.s161_runs.proofs.Making.{at_most_all, run_made, run_passed, run_refused, run_within, switched}
+use Rattle.s161_runs.specs.Runs.{MakesEvents, stop_off}
+use Rattle.s161_runs.specs.declared.events.Stop.{Stop}
+use Rattle.s161_runs.proofs.Making.{at_most_all, run_made, run_passed, run_refused, run_within, stopped_off, switched}
 use Rattle.s161_runs.proofs.events.make_events.Goals as goal
 
 pub returns-then-is_off-was_off : goal.returns-then-is_off-was_off
@@ -11,7 +13,14 @@ returns-then-is_off-was_off c =
     let made = run_made c.args.machine.now c.loop-event.machine c.make_alike-more.new.machine c.args.events.now c.loop-event.left c.next.new.self c.loop-event.made c.make_alike-more.result.0 c.in-Some.times c.in-Some.event
     before.3 c.in-Some.ensures.steps.0 most before.0 c.make_alike-more.ensures.made in
     let off = switched c.args.machine.now.state.board.off c.loop-event.machine c.make_alike-more.new.machine _ before.1 (search rules) c.make_alike-more.ensures.made in
-    record { made = c.loop-event.made + c.make_alike-more.result.0; first = made; why = off }
+    let m = c.args.machine.now in
+    let n = c.make_alike-more.new.machine in
+    let count = c.loop-event.made + c.make_alike-more.result.0 in
+    subst (λ (stop : Stop). MakesEvents m c.args.events.now stop n) (sym (c.stop_off.ensures ∙ ap stop_off c.conflict.ensures)) (record {
+      made = count;
+      first = made;
+      why = stopped_off m n c.args.events.now count n.state.conflict refl off;
+    })
 
 pub returns-in-Some-refusal : goal.returns-in-Some-refusal
 returns-in-Some-refusal c =

@@ -1,5 +1,7 @@
-use Rattle.std.proofs.Common.{◌≡◌, List, ℕ, IfSome, rules, subst, sym}
+use Rattle.std.proofs.Common.{◌≡◌, List, ℕ, Err, IfSome, rules, subst, sym}
 use Rattle.std.proofs.lemmas.Result.{err_from_is_err_and}
+use Rattle.m161_machine.specs.History.{Boots, boot_fault}
+use Rattle.s161_base.specs.Faults.{BootsTo}
 use Rattle.s161_base.specs.Texts.{HasSchedule}
 use Rattle.s161_runs.specs.Runs.{IsFaultOf}
 use Rattle.s161_base.proofs.Failing.{boot_failed, schedule_failed}
@@ -18,7 +20,7 @@ returns-clause-ok g c =
       file = c.as_slice-image.result.now;
       is_file = subst R (sym c.as_slice-image.ensures.value) c.in_ok-file.ensures.whole;
       booted = c.in_ok-machine.machine;
-      boots = c.in_ok-machine.ensures.answer;
+      boots = subst (λ conf. BootsTo c.as_slice-image.result.now conf c.in_ok-machine.machine) c.conf_of.ensures c.in_ok-machine.ensures.answer;
       schedule = c.as_str.result.now;
       is_input = subst P (sym c.as_str.ensures.value) c.in_ok-schedule.ensures.whole;
       is_text = subst IsText (sym c.as_str.ensures.value) c.in_ok-schedule.schedule.ok;
@@ -52,8 +54,11 @@ returns-in_err-machine-clause-fault g c =
     let made = err_from_is_err_and c.from_residual-in_err-machine.result c.from_residual-in_err-machine.ensures.1 in
     let utf8 = subst IsText (sym c.as_str.ensures.value) c.in_ok-schedule.schedule.ok in
     let schedule : HasSchedule input = (c.as_str.result.now, subst P (sym c.as_str.ensures.value) c.in_ok-schedule.ensures.whole, (utf8, (c.in_ok-events.events, c.in_ok-events.ensures.found))) in
-    let failed = boot_failed (IsFaultOf c.args.task known input) known (conf_of c.args.task.size) c.as_slice-image.result.now c.in_err-machine.field-0.0
-    (subst R (sym c.as_slice-image.ensures.value) c.in_ok-file.ensures.whole) (λ outside. (schedule, outside)) (λ e has. (schedule, has)) tt c.in_err-machine.ensures.answer in
+    let file = c.as_slice-image.result.now in
+    let e = c.in_err-machine.field-0.0 in
+    let answer = subst (λ conf. Boots file conf (boot_fault file conf) (Err e)) c.conf_of.ensures c.in_err-machine.ensures.answer in
+    let failed = boot_failed (IsFaultOf c.args.task known input) known (conf_of c.args.task.size) file e
+    (subst R (sym c.as_slice-image.ensures.value) c.in_ok-file.ensures.whole) (λ outside. (schedule, outside)) (λ x has. (schedule, has)) tt answer in
     rw (made.1, made.2) failed
 
 pub returns-in_err-summary-clause-fault : goal.returns-in_err-summary-clause-fault

@@ -9,7 +9,7 @@ use Rattle.s161_search.proofs.seeds.boot.Goals as goal
 pub returns-in-Ok-clause-ok : goal.returns-in-Ok-clause-ok
 returns-in-Ok-clause-ok c =
     let given = given_of c.args.inputs.now in
-    boots_as c.deref.result.now given.file c.conf_of.result (search_conf c.args.task) (Ok c.in-Ok.booted) c.deref.ensures.value c.conf_of.ensures c.in-Ok.ensures
+    boots_as c.deref.result.now given.file c.search_conf.result (search_conf c.args.task) (Ok c.in-Ok.booted) c.deref.ensures.value c.search_conf.ensures c.in-Ok.ensures
 
 pub returns-in-Err-clause-fault : goal.returns-in-Err-clause-fault
 returns-in-Err-clause-fault c =
@@ -17,4 +17,4 @@ returns-in-Err-clause-fault c =
     let conf = search_conf c.args.task in
     subst (IsRunFault c.args.task given) (sym c.fault_of_audit.ensures)
     (unbooted c.args.task given (boot_fault given.file conf) c.in-Err.error refl
-    (boots_as c.deref.result.now given.file c.conf_of.result conf (Err c.in-Err.error) c.deref.ensures.value c.conf_of.ensures c.in-Err.ensures))
+    (boots_as c.deref.result.now given.file c.search_conf.result conf (Err c.in-Err.error) c.deref.ensures.value c.search_conf.ensures c.in-Err.ensures))

@@ -3,6 +3,7 @@ use Rattle.std.proofs.lemmas.List.{length-replicate}
 use Rattle.m161_machine.specs.declared.conf.Conf.{Conf}
 use Rattle.m161_machine.specs.History.{boot_fault}
 use Rattle.m161_threads.specs.Runs.{Interleaves, bad_call}
+use Rattle.s161_base.specs.Faults.{BootsTo}
 use Rattle.s161_base.specs.Samples.{image_file}
 use Rattle.s161_threads.specs.Threads.{IsCause}
 use Rattle.s161_threads.proofs.Threading.{booted_clear, booted_ok, failed_cause}
@@ -15,7 +16,8 @@ returns-clause-ok g c =
     let R : List ℕ → Type 0 = λ file. IfSome known (λ bytes. file ≡ bytes) in
     let conf = (conf_of c.args.task.run.size) in
     let booted = c.in_ok-machine.machine in
-    let is_booted = booted_ok c.as_slice-image.result.now conf (boot_fault c.as_slice-image.result.now conf) booted c.in_ok-machine.ensures.answer in
+    let boots = subst (λ conf. BootsTo c.as_slice-image.result.now conf booted) c.conf_of.ensures c.in_ok-machine.ensures.answer in
+    let is_booted = booted_ok c.as_slice-image.result.now conf (boot_fault c.as_slice-image.result.now conf) booted boots in
     let number : c.processors.result ≡ conf.processors =
     c.processors.ensures ∙ c.replay.ensures.processors ∙ ap (λ (x : Conf). x.processors) is_booted.conf_is in
     let quotas : c.as_slice.result.now ≡ replicate conf.processors c.args.task.quota =
@@ -28,7 +30,7 @@ returns-clause-ok g c =
       file = c.as_slice-image.result.now;
       is_file = subst R (sym c.as_slice-image.ensures.value) c.in_ok-file.ensures.whole;
       booted = booted;
-      boots = c.in_ok-machine.ensures.answer;
+      boots = boots;
       begins = subst (λ (n : ℕ). bad_call n conf.processors c.args.task.burst ≡ None) given
           (subst (λ (n : ℕ). bad_call (length c.as_slice.result.now) n c.args.task.burst ≡ None) there c.in-Ok.ensures.begun);
       made = report.counts.items;
@@ -46,14 +48,15 @@ returns-in-Err-clause-fault g c =
     let conf = (conf_of c.args.task.run.size) in
     let booted = c.in_ok-machine.machine in
     let cause = c.in-Err.fault.cause in
-    let is_booted = booted_ok c.as_slice-image.result.now conf (boot_fault c.as_slice-image.result.now conf) booted c.in_ok-machine.ensures.answer in
+    let boots = subst (λ conf. BootsTo c.as_slice-image.result.now conf booted) c.conf_of.ensures c.in_ok-machine.ensures.answer in
+    let is_booted = booted_ok c.as_slice-image.result.now conf (boot_fault c.as_slice-image.result.now conf) booted boots in
     let there : length booted.state.processors ≡ conf.processors =
     c.replay.ensures.processors ∙ ap (λ (x : Conf). x.processors) is_booted.conf_is in
     let quotas : length c.as_slice.result.now ≡ conf.processors =
     ap length (c.as_slice.ensures.value ∙ c.in_ok-quotas.ensures) ∙ length-replicate c.processors.result c.args.task.quota
     ∙ c.processors.ensures ∙ there in
     let clear : boot_fault c.as_slice-image.result.now conf ≡ None =
-    booted_clear c.as_slice-image.result.now conf (boot_fault c.as_slice-image.result.now conf) booted c.in_ok-machine.ensures.answer in
+    booted_clear c.as_slice-image.result.now conf (boot_fault c.as_slice-image.result.now conf) booted boots in
     let why : IsCause (bad_call conf.processors conf.processors c.args.task.burst) cause =
     subst (λ (n : ℕ). IsCause (bad_call n conf.processors c.args.task.burst) cause) quotas
     (subst (λ (n : ℕ). IsCause (bad_call (length c.as_slice.result.now) n c.args.task.burst) cause) there

@@ -1,6 +1,9 @@
-use Rattle.std.proofs.Common.{◌≡◌, arith, refl, rules}
+use Rattle.std.proofs.Common.{◌≡◌, ◌∙◌, ap, arith, refl, rules, subst, sym}
 use Rattle.std.proofs.lemmas.Result.{err_from_is_err_and}
 use Rattle.m161_machine.proofs.Continuing.{continues_none}
+use Rattle.s161_runs.specs.declared.events.Stop.{Stop}
+use Rattle.s161_runs.specs.Runs.{stop_off}
+use Rattle.s161_trace.specs.helpers.Scheduled.{PrintsSchedule}
 use Rattle.s161_trace.proofs.Printing.{prints_none}
 use Rattle.s161_trace.proofs.Scheduling.{ended_then, fails_then, first_then, off_then, passed_then, prints_then, refused_at, within_then}
 use Rattle.s161_trace.proofs.scheduled.trace_events.Goals as goal
@@ -21,9 +24,12 @@ trace_alike-requires-clause-step g c = c.loop-event.invariant.4.tracer_is
 pub returns-then-is_off-was_off-clause-ok : goal.returns-then-is_off-was_off-clause-ok
 returns-then-is_off-was_off-clause-ok g c =
     let before = c.loop-event.invariant in
-    off_then c.args.machine.now c.loop-event.machine c.args.lines.now c.loop-event.lines (g.O.Write.contents c.args.output.now) (g.O.Write.contents c.loop-event.output)
+    let is = c.stop_off.ensures ∙ ap stop_off c.conflict.ensures in
+    subst (λ (stop : Stop). PrintsSchedule c.args.machine.now c.args.lines.now (g.O.Write.contents c.args.output.now) c.args.events.now stop c.trace_alike.new.machine c.trace_alike.new.lines
+    (g.O.Write.contents c.trace_alike.new.output)) (sym is)
+    (off_then c.args.machine.now c.loop-event.machine c.args.lines.now c.loop-event.lines (g.O.Write.contents c.args.output.now) (g.O.Write.contents c.loop-event.output)
     c.requires.step c.args.events.now c.loop-event.left c.next.new.self c.loop-event.made c.in-Some.times c.in-Some.event before.3 c.in-Some.ensures.steps.0 before.0 before.4
-    c.trace_alike.new.machine (g.O.Write.contents c.trace_alike.new.output) c.in_ok-alike.alike c.trace_alike.new.lines c.in_ok-alike.ensures.ok before.1 (search rules)
+    c.trace_alike.new.machine (g.O.Write.contents c.trace_alike.new.output) c.in_ok-alike.alike c.trace_alike.new.lines c.in_ok-alike.ensures.ok before.1 (search rules))
 
 pub returns-in-Some-1₀-clause-ok : goal.returns-in-Some-1₀-clause-ok
 returns-in-Some-1₀-clause-ok g c =

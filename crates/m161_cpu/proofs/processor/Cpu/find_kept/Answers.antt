@@ -1,4 +1,4 @@
-use Rattle.std.proofs.Common.{◌≡◌, subst, sym, ℕ, IfSome, Ok}
+use Rattle.std.proofs.Common.{◌≡◌, subst, sym, IfSome, Ok}
 use Rattle.m161_cpu.specs.declared.fault.Access.{Access}
 use Rattle.m161_cpu.specs.declared.fault.Access.TheVariants.{Fetch, Load, Store}
 use Rattle.m161_cpu.specs.Processor.{Processor}

@@ -35,14 +35,14 @@ returns-in-Err-clause-stop g c =
     ] in
     refused _ _ _ _ _ _ _ _ _ at c.loop-k.invariant.made c.loop-k.invariant.no_stop passes c.in-Err.ensures.answers
 
-pub returns-then-eq-clause-stop : goal.returns-then-eq-clause-stop
-returns-then-eq-clause-stop g c =
+pub returns-in-Some-clause-stop : goal.returns-in-Some-clause-stop
+returns-in-Some-clause-stop g c =
     let at : IsAt (events_in c.args.events) c.loop-k.k c.at.result = (omega arith, c.at.ensures) in
     let passes : Passes c.args.self.now.breakpoints c.loop-k.k c.loop-k.self.machine.state c.at.result = elim c.else-k-gt0.branch [
       | else-k-gt0-via-then-k-gt0+else-is_at_break w ↦ search rules
       | else-k-gt0-via-else-k-gt0 w ↦ search rules
     ] in
-    switches_off _ _ c.args.self.now.machine c.loop-k.self.machine c.step.new.self.machine _ _ _ _ at c.loop-k.invariant.made c.loop-k.invariant.no_stop passes
+    switches_off _ _ c.args.self.now.machine c.loop-k.self.machine c.step.new.self.machine _ _ _ _ c.in-Some.stop at c.loop-k.invariant.made c.loop-k.invariant.no_stop passes
     c.in-Ok.ensures.answers (search rules)
 
 pub is_met-requires : goal.is_met-requires

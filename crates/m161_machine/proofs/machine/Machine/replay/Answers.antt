@@ -1,12 +1,18 @@
-use Rattle.std.proofs.Common.{subst}
+use Rattle.std.proofs.Common.{◌≡◌, ◌∙◌, ap, subst}
+use Rattle.m161_machine.specs.declared.conf.Conf.{Conf}
+use Rattle.m161_machine.specs.State.{AreAllApart, CoreValue, State}
+use Rattle.m161_machine.specs.History.{FitsMode, History, boot_state}
+use Rattle.m161_machine.specs.declared.event.Entry.{Entry}
+use Rattle.std.specs.Prelude.{All}
+use Rattle.m161_machine.proofs.Modes.{run_fits}
 use Rattle.m161_machine.specs.Sound.{IsLawful}
 use Rattle.m161_machine.proofs.Counted.{counts_steps}
 use Rattle.m161_machine.proofs.Given.{run_gives}
-use Rattle.m161_machine.proofs.Made.{base_at_boot, counted, few_made}
+use Rattle.m161_machine.proofs.Made.{base_at_boot, conf_stays, counted, few_made}
 use Rattle.m161_machine.proofs.machine.Machine.replay.Given.{Over}
 use Rattle.m161_machine.proofs.machine.Machine.replay.Goals as goal
 
-lawful : (g : Over) (c : goal.After-law g) → IsLawful c.args.self.now
+lawful : (g : Over) (c : goal.After-law-2 g) → IsLawful c.args.self.now
 lawful g c = subst IsLawful c.self.view_is c.self.invariant.0
 
 pub returns-clause-boot : goal.returns-clause-boot
@@ -23,3 +29,19 @@ returns-clause-steps g c = counts_steps c.args.self.now (lawful g c).replay
 
 pub returns-clause-outcomes : goal.returns-clause-outcomes
 returns-clause-outcomes g c = run_gives c.args.self.now.log c.args.self.now.base c.args.self.now.state (lawful g c).replay
+
+pub returns-clause-apart : goal.returns-clause-apart
+returns-clause-apart g c = λ strict.
+    let l = lawful g c in
+    let state_is : c.deref.result.now.state ≡ c.args.self.now.state = ap (λ (v : CoreValue). v.state) c.deref.ensures ∙ ap (λ (h : History). h.state) c.self.view_is in
+    let base_is : c.deref-2.result.now.state ≡ c.args.self.now.base = ap (λ (v : CoreValue). v.state) c.deref-2.ensures ∙ ap (λ (h : History). h.base) c.self.view_is in
+    let base_conf : c.args.self.now.base.conf ≡ c.args.self.now.start.conf = conf_stays l.reached.0 (boot_state c.args.self.now.start) c.args.self.now.base l.reached.1 in (
+      subst AreAllApart (ap (λ (s : State). s.processors) state_is) (c.law.ensures.apart (ap (λ (s : State). s.conf.strict) state_is ∙ ap (λ (k : Conf). k.strict) l.conf_is ∙ strict)),
+      subst AreAllApart (ap (λ (s : State). s.processors) base_is) (c.law-2.ensures.apart (ap (λ (s : State). s.conf.strict) base_is ∙ ap (λ (k : Conf). k.strict) base_conf ∙ strict)),
+    )
+
+pub returns-clause-mode : goal.returns-clause-mode
+returns-clause-mode g c =
+    let l = lawful g c in
+    let base_conf : c.args.self.now.base.conf ≡ c.args.self.now.start.conf = conf_stays l.reached.0 (boot_state c.args.self.now.start) c.args.self.now.base l.reached.1 in
+    subst (λ (k : Conf). All (λ (e : Entry). FitsMode k.strict e.outcome) c.args.self.now.log) base_conf (run_fits c.args.self.now.log c.args.self.now.base c.args.self.now.state l.replay)

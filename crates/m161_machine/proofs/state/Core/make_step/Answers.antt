@@ -1,4 +1,4 @@
-use Rattle.std.proofs.Common.{◌∙◌, ap, sym, arith}
+use Rattle.std.proofs.Common.{◌∙◌, ap, refl, sym, arith}
 use Rattle.m161_machine.specs.State.{CoreValue, State, step_on, with_step}
 use Rattle.m161_machine.proofs.Accepting.{stays_on}
 use Rattle.m161_machine.proofs.Stepping.{step_is}
@@ -16,17 +16,18 @@ invariant_of-self g c = record {
   small = omega (arith, c.self.invariant.small, c.step_parts-outcome.ensures.size);
   limits_hold = c.self.invariant.limits_hold;
   counts = c.step_parts-outcome.ensures.counts c.self.inside.made c.self.invariant.counts;
+  apart = λ strict. c.step_parts-outcome.ensures.apart strict (c.self.invariant.apart strict);
 }
 
 pub returns-clause-outcome : goal.returns-clause-outcome
 returns-clause-outcome g c =
-    c.step_parts-outcome.ensures.outcome c.self.inside.conf c.self.inside.made
+    c.step_parts-outcome.ensures.outcome c.self.inside.conf c.self.inside.made refl
     ∙ ap (λ (v : CoreValue). (step_on c.args.p v.state).outcome) c.self.view_is
     ∙ ap (λ x. x.outcome) (sym (step_is c.args.p c.args.self.now.state))
 
 pub returns-clause-state : goal.returns-clause-state
 returns-clause-state g c =
-    c.step_parts-outcome.ensures.state c.self.inside.conf c.self.inside.made
+    c.step_parts-outcome.ensures.state c.self.inside.conf c.self.inside.made refl
     ∙ ap (λ (v : CoreValue). with_step c.args.p (step_on c.args.p v.state) v.state) c.self.view_is
     ∙ ap (λ x. with_step c.args.p x c.args.self.now.state) (sym (step_is c.args.p c.args.self.now.state))
 

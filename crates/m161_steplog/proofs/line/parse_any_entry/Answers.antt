@@ -1,5 +1,5 @@
 use Rattle.m161_steplog.proofs.LogLines.{no_space, no_kind, no_step, step}
-use Rattle.m161_steplog.proofs.line.parse_entry.Goals as goal
+use Rattle.m161_steplog.proofs.line.parse_any_entry.Goals as goal
 
 pub returns-in_err-kind : goal.returns-in_err-kind
 returns-in_err-kind c = rw c.from_residual.ensures (no_space c.args.line.now c.in_err-kind.ensures)
