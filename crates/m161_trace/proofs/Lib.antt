@@ -7,4 +7,7 @@ pub mod Shown
 pub mod Nothing
 pub mod NearEffects
 pub mod Near
+pub mod Console
+pub mod Stored
+pub mod Moved
 pub mod Tell

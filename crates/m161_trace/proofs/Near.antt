@@ -70,38 +70,47 @@ of_stored : (far : Bool) (o : Option Store) → FarOr far (stored_by o) → (far
 of_stored far o (inl h) = inl h
 of_stored far o (inr h) = inr (is_stored o h)
 
--- the instruction of a Step
-
-three : (s : Scene) (e : Effect) (l : List Argument) → IfOk (with_three (effect_of s e) l) (NearChange (is_far e))
-three s e [] = near_effect s e _ _ _
-three s e (a ∷ []) = near_effect s e a _ _
-three s e (a ∷ b ∷ []) = near_effect s e a b _
-three s e (a ∷ b ∷ c ∷ l) = near_effect s e a b c
-
-of_row : (s : Scene) (word : ℕ) (o : Option TableRow) → IfOk (change_by_row s word o) (NearChange (is_far_row o))
-of_row s word None = tt
-of_row s word (Some r) = three s (table r).effect (arguments s.processor (table r).operands (numbers_of word (Some r)))
-
-of_usable : (t : Bool) (s : Scene) (word : ℕ) (f : _) → IfOk (and_then (if t then Err f else Ok word) (change_in s)) (NearChange (is_far_word word))
-unfolding is_far_word
-of_usable true s word f = tt
-of_usable false s word f = of_row s word (row_that_fits word)
-
-of_word : (s : Scene) (w : Result ℕ _) → IfOk (and_then (and_then w (usable s.processor.control)) (change_in s)) (NearChange (is_far_found (word_found w)))
-of_word s (Ok word) = of_usable (is_unusable s.processor.control word) s word _
-of_word s (Err e) = tt
+-- What each effect has, by whether it is a far one, the instruction of a Step has.
 
 -- the word that is fetched is that of a far instruction
 abbrev pub is_far_at : Scene → Bool
 is_far_at s = is_far_found (word_found (word_at_pc s.around.memory s.processor))
 
-of_interrupt : (t : Bool) (s : Scene) (f : _) → IfOk (if t then Err f else and_then (executable_word s.around.memory s.processor) (change_in s)) (NearChange (is_far_at s))
-of_interrupt true s f = tt
-of_interrupt false s f = of_word s (word_at_pc s.around.memory s.processor)
+abbrev EachEffect : Scene → (Bool → Change → Type 0) → Type 0
+EachEffect s P = (e : Effect) (a b c : Argument) → IfOk (effect_of s e a b c) (P (is_far e))
+
+three : (s : Scene) (P : Bool → Change → Type 0) → EachEffect s P → (e : Effect) (l : List Argument) → IfOk (with_three (effect_of s e) l) (P (is_far e))
+three s P each e [] = each e _ _ _
+three s P each e (a ∷ []) = each e a _ _
+three s P each e (a ∷ b ∷ []) = each e a b _
+three s P each e (a ∷ b ∷ c ∷ l) = each e a b c
+
+of_row : (s : Scene) (P : Bool → Change → Type 0) → EachEffect s P → (word : ℕ) (o : Option TableRow) → IfOk (change_by_row s word o) (P (is_far_row o))
+of_row s P each word None = tt
+of_row s P each word (Some r) = three s P each (table r).effect (arguments s.processor (table r).operands (numbers_of word (Some r)))
+
+of_usable : (t : Bool) (s : Scene) (P : Bool → Change → Type 0) → EachEffect s P → (word : ℕ) (f : _) →
+    IfOk (and_then (if t then Err f else Ok word) (change_in s)) (P (is_far_word word))
+unfolding is_far_word
+of_usable true s P each word f = tt
+of_usable false s P each word f = of_row s P each word (row_that_fits word)
+
+of_word : (s : Scene) (P : Bool → Change → Type 0) → EachEffect s P → (w : Result ℕ _) →
+    IfOk (and_then (and_then w (usable s.processor.control)) (change_in s)) (P (is_far_found (word_found w)))
+of_word s P each (Ok word) = of_usable (is_unusable s.processor.control word) s P each word _
+of_word s P each (Err e) = tt
+
+of_interrupt : (t : Bool) (s : Scene) (P : Bool → Change → Type 0) → EachEffect s P → (f : _) →
+    IfOk (if t then Err f else and_then (executable_word s.around.memory s.processor) (change_in s)) (P (is_far_at s))
+of_interrupt true s P each f = tt
+of_interrupt false s P each f = of_word s P each (word_at_pc s.around.memory s.processor)
+
+pub in_instruction : (s : Scene) (P : Bool → Change → Type 0) → EachEffect s P → IfOk (change_of_step s) (P (is_far_at s))
+unfolding change_of_step
+in_instruction s P each = of_interrupt (is_interrupted (lines_in s) s.processor.control) s P each _
 
 pub near_instruction : (s : Scene) → IfOk (change_of_step s) (NearChange (is_far_at s))
-unfolding change_of_step
-near_instruction s = of_interrupt (is_interrupted (lines_in s) s.processor.control) s _
+near_instruction s = in_instruction s NearChange (near_effect s)
 
 -- a near Step has no conflict
 

@@ -9,17 +9,18 @@ use Rattle.m161_cpu.specs.declared.processor.ProcessorState.{ProcessorState}
 use Rattle.m161_machine.specs.State.{State, processor_at, word_in}
 use Rattle.m161_machine.specs.Uses.{uses_in}
 use Rattle.m161_trace.specs.Items.{Item, doing, register, hi, lo, control, row, stored, linked, unlinked, latched, waiting, board, trapped, idle, off, conflict, starts, board_item, changed, common_items, control_item, control_items, control_word, each, hi_lo_items, items, latch_items, link_items, linked_items, outcome_items, places_items, processor_items, register_item, register_items, row_item, row_items, same_state, shared_items, shown_registers, start_item, start_items, state_items, stored_as, stored_items, unlinked_by, unlinked_item}
-use Rattle.m161_trace.specs.Law.{IsTrueOf, StopsAt, as_started, high_at, link_of, low_at}
+use Rattle.m161_trace.specs.Law.{AreLatest, IsTrueOf, StopsAt, as_started, high_at, link_of, low_at}
 use Rattle.m161_trace.proofs.Members.{Every, every_append, every_changed, every_listed, every_none, every_numbered, every_one, every_unless}
 use Rattle.m161_trace.proofs.Started.{is_new}
 use Rattle.m161_trace.proofs.Telling.{now}
 
 -- Each item of a Step shows its part's value after the Step.
 
--- what a Step says of the outcome, and of the processors that it started
+-- what a Step says of the outcome, of the bytes that wait, and of the processors that it started
 pub record Given (p : ℕ) (s : State) (o : Outcome) (t : State) : Type 0 where
   pub off : o ≡ outcomes.PoweredOff → t.board.off ≡ true
   pub conflict : (i j : ℕ) → o ≡ outcomes.Conflict i j → StopsAt p i j s t
+  pub waiting : AreLatest t.board.console.waiting s.board.console.waiting
   pub starts : (q : ℕ) → q < length s.processors → is_new s.board.started t.board.started q ≡ true → q ≢ p
       → processor_at q t.processors ≡ as_started q t (processor_at q s.processors).count
 
@@ -117,8 +118,8 @@ places_true p s o t n =
     (every_append P _ _ (every_each P 0 n _ (λ c. word_true p s o t (words.Cirqe c))) (every_each P 0 n _ (λ c. word_true p s o t (words.Cipi c))))
     (every_each P 0 n _ (λ c. every_each P 0 64 _ (λ k. word_true p s o t (words.Cram c k))))
 
-shared_true : (p : ℕ) (s : State) (o : Outcome) (t : State) → Every (IsTrueOf p s o t) (shared_items p s t)
-shared_true p s o t =
+shared_true : (p : ℕ) (s : State) (o : Outcome) (t : State) → AreLatest t.board.console.waiting s.board.console.waiting → Every (IsTrueOf p s o t) (shared_items p s t)
+shared_true p s o t latest =
     let P = IsTrueOf p s o t in
     every_append P _ _
     (every_append P _ _
@@ -126,7 +127,7 @@ shared_true p s o t =
     (every_append P _ _
     (every_append P _ _ (stored_true p s o t (uses_in p s).stored) (links_true p s o t (length s.processors)))
     (latch_true P s.board.console.latch t.board.console.latch (λ byte is. is)))
-    (every_changed P _ _ (waiting (length t.board.console.waiting)) refl))
+    (every_changed P _ _ (waiting (length t.board.console.waiting)) (refl, latest)))
     (common_true p s o t))
     (places_true p s o t (length s.processors))
 
@@ -157,5 +158,5 @@ unfolding items
 every_true p s o t g =
     let P = IsTrueOf p s o t in
     every_append P _ _
-    (every_append P _ _ (every_append P _ _ (processor_true p s o t) (shared_true p s o t)) (outcome_true p s o o t g refl))
+    (every_append P _ _ (every_append P _ _ (processor_true p s o t) (shared_true p s o t g.waiting)) (outcome_true p s o o t g refl))
     (starts_true p s o t g)

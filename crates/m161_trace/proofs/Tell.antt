@@ -9,7 +9,7 @@ use Rattle.m161_cpu.specs.declared.processor.Outcome.TheVariants as outcomes
 use Rattle.m161_cpu.specs.declared.processor.ProcessorState.{ProcessorState}
 use Rattle.m161_cpu.specs.declared.processor.ProcessorState.TheVariants.{Stopped, Running, Waiting}
 use Rattle.m161_cpu.specs.Processor.{Processor, stopped_processor, with_state}
-use Rattle.m161_cpu.specs.Links.{LinkState, links_after}
+use Rattle.m161_cpu.specs.Links.{End, Keep, LinkAct, LinkState, LinkTo, links_after}
 use Rattle.m161_cpu.specs.Scene.{Change, Scene, around, scene}
 use Rattle.m161_cpu.specs.Step.{Stepped, change_of_step, conflict_of, count_step, idle, lines_in, outcome_after, running_step, step_by_conflict, step_by_state, step_of, step_of_result, tick, with_processor}
 use Rattle.m161_cpu.proofs.Laws.{step_links}
@@ -18,11 +18,12 @@ use Rattle.m161_machine.specs.State.{State, conflict_after, processor_at, step_r
 use Rattle.m161_trace.specs.Items.{conflict, items, linked, off, outcome_items, starts, unlinked}
 use Rattle.m161_trace.specs.Law.{Has, ItemsTell, StopsAt, Tells, Without, link_of}
 use Rattle.m161_trace.proofs.Links.{other_link, other_stays, own_stays}
-use Rattle.m161_trace.proofs.Near.{accepted, is_far_at, kept_rows, near_instruction, none_written, rows_after}
+use Rattle.m161_trace.proofs.Moved.{Moves, moves}
+use Rattle.m161_trace.proofs.Near.{accepted, is_far_at, kept_rows, near_instruction, none_written, rows_after, stored_is}
 use Rattle.m161_trace.proofs.NearEffects.{NearChange}
 use Rattle.m161_trace.proofs.Shown.{every_true}
 use Rattle.m161_trace.proofs.Started.{as_many, is_new, other_kept, other_past, other_started}
-use Rattle.m161_trace.proofs.Telling.{control_stays, has_linked, has_start, has_unlinked, hi_stays, in_outcome, lo_stays, register_stays, row_stays, state_stays, word_stays}
+use Rattle.m161_trace.proofs.Telling.{control_stays, has_linked, has_start, has_unlinked, hi_stays, in_outcome, latch_stays, lo_stays, ram_stays, register_stays, row_stays, state_stays, waiting_stays, word_stays}
 
 -- The items of a Step tell what it changed.
 
@@ -119,6 +120,18 @@ result_links : (p : ℕ) (s : State) → (step_result p s).after.around.links �
 unfolding step_result
 result_links p s = step_links (scene (processor_at p s.processors) (around p s.memory s.board s.links s.conf.strict))
 
+result_moves : (p : ℕ) (s : State) → Moves (scene (processor_at p s.processors) (around p s.memory s.board s.links s.conf.strict)) (step_result p s)
+unfolding step_result
+result_moves p s = moves (scene (processor_at p s.processors) (around p s.memory s.board s.links s.conf.strict))
+
+same_unit : (p : ℕ) (act : LinkAct) (stored : Option ℕ) (links : LinkState) → (links_after p act stored links).unit ≡ links.unit
+same_unit p Keep None links = refl
+same_unit p (LinkTo at) None links = refl
+same_unit p End None links = refl
+same_unit p Keep (Some word) links = refl
+same_unit p (LinkTo at) (Some word) links = refl
+same_unit p End (Some word) links = refl
+
 abbrev after : ℕ → State → State
 after p s = with_step p (step_result p s) s
 
@@ -190,9 +203,11 @@ tells_after p s place on =
     let o : Outcome = (step_result p s).outcome in
     let t : State = after p s in
     let f = result_powers p s in
+    let m = result_moves p s in
     record {
       true_of = every_true p s o t (record {
         off = f.off;
+        waiting = m.console.waiting;
         conflict = λ i j is. stops_at p s i j place is;
         starts = λ q lt new ne. other_started s.board.started t.board s.processors p q (step_result p s).after.processor stopped_processor ne lt new;
       });
@@ -202,7 +217,10 @@ tells_after p s place on =
       lo_stays = lo_stays p s o t;
       control_stays = control_stays p s o t;
       row_stays = row_stays p s o t;
+      ram_stays = λ at. ram_stays p s o t at m.size (λ al other. m.word at al (λ is. other (stored_is p s ∙ is)));
       link_stays = λ q. link_by (q == p) p q s refl;
+      latch_stays = latch_stays p s o t m.console.latch;
+      waiting_stays = waiting_stays p s o t m.console.waiting;
       word_stays = word_stays p s o t;
       off_stays = λ none no_conflict.
           f.on on (λ is. none (in_outcome p s o t off (off_item o is)))
@@ -210,6 +228,9 @@ tells_after p s place on =
       conflict_stays = λ none.
           conflict_kept p o s.conflict (λ i j is. none (i, j) (in_outcome p s o t (conflict i j) (conflict_item o i j is)));
       other_stays = λ q. other_by (nat_lt q (length s.processors)) p q s refl;
+      output_stays = m.console.output;
+      as_large = m.size;
+      unit_stays = ap (λ (links : LinkState). links.unit) (result_links p s) ∙ same_unit p (step_result p s).link (step_result p s).stored s.links;
       conf_stays = refl;
       as_many = as_many s.board.started t.board 0 (set s.processors p (step_result p s).after.processor) ∙ simp length-set;
     }

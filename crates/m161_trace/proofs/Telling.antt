@@ -1,6 +1,7 @@
-use Rattle.std.proofs.Common.{◌≡◌, inl, refl, ℕ, ◌+◌, ◌<◌, ◌≤◌, Bool, true, false, List, [], ◌∷◌, ◌++◌, length, Option, Some, arith}
-use Rattle.std.specs.Prelude.{◌&&◌, ◌==◌, if◌then◌else◌, slice_index}
+use Rattle.std.proofs.Common.{◌≡◌, ◌≢◌, inl, ◌∙◌, refl, sym, ap, ℕ, ◌+◌, ◌-◌, ◌%◌, ◌<◌, ◌≤◌, Bool, true, false, List, [], ◌∷◌, ◌++◌, length, drop, Option, None, Some, arith}
+use Rattle.std.specs.Prelude.{◌&&◌, ◌==◌, nat_le, if◌then◌else◌, slice_index}
 use Rattle.std.proofs.lemmas.Bool.Decides.{nat_tests}
+use Rattle.m161_ram.specs.Word.{word_at}
 use Rattle.m161_tlb.specs.declared.row.Row.{Row}
 use Rattle.m161_cop0.specs.declared.register.Register.{Register}
 use Rattle.m161_bus.specs.declared.register.BoardWord.{BoardWord}
@@ -12,8 +13,8 @@ use Rattle.m161_cpu.specs.declared.processor.ProcessorState.TheVariants as state
 use Rattle.m161_cpu.specs.Processor.{Processor}
 use Rattle.m161_machine.specs.State.{State, processor_at, word_in}
 use Rattle.m161_machine.specs.Uses.{uses_in}
-use Rattle.m161_trace.specs.Items.{Item, doing, register, hi, lo, control, row, stored, waiting, board, board_item, changed, common_items, control_item, control_items, control_word, each, hi_lo_items, items, latch_items, link_items, linked_items, outcome_items, places_items, processor_items, register_item, register_items, row_item, row_items, shared_items, shown_registers, start_item, start_items, state_items, stored_items, unlinked_by, unlinked_item, waiting_items}
-use Rattle.m161_trace.specs.Law.{Has, Without, high_at, link_of, low_at}
+use Rattle.m161_trace.specs.Items.{Item, doing, register, hi, lo, control, row, stored, latched, waiting, board, board_item, changed, common_items, control_item, control_items, control_word, each, hi_lo_items, items, latch_items, link_items, linked_items, outcome_items, places_items, processor_items, register_item, register_items, row_item, row_items, shared_items, shown_registers, start_item, start_items, state_items, stored_items, unlinked_by, unlinked_item, waiting_items}
+use Rattle.m161_trace.specs.Law.{AreLatest, Has, Without, high_at, link_of, low_at}
 use Rattle.m161_trace.proofs.Members.{has_each, has_left, has_listed, has_right, unchanged}
 
 -- What the items of a Step show, and what has no item.
@@ -132,6 +133,22 @@ pub has_stored : (p : ℕ) (s : State) (o : Outcome) (t : State) (at word : ℕ)
     → Has (stored at word) (items p s o t)
 has_stored p s o t at word is there = in_stored p s o t _ (stored_there at word (uses_in p s).stored t.memory is there)
 
+ram_if : (t u : Bool) (memory old : List ℕ) (at : ℕ) → (at % 4 == 0) ≡ t → nat_le (at + 4) (length old) ≡ u → length memory ≡ length old →
+    (at % 4 ≡ 0 → word_in memory at ≡ Some (word_at memory at) → word_at memory at ≡ word_at old at) → word_in memory at ≡ word_in old at
+ram_if false u memory old at is there size same = rw is refl
+ram_if true false memory old at is there size same = rw (size, is, there) refl
+ram_if true true memory old at is there size same =
+    let al : at % 4 ≡ 0 = grind (arith, nat_tests, is) in
+    let has : word_in memory at ≡ Some (word_at memory at) = rw (size, is, there) refl in
+    has ∙ ap Some (same al has) ∙ sym (rw (is, there) refl)
+
+pub ram_stays : (p : ℕ) (s : State) (o : Outcome) (t : State) (at : ℕ) → length t.memory ≡ length s.memory →
+    (at % 4 ≡ 0 → (uses_in p s).stored ≢ Some at → word_at t.memory at ≡ word_at s.memory at) → Without (stored at) (items p s o t)
+    → word_in t.memory at ≡ word_in s.memory at
+ram_stays p s o t at size same none =
+    ram_if (at % 4 == 0) (nat_le (at + 4) (length s.memory)) t.memory s.memory at refl refl size
+    (λ al there. same al (λ is. none (word_at t.memory at) (has_stored p s o t at (word_at t.memory at) is there)))
+
 -- links
 
 in_links : (p : ℕ) (s : State) (o : Outcome) (t : State) (i : Item) → Has i (link_items p (length s.processors) s.links.live t.links.live) → Has i (items p s o t)
@@ -164,6 +181,25 @@ waiting_as_many p s o t none =
     (λ h. none _ (in_shared p s o t _
     (has_left _ _ _ (has_left _ _ _ (has_right _
     (stored_items (uses_in p s).stored t.memory ++ link_items p (length s.processors) s.links.live t.links.live ++ latch_items s.board.console.latch t.board.console.latch) _ h)))))
+
+latch_if : (x y : Option ℕ) → (y ≡ None → x ≡ None) → ((byte : ℕ) → Has (latched byte) (latch_items x y) → ⊥) → y ≡ x
+latch_if x None kept none = sym (kept refl)
+latch_if None (Some byte) kept none = absurd (none byte (inl refl))
+latch_if (Some old) (Some byte) kept none = ap Some (unchanged old byte (latched byte) (none byte))
+
+pub latch_stays : (p : ℕ) (s : State) (o : Outcome) (t : State) → (t.board.console.latch ≡ None → s.board.console.latch ≡ None) → Without latched (items p s o t)
+    → t.board.console.latch ≡ s.board.console.latch
+latch_stays p s o t kept none =
+    latch_if s.board.console.latch t.board.console.latch kept (λ byte h. none byte (has_latched p s o t _ h))
+
+pub waiting_stays : (p : ℕ) (s : State) (o : Outcome) (t : State) → AreLatest t.board.console.waiting s.board.console.waiting → Without waiting (items p s o t)
+    → t.board.console.waiting ≡ s.board.console.waiting
+waiting_stays p s o t latest none =
+    let before : List ℕ = s.board.console.waiting in
+    let after : List ℕ = t.board.console.waiting in
+    let as_many : length after ≡ length before = waiting_as_many p s o t none in
+    let no_fewer : length before - length after ≡ 0 = omega (arith, as_many) in
+    latest ∙ ap (λ n. drop n before) no_fewer
 
 -- the board
 

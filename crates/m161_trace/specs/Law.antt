@@ -1,4 +1,4 @@
-use Rattle.std.specs.Prelude.{◌≡◌, ◌≢◌, ◌⊎◌, ℕ, ◌<◌, ◌≤◌, true, List, [], ◌∷◌, length, slice_index, slice_index_or, Option, None, Some, Ok}
+use Rattle.std.specs.Prelude.{◌≡◌, ◌≢◌, ◌⊎◌, ℕ, ◌-◌, ◌<◌, ◌≤◌, true, List, [], ◌∷◌, length, drop, slice_index, slice_index_or, Option, None, Some, Ok}
 use Rattle.m161_tlb.specs.Row.{hi_word, lo_word}
 use Rattle.m161_tlb.specs.Rows.{blank_row}
 use Rattle.m161_cop0.specs.declared.register.Register.{Register}
@@ -37,6 +37,10 @@ abbrev pub as_started : ℕ → State → ℕ → Processor
 as_started q t count =
     let words = start_words q t.board in started_processor words.pc words.r4 words.r29 count
 
+-- bytes that wait are those that waited before, but for the oldest ones, which went
+abbrev pub AreLatest : List ℕ → List ℕ → Type 0
+AreLatest after before = after ≡ drop (length before - length after) before
+
 -- a conflict in processor p, of row i with row j, switched the machine off, and p's rows stay
 pub record StopsAt (p i j : ℕ) (s t : State) : Type 0 where
   pub conflict_is : t.conflict ≡ Some (record { processor = p; row = i; other = j })
@@ -56,7 +60,9 @@ IsTrueOf p s o t (stored at word) = word_in t.memory at ≡ Some word
 IsTrueOf p s o t (linked word) = link_of p t ≡ Some word
 IsTrueOf p s o t (unlinked q) = link_of q t ≡ None
 IsTrueOf p s o t (latched byte) = t.board.console.latch ≡ Some byte
-IsTrueOf p s o t (waiting n) = length t.board.console.waiting ≡ n
+IsTrueOf p s o t (waiting n) =
+    (length t.board.console.waiting ≡ n)
+    × AreLatest t.board.console.waiting s.board.console.waiting
 IsTrueOf p s o t (board place word) = shown_word place t.board ≡ word
 IsTrueOf p s o t (trapped code vector) = o ≡ outcomes.Trapped code vector
 IsTrueOf p s o t idle = o ≡ outcomes.Idle
@@ -65,11 +71,11 @@ IsTrueOf p s o t (conflict i j) = (o ≡ outcomes.Conflict i j) × StopsAt p i j
 IsTrueOf p s o t (starts q) =
     q ≢ p → processor_at q t.processors ≡ as_started q t (processor_at q s.processors).count
 
--- What the items of an accepted Step of processor p tell of the parts that they have items for. Aside
--- are: of processor p its count of Steps, Random, Count, the addresses of the current and the next
--- instruction and whether that is in a delay slot; and how many events the machine accepted. (Cause
--- of another processor shows the board's lines, which are told by the words of the board.) It says
--- nothing of RAM outside the word that was stored to, nor of the console's bytes.
+-- What the items of an accepted Step of processor p tell. Aside are: of processor p its count of
+-- Steps, Random, Count, the addresses of the current and the next instruction and whether that is in
+-- a delay slot; and how many events the machine accepted. (Cause of another processor shows the
+-- board's lines, which are told by the words of the board. RAM is told by its words, of which a
+-- machine's RAM is made.)
 pub record Tells (p : ℕ) (s : State) (o : Outcome) (t : State) (is : List Item) : Type 0 where
   -- each item shows its part's value after the Step
   pub true_of : (i : Item) → Has i is → IsTrueOf p s o t i
@@ -85,8 +91,12 @@ pub record Tells (p : ℕ) (s : State) (o : Outcome) (t : State) (is : List Item
       → control_word p t r ≡ control_word p s r
   pub row_stays : (i : ℕ) → i < 64 → Without (λ (words : ℕ × ℕ). row i words.0 words.1) is
       → (high_at p i t ≡ high_at p i s) × (low_at p i t ≡ low_at p i s)
+  pub ram_stays : (at : ℕ) → Without (stored at) is → word_in t.memory at ≡ word_in s.memory at
   pub link_stays : (q : ℕ) → q < length s.processors → (q ≡ p → Without linked is)
       → (Has (unlinked q) is → ⊥) → link_of q t ≡ link_of q s
+  pub latch_stays : Without latched is → t.board.console.latch ≡ s.board.console.latch
+  pub waiting_stays :
+      Without waiting is → t.board.console.waiting ≡ s.board.console.waiting
   pub word_stays : (place : BoardWord) → IsShown (length s.processors) place
       → Without (board place) is → shown_word place t.board ≡ shown_word place s.board
   pub off_stays : (Has off is → ⊥) → Without (λ (rows : ℕ × ℕ). conflict rows.0 rows.1) is
@@ -95,6 +105,10 @@ pub record Tells (p : ℕ) (s : State) (o : Outcome) (t : State) (is : List Item
       → t.conflict ≡ s.conflict
   pub other_stays : (q : ℕ) → q ≢ p → (Has (starts q) is → ⊥)
       → processor_at q t.processors ≡ processor_at q s.processors
+  -- parts that have no items, since no Step changes them
+  pub output_stays : t.board.console.output ≡ s.board.console.output
+  pub as_large : length t.memory ≡ length s.memory
+  pub unit_stays : t.links.unit ≡ s.links.unit
   pub conf_stays : t.conf ≡ s.conf
   pub as_many : length t.processors ≡ length s.processors
 

@@ -2,9 +2,10 @@
 
 ghost use Rattle.m161_trace.specs.Law.{ItemsTell};
 
-/// The items of a Step tell what it changed of the parts that they have items for: each shows its
-/// part's value after the Step, and a part without an item has the value that it had. The law says
-/// nothing of RAM outside the word that the Step stored to, nor of the console's bytes.
+/// The items of a Step tell what it changed: each shows its part's value after the Step, and a part
+/// without an item has the value that it had: of RAM each word but the one that was stored to, of
+/// the console the byte in its latch, the bytes that wait and those that were sent. Aside are only
+/// the counts of Steps and of events, Random and Count, and where the processor continues.
 pub fn items_tell()
     ensures { ItemsTell }
 {}

@@ -73,7 +73,9 @@ fn second_of_two_rows<T: Tlb>(rt: &impl Abort) {
 }
 
 // A row of page 00401.
-fn of_page(id: u8, g: bool, v: bool) -> Row {
+fn of_page(id: u8, g: bool, v: bool) -> Row
+    requires { id < 64 }
+{
     with_v(row(0x00401, id, g), v)
 }
 
