@@ -14,13 +14,16 @@
 //! index= entrylo= context= badvaddr= entryhi= compare= status= cause= epc=
 //! tlb 53=00400140 00005600  a row of its TLB, as the words in EntryHi and EntryLo
 //! [00003000]=00005600       the word of RAM that the Step stored to, also if it has the same value
-//! link=00003000             the word that the processor's link names
+//! link=00003000             the first byte of the unit that the processor is linked to
 //! unlink 1                  a processor whose link ended
 //! latch=41 waiting=2        the byte that the console is sending, and how many typed bytes wait
 //! wirq= rirq= irqe= cpue= cirqe 1= cipi 1= cram 1 0=
 //! trap 2 80000000, idle, off, conflict 3 5  the outcome
 //! starts 1                  a processor that the Step started
 //! ```
+//!
+//! With symbols in its style, a line has the place of its address behind it: `80010008 <loop+8>`, and
+//! so has a branch's target in the text.
 //!
 //! The line is one definition over the two states and the outcome. `Tracer` is a second state of the
 //! machine, one event behind it, so what it takes doesn't grow with the run. The form is this
