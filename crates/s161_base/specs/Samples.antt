@@ -44,6 +44,13 @@ sample_segments =
     (0x80000000, miss_words) ∷ (0x80000080, trap_words) ∷ (0x80000200, first_words)
     ∷ (0x80000280, second_words) ∷ (0x80006000, frame_words) ∷ []
 
+-- the labels of its source, in their order, with their addresses
+abbrev pub sample_labels : List (List ℕ × ℕ)
+sample_labels =
+    (codes "ack", 0x800000ac) ∷ (codes "main", 0x80000200) ∷ (codes "ready", 0x8000022c)
+    ∷ (codes "acked", 0x80000244) ∷ (codes "last", 0x80000254) ∷ (codes "again", 0x800002a0)
+    ∷ (codes "stop", 0x800002b8) ∷ []
+
 unfoldable pub sample_file : List ℕ
 sample_file = elf_bytes sample_entry sample_segments
 

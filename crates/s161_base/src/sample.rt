@@ -1,16 +1,17 @@
 //! The built-in sample kernel.
 
-ghost use Rattle.std.specs.Prelude.{◌≡◌, ◌⊎◌, ℕ, List, IfErr, IfOk, IfSome};
+ghost use Rattle.std.specs.Prelude.{◌≡◌, ◌⊎◌, ℕ, List, IfErr, IfOk, IfSome, bytes_eq, codes};
 ghost use Rattle.s161_base.specs.Reading.{IsFileUnread, IsOfBytes};
-ghost use Rattle.s161_base.specs.Samples.{image_file, sample_file, IsFileName};
+ghost use Rattle.s161_base.specs.Samples.{image_file, sample_file, sample_labels, IsFileName};
 ghost use Rattle.s161_base.specs.helpers.Samples.{IsSample};
 
 use crate::fault::Fault;
 use crate::files::FileSource;
 use crate::input::read_file;
 use m161_asm::{AsmError, Program, assemble};
-use m161_elf_writer::write;
-use std::alloc::Global;
+use m161_elf_writer::{write, write_with_symbols};
+use m161_symbols::Symbols;
+use std::alloc::{AllocError, Global};
 
 /// The name of the sample's image.
 const NAME: &str = "@sample";
@@ -138,6 +139,27 @@ pub fn sample_image<'a>(alloc: Global) -> Result<Vec<u8>, Fault<'a>>
     Ok(write(alloc, &program)?)
 }
 
+/// The labels of the sample's source.
+///
+/// # Errors
+/// Memory was refused.
+pub(crate) fn sample_symbols(alloc: Global) -> Result<Symbols, AllocError>
+    ensures { IfOk result (λ symbols. symbols ≡ sample_labels) }
+{
+    let Ok(program) = sample_program(alloc) else {
+        return Err(AllocError);
+    };
+    let labelled = write_with_symbols(alloc, &program)?;
+    Symbols::new(alloc, &labelled)
+}
+
+/// Whether an image's name is that of the sample.
+pub(crate) fn is_sample(name: &str) -> bool
+    ensures { result ≡ bytes_eq name.now (codes "@sample") }
+{
+    name == NAME
+}
+
 /// The bytes of an image: the sample by its name, `@sample`, or else those of a file.
 ///
 /// # Errors
@@ -154,7 +176,7 @@ pub fn read_image<'a, F: FileSource>(
     ensures err { IfErr result (λ fault. (fault ≡ Fault.Memory)
         ⊎ (IsFileUnread name.entry IsOfBytes fault × IsFileName name.entry.now)) }
 {
-    if name == NAME {
+    if is_sample(name) {
         sample_image(alloc)
     } else {
         read_file(alloc, files, name)

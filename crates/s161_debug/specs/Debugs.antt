@@ -86,15 +86,15 @@ pub record IsOpened
   pub is_that : machine_fault size file logged ≡ None
   pub boots : BootsTo file (asked_conf size logged) booted
 
--- the session of a task: its image's file was booted, whose symbols name addresses if that is asked
--- for; the files have these bytes, and that of the image, as far as they are known
+-- the session of a task: its image's file was booted, and the image's names are those of addresses if
+-- that is asked for; the files have these bytes, and that of the image, as far as they are known
 pub record Opens
     (task : DebugTask) (files : List ℕ → Option (List ℕ)) (image : Option (List ℕ))
     (booted : History) (events : List Event) (style : Style) : Type 0 where
   pub file : List ℕ
   pub is_file : IfSome image (λ bytes. file ≡ bytes)
   pub opened : IsOpened task.source task.size files file booted events
-  pub style_is : style ≡ style_of Numbered task.symbols file
+  pub style_is : style ≡ style_of Numbered task.symbols task.image.now file
 
 -- a finished session
 pub record IsDebug

@@ -5,7 +5,7 @@ use Rattle.m161_text.specs.Lines.{text_of}
 
 unfoldable pub help_text : List ℕ
 help_text = text_of (
-    codes "b P ADDR                   sets a breakpoint of processor P" ∷
+    codes "b P ADDR                   sets a breakpoint of processor P; with --symbols ADDR may be a name" ∷
     codes "d P ADDR                   deletes it" ∷
     codes "s P | s P N                makes a Step of processor P; N Steps, up to a stop" ∷
     codes "k HH                       types a byte" ∷

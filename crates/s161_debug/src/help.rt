@@ -5,7 +5,7 @@ ghost use Rattle.s161_debug.specs.Helps.{help_text};
 
 // A line for each command, its forms first.
 const HELP: &str = "\
-b P ADDR                   sets a breakpoint of processor P
+b P ADDR                   sets a breakpoint of processor P; with --symbols ADDR may be a name
 d P ADDR                   deletes it
 s P | s P N                makes a Step of processor P; N Steps, up to a stop
 k HH                       types a byte

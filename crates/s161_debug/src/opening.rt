@@ -70,7 +70,7 @@ pub(crate) fn open<'a, F: FileSource>(
     let file = read_image(alloc, files, task.image)?;
     let image = file.as_slice();
     let booted = open_image(alloc, files, image, task.size, task.source)?;
-    let style = style_of(alloc, Registers::Numbered, task.symbols, image)?;
+    let style = style_of(alloc, Registers::Numbered, task.symbols, task.image, image)?;
     Ok(Opened {
         machine: booted.machine,
         events: booted.events,

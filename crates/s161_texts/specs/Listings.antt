@@ -51,7 +51,7 @@ pub record IsDisassembled
     (task : ListingTask) (image : Option (List ℕ)) (text : List ℕ) : Type 0 where
   pub file : List ℕ
   pub is_file : IfSome image (λ bytes. file ≡ bytes)
-  pub is_listing : IsListing (style_of task.registers task.symbols file) file text
+  pub is_listing : IsListing (style_of task.registers task.symbols task.image.now file) file text
 
 -- a file has no listing: it has this first fault; or it has no fault, and memory was refused
 abbrev pub IsUnlisted : List ℕ → Fault → Type 0

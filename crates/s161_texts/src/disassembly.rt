@@ -23,7 +23,7 @@ use std::fmt::Write;
 /// The bytes of RAM into which a file is loaded: the most that a machine can have.
 const RAM: u32 = 16_777_216;
 
-/// The listing of an ELF file: for each segment, in the order of the program headers, a line for
+/// The listing of an image's ELF file: for each segment, in the order of the program headers, a line for
 /// each whole word of its part of the file, from its first multiple of 4 on. A line has the
 /// address, the word that loading leaves there, and its text; with symbols the places of the address
 /// and of a target stand behind them.
@@ -32,17 +32,18 @@ const RAM: u32 = 16_777_216;
 /// The first fault of the file; or memory was refused.
 pub fn disassembly<'a>(
     alloc: Global,
+    name: &str,
     file: &[u8],
     registers: Registers,
     symbols: bool,
 ) -> Result<String, Fault<'a>>
     ensures ok { IfOk result (λ text.
-        IsListing (style_of registers symbols file.now) file.now (string_bytes text)) }
+        IsListing (style_of registers symbols name.now file.now) file.now (string_bytes text)) }
     ensures fault { IfErr result (IsUnlisted file.now) }
 {
     let image = load(alloc, file, RAM)?;
     let spans = loads(alloc, file, RAM)?;
-    let style = style_of(alloc, registers, symbols, file)?;
+    let style = style_of(alloc, registers, symbols, name, file)?;
     Ok(listing(alloc, &style, &image.bytes, &spans)?)
 }
 

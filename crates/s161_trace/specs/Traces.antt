@@ -49,7 +49,7 @@ traced style number s (e ∷ es) =
 abbrev pub shown_lines : TraceTask → List ℕ → State → List Event → List (List ℕ)
 shown_lines task file s events =
     take task.count
-    (drop task.from (traced (style_of task.registers task.symbols file) 0 s events))
+    (drop task.from (traced (style_of task.registers task.symbols task.image.now file) 0 s events))
 
 -- their text, of a run that made these events
 abbrev pub lines_text : TraceTask → List ℕ → State → List Event → List ℕ

@@ -25,7 +25,7 @@ impl Window {
         ensures { IfOk result (λ window. window ≡ window_of task.now file.now) }
     {
         Ok(Window {
-            style: style_of(alloc, task.registers, task.symbols, file)?,
+            style: style_of(alloc, task.registers, task.symbols, task.image, file)?,
             from: task.from,
             count: task.count,
         })

@@ -100,5 +100,5 @@ fn listing<'a, F: FileSource>(
         (image_file (F.known files.old) task.entry.image.now)) }
 {
     let file = read_image(alloc, files, task.image)?;
-    Ok(disassembly(alloc, &file, task.registers, task.symbols)?.into_bytes())
+    Ok(disassembly(alloc, task.image, &file, task.registers, task.symbols)?.into_bytes())
 }

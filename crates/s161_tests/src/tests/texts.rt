@@ -46,7 +46,7 @@ pub(crate) fn line_of(alloc: Global, fault: Fault<'_>) -> Result<String, AllocEr
 
 /// The listing of a file, or the line of its fault.
 fn list(alloc: Global, file: &[u8]) -> Result<String, AllocError> {
-    match disassembly(alloc, file, Registers::Numbered, false) {
+    match disassembly(alloc, "image", file, Registers::Numbered, false) {
         Ok(text) => Ok(text),
         Err(fault) => line_of(alloc, fault),
     }
@@ -61,7 +61,7 @@ fn dis_demo(rt: HostRuntime) -> Result<(), Fail> {
 
 #[test]
 fn dis_by_names(rt: HostRuntime) -> Result<(), Fail> {
-    let text = match disassembly(rt.alloc(), &IMAGE, Registers::Named, false) {
+    let text = match disassembly(rt.alloc(), "image", &IMAGE, Registers::Named, false) {
         Ok(text) => text,
         Err(fault) => line_of(rt.alloc(), fault)?,
     };

@@ -19,7 +19,7 @@ use Rattle.s161_trace.specs.Traces.{traced}
 -- which events have lines, and how these show registers and addresses, for an image's file
 abbrev pub window_of : TraceTask → List ℕ → Window
 window_of task file = record {
-  style = style_of task.registers task.symbols file;
+  style = style_of task.registers task.symbols task.image.now file;
   from = task.from;
   count = task.count;
 }
