@@ -1,3 +1,4 @@
+mod Errors
 mod Faults
 mod Jumping
 mod Numbers
