@@ -1,4 +1,3 @@
-mod Errors
 mod Faults
 mod Jumping
 mod Numbers
