@@ -205,7 +205,7 @@ class Session:
         for number, line in enumerate(lines):
             usual = answers[number - begin]
             if at == len(output) and self.is_fault() and usual:
-                return self.told("memory")
+                return self.told(self.unread(number))
             if output.startswith(usual, at):
                 at += len(usual)
                 self.does(line, usual.decode())
@@ -228,7 +228,7 @@ class Session:
         if at != len(output):
             raise Wrong(f"more was written: {output[at : at + 60]!r}")
         if self.is_fault():
-            return self.told("memory")
+            return self.told(self.unread(len(lines)))
         if self.answer.status != 0 or self.answer.errors:
             raise Wrong("another exit status, or an error")
         if not self.refused:
@@ -237,6 +237,18 @@ class Session:
 
     def is_fault(self):
         return self.answer.status == 1 and self.answer.errors == MEMORY
+
+    def unread(self, answered):
+        """That memory was refused before a line was read to its end, after this many lines that have
+        their answers: the fault of memory ends a session there alone. In carrying out a line it is
+        that line's answer."""
+        read = self.command.text[: self.answer.counts.place]
+        whole = read.count(b"\n")
+        if read.endswith(b"\n"):
+            raise Wrong(f"the fault of memory, though line {whole} was read to its end")
+        if answered < whole:
+            raise Wrong(f"line {answered + 1} has no answer")
+        return "memory, in reading a line" if read else "memory"
 
     def told(self, end):
         kinds = self.refused + ([end] if end else [])

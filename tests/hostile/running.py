@@ -8,7 +8,7 @@ import time
 from typing import NamedTuple
 
 KINDS = ("memory", "thread", "open", "read", "write")
-LAYOUT = struct.Struct("=Q5Q5Q8Q8QQQ256s")
+LAYOUT = struct.Struct("=Q5Q5Q8Q8QQQQ256s")
 
 
 class Counts(NamedTuple):
@@ -23,6 +23,7 @@ class Counts(NamedTuple):
     bytes_written: tuple
     unwatched: int  # calls that the shim doesn't disturb, though it might have to
     descriptor: int  # of the first disturbed call, or -1
+    place: int  # how many bytes of standard input were read before the last disturbed call
     name: bytes  # of the file of that descriptor
 
 
@@ -132,8 +133,10 @@ class Place:
         requests = dict(zip(KINDS, found[1:6]))
         disturbed = dict(zip(KINDS, found[6:11]))
         calls = [tuple(found[at : at + 4]) for at in (11, 15, 19, 23)]
-        name = found[29].split(b"\0")[0]
-        return Counts(found[0] == 1, requests, disturbed, *calls, found[27], found[28] - 1, name)
+        name = found[30].split(b"\0")[0]
+        return Counts(
+            found[0] == 1, requests, disturbed, *calls, found[27], found[28] - 1, found[29], name
+        )
 
     def undisturbed(self, words, text=b""):
         """The answer to these words and this text on standard input, kept for the next time."""

@@ -53,6 +53,7 @@ struct report {
     _Atomic uint64_t bytes[2][4]; // that were read and written
     _Atomic uint64_t unwatched;   // calls by which memory or bytes are had, and that nothing disturbs
     _Atomic uint64_t descriptor;  // of the first disturbed call, and 1
+    _Atomic uint64_t place;       // how many bytes of descriptor 0 were read before the last one
     char name[256];
 };
 
@@ -191,6 +192,7 @@ static int is_chosen(enum kind kind, uint64_t which) {
 
 // Notes that a call was disturbed.
 static void disturb(enum kind kind, int fd) {
+    report->place = report->bytes[0][0];
     if (report->disturbed[kind]++ == 0) {
         report->descriptor = (uint64_t)(fd + 1);
         if (0 <= fd && fd < NAMED)

@@ -15,7 +15,7 @@ use Rattle.s161_base.specs.Streams.{AppendsSome, streams}
 use Rattle.s161_debug.specs.Lines.{Does, DoesLines, asked_by}
 use Rattle.s161_debug.specs.Sessions.{Breaks, Ends, IsBehind, IsLast, IsPassed, IsWritten}
 use Rattle.s161_debug.specs.helpers.Sessions.{Answers, FailsTurn, IsUnread, Place, Rests, Turns, bytes_of, place}
-use Rattle.s161_debug.proofs.Texts.{all_more, at_most_one, lines_behind, one_line, text_more}
+use Rattle.s161_debug.proofs.Texts.{all_more, lines_behind, one_line, text_more}
 
 -- Sessions, line by line.
 
@@ -160,8 +160,8 @@ module _ (s : SessionState) (events : List Event) (input before left : Option (L
 
     fails_here : (fault : Fault) → FailsTurn fault line p q → Breaks s events (streams input l before q.output) fault
     fails_here (Input NotUtf8) x = breaks_here (Input NotUtf8) (line, here, x.0) (unwritten x.1)
-    fails_here Memory x = breaks_here Memory (omega (arith, ap length here)) (unwritten x)
     fails_here Output x = output_fails x
+    fails_here Memory x = absurd x
     fails_here (Input Failed) x = absurd x
     fails_here (Input TooLong) x = absurd x
     fails_here (File name why) x = absurd x
@@ -197,7 +197,7 @@ module _ (s : SessionState) (events : List Event) (input before left : Option (L
       Breaks s events (streams input l before q.output) fault
   unfinished l q (Input Failed) part lacks consumes x same = cut l q (Input Failed) part consumes same lacks (λ w. w)
   unfinished l q (Input TooLong) part lacks consumes x same = cut l q (Input TooLong) part consumes same (lacks, x) (λ w. w)
-  unfinished l q Memory part lacks consumes x same = cut l q Memory part consumes same (at_most_one part lacks) (λ w. w)
+  unfinished l q Memory part lacks consumes x same = cut l q Memory part consumes same lacks (λ w. w)
   unfinished l q (Input NotUtf8) part lacks consumes x same = absurd x
   unfinished l q Output part lacks consumes x same = absurd x
   unfinished l q (File name why) part lacks consumes x same = absurd x

@@ -1,4 +1,4 @@
-use Rattle.std.proofs.Common.{◌≡◌, ◌∙◌, ℕ, ◌≤◌, ◌<◌, Bool, true, false, List, [], ◌∷◌, ◌++◌, length, ap, sym, refl, arith, append-nil, append_assoc}
+use Rattle.std.proofs.Common.{◌≡◌, ◌∙◌, ℕ, ◌<◌, Bool, true, false, List, [], ◌∷◌, ◌++◌, length, ap, sym, refl, append-nil, append_assoc}
 use Rattle.std.specs.List.{AllByRecursion}
 use Rattle.m161_text.specs.Lines.{lines_of, text_of, with_line_end}
 use Rattle.m161_text.specs.Parts.{Lacks}
@@ -28,8 +28,3 @@ all_more P (first ∷ lines) line each last = (each.0, all_more P lines line eac
 pub one_line : (ended : Bool) (line : List ℕ) → Lacks 10 line → (ended ≡ false → 0 < length line) → lines_of (bytes_of ended line) ≡ line ∷ []
 one_line true line lacks some = lines_cut line [] lacks
 one_line false line lacks some = lines_last line (some refl) lacks
-
--- the first bytes of a line are at most one line
-pub at_most_one : (part : List ℕ) → Lacks 10 part → length (lines_of part) ≤ 1
-at_most_one [] lacks = omega arith
-at_most_one (b ∷ bs) lacks = omega (arith, ap length (lines_last (b ∷ bs) (omega arith) lacks))

@@ -1,4 +1,4 @@
-use Rattle.std.specs.Prelude.{◌≡◌, ◌≢◌, ◌⊎◌, ℕ, ◌≤◌, ◌<◌, List, [], ◌∷◌, ◌++◌, length, take, Option, codes}
+use Rattle.std.specs.Prelude.{◌≡◌, ◌≢◌, ◌⊎◌, ℕ, ◌<◌, List, [], ◌∷◌, ◌++◌, length, take, Option, codes}
 use Rattle.std.specs.List.{AllByRecursion}
 use Rattle.std.specs.Io.KnownBytes.{Appends, Consumes, IsAtEnd}
 use Rattle.m161_machine.specs.declared.event.Event.{Event}
@@ -45,13 +45,13 @@ abbrev pub IsOneLine : (List ℕ → Type 0) → List ℕ → Type 0
 IsOneLine IsSo text = (line : List ℕ) × (lines_of text ≡ line ∷ []) × IsSo line
 
 -- what was read behind the lines that were passed, by the fault that ends a session: the input
--- failed, or a line was too long, before the line's end; a line that isn't UTF-8; at most a line,
--- for which memory was refused; the line whose answer couldn't be written
+-- failed, a line was too long, or memory was refused for its bytes, before the line's end; a line
+-- that isn't UTF-8; the line whose answer couldn't be written
 abbrev pub IsBehind : Fault → List ℕ → Type 0
 IsBehind (Input Failed) part = Lacks 10 part
 IsBehind (Input TooLong) part = Lacks 10 part × (402_653_184 < length part)
 IsBehind (Input NotUtf8) part = IsOneLine (λ line. ¬ IsText line) part
-IsBehind Memory part = length (lines_of part) ≤ 1
+IsBehind Memory part = Lacks 10 part
 IsBehind Output part = IsOneLine IsText part
 IsBehind _ part = ⊥
 

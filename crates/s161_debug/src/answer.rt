@@ -3,104 +3,108 @@
 ghost use Rattle.std.specs.Prelude.{◌≡◌, ◌+◌, ◌-◌, ◌≤◌, [], codes, decimal, length, string_bytes, vec_capacity, IfNone, IfOk};
 ghost use Rattle.m161_text.specs.Lines.{with_line_end};
 ghost use Rattle.m161_text.specs.Parts.{◌␣◌};
+ghost use Rattle.m161_debug.specs.Commands.{name_of_error};
 ghost use Rattle.m161_debug.specs.Jumps.{jump_fault};
 ghost use Rattle.s161_debug.specs.Lines.{asked_by, error_line, name_of_jump_error, Does, DoesCommand, DoesJump, DoesJumpIf};
-ghost use Rattle.s161_debug.specs.helpers.Lines.{Jumped};
+ghost use Rattle.s161_debug.specs.helpers.Lines.{printed_by, Jumped};
 
 use crate::Session;
 use crate::asked::{Asked, asked_by, event_of_jump};
 use crate::help::help;
 use crate::left::Left;
-use m161_debug::JumpError;
+use m161_debug::{CommandError, JumpError};
 use m161_machine::Event;
 use std::alloc::{AllocError, Global};
-use std::fmt::Write;
 
-/// Does a line. Returns what it prints.
-///
-/// # Errors
-/// Memory was refused for the text.
-pub(crate) fn answer(
-    alloc: Global,
-    session: &mut Session,
-    line: &str,
-    left: &mut Left,
-) -> Result<String, AllocError>
-    ensures { IfOk result (λ text. Does (asked_by line.now) line.now session.old left.old
-        session.new left.new (string_bytes text)) }
+/// What a line prints.
+#[derive(Drop)]
+pub(crate) enum Reply {
+    /// A text that was made for it.
+    Made(String),
+    /// A text of the program's own, which takes no memory.
+    Fixed(&'static str),
+}
+
+impl Reply {
+    /// Its bytes.
+    pub(crate) fn as_bytes(&self) -> &[u8]
+        ensures { result.now ≡ printed_by self.now }
+    {
+        match self {
+            Reply::Made(text) => text.as_bytes(),
+            Reply::Fixed(text) => text.as_bytes(),
+        }
+    }
+}
+
+/// Does a line. Returns what it prints: where memory is refused, that it was, so that this can't fail.
+pub(crate) fn answer(alloc: Global, session: &mut Session, line: &str, left: &mut Left) -> Reply
+    ensures { Does (asked_by line.now) line.now session.old left.old session.new left.new
+        (printed_by result) }
 {
     match asked_by(line) {
-        Asked::Nothing | Asked::Quit => Ok(String::new(alloc)),
-        Asked::Help => String::from_str(alloc, help()),
+        Asked::Nothing | Asked::Quit => Reply::Fixed(""),
+        Asked::Help => Reply::Fixed(help()),
         Asked::Jump => jump_if_asked(alloc, session, event_of_jump(line), left),
         Asked::Command => command(alloc, session, line, left),
     }
 }
 
 // Does the session's command of a line. Returns what it prints, or the line of its error.
-fn command(
-    alloc: Global,
-    session: &mut Session,
-    line: &str,
-    left: &mut Left,
-) -> Result<String, AllocError>
-    ensures { IfOk result (λ text. DoesCommand line.now session.old left.old session.new left.new
-        (string_bytes text)) }
+fn command(alloc: Global, session: &mut Session, line: &str, left: &mut Left) -> Reply
+    ensures { DoesCommand line.now session.old left.old session.new left.new (printed_by result) }
 {
     let mut text = String::new(alloc);
     match session.command(line, left.as_slice(), &mut text) {
-        Ok(used) => left.use_up(used),
-        Err(error) => {
-            let name = error.name();
-            writeln!(text, "? {name}")?;
+        Ok(used) => {
+            left.use_up(used);
+            Reply::Made(text)
         }
+        Err(error) => Reply::Fixed(line_of_error(error)),
     }
-    Ok(text)
+}
+
+// The line of a command's error.
+fn line_of_error(error: CommandError) -> &'static str
+    ensures { result.now ≡ error_line (name_of_error error) }
+{
+    match error {
+        CommandError::Unknown => "? Unknown\n",
+        CommandError::BadArgument => "? BadArgument\n",
+        CommandError::BadProcessor => "? BadProcessor\n",
+        CommandError::TooMany => "? TooMany\n",
+        CommandError::NoMemory => "? NoMemory\n",
+    }
 }
 
 // Goes to the state before an event, if there is its number. Returns what that prints.
-fn jump_if_asked(
-    alloc: Global,
-    session: &mut Session,
-    event: Option<u64>,
-    left: &mut Left,
-) -> Result<String, AllocError>
-    ensures { IfOk result (λ text. DoesJumpIf event session.old left.old session.new left.new
-        (string_bytes text)) }
+fn jump_if_asked(alloc: Global, session: &mut Session, event: Option<u64>, left: &mut Left) -> Reply
+    ensures { DoesJumpIf event session.old left.old session.new left.new (printed_by result) }
 {
     match event {
         Some(k) => jump(alloc, session, k, left),
-        None => line_of_error(alloc, JumpError::BadArgument),
+        None => Reply::Fixed(line_of_jump_error(JumpError::BadArgument)),
     }
 }
 
 // Goes to the state before event k. Returns what that prints.
-fn jump(alloc: Global, session: &mut Session, k: u64, left: &mut Left) -> Result<String, AllocError>
-    ensures { IfOk result (λ text. DoesJump k session.old left.old session.new left.new
-        (string_bytes text)) }
+fn jump(alloc: Global, session: &mut Session, k: u64, left: &mut Left) -> Reply
+    ensures { DoesJump k session.old left.old session.new left.new (printed_by result) }
 {
     match go_back(alloc, session, k, left) {
-        Ok(text) => Ok(text),
-        Err(error) => line_of_error(alloc, error),
+        Ok(text) => Reply::Made(text),
+        Err(error) => Reply::Fixed(line_of_jump_error(error)),
     }
 }
 
-// The line of an error.
-fn line_of_error(alloc: Global, error: JumpError) -> Result<String, AllocError>
-    ensures { IfOk result (λ text. string_bytes text ≡ error_line (name_of_jump_error error)) }
-{
-    let name = name_of(error);
-    format!(in alloc; "? {name}\n")
-}
-
-// The name that an error is printed by.
-fn name_of(error: JumpError) -> &'static str
-    ensures { result.now ≡ name_of_jump_error error }
+// The line of a jump's error.
+fn line_of_jump_error(error: JumpError) -> &'static str
+    ensures { result.now ≡ error_line (name_of_jump_error error) }
 {
     match error {
-        JumpError::BadArgument => "BadArgument",
-        JumpError::Dropped => "Dropped",
-        JumpError::NoMemory => "NoMemory",
+        JumpError::BadArgument => "? BadArgument\n",
+        JumpError::Dropped => "? Dropped\n",
+        JumpError::NoMemory => "? NoMemory\n",
     }
 }
 

@@ -19,7 +19,7 @@ use std::io::{Read, Write};
 ///
 /// # Errors
 /// The input can't be read, a line is too long or isn't UTF-8, or the output failed; or memory was
-/// refused.
+/// refused for the bytes of a line.
 pub(crate) fn serve<'a, I: Read, O: Write>(
     alloc: Global,
     session: Session,
@@ -75,7 +75,7 @@ fn do_line<'a, O: Write>(
     let Ok(text) = std::str::from_utf8(&line.bytes) else {
         return Err(Fault::Input(Unread::NotUtf8));
     };
-    let printed = answer(alloc, session, text, left)?;
+    let printed = answer(alloc, session, text, left);
     send(output, printed.as_bytes())?;
     Ok(line.ended && text != "quit")
 }

@@ -62,7 +62,6 @@ pub record Answers
 -- a line isn't done, or what it prints isn't written
 abbrev pub FailsTurn : Fault → List ℕ → Place → Place → Type 0
 FailsTurn (Input NotUtf8) line p q = (¬ IsText line) × (q.output ≡ p.output)
-FailsTurn Memory line p q = q.output ≡ p.output
 FailsTurn Output line p q = Answers line p q AppendsSome
 FailsTurn _ line p q = ⊥
 
