@@ -292,66 +292,106 @@ def words_and_faults(make):
 
 
 def middle(make):
-    """Each command, with at least 1,000 requests for memory where it can make so many."""
+    """Each command, with at least 1,000 requests for memory where it can make so many. `demo`, `dis`
+    without `--symbols`, `schedule`, `replay`, `audit`, `console`, `trace` and a run that prints no log
+    can't: they make room for a whole text, log or run at once, or double the room that they have."""
     images(make)
     one = ["--ram", "65536"]
     two = ["--cpus", "2", "--ram", "65536"]
     many = ["--cpus", "32", "--ram", "65536"]
     source = long_source(40, 12)
     make.assemble("long.elf", source)
-    make.assemble("printer.elf", PRINTER.format(count=900))
+    make.write("labels.elf", make.said(["as", "--symbols"], long_source(10, 30).encode()))
+    make.assemble("printer.elf", PRINTER.format(count=300))
     quick = ["--turns", "1", "--transfer", "3"]
     printing = make.said(["schedule", "printer.elf", *one, *quick])
     make.write("printing.schedule", printing)
     make.write("printing.log", make.said(["run", "printer.elf", *one, "--only-log"], printing))
-    keys = make.write("many-keys", "help\nstart\n" + "ring\n" * 60 + "off\n")
+    keys = make.write("many-keys", "help\nstart\n" + "ring\n" * 20 + "off\n")
     typed = ["--turns", "1", "--gap", "none", "--keys", keys]
     at_random = ["--random", "7"]
     priorities = ["--random", "7", "--changes", "2", "--within", "500"]
     shootdown = make.example("shootdown.schedule").encode()
     watches = "".join(f"w {n % 64} {1024 + n:05x} 00003000 00003004\n" for n in range(400))
     make.write("many.watches", watches)
+    watched = ["search", "hasty.elf", *two, "--watches", "page.watches"]
+    changed = ["--changes", "2", "--within", "100"]
     script = "\n".join(
         [
             "g 100",
             "b 0 80000210",
-            *["w\nr 0\nc 0\nx 80000200 9\nl 20\nm 0x80000200 12\nx 80000200 4 0"] * 40,
+            *["w\nr 0\nc 0\nx 80000200 9\nl 20\nm 0x80000200 12\nx 80000200 4 0"] * 6,
             "g 300",
             "d 0 80000210",
             "u o\nu o\nl 9\nu r 0 11\nw\nj 50\nr 0\ns 0 40\nk 41\no\nu o\ng 700",
-            *["w\nl 1024\nt 0\nhelp"] * 20,
+            *["w\nl 99\nt 0\nhelp\nj 700\nj 9999\nx 80000201 1\nr 1"] * 4,
             "j 1\ng\nl 30\nquit\n",
         ]
     )
     events = events_of(printing.decode())
     return [
         Command(["as"], text=source.encode(), of="long.s"),
+        Command(["as", "--symbols"], text=long_source(20, 6).encode(), of="labels.s"),
         Command(["dis", "long.elf"]),
         Command(["dis", "long.elf", "--names"]),
+        Command(["dis", "labels.elf", "--symbols"]),
         Command(["run", "printer.elf", *one, "--show-log"], "scheduled", printing),
         Command(["run", "printer.elf", *one, "--log", "99", "--only-log"], "scheduled", printing),
         Command(["run", "printer.elf", *one, *quick], "driven"),
-        Command(["run", "shell.elf", *two, *at_random, "--keys", keys, "--show-log"], "driven"),
+        Command(["run", "shell.elf", *two, *at_random, "--keys", keys, "--events", "2500", "--show-log"],
+                "driven", ends=3),
+        Command(["run", "shell.elf", *two, *priorities, "--keys", keys, "--events", "1500", "--link",
+                 "line", "--strict", "--only-log"], "driven", ends=3),
         Command(["run", "shell.elf", *many, *typed], "driven"),
         Command(["run", "spin.elf", *many, "--threads", "50", "--only-log"], "threads", ends=3,
                 sort=True),
+        Command(["run", "spin.elf", *many, "--threads", "40", "--burst", "7", "--only-log"], "threads",
+                ends=3, sort=True),
         Command(["run", "off.elf", *many, "--threads", "50", "--burst", "7"], "threads"),
         Command(["schedule", "shell.elf", *two, *priorities, "--keys", keys]),
         Command(["schedule", "printer.elf", *one, *quick]),
         Command(["replay", "printer.elf", "printing.log"]),
         Command(["audit", "@sample", "many.watches", *two], text=shootdown),
-        Command(["search", "turns.elf", *two, "--seeds", "40"]),
-        Command(["search", "hasty.elf", *two, "--seeds", "9", "--watches", "page.watches"], ends=4),
-        Command(["search", "hasty.elf", *two, "--seeds", "9", "--watches", "page.watches", "--changes",
-                 "2", "--within", "100"], ends=4),
+        Command(["search", "turns.elf", *two, "--seeds", "180"]),
+        Command([*watched, *changed, "--seeds", "120", "--events", "60"]),
+        Command([*watched, "--seeds", "9"], ends=4),
+        Command([*watched, *changed, "--seeds", "9"], ends=4),
         Command(["search", "turns.elf", *two, "--seeds", "9", "--output", "keys"], ends=4),
         Command(["console", "printer.elf", *one, "--transfer", "3"], "console", b""),
         Command(["console", "shell.elf", *many, "--gap", "40"], "console", b"help\nstart\nring\noff\n"),
         Command(["debug", "printer.elf", "printing.schedule", *one], "debug", script.encode(),
                 events=events, size=one),
+        Command(["debug", "printer.elf", "printing.log"], "debug", script.encode(), events=events,
+                size=one),
         Command(["trace", "printer.elf", *one], "traced", printing),
-        Command(["trace", "shell.elf", *two, *at_random, "--keys", keys, "--names"], "traced"),
+        Command(["trace", "shell.elf", *two, *at_random, "--keys", keys, "--events", "6000", "--names"],
+                "traced", ends=3),
     ]
+
+
+def steady():
+    """Pairs of commands: the other one makes many more Steps, or types many more keys, which take no
+    memory, so it makes no more requests than the first."""
+    one = ["--ram", "65536"]
+    many = ["--cpus", "32", "--ram", "65536"]
+    run = ["run", "spin.elf"]
+    pairs = [
+        (Command(words, text=few, ends=ends, of="few"), Command(words, text=more, ends=ends, of="many"))
+        for words, ends in (
+            ([*run, *one], 3),
+            ([*run, *one, "--log", "9"], 3),
+            (["audit", "spin.elf", "page.watches", *one], 0),
+        )
+        for few, more in ((b"s 0\n", b"s 0 1000000\n"), (b"k 41\n", b"k 41\n" * 200))
+    ]
+    for words in (
+        [*run, *many, "--turns", "1", "--events"],
+        [*run, *many, "--random", "1", "--events"],
+        [*run, *many, "--random", "1", "--changes", "3", "--within", "50", "--events"],
+        ["console", "spin.elf", *many, "--events"],
+    ):
+        pairs.append((Command([*words, "64"], ends=3), Command([*words, "30000"], ends=3)))
+    return pairs
 
 
 SIZES = {"small": small, "middle": middle}

@@ -1,6 +1,7 @@
-"""refused_memory.py PROGRAM SHIM TOP SIZE: see tests/refused-memory."""
+"""refused_memory.py PROGRAM SHIM TOP SIZE [COMMAND..]: see tests/refused-memory."""
 import sys
 
+import commands
 import judging
 import running
 import sweeping
@@ -34,8 +35,21 @@ def refuse(task):
         return number, mode, n, "wrong", f"request {n}: {wrong}: {sweeping.told(answer)}", bool(hit)
 
 
-def main(program, shim, top, size):
-    sweep = sweeping.start("tests/refused-memory", program, shim, top, size)
+def compare_steady(sweep):
+    """That Steps and keys make no request for memory: the requests of runs with few and with many."""
+    for few, many in commands.steady():
+        answers = [running.place.undisturbed(command.words, command.text) for command in (few, many)]
+        counts = [answer.counts.requests["memory"] for answer in answers]
+        right = counts[1] <= counts[0] and all(answer.status == many.ends for answer in answers)
+        print(f"{many.name}: {counts[1]} requests for memory, {few.name}: {counts[0]}")
+        if not right:
+            print(f"{sweep.script}: {many.name}: more requests than {few.name}, or another status")
+        sweep.passed += right
+        sweep.failed += not right
+
+
+def main(program, shim, top, size, *chosen):
+    sweep = sweeping.start("tests/refused-memory", program, shim, top, size, chosen)
     sweep.settle(judging)
     tasks = []
     for number, usual in enumerate(sweep.usual):
@@ -64,6 +78,8 @@ def main(program, shim, top, size):
         lambda usual: f"{usual.counts.requests['memory']} requests for memory"
         + (f", {usual.counts.requests['thread']} for threads" if usual.counts.requests["thread"] else ""),
     )
+    if not chosen:
+        compare_steady(sweep)
     refused = sum(usual.counts.requests["memory"] for usual in sweep.usual if usual)
     print(f"{refused} requests for memory of {len(sweep.commands)} commands")
     sweep.end()

@@ -12,22 +12,47 @@ import running
 sweep = None
 
 
-def start(script, program, shim, top, size):
-    """A folder for the runs, with the files that the commands need."""
+def start(script, program, shim, top, size, chosen=()):
+    """A folder for the runs, with the files that the commands need; the chosen ones of the commands,
+    or all."""
     folder = tempfile.TemporaryDirectory(prefix="s161-hostile-")
     make = commands.Maker(program, top, folder.name)
-    return Sweep(script, program, shim, folder, commands.SIZES[size](make))
+    listed = list(enumerate(commands.SIZES[size](make), 1))
+    for word in chosen:
+        if not any(is_chosen(word, *place) for place in listed):
+            for number, command in listed:
+                print(f"{number}: {command.name}")
+            folder.cleanup()
+            sys.exit(f"{script}: no command is {word}")
+    return Sweep(
+        script,
+        program,
+        shim,
+        folder,
+        [place for place in listed if not chosen or any(is_chosen(word, *place) for word in chosen)],
+    )
+
+
+def is_chosen(word, number, command):
+    """Whether a word chooses a command: by its number, by two numbers that it stands between, or by a
+    part of its line."""
+    first, dash, last = word.partition("-")
+    if first.isdigit() and (last.isdigit() or not dash):
+        return int(first) <= number <= int(last or first)
+    return word in command.name
 
 
 class Sweep:
     """The commands of one size, how each answers undisturbed, and what was found."""
 
     def __init__(self, script, program, shim, folder, listed):
+        """`listed` are the commands, each with its number."""
         self.script = script
         self.program = program
         self.shim = shim
         self.folder = folder
-        self.commands = listed
+        self.numbers = [number for number, _command in listed]
+        self.commands = [command for _number, command in listed]
         self.usual = []
         self.found = {}
         self.faults = {}
@@ -49,7 +74,7 @@ class Sweep:
         place = running.settle(self.program, self.shim, self.folder.name)
         self.inputs = list(self.files())
         for command, read in zip(self.commands, self.inputs):
-            first, again = place.run(command.words, read), place.run(command.words, read)
+            first, again = (place.run(command.words, read, limit=120) for _ in range(2))
             fault = None
             if not first.counts.started:
                 fault = "the shim didn't see its start: the program isn't linked to the C library"
@@ -81,7 +106,7 @@ class Sweep:
             if self.usual[number] is None:
                 self.failed += 1
                 continue
-            print(f"{command.name}: {head(self.usual[number])}")
+            print(f"{self.numbers[number]}: {command.name}: {head(self.usual[number])}")
             found = {mode: self.found[(number, mode)] for mode in modes if (number, mode) in self.found}
             if each_mode:
                 for mode, kinds in found.items():
