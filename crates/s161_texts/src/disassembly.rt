@@ -46,7 +46,20 @@ pub fn disassembly<'a>(
     Ok(listing(alloc, &style, &image.bytes, &spans)?)
 }
 
-// The lines of spans.
+/// The length of the shortest line, `80000200 00000000 nop`, with its end.
+const SHORTEST: usize = 22;
+
+// Room for the lines of spans, or less.
+fn least_room(spans: &[Span]) -> usize {
+    let mut room = 0usize;
+    for span in spans {
+        room = room.saturating_add(span.size as usize / 4 * SHORTEST);
+    }
+    room
+}
+
+// The lines of spans. Room is asked for first: where segments lie over one another a short file may
+// have lines for which no memory is there, and that is told before any of them is made.
 fn listing(
     alloc: Global,
     style: &Style,
@@ -57,6 +70,7 @@ fn listing(
     ensures { IfOk result (λ text. string_bytes text ≡ dis_text style.now memory.now spans.now) }
 {
     let mut text = String::new(alloc);
+    text.reserve(least_room(spans))?;
     for span in spans {
         write_span(&mut text, style, memory, *span)?;
     }
