@@ -13,6 +13,9 @@
 //!                      a log of 1 to 16,777,216 entries
 //! ```
 //!
+//! A strict machine, `Conf.strict`, is switched off by the instruction that would write a TLB row that
+//! overlaps another row of its processor; the row stays as it was, and the outcome names both.
+//!
 //! A refused event changes nothing and isn't logged. The log is a window: it keeps the last entries
 //! for which there is room, and the event of an entry that is dropped is made on the base. Its room
 //! is reserved at boot, so a Step and a typed byte do not allocate. Events, the order of refusals
