@@ -13,10 +13,9 @@ ghost use Rattle.m161_asm.specs.helpers.Segments.{AreSegments};
 use crate::error::AsmError;
 use crate::first::{FirstPass, at_line, first_pass};
 use crate::place::START;
-use crate::program::{Program, Segment};
+use crate::program::{Program, Segment, SymbolTable};
 use crate::second::{SecondPass, second_pass};
 use crate::statement::ReadError;
-use indexmap::IndexMap;
 use std::alloc::Global;
 
 // The segments with words.
@@ -44,7 +43,7 @@ fn first_address(segments: &[Segment]) -> u32
 }
 
 // The program of all lines.
-fn program_with(second: SecondPass, symbols: IndexMap<String, u32>) -> Result<Program, ReadError>
+fn program_with(second: SecondPass, symbols: SymbolTable) -> Result<Program, ReadError>
     requires segments { AreSegments (segments_seen second.done.items ++ full
         (segment_seen second.current ∷ [])) }
     requires symbols { AreAligned (symbols_seen symbols) }

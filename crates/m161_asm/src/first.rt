@@ -16,18 +16,20 @@ use crate::error::{AsmError, ErrorKind};
 use crate::line::{label_of, past_of, sound, statement};
 use crate::parse::next_column;
 use crate::place::{Position, origin_of, size_of};
+use crate::program::SymbolTable;
 use crate::scan::{after, len_before, tokens};
 use crate::statement::{Line, ReadError};
 use crate::symbols::{define, new_label};
 use crate::token::Placed;
 use indexmap::IndexMap;
+use m161_hash::TextState;
 use std::alloc::Global;
 
 /// The lines so far, their symbols, and the position of the next line.
 #[derive(Drop)]
 pub struct FirstPass<'a> {
     pub lines: Vec<Line<'a>>,
-    pub symbols: IndexMap<String, u32>,
+    pub symbols: SymbolTable,
     pub position: Position,
 }
 
@@ -62,13 +64,14 @@ pub(crate) fn at_line(line: usize, error: ReadError) -> AsmError
 }
 
 impl<'a> FirstPass<'a> {
-    fn new(alloc: Global) -> FirstPass<'a>
+    // Nothing read of a text yet.
+    fn new(alloc: Global, text: &[u8]) -> FirstPass<'a>
         ensures pass { IsPass result }
         ensures lines { result.lines.items ≡ [] }
     {
         FirstPass {
             lines: Vec::new(alloc),
-            symbols: IndexMap::new(alloc),
+            symbols: IndexMap::with_hasher(alloc, TextState::new(text)),
             position: Position::new(alloc),
         }
     }
@@ -162,7 +165,7 @@ pub(crate) fn first_pass<'a>(alloc: Global, text: &'a [u8]) -> Result<FirstPass<
     ensures pass { IfOk result IsPass }
     ensures line { IfErr result (IsWithinLines (length (lines_of text.now))) }
 {
-    let mut pass = FirstPass::new(alloc);
+    let mut pass = FirstPass::new(alloc, text);
     let mut rest = &text[..];
     while rest.len() > 0 {
         let len = len_before(rest, b'\n');

@@ -5,6 +5,10 @@ ghost use Rattle.m161_asm.specs.Seen.{symbols_seen};
 ghost use Rattle.m161_asm.specs.Segments.{segments_seen, word_count, ArePlaced, AreApart, AreAligned};
 
 use indexmap::IndexMap;
+use m161_hash::TextState;
+
+/// Addresses by their names, in the order of the text, with the text's own hash.
+pub type SymbolTable = IndexMap<String, u32, TextState>;
 
 /// A run of words.
 #[derive(Drop)]
@@ -22,7 +26,7 @@ pub struct Program {
     /// has a word or more, begins at a multiple of 4 and ends by 2^32, and no two overlap.
     pub segments: Vec<Segment>,
     /// Each label with its address, a multiple of 4, in the order of the text.
-    pub symbols: IndexMap<String, u32>,
+    pub symbols: SymbolTable,
     /// Where the program begins: a multiple of 4.
     pub entry: u32,
     pub ghost words: { word_count (segments_seen segments.items) ≤ 4194304 },

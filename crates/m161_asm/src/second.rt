@@ -15,10 +15,9 @@ ghost use Rattle.m161_asm.specs.helpers.SecondPass.{IsFilled, FillsLine, Advance
 use crate::error::AsmError;
 use crate::first::at_line;
 use crate::place::{START, origin_of, size_of};
-use crate::program::Segment;
+use crate::program::{Segment, SymbolTable};
 use crate::statement::{Line, Part, ReadError, Statement, Value};
 use crate::values::{entry_by, fields_of, word_address, word_of_value};
-use indexmap::IndexMap;
 use m161_isa::Row;
 use std::alloc::Global;
 
@@ -45,7 +44,7 @@ fn push_zeros(words: &mut Vec<u32>, count: u32) -> Result<(), ReadError>
 // Adds the words of values.
 fn push_values(
     words: &mut Vec<u32>,
-    symbols: &IndexMap<String, u32>,
+    symbols: &SymbolTable,
     values: &[Value<'_>],
 ) -> Result<(), ReadError>
     ensures { AddsNumbers result words.old.items words.new.items (each (word_of_value
@@ -65,7 +64,7 @@ fn push_values(
 fn push_code(
     alloc: Global,
     words: &mut Vec<u32>,
-    symbols: &IndexMap<String, u32>,
+    symbols: &SymbolTable,
     at: u64,
     row: Row,
     parts: &[Part<'_>],
@@ -82,11 +81,7 @@ fn push_code(
 
 // Tests the target of an `.entry`.
 #[tactic(auto, unfolding(crate::specs::Text::words_of_statement))]
-fn push_entry(
-    words: &mut Vec<u32>,
-    symbols: &IndexMap<String, u32>,
-    v: Value<'_>,
-) -> Result<(), ReadError>
+fn push_entry(words: &mut Vec<u32>, symbols: &SymbolTable, v: Value<'_>) -> Result<(), ReadError>
     ensures { (at : ℕ) → AddsNumbers result words.old.items words.new.items (words_of_statement
         (symbols_seen symbols.now) at (lines.Entry (value_seen v.entry))) }
 {
@@ -99,7 +94,7 @@ fn push_entry(
 fn push_words(
     alloc: Global,
     words: &mut Vec<u32>,
-    symbols: &IndexMap<String, u32>,
+    symbols: &SymbolTable,
     at: u64,
     statement: &Statement<'_>,
 ) -> Result<(), ReadError>
@@ -174,7 +169,7 @@ impl SecondPass {
     fn fill(
         &mut self,
         alloc: Global,
-        symbols: &IndexMap<String, u32>,
+        symbols: &SymbolTable,
         statement: &Statement<'_>,
     ) -> Result<(), ReadError>
         requires room { self.old.address + 4 * size_of (statement_seen statement.now) ≤ 2 ^ 32 }
@@ -199,7 +194,7 @@ impl SecondPass {
 /// The words of lines, with the symbols of them all.
 pub(crate) fn second_pass(
     alloc: Global,
-    symbols: &IndexMap<String, u32>,
+    symbols: &SymbolTable,
     lines: &[Line<'_>],
 ) -> Result<SecondPass, AsmError>
     requires { Lawful (above_of lines.now) }

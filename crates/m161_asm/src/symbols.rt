@@ -8,13 +8,12 @@ ghost use Rattle.m161_asm.specs.helpers.Seen.{Gives, label_seen};
 ghost use Rattle.m161_asm.specs.helpers.Passes.{IsNew};
 
 use crate::error::ErrorKind;
+use crate::program::SymbolTable;
 use crate::statement::{Fault, Label, ReadError};
-use indexmap::IndexMap;
 use std::alloc::Global;
 
 /// The address of a label.
-
-pub(crate) fn label_address(symbols: &IndexMap<String, u32>, name: &str) -> Option<u32>
+pub(crate) fn label_address(symbols: &SymbolTable, name: &str) -> Option<u32>
     ensures { result ≡ label_address (symbols_seen symbols.now) name.now }
 {
     match symbols.get(name) {
@@ -24,10 +23,7 @@ pub(crate) fn label_address(symbols: &IndexMap<String, u32>, name: &str) -> Opti
 }
 
 /// A label that already exists is a fault.
-pub(crate) fn new_label(
-    symbols: &IndexMap<String, u32>,
-    label: Option<Label<'_>>,
-) -> Result<(), Fault>
+pub(crate) fn new_label(symbols: &SymbolTable, label: Option<Label<'_>>) -> Result<(), Fault>
     ensures value { (above : List lines.SourceLine) → symbols_seen symbols.now ≡ symbols_in above →
         Gives (λ _. tt) result (new_label above (label_seen label.entry)) }
     ensures new { OnOk result (IsNew (symbols_seen symbols.now) (label_seen label.entry)) }
@@ -45,12 +41,7 @@ pub(crate) fn new_label(
 }
 
 // Adds a symbol that doesn't exist yet.
-fn add(
-    alloc: Global,
-    symbols: &mut IndexMap<String, u32>,
-    name: &str,
-    address: u32,
-) -> Result<(), ReadError>
+fn add(alloc: Global, symbols: &mut SymbolTable, name: &str, address: u32) -> Result<(), ReadError>
     requires { label_address (symbols_seen symbols.old) name.now ≡ None }
     ensures { OnOk result (symbols_seen symbols.new ≡ symbols_seen symbols.old ++
         ((name.now, address) ∷ [])) }
@@ -63,7 +54,7 @@ fn add(
 /// Adds the symbol of a line, if it has one.
 pub(crate) fn define(
     alloc: Global,
-    symbols: &mut IndexMap<String, u32>,
+    symbols: &mut SymbolTable,
     label: Option<Label<'_>>,
     address: u64,
 ) -> Result<(), ReadError>

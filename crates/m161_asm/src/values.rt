@@ -7,14 +7,14 @@ ghost use Rattle.m161_asm.specs.Seen.{symbols_seen};
 ghost use Rattle.m161_asm.specs.helpers.Seen.{Gives, Yields, value_seen, part_seen, statement_seen};
 
 use crate::error::ErrorKind;
+use crate::program::SymbolTable;
 use crate::statement::{Fault, Part, ReadError, Statement, Value};
 use crate::symbols::label_address;
-use indexmap::IndexMap;
 use std::alloc::Global;
 
 // A value's whole number, as the difference of two.
 #[tactic(auto, unfolding(crate::specs::Text::number_by))]
-fn number_of_value(symbols: &IndexMap<String, u32>, v: Value<'_>) -> Result<(u64, u64), Fault>
+fn number_of_value(symbols: &SymbolTable, v: Value<'_>) -> Result<(u64, u64), Fault>
     ensures value { Gives (λ n. n) result (number_of_value (symbols_seen symbols.now)
         (value_seen v.entry)) }
     ensures small { IfOk result (λ n. (n.0 < 2 ^ 33) × (n.1 < 2 ^ 32)) }
@@ -45,7 +45,7 @@ fn out_of_range(column: usize) -> Fault
 
 /// The word of a value of `.word`.
 #[tactic(auto, unfolding(crate::specs::Text::word_of_value))]
-pub(crate) fn word_of_value(symbols: &IndexMap<String, u32>, v: Value<'_>) -> Result<u32, Fault>
+pub(crate) fn word_of_value(symbols: &SymbolTable, v: Value<'_>) -> Result<u32, Fault>
     ensures { Gives (λ n. n) result (word_of_value (symbols_seen symbols.now)
         (value_seen v.entry)) }
 {
@@ -59,7 +59,7 @@ pub(crate) fn word_of_value(symbols: &IndexMap<String, u32>, v: Value<'_>) -> Re
 
 /// The address of a value: a multiple of 4.
 #[tactic(auto, unfolding(crate::specs::Text::word_address))]
-pub(crate) fn word_address(symbols: &IndexMap<String, u32>, v: Value<'_>) -> Result<u32, Fault>
+pub(crate) fn word_address(symbols: &SymbolTable, v: Value<'_>) -> Result<u32, Fault>
     ensures { Gives (λ n. n) result (word_address (symbols_seen symbols.now) (value_seen v.entry)) }
 {
     let (up, down) = number_of_value(symbols, v)?;
@@ -107,7 +107,7 @@ fn jump_field(at: u64, column: usize, target: u32) -> Result<u32, Fault>
 
 // The number of an instruction's operand.
 #[tactic(auto, unfolding(crate::specs::Text::field_of))]
-fn field_of(symbols: &IndexMap<String, u32>, at: u64, part: Part<'_>) -> Result<u32, Fault>
+fn field_of(symbols: &SymbolTable, at: u64, part: Part<'_>) -> Result<u32, Fault>
     requires { at ≤ 2 ^ 32 }
     ensures { Gives (λ n. n) result (field_of (symbols_seen symbols.now) at
         (part_seen part.entry)) }
@@ -122,7 +122,7 @@ fn field_of(symbols: &IndexMap<String, u32>, at: u64, part: Part<'_>) -> Result<
 /// The numbers of an instruction's operands.
 pub(crate) fn fields_of(
     alloc: Global,
-    symbols: &IndexMap<String, u32>,
+    symbols: &SymbolTable,
     at: u64,
     parts: &[Part<'_>],
 ) -> Result<Vec<u32>, ReadError>
@@ -142,7 +142,7 @@ pub(crate) fn fields_of(
 
 /// The last `.entry`'s address.
 pub(crate) fn entry_by(
-    symbols: &IndexMap<String, u32>,
+    symbols: &SymbolTable,
     entry: Option<u32>,
     statement: &Statement<'_>,
 ) -> Option<u32>

@@ -7,8 +7,7 @@ ghost use Rattle.m161_elf_writer.specs.Labels.{file_with_symbols, header_with_se
 ghost use Rattle.m161_elf_writer.specs.Written.{elf_bytes, file_header};
 
 use crate::writer::{push_halves, push_words, write};
-use indexmap::IndexMap;
-use m161_asm::Program;
+use m161_asm::{Program, SymbolTable};
 use m161_elf::{SECTION_HEADER_SIZE, SHN_ABS, SHT_STRTAB, SHT_SYMTAB, SYMBOL_SIZE};
 use std::alloc::{AllocError, Global};
 
@@ -66,7 +65,7 @@ fn push_symbol(file: &mut Vec<u8>, place: u32, value: u32) -> Result<(), AllocEr
 }
 
 // The null symbol, and the symbols of all labels.
-fn push_symbols(file: &mut Vec<u8>, symbols: &IndexMap<String, u32>) -> Result<(), AllocError>
+fn push_symbols(file: &mut Vec<u8>, symbols: &SymbolTable) -> Result<(), AllocError>
     ensures { OnOk result (file.new.items ≡ file.old.items ++ symtab (symbols_seen symbols.now)) }
 {
     file.extend_from_slice(&[0; SYMBOL_SIZE])?;
@@ -83,7 +82,7 @@ fn push_symbols(file: &mut Vec<u8>, symbols: &IndexMap<String, u32>) -> Result<(
 }
 
 // The empty name, and the names of all labels.
-fn push_names(file: &mut Vec<u8>, symbols: &IndexMap<String, u32>) -> Result<(), AllocError>
+fn push_names(file: &mut Vec<u8>, symbols: &SymbolTable) -> Result<(), AllocError>
     ensures { OnOk result (file.new.items ≡ file.old.items ++ strtab (symbols_seen symbols.now)) }
 {
     // So that the proof knows that the number of each label fits.

@@ -8,6 +8,7 @@ ghost use Rattle.m161_symbols.specs.Table.{entries_seen, has_value, seen, AreFou
 
 use indexmap::IndexMap;
 use m161_elf::Symbol;
+use m161_hash::TextState;
 use std::alloc::{AllocError, Global};
 
 /// A symbol.
@@ -16,6 +17,9 @@ pub struct Named {
     pub name: String,
     pub value: u32,
 }
+
+/// The values of symbols by their names, with the hash of the file.
+pub(crate) type Values = IndexMap<String, u32, TextState>;
 
 /// A value, and the number of a symbol that has it.
 #[derive(Clone, Copy)]
@@ -124,11 +128,7 @@ pub(crate) fn sorted_places(alloc: Global, symbols: &[Named]) -> Result<Vec<Plac
 }
 
 /// Adds a symbol whose name isn't there yet.
-fn add_name(
-    alloc: Global,
-    by_name: &mut IndexMap<String, u32>,
-    symbol: &Named,
-) -> Result<(), AllocError>
+fn add_name(alloc: Global, by_name: &mut Values, symbol: &Named) -> Result<(), AllocError>
     ensures { OnOk result (entries_seen by_name.new
         ≡ with_new (entries_seen by_name.old) (seen symbol.now)) }
 {
@@ -141,14 +141,15 @@ fn add_name(
     Ok(())
 }
 
-/// The value of each name: that of the first symbol that has it.
+/// The value of each name: that of the first symbol that has it. The hash is that of the file.
 pub(crate) fn values_by_name(
     alloc: Global,
+    file: &[u8],
     symbols: &[Named],
-) -> Result<IndexMap<String, u32>, AllocError>
+) -> Result<Values, AllocError>
     ensures { IfOk result (λ by_name. AreFound (map seen symbols.now) by_name) }
 {
-    let mut by_name = IndexMap::new(alloc);
+    let mut by_name = IndexMap::with_hasher(alloc, TextState::new(file));
     for symbol in symbols {
         add_name(alloc, &mut by_name, symbol)?;
     }

@@ -4,8 +4,11 @@ ghost use Rattle.std.specs.Prelude.{◌≡◌, [], option_map, IfOk};
 ghost use Rattle.m161_symbols.specs.Names.{names_in, nearest_in, value_in};
 ghost use Rattle.m161_symbols.specs.Table.{read_place};
 
-use crate::named::{Named, Place, named_symbols, nearest_number, sorted_places, values_by_name};
+use crate::named::{
+    Named, Place, Values, named_symbols, nearest_number, sorted_places, values_by_name,
+};
 use indexmap::IndexMap;
+use m161_hash::TextState;
 use std::alloc::{AllocError, Global};
 use std::marker::Model;
 
@@ -15,7 +18,7 @@ use std::marker::Model;
 pub struct Symbols {
     symbols: Vec<Named>,
     by_value: Vec<Place>,
-    by_name: IndexMap<String, u32>,
+    by_name: Values,
 }
 
 impl Model for Symbols {
@@ -41,7 +44,7 @@ impl Symbols {
         let listed = m161_elf::symbols(alloc, file)?;
         let symbols = named_symbols(alloc, file, &listed)?;
         let by_value = sorted_places(alloc, &symbols)?;
-        let by_name = values_by_name(alloc, &symbols)?;
+        let by_name = values_by_name(alloc, file, &symbols)?;
         Ok(Symbols {
             symbols,
             by_value,
@@ -56,7 +59,7 @@ impl Symbols {
         Symbols {
             symbols: Vec::new(alloc),
             by_value: Vec::new(alloc),
-            by_name: IndexMap::new(alloc),
+            by_name: IndexMap::with_hasher(alloc, TextState::new(b"")),
         }
     }
 

@@ -9,5 +9,5 @@ unfolding symbols_in
 returns-clause-pass c =
     record {
       position = rw c.new.ensures.items c.new-3.ensures;
-      symbols = rw c.new.ensures.items (ap (map symbol_seen) c.new-2.ensures.empty);
+      symbols = rw c.new.ensures.items (ap (map symbol_seen) c.with_hasher.ensures.empty);
     }
