@@ -36,8 +36,8 @@
 //! before or after them. Each printed line ends with a line feed, and an address in it has eight
 //! digits. ADDR is physical or in kseg0 or kseg1 for `m`, which shows the physical one, and `u m`; in
 //! kseg0 or kseg1 for `x ADDR N`; virtual for `x ADDR N P`. Where symbols are given, a name, or
-//! `name+8`, may stand for an ADDR, and `<name+8>` stands behind an address. Only events and `jump`
-//! change the machine. The commands and their texts are this project's own.
+//! `name+8`, may stand for an ADDR, and `<name+8>` stands behind an address of code. Only events and
+//! `jump` change the machine. The commands and their texts are this project's own.
 #![tactic(auto)]
 
 mod batch;
