@@ -329,8 +329,30 @@ fn task_of_audit<'a>(given: &ArgMatches<'a>) -> Result<Task<'a>, Clash>
     Ok(Task::Audit(task))
 }
 
-/// The task of the words of a command line.
+// The task of the words of the command of this name.
 #[tactic(auto, using(crate::proofs::Undriven::undriven))]
+fn task_of_command<'a>(name: &str, given: &ArgMatches<'a>) -> Result<Task<'a>, Clash>
+    ensures task { IfOk result (IsTask (Some (name.now, rows_of (found_of given.now)))) }
+    ensures limits { IfOk result HasLimits }
+    ensures together { IfOk result (λ _. GoTogether (Some (name.now, rows_of (found_of given.now)))) }
+    ensures clash { IfErr result (ClashesIn (Some (name.now, rows_of (found_of given.now)))) }
+{
+    match name {
+        "run" => task_of_run(given),
+        "console" => task_of_console(given),
+        "schedule" => task_of_schedule(given),
+        "search" => task_of_search(given),
+        "trace" => task_of_trace(given),
+        "replay" => Ok(Task::Replay(replay_task_of(given))),
+        "debug" => task_of_debug(given),
+        "audit" => task_of_audit(given),
+        "as" => Ok(Task::Assemble(assembly_task_of(given))),
+        "dis" => Ok(Task::Disassemble(listing_task_of(given))),
+        _ => Ok(Task::Demo),
+    }
+}
+
+/// The task of the words of a command line.
 pub(crate) fn task_of<'a>(matches: &ArgMatches<'a>) -> Result<Task<'a>, Clash>
     ensures task { IfOk result (IsTask (subcommand_rows_of matches.now)) }
     ensures limits { IfOk result HasLimits }
@@ -338,17 +360,7 @@ pub(crate) fn task_of<'a>(matches: &ArgMatches<'a>) -> Result<Task<'a>, Clash>
     ensures clash { IfErr result (ClashesIn (subcommand_rows_of matches.now)) }
 {
     match matches.subcommand() {
-        Some(("run", given)) => task_of_run(given),
-        Some(("console", given)) => task_of_console(given),
-        Some(("schedule", given)) => task_of_schedule(given),
-        Some(("search", given)) => task_of_search(given),
-        Some(("trace", given)) => task_of_trace(given),
-        Some(("replay", given)) => Ok(Task::Replay(replay_task_of(given))),
-        Some(("debug", given)) => task_of_debug(given),
-        Some(("audit", given)) => task_of_audit(given),
-        Some(("as", given)) => Ok(Task::Assemble(assembly_task_of(given))),
-        Some(("dis", given)) => Ok(Task::Disassemble(listing_task_of(given))),
-        Some(_) => Ok(Task::Demo),
+        Some((name, given)) => task_of_command(name, given),
         None => Ok(Task::Demo),
     }
 }
