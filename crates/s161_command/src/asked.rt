@@ -1,8 +1,8 @@
 //! What a command asks for, by what clap gives for its arguments.
 
-ghost use Rattle.std.specs.Prelude.{◌≡◌, IfErr, IfOk, codes, false, true};
+ghost use Rattle.std.specs.Prelude.{◌≡◌, IfErr, IfOk, Some, codes, false, true};
 ghost use Rattle.clap.specs.Words.{found_of, rows_of, subcommand_rows_of};
-ghost use Rattle.s161_command.specs.Commands.{AsksAssembly, AsksConsole, AsksDebug, AsksFiles, AsksListing, AsksReplay, AsksRun, AsksSchedule, AsksSearch, AsksTrace, ClashesIn, GoTogether, HasLimits, IsAskedSize, IsRunTask, IsSize, IsSource, IsTask, registers_of, shown_of};
+ghost use Rattle.s161_command.specs.Commands.{AsksAssembly, AsksFiles, AsksListing, AsksReplay, AsksRun, ClashesIn, GoTogether, HasLimits, IsAskedSize, IsRunTask, IsSize, IsSource, IsTask, registers_of, shown_of};
 ghost use Rattle.s161_command.specs.Drives.{AsksDrive, AsksDriveIf, Clashes, go_together, has_order};
 ghost use Rattle.s161_command.specs.Links.{RefusesLink};
 ghost use Rattle.s161_command.specs.declared.drive.OrderUse.TheVariants.{Assumed, Needed, Optional, OrFile, Seeded};
@@ -120,44 +120,47 @@ fn drive_of<'a>(given: &ArgMatches<'a>, orders: OrderUse) -> Result<Drive<'a>, C
 }
 
 // The task of the words of `schedule`.
-fn task_of_schedule<'a>(given: &ArgMatches<'a>) -> Result<ScheduleTask<'a>, Clash>
-    ensures task { IfOk result (AsksSchedule (rows_of (found_of given.now))) }
+fn task_of_schedule<'a>(given: &ArgMatches<'a>) -> Result<Task<'a>, Clash>
+    ensures task { IfOk result (IsTask (Some (codes "schedule", rows_of (found_of given.now)))) }
+    ensures limits { IfOk result HasLimits }
     ensures together { IfOk result (λ _. go_together Needed (rows_of (found_of given.now)) ≡ true) }
     ensures clash { IfErr result (Clashes Needed (rows_of (found_of given.now))) }
 {
     let drive = drive_of(given, OrderUse::Needed)?;
     let size = size_given(given, 65_536)?;
-    Ok(ScheduleTask {
+    Ok(Task::Schedule(ScheduleTask {
         image: file_given(given, "image"),
         size,
         drive,
-    })
+    }))
 }
 
 // The task of the words of `console`.
-fn task_of_console<'a>(given: &ArgMatches<'a>) -> Result<ConsoleTask<'a>, Clash>
-    ensures task { IfOk result (AsksConsole (rows_of (found_of given.now))) }
+fn task_of_console<'a>(given: &ArgMatches<'a>) -> Result<Task<'a>, Clash>
+    ensures task { IfOk result (IsTask (Some (codes "console", rows_of (found_of given.now)))) }
+    ensures limits { IfOk result HasLimits }
     ensures together { IfOk result (λ _. go_together Assumed (rows_of (found_of given.now)) ≡ true) }
     ensures clash { IfErr result (Clashes Assumed (rows_of (found_of given.now))) }
 {
     let drive = drive_of(given, OrderUse::Assumed)?;
     let size = size_given(given, 65_536)?;
-    Ok(ConsoleTask {
+    Ok(Task::Console(ConsoleTask {
         image: file_given(given, "image"),
         size,
         drive,
-    })
+    }))
 }
 
 // The task of the words of `search`.
-fn task_of_search<'a>(given: &ArgMatches<'a>) -> Result<SearchTask<'a>, Clash>
-    ensures task { IfOk result (AsksSearch (rows_of (found_of given.now))) }
+fn task_of_search<'a>(given: &ArgMatches<'a>) -> Result<Task<'a>, Clash>
+    ensures task { IfOk result (IsTask (Some (codes "search", rows_of (found_of given.now)))) }
+    ensures limits { IfOk result HasLimits }
     ensures together { IfOk result (λ _. go_together Seeded (rows_of (found_of given.now)) ≡ true) }
     ensures clash { IfErr result (Clashes Seeded (rows_of (found_of given.now))) }
 {
     let drive = drive_of(given, OrderUse::Seeded)?;
     let size = size_given(given, 65_536)?;
-    Ok(SearchTask {
+    Ok(Task::Search(SearchTask {
         image: file_given(given, "image"),
         size,
         drive,
@@ -165,7 +168,7 @@ fn task_of_search<'a>(given: &ArgMatches<'a>) -> Result<SearchTask<'a>, Clash>
         watches: given.get_str("watches"),
         output: given.get_str("output"),
         whole: is_set(given, "whole"),
-    })
+    }))
 }
 
 // The size of a machine, of which a log may say what isn't given; how many entries its own log keeps
@@ -229,14 +232,15 @@ fn drive_if_ordered<'a>(given: &ArgMatches<'a>) -> Result<Option<Drive<'a>>, Cla
 }
 
 // The task of the words of `trace`.
-fn task_of_trace<'a>(given: &ArgMatches<'a>) -> Result<TraceTask<'a>, Clash>
-    ensures task { IfOk result (AsksTrace (rows_of (found_of given.now))) }
+fn task_of_trace<'a>(given: &ArgMatches<'a>) -> Result<Task<'a>, Clash>
+    ensures task { IfOk result (IsTask (Some (codes "trace", rows_of (found_of given.now)))) }
+    ensures limits { IfOk result HasLimits }
     ensures together { IfOk result (λ _. go_together Optional (rows_of (found_of given.now)) ≡ true) }
     ensures clash { IfErr result (Clashes Optional (rows_of (found_of given.now))) }
 {
     let drive = drive_if_ordered(given)?;
     let size = size_given(given, 65_536)?;
-    Ok(TraceTask {
+    Ok(Task::Trace(TraceTask {
         image: file_given(given, "image"),
         size,
         from: long_given(given, "from", 0),
@@ -244,7 +248,7 @@ fn task_of_trace<'a>(given: &ArgMatches<'a>) -> Result<TraceTask<'a>, Clash>
         registers: registers_given(given),
         symbols: is_set(given, "symbols"),
         drive,
-    })
+    }))
 }
 
 // Where the events of a debugged run come from.
@@ -265,19 +269,20 @@ fn source_of<'a>(given: &ArgMatches<'a>) -> Result<Source<'a>, Clash>
 }
 
 // The task of the words of `debug`.
-fn task_of_debug<'a>(given: &ArgMatches<'a>) -> Result<DebugTask<'a>, Clash>
-    ensures task { IfOk result (AsksDebug (rows_of (found_of given.now))) }
+fn task_of_debug<'a>(given: &ArgMatches<'a>) -> Result<Task<'a>, Clash>
+    ensures task { IfOk result (IsTask (Some (codes "debug", rows_of (found_of given.now)))) }
+    ensures limits { IfOk result HasLimits }
     ensures together { IfOk result (λ _. go_together OrFile (rows_of (found_of given.now)) ≡ true) }
     ensures clash { IfErr result (Clashes OrFile (rows_of (found_of given.now))) }
 {
     let source = source_of(given)?;
     let link = link_if_given(given)?;
-    Ok(DebugTask {
+    Ok(Task::Debug(DebugTask {
         image: file_given(given, "image"),
         source,
         size: asked_size_given(given, 1_048_576, link, is_set(given, "strict")),
         symbols: is_set(given, "symbols"),
-    })
+    }))
 }
 
 // The arguments of `dis`.
@@ -314,8 +319,40 @@ fn files_task_of<'a>(given: &ArgMatches<'a>, text: &str, log: u32) -> Result<Fil
     })
 }
 
-/// The task of the words of a command line.
+// The task of the words of `audit`.
+fn task_of_audit<'a>(given: &ArgMatches<'a>) -> Result<Task<'a>, Clash>
+    ensures task { IfOk result (IsTask (Some (codes "audit", rows_of (found_of given.now)))) }
+    ensures limits { IfOk result HasLimits }
+    ensures clash { IfErr result (RefusesLink (rows_of (found_of given.now))) }
+{
+    let task = files_task_of(given, "watches", 65_536)?;
+    Ok(Task::Audit(task))
+}
+
+// The task of the words of the command of this name.
 #[tactic(auto, using(crate::proofs::Undriven::undriven))]
+fn task_of_command<'a>(name: &str, given: &ArgMatches<'a>) -> Result<Task<'a>, Clash>
+    ensures task { IfOk result (IsTask (Some (name.now, rows_of (found_of given.now)))) }
+    ensures limits { IfOk result HasLimits }
+    ensures together { IfOk result (λ _. GoTogether (Some (name.now, rows_of (found_of given.now)))) }
+    ensures clash { IfErr result (ClashesIn (Some (name.now, rows_of (found_of given.now)))) }
+{
+    match name {
+        "run" => task_of_run(given),
+        "console" => task_of_console(given),
+        "schedule" => task_of_schedule(given),
+        "search" => task_of_search(given),
+        "trace" => task_of_trace(given),
+        "replay" => Ok(Task::Replay(replay_task_of(given))),
+        "debug" => task_of_debug(given),
+        "audit" => task_of_audit(given),
+        "as" => Ok(Task::Assemble(assembly_task_of(given))),
+        "dis" => Ok(Task::Disassemble(listing_task_of(given))),
+        _ => Ok(Task::Demo),
+    }
+}
+
+/// The task of the words of a command line.
 pub(crate) fn task_of<'a>(matches: &ArgMatches<'a>) -> Result<Task<'a>, Clash>
     ensures task { IfOk result (IsTask (subcommand_rows_of matches.now)) }
     ensures limits { IfOk result HasLimits }
@@ -323,17 +360,7 @@ pub(crate) fn task_of<'a>(matches: &ArgMatches<'a>) -> Result<Task<'a>, Clash>
     ensures clash { IfErr result (ClashesIn (subcommand_rows_of matches.now)) }
 {
     match matches.subcommand() {
-        Some(("run", given)) => task_of_run(given),
-        Some(("console", given)) => Ok(Task::Console(task_of_console(given)?)),
-        Some(("schedule", given)) => Ok(Task::Schedule(task_of_schedule(given)?)),
-        Some(("search", given)) => Ok(Task::Search(task_of_search(given)?)),
-        Some(("trace", given)) => Ok(Task::Trace(task_of_trace(given)?)),
-        Some(("replay", given)) => Ok(Task::Replay(replay_task_of(given))),
-        Some(("debug", given)) => Ok(Task::Debug(task_of_debug(given)?)),
-        Some(("audit", given)) => Ok(Task::Audit(files_task_of(given, "watches", 65_536)?)),
-        Some(("as", given)) => Ok(Task::Assemble(assembly_task_of(given))),
-        Some(("dis", given)) => Ok(Task::Disassemble(listing_task_of(given))),
-        Some(_) => Ok(Task::Demo),
+        Some((name, given)) => task_of_command(name, given),
         None => Ok(Task::Demo),
     }
 }

@@ -1,12 +1,13 @@
 //! The command line: its definition for clap, and its task.
 
 ghost use Rattle.std.specs.Prelude.{◌≡◌, ◌≢◌, IfErr, IfOk, codes, false, map};
-ghost use Rattle.clap.specs.Words.{HasKind, app_of, fault_of, kind_of, rule_of, subcommand_of, subcommand_rows_of, with_rule, with_subcommand};
+ghost use Rattle.clap.specs.Words.{App, HasKind, app_of, fault_of, kind_of, rule_of, subcommand_of, subcommand_rows_of, with_rule, with_subcommand};
 ghost use Rattle.clap.specs.declared.error.kind.ErrorKind.TheVariants.{OutOfMemory};
 ghost use Rattle.s161_command.specs.Commands.{GoTogether, HasLimits, IsAccepted, IsRejected, IsTask, as_line, audit_line, burst_rule, command_line, console_line, debug_line, dis_line, file_rule, files_line, flag_rule, number_rule, on_image, optional_file_rule, plain_debug_line, plain_run_line, plain_search_line, plain_trace_line, program_line, replay_line, run_line, schedule_line, search_line, seeds_rule, threads_rule, trace_line, with_asked_size_rules, with_size_rules};
 ghost use Rattle.s161_command.specs.Drives.{long_rule, optional_rule, text_rule};
 ghost use Rattle.s161_command.specs.helpers.Commands.{IsLocal};
 
+use crate::args::with_arg;
 use crate::asked::task_of;
 use crate::drive::{
     optional_long, optional_number, text_option, with_console_pace, with_order, with_pace,
@@ -103,12 +104,15 @@ fn with_size<'a>(
     ensures local { IsLocal command.entry → IfOk result IsLocal }
 {
     let ram_help = "Bytes of RAM, 4096 to 16777216 in pages of 4096";
-    command
-        .arg(number_option(alloc, "ram", ram_help, "1048576"))?
-        .arg(number_option(alloc, "cpus", "Processors, 1 to 32", "1"))?
-        .arg(number_option(alloc, "log", LOG_HELP, log))?
-        .arg(link_option(alloc))?
-        .arg(flag_option(alloc, "strict", STRICT_HELP))
+    let cpus_help = "Processors, 1 to 32";
+    let command = with_arg(
+        Ok(command),
+        number_option(alloc, "ram", ram_help, "1048576"),
+    );
+    let command = with_arg(command, number_option(alloc, "cpus", cpus_help, "1"));
+    let command = with_arg(command, number_option(alloc, "log", LOG_HELP, log));
+    let command = with_arg(command, link_option(alloc));
+    with_arg(command, flag_option(alloc, "strict", STRICT_HELP))
 }
 
 // The same without defaults but the log's: what isn't given is a log's own.
@@ -124,10 +128,11 @@ fn with_asked_size<'a>(
     let ram_help =
         "Bytes of RAM, 4096 to 16777216 in pages of 4096; the log's own where it is left out";
     let cpus_help = "Processors, 1 to 32; the log's own where it is left out";
-    command
-        .arg(optional_number(alloc, "ram", "N", ram_help, 0, u32::MAX))?
-        .arg(optional_number(alloc, "cpus", "N", cpus_help, 0, u32::MAX))?
-        .arg(number_option(alloc, "log", LOG_HELP, log))
+    let ram = optional_number(alloc, "ram", "N", ram_help, 0, u32::MAX);
+    let command = with_arg(Ok(command), ram);
+    let cpus = optional_number(alloc, "cpus", "N", cpus_help, 0, u32::MAX);
+    let command = with_arg(command, cpus);
+    with_arg(command, number_option(alloc, "log", LOG_HELP, log))
 }
 
 // The arguments of a command over an image and a text: the text's argument, and the log's default.
@@ -143,9 +148,24 @@ fn with_files<'a>(
         (rule_of text.entry))) }
     ensures local { IsLocal command.entry → text.entry.global ≡ false → IfOk result IsLocal }
 {
-    let command = command
-        .arg(file_argument(alloc, "image", "IMAGE", IMAGE_HELP))?
-        .arg(text)?;
+    let image = file_argument(alloc, "image", "IMAGE", IMAGE_HELP);
+    let files = with_arg(with_arg(Ok(command), image), text)?;
+    with_size(alloc, files, log)
+}
+
+// A command over an image, with the options of a machine's size added; the last one is the log's
+// default.
+fn with_image<'a>(
+    alloc: Global,
+    command: Command<'a>,
+    log: &'a str,
+) -> Result<Command<'a>, AllocError>
+    ensures shape { IsLocal command.entry → IfOk result (λ more. app_of more
+        ≡ with_size_rules log.entry.now (with_rule (app_of command.entry) (file_rule (codes "image")))) }
+    ensures local { IsLocal command.entry → IfOk result IsLocal }
+{
+    let image = file_argument(alloc, "image", "IMAGE", IMAGE_HELP);
+    let command = with_arg(Ok(command), image)?;
     with_size(alloc, command, log)
 }
 
@@ -156,13 +176,12 @@ fn plain_run_definition<'a>(alloc: Global) -> Result<Command<'a>, AllocError>
 {
     let run = Command::new(alloc, "run")
         .about("Runs an image under a schedule of events, or by an order that chooses them")
-        .after_help(AFTER_RUN_HELP)
-        .arg(file_argument(alloc, "image", "IMAGE", IMAGE_HELP))?;
-    with_size(alloc, run, "65536")?
-        .arg(flag_option(alloc, "show-log", "Prints the log too"))?
-        .arg(flag_option(alloc, "only-log", "Prints the log alone"))?
-        .arg(threads_option(alloc))?
-        .arg(burst_option(alloc))
+        .after_help(AFTER_RUN_HELP);
+    let run = with_image(alloc, run, "65536");
+    let run = with_arg(run, flag_option(alloc, "show-log", "Prints the log too"));
+    let run = with_arg(run, flag_option(alloc, "only-log", "Prints the log alone"));
+    let run = with_arg(run, threads_option(alloc));
+    with_arg(run, burst_option(alloc))
 }
 
 // The definition of `run`.
@@ -181,9 +200,8 @@ fn console_definition<'a>(alloc: Global) -> Result<Command<'a>, AllocError>
 {
     let console = Command::new(alloc, "console")
         .about("Runs a kernel at the terminal: its console is standard input and output")
-        .after_help(AFTER_CONSOLE_HELP)
-        .arg(file_argument(alloc, "image", "IMAGE", IMAGE_HELP))?;
-    let console = with_size(alloc, console, "65536")?;
+        .after_help(AFTER_CONSOLE_HELP);
+    let console = with_image(alloc, console, "65536")?;
     with_console_pace(
         alloc,
         with_order(alloc, console)?,
@@ -208,16 +226,17 @@ fn plain_search_definition<'a>(alloc: Global) -> Result<Command<'a>, AllocError>
     let from_help = "The first seed, 0 where it is left out; the others follow, modulo 2^64";
     let watches_help = "Looks for a stale use of the TLB, by the watches of this file";
     let output_help = "Looks for a run whose console doesn't send the bytes of this file";
+    let whole_help = "Prints the schedule as it was found";
     let search = Command::new(alloc, "search")
         .about("Looks for a seed whose run goes wrong, and prints a short schedule of it")
-        .after_help(AFTER_SEARCH_HELP)
-        .arg(file_argument(alloc, "image", "IMAGE", IMAGE_HELP))?;
-    with_size(alloc, search, "65536")?
-        .arg(seeds_option(alloc))?
-        .arg(optional_long(alloc, "from", "SEED", from_help, 0, u64::MAX))?
-        .arg(text_option(alloc, "watches", "FILE", watches_help))?
-        .arg(text_option(alloc, "output", "FILE", output_help))?
-        .arg(flag_option(alloc, "whole", "Prints the schedule as it was found"))
+        .after_help(AFTER_SEARCH_HELP);
+    let search = with_image(alloc, search, "65536");
+    let search = with_arg(search, seeds_option(alloc));
+    let from = optional_long(alloc, "from", "SEED", from_help, 0, u64::MAX);
+    let search = with_arg(search, from);
+    let search = with_arg(search, text_option(alloc, "watches", "FILE", watches_help));
+    let search = with_arg(search, text_option(alloc, "output", "FILE", output_help));
+    with_arg(search, flag_option(alloc, "whole", whole_help))
 }
 
 // The definition of `search`.
@@ -236,9 +255,8 @@ fn schedule_definition<'a>(alloc: Global) -> Result<Command<'a>, AllocError>
 {
     let schedule = Command::new(alloc, "schedule")
         .about("Prints the events that an order chooses, as a schedule")
-        .after_help(AFTER_SCHEDULE_HELP)
-        .arg(file_argument(alloc, "image", "IMAGE", IMAGE_HELP))?;
-    let schedule = with_size(alloc, schedule, "65536")?;
+        .after_help(AFTER_SCHEDULE_HELP);
+    let schedule = with_image(alloc, schedule, "65536")?;
     with_pace(alloc, with_order(alloc, schedule)?, 16_777_216)
 }
 
@@ -251,13 +269,16 @@ fn plain_trace_definition<'a>(alloc: Global) -> Result<Command<'a>, AllocError>
     let count_help = "How many events have a line, all from there on where it is left out";
     let trace = Command::new(alloc, "trace")
         .about("Prints a line for each event of a run: the instruction, and what it changed")
-        .after_help(AFTER_TRACE_HELP)
-        .arg(file_argument(alloc, "image", "IMAGE", IMAGE_HELP))?;
-    with_size(alloc, trace, "65536")?
-        .arg(optional_long(alloc, "from", "K", from_help, 0, u64::MAX))?
-        .arg(optional_long(alloc, "count", "N", count_help, 0, u64::MAX))?
-        .arg(flag_option(alloc, "names", NAMES_HELP))?
-        .arg(flag_option(alloc, "symbols", SYMBOLS_HELP))
+        .after_help(AFTER_TRACE_HELP);
+    let trace = with_image(alloc, trace, "65536");
+    let trace = with_arg(
+        trace,
+        optional_long(alloc, "from", "K", from_help, 0, u64::MAX),
+    );
+    let count = optional_long(alloc, "count", "N", count_help, 0, u64::MAX);
+    let trace = with_arg(trace, count);
+    let trace = with_arg(trace, flag_option(alloc, "names", NAMES_HELP));
+    with_arg(trace, flag_option(alloc, "symbols", SYMBOLS_HELP))
 }
 
 // The definition of `trace`.
@@ -277,9 +298,9 @@ fn replay_definition<'a>(alloc: Global) -> Result<Command<'a>, AllocError>
     let replay = Command::new(alloc, "replay")
         .about("Makes a log's events once more, and compares their outcomes")
         .after_help(AFTER_REPLAY_HELP);
-    let replay = replay
-        .arg(file_argument(alloc, "image", "IMAGE", IMAGE_HELP))?
-        .arg(file_argument(alloc, "entries", "LOG", "A log's file"))?;
+    let image = file_argument(alloc, "image", "IMAGE", IMAGE_HELP);
+    let entries = file_argument(alloc, "entries", "LOG", "A log's file");
+    let replay = with_arg(with_arg(Ok(replay), image), entries)?;
     with_asked_size(alloc, replay, "65536")
 }
 
@@ -302,13 +323,13 @@ fn plain_debug_definition<'a>(alloc: Global) -> Result<Command<'a>, AllocError>
     let debug = Command::new(alloc, "debug")
         .about("Does a debugger's commands on an image under a list of events")
         .after_help(AFTER_DEBUG_HELP);
-    let debug = debug
-        .arg(file_argument(alloc, "image", "IMAGE", IMAGE_HELP))?
-        .arg(optional_file(alloc, "file", "FILE", file_help))?;
-    with_asked_size(alloc, debug, "1048576")?
-        .arg(asked_link_option(alloc))?
-        .arg(flag_option(alloc, "strict", strict_help))?
-        .arg(flag_option(alloc, "symbols", SYMBOLS_HELP))
+    let image = file_argument(alloc, "image", "IMAGE", IMAGE_HELP);
+    let file = optional_file(alloc, "file", "FILE", file_help);
+    let debug = with_arg(with_arg(Ok(debug), image), file)?;
+    let debug = with_asked_size(alloc, debug, "1048576");
+    let debug = with_arg(debug, asked_link_option(alloc));
+    let debug = with_arg(debug, flag_option(alloc, "strict", strict_help));
+    with_arg(debug, flag_option(alloc, "symbols", SYMBOLS_HELP))
 }
 
 // The definition of `debug`.
@@ -349,12 +370,13 @@ fn dis_definition<'a>(alloc: Global) -> Result<Command<'a>, AllocError>
     ensures shape { IfOk result (λ command. app_of command ≡ dis_line) }
     ensures local { IfOk result IsLocal }
 {
-    Command::new(alloc, "dis")
+    let dis = Command::new(alloc, "dis")
         .about("Prints the instructions of an image")
-        .after_help(AFTER_DIS_HELP)
-        .arg(file_argument(alloc, "image", "IMAGE", IMAGE_HELP))?
-        .arg(flag_option(alloc, "names", NAMES_HELP))?
-        .arg(flag_option(alloc, "symbols", SYMBOLS_HELP))
+        .after_help(AFTER_DIS_HELP);
+    let image = file_argument(alloc, "image", "IMAGE", IMAGE_HELP);
+    let dis = with_arg(Ok(dis), image);
+    let dis = with_arg(dis, flag_option(alloc, "names", NAMES_HELP));
+    with_arg(dis, flag_option(alloc, "symbols", SYMBOLS_HELP))
 }
 
 // The program with its demo, before the other commands.
@@ -370,108 +392,32 @@ fn program_definition<'a>(alloc: Global) -> Result<Command<'a>, AllocError>
         .subcommand(demo)
 }
 
-// A program with `run` added.
-fn with_run<'a>(alloc: Global, program: Command<'a>) -> Result<Command<'a>, AllocError>
-    ensures { IfOk result (λ more. app_of more ≡ with_subcommand (app_of program.entry) run_line.top) }
+// A program with a command added, if there are both.
+fn with_command<'a>(
+    program: Result<Command<'a>, AllocError>,
+    command: Result<Command<'a>, AllocError>,
+) -> Result<Command<'a>, AllocError>
+    ensures { (app line : App) → IfOk program.entry (λ old. app_of old ≡ app)
+        → IfOk command.entry (λ added. app_of added ≡ line) → IfOk command.entry IsLocal
+        → IfOk result (λ more. app_of more ≡ with_subcommand app line.top) }
 {
-    let run = run_definition(alloc)?;
-    program.subcommand(run)
-}
-
-// A program with `console` added.
-fn with_console<'a>(alloc: Global, program: Command<'a>) -> Result<Command<'a>, AllocError>
-    ensures { IfOk result (λ more.
-        app_of more ≡ with_subcommand (app_of program.entry) console_line.top) }
-{
-    let console = console_definition(alloc)?;
-    program.subcommand(console)
-}
-
-// A program with `schedule` added.
-fn with_schedule<'a>(alloc: Global, program: Command<'a>) -> Result<Command<'a>, AllocError>
-    ensures { IfOk result (λ more.
-        app_of more ≡ with_subcommand (app_of program.entry) schedule_line.top) }
-{
-    let schedule = schedule_definition(alloc)?;
-    program.subcommand(schedule)
-}
-
-// A program with `search` added.
-fn with_search<'a>(alloc: Global, program: Command<'a>) -> Result<Command<'a>, AllocError>
-    ensures { IfOk result (λ more.
-        app_of more ≡ with_subcommand (app_of program.entry) search_line.top) }
-{
-    let search = search_definition(alloc)?;
-    program.subcommand(search)
-}
-
-// A program with `trace` added.
-fn with_trace<'a>(alloc: Global, program: Command<'a>) -> Result<Command<'a>, AllocError>
-    ensures { IfOk result (λ more.
-        app_of more ≡ with_subcommand (app_of program.entry) trace_line.top) }
-{
-    let trace = trace_definition(alloc)?;
-    program.subcommand(trace)
-}
-
-// A program with `replay` added.
-fn with_replay<'a>(alloc: Global, program: Command<'a>) -> Result<Command<'a>, AllocError>
-    ensures { IfOk result (λ more.
-        app_of more ≡ with_subcommand (app_of program.entry) replay_line.top) }
-{
-    let replay = replay_definition(alloc)?;
-    program.subcommand(replay)
-}
-
-// A program with `debug` added.
-fn with_debug<'a>(alloc: Global, program: Command<'a>) -> Result<Command<'a>, AllocError>
-    ensures { IfOk result (λ more.
-        app_of more ≡ with_subcommand (app_of program.entry) debug_line.top) }
-{
-    let debug = debug_definition(alloc)?;
-    program.subcommand(debug)
-}
-
-// A program with `audit` added.
-fn with_audit<'a>(alloc: Global, program: Command<'a>) -> Result<Command<'a>, AllocError>
-    ensures { IfOk result (λ more.
-        app_of more ≡ with_subcommand (app_of program.entry) audit_line.top) }
-{
-    let audit = audit_definition(alloc)?;
-    program.subcommand(audit)
-}
-
-// A program with `as` added.
-fn with_as<'a>(alloc: Global, program: Command<'a>) -> Result<Command<'a>, AllocError>
-    ensures { IfOk result (λ more. app_of more ≡ with_subcommand (app_of program.entry) as_line.top) }
-{
-    let assembler = as_definition(alloc)?;
-    program.subcommand(assembler)
-}
-
-// A program with `dis` added.
-fn with_dis<'a>(alloc: Global, program: Command<'a>) -> Result<Command<'a>, AllocError>
-    ensures { IfOk result (λ more. app_of more ≡ with_subcommand (app_of program.entry) dis_line.top) }
-{
-    let dis = dis_definition(alloc)?;
-    program.subcommand(dis)
+    program?.subcommand(command?)
 }
 
 // The program's definition of its command line.
 fn definition<'a>(alloc: Global) -> Result<Command<'a>, AllocError>
     ensures { IfOk result (λ command. app_of command ≡ command_line) }
 {
-    let program = program_definition(alloc)?;
-    let program = with_run(alloc, program)?;
-    let program = with_console(alloc, program)?;
-    let program = with_schedule(alloc, program)?;
-    let program = with_search(alloc, program)?;
-    let program = with_trace(alloc, program)?;
-    let program = with_replay(alloc, program)?;
-    let program = with_debug(alloc, program)?;
-    let program = with_audit(alloc, program)?;
-    let program = with_as(alloc, program)?;
-    with_dis(alloc, program)
+    let program = with_command(program_definition(alloc), run_definition(alloc));
+    let program = with_command(program, console_definition(alloc));
+    let program = with_command(program, schedule_definition(alloc));
+    let program = with_command(program, search_definition(alloc));
+    let program = with_command(program, trace_definition(alloc));
+    let program = with_command(program, replay_definition(alloc));
+    let program = with_command(program, debug_definition(alloc));
+    let program = with_command(program, audit_definition(alloc));
+    let program = with_command(program, as_definition(alloc));
+    with_command(program, dis_definition(alloc))
 }
 
 /// Reads the words of a command line; the first is the program's name.

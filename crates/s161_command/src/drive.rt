@@ -6,6 +6,7 @@ ghost use Rattle.m161_order.specs.Order.{order_fault};
 ghost use Rattle.s161_command.specs.Drives.{AsksDrive, Clashes, IsBadGap, IsGap, IsGivenOrder, IsLongNumberOf, IsOrder, IsSeeded, changes_without_seed, events_by_default, file_and_order, gap_by_default, go_together, half_priorities, has_order, has_pace, has_seed, is_driven, is_given, lacks_events, lacks_order, long_rule, optional_rule, order_in_threads, pace_without_order, shows_log_twice, text_rule, two_orders, with_console_pace_rules, with_order_rules, with_pace_rules, with_priority_rules};
 ghost use Rattle.s161_command.specs.helpers.Commands.{IsLocal};
 
+use crate::args::with_arg;
 use crate::given::{is_set, long_given, number_given};
 use clap::builder::ValueParser;
 use clap::{Arg, ArgMatches, Command};
@@ -159,9 +160,9 @@ pub(crate) fn with_priorities<'a>(
     let changes_help =
         "Priorities in place of single choices at random; so many change in each stretch of Steps, 0 to 64";
     let within_help = "With --changes: Steps of a stretch, 1 to 16777216";
-    command
-        .arg(optional_number(alloc, "changes", "D", changes_help, 0, 64))?
-        .arg(optional_number(alloc, "within", "K", within_help, 1, 16_777_216))
+    let changes = optional_number(alloc, "changes", "D", changes_help, 0, 64);
+    let within = optional_number(alloc, "within", "K", within_help, 1, 16_777_216);
+    with_arg(with_arg(Ok(command), changes), within)
 }
 
 /// A command, with the options of an order added.
@@ -170,7 +171,8 @@ pub(crate) fn with_order<'a>(alloc: Global, command: Command<'a>) -> Result<Comm
         → IfOk result (λ more. app_of more ≡ with_order_rules (app_of command.entry)) }
     ensures local { IsLocal command.entry → IfOk result IsLocal }
 {
-    let command = command.arg(turns_option(alloc))?.arg(random_option(alloc))?;
+    let command = with_arg(Ok(command), turns_option(alloc));
+    let command = with_arg(command, random_option(alloc))?;
     with_priorities(alloc, command)
 }
 
@@ -215,11 +217,10 @@ pub(crate) fn with_pace<'a>(
     ensures local { IsLocal command.entry → IfOk result IsLocal }
 {
     let keys_help = "The bytes of this file are typed in a driven run";
-    command
-        .arg(events_option(alloc, most))?
-        .arg(transfer_option(alloc))?
-        .arg(text_option(alloc, "keys", "FILE", keys_help))?
-        .arg(gap_option(alloc))
+    let command = with_arg(Ok(command), events_option(alloc, most));
+    let command = with_arg(command, transfer_option(alloc));
+    let command = with_arg(command, text_option(alloc, "keys", "FILE", keys_help));
+    with_arg(command, gap_option(alloc))
 }
 
 /// The same without a file of keys.
@@ -232,10 +233,9 @@ pub(crate) fn with_console_pace<'a>(
         → IfOk result (λ more. app_of more ≡ with_console_pace_rules most (app_of command.entry)) }
     ensures local { IsLocal command.entry → IfOk result IsLocal }
 {
-    command
-        .arg(events_option(alloc, most))?
-        .arg(transfer_option(alloc))?
-        .arg(gap_option(alloc))
+    let command = with_arg(Ok(command), events_option(alloc, most));
+    let command = with_arg(command, transfer_option(alloc));
+    with_arg(command, gap_option(alloc))
 }
 
 // Whether an option is given.

@@ -1,6 +1,7 @@
 //! The command line of the program: its definition for clap, and the task that its words ask for.
 #![tactic(auto)]
 
+mod args;
 mod asked;
 mod command;
 mod drive;
