@@ -1,12 +1,17 @@
 //! The tasks whose text is complete before it is written.
 
 ghost use Rattle.std.specs.Prelude.{◌≡◌, ◌≢◌, ◌≤◌, IfErr, IfOk, None};
+ghost use Rattle.m161_order.specs.Order.{order_fault};
 ghost use Rattle.s161_base.specs.Samples.{image_file};
 ghost use Rattle.s161_command.specs.Commands.{HasLimits};
+ghost use Rattle.s161_drive.specs.Schedules.{IsScheduled, IsScheduledFault};
+ghost use Rattle.s161_runs.specs.Demos.{IsDemo};
+ghost use Rattle.s161_texts.specs.Assemblies.{IsAssembled};
 ghost use Rattle.s161_texts.specs.Listings.{IsDisassembled};
+ghost use Rattle.s161_work.specs.Assemblies.{IsAssemblyFault};
 ghost use Rattle.s161_work.specs.Failures.{Fails, IsTaskFault};
 ghost use Rattle.s161_work.specs.Listings.{IsListingFault};
-ghost use Rattle.s161_work.specs.Works.{IsResultOf, Prints, going_of};
+ghost use Rattle.s161_work.specs.Works.{IsResultOf, Prints, WithZero, going_of};
 
 use s161_audit::audit::audit;
 use s161_base::fault::Fault;
@@ -15,7 +20,7 @@ use s161_base::finished::Finished;
 use s161_base::input::read_input;
 use s161_base::sample::read_image;
 use s161_base::streams::send;
-use s161_command::{ListingTask, Task};
+use s161_command::{AssemblyTask, ListingTask, ScheduleTask, Task};
 use s161_drive::driven::run_driven;
 use s161_drive::schedule::schedule;
 use s161_runs::demo::demo;
@@ -71,34 +76,69 @@ fn finish<'a, R: Threads + Wait + Sync, F: FileSource, I: Read>(
     ensures within { IfOk result (λ done. (done.status ≤ 5) × (done.status ≢ 2)) }
 {
     match task {
-        Task::Demo => Ok(Finished::done(demo(alloc)?.into_bytes())),
+        Task::Demo => finish_demo(alloc),
         Task::Run(task) => run(alloc, files, input, task),
         Task::RunInThreads(task) => run_in_threads(rt, alloc, files, task),
         Task::RunDriven(task) => run_driven(alloc, files, task),
-        Task::Schedule(task) => Ok(Finished::done(schedule(alloc, files, task)?)),
+        Task::Schedule(task) => finish_schedule(alloc, files, task),
         Task::Console(_) | Task::Trace(_) | Task::Debug(_) => unreachable!(),
         Task::Search(task) => search(alloc, files, task),
         Task::Replay(task) => replay(alloc, files, task),
         Task::Audit(task) => audit(alloc, files, input, task),
-        Task::Assemble(task) => {
-            let source = read_input(alloc, input)?;
-            Ok(Finished::done(assembly(alloc, source.as_str(), task.symbols)?))
-        }
-        Task::Disassemble(task) => Ok(Finished::done(listing(alloc, files, task)?)),
+        Task::Assemble(task) => finish_assembly(alloc, input, task),
+        Task::Disassemble(task) => finish_listing(alloc, files, task),
     }
 }
 
+// The registers that `demo` shows.
+fn finish_demo<'a>(alloc: Global) -> Result<Finished, Fault<'a>>
+    ensures ok { IfOk result (λ done. WithZero IsDemo done.text.items done.status) }
+    ensures fault { IfErr result (λ fault. fault ≡ Fault.Memory) }
+{
+    Ok(Finished::done(demo(alloc)?.into_bytes()))
+}
+
+// The schedule of a driven run.
+fn finish_schedule<'a, F: FileSource>(
+    alloc: Global,
+    files: &mut F,
+    task: ScheduleTask<'a>,
+) -> Result<Finished, Fault<'a>>
+    requires { order_fault task.drive.order ≡ None }
+    ensures ok { IfOk result (λ done. WithZero (IsScheduled task.entry (F.known files.old)
+        (image_file (F.known files.old) task.entry.image.now)) done.text.items done.status) }
+    ensures fault { IfErr result (IsScheduledFault task.entry
+        (image_file (F.known files.old) task.entry.image.now)) }
+{
+    Ok(Finished::done(schedule(alloc, files, task)?))
+}
+
+// The file of an assembled text.
+fn finish_assembly<'a, I: Read>(
+    alloc: Global,
+    input: &mut I,
+    task: AssemblyTask,
+) -> Result<Finished, Fault<'a>>
+    ensures ok { IfOk result (λ done. WithZero (IsAssembled task (I.remaining input.old))
+        done.text.items done.status) }
+    ensures fault { IfErr result (IsAssemblyFault (I.remaining input.old)) }
+{
+    let source = read_input(alloc, input)?;
+    Ok(Finished::done(assembly(alloc, source.as_str(), task.symbols)?))
+}
+
 // The listing of an image.
-fn listing<'a, F: FileSource>(
+fn finish_listing<'a, F: FileSource>(
     alloc: Global,
     files: &mut F,
     task: ListingTask<'a>,
-) -> Result<Vec<u8>, Fault<'a>>
-    ensures ok { IfOk result (λ text. IsDisassembled task.entry
-        (image_file (F.known files.old) task.entry.image.now) text.items) }
+) -> Result<Finished, Fault<'a>>
+    ensures ok { IfOk result (λ done. WithZero (IsDisassembled task.entry
+        (image_file (F.known files.old) task.entry.image.now)) done.text.items done.status) }
     ensures fault { IfErr result (IsListingFault task.entry.image.now
         (image_file (F.known files.old) task.entry.image.now)) }
 {
     let file = read_image(alloc, files, task.image)?;
-    Ok(disassembly(alloc, task.image, &file, task.registers, task.symbols)?.into_bytes())
+    let listing = disassembly(alloc, task.image, &file, task.registers, task.symbols)?;
+    Ok(Finished::done(listing.into_bytes()))
 }

@@ -10,7 +10,7 @@ use m161_machine::Event::{Done, Key, Step};
 use m161_machine::{Conf, Event, Refusal};
 use m161_test_support::files::file_from;
 use m161_test_support::outcomes::{Answer, ENTRY, RAN, TAKEN};
-use s161_work::sample::sample_image;
+use s161_base::sample::sample_image;
 use std::alloc::Global;
 use std::process::Abort;
 use std::test::Fail;

@@ -4,7 +4,7 @@ use super::same;
 use super::streams::{FREE, Left, Memory, NoFiles, all};
 use m161_elf::LoadError;
 use m161_machine::BootError;
-use s161_work::fault::{Fault, Unread};
+use s161_base::fault::{Fault, Unread};
 use s161_work::work::{start, work};
 use std::process::Abort;
 use std::sync::Wait;

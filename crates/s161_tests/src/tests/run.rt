@@ -8,7 +8,7 @@ use m161_steplog::entry_line;
 use m161_test_support::files::file_at;
 use m161_test_support::kernel::SCHEDULE;
 use m161_test_support::outcomes::{ENTRY, Times};
-use s161_work::files::FileSource;
+use s161_base::files::FileSource;
 use s161_work::work::work;
 use std::alloc::Global;
 use std::io::Read;

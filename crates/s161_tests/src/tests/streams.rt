@@ -1,6 +1,6 @@
 //! Files, readers and writers that a test makes up.
 
-use s161_work::files::FileSource;
+use s161_base::files::FileSource;
 use std::alloc::Global;
 use std::io;
 use std::io::{ErrorKind, Read, Write};
