@@ -1,5 +1,5 @@
-//! The commands of the program, over any source of files, reader and writers: `start` does the work
-//! of a command line.
+//! The work of a command line, over any source of files, reader and writers: `start` does it. What
+//! else the program names is exported again.
 #![tactic(auto)]
 
 mod going;
