@@ -6,10 +6,11 @@ use Rattle.m161_asm.specs.declared.statement.Line.{Line as CodeLine}
 use Rattle.m161_asm.specs.declared.error.AsmError.{AsmError}
 use Rattle.m161_asm.specs.declared.statement.ReadError.{ReadError}
 use Rattle.m161_asm.specs.declared.statement.ReadError.TheVariants as errors
-use Rattle.m161_asm.specs.Tokens.{tokens}
+use Rattle.m161_asm.specs.Tokens.{Placed, tokens}
 use Rattle.m161_text.specs.Lines.{lines_of}
-use Rattle.m161_asm.specs.Lines.{Fault, SourceLine}
-use Rattle.m161_asm.specs.Text.{line_of, read_lines}
+use Rattle.m161_asm.specs.Lines.{◌>>=◌, Fault, Statement, SourceLine, sound, label_of, past_of, line_column, statement}
+use Rattle.m161_asm.specs.Text.{line_of, read_lines, line_in_place, new_label}
+use Rattle.m161_asm.specs.helpers.FirstPass.{label_checked, line_with}
 use Rattle.m161_asm.specs.helpers.Seen.{line_seen, above_of, fault_seen, IsTold, Yields, GoesOn}
 use Rattle.m161_asm.specs.Answer.{Tells}
 use Rattle.m161_asm.specs.declared.first.FirstPass.{FirstPass}
@@ -115,3 +116,25 @@ dropped_within [] zero = omega arith
 dropped_within [] (suc n) = omega arith
 dropped_within (b ∷ bs) zero = omega arith
 dropped_within (b ∷ bs) (suc n) = let d = dropped_within bs n in omega (arith, d)
+
+line_by : (a b : Result (Unit {0}) Fault) (c : Result Statement Fault) (f : Statement → SourceLine)
+    (g : SourceLine → Result SourceLine Fault)
+    → (a >>= λ _. b >>= λ _. c >>= λ s. g (f s)) ≡ ((a >>= λ _. b) >>= λ _. (c >>= λ s. Ok (f s)) >>= g)
+line_by (Ok u) (Ok v) (Ok s) f g = refl
+line_by (Ok u) (Ok v) (Err e) f g = refl
+line_by (Ok u) (Err e) c f g = refl
+line_by (Err e) b c f g = refl
+
+-- a line is checked, read and placed
+pub line_is : (above : List SourceLine) (ts : List Placed)
+    → line_of above ts
+    ≡ (label_checked above ts >>= λ _. line_with ts >>= line_in_place above)
+unfolding line_of
+line_is above ts =
+    line_by (sound ts) (new_label above (label_of ts).0) (statement (past_of ts) (label_of ts).1)
+    (λ s. record {
+      label = (label_of ts).0;
+      statement = s;
+      column = line_column ts (label_of ts).1;
+    })
+    (line_in_place above)

@@ -50,3 +50,8 @@ pub all_done : {A C : Type 0} (view : C → A) (f : A → Result ℕ Fault) (cs 
 all_done view f cs i front whole h k =
     let g : Ok (front ++ []) ≡ whole = rw (ends cs i h) at k in
     sym g ∙ ap Ok (append-nil front)
+
+pub front_err : {Y : Type 0} (front : List Y) (read : Result (List Y) Fault) (x : Fault)
+    → with_front front read ≡ Err x → read ≡ Err x
+front_err front (Ok ys) x e = cc
+front_err front (Err y) x e = e

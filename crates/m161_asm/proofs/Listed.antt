@@ -1,71 +1,106 @@
-use Rattle.std.specs.Prelude.{ℕ, suc, ◌+◌, ◌-◌, ◌<◌, ◌≤◌, List, [], ◌∷◌, ◌++◌, length, map, Result, Ok, Err}
+use Rattle.std.specs.Prelude.{ℕ, suc, ◌+◌, ◌-◌, ◌<◌, ◌≤◌, true, false, List, [], ◌∷◌, ◌++◌, drop, length, map, Result, Ok, Err}
 use Rattle.std.proofs.Common.{◌≡◌, refl, ap, sym, ◌∙◌, arith}
 use mathlib.Core.List.{append-nil}
-use Rattle.std.proofs.lemmas.List.{map-append}
 use Rattle.m161_asm.specs.declared.statement.Value.{Value as CodeValue}
+use Rattle.m161_asm.specs.declared.statement.ReadError.{ReadError}
+use Rattle.m161_asm.specs.declared.statement.ReadError.TheVariants as errors
+use Rattle.std.specs.Global.{Global}
+use Rattle.std.specs.Prelude.{Vec}
 use Rattle.m161_asm.specs.Tokens.{Placed}
-use Rattle.m161_asm.specs.Lines.{◌>>=◌, Fault, Value, value, values, further, mark, wrong}
-use Rattle.m161_asm.specs.helpers.Seen.{with_front, value_seen, all_seen}
+use Rattle.m161_asm.specs.Lines.{◌>>=◌, Fault, Parsed, Value, value, values, further, mark, wrong}
+use Rattle.m161_asm.specs.helpers.Readers.{has_mark, joined, Joins}
+use Rattle.m161_asm.specs.helpers.Seen.{with_front, value_seen, all_seen, rest_seen, Yields}
 use Rattle.m161_asm.specs.declared.token.Placed.{Placed as CodePlaced}
 use Rattle.m161_asm.proofs.Fronts.{fronted}
+use Rattle.m161_asm.proofs.Readers.{mark_is}
 
 -- The values of `.word`, one after the other.
 
+-- what a comma leads to
 further_next : (f : List Placed → Result (List Value) Fault) (past : ℕ) (rest : List Placed)
-    (r : Result (List Placed) Fault) → 0 < length rest → mark 44 past rest ≡ r
-    → further f past rest ≡ (r >>= f)
-further_next f past [] r h e = absurd (omega (arith, h))
-further_next f past (t ∷ ts) r h e = ap (λ x. x >>= f) e
+    → 0 < length rest → has_mark 44 rest ≡ true → further f past rest ≡ f (drop 1 rest)
+further_next f past [] h m = absurd (omega (arith, h))
+further_next f past (t ∷ ts) h m =
+    let d : mark 44 past (t ∷ ts) ≡ Ok (drop 1 (t ∷ ts)) = rw m at (mark_is 44 past (t ∷ ts)) in
+    ap (λ x. x >>= f) d
+
+further_none : (f : List Placed → Result (List Value) Fault) (past : ℕ) (rest : List Placed)
+    → 0 < length rest → has_mark 44 rest ≡ false → further f past rest ≡ wrong past rest
+further_none f past [] h m = absurd (omega (arith, h))
+further_none f past (t ∷ ts) h m =
+    let d : mark 44 past (t ∷ ts) ≡ wrong past (t ∷ ts) = rw m at (mark_is 44 past (t ∷ ts)) in
+    ap (λ x. x >>= f) d
+
+same_ok : (x y : List Value × List Placed) (r : Parsed (List Value)) → r ≡ Ok x → r ≡ Ok y → x ≡ y
+same_ok x y r d e = cc
+
+-- a value that is read, and those behind it
+stepped : (read : Parsed Value) (front all : List Value) (rest : List Placed)
+    (f : List Placed → Result (List Value) Fault) → joined front read ≡ Ok (all, rest)
+    → with_front front (read >>= λ v. f v.1 >>= λ vs. Ok (v.0 ∷ vs)) ≡ with_front all (f rest)
+stepped (Ok v) front all rest f e =
+    let x : List Value × List Placed = (front ++ (v.0 ∷ []), v.1) in
+    let y : List Value × List Placed = (all, rest) in
+    let d : x ≡ y = same_ok x y (Ok x) refl e in
+    let a : front ++ (v.0 ∷ []) ≡ all = ap (λ (z : List Value × List Placed). z.0) d in
+    let b : v.1 ≡ rest = ap (λ (z : List Value × List Placed). z.1) d in
+    rw (← a, ← b) (fronted front v.0 (f v.1))
+stepped (Err e) front all rest f h = cc
 
 -- the values from the token at which the loop stands
-opened : (spare past : ℕ) (front : List Value) (ts rest : List Placed) (v : Value)
-    → value past ts ≡ Ok (v, rest)
+opened : (spare past : ℕ) (front all : List Value) (ts rest : List Placed)
+    → joined front (value past ts) ≡ Ok (all, rest)
     → with_front front (values (suc spare) past ts)
-    ≡ with_front (front ++ (v ∷ [])) (further (λ us. values spare past us) past rest)
+    ≡ with_front all (further (λ us. values spare past us) past rest)
 unfolding values
-opened spare past front ts rest v e =
-    rw e (fronted front v (further (λ us. values spare past us) past rest))
+opened spare past front all ts rest e =
+    stepped (value past ts) front all rest (λ us. further (λ vs. values spare past vs) past us) e
 
 spared : (n i : ℕ) → i < n → n - i ≡ suc (n - (i + 1))
 spared n i h = omega (arith, h)
 
-pub one_more : (n i past : ℕ) (front : List Value) (ts rest next : List Placed) (v : Value)
-    (whole : Result (List Value) Fault) → i < n → value past ts ≡ Ok (v, rest) → 0 < length rest
-    → mark 44 past rest ≡ Ok next → with_front front (values (n - i) past ts) ≡ whole
-    → with_front (front ++ (v ∷ [])) (values (n - (i + 1)) past next) ≡ whole
-one_more n i past front ts rest next v whole h e s m k =
-    let a = opened (n - (i + 1)) past front ts rest v e in
-    let b = further_next (λ us. values (n - (i + 1)) past us) past rest (Ok next) s m in
+pub one_more : (n i past : ℕ) (front all : List Value) (ts rest : List Placed)
+    (whole : Result (List Value) Fault) → i < n → joined front (value past ts) ≡ Ok (all, rest)
+    → 0 < length rest → has_mark 44 rest ≡ true
+    → with_front front (values (n - i) past ts) ≡ whole
+    → with_front all (values (n - (i + 1)) past (drop 1 rest)) ≡ whole
+one_more n i past front all ts rest whole h e s m k =
+    let a = opened (n - (i + 1)) past front all ts rest e in
+    let b = further_next (λ us. values (n - (i + 1)) past us) past rest s m in
     let d : with_front front (values (suc (n - (i + 1))) past ts)
     ≡ whole = rw (spared n i h) at k in
-    sym (a ∙ ap (with_front (front ++ (v ∷ []))) b) ∙ d
+    sym (a ∙ ap (with_front all) b) ∙ d
 
-pub last_one : (n i past : ℕ) (front : List Value) (ts : List Placed) (v : Value)
-    (whole : Result (List Value) Fault) → i < n → value past ts ≡ Ok (v, [])
-    → with_front front (values (n - i) past ts) ≡ whole → whole ≡ Ok (front ++ (v ∷ []))
-last_one n i past front ts v whole h e k =
+pub last_one : (n i past : ℕ) (front all : List Value) (ts : List Placed)
+    (whole : Result (List Value) Fault) → i < n → joined front (value past ts) ≡ Ok (all, [])
+    → with_front front (values (n - i) past ts) ≡ whole → whole ≡ Ok all
+last_one n i past front all ts whole h e k =
     let d : with_front front (values (suc (n - (i + 1))) past ts)
     ≡ whole = rw (spared n i h) at k in
-    sym d ∙ opened (n - (i + 1)) past front ts [] v e ∙ ap Ok (append-nil (front ++ (v ∷ [])))
+    sym d ∙ opened (n - (i + 1)) past front all ts [] e ∙ ap Ok (append-nil all)
 
-pub bad_value : (n i past : ℕ) (front : List Value) (ts : List Placed) (f : Fault)
-    (whole : Result (List Value) Fault) → i < n → value past ts ≡ Err f
-    → with_front front (values (n - i) past ts) ≡ whole → whole ≡ Err f
+-- the reader's error is that of the values
+pub bad_value : (e : ReadError) (n i past : ℕ) (old new : List CodeValue) (ts : List Placed)
+    (whole : Result (List Value) Fault) → i < n
+    → Joins value_seen rest_seen (Err e) old new (value past ts)
+    → with_front (map value_seen old) (values (n - i) past ts) ≡ whole
+    → Yields (λ (vs : Vec CodeValue Global). map value_seen vs.items) (Err e) whole
 unfolding values
-bad_value n i past front ts f whole h e k =
-    let d : with_front front (values (suc (n - (i + 1))) past ts)
+bad_value errors.Memory n i past old new ts whole h j k = tt
+bad_value (errors.Fault f) n i past old new ts whole h j k =
+    let d : with_front (map value_seen old) (values (suc (n - (i + 1))) past ts)
     ≡ whole = rw (spared n i h) at k in
-    sym d ∙ rw e refl
+    sym d ∙ rw j refl
 
-pub bad_comma : (n i past : ℕ) (front : List Value) (ts rest : List Placed) (v : Value) (f : Fault)
-    (whole : Result (List Value) Fault) → i < n → value past ts ≡ Ok (v, rest) → 0 < length rest
-    → mark 44 past rest ≡ Err f → with_front front (values (n - i) past ts) ≡ whole → whole ≡ Err f
-bad_comma n i past front ts rest v f whole h e s m k =
+pub bad_comma : (n i past : ℕ) (front all : List Value) (ts rest : List Placed)
+    (whole : Result (List Value) Fault) → i < n → joined front (value past ts) ≡ Ok (all, rest)
+    → 0 < length rest → has_mark 44 rest ≡ false
+    → with_front front (values (n - i) past ts) ≡ whole → whole ≡ wrong past rest
+bad_comma n i past front all ts rest whole h e s m k =
     let d : with_front front (values (suc (n - (i + 1))) past ts)
     ≡ whole = rw (spared n i h) at k in
-    sym d ∙ opened (n - (i + 1)) past front ts rest v e
-    ∙ ap (with_front (front ++ (v ∷ [])))
-    (further_next (λ us. values (n - (i + 1)) past us) past rest (Err f) s m)
+    sym d ∙ opened (n - (i + 1)) past front all ts rest e
+    ∙ ap (with_front all) (further_none (λ us. values (n - (i + 1)) past us) past rest s m)
 
 pub none_left : (n i past : ℕ) (front : List Value) (ts : List Placed)
     (whole : Result (List Value) Fault) → n ≤ i → with_front front (values (n - i) past ts) ≡ whole
@@ -75,11 +110,6 @@ none_left n i past front ts whole h k =
     let z : n - i ≡ 0 = omega (arith, h) in
     let d : with_front front (values 0 past ts) ≡ whole = rw z at k in
     sym d
-
--- one more value in the code's list
-pub pushed : (old new : List CodeValue) (v : CodeValue) → new ≡ old ++ (v ∷ [])
-    → map value_seen new ≡ map value_seen old ++ (value_seen v ∷ [])
-pushed old new v e = rw e (map-append value_seen old (v ∷ []))
 
 pub none_seen : (xs : List CodePlaced) → length xs ≡ 0 → all_seen xs ≡ []
 none_seen [] h = refl

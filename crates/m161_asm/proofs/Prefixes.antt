@@ -12,7 +12,7 @@ use Rattle.m161_asm.specs.Lines.{Fault, SourceLine}
 use Rattle.m161_asm.specs.Text.{segments_of}
 use Rattle.m161_asm.specs.helpers.Lawful.{Lawful}
 use Rattle.m161_asm.specs.helpers.Seen.{line_seen, above_of, IsTold}
-use Rattle.m161_asm.specs.helpers.SecondPass.{FillsLine}
+use Rattle.m161_asm.specs.helpers.SecondPass.{FillsLine, IsFilled}
 use Rattle.m161_asm.proofs.Above.{took, above_len}
 
 -- The first lines of a text, while the second pass goes over them.
@@ -100,3 +100,23 @@ told_here e r symbols ls x i new q t h f =
     told_pass e r symbols ls x i new t h
     (subst (λ (y : CodeLine). FillsLine (Err r) new symbols (line_seen y ∷ above_of (take i ls))) q
     f)
+
+-- the pass is one line further
+pub filled_here : (p : SecondPass) (symbols : List (List ℕ × ℕ)) (ls : List CodeLine) (x : CodeLine)
+    (i : ℕ) → x ≡ slice_index_or ls i x → i < length ls
+    → IsFilled p symbols (line_seen x ∷ above_of (take i ls))
+    → IsFilled p symbols (above_of (take (i + 1) ls))
+filled_here p symbols ls x i e h f =
+    subst (IsFilled p symbols)
+    (ap (λ y. line_seen y ∷ above_of (take i ls)) e ∙ sym (next_above ls x i h)) f
+
+take_whole : {C : Type 0} (cs : List C) (i : ℕ) → length cs ≤ i → take i cs ≡ cs
+take_whole [] zero h = refl
+take_whole [] (suc i) h = refl
+take_whole (c ∷ cs) zero h = absurd (omega (arith, h))
+take_whole (c ∷ cs) (suc i) h = ap (λ t. c ∷ t) (take_whole cs i (omega (arith, h)))
+
+pub filled_all : (p : SecondPass) (symbols : List (List ℕ × ℕ)) (ls : List CodeLine) (i : ℕ)
+    → length ls ≤ i → IsFilled p symbols (above_of (take i ls)) → IsFilled p symbols (above_of ls)
+filled_all p symbols ls i h f =
+    subst (λ (t : List CodeLine). IsFilled p symbols (above_of t)) (take_whole ls i h) f

@@ -5,4 +5,6 @@ pub mod Lawful
 pub mod Passes
 pub mod SecondPass
 pub mod Segments
+pub mod Readers
 pub mod Seen
+pub mod Values

@@ -4,13 +4,14 @@ ghost use Rattle.std.specs.Prelude.{◌≡◌, ◌≤◌, ◌<◌, ◌+◌, ◌^
 ghost use Rattle.std.specs.List.{position_or_len};
 ghost use Rattle.m161_asm.specs.Tokens.{tokens};
 ghost use Rattle.m161_text.specs.Lines.{lines_of};
-ghost use Rattle.m161_asm.specs.Lines.{size_of, line_column};
-ghost use Rattle.m161_asm.specs.Text.{line_of, read_lines};
+ghost use Rattle.m161_asm.specs.Lines as lines;
+ghost use Rattle.m161_asm.specs.Lines.{size_of, line_column, label_of};
+ghost use Rattle.m161_asm.specs.Text.{line_of, origin_of, read_lines, symbol, symbols_in};
 ghost use Rattle.m161_asm.specs.Seen.{symbols_seen};
-ghost use Rattle.m161_asm.specs.helpers.Seen.{Yields, IsTold, GoesOn, statement_seen, label_seen, line_seen, above_of, all_seen};
+ghost use Rattle.m161_asm.specs.helpers.Seen.{Gives, Yields, IsTold, GoesOn, statement_seen, label_seen, line_seen, above_of, all_seen};
 ghost use Rattle.m161_asm.specs.Answer.{Tells, IsWithinLines};
-ghost use Rattle.m161_asm.specs.helpers.Passes.{HasRoom, IsNew};
-ghost use Rattle.m161_asm.specs.helpers.FirstPass.{IsPass};
+ghost use Rattle.m161_asm.specs.helpers.Passes.{Advances, HasRoom, IsNew, IsPosition};
+ghost use Rattle.m161_asm.specs.helpers.FirstPass.{IsPass, label_checked, line_with};
 
 use crate::error::{AsmError, ErrorKind};
 use crate::line::{label_of, past_of, sound, statement};
@@ -18,7 +19,7 @@ use crate::parse::next_column;
 use crate::place::{Position, origin_of, size_of};
 use crate::program::SymbolTable;
 use crate::scan::{after, len_before, tokens};
-use crate::statement::{Line, ReadError};
+use crate::statement::{Fault, Line, ReadError};
 use crate::symbols::{define, new_label};
 use crate::token::Placed;
 use indexmap::IndexMap;
@@ -63,6 +64,38 @@ pub(crate) fn at_line(line: usize, error: ReadError) -> AsmError
     }
 }
 
+// The faults before a line's statement: a bad token, or a label that an earlier line has.
+fn check_label(symbols: &SymbolTable, ts: &[Placed<'_>]) -> Result<(), Fault>
+    ensures value { (above : List lines.SourceLine) → symbols_seen symbols.now ≡ symbols_in above →
+        Gives (λ _. tt) result (label_checked above (all_seen ts.now)) }
+    ensures new { OnOk result (IsNew (symbols_seen symbols.now) (label_of (all_seen ts.now)).0) }
+{
+    match sound(ts) {
+        Ok(()) => {
+            let (label, _) = label_of(ts);
+            new_label(symbols, label)
+        }
+        Err(fault) => Err(fault),
+    }
+}
+
+// The line of tokens, wherever it is.
+fn line_with<'a>(alloc: Global, ts: &[Placed<'a>]) -> Result<Line<'a>, ReadError>
+    ensures value { Yields line_seen result (line_with (all_seen ts.now)) }
+    ensures label { IfOk result (λ l. label_seen l.label ≡ (label_of (all_seen ts.now)).0) }
+{
+    let (label, rest) = label_of(ts);
+    let column = line_column(ts, rest);
+    match statement(alloc, past_of(ts), rest) {
+        Ok(statement) => Ok(Line {
+            label,
+            statement,
+            column,
+        }),
+        Err(error) => Err(error),
+    }
+}
+
 impl<'a> FirstPass<'a> {
     // Nothing read of a text yet.
     fn new(alloc: Global, text: &[u8]) -> FirstPass<'a>
@@ -76,8 +109,33 @@ impl<'a> FirstPass<'a> {
         }
     }
 
+    // The line of tokens at the position.
+    #[tactic(auto, using(crate::proofs::Above::line_is))]
+    fn placed(&self, alloc: Global, ts: &[Placed<'a>]) -> Result<Line<'a>, ReadError>
+        requires { IsPass self.now }
+        ensures value { Yields line_seen result (line_of (above_of self.now.lines.items)
+            (all_seen ts.now)) }
+        ensures new { IfOk result (λ l. IsNew (symbols_seen self.now.symbols)
+            (label_seen l.label)) }
+        ensures room { IfOk result (λ l. HasRoom self.now.position (size_of
+            (statement_seen l.statement))) }
+        ensures address { IfOk result (λ l. is_some l.label ≡ true →
+            self.now.position.address < 2 ^ 32) }
+    {
+        if let Err(fault) = check_label(&self.symbols, ts) {
+            return Err(ReadError::Fault(fault));
+        }
+        let line = match line_with(alloc, ts) {
+            Ok(line) => line,
+            Err(error) => return Err(error),
+        };
+        match self.position.place(&line) {
+            Ok(()) => Ok(line),
+            Err(fault) => Err(ReadError::Fault(fault)),
+        }
+    }
+
     // The next line.
-    #[tactic(auto, unfolding(crate::specs::Text::line_of))]
     fn read(&self, alloc: Global, line: &'a [u8]) -> Result<Line<'a>, ReadError>
         requires pass { IsPass self.now }
         requires small { length line.now < 2 ^ 63 }
@@ -90,18 +148,32 @@ impl<'a> FirstPass<'a> {
         ensures address { IfOk result (λ l. is_some l.label ≡ true →
             self.now.position.address < 2 ^ 32) }
     {
-        let ts = tokens(alloc, line)?;
-        sound(&ts)?;
-        let (label, rest) = label_of(&ts);
-        new_label(&self.symbols, label)?;
-        let statement = statement(alloc, past_of(&ts), rest)?;
-        let line = Line {
-            label,
-            statement,
-            column: line_column(&ts, rest),
-        };
-        self.position.place(&line)?;
-        Ok(line)
+        match tokens(alloc, line) {
+            Ok(ts) => self.placed(alloc, &ts),
+            Err(_) => Err(ReadError::Memory),
+        }
+    }
+
+    // Adds the symbol of a line, and goes to the position after the line.
+    fn settle(&mut self, alloc: Global, line: &Line<'_>) -> Result<(), ReadError>
+        requires position { IsPosition self.old.position }
+        requires new { IsNew (symbols_seen self.old.symbols) (label_seen line.now.label) }
+        requires room { HasRoom self.old.position (size_of (statement_seen line.now.statement)) }
+        requires address { is_some line.now.label ≡ true → self.old.position.address < 2 ^ 32 }
+        ensures symbols { OnOk result (symbols_seen self.new.symbols ≡ symbols_seen self.old.symbols
+            ++ symbol (label_seen line.now.label) self.old.position.address) }
+        ensures position { OnOk result (Advances self.old.position self.new.position
+            (origin_of (statement_seen line.now.statement))
+            (size_of (statement_seen line.now.statement))) }
+        ensures lines { OnOk result (self.new.lines.items ≡ self.old.lines.items) }
+    {
+        match define(alloc, &mut self.symbols, line.label, self.position.address) {
+            Ok(()) => {
+                let origin = origin_of(&line.statement);
+                self.position.advance(origin, size_of(&line.statement))
+            }
+            Err(error) => Err(error),
+        }
     }
 
     // Adds a line that was read.
@@ -114,10 +186,9 @@ impl<'a> FirstPass<'a> {
         ensures lines { OnOk result (self.new.lines.items ≡ self.old.lines.items ++
             (line.entry ∷ [])) }
     {
-        define(alloc, &mut self.symbols, line.label, self.position.address)?;
-        let origin = origin_of(&line.statement);
-        let size = size_of(&line.statement);
-        self.position.advance(origin, size)?;
+        if let Err(error) = self.settle(alloc, &line) {
+            return Err(error);
+        }
         self.lines.push(line)?;
         Ok(())
     }

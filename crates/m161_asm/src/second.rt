@@ -106,7 +106,7 @@ fn push_words(
     match statement {
         Statement::Space(count) => push_zeros(words, *count),
         Statement::Words(values) => push_values(words, symbols, values),
-        Statement::Code(row, parts) => push_code(alloc, words, symbols, at, *row, parts),
+        Statement::Code(row, parts) => push_code(alloc, words, symbols, at, **row, parts),
         Statement::Entry(v) => push_entry(words, symbols, *v),
         Statement::Nothing => Ok(()),
         Statement::Origin(_) => Ok(()),

@@ -4,11 +4,12 @@ ghost use Rattle.std.specs.Prelude.{◌≡◌, ◌≤◌, ◌<◌, ◌+◌, ◌^
 ghost use Rattle.m161_asm.specs.declared.error.ErrorKind.TheVariants as faults;
 ghost use Rattle.m161_asm.specs.Text.{number_of_value, word_of_value, word_address, branch_field, jump_field, field_of, each, entry_by};
 ghost use Rattle.m161_asm.specs.Seen.{symbols_seen};
+ghost use Rattle.m161_asm.specs.helpers.Values.{target_field};
 ghost use Rattle.m161_asm.specs.helpers.Seen.{Gives, Yields, value_seen, part_seen, statement_seen};
 
 use crate::error::ErrorKind;
 use crate::program::SymbolTable;
-use crate::statement::{Fault, Part, ReadError, Statement, Value};
+use crate::statement::{Fault, Part, Reach, ReadError, Statement, Value};
 use crate::symbols::label_address;
 use std::alloc::Global;
 
@@ -105,6 +106,17 @@ fn jump_field(at: u64, column: usize, target: u32) -> Result<u32, Fault>
     }
 }
 
+// The field of a branch or a jump at an address.
+fn target_field(reach: Reach, at: u64, column: usize, target: u32) -> Result<u32, Fault>
+    requires { at ≤ 2 ^ 32 }
+    ensures { Gives (λ n. n) result (target_field reach at column target) }
+{
+    match reach {
+        Reach::Branch => branch_field(at, column, target),
+        Reach::Jump => jump_field(at, column, target),
+    }
+}
+
 // The number of an instruction's operand.
 #[tactic(auto, unfolding(crate::specs::Text::field_of))]
 fn field_of(symbols: &SymbolTable, at: u64, part: Part<'_>) -> Result<u32, Fault>
@@ -114,8 +126,10 @@ fn field_of(symbols: &SymbolTable, at: u64, part: Part<'_>) -> Result<u32, Fault
 {
     match part {
         Part::Field(n) => Ok(n),
-        Part::BranchTo(v) => branch_field(at, v.column, word_address(symbols, v)?),
-        Part::JumpTo(v) => jump_field(at, v.column, word_address(symbols, v)?),
+        Part::Target(reach, v) => match word_address(symbols, v) {
+            Ok(target) => target_field(reach, at, v.column, target),
+            Err(fault) => Err(fault),
+        },
     }
 }
 

@@ -1,2 +1,3 @@
 pub mod Nearest
 pub mod Found
+mod Listed

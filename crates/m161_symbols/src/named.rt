@@ -1,10 +1,10 @@
 //! The parts of a table of names.
 
-ghost use Rattle.std.specs.Prelude.{◌≡◌, ◌≤◌, ◌<◌, ℕ, map, filter, length, string_bytes, All, IfOk, IfSome, OnOk};
+ghost use Rattle.std.specs.Prelude.{◌≡◌, ◌≤◌, ◌<◌, ℕ, map, filter, length, string_bytes, All, IfOk, IfSome, OnOk, option_map};
 ghost use Rattle.m161_elf.specs.Symbols.{name_bytes, HasName};
-ghost use Rattle.m161_symbols.specs.Names.{named, symbol_below};
+ghost use Rattle.m161_symbols.specs.Names.{named, nearest_in, symbol_below};
 ghost use Rattle.m161_symbols.specs.helpers.{numbered, places_from, with_new, Splits};
-ghost use Rattle.m161_symbols.specs.Table.{entries_seen, has_value, seen, AreFound, ArePlaces, IsRising};
+ghost use Rattle.m161_symbols.specs.Table.{entries_seen, has_value, seen, AreFound, ArePlaces, IsRising, read_place};
 
 use indexmap::IndexMap;
 use m161_elf::Symbol;
@@ -103,8 +103,8 @@ fn count_below(places: &[Place], bound: u64) -> usize
     low
 }
 
-/// The number of the first symbol with the greatest value that isn't above an address.
-pub(crate) fn nearest_number(symbols: &[Named], places: &[Place], address: u32) -> Option<usize>
+// The number of the first symbol with the greatest value that isn't above an address.
+fn nearest_number(symbols: &[Named], places: &[Place], address: u32) -> Option<usize>
     requires { ArePlaces (map seen symbols.now) places.now }
     ensures value { numbered (map seen symbols.now) result
         ≡ symbol_below (map seen symbols.now) address }
@@ -116,6 +116,25 @@ pub(crate) fn nearest_number(symbols: &[Named], places: &[Place], address: u32) 
     }
     let first = count_below(places, u64::from(places[end - 1].value));
     Some(places[first].number)
+}
+
+/// The name of the first symbol with the greatest value that isn't above an address, and how far the
+/// address is behind it.
+pub(crate) fn nearest<'a>(
+    symbols: &'a [Named],
+    places: &[Place],
+    address: u32,
+) -> Option<(&'a str, u32)>
+    requires { ArePlaces (map seen symbols.now) places.now }
+    ensures { option_map read_place result ≡ nearest_in (map seen symbols.now) address }
+{
+    match nearest_number(symbols, places, address) {
+        Some(number) => {
+            let symbol = &symbols[number];
+            Some((symbol.name.as_str(), address - symbol.value))
+        }
+        None => None,
+    }
 }
 
 /// The place of each symbol, by values.

@@ -1,12 +1,10 @@
 //! The symbols of a file, by name and by address.
 
-ghost use Rattle.std.specs.Prelude.{◌≡◌, [], option_map, IfOk};
+ghost use Rattle.std.specs.Prelude.{◌≡◌, [], map, option_map, IfOk};
 ghost use Rattle.m161_symbols.specs.Names.{names_in, nearest_in, value_in};
-ghost use Rattle.m161_symbols.specs.Table.{read_place};
+ghost use Rattle.m161_symbols.specs.Table.{read_place, seen};
 
-use crate::named::{
-    Named, Place, Values, named_symbols, nearest_number, sorted_places, values_by_name,
-};
+use crate::named::{Named, Place, Values, named_symbols, nearest, sorted_places, values_by_name};
 use indexmap::IndexMap;
 use m161_hash::TextState;
 use std::alloc::{AllocError, Global};
@@ -33,6 +31,24 @@ impl Model for Symbols {
         × AreFound (map seen s.symbols.items) s.by_name };
 }
 
+// Symbols with their places by value and their values by name.
+fn with_tables(alloc: Global, file: &[u8], symbols: Vec<Named>) -> Result<Symbols, AllocError>
+    ensures { IfOk result (λ found. found ≡ map seen symbols.items) }
+{
+    let by_value = match sorted_places(alloc, &symbols) {
+        Ok(by_value) => by_value,
+        Err(error) => return Err(error),
+    };
+    match values_by_name(alloc, file, &symbols) {
+        Ok(by_name) => Ok(Symbols {
+            symbols,
+            by_value,
+            by_name,
+        }),
+        Err(error) => Err(error),
+    }
+}
+
 impl Symbols {
     /// The symbols of a file, as `m161_elf::symbols` lists them.
     ///
@@ -42,14 +58,10 @@ impl Symbols {
         ensures { IfOk result (λ symbols. symbols ≡ names_in file.now) }
     {
         let listed = m161_elf::symbols(alloc, file)?;
-        let symbols = named_symbols(alloc, file, &listed)?;
-        let by_value = sorted_places(alloc, &symbols)?;
-        let by_name = values_by_name(alloc, file, &symbols)?;
-        Ok(Symbols {
-            symbols,
-            by_value,
-            by_name,
-        })
+        match named_symbols(alloc, file, &listed) {
+            Ok(symbols) => with_tables(alloc, file, symbols),
+            Err(error) => Err(error),
+        }
     }
 
     /// No symbols.
@@ -78,8 +90,6 @@ impl Symbols {
     pub fn nearest(&self, address: u32) -> Option<(&str, u32)>
         ensures { option_map read_place result ≡ nearest_in self.now address }
     {
-        let number = nearest_number(&self.symbols, &self.by_value, address)?;
-        let symbol = &self.symbols[number];
-        Some((symbol.name.as_str(), address - symbol.value))
+        nearest(&self.symbols, &self.by_value, address)
     }
 }

@@ -7,6 +7,7 @@ use Rattle.m161_asm.specs.declared.statement.Whole.{Whole as CodeWhole}
 use Rattle.m161_asm.specs.declared.statement.Value.{Value as CodeValue}
 use Rattle.m161_asm.specs.declared.statement.Part.{Part as CodePart}
 use Rattle.m161_asm.specs.declared.statement.Part.TheVariants as part
+use Rattle.m161_asm.specs.declared.statement.Reach.TheVariants as reach
 use Rattle.m161_asm.specs.declared.statement.ReadError.{ReadError}
 use Rattle.m161_asm.specs.declared.statement.ReadError.TheVariants as errors
 use Rattle.m161_asm.specs.declared.statement.Statement.{Statement as CodeStatement}
@@ -84,8 +85,8 @@ value_read x = (value_seen x.0, all_seen x.1.now)
 
 abbrev pub part_seen : CodePart → Part
 part_seen (part.Field n) = Field n
-part_seen (part.BranchTo v) = BranchTo (value_seen v)
-part_seen (part.JumpTo v) = JumpTo (value_seen v)
+part_seen (part.Target reach.Branch v) = BranchTo (value_seen v)
+part_seen (part.Target reach.Jump v) = JumpTo (value_seen v)
 
 abbrev pub part_read : CodePart × Bor (List CodePlaced) → Part × List Placed
 part_read x = (part_seen x.0, all_seen x.1.now)
@@ -115,7 +116,7 @@ statement_seen (statement.Origin n) = Origin n
 statement_seen (statement.Space n) = Space n
 statement_seen (statement.Entry v) = Entry (value_seen v)
 statement_seen (statement.Words vs) = Words (map value_seen vs.items)
-statement_seen (statement.Code r ps) = Code r (map part_seen ps.items)
+statement_seen (statement.Code r ps) = Code r.now (map part_seen ps.items)
 
 abbrev pub label_seen : Option CodeLabel → Label
 label_seen l = option_map (λ (x : CodeLabel). (x.name.now, x.column)) l
