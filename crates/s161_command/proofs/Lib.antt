@@ -1,4 +1,4 @@
 mod Accepting
 mod Reading
-mod Defining
-pub mod Undriven
+mod Linking
+mod Naming

@@ -1,2 +1,4 @@
 -- Definitions that only contracts of private functions, or proofs, use.
 pub mod Commands
+pub mod Lines
+pub mod Settings

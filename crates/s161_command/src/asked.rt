@@ -1,15 +1,17 @@
 //! What a command asks for, by what clap gives for its arguments.
 
-ghost use Rattle.std.specs.Prelude.{◌≡◌, IfErr, IfOk, Some, codes, false, true};
-ghost use Rattle.clap.specs.Words.{found_of, rows_of, subcommand_rows_of};
-ghost use Rattle.s161_command.specs.Commands.{AsksAssembly, AsksFiles, AsksListing, AsksReplay, AsksRun, ClashesIn, GoTogether, HasLimits, IsAskedSize, IsRunTask, IsSize, IsSource, IsTask, registers_of, shown_of};
-ghost use Rattle.s161_command.specs.Drives.{AsksDrive, AsksDriveIf, Clashes, go_together, has_order};
-ghost use Rattle.s161_command.specs.Links.{RefusesLink};
+ghost use Rattle.std.specs.Prelude.{◌≡◌, IfErr, IfOk, None, Some, codes, false};
+ghost use Rattle.clap.specs.Words.{first_of, found_of, rows_of, subcommand_rows_of};
+ghost use Rattle.s161_command.specs.Commands.{AsksAssembly, AsksFiles, AsksListing, AsksReplay, AsksRun, ClashesIn, GoTogether, HasLimits, HasSourceLimits, IsAskedSize, IsSize, IsSource, IsTask, order_use, registers_of, shown_of};
+ghost use Rattle.s161_command.specs.Drives.{AsksDriveIf, has_order};
+ghost use Rattle.s161_command.specs.Links.{IsLinkIf};
 ghost use Rattle.s161_command.specs.declared.drive.OrderUse.TheVariants.{Assumed, Needed, Optional, OrFile, Seeded};
+ghost use Rattle.s161_command.specs.helpers.Settings.{HasSettings, HasSettingsIf};
 
-use crate::drive::{Clash, Drive, OrderUse, clash_of, drive_given, has_order};
-use crate::given::{file_given, is_set, long_given, number_given, number_if_given};
-use crate::link::{link_given, link_if_given};
+use crate::drive::{Clash, Drive, OrderUse, drive_given, has_order};
+use crate::given::{file_given, is_set, long_given, number_given, number_if_given, text_given};
+use crate::link::link_or_word;
+use crate::settings::{Settings, order_use, settings_given};
 use crate::task::{
     AskedSize, AssemblyTask, ConsoleTask, DebugTask, DrivenTask, FilesTask, ListingTask, Registers,
     ReplayTask, RunTask, ScheduleTask, SearchTask, Shown, Size, Source, Task, ThreadsTask,
@@ -19,18 +21,17 @@ use clap::ArgMatches;
 use m161_isa::LinkUnit;
 
 // The size of a machine; the log's number of entries has this default.
-fn size_given<'a>(given: &ArgMatches<'a>, log: u32) -> Result<Size, Clash>
-    ensures size { IfOk result (IsSize log (rows_of (found_of given.now))) }
-    ensures clash { IfErr result (RefusesLink (rows_of (found_of given.now))) }
+fn size_given<'a>(given: &ArgMatches<'a>, log: u32, link: Option<LinkUnit>) -> Size
+    requires { IsLinkIf (first_of (codes "link") (rows_of (found_of given.now))) link }
+    ensures { IsSize log (rows_of (found_of given.now)) result }
 {
-    let link = link_given(given)?;
-    Ok(Size {
+    Size {
         ram: number_given(given, "ram", 1_048_576),
         processors: number_given(given, "cpus", 1),
         log: number_given(given, "log", log),
-        link,
+        link: link_or_word(link),
         strict: is_set(given, "strict"),
-    })
+    }
 }
 
 // What `run` is asked to print.
@@ -48,127 +49,90 @@ fn shown_given<'a>(given: &ArgMatches<'a>) -> Shown
 }
 
 // The arguments of `run`.
-fn run_task_of<'a>(given: &ArgMatches<'a>) -> Result<RunTask<'a>, Clash>
-    ensures task { IfOk result (AsksRun (rows_of (found_of given.now))) }
-    ensures clash { IfErr result (RefusesLink (rows_of (found_of given.now))) }
+fn run_given<'a>(given: &ArgMatches<'a>, link: Option<LinkUnit>) -> RunTask<'a>
+    requires { IsLinkIf (first_of (codes "link") (rows_of (found_of given.now))) link }
+    ensures { AsksRun (rows_of (found_of given.now)) result }
 {
-    let size = size_given(given, 65_536)?;
-    Ok(RunTask {
+    RunTask {
         image: file_given(given, "image"),
-        size,
+        size: size_given(given, 65_536, link),
         shown: shown_given(given),
+    }
+}
+
+// The task of `run` without an order: under a schedule, or in threads.
+fn task_without_order<'a>(given: &ArgMatches<'a>, run: RunTask<'a>) -> Task<'a>
+    requires order { has_order (rows_of (found_of given.now)) ≡ false }
+    requires run { AsksRun (rows_of (found_of given.now)) run }
+    ensures task { IsTask (Some (codes "run", rows_of (found_of given.now))) result }
+    ensures limits { HasLimits result }
+{
+    match number_given(given, "threads", 0) {
+        0 => Task::Run(run),
+        quota => Task::RunInThreads(ThreadsTask {
+            run,
+            quota,
+            burst: number_given(given, "burst", 1),
+        }),
+    }
+}
+
+// The task of `run`.
+fn task_of_run<'a>(given: &ArgMatches<'a>, settings: Settings) -> Task<'a>
+    requires { HasSettings Optional (rows_of (found_of given.now)) settings }
+    ensures task { IsTask (Some (codes "run", rows_of (found_of given.now))) result }
+    ensures limits { HasLimits result }
+{
+    let run = run_given(given, settings.link);
+    if has_order(given) {
+        let drive = drive_given(given, OrderUse::Optional, settings);
+        Task::RunDriven(DrivenTask { run, drive })
+    } else {
+        task_without_order(given, run)
+    }
+}
+
+// The task of `schedule`.
+fn task_of_schedule<'a>(given: &ArgMatches<'a>, settings: Settings) -> Task<'a>
+    requires { HasSettings Needed (rows_of (found_of given.now)) settings }
+    ensures task { IsTask (Some (codes "schedule", rows_of (found_of given.now))) result }
+    ensures limits { HasLimits result }
+{
+    Task::Schedule(ScheduleTask {
+        image: file_given(given, "image"),
+        size: size_given(given, 65_536, settings.link),
+        drive: drive_given(given, OrderUse::Needed, settings),
     })
 }
 
-// The task of `run` under a schedule, or in threads.
-fn task_without_order<'a>(given: &ArgMatches<'a>) -> Result<Task<'a>, Clash>
-    requires { has_order (rows_of (found_of given.now)) ≡ false }
-    ensures task { IfOk result (IsRunTask (rows_of (found_of given.now))) }
-    ensures limits { IfOk result HasLimits }
-    ensures clash { IfErr result (Clashes Optional (rows_of (found_of given.now))) }
+// The task of `console`.
+fn task_of_console<'a>(given: &ArgMatches<'a>, settings: Settings) -> Task<'a>
+    requires { HasSettings Assumed (rows_of (found_of given.now)) settings }
+    ensures task { IsTask (Some (codes "console", rows_of (found_of given.now))) result }
+    ensures limits { HasLimits result }
 {
-    let task = run_task_of(given)?;
-    match number_given(given, "threads", 0) {
-        0 => Ok(Task::Run(task)),
-        quota => Ok(Task::RunInThreads(ThreadsTask {
-            run: task,
-            quota,
-            burst: number_given(given, "burst", 1),
-        })),
-    }
-}
-
-// The task of `run` by a policy.
-fn task_with_order<'a>(given: &ArgMatches<'a>) -> Result<Task<'a>, Clash>
-    requires { has_order (rows_of (found_of given.now)) ≡ true }
-    ensures task { IfOk result (IsRunTask (rows_of (found_of given.now))) }
-    ensures limits { IfOk result HasLimits }
-    ensures clash { IfErr result (Clashes Optional (rows_of (found_of given.now))) }
-{
-    let drive = drive_given(given, OrderUse::Optional)?;
-    let run = run_task_of(given)?;
-    Ok(Task::RunDriven(DrivenTask { run, drive }))
-}
-
-// The task of the words of `run`.
-fn task_of_run<'a>(given: &ArgMatches<'a>) -> Result<Task<'a>, Clash>
-    ensures task { IfOk result (IsRunTask (rows_of (found_of given.now))) }
-    ensures limits { IfOk result HasLimits }
-    ensures together { IfOk result (λ _. go_together Optional (rows_of (found_of given.now)) ≡ true) }
-    ensures clash { IfErr result (Clashes Optional (rows_of (found_of given.now))) }
-{
-    if let Some(clash) = clash_of(given, OrderUse::Optional) {
-        return Err(clash);
-    }
-    if has_order(given) {
-        task_with_order(given)
-    } else {
-        task_without_order(given)
-    }
-}
-
-// The options of a driven run, if they go together.
-fn drive_of<'a>(given: &ArgMatches<'a>, orders: OrderUse) -> Result<Drive<'a>, Clash>
-    ensures drive { IfOk result (AsksDrive orders (rows_of (found_of given.now))) }
-    ensures together { IfOk result (λ _. go_together orders (rows_of (found_of given.now)) ≡ true) }
-    ensures clash { IfErr result (Clashes orders (rows_of (found_of given.now))) }
-{
-    if let Some(clash) = clash_of(given, orders) {
-        return Err(clash);
-    }
-    drive_given(given, orders)
-}
-
-// The task of the words of `schedule`.
-fn task_of_schedule<'a>(given: &ArgMatches<'a>) -> Result<Task<'a>, Clash>
-    ensures task { IfOk result (IsTask (Some (codes "schedule", rows_of (found_of given.now)))) }
-    ensures limits { IfOk result HasLimits }
-    ensures together { IfOk result (λ _. go_together Needed (rows_of (found_of given.now)) ≡ true) }
-    ensures clash { IfErr result (Clashes Needed (rows_of (found_of given.now))) }
-{
-    let drive = drive_of(given, OrderUse::Needed)?;
-    let size = size_given(given, 65_536)?;
-    Ok(Task::Schedule(ScheduleTask {
+    Task::Console(ConsoleTask {
         image: file_given(given, "image"),
-        size,
-        drive,
-    }))
+        size: size_given(given, 65_536, settings.link),
+        drive: drive_given(given, OrderUse::Assumed, settings),
+    })
 }
 
-// The task of the words of `console`.
-fn task_of_console<'a>(given: &ArgMatches<'a>) -> Result<Task<'a>, Clash>
-    ensures task { IfOk result (IsTask (Some (codes "console", rows_of (found_of given.now)))) }
-    ensures limits { IfOk result HasLimits }
-    ensures together { IfOk result (λ _. go_together Assumed (rows_of (found_of given.now)) ≡ true) }
-    ensures clash { IfErr result (Clashes Assumed (rows_of (found_of given.now))) }
+// The task of `search`.
+fn task_of_search<'a>(given: &ArgMatches<'a>, settings: Settings) -> Task<'a>
+    requires { HasSettings Seeded (rows_of (found_of given.now)) settings }
+    ensures task { IsTask (Some (codes "search", rows_of (found_of given.now))) result }
+    ensures limits { HasLimits result }
 {
-    let drive = drive_of(given, OrderUse::Assumed)?;
-    let size = size_given(given, 65_536)?;
-    Ok(Task::Console(ConsoleTask {
+    Task::Search(SearchTask {
         image: file_given(given, "image"),
-        size,
-        drive,
-    }))
-}
-
-// The task of the words of `search`.
-fn task_of_search<'a>(given: &ArgMatches<'a>) -> Result<Task<'a>, Clash>
-    ensures task { IfOk result (IsTask (Some (codes "search", rows_of (found_of given.now)))) }
-    ensures limits { IfOk result HasLimits }
-    ensures together { IfOk result (λ _. go_together Seeded (rows_of (found_of given.now)) ≡ true) }
-    ensures clash { IfErr result (Clashes Seeded (rows_of (found_of given.now))) }
-{
-    let drive = drive_of(given, OrderUse::Seeded)?;
-    let size = size_given(given, 65_536)?;
-    Ok(Task::Search(SearchTask {
-        image: file_given(given, "image"),
-        size,
-        drive,
+        size: size_given(given, 65_536, settings.link),
+        drive: drive_given(given, OrderUse::Seeded, settings),
         seeds: number_given(given, "seeds", 1),
-        watches: given.get_str("watches"),
-        output: given.get_str("output"),
+        watches: text_given(given, "watches"),
+        output: text_given(given, "output"),
         whole: is_set(given, "whole"),
-    }))
+    })
 }
 
 // The size of a machine, of which a log may say what isn't given; how many entries its own log keeps
@@ -214,75 +178,61 @@ fn registers_given<'a>(given: &ArgMatches<'a>) -> Registers
     }
 }
 
-// What a driven run is asked for, if an order is given; and the options go together.
-fn drive_if_ordered<'a>(given: &ArgMatches<'a>) -> Result<Option<Drive<'a>>, Clash>
-    ensures drive { IfOk result (AsksDriveIf Optional (rows_of (found_of given.now))) }
-    ensures together { IfOk result (λ _. go_together Optional (rows_of (found_of given.now)) ≡ true) }
-    ensures clash { IfErr result (Clashes Optional (rows_of (found_of given.now))) }
+// What a driven run is asked for, if an order is given.
+fn drive_if_ordered<'a>(given: &ArgMatches<'a>, settings: Settings) -> Option<Drive<'a>>
+    requires { HasSettings Optional (rows_of (found_of given.now)) settings }
+    ensures { AsksDriveIf Optional (rows_of (found_of given.now)) result }
 {
-    let order = has_order(given);
-    if let Some(clash) = clash_of(given, OrderUse::Optional) {
-        return Err(clash);
+    if has_order(given) {
+        Some(drive_given(given, OrderUse::Optional, settings))
+    } else {
+        None
     }
-    if !order {
-        return Ok(None);
-    }
-    let drive = drive_given(given, OrderUse::Optional)?;
-    Ok(Some(drive))
 }
 
-// The task of the words of `trace`.
-fn task_of_trace<'a>(given: &ArgMatches<'a>) -> Result<Task<'a>, Clash>
-    ensures task { IfOk result (IsTask (Some (codes "trace", rows_of (found_of given.now)))) }
-    ensures limits { IfOk result HasLimits }
-    ensures together { IfOk result (λ _. go_together Optional (rows_of (found_of given.now)) ≡ true) }
-    ensures clash { IfErr result (Clashes Optional (rows_of (found_of given.now))) }
+// The task of `trace`.
+fn task_of_trace<'a>(given: &ArgMatches<'a>, settings: Settings) -> Task<'a>
+    requires { HasSettings Optional (rows_of (found_of given.now)) settings }
+    ensures task { IsTask (Some (codes "trace", rows_of (found_of given.now))) result }
+    ensures limits { HasLimits result }
 {
-    let drive = drive_if_ordered(given)?;
-    let size = size_given(given, 65_536)?;
-    Ok(Task::Trace(TraceTask {
+    Task::Trace(TraceTask {
         image: file_given(given, "image"),
-        size,
+        size: size_given(given, 65_536, settings.link),
         from: long_given(given, "from", 0),
         count: long_given(given, "count", u64::MAX),
         registers: registers_given(given),
         symbols: is_set(given, "symbols"),
-        drive,
-    }))
+        drive: drive_if_ordered(given, settings),
+    })
 }
 
 // Where the events of a debugged run come from.
-fn source_of<'a>(given: &ArgMatches<'a>) -> Result<Source<'a>, Clash>
-    ensures source { IfOk result (IsSource (rows_of (found_of given.now))) }
-    ensures together { IfOk result (λ _. go_together OrFile (rows_of (found_of given.now)) ≡ true) }
-    ensures clash { IfErr result (Clashes OrFile (rows_of (found_of given.now))) }
+fn source_given<'a>(given: &ArgMatches<'a>, settings: Settings) -> Source<'a>
+    requires { HasSettings OrFile (rows_of (found_of given.now)) settings }
+    ensures source { IsSource (rows_of (found_of given.now)) result }
+    ensures limits { HasSourceLimits result }
 {
-    let order = has_order(given);
-    if let Some(clash) = clash_of(given, OrderUse::OrFile) {
-        return Err(clash);
+    if has_order(given) {
+        Source::Driven(drive_given(given, OrderUse::OrFile, settings))
+    } else {
+        Source::File(file_given(given, "file"))
     }
-    if !order {
-        return Ok(Source::File(file_given(given, "file")));
-    }
-    let drive = drive_given(given, OrderUse::OrFile)?;
-    Ok(Source::Driven(drive))
 }
 
-// The task of the words of `debug`.
-fn task_of_debug<'a>(given: &ArgMatches<'a>) -> Result<Task<'a>, Clash>
-    ensures task { IfOk result (IsTask (Some (codes "debug", rows_of (found_of given.now)))) }
-    ensures limits { IfOk result HasLimits }
-    ensures together { IfOk result (λ _. go_together OrFile (rows_of (found_of given.now)) ≡ true) }
-    ensures clash { IfErr result (Clashes OrFile (rows_of (found_of given.now))) }
+// The task of `debug`.
+fn task_of_debug<'a>(given: &ArgMatches<'a>, settings: Settings) -> Task<'a>
+    requires { HasSettings OrFile (rows_of (found_of given.now)) settings }
+    ensures task { IsTask (Some (codes "debug", rows_of (found_of given.now))) result }
+    ensures limits { HasLimits result }
 {
-    let source = source_of(given)?;
-    let link = link_if_given(given)?;
-    Ok(Task::Debug(DebugTask {
+    let strict = is_set(given, "strict");
+    Task::Debug(DebugTask {
         image: file_given(given, "image"),
-        source,
-        size: asked_size_given(given, 1_048_576, link, is_set(given, "strict")),
+        source: source_given(given, settings),
+        size: asked_size_given(given, 1_048_576, settings.link, strict),
         symbols: is_set(given, "symbols"),
-    }))
+    })
 }
 
 // The arguments of `dis`.
@@ -307,49 +257,52 @@ fn assembly_task_of<'a>(given: &ArgMatches<'a>) -> AssemblyTask
 
 // The arguments of a command over an image and a text: the name of the second one, and the default
 // of the log's number of entries.
-fn files_task_of<'a>(given: &ArgMatches<'a>, text: &str, log: u32) -> Result<FilesTask<'a>, Clash>
-    ensures task { IfOk result (AsksFiles text.now log (rows_of (found_of given.now))) }
-    ensures clash { IfErr result (RefusesLink (rows_of (found_of given.now))) }
+fn files_task_of<'a>(
+    given: &ArgMatches<'a>,
+    text: &str,
+    log: u32,
+    link: Option<LinkUnit>,
+) -> FilesTask<'a>
+    requires { IsLinkIf (first_of (codes "link") (rows_of (found_of given.now))) link }
+    ensures { AsksFiles text.now log (rows_of (found_of given.now)) result }
 {
-    let size = size_given(given, log)?;
-    Ok(FilesTask {
+    FilesTask {
         image: file_given(given, "image"),
         text: file_given(given, text),
-        size,
-    })
+        size: size_given(given, log, link),
+    }
 }
 
-// The task of the words of `audit`.
-fn task_of_audit<'a>(given: &ArgMatches<'a>) -> Result<Task<'a>, Clash>
-    ensures task { IfOk result (IsTask (Some (codes "audit", rows_of (found_of given.now)))) }
-    ensures limits { IfOk result HasLimits }
-    ensures clash { IfErr result (RefusesLink (rows_of (found_of given.now))) }
+// The task of the command of this name, with these settings.
+fn task_named<'a>(name: &str, given: &ArgMatches<'a>, settings: Settings) -> Task<'a>
+    requires { HasSettingsIf (order_use name.now) (rows_of (found_of given.now)) settings }
+    ensures task { IsTask (Some (name.now, rows_of (found_of given.now))) result }
+    ensures limits { HasLimits result }
 {
-    let task = files_task_of(given, "watches", 65_536)?;
-    Ok(Task::Audit(task))
+    match name {
+        "run" => task_of_run(given, settings),
+        "console" => task_of_console(given, settings),
+        "schedule" => task_of_schedule(given, settings),
+        "search" => task_of_search(given, settings),
+        "trace" => task_of_trace(given, settings),
+        "replay" => Task::Replay(replay_task_of(given)),
+        "debug" => task_of_debug(given, settings),
+        "audit" => Task::Audit(files_task_of(given, "watches", 65_536, settings.link)),
+        "as" => Task::Assemble(assembly_task_of(given)),
+        "dis" => Task::Disassemble(listing_task_of(given)),
+        _ => Task::Demo,
+    }
 }
 
 // The task of the words of the command of this name.
-#[tactic(auto, using(crate::proofs::Undriven::undriven))]
 fn task_of_command<'a>(name: &str, given: &ArgMatches<'a>) -> Result<Task<'a>, Clash>
     ensures task { IfOk result (IsTask (Some (name.now, rows_of (found_of given.now)))) }
     ensures limits { IfOk result HasLimits }
     ensures together { IfOk result (λ _. GoTogether (Some (name.now, rows_of (found_of given.now)))) }
     ensures clash { IfErr result (ClashesIn (Some (name.now, rows_of (found_of given.now)))) }
 {
-    match name {
-        "run" => task_of_run(given),
-        "console" => task_of_console(given),
-        "schedule" => task_of_schedule(given),
-        "search" => task_of_search(given),
-        "trace" => task_of_trace(given),
-        "replay" => Ok(Task::Replay(replay_task_of(given))),
-        "debug" => task_of_debug(given),
-        "audit" => task_of_audit(given),
-        "as" => Ok(Task::Assemble(assembly_task_of(given))),
-        "dis" => Ok(Task::Disassemble(listing_task_of(given))),
-        _ => Ok(Task::Demo),
-    }
+    let settings = settings_given(given, order_use(name))?;
+    Ok(task_named(name, given, settings))
 }
 
 /// The task of the words of a command line.

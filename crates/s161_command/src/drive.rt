@@ -1,17 +1,14 @@
 //! The options of a driven run.
 
-ghost use Rattle.std.specs.Prelude.{◌≡◌, false, true, None, IfOk, MatchOption, MatchResult, codes, option_map};
-ghost use Rattle.clap.specs.Words.{app_of, first_of, found_of, one_of, rows_of, rule_of};
-ghost use Rattle.m161_order.specs.Order.{order_fault};
-ghost use Rattle.s161_command.specs.Drives.{AsksDrive, Clashes, IsBadGap, IsGap, IsGivenOrder, IsLongNumberOf, IsOrder, IsSeeded, changes_without_seed, events_by_default, file_and_order, gap_by_default, go_together, half_priorities, has_order, has_pace, has_seed, is_driven, is_given, lacks_events, lacks_order, long_rule, optional_rule, order_in_threads, pace_without_order, shows_log_twice, text_rule, two_orders, with_console_pace_rules, with_order_rules, with_pace_rules, with_priority_rules};
-ghost use Rattle.s161_command.specs.helpers.Commands.{IsLocal};
+ghost use Rattle.std.specs.Prelude.{◌≡◌, true, None, MatchOption, codes, option_map};
+ghost use Rattle.clap.specs.Words.{first_of, found_of, rows_of};
+ghost use Rattle.s161_command.specs.Drives.{AsksDrive, Clashes, IsBadGap, IsGap, IsGivenOrder, IsOrder, IsSeeded, changes_without_seed, events_by_default, file_and_order, gap_by_default, go_together, half_priorities, has_order, has_pace, has_seed, is_driven, is_given, lacks_events, lacks_order, order_in_threads, pace_without_order, shows_log_twice, two_orders};
+ghost use Rattle.s161_command.specs.helpers.Settings.{HasSettings};
 
-use crate::args::with_arg;
-use crate::given::{is_set, long_given, number_given};
-use clap::builder::ValueParser;
-use clap::{Arg, ArgMatches, Command};
+use crate::given::{is_set, long_given, number_given, text_given};
+use crate::settings::Settings;
+use clap::ArgMatches;
 use m161_order::{Order, OrderError};
-use std::alloc::{AllocError, Global};
 use thiserror::Error;
 
 /// What a driven run is asked for.
@@ -73,169 +70,6 @@ pub enum Clash {
     BadGap,
     #[error("--link is word, or line, the aligned 16 bytes")]
     BadLink,
-}
-
-/// An option with a number of 32 bits that has no default.
-pub(crate) fn optional_number<'a>(
-    alloc: Global,
-    name: &'a str,
-    shown: &'a str,
-    help: &'a str,
-    low: u32,
-    high: u32,
-) -> Arg<'a>
-    ensures rule { rule_of result ≡ optional_rule name.entry.now low high }
-    ensures local { result.global ≡ false }
-{
-    Arg::new(alloc, name)
-        .long(name)
-        .value_name(shown)
-        .help(help)
-        .value_parser(ValueParser::signed(i64::from(low), i64::from(high)))
-}
-
-/// An option with a number of 64 bits that has no default.
-pub(crate) fn optional_long<'a>(
-    alloc: Global,
-    name: &'a str,
-    shown: &'a str,
-    help: &'a str,
-    low: u64,
-    high: u64,
-) -> Arg<'a>
-    ensures rule { rule_of result ≡ long_rule name.entry.now low high }
-    ensures local { result.global ≡ false }
-{
-    Arg::new(alloc, name)
-        .long(name)
-        .value_name(shown)
-        .help(help)
-        .value_parser(ValueParser::unsigned(low, high))
-}
-
-/// An option with a text that has no default.
-pub(crate) fn text_option<'a>(
-    alloc: Global,
-    name: &'a str,
-    shown: &'a str,
-    help: &'a str,
-) -> Arg<'a>
-    ensures rule { rule_of result ≡ text_rule name.entry.now }
-    ensures local { result.global ≡ false }
-{
-    Arg::new(alloc, name)
-        .long(name)
-        .value_name(shown)
-        .help(help)
-}
-
-// The option of an order in turns.
-fn turns_option<'a>(alloc: Global) -> Arg<'a>
-    ensures rule { rule_of result ≡ optional_rule (codes "turns") 1 1_000_000 }
-    ensures local { result.global ≡ false }
-{
-    let help = "Chooses the events: each ready processor makes N Steps in turn, 1 to 1000000";
-    optional_number(alloc, "turns", "N", help, 1, 1_000_000)
-}
-
-// The option of an order at random.
-fn random_option<'a>(alloc: Global) -> Arg<'a>
-    ensures rule { rule_of result ≡ long_rule (codes "random") 0 18_446_744_073_709_551_615 }
-    ensures local { result.global ≡ false }
-{
-    let help =
-        "Chooses the events: the next Step is that of a ready processor at random, always the same for a SEED";
-    optional_long(alloc, "random", "SEED", help, 0, u64::MAX)
-}
-
-/// A command, with the options of an order by priorities added.
-pub(crate) fn with_priorities<'a>(
-    alloc: Global,
-    command: Command<'a>,
-) -> Result<Command<'a>, AllocError>
-    ensures shape { IsLocal command.entry
-        → IfOk result (λ more. app_of more ≡ with_priority_rules (app_of command.entry)) }
-    ensures local { IsLocal command.entry → IfOk result IsLocal }
-{
-    let changes_help =
-        "Priorities in place of single choices at random; so many change in each stretch of Steps, 0 to 64";
-    let within_help = "With --changes: Steps of a stretch, 1 to 16777216";
-    let changes = optional_number(alloc, "changes", "D", changes_help, 0, 64);
-    let within = optional_number(alloc, "within", "K", within_help, 1, 16_777_216);
-    with_arg(with_arg(Ok(command), changes), within)
-}
-
-/// A command, with the options of an order added.
-pub(crate) fn with_order<'a>(alloc: Global, command: Command<'a>) -> Result<Command<'a>, AllocError>
-    ensures shape { IsLocal command.entry
-        → IfOk result (λ more. app_of more ≡ with_order_rules (app_of command.entry)) }
-    ensures local { IsLocal command.entry → IfOk result IsLocal }
-{
-    let command = with_arg(Ok(command), turns_option(alloc));
-    let command = with_arg(command, random_option(alloc))?;
-    with_priorities(alloc, command)
-}
-
-// The option that says how many events a driven run has at most.
-fn events_option<'a>(alloc: Global, most: u64) -> Arg<'a>
-    ensures rule { rule_of result ≡ long_rule (codes "events") 1 most }
-    ensures local { result.global ≡ false }
-{
-    let help =
-        "The most events of a driven run; 1000000 where it is left out, 100000 in search, no limit in console";
-    optional_long(alloc, "events", "N", help, 1, most)
-}
-
-// The option that says when a byte is sent.
-fn transfer_option<'a>(alloc: Global) -> Arg<'a>
-    ensures rule { rule_of result ≡ optional_rule (codes "transfer") 0 4_294_967_295 }
-    ensures local { result.global ≡ false }
-{
-    let help = "Events of a driven run after which a byte is sent, 100 where it is left out";
-    optional_number(alloc, "transfer", "N", help, 0, u32::MAX)
-}
-
-// The option that says when keys are typed.
-fn gap_option<'a>(alloc: Global) -> Arg<'a>
-    ensures rule { rule_of result ≡ text_rule (codes "gap") }
-    ensures local { result.global ≡ false }
-{
-    let help =
-        "Events of a driven run between keys, 1000 where it is left out, or none: only where no processor is ready, as in console";
-    text_option(alloc, "gap", "N", help)
-}
-
-/// A command, with the options added that say how long a driven run is, when bytes are sent, and
-/// which keys are typed, and when.
-pub(crate) fn with_pace<'a>(
-    alloc: Global,
-    command: Command<'a>,
-    most: u64,
-) -> Result<Command<'a>, AllocError>
-    ensures shape { IsLocal command.entry
-        → IfOk result (λ more. app_of more ≡ with_pace_rules most (app_of command.entry)) }
-    ensures local { IsLocal command.entry → IfOk result IsLocal }
-{
-    let keys_help = "The bytes of this file are typed in a driven run";
-    let command = with_arg(Ok(command), events_option(alloc, most));
-    let command = with_arg(command, transfer_option(alloc));
-    let command = with_arg(command, text_option(alloc, "keys", "FILE", keys_help));
-    with_arg(command, gap_option(alloc))
-}
-
-/// The same without a file of keys.
-pub(crate) fn with_console_pace<'a>(
-    alloc: Global,
-    command: Command<'a>,
-    most: u64,
-) -> Result<Command<'a>, AllocError>
-    ensures shape { IsLocal command.entry
-        → IfOk result (λ more. app_of more ≡ with_console_pace_rules most (app_of command.entry)) }
-    ensures local { IsLocal command.entry → IfOk result IsLocal }
-{
-    let command = with_arg(Ok(command), events_option(alloc, most));
-    let command = with_arg(command, transfer_option(alloc));
-    with_arg(command, gap_option(alloc))
 }
 
 // Whether an option is given.
@@ -411,8 +245,8 @@ fn given_order<'a>(given: &ArgMatches<'a>) -> Order
     seeded_order(given, "random")
 }
 
-// The order.
-fn order_of<'a>(given: &ArgMatches<'a>, orders: OrderUse) -> Order
+/// The order.
+pub(crate) fn order_of<'a>(given: &ArgMatches<'a>, orders: OrderUse) -> Order
     ensures { IsOrder orders (rows_of (found_of given.now)) result }
 {
     match orders {
@@ -425,19 +259,6 @@ fn order_of<'a>(given: &ArgMatches<'a>, orders: OrderUse) -> Order
                 Order::Turns(1)
             }
         }
-    }
-}
-
-// The order, if its numbers are within their limits.
-fn valid_order<'a>(given: &ArgMatches<'a>, orders: OrderUse) -> Result<Order, Clash>
-    ensures { MatchResult result
-        (λ order. IsOrder orders (rows_of (found_of given.now)) order × (order_fault order ≡ None))
-        (λ clash. Clashes orders (rows_of (found_of given.now)) clash) }
-{
-    let order = order_of(given, orders);
-    match order.fault() {
-        Some(error) => Err(Clash::BadOrder(error)),
-        None => Ok(order),
     }
 }
 
@@ -466,16 +287,13 @@ fn gap_by_default(orders: OrderUse) -> Option<u32>
     }
 }
 
-// The gap of the options.
-fn gap_given<'a>(given: &ArgMatches<'a>, orders: OrderUse) -> Result<Option<u32>, Clash>
-    ensures { MatchResult result
-        (IsGap (gap_by_default orders) (first_of (codes "gap") (rows_of (found_of given.now))))
-        (λ clash. Clashes orders (rows_of (found_of given.now)) clash) }
+/// The gap of the options; nothing where it is neither a number nor `none`.
+pub(crate) fn gap_given<'a>(given: &ArgMatches<'a>, orders: OrderUse) -> Option<Option<u32>>
+    ensures { MatchOption result
+        (IsBadGap (first_of (codes "gap") (rows_of (found_of given.now))))
+        (IsGap (gap_by_default orders) (first_of (codes "gap") (rows_of (found_of given.now)))) }
 {
-    match gap_of(given.get_str("gap"), gap_by_default(orders)) {
-        Some(gap) => Ok(gap),
-        None => Err(Clash::BadGap),
-    }
+    gap_of(text_given(given, "gap"), gap_by_default(orders))
 }
 
 // The most events where their number isn't given.
@@ -490,20 +308,19 @@ fn events_by_default(orders: OrderUse) -> u64
 }
 
 /// What a driven run is asked for.
-///
-/// # Errors
-/// The order's numbers are outside their limits, or the gap is neither a number nor `none`.
-pub(crate) fn drive_given<'a>(given: &ArgMatches<'a>, orders: OrderUse) -> Result<Drive<'a>, Clash>
-    ensures { MatchResult result (AsksDrive orders (rows_of (found_of given.now)))
-        (λ clash. Clashes orders (rows_of (found_of given.now)) clash) }
+pub(crate) fn drive_given<'a>(
+    given: &ArgMatches<'a>,
+    orders: OrderUse,
+    settings: Settings,
+) -> Drive<'a>
+    requires { HasSettings orders (rows_of (found_of given.now)) settings }
+    ensures { AsksDrive orders (rows_of (found_of given.now)) result }
 {
-    let order = valid_order(given, orders)?;
-    let gap = gap_given(given, orders)?;
-    Ok(Drive {
-        order,
+    Drive {
+        order: settings.order,
         events: long_given(given, "events", events_by_default(orders)),
         transfer: number_given(given, "transfer", 100),
-        gap,
-        keys: given.get_str("keys"),
-    })
+        gap: settings.gap,
+        keys: text_given(given, "keys"),
+    }
 }

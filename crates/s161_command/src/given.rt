@@ -1,6 +1,6 @@
 //! What clap gives for an argument.
 
-ghost use Rattle.std.specs.Prelude.{◌≡◌, [], codes, unwrap_or};
+ghost use Rattle.std.specs.Prelude.{◌≡◌, [], option_map, unwrap_or};
 ghost use Rattle.clap.specs.Words.{first_of, found_of, one_of, rows_of};
 ghost use Rattle.s161_command.specs.Drives.{IsLongNumberOf};
 ghost use Rattle.s161_command.specs.Numbers.{IsNumberIf, IsNumberOf, is_set};
@@ -19,6 +19,13 @@ pub(crate) fn long_given<'a>(given: &ArgMatches<'a>, name: &str, default: u64) -
     ensures { IsLongNumberOf default (one_of name.now (rows_of (found_of given.now))) result }
 {
     given.get_one::<u64>(name).unwrap_or(default)
+}
+
+/// The text of an option, if it is given.
+pub(crate) fn text_given<'a>(given: &ArgMatches<'a>, name: &str) -> Option<&'a str>
+    ensures { option_map (λ text. text.now) result ≡ first_of name.now (rows_of (found_of given.now)) }
+{
+    given.get_str(name)
 }
 
 /// A file's name.

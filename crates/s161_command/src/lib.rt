@@ -1,13 +1,15 @@
 //! The command line of the program: its definition for clap, and the task that its words ask for.
 #![tactic(auto)]
 
-mod args;
+mod argument;
 mod asked;
 mod command;
 mod drive;
 mod given;
 mod help;
+mod lines;
 mod link;
+mod settings;
 mod task;
 
 pub use command::parse;

@@ -1,34 +1,12 @@
 //! The option that says what `ll` links a processor to.
 
-ghost use Rattle.std.specs.Prelude.{◌≡◌, false, IfErr, IfOk, MatchOption, codes, option_map};
-ghost use Rattle.clap.specs.Words.{first_of, found_of, rows_of, rule_of};
-ghost use Rattle.s161_command.specs.Commands.{link_rule};
-ghost use Rattle.s161_command.specs.Drives.{text_rule};
-ghost use Rattle.s161_command.specs.Links.{IsBadLink, IsLink, IsLinkIf, RefusesLink};
+ghost use Rattle.std.specs.Prelude.{Option, List, ℕ, MatchOption, codes, option_map};
+ghost use Rattle.clap.specs.Words.{first_of, found_of, rows_of};
+ghost use Rattle.s161_command.specs.Links.{IsBadLink, IsLink, IsLinkIf};
 
-use crate::drive::{Clash, text_option};
-use clap::{Arg, ArgMatches};
+use crate::given::text_given;
+use clap::ArgMatches;
 use m161_isa::LinkUnit;
-use std::alloc::Global;
-
-/// The option, by default `word`.
-pub(crate) fn link_option<'a>(alloc: Global) -> Arg<'a>
-    ensures rule { rule_of result ≡ link_rule }
-    ensures local { result.global ≡ false }
-{
-    let help = "What ll links to: word, or line, the aligned 16 bytes";
-    text_option(alloc, "link", "UNIT", help).default_value("word")
-}
-
-/// The option without a default: where it isn't given, a log may say it.
-pub(crate) fn asked_link_option<'a>(alloc: Global) -> Arg<'a>
-    ensures rule { rule_of result ≡ text_rule (codes "link") }
-    ensures local { result.global ≡ false }
-{
-    let help =
-        "What ll links to: word, or line, the aligned 16 bytes; the log's own where it is left out";
-    text_option(alloc, "link", "UNIT", help)
-}
 
 // The unit of this name, if there is a name.
 fn unit_of(name: Option<&str>) -> Option<Option<LinkUnit>>
@@ -43,30 +21,18 @@ fn unit_of(name: Option<&str>) -> Option<Option<LinkUnit>>
     }
 }
 
-/// What `ll` links a processor to, if it is given.
-///
-/// # Errors
-/// What is given is neither `word` nor `line`.
-pub(crate) fn link_if_given<'a>(given: &ArgMatches<'a>) -> Result<Option<LinkUnit>, Clash>
-    ensures unit { IfOk result (IsLinkIf (first_of (codes "link") (rows_of (found_of given.now)))) }
-    ensures clash { IfErr result (RefusesLink (rows_of (found_of given.now))) }
+/// What `ll` links a processor to, if it is given; nothing where that is neither `word` nor `line`.
+pub(crate) fn link_if_given<'a>(given: &ArgMatches<'a>) -> Option<Option<LinkUnit>>
+    ensures { MatchOption result
+        (IsBadLink (first_of (codes "link") (rows_of (found_of given.now))))
+        (IsLinkIf (first_of (codes "link") (rows_of (found_of given.now)))) }
 {
-    match unit_of(given.get_str("link")) {
-        Some(unit) => Ok(unit),
-        None => Err(Clash::BadLink),
-    }
+    unit_of(text_given(given, "link"))
 }
 
 /// What `ll` links a processor to: a word, if it isn't given.
-///
-/// # Errors
-/// What is given is neither `word` nor `line`.
-pub(crate) fn link_given<'a>(given: &ArgMatches<'a>) -> Result<LinkUnit, Clash>
-    ensures unit { IfOk result (IsLink (first_of (codes "link") (rows_of (found_of given.now)))) }
-    ensures clash { IfErr result (RefusesLink (rows_of (found_of given.now))) }
+pub(crate) fn link_or_word(link: Option<LinkUnit>) -> LinkUnit
+    ensures { (text : Option (List ℕ)) → IsLinkIf text link → IsLink text result }
 {
-    match link_if_given(given)? {
-        Some(unit) => Ok(unit),
-        None => Ok(LinkUnit::Word),
-    }
+    link.unwrap_or(LinkUnit::Word)
 }

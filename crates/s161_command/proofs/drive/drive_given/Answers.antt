@@ -1,17 +1,16 @@
-use Rattle.std.proofs.Common.{◌∙◌, codes, subst}
+use Rattle.std.proofs.Common.{codes, subst}
 use Rattle.clap.specs.Words.{found_of, one_of, rows_of}
-use Rattle.clap.proofs.WalkLemmas.{first_value-rows}
 use Rattle.s161_command.specs.Drives.{IsLongNumberOf}
 use Rattle.s161_command.proofs.drive.drive_given.Goals as goal
 
 pub returns : goal.returns
 returns c = record {
-  order = c.in_ok-order.ensures.0;
-  limits = c.in_ok-order.ensures.1;
+  order = c.requires.order;
+  limits = c.requires.limits;
   events =
       subst (λ default. IsLongNumberOf default (one_of (codes "events") (rows_of (found_of c.args.given.now))) c.long_given.result)
       c.events_by_default.ensures c.long_given.ensures;
   transfer = c.number_given.ensures;
-  gap = c.in_ok-gap.ensures;
-  keys = c.get_str.ensures ∙ first_value-rows (found_of c.args.given.now) (codes "keys");
+  gap = c.requires.gap;
+  keys = c.text_given.ensures;
 }
