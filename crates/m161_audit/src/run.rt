@@ -282,7 +282,7 @@ fn find_in<T: Tlb, D: Console>(
 
 // The state of a machine that is booted from a file, and the shootdowns of watches that aren't bad.
 #[inline(never)]
-fn begin<T: Tlb, D: Console>(
+fn begin<T: Tlb + Drop, D: Console + Drop>(
     alloc: Global,
     file: &[u8],
     conf: Conf,
@@ -305,7 +305,7 @@ fn begin<T: Tlb, D: Console>(
 /// # Errors
 /// The machine can't be booted; or the first bad watch; or memory was refused, also at an event
 /// `Done`.
-pub fn audit_events<T: Tlb, D: Console>(
+pub fn audit_events<T: Tlb + Drop, D: Console + Drop>(
     alloc: Global,
     file: &[u8],
     conf: Conf,
@@ -322,7 +322,7 @@ pub fn audit_events<T: Tlb, D: Console>(
 ///
 /// # Errors
 /// Those of `audit_events`.
-pub fn audit<T: Tlb, D: Console>(
+pub fn audit<T: Tlb + Drop, D: Console + Drop>(
     alloc: Global,
     file: &[u8],
     conf: Conf,

@@ -39,11 +39,13 @@ pub record BoardState : Type 0 where
   pub places : List PlaceState
   pub console : ConsoleState
 
--- what contracts see of a board: its state; and its console's room, which is no part of the state:
--- how many bytes the console can send before memory is needed again
+-- what contracts see of a board: its state; and what is no part of it: its console's room, that is
+-- how many bytes the console can send before memory is needed again, and whether a processor may have
+-- changed the state since this was last asked
 pub record BoardValue : Type 0 where
   pub state : BoardState
   pub room : ℕ
+  pub changed : Bool
 
 -- processor 0 is started, and gets every line; the others get none
 abbrev pub board_at_boot : ℕ → ℕ → ConsoleState → BoardState
@@ -203,9 +205,14 @@ ReadsSlot (Err fault) old (Err e) new = new ≡ old
 abbrev pub KeepsSize : BoardState → BoardState → Type 0
 KeepsSize old new = (new.ram ≡ old.ram) × (new.processors ≡ old.processors)
 
--- and so does the console's room
-abbrev pub KeepsSizeAndRoom : BoardValue → BoardValue → Type 0
-KeepsSizeAndRoom old new = KeepsSize old.state new.state × (new.room ≡ old.room)
+-- where no change is noted there is none, and none was noted before
+abbrev pub NotesChange : BoardValue → BoardValue → Type 0
+NotesChange old new = new.changed ≡ false → (new.state ≡ old.state) × (old.changed ≡ false)
+
+-- what a processor does to a board: sizes and the console's room stay, and a change is noted
+abbrev pub IsUsed : BoardValue → BoardValue → Type 0
+IsUsed old new =
+    KeepsSize old.state new.state × (new.room ≡ old.room) × NotesChange old new
 
 -- the kept lines are those of each place
 abbrev pub KeepsLines : List ℕ → ℕ → List PlaceState → Type 0

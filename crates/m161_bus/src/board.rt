@@ -1,7 +1,7 @@
 //! The board.
 
-ghost use Rattle.std.specs.Prelude.{◌≡◌, ◌-◌, ◌%◌, ◌^◌, ◌<◌, ◌≤◌, length, IfOk};
-ghost use Rattle.m161_bus.specs.Board.{KeepsLines, KeepsSizeAndRoom, ReadsSlot, after_read, board_at_boot, board_read, board_written, irqs_through, irqs_with, slot_word, switched_off, with_slot_word};
+ghost use Rattle.std.specs.Prelude.{◌≡◌, ◌-◌, ◌%◌, ◌^◌, ◌<◌, ◌≤◌, false, true, length, IfOk};
+ghost use Rattle.m161_bus.specs.Board.{IsUsed, KeepsLines, NotesChange, ReadsSlot, after_read, board_at_boot, board_read, board_written, irqs_through, irqs_with, slot_word, switched_off, with_slot_word};
 ghost use Rattle.m161_bus.specs.Console.{after_console_read, console_read, console_written};
 ghost use Rattle.m161_bus.specs.Outcome.{LeavesUnlessRefused};
 ghost use Rattle.m161_bus.specs.helpers.Registers.{IsThere};
@@ -47,6 +47,9 @@ pub struct Board<D: Console> {
     off: bool,
     places: [Place; PLACES],
     console: D,
+    // Whether a processor may have changed the state since this was last asked. It's no part of the
+    // state.
+    changed: bool,
 }
 
 impl<D: Console> Model for Board<D> {
@@ -66,6 +69,7 @@ impl<D: Console> Model for Board<D> {
         console = D.content b.console;
       };
       room = D.room b.console;
+      changed = b.changed;
     } };
 
     ghost invariant = { λ b.
@@ -121,6 +125,7 @@ impl<D: Console> Board<D> {
         requires processors { (1 ≤ processors) × (processors ≤ 32) }
         ensures state { result.state ≡ board_at_boot ram processors (D.content console) }
         ensures room { result.room ≡ D.room console }
+        ensures changed { result.changed ≡ false }
     {
         let irqe = u32::MAX;
         let mut places = [Place::at_boot(0); PLACES];
@@ -137,6 +142,7 @@ impl<D: Console> Board<D> {
             off: false,
             places,
             console,
+            changed: false,
         }
     }
 
@@ -145,6 +151,7 @@ impl<D: Console> Board<D> {
     pub fn copy(&self, alloc: Global) -> Result<Board<D>, AllocError>
         ensures state { IfOk result (λ board. board.state ≡ self.now.state) }
         ensures room { IfOk result (λ board. self.now.room ≤ board.room) }
+        ensures changed { IfOk result (λ board. board.changed ≡ false) }
     {
         let console = self.console.copy(alloc)?;
         Ok(Board {
@@ -157,6 +164,7 @@ impl<D: Console> Board<D> {
             off: self.off,
             places: self.places,
             console,
+            changed: false,
         })
     }
 
@@ -167,7 +175,7 @@ impl<D: Console> Board<D> {
         requires processor { c < self.old.state.processors }
         ensures read { ReadsSlot (board_read c at self.old.state)
             self.old.state result self.new.state }
-        ensures size { KeepsSizeAndRoom self.old self.new }
+        ensures size { IsUsed self.old self.new }
         ensures off { self.new.state.off ≡ self.old.state.off }
     {
         let register = register_of(at, self.processors).ok_or(BusFault)?;
@@ -181,10 +189,11 @@ impl<D: Console> Board<D> {
         requires processor { c < self.old.state.processors }
         ensures write { LeavesUnlessRefused (board_written c at word self.old.state)
             self.old.state result self.new.state }
-        ensures size { KeepsSizeAndRoom self.old self.new }
+        ensures size { IsUsed self.old self.new }
     {
         let register = register_of(at, self.processors).ok_or(BusFault)?;
         self.write_register(register, word);
+        self.changed = true;
         Ok(())
     }
 
@@ -192,8 +201,10 @@ impl<D: Console> Board<D> {
     pub fn switch_off(&mut self)
         ensures state { self.new.state ≡ switched_off self.old.state }
         ensures room { self.new.room ≡ self.old.room }
+        ensures changed { self.new.changed ≡ true }
     {
         self.off = true;
+        self.changed = true;
     }
 
     // The word that processor `c` reads from a register.
@@ -204,6 +215,7 @@ impl<D: Console> Board<D> {
         ensures after { self.new.state ≡ after_read register self.old.state }
         ensures off { self.new.state.off ≡ self.old.state.off }
         ensures room { self.new.room ≡ self.old.room }
+        ensures noted { NotesChange self.old self.new }
     {
         match register {
             Register::Constant(word) => word,
@@ -262,6 +274,7 @@ impl<D: Console> Board<D> {
           console = after_console_read register self.old.state.console;
         } }
         ensures room { self.new.room ≡ self.old.room }
+        ensures noted { NotesChange self.old self.new }
     {
         let Board {
             lines,
@@ -269,6 +282,7 @@ impl<D: Console> Board<D> {
             places,
             irqe,
             console,
+            changed,
             ram: _,
             processors: _,
             started: _,
@@ -276,6 +290,7 @@ impl<D: Console> Board<D> {
         } = self;
         let word = console.read(register);
         settle(lines, through, places, *irqe, console);
+        *changed = *changed || register == ConsoleRegister::Char;
         word
     }
 
@@ -292,6 +307,7 @@ impl<D: Console> Board<D> {
             places,
             irqe,
             console,
+            changed: _,
             ram: _,
             processors: _,
             started: _,
@@ -312,6 +328,7 @@ impl<D: Console> Board<D> {
             places,
             irqe,
             console,
+            changed: _,
             ram: _,
             processors: _,
             started: _,

@@ -37,7 +37,7 @@ pub enum DoneError {
 
 /// A console: bytes that were typed and wait to be read, a latch for the byte that is being sent,
 /// and all bytes that were sent.
-pub trait Console: Drop {
+pub trait Console {
     ghost content: { Self → ConsoleState };
 
     // How many bytes can be sent before memory is needed again.

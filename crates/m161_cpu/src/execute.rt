@@ -1,7 +1,7 @@
 //! The instruction of a word.
 
 ghost use Rattle.std.specs.Prelude.{Some, ◌≡◌, ◌^◌, ◌<◌, ◌≤◌, length};
-ghost use Rattle.m161_bus.specs.Board.{KeepsSizeAndRoom};
+ghost use Rattle.m161_bus.specs.Board.{IsUsed};
 ghost use Rattle.m161_cpu.specs.Scene.{scene_of};
 ghost use Rattle.m161_cpu.specs.Step.{change_in, misfit_kind};
 ghost use Rattle.m161_cpu.specs.helpers.Execute.{change_by, Performs};
@@ -45,7 +45,7 @@ impl<T: Tlb> Cpu<T> {
             (change_in (scene_of self.old c ram.old board.old.state links.old strict) word)
             (scene_of self.old c ram.old board.old.state links.old strict) result
             (scene_of self.new c ram.new board.new.state links.new strict) }
-        ensures board { KeepsSizeAndRoom board.old board.new }
+        ensures board { IsUsed board.old board.new }
         ensures size { length ram.new ≡ length ram.old }
     {
         self.execute(&decode_in_step(word), c, ram, board, links, strict)
@@ -69,7 +69,7 @@ impl<T: Tlb> Cpu<T> {
             (scene_of self.old c ram.old board.old.state links.old strict) instr.now)
             (scene_of self.old c ram.old board.old.state links.old strict) result
             (scene_of self.new c ram.new board.new.state links.new strict) }
-        ensures board { KeepsSizeAndRoom board.old board.new }
+        ensures board { IsUsed board.old board.new }
         ensures size { length ram.new ≡ length ram.old }
     {
         match *instr {

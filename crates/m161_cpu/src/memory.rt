@@ -2,7 +2,7 @@
 
 ghost use Rattle.std.specs.Prelude.{◌≡◌, ◌+◌, ◌-◌, ◌*◌, ◌/◌, ◌%◌, ◌^◌, ◌≤◌, ◌<◌, Bool, length, slice_index, Some, Ok, Err};
 ghost use Rattle.m161_isa.specs.declared.instr.Instr.TheVariants.{Load, Store};
-ghost use Rattle.m161_bus.specs.Board.{BoardState, KeepsSizeAndRoom};
+ghost use Rattle.m161_bus.specs.Board.{BoardState, IsUsed};
 ghost use Rattle.m161_alu.specs.Word.{sign_extended_half};
 ghost use Rattle.m161_cpu.specs.Effect.{store_conditional, store_word_at};
 ghost use Rattle.m161_cpu.specs.helpers.Execute.{change_by, Executes, FindsWord, Performs};
@@ -53,7 +53,7 @@ impl<T: Tlb> Cpu<T> {
             (Load op rt offset base))
             (scene_of self.old c ram.now board.old.state links.old strict) result
             (scene_of self.new c ram.now board.new.state links.new strict) }
-        ensures board { KeepsSizeAndRoom board.old board.new }
+        ensures board { IsUsed board.old board.new }
         ensures off { board.new.state.off ≡ board.old.state.off }
     {
         let address = self.address(offset, base);
@@ -110,7 +110,7 @@ impl<T: Tlb> Cpu<T> {
         ensures same { self.new ≡ self.old }
         ensures word { FindsWord (read_word address self.old c ram.now board.old.state)
             board.old.state result board.new.state }
-        ensures board { KeepsSizeAndRoom board.old board.new }
+        ensures board { IsUsed board.old board.new }
         ensures off { board.new.state.off ≡ board.old.state.off }
     {
         match self.place(Access::Load, 4, address, ram.size()) {
@@ -133,7 +133,7 @@ impl<T: Tlb> Cpu<T> {
         ensures same { self.new ≡ self.old }
         ensures word { FindsWord (read_word address self.old c ram.now board.old.state)
             board.old.state result board.new.state }
-        ensures board { KeepsSizeAndRoom board.old board.new }
+        ensures board { IsUsed board.old board.new }
         ensures off { board.new.state.off ≡ board.old.state.off }
     {
         let word = self.read_word_elsewhere(address, c, ram, board)?;
@@ -153,7 +153,7 @@ impl<T: Tlb> Cpu<T> {
         ensures same { self.new ≡ self.old }
         ensures word { FindsWord (read_word address self.old c ram.now board.old.state)
             board.old.state result board.new.state }
-        ensures board { KeepsSizeAndRoom board.old board.new }
+        ensures board { IsUsed board.old board.new }
         ensures off { board.new.state.off ≡ board.old.state.off }
     {
         let at = self.translate(Access::Load, 4, address)?;
@@ -186,7 +186,7 @@ impl<T: Tlb> Cpu<T> {
             (Store op rt offset base))
             (scene_of self.old c ram.old board.old.state links.old strict) result
             (scene_of self.new c ram.new board.new.state links.new strict) }
-        ensures board { KeepsSizeAndRoom board.old board.new }
+        ensures board { IsUsed board.old board.new }
         ensures size { length ram.new ≡ length ram.old }
     {
         let address = self.address(offset, base);
@@ -271,7 +271,7 @@ impl<T: Tlb> Cpu<T> {
             (store_word_at address word (scene_of self.old c ram.old board.old.state links.old strict))
             (scene_of self.old c ram.old board.old.state links.old strict) result
             (scene_of self.new c ram.new board.new.state links.new strict) }
-        ensures board { KeepsSizeAndRoom board.old board.new }
+        ensures board { IsUsed board.old board.new }
         ensures size { length ram.new ≡ length ram.old }
     {
         if let Some(at) = self.place(Access::Store, 4, address, ram.size()) {
@@ -300,7 +300,7 @@ impl<T: Tlb> Cpu<T> {
             (store_word_at address word (scene_of self.old c ram.old board.old.state links.old strict))
             (scene_of self.old c ram.old board.old.state links.old strict) result
             (scene_of self.new c ram.new board.new.state links.new strict) }
-        ensures board { KeepsSizeAndRoom board.old board.new }
+        ensures board { IsUsed board.old board.new }
         ensures size { length ram.new ≡ length ram.old }
     {
         let at = self.translate(Access::Store, 4, address)?;

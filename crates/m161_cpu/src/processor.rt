@@ -168,24 +168,22 @@ impl<T: Tlb> Cpu<T> {
     pub fn start(&mut self, pc: u32, r4: u32, r29: u32)
         ensures { self.new ≡ started_processor pc r4 r29 self.old.count }
     {
-        let mut registers = [0; 32];
-        registers[4] = r4;
-        registers[29] = r29;
-        *self = Cpu {
-            registers,
-            hi: 0,
-            lo: 0,
-            pc,
-            following: pc.wrapping_add(4),
-            slot: false,
-            state: ProcessorState::Running,
-            unticked: self.count(),
-            control: Cop0::new(),
-            tlb: T::empty(),
-            fetches: Kept::none(),
-            loads: Kept::none(),
-            stores: Kept::none(),
-        };
+        let count = self.count();
+        self.registers = [0; 32];
+        self.registers[4] = r4;
+        self.registers[29] = r29;
+        self.hi = 0;
+        self.lo = 0;
+        self.pc = pc;
+        self.following = pc.wrapping_add(4);
+        self.slot = false;
+        self.state = ProcessorState::Running;
+        self.unticked = count;
+        self.control = Cop0::new();
+        self.tlb.reset();
+        self.fetches = Kept::none();
+        self.loads = Kept::none();
+        self.stores = Kept::none();
     }
 
     /// Writes a register; a write to register 0 is lost.

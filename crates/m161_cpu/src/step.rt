@@ -2,7 +2,7 @@
 
 ghost use Rattle.std.specs.Prelude.{◌≡◌, ◌+◌, ◌-◌, ◌^◌, ◌<◌, ◌≤◌, None, length, true};
 ghost use Rattle.m161_tlb.specs.Rows.{AreApart};
-ghost use Rattle.m161_bus.specs.Board.{KeepsSizeAndRoom, interrupt_lines};
+ghost use Rattle.m161_bus.specs.Board.{IsUsed, interrupt_lines};
 ghost use Rattle.m161_cpu.specs.Links.{End, links_after};
 ghost use Rattle.m161_cpu.specs.Scene.{scene_of};
 ghost use Rattle.m161_cop0.specs.Trap.{IsVector};
@@ -36,7 +36,7 @@ impl<T: Tlb> Cpu<T> {
             result (scene_of self.new c ram.new board.new.state links.new strict) }
         ensures counted { self.new.count ≡ self.old.count + 1 }
         ensures size { length ram.new ≡ length ram.old }
-        ensures board { KeepsSizeAndRoom board.old board.new }
+        ensures board { IsUsed board.old board.new }
         ensures proper { IsOfStep result }
         // On a strict machine no two rows of its TLB come to overlap.
         ensures apart { strict ≡ true → AreApart self.old.rows → AreApart self.new.rows }
@@ -61,7 +61,7 @@ impl<T: Tlb> Cpu<T> {
             result (scene_of self.new c ram.new board.new.state links.new strict) }
         ensures counted { self.new.count ≡ self.old.count + 1 }
         ensures size { length ram.new ≡ length ram.old }
-        ensures board { KeepsSizeAndRoom board.old board.new }
+        ensures board { IsUsed board.old board.new }
         ensures proper { IsOfStep result }
     {
         let lines = board.lines(c);
@@ -90,7 +90,7 @@ impl<T: Tlb> Cpu<T> {
             result (scene_of self.new c ram.new board.new.state links.new strict) }
         ensures counted { self.new.count ≡ self.old.count + 1 }
         ensures size { length ram.new ≡ length ram.old }
-        ensures board { KeepsSizeAndRoom board.old board.new }
+        ensures board { IsUsed board.old board.new }
         ensures proper { IsOfStep result }
     {
         match self.execute_next(c, lines, ram, board, links, strict) {
@@ -167,7 +167,7 @@ impl<T: Tlb> Cpu<T> {
             (change_of_step (scene_of self.old c ram.old board.old.state links.old strict))
             (scene_of self.old c ram.old board.old.state links.old strict) result
             (scene_of self.new c ram.new board.new.state links.new strict) }
-        ensures board { KeepsSizeAndRoom board.old board.new }
+        ensures board { IsUsed board.old board.new }
         ensures size { length ram.new ≡ length ram.old }
     {
         if self.control.interrupts(lines) {

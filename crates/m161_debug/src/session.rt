@@ -54,7 +54,7 @@ impl<T: Tlb, D: Console> Model for Session<T, D> {
     ghost invariant = { λ s. IsSet s.breakpoints };
 }
 
-impl<T: Tlb, D: Console> Session<T, D> {
+impl<T: Tlb + Drop, D: Console + Drop> Session<T, D> {
     /// A session of a machine as it is, without breakpoints. Displays show registers by their
     /// numbers, and no names of addresses. Displays and commands allocate with the machine's
     /// allocator.
@@ -158,7 +158,7 @@ impl<T: Tlb, D: Console> Session<T, D> {
         ensures { IfOk result (λ text. string_bytes text
             ≡ show_regs_text p self.now.machine.state) }
     {
-        show_regs(self.machine.allocator(), &self.machine, p)
+        show_regs(self.machine.allocator(), self.machine.core(), p)
     }
 
     /// A processor's registers of coprocessor 0, one a line, in the order of their numbers.
@@ -170,7 +170,7 @@ impl<T: Tlb, D: Console> Session<T, D> {
         ensures { IfOk result (λ text. string_bytes text
             ≡ show_cop0_text p self.now.machine.state) }
     {
-        show_cop0(self.machine.allocator(), &self.machine, p)
+        show_cop0(self.machine.allocator(), self.machine.core(), p)
     }
 
     /// The 64 rows of a processor's TLB, one a line: its number and its words in EntryHi and
@@ -183,7 +183,7 @@ impl<T: Tlb, D: Console> Session<T, D> {
         ensures { IfOk result (λ text. string_bytes text
             ≡ show_tlb_text p self.now.machine.state) }
     {
-        show_tlb(self.machine.allocator(), &self.machine, p)
+        show_tlb(self.machine.allocator(), self.machine.core(), p)
     }
 
     /// `n` words of RAM from a physical address on, one a line.
@@ -196,7 +196,7 @@ impl<T: Tlb, D: Console> Session<T, D> {
         ensures { IfOk result (λ text. string_bytes text
             ≡ show_mem_text address n self.now.machine.state) }
     {
-        show_mem(self.machine.allocator(), &self.machine, address, n)
+        show_mem(self.machine.allocator(), self.machine.core(), address, n)
     }
 
     /// `n` instructions from an address in kseg0 or kseg1 on, one a line: its address, its word and
@@ -212,7 +212,7 @@ impl<T: Tlb, D: Console> Session<T, D> {
     {
         show_code(
             self.machine.allocator(),
-            &self.machine,
+            self.machine.core(),
             &self.style,
             address,
             n,
@@ -233,7 +233,7 @@ impl<T: Tlb, D: Console> Session<T, D> {
     {
         show_fetched(
             self.machine.allocator(),
-            &self.machine,
+            self.machine.core(),
             &self.style,
             p,
             address,
@@ -251,7 +251,7 @@ impl<T: Tlb, D: Console> Session<T, D> {
         ensures { IfOk result (λ text. string_bytes text
             ≡ show_where_text self.now.style self.now.machine.state) }
     {
-        show_where(self.machine.allocator(), &self.machine, &self.style)
+        show_where(self.machine.allocator(), self.machine.core(), &self.style)
     }
 
     /// The last `n` entries of the log, or all if it has fewer, one a line, the oldest of them
@@ -372,7 +372,7 @@ impl<T: Tlb, D: Console> Session<T, D> {
 // A machine that is booted from what this one was booted from, and of which the first events of this
 // one's log are made.
 #[inline(never)]
-fn booted_again<T: Tlb, D: Console>(
+fn booted_again<T: Tlb + Drop, D: Console + Drop>(
     alloc: Global,
     past: &Machine<T, D>,
     number: usize,

@@ -9,7 +9,7 @@ use crate::memory::word;
 use m161_bus::Console;
 use m161_dis::{Style, push_line_with};
 use m161_isa::unmapped;
-use m161_machine::Machine;
+use m161_machine::Core;
 use m161_symbols::push_place_behind;
 use m161_text::push_hex;
 use m161_tlb::Tlb;
@@ -23,19 +23,19 @@ use std::alloc::{AllocError, Global};
 #[tactic(auto, unfolding(crate::specs::Shows::show_code_text))]
 pub fn show_code<T: Tlb, D: Console>(
     alloc: Global,
-    machine: &Machine<T, D>,
+    core: &Core<T, D>,
     style: &Style,
     address: u32,
     n: u32,
 ) -> Result<String, AllocError>
     requires aligned { address % 4 ≡ 0 }
-    requires inside { is_in_ram (length machine.now.state.memory) address (4 * n) ≡ true }
+    requires inside { is_in_ram (length core.now.state.memory) address (4 * n) ≡ true }
     ensures { IfOk result (λ text. string_bytes text
-        ≡ show_code_text style.now address n machine.now.state) }
+        ≡ show_code_text style.now address n core.now.state) }
 {
     let mut text = String::new(alloc);
     for i in 0..n {
-        write_code_at(&mut text, machine, style, address + 4 * i)?;
+        write_code_at(&mut text, core, style, address + 4 * i)?;
     }
     Ok(text)
 }
@@ -43,26 +43,26 @@ pub fn show_code<T: Tlb, D: Console>(
 // The line of an address.
 fn write_code_at<T: Tlb, D: Console>(
     text: &mut String,
-    machine: &Machine<T, D>,
+    core: &Core<T, D>,
     style: &Style,
     at: u32,
 ) -> Result<(), AllocError>
     requires aligned { at % 4 ≡ 0 }
-    requires inside { is_in_ram (length machine.now.state.memory) at 4 ≡ true }
+    requires inside { is_in_ram (length core.now.state.memory) at 4 ≡ true }
     ensures { OnOk result (string_bytes text.new ≡ string_bytes text.old
-        ++ with_line_end (code_line style.now machine.now.state.memory at)) }
+        ++ with_line_end (code_line style.now core.now.state.memory at)) }
 {
-    write_code(text, style, code_at(machine, at), at)
+    write_code(text, style, code_at(core, at), at)
 }
 
 // The word at an address in kseg0 or kseg1.
-fn code_at<T: Tlb, D: Console>(machine: &Machine<T, D>, at: u32) -> u32
+fn code_at<T: Tlb, D: Console>(core: &Core<T, D>, at: u32) -> u32
     requires aligned { at % 4 ≡ 0 }
-    requires inside { is_in_ram (length machine.now.state.memory) at 4 ≡ true }
-    ensures { result ≡ code_word machine.now.state.memory at }
+    requires inside { is_in_ram (length core.now.state.memory) at 4 ≡ true }
+    ensures { result ≡ code_word core.now.state.memory at }
 {
     match unmapped(at) {
-        Some(physical) => word(machine, physical),
+        Some(physical) => word(core, physical),
         None => 0,
     }
 }

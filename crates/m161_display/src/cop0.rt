@@ -7,7 +7,7 @@ ghost use Rattle.m161_text.specs.Lines.{with_line_end};
 
 use m161_bus::Console;
 use m161_cop0::{REGISTERS, registers_in_order};
-use m161_machine::{Machine, Register};
+use m161_machine::{Core, Register};
 use m161_text::Word;
 use m161_tlb::Tlb;
 use std::alloc::{AllocError, Global};
@@ -20,15 +20,15 @@ use std::fmt::Write;
 #[tactic(auto, unfolding(crate::specs::Shows::show_cop0_text))]
 pub fn show_cop0<T: Tlb, D: Console>(
     alloc: Global,
-    machine: &Machine<T, D>,
+    core: &Core<T, D>,
     p: u32,
 ) -> Result<String, AllocError>
-    requires { p < length machine.now.state.processors }
-    ensures { IfOk result (λ text. string_bytes text ≡ show_cop0_text p machine.now.state) }
+    requires { p < length core.now.state.processors }
+    ensures { IfOk result (λ text. string_bytes text ≡ show_cop0_text p core.now.state) }
 {
     let mut text = String::new(alloc);
     for i in 0..12 {
-        write_register(&mut text, machine, p, register(i))?;
+        write_register(&mut text, core, p, register(i))?;
     }
     Ok(text)
 }
@@ -45,15 +45,15 @@ fn register(i: usize) -> Register
 // A register's line.
 fn write_register<T: Tlb, D: Console>(
     text: &mut String,
-    machine: &Machine<T, D>,
+    core: &Core<T, D>,
     p: u32,
     register: Register,
 ) -> Result<(), AllocError>
-    requires { p < length machine.now.state.processors }
+    requires { p < length core.now.state.processors }
     ensures { OnOk result (string_bytes text.new ≡ string_bytes text.old
-        ++ with_line_end (cop0_line p machine.now.state register)) }
+        ++ with_line_end (cop0_line p core.now.state register)) }
 {
-    write_named(text, register.name(), machine.cop(p, register))
+    write_named(text, register.name(), core.cop(p, register))
 }
 
 // A line of a name and a word.

@@ -7,7 +7,7 @@ ghost use Rattle.m161_text.specs.Lines.{with_line_end};
 use crate::code::{write_address, write_code};
 use m161_bus::Console;
 use m161_dis::Style;
-use m161_machine::Machine;
+use m161_machine::Core;
 use m161_tlb::Tlb;
 use std::alloc::{AllocError, Global};
 
@@ -20,20 +20,20 @@ use std::alloc::{AllocError, Global};
 #[tactic(auto, unfolding(crate::specs::Shows::show_fetched_text))]
 pub fn show_fetched<T: Tlb, D: Console>(
     alloc: Global,
-    machine: &Machine<T, D>,
+    core: &Core<T, D>,
     style: &Style,
     p: u32,
     address: u32,
     n: u32,
 ) -> Result<String, AllocError>
-    requires processor { p < length machine.now.state.processors }
+    requires processor { p < length core.now.state.processors }
     requires inside { address + 4 * n ≤ 2 ^ 32 }
     ensures { IfOk result (λ text. string_bytes text
-        ≡ show_fetched_text style.now p address n machine.now.state) }
+        ≡ show_fetched_text style.now p address n core.now.state) }
 {
     let mut text = String::new(alloc);
     for i in 0..n {
-        write_fetched(&mut text, machine, style, p, address + 4 * i)?;
+        write_fetched(&mut text, core, style, p, address + 4 * i)?;
     }
     Ok(text)
 }
@@ -41,16 +41,16 @@ pub fn show_fetched<T: Tlb, D: Console>(
 /// Appends the line of the instruction that processor `p` would fetch at an address.
 pub(crate) fn write_fetched<T: Tlb, D: Console>(
     text: &mut String,
-    machine: &Machine<T, D>,
+    core: &Core<T, D>,
     style: &Style,
     p: u32,
     at: u32,
 ) -> Result<(), AllocError>
-    requires { p < length machine.now.state.processors }
+    requires { p < length core.now.state.processors }
     ensures { OnOk result (string_bytes text.new ≡ string_bytes text.old
-        ++ with_line_end (fetched_line style.now p machine.now.state at)) }
+        ++ with_line_end (fetched_line style.now p core.now.state at)) }
 {
-    write_word_at(text, style, at, machine.fetched_word(p, at))
+    write_word_at(text, style, at, core.fetched_word(p, at))
 }
 
 // The line of the word that is fetched at an address, or that there is none.

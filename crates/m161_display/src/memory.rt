@@ -7,7 +7,7 @@ ghost use Rattle.m161_text.specs.Lines.{with_line_end};
 ghost use Rattle.m161_text.specs.Parts.{word_text, ◌␣◌};
 
 use m161_bus::Console;
-use m161_machine::Machine;
+use m161_machine::Core;
 use m161_text::Word;
 use m161_tlb::Tlb;
 use std::alloc::{AllocError, Global};
@@ -20,21 +20,20 @@ use std::fmt::Write;
 #[tactic(auto, unfolding(crate::specs::Shows::show_mem_text))]
 pub fn show_mem<T: Tlb, D: Console>(
     alloc: Global,
-    machine: &Machine<T, D>,
+    core: &Core<T, D>,
     address: u32,
     n: u32,
 ) -> Result<String, AllocError>
     requires aligned { address % 4 ≡ 0 }
-    requires inside { address + 4 * n ≤ length machine.now.state.memory }
+    requires inside { address + 4 * n ≤ length core.now.state.memory }
     ensures { IfOk result (λ text. string_bytes text
-        ≡ show_mem_text address n machine.now.state) }
+        ≡ show_mem_text address n core.now.state) }
 {
     // So that the proof knows how large RAM is at most.
-    machine.replay();
-    let _ram = machine.conf().ram;
+    core.law();
     let mut text = String::new(alloc);
     for i in 0..n {
-        write_word(&mut text, machine, address + 4 * i)?;
+        write_word(&mut text, core, address + 4 * i)?;
     }
     Ok(text)
 }
@@ -42,24 +41,24 @@ pub fn show_mem<T: Tlb, D: Console>(
 // The line of an address.
 fn write_word<T: Tlb, D: Console>(
     text: &mut String,
-    machine: &Machine<T, D>,
+    core: &Core<T, D>,
     at: u32,
 ) -> Result<(), AllocError>
     requires aligned { at % 4 ≡ 0 }
-    requires inside { at + 4 ≤ length machine.now.state.memory }
+    requires inside { at + 4 ≤ length core.now.state.memory }
     ensures { OnOk result (string_bytes text.new ≡ string_bytes text.old
-        ++ with_line_end (memory_line machine.now.state.memory at)) }
+        ++ with_line_end (memory_line core.now.state.memory at)) }
 {
-    write_words(text, at, word(machine, at))
+    write_words(text, at, word(core, at))
 }
 
 /// The word at a physical address of RAM.
-pub(crate) fn word<T: Tlb, D: Console>(machine: &Machine<T, D>, at: u32) -> u32
+pub(crate) fn word<T: Tlb, D: Console>(core: &Core<T, D>, at: u32) -> u32
     requires aligned { at % 4 ≡ 0 }
-    requires inside { at + 4 ≤ length machine.now.state.memory }
-    ensures { result ≡ word_at machine.now.state.memory at }
+    requires inside { at + 4 ≤ length core.now.state.memory }
+    ensures { result ≡ word_at core.now.state.memory at }
 {
-    match machine.word(at) {
+    match core.word(at) {
         Some(word) => word,
         None => 0,
     }

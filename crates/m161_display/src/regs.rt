@@ -7,7 +7,7 @@ ghost use Rattle.m161_text.specs.Lines.{with_line_end};
 
 use m161_bus::Console;
 use m161_isa::Reg;
-use m161_machine::{Machine, ProcessorState};
+use m161_machine::{Core, ProcessorState};
 use m161_text::Word;
 use m161_tlb::Tlb;
 use std::alloc::{AllocError, Global};
@@ -79,37 +79,37 @@ impl fmt::Display for ShownRegister {
 #[tactic(auto, unfolding(crate::specs::Shows::show_regs_text))]
 pub fn show_regs<T: Tlb, D: Console>(
     alloc: Global,
-    machine: &Machine<T, D>,
+    core: &Core<T, D>,
     p: u32,
 ) -> Result<String, AllocError>
-    requires { p < length machine.now.state.processors }
+    requires { p < length core.now.state.processors }
     ensures { IfOk result (λ text. string_bytes text
-        ≡ show_regs_text p machine.now.state) }
+        ≡ show_regs_text p core.now.state) }
 {
     let mut text = String::new(alloc);
-    write_place(&mut text, machine, p)?;
+    write_place(&mut text, core, p)?;
     for i in 0..8u8 {
-        write_registers(&mut text, machine, p, i)?;
+        write_registers(&mut text, core, p, i)?;
     }
-    write_hi_lo(&mut text, machine, p)?;
+    write_hi_lo(&mut text, core, p)?;
     Ok(text)
 }
 
 // What a processor is doing, and where.
 fn write_place<T: Tlb, D: Console>(
     text: &mut String,
-    machine: &Machine<T, D>,
+    core: &Core<T, D>,
     p: u32,
 ) -> Result<(), AllocError>
-    requires { p < length machine.now.state.processors }
+    requires { p < length core.now.state.processors }
     ensures { OnOk result (string_bytes text.new ≡ string_bytes text.old
-        ++ with_line_end (place_line p (processor_at p machine.now.state.processors))) }
+        ++ with_line_end (place_line p (processor_at p core.now.state.processors))) }
 {
     let place = ShownPlace {
         processor: p,
-        state: machine.state(p),
-        pc: machine.pc(p),
-        in_slot: machine.in_slot(p),
+        state: core.state(p),
+        pc: core.pc(p),
+        in_slot: core.in_slot(p),
     };
     writeln!(text, "{place}")
 }
@@ -117,45 +117,45 @@ fn write_place<T: Tlb, D: Console>(
 // Four registers, of line `i`.
 fn write_registers<T: Tlb, D: Console>(
     text: &mut String,
-    machine: &Machine<T, D>,
+    core: &Core<T, D>,
     p: u32,
     i: u8,
 ) -> Result<(), AllocError>
-    requires processor { p < length machine.now.state.processors }
+    requires processor { p < length core.now.state.processors }
     requires line { i < 8 }
     ensures { OnOk result (string_bytes text.new ≡ string_bytes text.old
-        ++ with_line_end (registers_line (processor_at p machine.now.state.processors) i)) }
+        ++ with_line_end (registers_line (processor_at p core.now.state.processors) i)) }
 {
-    let a = shown_register(machine, p, 4 * i);
-    let b = shown_register(machine, p, 4 * i + 1);
-    let c = shown_register(machine, p, 4 * i + 2);
-    let d = shown_register(machine, p, 4 * i + 3);
+    let a = shown_register(core, p, 4 * i);
+    let b = shown_register(core, p, 4 * i + 1);
+    let c = shown_register(core, p, 4 * i + 2);
+    let d = shown_register(core, p, 4 * i + 3);
     writeln!(text, "{a} {b} {c} {d}")
 }
 
 #[tactic(auto, unfolding(crate::specs::Shows::register_and_word))]
-fn shown_register<T: Tlb, D: Console>(machine: &Machine<T, D>, p: u32, number: u8) -> ShownRegister
-    requires processor { p < length machine.now.state.processors }
+fn shown_register<T: Tlb, D: Console>(core: &Core<T, D>, p: u32, number: u8) -> ShownRegister
+    requires processor { p < length core.now.state.processors }
     requires register { number < 32 }
     ensures { name_and_word (codes "r" ++ decimal result.number) result.word
-        ≡ register_and_word (processor_at p machine.now.state.processors) number }
+        ≡ register_and_word (processor_at p core.now.state.processors) number }
 {
     ShownRegister {
         number,
-        word: machine.reg(p, Reg::new(number)),
+        word: core.reg(p, Reg::new(number)),
     }
 }
 
 #[tactic(auto, unfolding(crate::specs::Shows::name_and_word))]
 fn write_hi_lo<T: Tlb, D: Console>(
     text: &mut String,
-    machine: &Machine<T, D>,
+    core: &Core<T, D>,
     p: u32,
 ) -> Result<(), AllocError>
-    requires { p < length machine.now.state.processors }
+    requires { p < length core.now.state.processors }
     ensures { OnOk result (string_bytes text.new ≡ string_bytes text.old
-        ++ with_line_end (hi_lo_line (processor_at p machine.now.state.processors))) }
+        ++ with_line_end (hi_lo_line (processor_at p core.now.state.processors))) }
 {
-    let (hi, lo) = (Word(machine.hi(p)), Word(machine.lo(p)));
+    let (hi, lo) = (Word(core.hi(p)), Word(core.lo(p)));
     writeln!(text, "hi {hi} lo {lo}")
 }

@@ -10,7 +10,7 @@ use crate::fetched::write_fetched;
 use crate::regs::ShownState;
 use m161_bus::Console;
 use m161_dis::Style;
-use m161_machine::{BoardWord, Machine};
+use m161_machine::{BoardWord, Core};
 use m161_tlb::Tlb;
 use std::alloc::{AllocError, Global};
 use std::fmt::Write;
@@ -24,14 +24,14 @@ use std::fmt::Write;
 #[tactic(auto, unfolding(crate::specs::Shows::show_where_text))]
 pub fn show_where<T: Tlb, D: Console>(
     alloc: Global,
-    machine: &Machine<T, D>,
+    core: &Core<T, D>,
     style: &Style,
 ) -> Result<String, AllocError>
-    ensures { IfOk result (λ text. string_bytes text ≡ show_where_text style.now machine.now.state) }
+    ensures { IfOk result (λ text. string_bytes text ≡ show_where_text style.now core.now.state) }
 {
     let mut text = String::new(alloc);
-    for p in 0..machine.processors() {
-        write_if_started(&mut text, machine, style, p)?;
+    for p in 0..core.processors() {
+        write_if_started(&mut text, core, style, p)?;
     }
     Ok(text)
 }
@@ -39,42 +39,42 @@ pub fn show_where<T: Tlb, D: Console>(
 // The line of a processor, if it was started.
 fn write_if_started<T: Tlb, D: Console>(
     text: &mut String,
-    machine: &Machine<T, D>,
+    core: &Core<T, D>,
     style: &Style,
     p: u32,
 ) -> Result<(), AllocError>
-    requires { p < length machine.now.state.processors }
+    requires { p < length core.now.state.processors }
     ensures { OnOk result (string_bytes text.new ≡ string_bytes text.old
-        ++ where_text style.now machine.now.state p) }
+        ++ where_text style.now core.now.state p) }
 {
-    if is_started(machine, p) {
-        write_place(text, machine, style, p)
+    if is_started(core, p) {
+        write_place(text, core, style, p)
     } else {
         Ok(())
     }
 }
 
 // Whether a processor's bit of CPUE is set.
-fn is_started<T: Tlb, D: Console>(machine: &Machine<T, D>, p: u32) -> bool
-    requires { p < length machine.now.state.processors }
-    ensures { result ≡ is_started machine.now.state p }
+fn is_started<T: Tlb, D: Console>(core: &Core<T, D>, p: u32) -> bool
+    requires { p < length core.now.state.processors }
+    ensures { result ≡ is_started core.now.state p }
 {
     // So that the proof knows how many processors there are at most.
-    machine.replay();
-    (machine.board_word(BoardWord::Cpue) >> p) % 2 == 1
+    core.law();
+    (core.board_word(BoardWord::Cpue) >> p) % 2 == 1
 }
 
 // The line of a started processor.
 fn write_place<T: Tlb, D: Console>(
     text: &mut String,
-    machine: &Machine<T, D>,
+    core: &Core<T, D>,
     style: &Style,
     p: u32,
 ) -> Result<(), AllocError>
-    requires { p < length machine.now.state.processors }
+    requires { p < length core.now.state.processors }
     ensures { OnOk result (string_bytes text.new ≡ string_bytes text.old
-        ++ with_line_end (where_line style.now machine.now.state p)) }
+        ++ with_line_end (where_line style.now core.now.state p)) }
 {
-    write!(text, "{p} {} ", ShownState(machine.state(p)))?;
-    write_fetched(text, machine, style, p, machine.pc(p))
+    write!(text, "{p} {} ", ShownState(core.state(p)))?;
+    write_fetched(text, core, style, p, core.pc(p))
 }

@@ -6,7 +6,7 @@ ghost use Rattle.m161_display.specs.Shows.{row_line, row_text, show_tlb_text, tw
 ghost use Rattle.m161_text.specs.Lines.{with_line_end};
 
 use m161_bus::Console;
-use m161_machine::{Machine, Row};
+use m161_machine::{Core, Row};
 use m161_text::Word;
 use m161_tlb::Tlb;
 use std::alloc::{AllocError, Global};
@@ -33,15 +33,15 @@ impl fmt::Display for TwoDigits {
 #[tactic(auto, unfolding(crate::specs::Shows::show_tlb_text))]
 pub fn show_tlb<T: Tlb, D: Console>(
     alloc: Global,
-    machine: &Machine<T, D>,
+    core: &Core<T, D>,
     p: u32,
 ) -> Result<String, AllocError>
-    requires { p < length machine.now.state.processors }
-    ensures { IfOk result (λ text. string_bytes text ≡ show_tlb_text p machine.now.state) }
+    requires { p < length core.now.state.processors }
+    ensures { IfOk result (λ text. string_bytes text ≡ show_tlb_text p core.now.state) }
 {
     let mut text = String::new(alloc);
     for i in 0..64u8 {
-        write_row_of(&mut text, machine, p, i)?;
+        write_row_of(&mut text, core, p, i)?;
     }
     Ok(text)
 }
@@ -49,16 +49,16 @@ pub fn show_tlb<T: Tlb, D: Console>(
 // The line of row `i`.
 fn write_row_of<T: Tlb, D: Console>(
     text: &mut String,
-    machine: &Machine<T, D>,
+    core: &Core<T, D>,
     p: u32,
     i: u8,
 ) -> Result<(), AllocError>
-    requires processor { p < length machine.now.state.processors }
+    requires processor { p < length core.now.state.processors }
     requires row { i < 64 }
     ensures { OnOk result (string_bytes text.new ≡ string_bytes text.old
-        ++ with_line_end (row_line (processor_at p machine.now.state.processors).rows i)) }
+        ++ with_line_end (row_line (processor_at p core.now.state.processors).rows i)) }
 {
-    write_row(text, i, &machine.row(p, i))
+    write_row(text, i, &core.row(p, i))
 }
 
 // A line of a number and a row.

@@ -25,7 +25,7 @@ impl<T: Tlb, D: Console> Model for Booted<T, D> {
     ghost view = { λ b. b.core.state };
 }
 
-impl<T: Tlb, D: Console> Booted<T, D> {
+impl<T: Tlb + Drop, D: Console + Drop> Booted<T, D> {
     /// The state of a machine that is booted from a file.
     ///
     /// # Errors

@@ -19,7 +19,7 @@ use std::alloc::Global;
 /// # Errors
 /// The machine can't be booted; or the first bad watch; or memory was refused, also at an event
 /// `Done`.
-pub fn judge<T: Tlb, D: Console>(
+pub fn judge<T: Tlb + Drop, D: Console + Drop>(
     alloc: Global,
     file: &[u8],
     conf: Conf,

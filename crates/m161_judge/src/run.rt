@@ -66,7 +66,7 @@ fn drive_run<T: Tlb, D: Console>(
 }
 
 // The same, of a copy of a state.
-fn drive_copy<T: Tlb, D: Console>(
+fn drive_copy<T: Tlb + Drop, D: Console + Drop>(
     alloc: Global,
     booted: &Booted<T, D>,
     policy: &Policy,
@@ -85,7 +85,7 @@ fn drive_copy<T: Tlb, D: Console>(
 ///
 /// # Errors
 /// The first bad watch; or memory was refused, also at an event `Done`.
-pub fn judge_booted<T: Tlb, D: Console>(
+pub fn judge_booted<T: Tlb + Drop, D: Console + Drop>(
     alloc: Global,
     booted: &Booted<T, D>,
     policy: &Policy,
@@ -113,7 +113,7 @@ pub fn judge_booted<T: Tlb, D: Console>(
 /// # Errors
 /// The machine can't be booted; or the first bad watch; or memory was refused, also at an event
 /// `Done`.
-pub fn judge_run<T: Tlb, D: Console>(
+pub fn judge_run<T: Tlb + Drop, D: Console + Drop>(
     alloc: Global,
     file: &[u8],
     conf: Conf,

@@ -15,7 +15,7 @@ use m161_tlb::Tlb;
 use std::alloc::Global;
 
 /// The first stale use of a run from a state. Without watches there is none, and nothing is made.
-pub(crate) fn find_stale<T: Tlb, D: Console>(
+pub(crate) fn find_stale<T: Tlb + Drop, D: Console + Drop>(
     alloc: Global,
     core: &Core<T, D>,
     events: &[Event],

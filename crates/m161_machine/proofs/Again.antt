@@ -9,7 +9,7 @@ use Rattle.m161_machine.specs.declared.event.Refusal.{Refusal}
 use Rattle.m161_machine.specs.declared.event.Refusal.TheVariants.{NoMemory}
 use Rattle.m161_machine.specs.State.{State, next}
 use Rattle.m161_machine.specs.History.{Leads, Makes, Refuses, events_of}
-use Rattle.m161_machine.specs.helpers.Sound.{Advances}
+use Rattle.m161_machine.specs.Stretch.{Advances}
 use Rattle.m161_machine.specs.helpers.Window.{BeginsWithStep}
 use Rattle.m161_machine.proofs.Accepting.{open_step}
 use Rattle.m161_machine.proofs.Made.{counted, fits}

@@ -12,8 +12,9 @@ use Rattle.m161_cpu.specs.Processor.{Processor, started_processor, stopped_proce
 use Rattle.m161_machine.specs.declared.conf.Conf.{Conf}
 use Rattle.m161_machine.specs.declared.event.Entry.{Entry}
 use Rattle.m161_machine.specs.Conf.{is_within_limits}
-use Rattle.m161_machine.specs.State.{State, AreAllApart, CountUpTo, state_of}
-use Rattle.m161_machine.specs.History.{Start, IsLoaded, boot_state}
+use Rattle.m161_machine.specs.State.{CoreValue, State, AreAllApart, CountUpTo, state_of}
+use Rattle.m161_machine.specs.History.{BootsState, Start, IsLoaded, boot_fault, boot_state}
+use Rattle.m161_machine.specs.helpers.History.{start_of}
 use Rattle.m161_machine.specs.Sound.{IsLawful, IsSound}
 use Rattle.m161_machine.proofs.Starting.{apart_at_boot}
 
@@ -29,6 +30,19 @@ pub loaded : (file : List ℕ) (conf : Conf) (image : Image) →
     IsLoaded (record { bytes = image.bytes.items; entry = image.entry; conf = conf })
 loaded file conf image h =
     let left = loaded_of file conf.ram (first_fault file conf.ram) image h in (file, left.0, left.1)
+
+-- a state that was just booted
+pub boots_state : (file : List ℕ) (conf : Conf) (image : Image) (core : CoreValue) → is_within_limits conf ≡ true →
+    Loads file conf.ram (first_fault file conf.ram) (Ok image) →
+    core.state ≡ boot_state (start_of image.bytes.items image.entry conf) → BootsState file conf (boot_fault file conf) (Ok core)
+boots_state file conf image core within h state_is =
+    let left = loaded_of file conf.ram (first_fault file conf.ram) image h in
+    rw (within, left.0) record {
+      start = start_of image.bytes.items image.entry conf;
+      conf_is = refl;
+      image = left.1;
+      state_is = state_is;
+    }
 
 -- a machine that was just booted
 pub lawful_at_boot : (start : Start) (base state : State) (log : List Entry) → IsLoaded start → is_within_limits start.conf ≡ true →

@@ -20,4 +20,5 @@ mod Booted
 mod Unfolding
 mod Using
 mod Idle
+pub mod Stretching
 mod Modes

@@ -4,7 +4,7 @@ use Rattle.std.specs.Prelude.{◌==◌}
 use Rattle.m161_cop0.specs.Registers.{exception_with}
 use Rattle.m161_cpu.specs.declared.processor.Outcome.TheVariants.{Conflict, Trapped}
 use Rattle.m161_machine.specs.declared.event.Event.TheVariants.{Step}
-use Rattle.m161_machine.specs.helpers.Kept.{entry_in_word, or_interrupt, outcome_with, vector_with}
+use Rattle.m161_machine.specs.Packed.{entry_in_word, or_interrupt, outcome_with, vector_with}
 
 -- The word of an entry.
 

@@ -3,7 +3,7 @@ use Rattle.std.proofs.lemmas.List.{length-take-le}
 use Rattle.m161_machine.specs.declared.event.Entry.{Entry}
 use Rattle.m161_machine.specs.declared.event.Event.TheVariants.{Step}
 use Rattle.m161_machine.specs.History.{Continues, History, Slides}
-use Rattle.m161_machine.specs.helpers.Sound.{Advances}
+use Rattle.m161_machine.specs.Stretch.{Advances}
 
 -- Steps whose entries were appended.
 

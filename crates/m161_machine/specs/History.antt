@@ -18,7 +18,7 @@ use Rattle.m161_bus.specs.Board.{board_at_boot}
 use Rattle.m161_machine.specs.declared.event.Event.TheVariants.{Step, Key, Done}
 use Rattle.m161_machine.specs.declared.event.Refusal.TheVariants.{NoMemory as NoMemoryRefusal}
 use Rattle.m161_cpu.specs.Links.{no_links}
-use Rattle.m161_machine.specs.State.{State, counts, next}
+use Rattle.m161_machine.specs.State.{CoreValue, State, counts, next}
 
 -- The history of a machine: from its base, it is the replay of its log.
 
@@ -115,6 +115,11 @@ abbrev pub Makes : State → Event → Result Outcome Refusal → State → Type
 Makes s e (Ok o) t = next s e ≡ Ok (o, t)
 Makes s e (Err refusal) t = Refuses (next s e) e refusal × (t ≡ s)
 
+-- the same of an event that is answered with its entry
+abbrev pub MakesEntry : State → Event → Result Entry Refusal → State → Type 0
+MakesEntry s e (Ok made) t = (made.event ≡ e) × (next s e ≡ Ok (made.outcome, t))
+MakesEntry s e (Err refusal) t = Refuses (next s e) e refusal × (t ≡ s)
+
 -- the log after these entries were appended: the last ones that it has room for. The entries before
 -- them are lost, and lead from the base before to the base after.
 pub record Slides (m : History) (entries : List Entry) (n : History) : Type 0 where
@@ -151,6 +156,13 @@ pub record IsBooted (file : List ℕ) (conf : Conf) (m : History) : Type 0 where
   pub base_is : m.base ≡ boot_state m.start
   pub state_is : m.state ≡ boot_state m.start
 
+-- a state at boot from a file
+pub record IsBootState (file : List ℕ) (conf : Conf) (s : State) : Type 0 where
+  pub start : Start
+  pub conf_is : start.conf ≡ conf
+  pub image : IsImage file conf.ram start.entry start.bytes
+  pub state_is : s ≡ boot_state start
+
 -- a machine that was booted from this, before its first event
 abbrev pub history_at_boot : Start → History
 history_at_boot start = record {
@@ -177,6 +189,14 @@ Boots file conf (Some first) (Ok m) = ⊥
 Boots file conf (Some first) (Err e) = e ≡ first
 Boots file conf None (Ok m) = IsBooted file conf m
 Boots file conf None (Err e) = e ≡ NoMemory
+
+-- the same of a boot that gives the state alone
+abbrev pub BootsState :
+    List ℕ → Conf → Option BootError → Result CoreValue BootError → Type 0
+BootsState file conf (Some first) (Ok c) = ⊥
+BootsState file conf (Some first) (Err e) = e ≡ first
+BootsState file conf None (Ok c) = IsBootState file conf c.state
+BootsState file conf None (Err e) = e ≡ NoMemory
 
 -- a start is the image of some file without a fault
 abbrev pub IsLoaded : Start → Type 0

@@ -7,4 +7,6 @@ pub mod History
 pub mod StoreHistory
 pub mod Sound
 pub mod Events
+pub mod Packed
+pub mod Stretch
 pub mod helpers

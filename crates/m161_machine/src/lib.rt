@@ -25,9 +25,9 @@
 mod conf;
 mod event;
 mod events;
-mod kept;
 mod laws;
 mod machine;
+mod packed;
 mod start;
 mod state;
 mod step;
@@ -44,5 +44,6 @@ pub use m161_elf::LoadError;
 pub use m161_isa::{LinkUnit, Reg};
 pub use m161_tlb::{Frame, Identifier, Page, Row, Tlb};
 pub use machine::Machine;
+pub use packed::PackedEntry;
 pub use start::Start;
 pub use state::{Core, worn};

@@ -8,13 +8,13 @@ ghost use Rattle.m161_machine.specs.State.{AreAllApart, CountUpTo, KeepsSizes};
 ghost use Rattle.m161_machine.specs.History.{boot_fault, boot_state, history_at_boot, Boots, Answers, CanGive, Continues, CountsSteps, Ends, FitsMode, IsLoaded, IsReached, IsReplay};
 ghost use Rattle.m161_machine.specs.StoreHistory.{StoresReplay};
 ghost use Rattle.m161_machine.specs.helpers.History.{start_of};
-ghost use Rattle.m161_machine.specs.helpers.Sound.{Advances};
+ghost use Rattle.m161_machine.specs.Stretch.{Advances};
 
 mod views;
 
 use crate::conf::{BootError, Conf};
 use crate::event::{Event, Refusal};
-use crate::kept::{Kept, blanks};
+use crate::packed::{PackedEntry, blanks};
 use crate::state::Core;
 use crate::window::{AT_ONCE, Window};
 use m161_bus::Console;
@@ -33,7 +33,7 @@ pub struct Machine<T: Tlb, D: Console> {
     base: Box<Core<T, D>>,
     window: Window,
     // Room for the entries of Steps that are made at once.
-    fresh: Vec<Kept>,
+    fresh: Vec<PackedEntry>,
     image: Image,
     conf: Conf,
 }
@@ -65,7 +65,7 @@ impl<T: Tlb, D: Console> Model for Machine<T, D> {
         × (length m.fresh.items ≡ 256) };
 }
 
-impl<T: Tlb, D: Console> Machine<T, D> {
+impl<T: Tlb + Drop, D: Console + Drop> Machine<T, D> {
     /// Boots a file. The machine keeps the loaded image and the state at its log's base beside its
     /// memory, so it allocates three times the RAM of its configuration, four bytes for each entry
     /// of the log, the room of two consoles, and two boxes with the rest of a state.
@@ -145,7 +145,9 @@ impl<T: Tlb, D: Console> Machine<T, D> {
         } = self;
         Box::into_inner(base)
     }
+}
 
+impl<T: Tlb, D: Console> Machine<T, D> {
     /// Makes one Step of a processor. Does not allocate.
     ///
     /// # Errors
@@ -155,7 +157,7 @@ impl<T: Tlb, D: Console> Machine<T, D> {
         ensures processors { length self.new.state.processors ≡ length self.old.state.processors }
     {
         let outcome = self.present.step(p)?;
-        let kept = [Kept::of_step(p, outcome)];
+        let kept = [PackedEntry::of_step(p, outcome)];
         self.window.append(&mut *self.base, &kept, 0);
         Ok(outcome)
     }
@@ -176,7 +178,7 @@ impl<T: Tlb, D: Console> Machine<T, D> {
         if let Some(refusal) = self.present.refusal(p) {
             return (0, Some(refusal));
         }
-        let most = self.present.before_worn(n);
+        let most = self.present.before_worn(n as usize) as u32;
         let made = self.steps_until_off(p, most);
         if made == n {
             (n, None)
@@ -244,7 +246,7 @@ impl<T: Tlb, D: Console> Machine<T, D> {
         ensures { Answers self.old (events.Key byte) result self.new }
     {
         let outcome = self.present.key(byte)?;
-        let kept = [Kept::of_key(byte)];
+        let kept = [PackedEntry::of_key(byte)];
         self.window.append(&mut *self.base, &kept, 0);
         Ok(outcome)
     }
@@ -267,7 +269,7 @@ impl<T: Tlb, D: Console> Machine<T, D> {
             Err(_) => return Err(Refusal::NoMemory),
         }
         let outcome = self.present.done()?;
-        let kept = [Kept::of_done()];
+        let kept = [PackedEntry::of_done()];
         self.window.append(&mut *self.base, &kept, 1);
         Ok(outcome)
     }
@@ -346,7 +348,7 @@ impl<T: Tlb, D: Console> Machine<T, D> {
 }
 
 // The state at boot of a machine with this image.
-fn core_at_boot<T: Tlb, D: Console>(
+fn core_at_boot<T: Tlb + Drop, D: Console + Drop>(
     alloc: Global,
     image: &Image,
     conf: Conf,
@@ -362,7 +364,7 @@ fn core_at_boot<T: Tlb, D: Console>(
 
 // A machine that is booted from an image.
 #[inline(never)]
-fn machine_at_boot<T: Tlb, D: Console>(
+fn machine_at_boot<T: Tlb + Drop, D: Console + Drop>(
     alloc: Global,
     image: Image,
     conf: Conf,
@@ -402,7 +404,7 @@ fn image_again(alloc: Global, image: &Image) -> Result<Image, AllocError>
 fn advance_into<T: Tlb, D: Console>(
     core: &mut Core<T, D>,
     p: u32,
-    room: &mut Vec<Kept>,
+    room: &mut Vec<PackedEntry>,
     most: usize,
 ) -> usize
     requires place { p < length core.old.state.processors }
@@ -417,5 +419,5 @@ fn advance_into<T: Tlb, D: Console>(
     ensures sizes { KeepsSizes core.old.state core.new.state }
 {
     let (first, _) = room.as_mut_slice().split_at_mut(most);
-    core.advance(p, first)
+    core.advance(p, first, false)
 }

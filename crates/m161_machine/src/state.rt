@@ -7,21 +7,26 @@ ghost use Rattle.m161_cpu.specs.declared.processor.Outcome.{Outcome};
 ghost use Rattle.m161_machine.specs.declared.event.Event.TheVariants as events;
 ghost use Rattle.m161_machine.specs.State.{AreAllApart, CountUpTo, KeepsSizes, State, is_worn, next, refusal, step_result, with_step};
 ghost use Rattle.m161_machine.specs.declared.event.Refusal.{Refusal};
+ghost use Rattle.m161_machine.specs.Resting.{rests};
+ghost use Rattle.m161_machine.specs.Stretch.{Advances, IsQuiet, IsStretch};
 ghost use Rattle.m161_machine.specs.Uses.{MakesStep};
 ghost use Rattle.m161_machine.specs.Conf.{is_within_limits};
-ghost use Rattle.m161_machine.specs.History.{Makes, boot_state};
+ghost use Rattle.m161_machine.specs.History.{BootsState, Makes, MakesEntry, boot_fault, boot_state};
 ghost use Rattle.m161_machine.specs.helpers.History.{start_of};
-ghost use Rattle.m161_machine.specs.helpers.Sound.{Advances};
+ghost use Rattle.m161_machine.specs.declared.step.Pace.TheVariants.{Quiet};
+ghost use Rattle.m161_machine.specs.helpers.Pace.{outcome_of};
 
 mod again;
+mod steps;
 mod views;
 
-use crate::conf::Conf;
+use crate::conf::{BootError, Conf};
 use crate::event::{Conflict, Event, Refusal};
-use crate::kept::Kept;
-use crate::step::step_parts;
+use crate::packed::PackedEntry;
+use crate::step::{Pace, step_parts};
 use m161_bus::{Board, Console, DoneError};
 use m161_cpu::{Cpu, Links, Outcome};
+use m161_elf::{Image, load};
 use m161_ram::Ram;
 use m161_tlb::Tlb;
 use std::alloc::{AllocError, Global};
@@ -40,9 +45,12 @@ pub struct Core<T: Tlb, D: Console> {
     // What switched a strict machine off.
     conflict: Option<Conflict>,
     conf: Conf,
+    // CPUE: the processors that were started.
+    started: u32,
 }
 
 impl<T: Tlb, D: Console> Model for Core<T, D> {
+    ghost use Rattle.std.specs.Prelude.{◌≡◌, false};
     ghost use Rattle.m161_machine.specs.State.{CoreValue, state_of};
     ghost use Rattle.m161_machine.specs.Sound.{IsSound};
 
@@ -56,7 +64,9 @@ impl<T: Tlb, D: Console> Model for Core<T, D> {
 
     ghost invariant = { λ c.
         IsSound
-        (state_of c.conf c.processors.items c.ram c.board.state c.links c.made c.conflict) };
+        (state_of c.conf c.processors.items c.ram c.board.state c.links c.made c.conflict)
+        × (c.started ≡ c.board.state.started)
+        × (c.board.changed ≡ false) };
 }
 
 /// So many events a machine accepts.
@@ -71,7 +81,7 @@ pub fn worn(made: u64) -> bool
 }
 
 // The processors at boot: the first, started at the entry, and the others, stopped.
-fn first_processors<T: Tlb>(
+fn first_processors<T: Tlb + Drop>(
     alloc: Global,
     number: u32,
     entry: u32,
@@ -92,7 +102,7 @@ fn first_processors<T: Tlb>(
 }
 
 // Copies of these processors.
-fn copy_processors<T: Tlb>(
+fn copy_processors<T: Tlb + Drop>(
     alloc: Global,
     processors: &Vec<Cpu<T>>,
 ) -> Result<Vec<Cpu<T>>, AllocError>
@@ -105,7 +115,7 @@ fn copy_processors<T: Tlb>(
     Ok(copies)
 }
 
-impl<T: Tlb, D: Console> Core<T, D> {
+impl<T: Tlb + Drop, D: Console + Drop> Core<T, D> {
     /// The state at boot: processor 0 is started at the entry, the others are stopped, and RAM has
     /// these bytes. Allocates the processors and the console's room.
     #[inline(never)]
@@ -129,7 +139,25 @@ impl<T: Tlb, D: Console> Core<T, D> {
             made: 0,
             conflict: None,
             conf,
+            started: 1,
         })
+    }
+
+    /// Boots a file, with no log: the state alone. Allocates the RAM of the configuration, the room of
+    /// a console, and the rest of a state.
+    ///
+    /// # Errors
+    /// Those of `Machine::boot`, where the configuration and the file are the same.
+    #[inline(never)]
+    pub fn boot(alloc: Global, file: &[u8], conf: Conf) -> Result<Core<T, D>, BootError>
+        ensures { BootsState file.now conf (boot_fault file.now conf) result }
+    {
+        if !conf.is_within_limits() {
+            return Err(BootError::BadConf);
+        }
+        let Image { entry, bytes } = load(alloc, file, conf.ram)?;
+        let core = Core::at_boot(alloc, bytes, entry, conf)?;
+        Ok(core)
     }
 
     /// The same state again, with at least the same room. Allocates as much memory as it has.
@@ -149,9 +177,12 @@ impl<T: Tlb, D: Console> Core<T, D> {
             made: self.made,
             conflict: self.conflict,
             conf: self.conf,
+            started: self.started,
         })
     }
+}
 
+impl<T: Tlb, D: Console> Core<T, D> {
     /// Makes one Step of a processor. Does not allocate.
     ///
     /// # Errors
@@ -162,13 +193,10 @@ impl<T: Tlb, D: Console> Core<T, D> {
         ensures room { self.new.room ≡ self.old.room }
         ensures proper { IfOk result (λ outcome. (p < 32) × IsOfStep outcome) }
     {
-        if let Some(refusal) = self.refusal(p) {
-            return Err(refusal);
+        match self.packed_step(p) {
+            Ok(made) => Ok(made.entry().outcome),
+            Err(refusal) => Err(refusal),
         }
-        let mut kept = [Kept::of_step(0, Outcome::Ran)];
-        let _made = self.advance(p, &mut kept);
-        let made = kept[0];
-        Ok(made.entry().outcome)
     }
 
     /// Makes one Step of a processor that no refusal holds of. The same as `step`, in less time.
@@ -179,15 +207,15 @@ impl<T: Tlb, D: Console> Core<T, D> {
         ensures sizes { KeepsSizes self.old.state self.new.state }
         ensures room { self.new.room ≡ self.old.room }
     {
-        let mut kept = [Kept::of_step(0, Outcome::Ran)];
-        let _made = self.advance(p, &mut kept);
+        let mut kept = [PackedEntry::blank()];
+        let _made = self.advance(p, &mut kept, false);
     }
 
     /// Makes a Step of processor `p` for each place of `kept`, until one of them switches the
-    /// machine off, and writes each one's entry into its place. Returns how many were made. Its
-    /// loop is the only place in a program with the code of a Step.
+    /// machine off or, in a stretch, isn't plain; and writes each one's entry into its place.
+    /// Returns how many were made. Its loop is the only place in a program with the code of a Step.
     #[inline(never)]
-    pub(crate) fn advance(&mut self, p: u32, kept: &mut [Kept]) -> usize
+    pub(crate) fn advance(&mut self, p: u32, kept: &mut [PackedEntry], stretch: bool) -> usize
         requires place { p < length self.old.state.processors }
         requires on { self.old.state.board.off ≡ false }
         requires few { self.old.state.made + length kept.old ≤ 2 ^ 63 - 1 }
@@ -195,18 +223,30 @@ impl<T: Tlb, D: Console> Core<T, D> {
         ensures length { length kept.new ≡ length kept.old }
         ensures within { result ≤ length kept.old }
         ensures some { 1 ≤ length kept.old → 1 ≤ result }
-        ensures end { result ≡ length kept.old
+        ensures end { stretch ≡ false → result ≡ length kept.old
             ⊎ (result < length kept.old) × (self.new.state.board.off ≡ true) }
+        ensures stretch { stretch ≡ true → 1 ≤ length kept.old
+            → IsStretch p self.old.state (take result kept.new) self.new.state }
         ensures sizes { KeepsSizes self.old.state self.new.state }
         ensures room { self.new.room ≡ self.old.room }
     {
         let mut made = 0;
         while made < kept.len() {
-            let outcome = self.make_step(p);
-            kept[made] = Kept::of_step(p, outcome);
-            made += 1;
-            if self.went_off(outcome) {
+            if !self.may_go_on(p, made, stretch) {
                 return made;
+            }
+            match self.make_step(p) {
+                Pace::Quiet => {
+                    kept[made] = PackedEntry::of_step(p, Outcome::Ran);
+                    made += 1;
+                }
+                Pace::Aside(outcome) => {
+                    kept[made] = PackedEntry::of_step(p, outcome);
+                    made += 1;
+                    if stretch || self.is_off() {
+                        return made;
+                    }
+                }
             }
         }
         made
@@ -215,17 +255,16 @@ impl<T: Tlb, D: Console> Core<T, D> {
     // Makes a Step of processor `p`, and then starts the processors that the Step put into CPUE.
     // Tests no refusal.
     #[inline(always)]
-    fn make_step(&mut self, p: u32) -> Outcome
+    fn make_step(&mut self, p: u32) -> Pace
         requires processor { p < length self.old.state.processors }
         requires few_made { self.old.state.made < 2 ^ 63 - 1 }
-        ensures outcome { result ≡ (step_result p self.old.state).outcome }
+        ensures outcome { outcome_of result ≡ (step_result p self.old.state).outcome }
         ensures state { self.new.state ≡ with_step p (step_result p self.old.state) self.old.state }
         ensures sizes { KeepsSizes self.old.state self.new.state }
         ensures room { self.new.room ≡ self.old.room }
-        ensures proper { IsOfStep result }
+        ensures proper { IsOfStep (outcome_of result) }
         ensures few { length self.old.state.processors ≤ 32 }
-        ensures ran { self.old.state.board.off ≡ false → result ≡ Outcome.Ran
-            → self.new.state.board.off ≡ false }
+        ensures quiet { result ≡ Quiet → IsQuiet p self.old.state self.new.state }
     {
         let Core {
             processors,
@@ -234,24 +273,42 @@ impl<T: Tlb, D: Console> Core<T, D> {
             links,
             made,
             conflict,
+            started,
             conf,
         } = self;
-        let outcome = step_parts(processors, p, ram, board, links, conflict, conf.strict);
+        let pace = step_parts(
+            processors,
+            p,
+            ram,
+            board,
+            links,
+            conflict,
+            started,
+            conf.strict,
+        );
         *made += 1;
-        outcome
+        pace
     }
 
-    // Whether a Step with this outcome switched the machine off; after Ran there is no need to
-    // look.
+    // Whether a next Step of processor `p` belongs to these: not to a stretch, if it would be idle.
     #[inline(always)]
-    fn went_off(&self, outcome: Outcome) -> bool
-        requires { outcome ≡ Outcome.Ran → self.now.state.board.off ≡ false }
-        ensures { result ≡ self.now.state.board.off }
+    fn may_go_on(&self, p: u32, made: usize, stretch: bool) -> bool
+        requires { p < length self.now.state.processors }
+        ensures ends { result ≡ false → (stretch ≡ true) × (1 ≤ made) }
+        ensures goes_on { result ≡ true → stretch ≡ true
+            → (made ≡ 0) ⊎ (rests p self.now.state ≡ false) }
     {
-        match outcome {
-            Outcome::Ran => false,
-            _ => self.is_off(),
-        }
+        self.is_running(p) || !stretch || made == 0
+    }
+
+    // Whether processor `p` executes instructions; then its next Step isn't idle.
+    #[inline(always)]
+    #[tactic(auto, unfolding(crate::specs::Resting::rests))]
+    fn is_running(&self, p: u32) -> bool
+        requires { p < length self.now.state.processors }
+        ensures { result ≡ true → rests p self.now.state ≡ false }
+    {
+        self.processors[p as usize].is_running()
     }
 
     /// The first refusal that holds of a Step.
@@ -287,13 +344,13 @@ impl<T: Tlb, D: Console> Core<T, D> {
     }
 
     /// The least of `n` and the number of events until it is worn.
-    pub(crate) fn before_worn(&self, n: u32) -> u32
+    pub(crate) fn before_worn(&self, n: usize) -> usize
         requires { self.now.state.made ≤ 2 ^ 63 - 1 }
         ensures few { self.now.state.made + result ≤ 2 ^ 63 - 1 }
         ensures least { result ≡ n ⊎ (result < n) × (self.now.state.made + result ≡ 2 ^ 63 - 1) }
     {
         let left = WORN - self.made;
-        if u64::from(n) <= left { n } else { left as u32 }
+        if n as u64 <= left { n } else { left as usize }
     }
 
     /// Types a byte at the console. Does not allocate.
@@ -371,12 +428,13 @@ impl<T: Tlb, D: Console> Core<T, D> {
         self.board.reserve(n)
     }
 
-    /// The law of every state: there are as many processors as the board says, at most 32; the
-    /// configuration is within the limits; no processor has made more Steps than events were
+    /// The law of every state: there are as many processors as the board says, at most 32; RAM has at
+    /// most 2^29 bytes; the configuration is within the limits; no processor has made more Steps than events were
     /// accepted; and on a strict machine no two rows of a processor's TLB overlap.
     pub fn law(&self)
         ensures number { length self.now.state.processors ≡ self.now.state.board.processors }
         ensures few { length self.now.state.processors ≤ 32 }
+        ensures memory { length self.now.state.memory ≤ 2 ^ 29 }
         ensures limits { is_within_limits self.now.state.conf ≡ true }
         ensures counts { CountUpTo self.now.state.made self.now.state.processors }
         ensures apart { self.now.state.conf.strict ≡ true → AreAllApart self.now.state.processors }
@@ -392,11 +450,52 @@ impl<T: Tlb, D: Console> Core<T, D> {
         ensures makes { Makes self.old.state event result self.new.state }
         ensures sizes { KeepsSizes self.old.state self.new.state }
         ensures room { self.old.room ≤ self.new.room + 1 }
+        ensures succeeds { event ≡ events.Done → 1 ≤ self.old.room → result ≢ Err Refusal.NoMemory }
+        ensures err { OnErr result (self.new.room ≡ self.old.room) }
     {
         match event {
             Event::Step(p) => self.step(p),
             Event::Key(byte) => self.key(byte),
             Event::Done => self.done(),
         }
+    }
+
+    /// Makes an event, and returns its entry, as it is stored.
+    ///
+    /// # Errors
+    /// Those of `event`.
+    pub fn packed_event(&mut self, event: Event) -> Result<PackedEntry, Refusal>
+        ensures makes { MakesEntry self.old.state event result self.new.state }
+        ensures sizes { KeepsSizes self.old.state self.new.state }
+        ensures room { self.old.room ≤ self.new.room + 1 }
+        ensures succeeds { event ≡ events.Done → 1 ≤ self.old.room → result ≢ Err Refusal.NoMemory }
+        ensures err { OnErr result (self.new.room ≡ self.old.room) }
+    {
+        match event {
+            Event::Step(p) => self.packed_step(p),
+            Event::Key(byte) => match self.key(byte) {
+                Ok(_outcome) => Ok(PackedEntry::of_key(byte)),
+                Err(refusal) => Err(refusal),
+            },
+            Event::Done => match self.done() {
+                Ok(_outcome) => Ok(PackedEntry::of_done()),
+                Err(refusal) => Err(refusal),
+            },
+        }
+    }
+
+    // Makes one Step, and returns its entry.
+    fn packed_step(&mut self, p: u32) -> Result<PackedEntry, Refusal>
+        ensures makes { MakesEntry self.old.state (events.Step p) result self.new.state }
+        ensures sizes { KeepsSizes self.old.state self.new.state }
+        ensures room { self.new.room ≡ self.old.room }
+        ensures proper { IfOk result (λ entry. (p < 32) × IsOfStep entry.outcome) }
+    {
+        if let Some(refusal) = self.refusal(p) {
+            return Err(refusal);
+        }
+        let mut kept = [PackedEntry::blank()];
+        let _made = self.advance(p, &mut kept, false);
+        Ok(kept[0])
     }
 }

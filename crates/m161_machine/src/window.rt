@@ -8,7 +8,7 @@ ghost use Rattle.m161_machine.specs.helpers.Window.{Slid};
 ghost use Rattle.m161_machine.specs.History.{transfers_of};
 
 use crate::event::Entry;
-use crate::kept::{Kept, blanks};
+use crate::packed::{PackedEntry, blanks};
 use crate::state::Core;
 use circular_buffer::HeapCircularBuffer;
 use m161_bus::Console;
@@ -23,11 +23,11 @@ pub(crate) const AT_ONCE: usize = 256;
 /// that it has room for.
 #[derive(Drop)]
 pub(crate) struct Window {
-    entries: HeapCircularBuffer<Kept>,
+    entries: HeapCircularBuffer<PackedEntry>,
     // How many of the entries are of `Done`.
     transfers: usize,
     // Room for the entries that are dropped at once.
-    dropped: Vec<Kept>,
+    dropped: Vec<PackedEntry>,
 }
 
 impl Model for Window {
@@ -116,7 +116,7 @@ impl Window {
     pub(crate) fn append<T: Tlb, D: Console>(
         &mut self,
         base: &mut Core<T, D>,
-        kept: &[Kept],
+        kept: &[PackedEntry],
         transfers: usize,
     )
         requires few { (length kept.now ≤ self.old.capacity) × (length kept.now ≤ 256) }
@@ -133,7 +133,7 @@ impl Window {
 
     // Appends entries for which there is room, `transfers` of them of `Done`.
     #[inline(always)]
-    fn push(&mut self, kept: &[Kept], transfers: usize)
+    fn push(&mut self, kept: &[PackedEntry], transfers: usize)
         requires room { length self.old.items + length kept.now ≤ self.old.capacity }
         requires transfers { transfers ≡ transfers_of kept.now }
         ensures { self.new ≡ buffer (self.old.items ++ kept.now) self.old.capacity }
@@ -187,8 +187,8 @@ impl Window {
 // Moves this many entries, the oldest ones, into the room for them, and makes their events on the
 // base. Returns how many of them are of `Done`.
 fn make_oldest<T: Tlb, D: Console>(
-    entries: &mut HeapCircularBuffer<Kept>,
-    room: &mut Vec<Kept>,
+    entries: &mut HeapCircularBuffer<PackedEntry>,
+    room: &mut Vec<PackedEntry>,
     base: &mut Core<T, D>,
     number: usize,
 ) -> usize
@@ -207,7 +207,7 @@ fn make_oldest<T: Tlb, D: Console>(
 }
 
 // Appends stored entries, for which there is room.
-fn push_entries(entries: &mut Vec<Entry>, more: &[Kept])
+fn push_entries(entries: &mut Vec<Entry>, more: &[PackedEntry])
     requires room { length entries.old.items + length more.now ≤ vec_capacity entries.old }
     ensures items { entries.new.items ≡ entries.old.items ++ more.now }
     ensures capacity { vec_capacity entries.new ≡ vec_capacity entries.old }

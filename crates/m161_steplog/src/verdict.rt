@@ -34,7 +34,7 @@ fn repeats<T: Tlb, D: Console>(core: &mut Core<T, D>, entry: Entry) -> Result<bo
 ///
 /// # Errors
 /// The machine can't be booted; or memory was refused, at the boot or at an event `Done`.
-pub fn verify<T: Tlb, D: Console>(
+pub fn verify<T: Tlb + Drop, D: Console + Drop>(
     alloc: Global,
     file: &[u8],
     conf: Conf,

@@ -31,7 +31,7 @@ pub use page::Page;
 pub use row::{Row, words_and_rows};
 
 /// A table of 64 rows. None of its calls allocates.
-pub trait Tlb: Drop {
+pub trait Tlb {
     ghost use Rattle.std.specs.Prelude.{List};
     ghost use Rattle.m161_tlb.specs.declared.row.Row.{Row};
 
@@ -44,6 +44,10 @@ pub trait Tlb: Drop {
     /// A table with the same rows.
     fn copy(&self) -> Self
         ensures { rows result ≡ rows self.now };
+
+    /// Makes it the table at a processor's start.
+    fn reset(&mut self)
+        ensures { rows self.new ≡ start_rows };
 
     /// Row `i`.
     fn read(&self, i: u8) -> Row

@@ -80,6 +80,10 @@ impl Tlb for Index {
         }
     }
 
+    fn reset(&mut self) {
+        *self = Index::empty();
+    }
+
     fn read(&self, i: u8) -> Row {
         self.rows[i as usize]
     }

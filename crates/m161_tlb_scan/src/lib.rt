@@ -68,6 +68,10 @@ impl Tlb for Scan {
         scan
     }
 
+    fn reset(&mut self) {
+        *self = Scan::empty();
+    }
+
     fn read(&self, i: u8) -> Row {
         self.rows[i as usize]
     }

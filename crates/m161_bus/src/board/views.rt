@@ -1,7 +1,7 @@
 //! What a board shows, and the events of its console.
 
-ghost use Rattle.std.specs.Prelude.{◌≡◌, ◌≢◌, ◌+◌, ◌<◌, ◌≤◌, Err, length, IsOk, OnOk, OnErr};
-ghost use Rattle.m161_bus.specs.Board.{IsShown, KeepsSize, KeepsSizeAndRoom, board_done, board_key, interrupt_lines, shown_word, start_words};
+ghost use Rattle.std.specs.Prelude.{◌≡◌, ◌≢◌, ◌+◌, ◌<◌, ◌≤◌, false, Err, length, IsOk, OnOk, OnErr};
+ghost use Rattle.m161_bus.specs.Board.{IsShown, KeepsSize, board_done, board_key, interrupt_lines, shown_word, start_words};
 ghost use Rattle.m161_bus.specs.declared.console.DoneError.TheVariants.{NoMemory};
 ghost use Rattle.m161_bus.specs.Outcome.{LeavesUnlessRefused, LeavesUnlessNoMemory};
 
@@ -118,7 +118,9 @@ impl<D: Console> Board<D> {
     pub fn key(&mut self, byte: u8) -> Result<(), KeyFull>
         ensures key { LeavesUnlessRefused (board_key byte self.old.state)
             self.old.state result self.new.state }
-        ensures size { KeepsSizeAndRoom self.old self.new }
+        ensures size { KeepsSize self.old.state self.new.state }
+        ensures room { self.new.room ≡ self.old.room }
+        ensures changed { self.new.changed ≡ self.old.changed }
     {
         let Board {
             lines,
@@ -126,6 +128,7 @@ impl<D: Console> Board<D> {
             places,
             irqe,
             console,
+            changed: _,
             ram: _,
             processors: _,
             started: _,
@@ -143,6 +146,7 @@ impl<D: Console> Board<D> {
             self.old.state result self.new.state }
         ensures size { KeepsSize self.old.state self.new.state }
         ensures room { self.old.room ≤ self.new.room + 1 }
+        ensures changed { self.new.changed ≡ self.old.changed }
         ensures succeeds { 1 ≤ self.old.room → result ≢ Err NoMemory }
         ensures err { OnErr result (self.new.room ≡ self.old.room) }
     {
@@ -152,6 +156,7 @@ impl<D: Console> Board<D> {
             places,
             irqe,
             console,
+            changed: _,
             ram: _,
             processors: _,
             started: _,
@@ -160,6 +165,22 @@ impl<D: Console> Board<D> {
         console.done()?;
         settle(lines, through, places, *irqe, console);
         Ok(())
+    }
+
+    /// Whether a processor may have changed the state since this was last asked: it wrote a word, or
+    /// read CHAR. Where it is false, none has.
+    #[inline(always)]
+    pub fn changed(&self) -> bool
+        ensures { result ≡ self.now.changed }
+    {
+        self.changed
+    }
+
+    /// From now on only further changes count.
+    pub fn note_no_change(&mut self)
+        ensures { self.new ≡ record self.old { changed = false } }
+    {
+        self.changed = false;
     }
 
     /// How many bytes the console can send before memory is needed again.
@@ -173,6 +194,7 @@ impl<D: Console> Board<D> {
     /// an error nothing is changed.
     pub fn reserve(&mut self, n: usize) -> Result<(), AllocError>
         ensures state { self.new.state ≡ self.old.state }
+        ensures changed { self.new.changed ≡ self.old.changed }
         ensures more { self.old.room ≤ self.new.room }
         ensures ok { OnOk result (n ≤ self.new.room) }
         ensures succeeds { n ≤ self.old.room → IsOk result }

@@ -1,6 +1,6 @@
 //! What a processor shows.
 
-ghost use Rattle.std.specs.Prelude.{◌≡◌, ◌-◌, ◌%◌, ◌<◌, Some, slice_get, slice_index};
+ghost use Rattle.std.specs.Prelude.{◌≡◌, ◌≢◌, ℕ, true, false, ◌-◌, ◌%◌, ◌<◌, Some, slice_get, slice_index};
 ghost use Rattle.m161_cop0.specs.Control.{read_of};
 ghost use Rattle.m161_cop0.specs.Registers.{number_of_register};
 ghost use Rattle.m161_cpu.specs.Resting.{is_resting, is_ticking};
@@ -25,6 +25,20 @@ impl<T: Tlb> Cpu<T> {
         ensures { result ≡ read_of (number_of_register register) lines self.now.control }
     {
         self.control.read(register.number(), lines)
+    }
+
+    /// Whether it executes instructions. Then its next Step isn't idle, whatever the board's lines.
+    #[inline(always)]
+    #[tactic(auto, unfolding(crate::specs::Resting::is_resting))]
+    pub fn is_running(&self) -> bool
+        ensures value { result ≡ true → self.now.state ≡ ProcessorState.Running }
+        ensures other { result ≡ false → self.now.state ≢ ProcessorState.Running }
+        ensures awake { result ≡ true → (lines : ℕ) → is_resting lines self.now ≡ false }
+    {
+        match self.state {
+            ProcessorState::Running => true,
+            ProcessorState::Stopped | ProcessorState::Waiting => false,
+        }
     }
 
     /// Whether its next Step is idle. `lines` are the board's lines of this processor.

@@ -26,7 +26,7 @@ use std::fmt::Write;
 /// The longest line that a run or an event prints, with its end.
 const LONGEST: usize = 93;
 
-impl<T: Tlb, D: Console> Session<T, D> {
+impl<T: Tlb + Drop, D: Console + Drop> Session<T, D> {
     /// Does a command and appends what it prints; `rest` are the remaining events of a schedule.
     /// Returns how many of them were used up.
     ///

@@ -8,13 +8,13 @@ ghost use Rattle.m161_machine.specs.helpers.Window.{BeginsWithStep};
 ghost use Rattle.m161_machine.specs.History.{transfers_of};
 
 use crate::event::Event;
-use crate::kept::Kept;
+use crate::packed::PackedEntry;
 use crate::state::Core;
 use m161_bus::Console;
 use m161_tlb::Tlb;
 
 // How many of the entries, from the first on, are of Steps of processor `p`.
-fn steps_at_start(p: u32, entries: &[Kept]) -> usize
+fn steps_at_start(p: u32, entries: &[PackedEntry]) -> usize
     ensures within { result ≤ length entries.now }
     ensures steps { events_of (take result entries.now) ≡ replicate result (events.Step p) }
     ensures some { BeginsWithStep p entries.now → 1 ≤ result }
@@ -29,7 +29,7 @@ fn steps_at_start(p: u32, entries: &[Kept]) -> usize
 impl<T: Tlb, D: Console> Core<T, D> {
     /// Makes the events of these entries again, which it accepts with their outcomes. Returns how
     /// many of them are of `Done`. Does not allocate.
-    pub(crate) fn repeat(&mut self, entries: &mut [Kept]) -> usize
+    pub(crate) fn repeat(&mut self, entries: &mut [PackedEntry]) -> usize
         requires accepted { (t : State) × Leads self.old.state entries.old t }
         requires room { transfers_of entries.old ≤ self.old.room }
         ensures leads { Leads self.old.state entries.old self.new.state }
@@ -50,7 +50,7 @@ impl<T: Tlb, D: Console> Core<T, D> {
 
     // Makes the first of the events again, and more of them if they are Steps of one processor.
     // Returns how many, and how many of these are `Done`.
-    fn repeat_first(&mut self, entries: &mut [Kept]) -> (usize, usize)
+    fn repeat_first(&mut self, entries: &mut [PackedEntry]) -> (usize, usize)
         requires some { 1 ≤ length entries.old }
         requires accepted { (t : State) × Leads self.old.state entries.old t }
         requires room { transfers_of entries.old ≤ self.old.room }
@@ -74,7 +74,7 @@ impl<T: Tlb, D: Console> Core<T, D> {
     }
 
     // Makes the Steps of processor `p` again with which the entries begin. Returns how many.
-    fn repeat_steps(&mut self, p: u32, entries: &mut [Kept]) -> usize
+    fn repeat_steps(&mut self, p: u32, entries: &mut [PackedEntry]) -> usize
         requires step { BeginsWithStep p entries.old }
         requires accepted { (t : State) × Leads self.old.state entries.old t }
         ensures some { (1 ≤ result) × (result ≤ length entries.old) }
@@ -85,7 +85,7 @@ impl<T: Tlb, D: Console> Core<T, D> {
     {
         let number = steps_at_start(p, entries);
         let (steps, _) = entries.split_at_mut(number);
-        let _all = self.advance(p, steps);
+        let _all = self.advance(p, steps, false);
         number
     }
 }

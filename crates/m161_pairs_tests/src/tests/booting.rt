@@ -20,7 +20,11 @@ use std::test::Fail;
 const POWER_OFF: [u32; 2] = [0x3c08_bfff, 0xad00_7e08];
 
 /// Why a file isn't booted, if it isn't.
-fn fault_of<T: Tlb, D: Console>(alloc: Global, file: &[u8], conf: Conf) -> Option<BootError> {
+fn fault_of<T: Tlb + Drop, D: Console + Drop>(
+    alloc: Global,
+    file: &[u8],
+    conf: Conf,
+) -> Option<BootError> {
     let booted: Result<Machine<T, D>, BootError> = Machine::boot(alloc, file, conf);
     booted.err()
 }
@@ -35,7 +39,9 @@ static LENGTHS: [(usize, Option<LoadError>); 6] = [
     (92, None),
 ];
 
-fn lengths_over<T: Tlb, D: Console>(rt: &(impl Abort + AllocGlobal)) -> Result<(), Fail> {
+fn lengths_over<T: Tlb + Drop, D: Console + Drop>(
+    rt: &(impl Abort + AllocGlobal),
+) -> Result<(), Fail> {
     let file = file_at(rt.alloc(), ENTRY, &POWER_OFF)?;
     for (length, error) in &LENGTHS {
         let front = file.get(..*length);
@@ -132,7 +138,9 @@ static SIZES: [(Conf, bool); 7] = [
     ),
 ];
 
-fn sizes_over<T: Tlb, D: Console>(rt: &(impl Abort + AllocGlobal)) -> Result<(), Fail> {
+fn sizes_over<T: Tlb + Drop, D: Console + Drop>(
+    rt: &(impl Abort + AllocGlobal),
+) -> Result<(), Fail> {
     let file = file_at(rt.alloc(), ENTRY, &POWER_OFF)?;
     for (conf, fits) in &SIZES {
         let found = fault_of::<T, D>(rt.alloc(), &file, *conf);
@@ -164,7 +172,7 @@ static EVENTS: [(Event, Answer); 6] = [
     (Event::Done, Err(Refusal::Off)),
 ];
 
-fn off_over<T: Tlb, D: Console>(rt: &(impl Abort + AllocGlobal)) -> Result<(), Fail> {
+fn off_over<T: Tlb + Drop, D: Console + Drop>(rt: &(impl Abort + AllocGlobal)) -> Result<(), Fail> {
     let file = file_at(rt.alloc(), ENTRY, &POWER_OFF)?;
     let conf = Conf {
         ram: 4096,
@@ -191,7 +199,9 @@ fn pairs_off(rt: HostRuntime) -> Result<(), Fail> {
     off_over::<Index, RingConsole>(&rt)
 }
 
-fn demo_over<T: Tlb, D: Console>(rt: &(impl Abort + AllocGlobal)) -> Result<(), Fail> {
+fn demo_over<T: Tlb + Drop, D: Console + Drop>(
+    rt: &(impl Abort + AllocGlobal),
+) -> Result<(), Fail> {
     let file = file_of(rt.alloc(), &[], &PROGRAM)?;
     let mut machine: Machine<T, D> = Machine::boot(rt.alloc(), &file, DEMO_CONF)?;
     assert!(rt; machine.processors() > 0);
@@ -230,7 +240,9 @@ static LOGS: [(&[Entry], Verdict); 4] = [
     (&[STEP, LAST, STEP], Verdict::Differs(2)),
 ];
 
-fn verify_over<T: Tlb, D: Console>(rt: &(impl Abort + AllocGlobal)) -> Result<(), Fail> {
+fn verify_over<T: Tlb + Drop, D: Console + Drop>(
+    rt: &(impl Abort + AllocGlobal),
+) -> Result<(), Fail> {
     let file = file_at(rt.alloc(), ENTRY, &POWER_OFF)?;
     for (log, verdict) in &LOGS {
         let found = verify::<T, D>(rt.alloc(), &file, SMALLEST, log)?;

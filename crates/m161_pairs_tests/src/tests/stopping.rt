@@ -29,7 +29,9 @@ static RUNS: [(usize, Stop, u32); 3] = [
     (1, Stop::End(1), 3),
 ];
 
-fn breakpoints_over<T: Tlb, D: Console>(rt: &(impl Abort + AllocGlobal)) -> Result<(), Fail> {
+fn breakpoints_over<T: Tlb + Drop, D: Console + Drop>(
+    rt: &(impl Abort + AllocGlobal),
+) -> Result<(), Fail> {
     let file = file_at(rt.alloc(), ENTRY, &LOOP)?;
     let conf = Conf {
         ram: 4096,

@@ -68,7 +68,9 @@ fn end_of(outcome: Outcome) -> (Option<Conflict>, Answer) {
     }
 }
 
-fn conflict_over<T: Tlb, D: Console>(rt: &(impl Abort + AllocGlobal)) -> Result<(), Fail> {
+fn conflict_over<T: Tlb + Drop, D: Console + Drop>(
+    rt: &(impl Abort + AllocGlobal),
+) -> Result<(), Fail> {
     for (strict, thirteenth, outcome, page) in &CASES {
         let file = file_at(rt.alloc(), ENTRY, &program(*thirteenth))?;
         let conf = Conf {
@@ -102,7 +104,9 @@ fn pairs_conflict(rt: HostRuntime) -> Result<(), Fail> {
 /// More Steps than the machine makes.
 static STEPS: [Event; 20] = [Step(0); 20];
 
-fn stop_over<T: Tlb, D: Console>(rt: &(impl Abort + AllocGlobal)) -> Result<(), Fail> {
+fn stop_over<T: Tlb + Drop, D: Console + Drop>(
+    rt: &(impl Abort + AllocGlobal),
+) -> Result<(), Fail> {
     let file = file_at(rt.alloc(), ENTRY, &program(GLOBAL))?;
     let conf = Conf {
         strict: true,

@@ -35,7 +35,7 @@ impl Gate for Open {
 }
 
 /// The file of `LOOP`, and its machine of two processors.
-fn boot<T: Tlb, D: Console>(alloc: Global) -> Result<(Vec<u8>, Machine<T, D>), Fail> {
+fn boot<T: Tlb + Drop, D: Console + Drop>(alloc: Global) -> Result<(Vec<u8>, Machine<T, D>), Fail> {
     let file = file_at(alloc, ENTRY, &LOOP)?;
     let conf = Conf {
         ram: 4096,
@@ -48,7 +48,7 @@ fn boot<T: Tlb, D: Console>(alloc: Global) -> Result<(Vec<u8>, Machine<T, D>), F
     Ok((file, machine))
 }
 
-fn workers_over<T: Tlb + Send, D: Console + Send, R>(rt: &R) -> Result<(), Fail>
+fn workers_over<T: Tlb + Drop + Send, D: Console + Drop + Send, R>(rt: &R) -> Result<(), Fail>
 where
     R: Threads + Wait + Sync + Abort + AllocGlobal,
 {
@@ -64,7 +64,7 @@ where
 }
 
 /// Fails the test where a log isn't one of 200 events that a machine of the same file repeats.
-fn check_log<T: Tlb, D: Console>(
+fn check_log<T: Tlb + Drop, D: Console + Drop>(
     rt: &(impl Abort + AllocGlobal),
     file: &[u8],
     machine: &Machine<T, D>,
@@ -93,7 +93,7 @@ static EVENTS: [(Event, Answer); 4] = [
 ];
 
 /// An event at a locked machine's book, a Step at its processor's seat; `None` without a seat.
-fn event_in<L: Ledger, M: Ledger, T: Tlb, D: Console>(
+fn event_in<L: Ledger, M: Ledger, T: Tlb + Drop, D: Console + Drop>(
     rt: &impl Wait,
     locked: &Locked<L, M, T, D>,
     seats: &mut Vec<Seat<L, M>>,
@@ -108,12 +108,13 @@ fn event_in<L: Ledger, M: Ledger, T: Tlb, D: Console>(
 }
 
 /// Puts a machine behind a lock, makes the events there, and gives the machine back.
-fn make_locked<L: Ledger, M: Ledger, T: Tlb, D: Console, R: Wait + Abort + AllocGlobal>(
-    rt: &R,
-    steps: Blank,
-    offs: Blank,
-    machine: Machine<T, D>,
-) -> Result<Machine<T, D>, Fail>
+fn make_locked<
+    L: Ledger,
+    M: Ledger,
+    T: Tlb + Drop,
+    D: Console + Drop,
+    R: Wait + Abort + AllocGlobal,
+>(rt: &R, steps: Blank, offs: Blank, machine: Machine<T, D>) -> Result<Machine<T, D>, Fail>
     requires steps { (steps.name ≡ L.name) × (steps.parts ≡ L.parts)
         × (L.parts ≡ length machine.state.processors) }
     requires offs { (offs.name ≡ M.name) × (offs.parts ≡ M.parts)
@@ -135,7 +136,7 @@ fn make_locked<L: Ledger, M: Ledger, T: Tlb, D: Console, R: Wait + Abort + Alloc
 }
 
 /// The same with ledgers of its own.
-fn make_branded<T: Tlb, D: Console, R: Wait + Abort + AllocGlobal>(
+fn make_branded<T: Tlb + Drop, D: Console + Drop, R: Wait + Abort + AllocGlobal>(
     rt: &R,
     machine: Machine<T, D>,
 ) -> Result<Machine<T, D>, Fail> {
@@ -144,7 +145,9 @@ fn make_branded<T: Tlb, D: Console, R: Wait + Abort + AllocGlobal>(
     make_locked::<Brand, Brand, T, D, R>(rt, steps, offs, machine)
 }
 
-fn locked_over<T: Tlb, D: Console, R: Wait + Abort + AllocGlobal>(rt: &R) -> Result<(), Fail> {
+fn locked_over<T: Tlb + Drop, D: Console + Drop, R: Wait + Abort + AllocGlobal>(
+    rt: &R,
+) -> Result<(), Fail> {
     let (_, machine) = boot::<T, D>(rt.alloc())?;
     let start = machine.copy_start(rt.alloc())?;
     let machine = make_branded(rt, machine)?;

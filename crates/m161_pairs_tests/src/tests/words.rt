@@ -15,7 +15,9 @@ use std::test::Fail;
 /// The first is executed as `add`, the second traps.
 static WORDS: [(u32, Answer); 2] = [(0x0000_0060, RAN), (0xffff_ffff, RESERVED)];
 
-fn words_over<T: Tlb, D: Console>(rt: &(impl Abort + AllocGlobal)) -> Result<(), Fail> {
+fn words_over<T: Tlb + Drop, D: Console + Drop>(
+    rt: &(impl Abort + AllocGlobal),
+) -> Result<(), Fail> {
     for (word, answer) in &WORDS {
         let file = file_at(rt.alloc(), ENTRY, &[*word])?;
         let mut machine: Machine<T, D> = Machine::boot(rt.alloc(), &file, SMALLEST)?;
@@ -34,7 +36,9 @@ fn pairs_words(rt: HostRuntime) -> Result<(), Fail> {
     words_over::<Index, RingConsole>(&rt)
 }
 
-fn start_over<T: Tlb, D: Console>(rt: &(impl Abort + AllocGlobal)) -> Result<(), Fail> {
+fn start_over<T: Tlb + Drop, D: Console + Drop>(
+    rt: &(impl Abort + AllocGlobal),
+) -> Result<(), Fail> {
     let file = file_at(rt.alloc(), ENTRY, &[0])?;
     let machine: Machine<T, D> = Machine::boot(rt.alloc(), &file, SMALLEST)?;
     // empty-schedule

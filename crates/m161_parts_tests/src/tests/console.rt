@@ -39,7 +39,7 @@ fn console_room(rt: HostRuntime) -> Result<(), AllocError> {
 }
 
 /// Types the bytes of a range, in order, and says whether each was taken.
-fn type_bytes<D: Console>(console: &mut D, from: u32, to: u32) -> bool {
+fn type_bytes<D: Console + Drop>(console: &mut D, from: u32, to: u32) -> bool {
     for byte in from..to {
         if console.key((byte % 256) as u8).is_err() {
             return false;
@@ -49,14 +49,14 @@ fn type_bytes<D: Console>(console: &mut D, from: u32, to: u32) -> bool {
 }
 
 /// Reads the bytes of a range, in order.
-fn read_bytes<D: Console>(rt: &impl Abort, console: &mut D, from: u32, to: u32) {
+fn read_bytes<D: Console + Drop>(rt: &impl Abort, console: &mut D, from: u32, to: u32) {
     for byte in from..to {
         same(rt, console.read(ConsoleRegister::Char), byte);
     }
 }
 
 /// Keys that go round in a ring of 256 places.
-fn go_round<D: Console>(rt: &(impl Abort + AllocGlobal)) -> Result<(), AllocError> {
+fn go_round<D: Console + Drop>(rt: &(impl Abort + AllocGlobal)) -> Result<(), AllocError> {
     let mut console = D::fresh(rt.alloc())?;
     same(rt, type_bytes(&mut console, 0, 256), true);
     read_bytes(rt, &mut console, 0, 200);

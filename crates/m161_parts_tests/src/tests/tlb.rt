@@ -29,7 +29,7 @@ fn with_v(row: Row, v: bool) -> Row {
 }
 
 // The row that is found is the least of those that match.
-fn least_row<T: Tlb>(rt: &impl Abort) {
+fn least_row<T: Tlb + Drop>(rt: &impl Abort) {
     let mut tlb = T::empty();
     tlb.write(5, row(0x00401, 5, false));
     tlb.write(3, row(0x00401, 9, true));
@@ -41,7 +41,7 @@ fn least_row<T: Tlb>(rt: &impl Abort) {
 }
 
 // Rows 63 down to 0 of one page, of which each second one is for every identifier.
-fn global_rows<T: Tlb>(rt: &impl Abort) {
+fn global_rows<T: Tlb + Drop>(rt: &impl Abort) {
     let mut tlb = T::empty();
     for k in 0..64u8 {
         let i = 63 - k;
@@ -59,7 +59,7 @@ fn global_rows<T: Tlb>(rt: &impl Abort) {
 
 // A row that is the second of two with one page and identifier is found once the first is gone, and
 // a copy has the rows of its own.
-fn second_of_two_rows<T: Tlb>(rt: &impl Abort) {
+fn second_of_two_rows<T: Tlb + Drop>(rt: &impl Abort) {
     let mut tlb = T::empty();
     tlb.write(5, row(0x00401, 5, false));
     tlb.write(3, row(0x00401, 5, false));
@@ -81,7 +81,7 @@ fn of_page(id: u8, g: bool, v: bool) -> Row
 
 // The row that is found is the least other one that overlaps, whether the rows have V (`v`) or not,
 // and whether the one given has (`w`).
-fn overlap<T: Tlb>(rt: &impl Abort, v: bool, w: bool) {
+fn overlap<T: Tlb + Drop>(rt: &impl Abort, v: bool, w: bool) {
     let mut tlb = T::empty();
     tlb.write(5, of_page(5, false, v));
     tlb.write(7, of_page(6, false, v));
@@ -97,7 +97,7 @@ fn overlap<T: Tlb>(rt: &impl Abort, v: bool, w: bool) {
 }
 
 // The same with V and without, in the rows and in the one given.
-fn overlap_with_and_without_v<T: Tlb>(rt: &impl Abort) {
+fn overlap_with_and_without_v<T: Tlb + Drop>(rt: &impl Abort) {
     overlap::<T>(rt, true, true);
     overlap::<T>(rt, true, false);
     overlap::<T>(rt, false, true);

@@ -107,7 +107,7 @@ pub(crate) fn check(rt: &(impl Abort + AllocGlobal), rows: &[Worked]) -> Result<
     check_over::<Index, RingConsole>(rt, rows)
 }
 
-fn check_over<T: Tlb, D: Console>(
+fn check_over<T: Tlb + Drop, D: Console + Drop>(
     rt: &(impl Abort + AllocGlobal),
     rows: &[Worked],
 ) -> Result<(), Fail> {
@@ -147,7 +147,7 @@ pub(crate) fn check_run(
     check_run_over::<Index, RingConsole>(rt, link, run)
 }
 
-fn check_run_over<T: Tlb, D: Console>(
+fn check_run_over<T: Tlb + Drop, D: Console + Drop>(
     rt: &(impl Abort + AllocGlobal),
     link: LinkUnit,
     run: &Run,
@@ -187,7 +187,7 @@ pub(crate) fn check_linked(
     check_linked_over::<Index, RingConsole>(rt, link, run, others, text, events, left)
 }
 
-fn check_linked_over<T: Tlb, D: Console>(
+fn check_linked_over<T: Tlb + Drop, D: Console + Drop>(
     rt: &(impl Abort + AllocGlobal),
     link: LinkUnit,
     run: &Run,
@@ -211,7 +211,7 @@ fn check_linked_over<T: Tlb, D: Console>(
 }
 
 /// Fails the test where a machine's log isn't that of a machine of the same file.
-pub(crate) fn check_log<T: Tlb, D: Console>(
+pub(crate) fn check_log<T: Tlb + Drop, D: Console + Drop>(
     rt: &(impl Abort + AllocGlobal),
     name: &str,
     file: &[u8],
@@ -224,7 +224,7 @@ pub(crate) fn check_log<T: Tlb, D: Console>(
 }
 
 /// The machine of a row, booted from its file.
-fn boot_run<T: Tlb, D: Console>(
+fn boot_run<T: Tlb + Drop, D: Console + Drop>(
     alloc: Global,
     link: LinkUnit,
     run: &Run,
@@ -249,7 +249,7 @@ fn words_of(alloc: Global, program: &[(u32, &str)]) -> Result<Vec<u32>, Fail> {
     Ok(words)
 }
 
-fn make_stages<T: Tlb, D: Console>(
+fn make_stages<T: Tlb + Drop, D: Console + Drop>(
     rt: &(impl Abort + AllocGlobal),
     name: &str,
     machine: &mut Machine<T, D>,
@@ -264,7 +264,7 @@ fn make_stages<T: Tlb, D: Console>(
 
 /// Makes events, and fails the test at the first with another answer, or that changes something
 /// that it has to leave.
-pub(crate) fn make<T: Tlb, D: Console>(
+pub(crate) fn make<T: Tlb + Drop, D: Console + Drop>(
     rt: &(impl Abort + AllocGlobal),
     name: &str,
     machine: &mut Machine<T, D>,
@@ -280,7 +280,7 @@ pub(crate) fn make<T: Tlb, D: Console>(
 
 /// Makes an event, and fails the test where the answer is another or something changes that has to
 /// stay.
-fn make_one<T: Tlb, D: Console>(
+fn make_one<T: Tlb + Drop, D: Console + Drop>(
     rt: &(impl Abort + AllocGlobal),
     name: &str,
     machine: &mut Machine<T, D>,
@@ -306,7 +306,7 @@ fn make_one<T: Tlb, D: Console>(
 }
 
 /// Fails the test where an event is answered otherwise.
-fn check_answer<T: Tlb, D: Console>(
+fn check_answer<T: Tlb + Drop, D: Console + Drop>(
     rt: &impl Abort,
     name: &str,
     machine: &mut Machine<T, D>,
@@ -344,7 +344,7 @@ fn change<T: PartialEq + Copy>(before: &[T], after: &[T]) -> Option<(usize, Opti
 
 /// The general registers, HI and LO of each processor; with `all` whatever else the views show,
 /// but for memory and the TLB rows of other processors than 0.
-fn values_of<T: Tlb, D: Console>(
+fn values_of<T: Tlb + Drop, D: Console + Drop>(
     rt: &(impl Abort + AllocGlobal),
     machine: &Machine<T, D>,
     all: bool,
@@ -368,7 +368,7 @@ fn values_of<T: Tlb, D: Console>(
 }
 
 /// Appends a processor's general registers, HI and LO.
-fn push_registers<T: Tlb, D: Console>(
+fn push_registers<T: Tlb + Drop, D: Console + Drop>(
     rt: &impl Abort,
     machine: &Machine<T, D>,
     p: u32,
@@ -384,7 +384,7 @@ fn push_registers<T: Tlb, D: Console>(
 }
 
 /// Appends what else the views show of a processor, but for its TLB.
-fn push_control<T: Tlb, D: Console>(
+fn push_control<T: Tlb + Drop, D: Console + Drop>(
     rt: &impl Abort,
     machine: &Machine<T, D>,
     p: u32,
@@ -406,7 +406,7 @@ fn push_control<T: Tlb, D: Console>(
 }
 
 /// Appends the words of processor 0's TLB rows.
-fn push_rows<T: Tlb, D: Console>(
+fn push_rows<T: Tlb + Drop, D: Console + Drop>(
     rt: &impl Abort,
     machine: &Machine<T, D>,
     values: &mut Vec<u64>,
@@ -421,7 +421,7 @@ fn push_rows<T: Tlb, D: Console>(
 }
 
 /// Fails the test where other parts are left.
-pub(crate) fn compare<T: Tlb, D: Console>(
+pub(crate) fn compare<T: Tlb + Drop, D: Console + Drop>(
     rt: &impl Abort,
     name: &str,
     machine: &Machine<T, D>,
@@ -434,7 +434,7 @@ pub(crate) fn compare<T: Tlb, D: Console>(
 }
 
 /// What is left at the same part of a machine, of a processor.
-pub(crate) fn part_of<T: Tlb, D: Console>(
+pub(crate) fn part_of<T: Tlb + Drop, D: Console + Drop>(
     rt: &impl Abort,
     machine: &Machine<T, D>,
     p: u32,
@@ -471,7 +471,7 @@ pub(crate) fn part_of<T: Tlb, D: Console>(
 
 /// The smallest machine after `steps` Steps of these words, of which all but the last execute an
 /// instruction, and the last has this answer. Its log has to replay.
-pub(crate) fn last_step<T: Tlb, D: Console>(
+pub(crate) fn last_step<T: Tlb + Drop, D: Console + Drop>(
     rt: &(impl Abort + AllocGlobal),
     name: &str,
     entry: u32,
@@ -488,7 +488,7 @@ pub(crate) fn last_step<T: Tlb, D: Console>(
 }
 
 /// Makes `steps` Steps, each of which executes an instruction.
-pub(crate) fn run_steps<T: Tlb, D: Console>(
+pub(crate) fn run_steps<T: Tlb + Drop, D: Console + Drop>(
     rt: &impl Abort,
     machine: &mut Machine<T, D>,
     steps: u32,

@@ -26,7 +26,7 @@ static LEFT: [(u32, Left); 8] = [
     (1, TlbRow(18, 0x8001_2000, 0)),
 ];
 
-fn shootdown_over<T: Tlb, D: Console>(
+fn shootdown_over<T: Tlb + Drop, D: Console + Drop>(
     rt: &(impl Abort + AllocGlobal),
     link: LinkUnit,
 ) -> Result<(), Fail> {

@@ -10,7 +10,7 @@ use Rattle.m161_display.proofs.cop0.show_cop0.Goals as goal
 
 pub loop-i-preserved : goal.loop-i-preserved
 loop-i-preserved g c =
-    let line : Register → List ℕ = cop0_line c.args.p c.args.machine.now.state in
+    let line : Register → List ℕ = cop0_line c.args.p c.args.core.now.state in
     let here = get_or_from_slice_get all_registers c.loop-i.i _ registers.Index c.register.ensures in
     c.in_ok-write_register.ensures ∙ ap (λ bs. bs ++ with_line_end (line c.register.result)) c.loop-i.invariant
     ∙ ap (λ r. text_of (map line (take c.loop-i.i all_registers)) ++ with_line_end (line r)) (sym here)
@@ -19,6 +19,6 @@ loop-i-preserved g c =
 pub returns : goal.returns
 unfolding show_cop0_text
 returns g c =
-    let line : Register → List ℕ = cop0_line c.args.p c.args.machine.now.state in
+    let line : Register → List ℕ = cop0_line c.args.p c.args.core.now.state in
     let whole : c.loop-i.i ≡ 12 = omega arith in
     c.loop-i.invariant ∙ ap (λ n. text_of (map line (take n all_registers))) whole

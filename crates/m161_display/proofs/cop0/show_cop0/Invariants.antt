@@ -6,4 +6,4 @@ use Rattle.m161_display.proofs.cop0.show_cop0.Given as goal
 
 abbrev pub invariant-loop-i : goal.invariant-loop-i
 invariant-loop-i g l =
-    string_bytes l.text ≡ text_of (map (cop0_line l.p l.machine.state) (take l.i all_registers))
+    string_bytes l.text ≡ text_of (map (cop0_line l.p l.core.state) (take l.i all_registers))

@@ -6,5 +6,5 @@ use Rattle.m161_display.proofs.memory.show_mem.Goals as goal
 
 pub loop-i-preserved : goal.loop-i-preserved
 loop-i-preserved g c =
-    let line : ℕ → List ℕ = λ i. memory_line c.args.machine.now.state.memory (c.args.address + 4 * i) in
+    let line : ℕ → List ℕ = λ i. memory_line c.args.core.now.state.memory (c.args.address + 4 * i) in
     c.in_ok-write_word.ensures ∙ ap (λ bs. bs ++ with_line_end (line c.loop-i.i)) c.loop-i.invariant ∙ sym (counted_more line c.loop-i.i)

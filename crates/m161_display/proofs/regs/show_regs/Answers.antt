@@ -7,14 +7,14 @@ use Rattle.m161_display.proofs.regs.show_regs.Goals as goal
 
 pub loop-i-preserved : goal.loop-i-preserved
 loop-i-preserved g c =
-    let cpu = processor_at c.args.p c.args.machine.now.state.processors in
+    let cpu = processor_at c.args.p c.args.core.now.state.processors in
     c.in_ok-write_registers.ensures ∙ ap (λ bs. bs ++ with_line_end (registers_line cpu c.loop-i.i)) c.loop-i.invariant
     ∙ sym (counted_more_after (place_line c.args.p cpu) (registers_line cpu) c.loop-i.i)
 
 pub returns : goal.returns
 unfolding show_regs_text
 returns g c =
-    let cpu = processor_at c.args.p c.args.machine.now.state.processors in
+    let cpu = processor_at c.args.p c.args.core.now.state.processors in
     let first = place_line c.args.p cpu in
     let whole : c.loop-i.i ≡ 8 = omega arith in
     let so_far = c.loop-i.invariant ∙ ap (λ n. text_of (first ∷ numbered_lines n (registers_line cpu))) whole in

@@ -8,4 +8,4 @@ use Rattle.m161_display.proofs.regs.show_regs.Given as goal
 abbrev pub invariant-loop-i : goal.invariant-loop-i
 invariant-loop-i g l =
     string_bytes l.text
-    ≡ text_of (place_line l.p (processor_at l.p l.machine.state.processors) ∷ numbered_lines l.i (registers_line (processor_at l.p l.machine.state.processors)))
+    ≡ text_of (place_line l.p (processor_at l.p l.core.state.processors) ∷ numbered_lines l.i (registers_line (processor_at l.p l.core.state.processors)))

@@ -5,4 +5,4 @@ use Rattle.m161_display.proofs.started.show_where.Given as goal
 
 abbrev pub invariant-loop-p : goal.invariant-loop-p
 invariant-loop-p g l =
-    string_bytes l.text ≡ flat_map (where_text l.style l.machine.state) (range_with_len 0 l.p)
+    string_bytes l.text ≡ flat_map (where_text l.style l.core.state) (range_with_len 0 l.p)

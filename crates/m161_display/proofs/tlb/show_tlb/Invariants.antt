@@ -6,4 +6,4 @@ use Rattle.m161_display.proofs.tlb.show_tlb.Given as goal
 
 abbrev pub invariant-loop-i : goal.invariant-loop-i
 invariant-loop-i g l =
-    string_bytes l.text ≡ text_of (numbered_lines l.i (row_line (processor_at l.p l.machine.state.processors).rows))
+    string_bytes l.text ≡ text_of (numbered_lines l.i (row_line (processor_at l.p l.core.state.processors).rows))

@@ -3,7 +3,7 @@ use Rattle.std.proofs.lemmas.List.{length-take-le}
 use Rattle.m161_machine.specs.declared.event.Event.TheVariants.{Step}
 use Rattle.m161_machine.specs.State.{CoreValue, KeepsSizes}
 use Rattle.m161_machine.specs.History.{Continues, History}
-use Rattle.m161_machine.specs.helpers.Sound.{Advances}
+use Rattle.m161_machine.specs.Stretch.{Advances}
 use Rattle.m161_machine.specs.helpers.Window.{Slid}
 use Rattle.m161_machine.specs.History.{transfers_of}
 use Rattle.m161_machine.proofs.Made.{counted}

@@ -6,7 +6,7 @@ ghost use Rattle.m161_cpu.specs.declared.processor.Outcome.TheVariants as outcom
 ghost use Rattle.m161_cpu.specs.Step.{AreTwoRows, IsOfStep};
 ghost use Rattle.m161_machine.specs.declared.event.Event.TheVariants as events;
 ghost use Rattle.m161_machine.specs.History.{entry, is_step_of};
-ghost use Rattle.m161_machine.specs.helpers.Kept.{number_of_vector, outcome_with, place_of, vector_with};
+ghost use Rattle.m161_machine.specs.Packed.{number_of_vector, outcome_with, place_of, vector_with};
 
 use crate::event::{Entry, Event};
 use m161_cop0::Exception;
@@ -23,16 +23,16 @@ const KEY: u32 = 62;
 /// The code of a byte that was sent.
 const DONE: u32 = 63;
 
-/// A stored entry. Contracts see it as the entry.
+/// An entry in the four bytes in which it is stored. Contracts see it as the entry.
 #[derive(Clone, Copy)]
-pub(crate) struct Kept {
+pub struct PackedEntry {
     word: u32,
 }
 
-impl Model for Kept {
+impl Model for PackedEntry {
     ghost use Rattle.std.specs.Prelude.{◌≡◌, ◌/◌, ◌%◌, ◌^◌, ◌<◌};
     ghost use Rattle.m161_machine.specs.declared.event.Entry.{Entry};
-    ghost use Rattle.m161_machine.specs.helpers.Kept.{entry_in_word, word_of_entry};
+    ghost use Rattle.m161_machine.specs.Packed.{entry_in_word, word_of_entry};
 
     ghost Value = { Entry };
 
@@ -152,37 +152,44 @@ fn outcome_at(code: u32, rows: u32) -> Outcome
     }
 }
 
-impl Kept {
+impl PackedEntry {
     /// A Step of a processor, and its outcome.
     #[inline(always)]
-    pub(crate) fn of_step(p: u32, outcome: Outcome) -> Kept
+    pub(crate) fn of_step(p: u32, outcome: Outcome) -> PackedEntry
         requires small { p < 32 }
         requires proper { IsOfStep outcome }
         ensures { result ≡ entry (events.Step p) outcome }
     {
-        Kept {
+        PackedEntry {
             word: p * 64 + place(outcome),
         }
     }
 
     /// A typed byte.
-    pub(crate) fn of_key(byte: u8) -> Kept
+    pub(crate) fn of_key(byte: u8) -> PackedEntry
         ensures { result ≡ entry (events.Key byte) outcomes.Taken }
     {
-        Kept {
+        PackedEntry {
             word: u32::from(byte) * 64 + KEY,
         }
     }
 
     /// A byte that was sent.
-    pub(crate) fn of_done() -> Kept
+    pub(crate) fn of_done() -> PackedEntry
         ensures { result ≡ entry events.Done outcomes.Taken }
     {
-        Kept { word: DONE }
+        PackedEntry { word: DONE }
+    }
+
+    /// An entry that is to be written over.
+    pub fn blank() -> PackedEntry
+        ensures { result ≡ entry (events.Step 0) outcomes.Ran }
+    {
+        PackedEntry::of_step(0, Outcome::Ran)
     }
 
     /// The entry.
-    pub(crate) fn entry(&self) -> Entry
+    pub fn entry(&self) -> Entry
         ensures { result ≡ self.now }
     {
         match self.word % 64 {
@@ -211,12 +218,12 @@ impl Kept {
 }
 
 /// Entries that are to be written over.
-pub(crate) fn blanks(alloc: Global, number: usize) -> Result<Vec<Kept>, AllocError>
+pub(crate) fn blanks(alloc: Global, number: usize) -> Result<Vec<PackedEntry>, AllocError>
     ensures { IfOk result (λ blanks. length blanks.items ≡ number) }
 {
     let mut blanks = Vec::with_capacity(alloc, number)?;
     for _blank in 0..number {
-        blanks.push_reserved(Kept::of_step(0, Outcome::Ran));
+        blanks.push_reserved(PackedEntry::blank());
     }
     Ok(blanks)
 }

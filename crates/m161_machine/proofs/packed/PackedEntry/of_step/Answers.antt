@@ -1,9 +1,9 @@
 use Rattle.std.proofs.Common.{◌∙◌, ◌+◌, ◌*◌, ap, sym, arith}
 use Rattle.m161_machine.specs.declared.event.Event.TheVariants.{Step}
 use Rattle.m161_machine.specs.History.{entry}
-use Rattle.m161_machine.specs.helpers.Kept.{place_of, word_of_entry}
+use Rattle.m161_machine.specs.Packed.{place_of, word_of_entry}
 use Rattle.m161_machine.proofs.Places.{step_word}
-use Rattle.m161_machine.proofs.kept.Kept.of_step.Goals as goal
+use Rattle.m161_machine.proofs.packed.PackedEntry.of_step.Goals as goal
 
 pub invariant_of-result : goal.invariant_of-result
 invariant_of-result c = (

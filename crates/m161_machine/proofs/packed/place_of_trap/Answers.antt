@@ -1,8 +1,8 @@
 use Rattle.std.proofs.Common.{◌≡◌, ◌∙◌, ◌+◌, ◌*◌, ◌%◌, ap, arith}
 use Rattle.m161_cpu.specs.declared.processor.Outcome.TheVariants.{Trapped}
-use Rattle.m161_machine.specs.helpers.Kept.{or_interrupt, vector_with}
+use Rattle.m161_machine.specs.Packed.{or_interrupt, vector_with}
 use Rattle.m161_machine.proofs.Places.{trap_place}
-use Rattle.m161_machine.proofs.kept.place_of_trap.Goals as goal
+use Rattle.m161_machine.proofs.packed.place_of_trap.Goals as goal
 
 pub returns-clause-value : goal.returns-clause-value
 returns-clause-value c =
