@@ -2,3 +2,4 @@ pub mod Failing
 mod Named
 mod Plain
 mod Sampled
+pub mod Putting

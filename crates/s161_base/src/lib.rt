@@ -12,6 +12,8 @@ mod laws;
 mod line;
 pub mod machines;
 pub mod naming;
+mod pieces;
+pub mod report;
 pub mod sample;
 pub mod sizes;
 pub mod streams;

@@ -26,8 +26,8 @@ use Rattle.s161_base.specs.Naming.{style_of}
 use Rattle.s161_base.specs.Reading.{IsFileUnread, IsOfBytes, IsOfText}
 use Rattle.s161_base.specs.Samples.{IsFileName}
 use Rattle.s161_base.specs.Streams.{AreUntouched, Streams}
-use Rattle.s161_drive.specs.Driven.{AreKeys, IsKeysFile, rules_of}
-use Rattle.s161_drive.specs.Schedules.{Chose, log_for}
+use Rattle.s161_run.specs.Driven.{AreKeys, IsKeysFile, rules_of}
+use Rattle.s161_run.specs.Schedules.{Chose, log_for}
 use Rattle.s161_debug.specs.Sessions.{Breaks, Ends, session_of}
 
 -- The inputs of `debug`: its image, and its list of events.

@@ -24,8 +24,8 @@ use s161_base::naming::style_of;
 use s161_base::sample::read_image;
 use s161_base::texts::{events_of, log_of};
 use s161_command::{AskedSize, DebugTask, Drive, Registers, Source};
-use s161_drive::policy::read_keys;
-use s161_drive::schedule::{chosen_events, events_made, log_for};
+use s161_run::policy::read_keys;
+use s161_run::schedule::{chosen_events, events_made, log_for};
 use std::alloc::Global;
 
 /// The machine of a session, its events, and how it shows registers and addresses.

@@ -5,7 +5,7 @@ use Rattle.m161_judge.specs.Run.{BootsState, Runs}
 use Rattle.m161_drive.specs.Policy.{Rules}
 use Rattle.m161_machine.specs.declared.conf.BootError.{BootError}
 use Rattle.m161_machine.specs.History.{boot_fault}
-use Rattle.s161_audit.specs.Audits.{fault_of_audit}
+use Rattle.s161_search.specs.Audits.{fault_of_audit}
 use Rattle.s161_base.proofs.Failing.{boot_fails}
 use Rattle.s161_base.specs.Faults.{fault_of_boot}
 use Rattle.s161_base.specs.declared.fault.Fault.{Fault}

@@ -11,7 +11,7 @@ use Rattle.m161_audit.specs.declared.watch.Watch.{Watch}
 use Rattle.m161_machine.specs.declared.conf.Conf.{Conf}
 use Rattle.m161_order.specs.declared.order.Order.{Order}
 use Rattle.s161_command.specs.declared.drive.Drive.{Drive}
-use Rattle.s161_drive.specs.Driven.{rules_of}
+use Rattle.s161_run.specs.Driven.{rules_of}
 use Rattle.m161_judge.specs.Verdict.{Criteria, IsJudged, rank}
 use Rattle.m161_drive.specs.Policy.{Rules}
 use Rattle.m161_machine.specs.declared.conf.BootError.{BootError}

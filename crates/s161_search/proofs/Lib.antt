@@ -1,3 +1,4 @@
+pub mod Unaudited
 pub mod Booting
 pub mod Reading
 pub mod Failing

@@ -1,11 +1,11 @@
 use Rattle.std.proofs.Common.{◌≡◌, ℕ, List, Option, None, Some, IfSome, Bor, refl, subst, sym}
 use Rattle.m161_audit.specs.declared.watch.Watch.{Watch}
-use Rattle.s161_audit.proofs.Failing.{watches_failed}
+use Rattle.s161_search.proofs.Unaudited.{watches_failed}
 use Rattle.s161_base.specs.declared.fault.Fault.{Fault}
 use Rattle.s161_base.specs.declared.fault.Fault.TheVariants.{File, Memory, Watches}
 use Rattle.s161_base.specs.declared.fault.Unread.TheVariants.{NotUtf8}
 use Rattle.s161_base.specs.Known.{IsText}
-use Rattle.s161_audit.specs.Audits.{IsWatchesFault}
+use Rattle.s161_search.specs.Audits.{IsWatchesFault}
 use Rattle.s161_search.specs.Given.{AreWatchesOf, IsBadLine, IsWatchesFile}
 use Rattle.s161_search.specs.helpers.Watches.{AreWatchesIn, IsFaultIn, IsTextOf}
 

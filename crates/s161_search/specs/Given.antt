@@ -8,8 +8,8 @@ use Rattle.s161_command.specs.declared.task.SearchTask.{SearchTask}
 use Rattle.s161_base.specs.declared.fault.Fault.{Fault}
 use Rattle.s161_base.specs.Known.{OfKnown, OfText}
 use Rattle.s161_base.specs.Reading.{IsFileUnread, IsOfText}
-use Rattle.s161_audit.specs.Audits.{OfWatches}
-use Rattle.s161_drive.specs.Driven.{AreKeys}
+use Rattle.s161_search.specs.Audits.{OfWatches}
+use Rattle.s161_run.specs.Driven.{AreKeys}
 
 -- What a search reads.
 

@@ -1,3 +1,4 @@
+pub mod Audits
 pub mod Given
 pub mod Seeds
 pub mod Texts

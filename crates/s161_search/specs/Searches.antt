@@ -15,7 +15,7 @@ use Rattle.s161_base.specs.declared.fault.Fault.TheVariants.{Conf, File, Image, 
 use Rattle.s161_base.specs.Reading.{IsOfBytes}
 use Rattle.s161_base.specs.Samples.{IsFileName}
 use Rattle.s161_command.specs.declared.task.SearchTask.{SearchTask}
-use Rattle.s161_drive.specs.Driven.{IsKeysFile}
+use Rattle.s161_run.specs.Driven.{IsKeysFile}
 use Rattle.s161_search.specs.Given.{Given, IsBadLine, IsGiven, IsWatchesFile, criteria_of}
 use Rattle.s161_search.specs.Seeds.{AreClean, IsFirstWrong, IsRunFault, search_conf, seed_at}
 use Rattle.s161_search.specs.Texts.{clean_text, found_text}

@@ -14,8 +14,8 @@ use Rattle.s161_base.specs.declared.fault.Fault.TheVariants.{Conf, Image, Memory
 use Rattle.s161_base.specs.Sizes.{conf_of}
 use Rattle.s161_command.specs.declared.drive.Drive.{Drive}
 use Rattle.s161_command.specs.declared.task.SearchTask.{SearchTask}
-use Rattle.s161_drive.specs.Driven.{rules_of}
-use Rattle.s161_drive.specs.Schedules.{log_for}
+use Rattle.s161_run.specs.Driven.{rules_of}
+use Rattle.s161_run.specs.Schedules.{log_for}
 use Rattle.s161_search.specs.Given.{Given, criteria_of}
 
 -- The seeds that a search tries.

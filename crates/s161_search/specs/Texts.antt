@@ -6,8 +6,8 @@ use Rattle.m161_machine.specs.declared.event.Event.{Event}
 use Rattle.m161_steplog.specs.Written.{schedule_text}
 use Rattle.m161_text.specs.Lines.{with_line_end}
 use Rattle.m161_text.specs.Parts.{◌␣◌}
-use Rattle.s161_audit.specs.Audits.{finding_text}
-use Rattle.s161_runs.specs.Runs.{conflict_text}
+use Rattle.s161_search.specs.Audits.{finding_text}
+use Rattle.s161_run.specs.Runs.{conflict_text}
 
 -- What a search prints.
 

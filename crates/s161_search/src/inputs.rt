@@ -4,20 +4,20 @@ ghost use Rattle.std.specs.Prelude.{◌≡◌, ◌⊎◌, ℕ, [], List, IfErr, 
 ghost use Rattle.m161_judge.specs.Judge.{bytes_of};
 ghost use Rattle.s161_base.specs.Known.{IsText};
 ghost use Rattle.s161_base.specs.Samples.{image_file};
-ghost use Rattle.s161_drive.specs.Driven.{IsKeysFile};
+ghost use Rattle.s161_run.specs.Driven.{IsKeysFile};
 ghost use Rattle.s161_search.specs.Given.{IsGiven, IsOutputOf, IsWatchesFile};
 ghost use Rattle.s161_search.specs.helpers.Inputs.{given_of};
 ghost use Rattle.s161_search.specs.Searches.{IsSearchFault};
 ghost use Rattle.s161_search.specs.helpers.Watches.{AreWatchesIn, IsFaultIn, IsTextOf};
 
+use crate::watches::watches_of;
 use m161_audit::Watch;
-use s161_audit::watches::watches_of;
 use s161_base::fault::{Fault, Unread};
 use s161_base::files::FileSource;
 use s161_base::input::{read_file, read_text};
 use s161_base::sample::read_image;
 use s161_command::SearchTask;
-use s161_drive::policy::read_keys;
+use s161_run::policy::read_keys;
 use std::alloc::Global;
 
 /// What a search reads: the image, the keys, and by what runs are judged.

@@ -9,17 +9,17 @@ ghost use Rattle.s161_search.specs.helpers.Inputs.{given_of};
 ghost use Rattle.s161_search.specs.Seeds.{IsRunAt, IsRunFault, search_conf, seed_at, seed_of, with_seed};
 ghost use Rattle.s161_search.specs.helpers.Tried.{IsTried};
 
+use crate::audit::fault_of_audit;
 use crate::inputs::Inputs;
 use m161::{Console, Tlb};
 use m161_drive::Policy;
 use m161_judge::{Booted, Judged, Run, judge_booted};
 use m161_machine::Conf;
 use m161_order::Order;
-use s161_audit::audit::fault_of_audit;
 use s161_base::fault::Fault;
 use s161_base::sizes::conf_of;
 use s161_command::SearchTask;
-use s161_drive::schedule::log_for;
+use s161_run::schedule::log_for;
 use std::alloc::Global;
 
 /// The first run that goes wrong.

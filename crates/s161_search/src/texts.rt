@@ -5,12 +5,12 @@ ghost use Rattle.m161_text.specs.Lines.{with_line_end};
 ghost use Rattle.m161_text.specs.Parts.{◌␣◌};
 ghost use Rattle.s161_search.specs.Texts.{clean_text, found_text, verdict_text};
 
+use crate::audit::ShownFinding;
 use m161_audit::Finding;
 use m161_judge::Verdict;
 use m161_machine::Event;
 use m161_steplog::write_schedule;
-use s161_audit::audit::ShownFinding;
-use s161_runs::events::ShownConflict;
+use s161_run::events::ShownConflict;
 use std::alloc::{AllocError, Global};
 use std::fmt;
 

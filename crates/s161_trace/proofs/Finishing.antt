@@ -21,9 +21,9 @@ use Rattle.s161_base.specs.declared.fault.Fault.{Fault}
 use Rattle.s161_base.specs.declared.fault.Fault.TheVariants.{Memory}
 use Rattle.s161_command.specs.declared.drive.Drive.{Drive}
 use Rattle.s161_command.specs.declared.task.TraceTask.{TraceTask}
-use Rattle.s161_drive.specs.Driven.{AreKeys, IsDrivenFault, rules_of, stop_of}
-use Rattle.s161_runs.specs.declared.events.Stop.{Stop}
-use Rattle.s161_runs.specs.Runs.{IsFaultOf, MakesEvents, stop_line}
+use Rattle.s161_run.specs.Driven.{AreKeys, IsDrivenFault, rules_of, stop_of}
+use Rattle.s161_run.specs.declared.events.Stop.{Stop}
+use Rattle.s161_run.specs.Runs.{IsFaultOf, MakesEvents, stop_line}
 use Rattle.s161_trace.specs.declared.lines.Lines.{Lines}
 use Rattle.s161_trace.specs.declared.window.Window.{Window}
 use Rattle.s161_trace.specs.Traces.{Begins, BootsFor, IsEarlyFault, IsTraceFault, IsTraced, IsUnread, Runs, driven_of, lines_text, run_of, trace_text, traced}

@@ -7,9 +7,9 @@ use Rattle.m161_machine.specs.State.{next}
 use Rattle.m161_machine.specs.History.{Continues, History, Refuses}
 use Rattle.m161_machine.proofs.Continuing.{repeats_more}
 use Rattle.s161_base.specs.declared.fault.Fault.{Fault}
-use Rattle.s161_runs.specs.declared.events.Stop.TheVariants.{End, Refused}
-use Rattle.s161_runs.specs.Runs.{stop_off}
-use Rattle.s161_runs.proofs.Making.{at_most_all, run_made, run_passed, run_refused, run_within, stopped_off, switched}
+use Rattle.s161_run.specs.declared.events.Stop.TheVariants.{End, Refused}
+use Rattle.s161_run.specs.Runs.{stop_off}
+use Rattle.s161_run.proofs.Making.{at_most_all, run_made, run_passed, run_refused, run_within, stopped_off, switched}
 use Rattle.s161_trace.specs.declared.lines.Lines.{Lines}
 use Rattle.s161_trace.specs.helpers.Printing.{FailsToPrint, Prints}
 use Rattle.s161_trace.specs.helpers.Scheduled.{FailsAlike, FailsInSchedule, FailsOnce, PrintsSchedule, Turn, TurnsAlike}

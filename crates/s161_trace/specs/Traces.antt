@@ -25,9 +25,9 @@ use Rattle.s161_command.specs.declared.task.DrivenTask.{DrivenTask}
 use Rattle.s161_command.specs.declared.task.RunTask.{RunTask}
 use Rattle.s161_command.specs.declared.task.Shown.TheVariants.{Summary}
 use Rattle.s161_command.specs.declared.task.TraceTask.{TraceTask}
-use Rattle.s161_drive.specs.Driven.{AreKeys, IsDrivenFault, rules_of, stop_of}
-use Rattle.s161_runs.specs.declared.events.Stop.{Stop}
-use Rattle.s161_runs.specs.Runs.{IsFaultOf, MakesEvents, stop_line}
+use Rattle.s161_run.specs.Driven.{AreKeys, IsDrivenFault, rules_of, stop_of}
+use Rattle.s161_run.specs.declared.events.Stop.{Stop}
+use Rattle.s161_run.specs.Runs.{IsFaultOf, MakesEvents, stop_line}
 
 -- A line for each event of a run, and last why the run stopped.
 

@@ -4,7 +4,7 @@ ghost use Rattle.std.specs.Prelude.{◌≡◌, ◌<◌, ◌-◌, ◌^◌, None, 
 ghost use Rattle.m161_order.specs.Order.{order_fault};
 ghost use Rattle.m161_drive.specs.declared.run.Driven.{Driven};
 ghost use Rattle.m161_drive.specs.Drive.{Drives};
-ghost use Rattle.s161_drive.specs.Driven.{rules_of, stop_of};
+ghost use Rattle.s161_run.specs.Driven.{rules_of, stop_of};
 ghost use Rattle.s161_trace.specs.helpers.Driven.{DrivesAll, DrivesSome, FailsInDrive, FailsOnce, PrintsDrive, Turn, last_stop};
 ghost use Rattle.s161_trace.specs.helpers.Printing.{IsPrinted, IsUnprinted};
 
@@ -14,8 +14,8 @@ use m161::Machine;
 use m161_drive::{Cursor, Driven, Policy, Stop};
 use s161_base::fault::Fault;
 use s161_command::Drive;
-use s161_drive::driven::stop_of;
-use s161_runs::events::Stop as Told;
+use s161_run::driven::stop_of;
+use s161_run::events::Stop as Told;
 use std::alloc::Global;
 use std::io::Write;
 

@@ -5,7 +5,7 @@ ghost use Rattle.std.specs.Io.KnownBytes.{Appends};
 ghost use Rattle.m161_machine.specs.State.{State, next};
 ghost use Rattle.m161_text.specs.Lines.{with_line_end};
 ghost use Rattle.m161_trace.specs.Line.{event_line};
-ghost use Rattle.s161_runs.specs.Runs.{stop_line};
+ghost use Rattle.s161_run.specs.Runs.{stop_line};
 ghost use Rattle.m161_cpu.specs.declared.processor.Outcome.{Outcome};
 ghost use Rattle.s161_trace.specs.helpers.Printing.{FailsToPrint, FailsToPut, IsNew, Prints, PutsOut, has_line};
 
@@ -15,7 +15,7 @@ use m161_machine::{Event, Outcome};
 use m161_trace::Tracer;
 use s161_base::fault::Fault;
 use s161_base::streams::send;
-use s161_runs::events::Stop;
+use s161_run::events::Stop;
 use std::alloc::{AllocError, Global};
 use std::io::Write;
 

@@ -1,7 +1,7 @@
 //! Printing the lines of a run by a schedule.
 
 ghost use Rattle.std.specs.Prelude.{◌≡◌, ◌<◌, ◌≤◌, ◌+◌, ◌-◌, ◌^◌, IfErr, IfOk, take};
-ghost use Rattle.s161_runs.specs.Runs.{MakesEvents};
+ghost use Rattle.s161_run.specs.Runs.{MakesEvents};
 ghost use Rattle.s161_trace.specs.helpers.Printing.{IsPrinted, IsUnprinted};
 ghost use Rattle.s161_trace.specs.helpers.Scheduled.{FailsAlike, FailsInSchedule, FailsOnce, MakesAll, MakesSome, PrintsSchedule, Turn, TurnsAlike};
 
@@ -10,7 +10,7 @@ use crate::window::Window;
 use m161::Machine;
 use m161_machine::{Event, Events, Refusal};
 use s161_base::fault::Fault;
-use s161_runs::events::{Stop, stop_off};
+use s161_run::events::{Stop, stop_off};
 use std::alloc::Global;
 use std::io::Write;
 

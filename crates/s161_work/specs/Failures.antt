@@ -12,16 +12,16 @@ use Rattle.s161_base.specs.declared.fault.Fault.TheVariants.{Memory, Output}
 use Rattle.s161_base.specs.FaultLines.{fault_line}
 use Rattle.s161_base.specs.Samples.{image_file}
 use Rattle.s161_base.specs.Streams.{AppendsSome}
-use Rattle.s161_audit.specs.Audits.{IsAuditFault}
-use Rattle.s161_console.specs.Consoles.{IsConsoleFault, IsConsoleRun}
+use Rattle.s161_search.specs.Audits.{IsAuditFault}
+use Rattle.s161_run.specs.Consoles.{IsConsoleFault, IsConsoleRun}
 use Rattle.s161_debug.specs.Debugs.{IsDebugFault}
-use Rattle.s161_drive.specs.Driven.{IsDrivenFault}
-use Rattle.s161_drive.specs.Schedules.{IsScheduledFault}
-use Rattle.s161_runs.specs.Replays.{IsReplayFault}
-use Rattle.s161_runs.specs.Runs.{IsFaultOf, stop_line}
-use Rattle.s161_runs.specs.declared.events.Stop.{Stop}
+use Rattle.s161_run.specs.Driven.{IsDrivenFault}
+use Rattle.s161_run.specs.Schedules.{IsScheduledFault}
+use Rattle.s161_run.specs.Replays.{IsReplayFault}
+use Rattle.s161_run.specs.Runs.{IsFaultOf, stop_line}
+use Rattle.s161_run.specs.declared.events.Stop.{Stop}
 use Rattle.s161_search.specs.Searches.{IsSearchFault}
-use Rattle.s161_threads.specs.Threads.{IsThreadsFault}
+use Rattle.s161_run.specs.Threads.{IsThreadsFault}
 use Rattle.s161_trace.specs.Traces.{IsTraceFault}
 use Rattle.s161_work.specs.Assemblies.{IsAssemblyFault}
 use Rattle.s161_work.specs.Listings.{IsListingFault}

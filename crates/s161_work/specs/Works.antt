@@ -10,21 +10,21 @@ use Rattle.s161_command.specs.declared.task.Task.{Task}
 use Rattle.s161_command.specs.declared.task.Task.TheVariants.{Assemble, Audit, Console, Debug, Demo, Disassemble, Replay, Run, RunDriven, RunInThreads, Schedule, Search, Trace}
 use Rattle.m161_text.specs.Lines.{with_line_end}
 use Rattle.s161_texts.specs.Assemblies.{IsAssembled}
-use Rattle.s161_audit.specs.Audits.{IsAudited}
+use Rattle.s161_search.specs.Audits.{IsAudited}
 use Rattle.s161_command.specs.Commands.{ClashesIn, GoTogether, IsAccepted, IsHelp, IsTask, command_line}
-use Rattle.s161_console.specs.Consoles.{IsConsoleRun}
+use Rattle.s161_run.specs.Consoles.{IsConsoleRun}
 use Rattle.s161_base.specs.Streams.{Streams, streams}
 use Rattle.s161_debug.specs.Debugs.{IsDebug}
-use Rattle.s161_drive.specs.Driven.{IsDriven}
-use Rattle.s161_drive.specs.Schedules.{IsScheduled}
-use Rattle.s161_runs.specs.Demos.{IsDemo}
+use Rattle.s161_run.specs.Driven.{IsDriven}
+use Rattle.s161_run.specs.Schedules.{IsScheduled}
+use Rattle.s161_run.specs.Demos.{IsDemo}
 use Rattle.s161_texts.specs.Listings.{IsDisassembled}
-use Rattle.s161_runs.specs.Replays.{IsReplayed}
-use Rattle.s161_runs.specs.Runs.{IsRun, status_of, stop_line}
-use Rattle.s161_runs.specs.declared.events.Stop.{Stop}
+use Rattle.s161_run.specs.Replays.{IsReplayed}
+use Rattle.s161_run.specs.Runs.{IsRun, status_of, stop_line}
+use Rattle.s161_run.specs.declared.events.Stop.{Stop}
 use Rattle.s161_search.specs.Searches.{IsSearched}
 use Rattle.s161_base.specs.Samples.{image_file}
-use Rattle.s161_threads.specs.Threads.{IsRunInThreads}
+use Rattle.s161_run.specs.Threads.{IsRunInThreads}
 use Rattle.s161_trace.specs.Traces.{IsTraced}
 
 -- The effect of a command line.

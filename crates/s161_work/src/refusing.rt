@@ -12,9 +12,9 @@ ghost use Rattle.s161_work.specs.helpers.Refusals.{IsHelped, IsSaid, IsUnsaid};
 use clap::Error;
 use clap::error::ErrorKind;
 use s161_base::fault::Fault;
+use s161_base::report::report;
 use s161_base::streams::send;
 use s161_command::{Clash, Rejection};
-use s161_report::report;
 use std::alloc::Global;
 use std::io::Write;
 

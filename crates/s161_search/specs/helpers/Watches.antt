@@ -5,7 +5,7 @@ use Rattle.m161_audit.specs.WatchText.{AreWatches}
 use Rattle.m161_text.specs.Lines.{lines_of}
 use Rattle.s161_base.specs.declared.fault.Fault.{Fault}
 use Rattle.s161_base.specs.Known.{OfText}
-use Rattle.s161_audit.specs.Audits.{IsWatchesFault}
+use Rattle.s161_search.specs.Audits.{IsWatchesFault}
 
 -- The text of the watches, if there is one.
 

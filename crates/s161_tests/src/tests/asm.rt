@@ -3,7 +3,7 @@
 use super::same;
 use super::texts::line_of;
 use m161_asm::assemble;
-use s161_runs::demo::IMAGE;
+use s161_run::demo::IMAGE;
 use s161_texts::assembly::assembly;
 use std::alloc::Global;
 use std::test::Fail;

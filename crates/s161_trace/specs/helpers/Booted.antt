@@ -6,7 +6,7 @@ use Rattle.s161_base.specs.declared.fault.Fault.{Fault}
 use Rattle.s161_base.specs.Faults.{BootsTo, fault_of_boot}
 use Rattle.s161_base.specs.Sizes.{conf_of}
 use Rattle.s161_command.specs.declared.task.TraceTask.{TraceTask}
-use Rattle.s161_runs.specs.declared.events.Stop.{Stop}
+use Rattle.s161_run.specs.declared.events.Stop.{Stop}
 use Rattle.s161_trace.specs.helpers.Printing.{IsPrinted, IsUnprinted, window_of}
 
 -- Runs from the boot of a file on, whose lines are printed: `IsAll` is what is said of the events of

@@ -11,8 +11,8 @@ use Rattle.m161_drive.specs.Drive.{Chooses, Drives}
 use Rattle.m161_drive.specs.Policy.{Rules}
 use Rattle.m161_drive.specs.helpers.Drive.{Makes, Rests}
 use Rattle.s161_base.specs.declared.fault.Fault.{Fault}
-use Rattle.s161_drive.specs.Driven.{stop_of}
-use Rattle.s161_runs.specs.declared.events.Stop.{Stop as Told}
+use Rattle.s161_run.specs.Driven.{stop_of}
+use Rattle.s161_run.specs.declared.events.Stop.{Stop as Told}
 use Rattle.s161_trace.specs.declared.lines.Lines.{Lines}
 use Rattle.s161_trace.specs.helpers.Printing.{FailsToPrint, Prints}
 

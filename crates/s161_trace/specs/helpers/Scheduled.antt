@@ -5,8 +5,8 @@ use Rattle.m161_machine.specs.declared.event.Refusal.{Refusal}
 use Rattle.m161_machine.specs.State.{next}
 use Rattle.m161_machine.specs.History.{Answers, Continues, History, Refuses}
 use Rattle.s161_base.specs.declared.fault.Fault.{Fault}
-use Rattle.s161_runs.specs.declared.events.Stop.{Stop}
-use Rattle.s161_runs.specs.Runs.{MakesEvents}
+use Rattle.s161_run.specs.declared.events.Stop.{Stop}
+use Rattle.s161_run.specs.Runs.{MakesEvents}
 use Rattle.s161_trace.specs.declared.lines.Lines.{Lines}
 use Rattle.s161_trace.specs.helpers.Printing.{FailsToPrint, Prints}
 

@@ -2,7 +2,7 @@ use Rattle.std.proofs.Common.{◌≡◌, ◌≤◌, ℕ, ap, subst, sym}
 use Rattle.m161_machine.specs.declared.conf.Conf.{Conf}
 use Rattle.m161_machine.specs.History.{boot_fault}
 use Rattle.s161_base.specs.Faults.{BootsTo}
-use Rattle.s161_drive.proofs.Keeping.{booted_ok, log_within}
+use Rattle.s161_run.proofs.Keeping.{booted_ok, log_within}
 use Rattle.s161_debug.specs.Debugs.{driven_conf}
 use Rattle.s161_debug.specs.helpers.Debugs.{IsBootFault}
 use Rattle.s161_debug.proofs.Results.{if_err, if_ok}

@@ -1,6 +1,6 @@
 use Rattle.std.proofs.Common.{None, inl, inr, refl, subst, sym}
 use Rattle.std.proofs.lemmas.Result.{err_from_is_err_and}
-use Rattle.s161_drive.specs.Driven.{AreKeys}
+use Rattle.s161_run.specs.Driven.{AreKeys}
 use Rattle.s161_debug.proofs.Results.{if_err, if_ok}
 use Rattle.s161_debug.proofs.opening.open_driven.Goals as goal
 

@@ -1,6 +1,6 @@
 use Rattle.std.proofs.Common.{◌≡◌, Err, Ok, refl, subst, sym}
 use Rattle.m161_machine.specs.History.{boot_fault}
-use Rattle.s161_drive.specs.Driven.{rules_of}
+use Rattle.s161_run.specs.Driven.{rules_of}
 use Rattle.s161_search.specs.helpers.Inputs.{given_of}
 use Rattle.s161_search.specs.Seeds.{IsRunFault, drive_at, search_conf}
 use Rattle.s161_search.proofs.Failing.{run_failed}

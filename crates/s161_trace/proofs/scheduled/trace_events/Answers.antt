@@ -1,8 +1,8 @@
 use Rattle.std.proofs.Common.{◌≡◌, ◌∙◌, ap, arith, refl, rules, subst, sym}
 use Rattle.std.proofs.lemmas.Result.{err_from_is_err_and}
 use Rattle.m161_machine.proofs.Continuing.{continues_none}
-use Rattle.s161_runs.specs.declared.events.Stop.{Stop}
-use Rattle.s161_runs.specs.Runs.{stop_off}
+use Rattle.s161_run.specs.declared.events.Stop.{Stop}
+use Rattle.s161_run.specs.Runs.{stop_off}
 use Rattle.s161_trace.specs.helpers.Scheduled.{PrintsSchedule}
 use Rattle.s161_trace.proofs.Printing.{prints_none}
 use Rattle.s161_trace.proofs.Scheduling.{ended_then, fails_then, first_then, off_then, passed_then, prints_then, refused_at, within_then}

@@ -1,4 +1,4 @@
-use Rattle.s161_drive.proofs.Keeping.{keys_are}
+use Rattle.s161_run.proofs.Keeping.{keys_are}
 use Rattle.s161_trace.proofs.trace.read_driven.Goals as goal
 
 pub returns-clause-keys : goal.returns-clause-keys

@@ -2,7 +2,7 @@ use Rattle.std.proofs.Common.{◌≡◌, List, ℕ, IfSome, rules, subst, sym}
 use Rattle.s161_base.proofs.Failing.{schedule_failed}
 use Rattle.s161_base.specs.Known.{IsText}
 use Rattle.s161_base.specs.Samples.{image_file}
-use Rattle.s161_runs.specs.Runs.{IsFaultOf}
+use Rattle.s161_run.specs.Runs.{IsFaultOf}
 use Rattle.s161_trace.specs.Traces.{run_of}
 use Rattle.s161_trace.proofs.trace.read_scheduled.Goals as goal
 

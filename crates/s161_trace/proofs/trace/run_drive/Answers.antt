@@ -2,7 +2,7 @@ use Rattle.std.proofs.Common.{subst, Err}
 use Rattle.std.proofs.lemmas.Result.{err_from_is_err_and}
 use Rattle.m161_machine.specs.History.{Boots, boot_fault}
 use Rattle.s161_base.specs.Faults.{BootsTo}
-use Rattle.s161_drive.specs.Driven.{rules_of}
+use Rattle.s161_run.specs.Driven.{rules_of}
 use Rattle.s161_trace.specs.helpers.Booted.{FailsRun}
 use Rattle.s161_trace.specs.helpers.Driven.{DrivesAll, DrivesSome}
 use Rattle.s161_trace.proofs.Finishing.{drive_printed, ends_so, not_booted, run_fails, without_window}

@@ -3,7 +3,7 @@ use Rattle.std.proofs.lemmas.Result.{err_from_is_err_and}
 use Rattle.s161_base.specs.declared.fault.Fault.{Fault}
 use Rattle.s161_base.specs.Samples.{image_file}
 use Rattle.s161_base.specs.Streams.{streams}
-use Rattle.s161_drive.specs.Driven.{AreKeys}
+use Rattle.s161_run.specs.Driven.{AreKeys}
 use Rattle.s161_trace.specs.Traces.{IsTraceFault}
 use Rattle.s161_trace.proofs.Finishing.{drive_bad, drive_early, drive_ok, ends_so}
 use Rattle.s161_trace.proofs.trace.trace_driven.Goals as goal

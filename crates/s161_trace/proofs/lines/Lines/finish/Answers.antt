@@ -4,7 +4,7 @@ use Rattle.std.specs.Prelude.{string_bytes}
 use Rattle.std.specs.Io.KnownBytes.{Appends}
 use Rattle.m161_text.specs.Lines.{with_line_end}
 use Rattle.s161_base.specs.Streams.{AppendsSome}
-use Rattle.s161_runs.specs.Runs.{stop_line}
+use Rattle.s161_run.specs.Runs.{stop_line}
 use Rattle.s161_trace.specs.helpers.Printing.{FailsToPut, PutsOut}
 use Rattle.s161_trace.proofs.Printing.{fails_end, puts_end, some_none}
 use Rattle.s161_trace.proofs.lines.Lines.finish.Goals as goal

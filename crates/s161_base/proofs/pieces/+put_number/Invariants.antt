@@ -1,0 +1,4 @@
+use Rattle.s161_base.proofs.pieces.+put_number.Given as goal
+
+abbrev pub decreases-put_number : goal.decreases-put_number
+decreases-put_number g l = l.n

@@ -1,0 +1,135 @@
+//! The line of a fault.
+
+ghost use Rattle.std.specs.Prelude.{◌≡◌, ◌++◌, IfErr, OnOk, codes, decimal, option_map};
+ghost use Rattle.std.specs.Io.KnownBytes.{Appends};
+ghost use Rattle.m161_text.specs.Lines.{with_line_end};
+ghost use Rattle.m161_text.specs.Parts.{◌␣◌};
+ghost use Rattle.s161_base.specs.FaultLines.{fault_head, fault_line, in_brackets, source_text};
+ghost use Rattle.s161_base.specs.Streams.{AppendsSome};
+ghost use Rattle.s161_base.specs.helpers.Pieces.{Puts};
+
+use crate::explained::explanation;
+use crate::fault::Fault;
+use crate::pieces::{put, put_name, put_number};
+use m161_asm::AsmError;
+use std::io::Write;
+
+// Writes two texts.
+fn put_both<'a, E: Write>(text: &str, more: &str, errors: &mut E) -> Result<(), Fault<'a>>
+    ensures { Puts (E.contents errors.old) (text.now ++ more.now) result (E.contents errors.new) }
+{
+    put(text, errors)?;
+    put(more, errors)
+}
+
+// Writes a text, and a number behind it.
+fn put_numbered<'a, E: Write>(text: &str, n: u64, errors: &mut E) -> Result<(), Fault<'a>>
+    ensures { Puts (E.contents errors.old) (text.now ++ decimal n) result (E.contents errors.new) }
+{
+    put(text, errors)?;
+    put_number(n, errors)
+}
+
+// Writes the number and the name of an error.
+fn put_error<'a, E: Write>(number: u8, name: &str, errors: &mut E) -> Result<(), Fault<'a>>
+    ensures { Puts (E.contents errors.old) (decimal number ␣ name.now) result (E.contents errors.new) }
+{
+    put_number(u64::from(number), errors)?;
+    put_both(" ", name, errors)
+}
+
+// Writes the place of a text's error.
+fn put_place<'a, E: Write>(error: AsmError, errors: &mut E) -> Result<(), Fault<'a>>
+    ensures { Puts (E.contents errors.old) (decimal error.line ++ codes ":" ++ decimal error.column) result
+        (E.contents errors.new) }
+{
+    put_number(error.line as u64, errors)?;
+    put_numbered(":", error.column as u64, errors)
+}
+
+// Writes the place, the number and the name of a text's error.
+fn put_source<'a, E: Write>(error: AsmError, errors: &mut E) -> Result<(), Fault<'a>>
+    ensures { Puts (E.contents errors.old) (source_text error) result (E.contents errors.new) }
+{
+    put_place(error, errors)?;
+    put(" ", errors)?;
+    put_error(error.kind.number(), error.kind.name(), errors)
+}
+
+// Writes what a script reads of a fault.
+fn put_head<'a, E: Write>(fault: Fault<'_>, errors: &mut E) -> Result<(), Fault<'a>>
+    ensures { Puts (E.contents errors.old) (fault_head fault.entry) result (E.contents errors.new) }
+{
+    match fault {
+        Fault::File(name, _) => {
+            put("s161: file ", errors)?;
+            put_name(name, errors)
+        }
+        Fault::Schedule(n) => put_numbered("s161: schedule line ", n, errors),
+        Fault::Log(n) => put_numbered("s161: log line ", n, errors),
+        Fault::LogMachine => put("s161: log machine", errors),
+        Fault::LogImage => put("s161: log image", errors),
+        Fault::Watches(n) => put_numbered("s161: watches line ", n, errors),
+        Fault::Watch(k) => put_numbered("s161: watch ", k as u64, errors),
+        Fault::Conf => put("s161: conf", errors),
+        Fault::Image(error) => {
+            put("s161: image ", errors)?;
+            put_error(error.number(), error.name(), errors)
+        }
+        Fault::Source(error) => {
+            put("s161: source ", errors)?;
+            put_source(error, errors)
+        }
+        Fault::Threads(cause) => put_both("s161: threads ", cause.name(), errors),
+        Fault::Memory => put("s161: memory", errors),
+        Fault::Input(_) | Fault::Word => put("s161: input", errors),
+        Fault::Output => put("s161: output", errors),
+    }
+}
+
+// Writes an explanation, in brackets.
+fn put_explanation<'a, E: Write>(why: Option<&str>, errors: &mut E) -> Result<(), Fault<'a>>
+    ensures { Puts (E.contents errors.old) (in_brackets (option_map (λ text. text.now) why.entry)) result
+        (E.contents errors.new) }
+{
+    match why {
+        Some(why) => {
+            put(" (", errors)?;
+            put_both(why, ")", errors)
+        }
+        None => Ok(()),
+    }
+}
+
+// Writes a fault's line, without its end.
+fn put_line<'a, E: Write>(fault: Fault<'_>, errors: &mut E) -> Result<(), Fault<'a>>
+    ensures { Puts (E.contents errors.old) (fault_line fault.entry) result (E.contents errors.new) }
+{
+    put_head(fault, errors)?;
+    put_explanation(explanation(&fault), errors)
+}
+
+/// Writes a fault's line.
+///
+/// # Errors
+/// The output failed.
+pub fn tell<'a, E: Write>(fault: Fault<'_>, errors: &mut E) -> Result<(), Fault<'a>>
+    ensures ok { OnOk result (Appends (E.contents errors.old) (E.contents errors.new)
+        (with_line_end (fault_line fault.entry))) }
+    ensures err { IfErr result (λ failed. (failed ≡ Fault.Output)
+        × AppendsSome (E.contents errors.old) (E.contents errors.new)
+        (with_line_end (fault_line fault.entry))) }
+{
+    put_line(fault, errors)?;
+    put("\n", errors)
+}
+
+/// Writes a fault's line to standard error, as far as that takes it. Returns the exit status.
+pub fn report<E: Write>(fault: Fault<'_>, errors: &mut E) -> u8
+    ensures status { result ≡ 1 }
+    ensures line { AppendsSome (E.contents errors.old) (E.contents errors.new)
+        (with_line_end (fault_line fault.entry)) }
+{
+    let _ = tell(fault, errors);
+    1
+}

@@ -1,4 +1,0 @@
-mod Booting
-mod Sending
-mod Choosing
-mod Running

@@ -1,0 +1,97 @@
+use Rattle.std.proofs.Common.{◌≡◌, List, ℕ, false, Option, None, Some, IfSome, rules, subst, sym}
+use Rattle.std.proofs.lemmas.Result.{err_from_is_err_and}
+use Rattle.m161_machine.specs.declared.conf.BootError.TheVariants.{Load}
+use Rattle.m161_machine.specs.declared.event.Entry.{Entry}
+use Rattle.m161_machine.specs.Conf.{is_within_limits}
+use Rattle.m161_machine.specs.History.{boot_fault}
+use Rattle.s161_run.proofs.Failing.{log_failed, verify_failed}
+use Rattle.s161_run.proofs.Replaying.{refused}
+use Rattle.s161_run.specs.Replays.{IsReplayFault, OfReplay}
+use Rattle.s161_base.specs.declared.fault.Fault.TheVariants.{LogImage, LogMachine}
+use Rattle.s161_base.specs.Known.{IsText}
+use Rattle.s161_base.specs.declared.machines.LoggedMachine.{LoggedMachine}
+use Rattle.s161_base.specs.Machines.{IsLogOf, asked_conf, machine_fault}
+use Rattle.s161_base.specs.Samples.{image_file}
+use Rattle.s161_run.proofs.replay.replay.Goals as goal
+
+pub returns-clause-ok : goal.returns-clause-ok
+returns-clause-ok g c =
+    let known = g.F.FileSource.known c.args.files.now in
+    let image = image_file known c.args.task.image.now in
+    let P : List ℕ → Type 0 = λ file. IfSome image (λ bytes. file ≡ bytes) in
+    let Q : Option (List ℕ) → Type 0 = λ log. IfSome log (λ bytes. c.as_str-text.result.now ≡ bytes) in
+    let R : List ℕ → Type 0 = λ log. IfSome (g.F.FileSource.known c.read_image.new.files c.args.task.text.now) (λ bytes. log ≡ bytes) in
+    let S : List Entry → Type 0 = λ entries. IsLogOf c.as_str-text.result.now c.in_ok-log.log.machine entries in
+    record {
+      file = c.as_slice-image.result.now;
+      is_file = subst P (sym c.as_slice-image.ensures.value) c.in_ok-file.ensures.whole;
+      entries_text = c.as_str-text.result.now;
+      is_file_of_entries = subst Q (c.in_ok-file.ensures.still c.args.task.text.now) (subst R (sym c.as_str-text.ensures.value) c.in_ok-listed.ensures.whole);
+      is_text = subst IsText (sym c.as_str-text.ensures.value) c.in_ok-listed.listed.ok;
+      logged = c.in_ok-log.log.machine;
+      entries = c.deref.result.now;
+      is_log = subst S (sym c.deref.ensures.value) c.in_ok-log.ensures.found;
+      is_that = search rules;
+      verdict = c.in_ok-verdict.verdict;
+      verifies = search rules;
+      text_is = search rules;
+      status_is = c.status.ensures;
+    }
+
+pub returns-in_err-log-clause-fault : goal.returns-in_err-log-clause-fault
+returns-in_err-log-clause-fault g c =
+    let known = g.F.FileSource.known c.args.files.now in
+    let image = image_file known c.args.task.image.now in
+    let text = known c.args.task.text.now in
+    let Q : Option (List ℕ) → Type 0 = λ log. IfSome log (λ bytes. c.as_str-text.result.now ≡ bytes) in
+    let R : List ℕ → Type 0 = λ log. IfSome (g.F.FileSource.known c.read_image.new.files c.args.task.text.now) (λ bytes. log ≡ bytes) in
+    let is = subst Q (c.in_ok-file.ensures.still c.args.task.text.now) (subst R (sym c.as_str-text.ensures.value) c.in_ok-listed.ensures.whole) in
+    let utf8 = subst IsText (sym c.as_str-text.ensures.value) c.in_ok-listed.listed.ok in
+    let failed = log_failed (IsReplayFault c.args.task image text) c.as_str-text.result.now c.in_err-log.field-0.0
+    (λ n bad. (c.as_str-text.result.now, is, (utf8, bad))) tt c.in_err-log.ensures.fault in
+    search (rules, failed)
+
+-- the log's file has a log, whose machine line is another machine's
+pub returns-in-Some-clause-fault : goal.returns-in-Some-clause-fault
+returns-in-Some-clause-fault g c =
+    let known = g.F.FileSource.known c.args.files.now in
+    let image = image_file known c.args.task.image.now in
+    let text = known c.args.task.text.now in
+    let P : List ℕ → Type 0 = λ file. IfSome image (λ bytes. file ≡ bytes) in
+    let Q : Option (List ℕ) → Type 0 = λ log. IfSome log (λ bytes. c.as_str-text.result.now ≡ bytes) in
+    let R : List ℕ → Type 0 = λ log. IfSome (g.F.FileSource.known c.read_image.new.files c.args.task.text.now) (λ bytes. log ≡ bytes) in
+    let is_file = subst P (sym c.as_slice-image.ensures.value) c.in_ok-file.ensures.whole in
+    let is = subst Q (c.in_ok-file.ensures.still c.args.task.text.now) (subst R (sym c.as_str-text.ensures.value) c.in_ok-listed.ensures.whole) in
+    let utf8 = subst IsText (sym c.as_str-text.ensures.value) c.in_ok-listed.listed.ok in
+    let file = c.as_slice-image.result.now in
+    let logged = c.in_ok-log.log.machine in
+    let replays : (IsSo : List ℕ → LoggedMachine → Type 0) → IsSo file logged → OfReplay image text IsSo =
+    λ IsSo so. (file, is_file, (c.as_str-text.result.now, is, (utf8, (logged, c.in_ok-log.log.entries.items, c.in_ok-log.ensures.found, so)))) in
+    refused (IsReplayFault c.args.task image text) c.args.task.size file logged c.in-Some.fault
+    (replays (λ f l. machine_fault c.args.task.size f (Some l) ≡ Some LogMachine))
+    (replays (λ f l. machine_fault c.args.task.size f (Some l) ≡ Some LogImage)) (search rules)
+
+-- the log has no fault, the machine is the one that it names, and the boot's answer says the rest
+pub returns-in_err-verdict-clause-fault : goal.returns-in_err-verdict-clause-fault
+returns-in_err-verdict-clause-fault g c =
+    let known = g.F.FileSource.known c.args.files.now in
+    let image = image_file known c.args.task.image.now in
+    let text = known c.args.task.text.now in
+    let P : List ℕ → Type 0 = λ file. IfSome image (λ bytes. file ≡ bytes) in
+    let Q : Option (List ℕ) → Type 0 = λ log. IfSome log (λ bytes. c.as_str-text.result.now ≡ bytes) in
+    let R : List ℕ → Type 0 = λ log. IfSome (g.F.FileSource.known c.read_image.new.files c.args.task.text.now) (λ bytes. log ≡ bytes) in
+    let is_file = subst P (sym c.as_slice-image.ensures.value) c.in_ok-file.ensures.whole in
+    let is = subst Q (c.in_ok-file.ensures.still c.args.task.text.now) (subst R (sym c.as_str-text.ensures.value) c.in_ok-listed.ensures.whole) in
+    let utf8 = subst IsText (sym c.as_str-text.ensures.value) c.in_ok-listed.listed.ok in
+    let file = c.as_slice-image.result.now in
+    let logged = c.in_ok-log.log.machine in
+    let replays : (IsSo : List ℕ → LoggedMachine → Type 0) → IsSo file logged → OfReplay image text IsSo =
+    λ IsSo so. (file, is_file, (c.as_str-text.result.now, is, (utf8, (logged, c.in_ok-log.log.entries.items, c.in_ok-log.ensures.found, so)))) in
+    let conf = asked_conf c.args.task.size (Some logged) in
+    let none : machine_fault c.args.task.size file (Some logged) ≡ None = search rules in
+    let made = err_from_is_err_and c.from_residual-in_err-verdict.result c.from_residual-in_err-verdict.ensures.1 in
+    let failed = verify_failed (IsReplayFault c.args.task image text) conf file c.deref.result.now c.in_err-verdict.field-0.0
+    (λ outside. replays (λ f l. (machine_fault c.args.task.size f (Some l) ≡ None) × (is_within_limits (asked_conf c.args.task.size (Some l)) ≡ false)) (none, outside))
+    (λ e has. replays (λ f l. (machine_fault c.args.task.size f (Some l) ≡ None) × (boot_fault f (asked_conf c.args.task.size (Some l)) ≡ Some (Load e))) (none, has))
+    tt (search rules) in
+    rw (made.1, made.2) failed

@@ -1,0 +1,7 @@
+use Rattle.std.proofs.Common.{◌≡◌, ◌++◌}
+use Rattle.s161_run.specs.Runs.{output_text, started_texts}
+use Rattle.s161_run.proofs.summary.summary_with.Given as goal
+
+abbrev pub invariant-loop-p : goal.invariant-loop-p
+invariant-loop-p l =
+    l.text.items ≡ output_text l.machine.state.board.console.output ++ started_texts l.machine.state l.p

@@ -1,0 +1,184 @@
+use Rattle.std.specs.Prelude.{◌≡◌, ℕ, ◌-◌, ◌==◌, true, false, if◌then◌else◌, List, [], ◌∷◌, ◌++◌, Option, None, Some, IsSomeAnd, IfSome, codes, decimal, flat_map, length, slice_get, take}
+use Rattle.std.specs.List.{range_with_len}
+use Rattle.sha2.specs.Sha256.{sha256}
+use Rattle.m161_cpu.specs.declared.processor.ProcessorState.{ProcessorState}
+use Rattle.m161_cpu.specs.declared.processor.ProcessorState.TheVariants.{Stopped, Running, Waiting}
+use Rattle.m161_machine.specs.declared.conf.BootError.TheVariants.{Load}
+use Rattle.m161_machine.specs.declared.event.Conflict.{Conflict}
+use Rattle.m161_machine.specs.declared.event.Event.{Event}
+use Rattle.m161_machine.specs.declared.event.Refusal.{Refusal}
+use Rattle.m161_machine.specs.Conf.{is_within_limits}
+use Rattle.m161_machine.specs.Refusal.{name_of_refusal, number_of_refusal}
+use Rattle.m161_machine.specs.State.{State, next, processor_at}
+use Rattle.m161_machine.specs.History.{History, Continues, Refuses, boot_fault}
+use Rattle.m161_display.specs.Shows.{show_regs_text}
+use Rattle.m161_text.specs.Lines.{with_line_end, FirstBad, lines_of}
+use Rattle.m161_steplog.specs.declared.machine.MachineLine.{MachineLine}
+use Rattle.m161_steplog.specs.declared.mode.Mode.{Mode}
+use Rattle.m161_steplog.specs.Log.{log_text, tail_text}
+use Rattle.m161_steplog.specs.Machine.{machine_text}
+use Rattle.m161_text.specs.Parts.{◌␣◌}
+use Rattle.m161_steplog.specs.Schedule.{AreScheduleLines, IsSchedule}
+use Rattle.s161_command.specs.declared.task.RunTask.{RunTask}
+use Rattle.s161_command.specs.declared.task.Shown.{Shown}
+use Rattle.s161_command.specs.declared.task.Shown.TheVariants as shown
+use Rattle.s161_run.specs.declared.events.Stop.{Stop}
+use Rattle.s161_run.specs.declared.events.Stop.TheVariants.{Off, Conflict as ConflictStop, End, Stuck, Refused}
+use Rattle.s161_base.specs.declared.fault.Fault.{Fault}
+use Rattle.s161_base.specs.declared.fault.Fault.TheVariants.{Conf, File, Image, Input, Memory, Schedule}
+use Rattle.s161_base.specs.Faults.{BootsTo}
+use Rattle.s161_base.specs.Known.{IsText, OfKnown, OfText}
+use Rattle.s161_base.specs.Reading.{IsOfBytes, IsOfText}
+use Rattle.s161_base.specs.Samples.{IsFileName}
+use Rattle.s161_base.specs.Sizes.{conf_of}
+use Rattle.s161_base.specs.Texts.{HasSchedule}
+
+-- The events, the output and the exit status of `run`.
+
+-- event k of these is refused in this state
+abbrev pub IsRefusedAt : List Event → ℕ → State → Refusal → Type 0
+IsRefusedAt events k s refusal = IsSomeAnd (slice_get events k) (λ e. Refuses (next s e) e refusal)
+
+-- a machine is on, and then off
+abbrev pub IsSwitchedOff : History → History → Type 0
+IsSwitchedOff m n = (m.state.board.off ≡ false) × (n.state.board.off ≡ true)
+
+-- a conflict: its processor, the row that was to be written, and the other one
+abbrev pub conflict_text : Conflict → List ℕ
+conflict_text conflict =
+    codes "conflict" ␣ decimal conflict.processor ␣ decimal conflict.row ␣ decimal conflict.other
+
+-- why no more events are made of a machine that is off, by its conflict
+abbrev pub stop_off : Option Conflict → Stop
+stop_off None = Off
+stop_off (Some conflict) = ConflictStop conflict
+
+-- why this many of these events were made of m, which left n, and no more: they switched the
+-- machine off, by a conflict or not; or they didn't, and there are no more, or the next is refused.
+-- Only a policy is stuck
+abbrev pub StopsAfter : History → List Event → ℕ → Stop → History → Type 0
+StopsAfter m events made Off n = IsSwitchedOff m n × (n.state.conflict ≡ None)
+StopsAfter m events made (ConflictStop conflict) n =
+    IsSwitchedOff m n × (n.state.conflict ≡ Some conflict)
+StopsAfter m events made End n = (n.state.board.off ≡ m.state.board.off) × (made ≡ length events)
+StopsAfter m events made Stuck n = ⊥
+StopsAfter m events made (Refused k refusal) n =
+    (n.state.board.off ≡ m.state.board.off) × (made ≡ k) × IsRefusedAt events k n.state refusal
+
+-- the first of these events are made of a machine, until one switches it off or is refused, and
+-- leave n
+pub record MakesEvents
+    (m : History) (events : List Event) (stop : Stop) (n : History) : Type 0 where
+  pub made : ℕ
+  pub first : Continues m (take made events) n
+  pub why : StopsAfter m events made stop n
+
+-- the line end that a text with this last byte lacks
+abbrev pub missing_line_end : Option ℕ → List ℕ
+missing_line_end None = []
+missing_line_end (Some last) = if last == 10 then [] else 10 ∷ []
+
+-- the bytes that the console has sent, with a line end if they aren't empty and lack one
+abbrev pub output_text : List ℕ → List ℕ
+output_text output = output ++ missing_line_end (slice_get output (length output - 1))
+
+-- a text of a processor that is started
+abbrev pub if_started : ProcessorState → List ℕ → List ℕ
+if_started Stopped text = []
+if_started Running text = text
+if_started Waiting text = text
+
+abbrev pub started_text : State → ℕ → List ℕ
+started_text s p = if_started (processor_at p s.processors).state (show_regs_text p s)
+
+-- the started processors among the first n
+abbrev pub started_texts : State → ℕ → List ℕ
+started_texts s n = flat_map (started_text s) (range_with_len 0 n)
+
+abbrev pub stop_line : Stop → List ℕ
+stop_line Off = codes "stop: off"
+stop_line (ConflictStop conflict) = codes "stop:" ␣ conflict_text conflict
+stop_line End = codes "stop: end"
+stop_line Stuck = codes "stop: stuck"
+stop_line (Refused k refusal) =
+    codes "stop: refused" ␣ decimal k ␣ decimal (number_of_refusal refusal)
+    ␣ name_of_refusal refusal
+
+-- the size of a machine, and the digest of the file that it was booted from
+abbrev pub line_of : History → List ℕ → MachineLine
+line_of m file = record {
+  ram = m.start.conf.ram;
+  processors = m.start.conf.processors;
+  digest = sha256 file;
+}
+
+-- what the outcomes of its events hang on
+abbrev pub mode_of : History → Mode
+mode_of m = record { link = m.start.conf.link; strict = m.start.conf.strict }
+
+-- the text of the log, or of its end if entries were dropped
+abbrev pub kept_text : History → List ℕ
+kept_text m =
+    if m.base.made == 0 then log_text (mode_of m) m.log
+    else tail_text (mode_of m) m.base.made m.log
+
+-- the machine line, and that text
+abbrev pub shown_log : History → List ℕ → List ℕ
+shown_log m file = with_line_end (machine_text (line_of m file)) ++ kept_text m
+
+-- what a machine shows, with the text of a log before the last line
+abbrev pub summary_with : List ℕ → History → Stop → List ℕ
+summary_with log m stop =
+    output_text m.state.board.console.output
+    ++ started_texts m.state (length m.state.processors)
+    ++ log
+    ++ with_line_end (stop_line stop)
+
+-- what `run` prints of a machine that was booted from this file
+abbrev pub summary_text : History → List ℕ → Stop → Shown → List ℕ
+summary_text m file stop shown.Summary = summary_with [] m stop
+summary_text m file stop shown.SummaryAndLog = summary_with (shown_log m file) m stop
+summary_text m file stop shown.Log = shown_log m file
+
+abbrev pub status_of : Stop → ℕ
+status_of Off = 0
+status_of (Refused k refusal) = 1
+status_of End = 3
+status_of (ConflictStop conflict) = 4
+status_of Stuck = 5
+
+-- a finished run: what it prints and its exit status; the image's file and standard input have
+-- these bytes, as far as they are known
+pub record IsRun
+    (task : RunTask) (known : Option (List ℕ)) (input : Option (List ℕ))
+    (text : List ℕ) (status : ℕ) : Type 0 where
+  pub file : List ℕ
+  pub is_file : IfSome known (λ bytes. file ≡ bytes)
+  pub booted : History
+  pub boots : BootsTo file (conf_of task.size) booted
+  pub schedule : List ℕ
+  pub is_input : IfSome input (λ bytes. schedule ≡ bytes)
+  pub is_text : IsText schedule
+  pub events : List Event
+  pub is_schedule : IsSchedule (lines_of schedule) events
+  pub machine : History
+  pub stop : Stop
+  pub makes : MakesEvents booted events stop machine
+  pub text_is : text ≡ summary_text machine file stop task.shown
+  pub status_is : status ≡ status_of stop
+
+-- what a fault that ends a run says of its inputs: of a file, that it is the image's; of the
+-- schedule, its first bad line; of the configuration or the image, that the schedule had no fault.
+-- File, Input and Memory hold whatever else is at fault. The order in which inputs are read is
+-- tested: the image's file, then standard input
+abbrev pub IsFaultOf : RunTask → Option (List ℕ) → Option (List ℕ) → Fault → Type 0
+IsFaultOf task known input (File name why) =
+    (name.now ≡ task.image.now) × IsFileName task.image.now × IsOfBytes why
+IsFaultOf task known input (Input why) = IsOfText input why
+IsFaultOf task known input (Schedule n) =
+    OfText input (λ text. FirstBad AreScheduleLines text n)
+IsFaultOf task known input Conf = HasSchedule input × (is_within_limits (conf_of task.size) ≡ false)
+IsFaultOf task known input (Image e) =
+    HasSchedule input × OfKnown known (λ file. boot_fault file (conf_of task.size) ≡ Some (Load e))
+IsFaultOf task known input Memory = Unit {0}
+IsFaultOf task known input _ = ⊥

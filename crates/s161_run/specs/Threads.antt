@@ -1,0 +1,62 @@
+use Rattle.std.specs.Prelude.{◌≡◌, ℕ, Bool, false, if◌then◌else◌, List, Option, None, Some, IfSome, replicate}
+use Rattle.m161_machine.specs.declared.conf.BootError.TheVariants.{Load}
+use Rattle.m161_machine.specs.declared.event.Conflict.{Conflict}
+use Rattle.m161_machine.specs.Conf.{is_within_limits}
+use Rattle.m161_machine.specs.History.{History, boot_fault}
+use Rattle.m161_cause.specs.declared.cause.Cause.{Cause}
+use Rattle.m161_threads.specs.Runs.{Interleaves, IsOfRun, bad_call}
+use Rattle.s161_command.specs.declared.task.ThreadsTask.{ThreadsTask}
+use Rattle.s161_run.specs.declared.events.Stop.{Stop}
+use Rattle.s161_run.specs.declared.events.Stop.TheVariants.{End}
+use Rattle.s161_base.specs.declared.fault.Fault.{Fault}
+use Rattle.s161_base.specs.declared.fault.Fault.TheVariants.{Conf, File, Image, Memory, Threads}
+use Rattle.s161_run.specs.Runs.{status_of, stop_off, summary_text}
+use Rattle.s161_base.specs.Faults.{BootsTo}
+use Rattle.s161_base.specs.Known.{OfKnown}
+use Rattle.s161_base.specs.Reading.{IsOfBytes}
+use Rattle.s161_base.specs.Samples.{IsFileName}
+use Rattle.s161_base.specs.Sizes.{conf_of}
+
+-- The Steps, the output and the exit status of `run --threads`.
+
+-- how a run in threads stopped, by whether the machine is off, and its conflict
+abbrev pub stop_of : Bool → Option Conflict → Stop
+stop_of off conflict = if off then stop_off conflict else End
+
+-- a finished run in threads: what it prints and its exit status; the image's file has these bytes,
+-- as far as they are known
+pub record IsRunInThreads
+    (task : ThreadsTask) (known : Option (List ℕ)) (text : List ℕ) (status : ℕ) : Type 0 where
+  pub file : List ℕ
+  pub is_file : IfSome known (λ bytes. file ≡ bytes)
+  pub booted : History
+  pub boots : BootsTo file (conf_of task.run.size) booted
+  pub begins : bad_call task.run.size.processors task.run.size.processors task.burst ≡ None
+  pub made : List ℕ
+  pub off : Bool
+  pub machine : History
+  pub interleaves :
+      Interleaves booted (replicate task.run.size.processors task.quota) made off machine
+  pub text_is :
+      text ≡ summary_text machine file (stop_of off machine.state.conflict) task.run.shown
+  pub status_is : status ≡ status_of (stop_of off machine.state.conflict)
+
+-- the cause of a run that doesn't begin for this reason; or of one that began
+abbrev pub IsCause : Option Cause → Cause → Type 0
+IsCause (Some first) cause = cause ≡ first
+IsCause None cause = IsOfRun cause
+
+-- what a fault that ends a run in threads says: of a file, that it is the image's; of the
+-- configuration or the image, that the boot answers it; of the threads, that the image has no fault,
+-- and when the cause comes. File and Memory hold whatever else is at fault
+abbrev pub IsThreadsFault : ThreadsTask → Option (List ℕ) → Fault → Type 0
+IsThreadsFault task known (File name why) =
+    (name.now ≡ task.run.image.now) × IsFileName task.run.image.now × IsOfBytes why
+IsThreadsFault task known Conf = is_within_limits (conf_of task.run.size) ≡ false
+IsThreadsFault task known (Image e) =
+    OfKnown known (λ file. boot_fault file (conf_of task.run.size) ≡ Some (Load e))
+IsThreadsFault task known (Threads cause) =
+    OfKnown known (λ file. boot_fault file (conf_of task.run.size) ≡ None)
+    × IsCause (bad_call task.run.size.processors task.run.size.processors task.burst) cause
+IsThreadsFault task known Memory = Unit {0}
+IsThreadsFault task known _ = ⊥

@@ -1,0 +1,62 @@
+//! Running an image by a policy.
+
+ghost use Rattle.std.specs.Prelude.{◌≡◌, IfErr, IfOk, None};
+ghost use Rattle.m161_order.specs.Order.{order_fault};
+ghost use Rattle.s161_base.specs.Samples.{image_file};
+ghost use Rattle.s161_run.specs.Driven.{IsDriven, IsDrivenFault, stop_of};
+
+use crate::events::{Stop, stop_off};
+use crate::policy::{make_driven, read_keys};
+use crate::run::status;
+use crate::summary::summary;
+use m161::Machine;
+use m161_drive::Driven;
+use s161_base::fault::Fault;
+use s161_base::files::FileSource;
+use s161_base::finished::Finished;
+use s161_base::sample::read_image;
+use s161_base::sizes::conf_of;
+use s161_command::DrivenTask;
+use std::alloc::Global;
+
+/// Reads the image and then the keys, boots the image, and makes the events that the policy
+/// chooses.
+///
+/// # Errors
+/// The first fault.
+// For LLVM: a stack frame of its own.
+#[inline(never)]
+pub fn run_driven<'a, F: FileSource>(
+    alloc: Global,
+    files: &mut F,
+    task: DrivenTask<'a>,
+) -> Result<Finished, Fault<'a>>
+    requires { order_fault task.drive.order ≡ None }
+    ensures ok { IfOk result (λ done. IsDriven task.entry (F.known files.old)
+        (image_file (F.known files.old) task.entry.run.image.now) done.text.items done.status) }
+    ensures fault { IfErr result (IsDrivenFault task.entry
+        (image_file (F.known files.old) task.entry.run.image.now)) }
+{
+    let file = read_image(alloc, files, task.run.image)?;
+    let image = file.as_slice();
+    let keys = read_keys(alloc, files, task.drive.keys)?;
+    let mut machine = Machine::boot(alloc, image, conf_of(task.run.size))?;
+    let driven = make_driven(&mut machine, task.drive, &keys);
+    let stop = stop_of(driven, &machine);
+    Ok(Finished {
+        text: summary(alloc, &machine, image, stop, task.run.shown)?,
+        status: status(stop),
+    })
+}
+
+/// How a driven run stopped that left this machine, as a command tells it.
+pub fn stop_of(driven: Driven, machine: &Machine) -> Stop
+    ensures { result ≡ stop_of driven machine.now }
+{
+    match driven.stop {
+        m161_drive::Stop::Off => stop_off(machine.conflict()),
+        m161_drive::Stop::End => Stop::End,
+        m161_drive::Stop::Stuck => Stop::Stuck,
+        m161_drive::Stop::Refused(refusal) => Stop::Refused(driven.made as usize, refusal),
+    }
+}

@@ -1,0 +1,18 @@
+//! The commands that run a machine: `demo`; `run`, under a schedule, by a policy or in threads;
+//! `replay`, which runs it again by its log; `schedule`, which prints the events that a policy chooses;
+//! and `console`, where the bytes of standard input are the keys of a driven run, and what its console
+//! sends goes to standard output.
+#![tactic(auto)]
+
+pub mod console;
+pub mod demo;
+pub mod driven;
+pub mod events;
+mod keys;
+pub mod policy;
+pub mod replay;
+pub mod run;
+pub mod schedule;
+mod serving;
+pub mod summary;
+pub mod threaded;

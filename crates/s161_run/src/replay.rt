@@ -1,0 +1,76 @@
+//! Replaying a log.
+
+ghost use Rattle.std.specs.Prelude.{◌≡◌, IfErr, IfOk, string_bytes};
+ghost use Rattle.m161_text.specs.Lines.{with_line_end};
+ghost use Rattle.s161_run.specs.Replays.{IsReplayed, IsReplayFault, status_of_verdict, verdict_text};
+ghost use Rattle.s161_base.specs.Samples.{image_file};
+
+use m161::{Console, Tlb};
+use m161_steplog::{Verdict, verify};
+use s161_base::fault::Fault;
+use s161_base::files::FileSource;
+use s161_base::finished::Finished;
+use s161_base::input::read_text;
+use s161_base::machines::{asked_conf, machine_fault};
+use s161_base::sample::read_image;
+use s161_base::texts::log_of;
+use s161_command::ReplayTask;
+use std::alloc::{AllocError, Global};
+
+/// Reads the image and then the log, boots the image, on the machine that the log names, and makes
+/// the log's events until one is refused or its outcome differs from its entry's. The unit of links
+/// is that of the log's first line; its size is that of its machine line, if it has one.
+///
+/// # Errors
+/// The first fault.
+// For LLVM: a stack frame of its own.
+#[inline(never)]
+pub fn replay<'a, F: FileSource>(
+    alloc: Global,
+    files: &mut F,
+    task: ReplayTask<'a>,
+) -> Result<Finished, Fault<'a>>
+    ensures ok { IfOk result (λ done. IsReplayed task.entry
+        (image_file (F.known files.old) task.entry.image.now)
+        (F.known files.old task.entry.text.now) done.text.items done.status) }
+    ensures fault { IfErr result (IsReplayFault task.entry
+        (image_file (F.known files.old) task.entry.image.now)
+        (F.known files.old task.entry.text.now)) }
+{
+    let file = read_image(alloc, files, task.image)?;
+    let image = file.as_slice();
+    let listed = read_text(alloc, files, task.text)?;
+    let text = listed.as_str();
+    let log = log_of(alloc, text)?;
+    let logged = Some(log.machine);
+    if let Some(fault) = machine_fault(task.size, image, logged) {
+        return Err(fault);
+    }
+    let conf = asked_conf(task.size, logged);
+    let verdict = verify::<Tlb, Console>(alloc, image, conf, &log.entries)?;
+    let shown = verdict_line(alloc, verdict)?;
+    Ok(Finished {
+        text: shown.into_bytes(),
+        status: status(verdict),
+    })
+}
+
+// The text of a verdict.
+fn verdict_line(alloc: Global, verdict: Verdict) -> Result<String, AllocError>
+    ensures { IfOk result (λ line. string_bytes line ≡ with_line_end (verdict_text verdict)) }
+{
+    match verdict {
+        Verdict::Agrees => String::from_str(alloc, "agrees\n"),
+        Verdict::Differs(k) => format!(in alloc; "differs {k}\n"),
+    }
+}
+
+// The exit status of a verdict.
+fn status(verdict: Verdict) -> u8
+    ensures { result ≡ status_of_verdict verdict }
+{
+    match verdict {
+        Verdict::Agrees => 0,
+        Verdict::Differs(_) => 4,
+    }
+}

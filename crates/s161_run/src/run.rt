@@ -1,0 +1,63 @@
+//! Running an image under a schedule.
+
+ghost use Rattle.std.specs.Prelude.{◌≡◌, IfErr, IfOk};
+ghost use Rattle.s161_run.specs.Runs.{IsFaultOf, IsRun, status_of};
+ghost use Rattle.s161_base.specs.Samples.{image_file};
+
+use crate::events::{Stop, make_events};
+use crate::summary::summary;
+use m161::Machine;
+use s161_base::fault::Fault;
+use s161_base::files::FileSource;
+use s161_base::finished::Finished;
+use s161_base::input::read_input;
+use s161_base::sample::read_image;
+use s161_base::sizes::conf_of;
+use s161_base::texts::events_of;
+use s161_command::RunTask;
+use std::alloc::Global;
+use std::io::Read;
+
+/// Reads the image and then the schedule, boots the image, and makes the schedule's events until
+/// one switches the machine off or is refused.
+///
+/// # Errors
+/// The first fault.
+// For LLVM: a stack frame of its own.
+#[inline(never)]
+pub fn run<'a, F: FileSource, I: Read>(
+    alloc: Global,
+    files: &mut F,
+    input: &mut I,
+    task: RunTask<'a>,
+) -> Result<Finished, Fault<'a>>
+    ensures ok { IfOk result (λ done. IsRun task.entry
+        (image_file (F.known files.old) task.entry.image.now) (I.remaining input.old)
+        done.text.items done.status) }
+    ensures fault { IfErr result (IsFaultOf task.entry
+        (image_file (F.known files.old) task.entry.image.now) (I.remaining input.old)) }
+{
+    let file = read_image(alloc, files, task.image)?;
+    let image = file.as_slice();
+    let schedule = read_input(alloc, input)?;
+    let events = events_of(alloc, schedule.as_str())?;
+    let mut machine = Machine::boot(alloc, image, conf_of(task.size))?;
+    let stop = make_events(&mut machine, &events);
+    Ok(Finished {
+        text: summary(alloc, &machine, image, stop, task.shown)?,
+        status: status(stop),
+    })
+}
+
+/// The exit status of a run.
+pub fn status(stop: Stop) -> u8
+    ensures { result ≡ status_of stop }
+{
+    match stop {
+        Stop::Off => 0,
+        Stop::Refused(_, _) => 1,
+        Stop::End => 3,
+        Stop::Conflict(_) => 4,
+        Stop::Stuck => 5,
+    }
+}

@@ -1,0 +1,104 @@
+//! Running an image in threads.
+
+ghost use Rattle.std.specs.Prelude.{◌≡◌, IfErr, IfOk, replicate};
+ghost use Rattle.s161_run.specs.Runs.{status_of, summary_text};
+ghost use Rattle.s161_base.specs.Samples.{image_file};
+ghost use Rattle.s161_run.specs.Threads.{IsRunInThreads, IsThreadsFault, stop_of};
+
+use crate::events::{Stop, stop_off};
+use crate::run::status;
+use crate::summary::summary;
+use m161::{Console, Machine, Tlb};
+use m161_machine::Conflict;
+use m161_threads::{Gate, Report, run_bursts};
+use s161_base::fault::Fault;
+use s161_base::files::FileSource;
+use s161_base::finished::Finished;
+use s161_base::sample::read_image;
+use s161_base::sizes::conf_of;
+use s161_command::{Shown, ThreadsTask};
+use std::alloc::{AllocError, Global};
+use std::sync::Wait;
+use std::thread::Threads;
+
+/// A gate that is always open.
+struct Open;
+
+impl Gate for Open {
+    fn pass(&self, _p: u32, _k: u32) -> bool {
+        true
+    }
+}
+
+/// Reads and boots the image, and gives each processor a thread that makes its quota of Steps, in
+/// bursts, unless the machine is switched off.
+///
+/// # Errors
+/// The first fault.
+// For LLVM: a stack frame of its own.
+#[inline(never)]
+pub fn run_in_threads<'a, R: Threads + Wait + Sync, F: FileSource>(
+    rt: &R,
+    alloc: Global,
+    files: &mut F,
+    task: ThreadsTask<'a>,
+) -> Result<Finished, Fault<'a>>
+    ensures ok { IfOk result (λ done. IsRunInThreads task.entry
+        (image_file (F.known files.old) task.entry.run.image.now)
+        done.text.items done.status) }
+    ensures fault { IfErr result (IsThreadsFault task.entry
+        (image_file (F.known files.old) task.entry.run.image.now)) }
+{
+    let ThreadsTask { run, quota, burst } = task;
+    let file = read_image(alloc, files, run.image)?;
+    let image = file.as_slice();
+    let machine = Machine::boot(alloc, image, conf_of(run.size))?;
+    machine.replay();
+    let quotas = quotas_of(alloc, quota, machine.processors())?;
+    let report = match run_bursts(rt, alloc, machine, quotas.as_slice(), &Open, burst) {
+        Ok(report) => report,
+        Err(fault) => return Err(Fault::Threads(fault.cause)),
+    };
+    let done = finish(alloc, report, image, run.shown)?;
+    Ok(done)
+}
+
+// The same quota for each processor.
+fn quotas_of(alloc: Global, quota: u32, processors: u32) -> Result<Vec<u32>, AllocError>
+    ensures { IfOk result (λ quotas. quotas.items ≡ replicate processors quota) }
+{
+    vec![in alloc; quota; processors as usize]
+}
+
+// How a run in threads stopped, by whether the machine is off, and its conflict.
+fn stop_of(off: bool, conflict: Option<Conflict>) -> Stop
+    ensures { result ≡ stop_of off conflict }
+{
+    if off { stop_off(conflict) } else { Stop::End }
+}
+
+// The text that a report prints, and its exit status.
+fn finish<'a>(
+    alloc: Global,
+    report: Report<Tlb, Console>,
+    file: &[u8],
+    shown: Shown,
+) -> Result<Finished, Fault<'a>>
+    ensures text { IfOk result (λ done.
+        done.text.items ≡ summary_text report.machine file.now
+        (stop_of report.off report.machine.state.conflict) shown) }
+    ensures status { IfOk result (λ done.
+        done.status ≡ status_of (stop_of report.off report.machine.state.conflict)) }
+    ensures err { IfErr result (λ fault. fault ≡ Fault.Memory) }
+{
+    let Report {
+        machine,
+        counts: _,
+        off,
+    } = report;
+    let stop = stop_of(off, machine.conflict());
+    Ok(Finished {
+        text: summary(alloc, &machine, file, stop, shown)?,
+        status: status(stop),
+    })
+}

@@ -1,4 +1,0 @@
-mod Failing
-pub mod Making
-mod Replaying
-mod Shown

@@ -1,7 +1,0 @@
-use Rattle.std.proofs.Common.{◌≡◌, ◌++◌}
-use Rattle.s161_runs.specs.Runs.{output_text, started_texts}
-use Rattle.s161_runs.proofs.summary.summary_with.Given as goal
-
-abbrev pub invariant-loop-p : goal.invariant-loop-p
-invariant-loop-p l =
-    l.text.items ≡ output_text l.machine.state.board.console.output ++ started_texts l.machine.state l.p

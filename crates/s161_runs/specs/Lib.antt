@@ -1,3 +1,0 @@
-pub mod Demos
-pub mod Replays
-pub mod Runs

@@ -1,0 +1,150 @@
+//! Auditing a run.
+
+ghost use Rattle.std.specs.Prelude.{◌≡◌, IfErr, IfOk, Some, decimal, string_bytes};
+ghost use Rattle.m161_text.specs.Lines.{with_line_end};
+ghost use Rattle.m161_text.specs.Parts.{◌␣◌, word_text};
+ghost use Rattle.s161_search.specs.Audits.{IsAudited, IsAuditFault, fault_of_audit, finding_text, status_of_finding};
+ghost use Rattle.s161_base.specs.Samples.{image_file};
+
+use crate::watches::watches_of;
+use m161::{Console, Tlb};
+use m161_audit::{AuditError, Finding, audit_events};
+use m161_text::Word;
+use s161_base::fault::Fault;
+use s161_base::files::FileSource;
+use s161_base::finished::Finished;
+use s161_base::input::{read_input, read_text};
+use s161_base::sample::read_image;
+use s161_base::sizes::conf_of;
+use s161_base::texts::events_of;
+use s161_command::FilesTask;
+use std::alloc::{AllocError, Global};
+use std::fmt;
+use std::io::Read;
+
+// The address of a use and its row, as text.
+#[derive(Drop)]
+struct ShownRow {
+    address: u32,
+    row: u8,
+}
+
+impl fmt::Display for ShownRow {
+    ghost output = { λ used. Some (word_text used.address ␣ decimal used.row) };
+
+    fn fmt<W: fmt::Write>(&self, f: &mut fmt::Formatter<W>) -> fmt::Result {
+        let address = Word(self.address);
+        let row = self.row;
+        write!(f, "{address} {row}")
+    }
+}
+
+// A use of a processor, as text.
+#[derive(Drop)]
+struct ShownUse {
+    processor: u32,
+    used: ShownRow,
+}
+
+impl fmt::Display for ShownUse {
+    ghost output = { λ use_of. Some (decimal use_of.processor
+        ␣ word_text use_of.used.address ␣ decimal use_of.used.row) };
+
+    fn fmt<W: fmt::Write>(&self, f: &mut fmt::Formatter<W>) -> fmt::Result {
+        let processor = self.processor;
+        let used = &self.used;
+        write!(f, "{processor} {used}")
+    }
+}
+
+/// A finding, as text.
+#[derive(Drop)]
+pub struct ShownFinding(pub Finding);
+
+impl fmt::Display for ShownFinding {
+    ghost output = { λ finding. Some (finding_text finding.0) };
+
+    fn fmt<W: fmt::Write>(&self, f: &mut fmt::Formatter<W>) -> fmt::Result {
+        match self.0 {
+            Finding::Clean => write!(f, "clean"),
+            Finding::Stale {
+                place,
+                processor,
+                address,
+                row,
+            } => {
+                let used = ShownUse {
+                    processor,
+                    used: ShownRow { address, row },
+                };
+                write!(f, "stale {place} {used}")
+            }
+        }
+    }
+}
+
+/// Reads the image, the watches and then the schedule, boots the image, and makes the schedule's
+/// events up to the first stale use.
+///
+/// # Errors
+/// The first fault.
+// For LLVM: a stack frame of its own.
+#[inline(never)]
+pub fn audit<'a, F: FileSource, I: Read>(
+    alloc: Global,
+    files: &mut F,
+    input: &mut I,
+    task: FilesTask<'a>,
+) -> Result<Finished, Fault<'a>>
+    ensures ok { IfOk result (λ done. IsAudited task.entry
+        (image_file (F.known files.old) task.entry.image.now)
+        (F.known files.old task.entry.text.now) (I.remaining input.old)
+        done.text.items done.status) }
+    ensures fault { IfErr result (IsAuditFault task.entry
+        (image_file (F.known files.old) task.entry.image.now)
+        (F.known files.old task.entry.text.now) (I.remaining input.old)) }
+{
+    let file = read_image(alloc, files, task.image)?;
+    let text = read_text(alloc, files, task.text)?;
+    let schedule = read_input(alloc, input)?;
+    let watches = watches_of(alloc, text.as_str())?;
+    let events = events_of(alloc, schedule.as_str())?;
+    let conf = conf_of(task.size);
+    let finding = match audit_events::<Tlb, Console>(alloc, &file, conf, &events, &watches) {
+        Ok(finding) => finding,
+        Err(error) => return Err(fault_of_audit(error)),
+    };
+    let line = finding_line(alloc, finding)?;
+    Ok(Finished {
+        text: line.into_bytes(),
+        status: status(finding),
+    })
+}
+
+/// The fault of a run that isn't audited.
+pub fn fault_of_audit<'a>(error: AuditError) -> Fault<'a>
+    ensures { result ≡ fault_of_audit error }
+{
+    match error {
+        AuditError::Boot(error) => Fault::from(error),
+        AuditError::BadWatch(k) => Fault::Watch(k),
+    }
+}
+
+// The line of a finding.
+fn finding_line(alloc: Global, finding: Finding) -> Result<String, AllocError>
+    ensures { IfOk result (λ line. string_bytes line ≡ with_line_end (finding_text finding)) }
+{
+    let shown = ShownFinding(finding);
+    format!(in alloc; "{shown}\n")
+}
+
+// The exit status of a finding.
+fn status(finding: Finding) -> u8
+    ensures { result ≡ status_of_finding finding }
+{
+    match finding {
+        Finding::Clean => 0,
+        Finding::Stale { .. } => 4,
+    }
+}

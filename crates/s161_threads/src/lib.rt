@@ -1,4 +1,0 @@
-//! The command that runs a machine in threads.
-#![tactic(auto)]
-
-pub mod threaded;
