@@ -1,125 +1,195 @@
-use Rattle.std.specs.Prelude.{None, if◌then◌else◌, Bool, true, false}
-use Rattle.std.proofs.Common.{◌≡◌, ◌∙◌, refl, sym, ap, subst, ℕ, ◌+◌, ◌<◌, ◌≤◌, List, [], ◌∷◌, ◌++◌, length, arith}
-use Rattle.std.proofs.lemmas.List.{length-append}
+use Rattle.std.specs.Prelude.{Option, OnErr, Some, Result, Ok, Err, if◌then◌else◌, Bool, true, false, slice_get, slice_set}
+use Rattle.std.proofs.Common.{◌≡◌, ◌∙◌, refl, sym, ap, subst, ℕ, ◌+◌, ◌<◌, ◌≤◌, List, [], ◌∷◌, ◌++◌, length, take, arith, append_assoc, ◌-◌, ◌⊎◌, inl, inr}
+use Rattle.std.proofs.lemmas.List.{append-nil, length-append, length-take-le, take-append-le}
+use Rattle.m161_machine.specs.declared.event.Entry.{Entry}
 use Rattle.m161_machine.specs.declared.event.Event.{Event}
-use Rattle.m161_machine.specs.State.{State}
-use Rattle.m161_machine.specs.History.{Continues, History}
-use Rattle.m161_machine.proofs.Continuing.{continues_more}
+use Rattle.m161_machine.specs.declared.event.Event.TheVariants.{Step}
+use Rattle.m161_machine.specs.declared.event.Refusal.{Refusal}
+use Rattle.m161_machine.specs.History.{Refuses}
+use Rattle.m161_machine.specs.State.{State, next, refusal}
+use Rattle.m161_machine.specs.Stretch.{IsStretch}
 use Rattle.m161_drive.specs.declared.cursor.Cursor.{Cursor}
 use Rattle.m161_drive.specs.declared.run.Stop.{Stop}
 use Rattle.m161_drive.specs.declared.run.Stop.TheVariants.{Off, End, Stuck, Refused}
 use Rattle.m161_drive.specs.Policy.{Rules}
-use Rattle.m161_drive.specs.Choice.{cursor_at}
-use Rattle.m161_drive.specs.Drive.{BeginsRun, Chooses, Drives, DrivesState, Goes, Stops}
-use Rattle.m161_drive.specs.helpers.Drive.{Makes, Rests, TurnState, last_stop}
+use Rattle.m161_drive.specs.Choice.{chosen_with, cursor_at, taken}
+use Rattle.m161_drive.specs.Drive.{BeginsRun, Chooses, Drives, Goes, IsNoted, Rests, Stops, Turn}
+use Rattle.m161_drive.specs.helpers.Drive.{AreInTurn, IsRefused, LeavesRoom, MakesChosen, with_more_steps}
+use Rattle.m161_drive.proofs.Stretched.{choice_step, stretched}
 
 -- Driven runs.
 
--- one event more
-pub chooses_more : (rules : Rules) (es : List Event) (e : Event) (c b d : Cursor) (s u t : State) →
-    Chooses rules c s es b u → Goes rules b u e d t → Chooses rules c s (es ++ e ∷ []) d t
-chooses_more rules [] e c b d s u t h g =
-    (d, t, subst (λ x. Goes rules x s e d t) h.0 (subst (λ x. Goes rules b x e d t) h.1 g), (refl, refl))
-chooses_more rules (x ∷ es) e c b d s u t h g =
-    (h.0, h.1, h.2, chooses_more rules es e h.0 b d h.1 u t h.3 g)
+-- events behind others
+pub chooses_append : (rules : Rules) (keys : ℕ → Option ℕ) (es fs : List Entry) (c b d : Cursor) (s u t : State) →
+    Chooses rules keys c s es b u → Chooses rules keys b u fs d t → Chooses rules keys c s (es ++ fs) d t
+chooses_append rules keys [] fs c b d s u t h k =
+    subst (λ x. Chooses rules keys x s fs d t) h.0 (subst (λ x. Chooses rules keys b x fs d t) h.1 k)
+chooses_append rules keys (e ∷ es) fs c b d s u t h k =
+    (h.0, h.1, h.2, chooses_append rules keys es fs h.0 b d h.1 u t h.3 k)
 
--- a run so far
-pub record Driving (rules : Rules) (m : History) (made : ℕ) (c : Cursor) (k : History) : Type 0 where
-  pub events : List Event
-  pub made_is : length events ≡ made
-  pub chosen_are : Chooses rules (cursor_at rules m.state) m.state events c k.state
-  pub continues : Continues m events k
+-- a run so far, with what was noted of it
+pub record Driving
+    {A : Type 0} (has : ℕ → A → List Entry → Type 0) (rules : Rules) (s : State) (old : A) (made : ℕ) (c : Cursor) (t : State) (new : A)
+    : Type 0 where
+  pub entries : List Entry
+  pub made_is : length entries ≡ made
+  pub chosen_are : Chooses rules (slice_get rules.keys) (cursor_at rules s) s entries c t
+  pub noted : IsNoted has old entries new
 
-pub drives_more : (rules : Rules) (m : History) (made : ℕ) (c d : Cursor) (k l : History) →
-    Driving rules m made c k → Makes rules c k d l → Driving rules m (made + 1) d l
-drives_more rules m made c d k l so_far turn = record {
-  events = so_far.events ++ turn.event ∷ [];
-  made_is = length-append so_far.events (turn.event ∷ []) ∙ ap (λ n. n + 1) so_far.made_is;
-  chosen_are =
-      chooses_more rules so_far.events turn.event (cursor_at rules m.state) c d m.state k.state l.state so_far.chosen_are (record {
-        is_on = turn.is_on;
-        choice_is = turn.choice_is;
-        outcome = turn.outcome;
-        accepted = turn.answers.0;
-        cursor_is = turn.cursor_is;
-      });
-  continues = continues_more m k l so_far.events turn.event turn.outcome so_far.continues turn.answers;
+pub driving_none : {A : Type 0} (has : ℕ → A → List Entry → Type 0) (rules : Rules) (s : State) (notes : A) (c : Cursor) →
+    c ≡ cursor_at rules s → Driving has rules s notes 0 c s notes
+driving_none has rules s notes c start = record {
+  entries = [];
+  made_is = refl;
+  chosen_are = (start, refl);
+  noted = λ room so_far h. subst (λ es. has room notes es) (sym (append-nil so_far)) h;
+}
+
+pub driving_more : {A : Type 0} (has : ℕ → A → List Entry → Type 0) (rules : Rules) (s t u : State) (old mid new : A) (made more : ℕ)
+    (c d : Cursor) (es : List Entry) → Driving has rules s old made c t mid → length es ≡ more →
+    Chooses rules (slice_get rules.keys) c t es d u → IsNoted has mid es new → Driving has rules s old (made + more) d u new
+driving_more has rules s t u old mid new made more c d es so_far long turn noted = record {
+  entries = so_far.entries ++ es;
+  made_is = length-append so_far.entries es ∙ (λ i. so_far.made_is i + long i);
+  chosen_are = chooses_append rules (slice_get rules.keys) so_far.entries es (cursor_at rules s) c d s t u so_far.chosen_are turn;
+  noted = λ room before h.
+      subst (λ xs. has room new xs) (append_assoc before so_far.entries es) (noted room (before ++ so_far.entries) (so_far.noted room before h));
 }
 
 -- where it stops
-pub stopped : (rules : Rules) (n made : ℕ) (stop : Stop) (m k l : History) (c : Cursor) → made ≤ n → Driving rules m made c k →
-    Stops rules n made c k.state stop → l ≡ k → Drives rules n m (record { made = made; stop = stop }) l
-stopped rules n made stop m k l c few so_far h same =
-    subst (λ x. Drives rules n m (record { made = made; stop = stop }) x) (sym same) (record {
-      events = so_far.events;
-      cursor = c;
-      made_is = so_far.made_is;
-      few = few;
-      chosen_are = so_far.chosen_are;
-      continues = so_far.continues;
-      stops = h;
-    })
-
-pub stops_so : (rules : Rules) (n made : ℕ) (c : Cursor) (s : State) (stop : Stop) → made < n → Rests rules c s stop →
+stops_so : (rules : Rules) (n made : ℕ) (c : Cursor) (s : State) (stop : Stop) → made < n → Rests rules (slice_get rules.keys c.typed) c s stop →
     Stops rules n made c s stop
 stops_so rules n made c s Off less h = h
 stops_so rules n made c s End less h = absurd h
-stops_so rules n made c s Stuck less h = (h.0, less, h.1)
-stops_so rules n made c s (Refused refusal) less h = (h.0, less, h.1)
+stops_so rules n made c s Stuck less h = (less, h)
+stops_so rules n made c s (Refused refusal) less h = (less, h)
 
--- a run on a state alone, so far
-pub record DrivingState (rules : Rules) (s : State) (made : ℕ) (c : Cursor) (t : State) (events : List Event) : Type 0 where
-  pub made_is : length events ≡ made
-  pub chosen_are : Chooses rules (cursor_at rules s) s events c t
+pub ended_so : (rules : Rules) (n made : ℕ) (c : Cursor) (s : State) (off : Bool) → s.board.off ≡ off → made ≡ n →
+    Stops rules n made c s (if off then Off else End)
+ended_so rules n made c s true h all = h
+ended_so rules n made c s false h all = (h, all)
 
-pub state_begins : (rules : Rules) (s : State) (c : Cursor) (es : List Event) → c ≡ cursor_at rules s → es ≡ [] → DrivingState rules s 0 c s es
-state_begins rules s c es here none = record {
-  made_is = ap length none;
-  chosen_are = subst (λ xs. Chooses rules (cursor_at rules s) s xs c s) (sym none) (here, refl);
-}
+-- the whole of a run
+abbrev pub DrivesNoting : {A : Type 0} → (ℕ → A → List Entry → Type 0) → Rules → ℕ → State → A → ℕ → Stop → State → A → Type 0
+DrivesNoting has rules n s old made stop t new =
+    (entries : List Entry) × Drives rules n s (record { made = made; stop = stop }) entries t × IsNoted has old entries new
 
-pub drives_state_more : (rules : Rules) (s : State) (made : ℕ) (c d : Cursor) (t u : State) (es fs : List Event) →
-    DrivingState rules s made c t es → TurnState rules c t es None d u fs → DrivingState rules s (made + 1) d u fs
-drives_state_more rules s made c d t u es fs so_far turn =
-    subst (λ xs. DrivingState rules s (made + 1) d u xs) (sym turn.2) (record {
-      made_is = length-append es (turn.0 ∷ []) ∙ ap (λ n. n + 1) so_far.made_is;
-      chosen_are = chooses_more rules es turn.0 (cursor_at rules s) c d s t u so_far.chosen_are turn.1;
-    })
+-- a run that stopped behind its last event
+pub driven_so : {A : Type 0} (has : ℕ → A → List Entry → Type 0) (rules : Rules) (n made : ℕ) (stop : Stop) (s t : State) (c : Cursor)
+    (old new : A) → made ≤ n → Driving has rules s old made c t new → Stops rules n made c t stop →
+    DrivesNoting has rules n s old made stop t new
+driven_so has rules n made stop s t c old new few so_far h = (
+  so_far.entries,
+  record {
+    cursor = c;
+    made_is = so_far.made_is;
+    few = few;
+    chosen_are = so_far.chosen_are;
+    stops = h;
+  },
+  so_far.noted,
+)
 
-pub not_begun : (rules : Rules) (n : ℕ) (s : State) → BeginsRun rules n s s
-not_begun rules n s = ([], cursor_at rules s, (let none : 0 ≤ n = omega arith in none), (refl, refl))
+-- one that stopped because no event was made
+pub rested_so : {A : Type 0} (has : ℕ → A → List Entry → Type 0) (rules : Rules) (n made : ℕ) (stop : Stop) (s t u : State) (c : Cursor)
+    (old new : A) → made < n → Driving has rules s old made c t new → Rests rules (slice_get rules.keys c.typed) c t stop → u ≡ t →
+    DrivesNoting has rules n s old made stop u new
+rested_so has rules n made stop s t u c old new less so_far rests same =
+    subst (λ x. DrivesNoting has rules n s old made stop x new) (sym same)
+    (driven_so has rules n made stop s t c old new (omega (arith, less)) so_far (stops_so rules n made c t stop less rests))
 
--- the run up to here, if it goes no further
-pub begun_state : (rules : Rules) (n made : ℕ) (s t u : State) (c : Cursor) (es : List Event) → made ≤ n →
-    DrivingState rules s made c t es → u ≡ t → BeginsRun rules n s u
-begun_state rules n made s t u c es less so_far same =
-    subst (λ x. BeginsRun rules n s x) (sym same)
-    (es, c, (let long = so_far.made_is in omega (arith, long, less)), so_far.chosen_are)
+pub on_err : {A : Type 0} {E : Type 0} {P : Type 0} → (result : Result A E) → P → OnErr result P
+on_err (Ok x) h = tt
+on_err (Err e) h = h
 
-pub stopped_state : (rules : Rules) (n made : ℕ) (stop : Stop) (s t u : State) (c : Cursor) (es fs : List Event) → made ≤ n →
-    DrivingState rules s made c t es → Stops rules n made c t stop → u ≡ t → fs ≡ es →
-    DrivesState rules n s (record { made = made; stop = stop }) fs u
-stopped_state rules n made stop s t u c es fs few so_far h same all =
-    subst (λ xs. DrivesState rules n s (record { made = made; stop = stop }) xs u) (sym all)
-    (subst (λ x. DrivesState rules n s (record { made = made; stop = stop }) es x) (sym same) (record {
-      cursor = c;
-      made_is = so_far.made_is;
-      few = few;
-      chosen_are = so_far.chosen_are;
-      stops = h;
-    }))
+-- a beginning of a run
+pub begun_so : {A : Type 0} (has : ℕ → A → List Entry → Type 0) (rules : Rules) (n made more : ℕ) (s t u : State) (c d : Cursor)
+    (old new : A) (es : List Entry) → Driving has rules s old made c t new → length es ≡ more → made + more ≤ n →
+    Chooses rules (slice_get rules.keys) c t es d u → BeginsRun rules n s u
+begun_so has rules n made more s t u c d old new es so_far long few turn = (
+  so_far.entries ++ es,
+  d,
+  (let sum = length-append so_far.entries es in let first = so_far.made_is in omega (arith, sum, first, long, few)),
+  chooses_append rules (slice_get rules.keys) so_far.entries es (cursor_at rules s) c d s t u so_far.chosen_are turn,
+)
 
-ended_so : (rules : Rules) (n : ℕ) (c : Cursor) (s : State) (off : Bool) → s.board.off ≡ off → Stops rules n n c s (if off then Off else End)
-ended_so rules n c s true h = h
-ended_so rules n c s false h = (h, refl)
+-- Turns.
 
--- a run whose events were all made
-pub ended_state : (rules : Rules) (n made : ℕ) (stop : Stop) (s t : State) (c : Cursor) (es : List Event) → made ≡ n →
-    DrivingState rules s made c t es → stop ≡ last_stop t → DrivesState rules n s (record { made = n; stop = stop }) es t
-ended_state rules n made stop s t c es all so_far h = record {
-  cursor = c;
-  made_is = so_far.made_is ∙ all;
-  few = omega arith;
-  chosen_are = so_far.chosen_are;
-  stops = subst (λ x. Stops rules n n c t x) (sym h) (ended_so rules n c t t.board.off refl);
-}
+pub refused_by : (s : State) (e : Event) (r : Refusal) → refusal s e ≡ Some r → Refuses (next s e) e r
+unfolding next
+refused_by s e r h = rw h refl
+
+-- a chosen event that was refused
+pub refused_so : (rules : Rules) (key : Option ℕ) (c : Cursor) (s : State) (e : Event) (stop : Stop) → s.board.off ≡ false →
+    (chosen_with rules key c s).0 ≡ Some e → IsRefused e s stop → Rests rules key c s stop
+refused_so rules key c s e Off on choice h = absurd h
+refused_so rules key c s e End on choice h = absurd h
+refused_so rules key c s e Stuck on choice h = absurd h
+refused_so rules key c s e (Refused refusal) on choice h = (on, (e, choice, h))
+
+-- an input of a device, as a turn
+pub input_turn : (rules : Rules) (key : Option ℕ) (b c d : Cursor) (s t : State) (e : Event) (places : List Entry) (result : Result ℕ Stop) →
+    s.board.off ≡ false → 1 ≤ length places → (chosen_with rules key b s).0 ≡ Some e → c ≡ (chosen_with rules key b s).1 →
+    MakesChosen e c s places result d t → Turn rules key b s places result d t
+input_turn rules key b c d s t e places (Ok n) on some choice after h =
+    let made = h.1 in (
+      (let one = h.0 in omega (arith, one)),
+      (let one = h.0 in omega (arith, one, some)),
+      λ keys next_key. subst (λ es. Chooses rules keys b s es d t) (sym (ap (λ k. take k places) h.0 ∙ made.1)) (
+        d,
+        t,
+        subst (λ k. Goes rules k b s made.0 d t) (sym next_key) (record {
+          is_on = on;
+          choice_is = choice ∙ ap (λ x. Some x) (sym made.2);
+          accepted = ap (next s) made.2 ∙ made.3;
+          cursor_is = made.4 ∙ (λ i. taken (sym made.2 i) t (after i));
+        }),
+        (refl, refl),
+      ),
+    )
+input_turn rules key b c d s t e places (Err stop) on some choice after h =
+    (refused_so rules key b s e stop on choice h.0, h.1)
+
+-- the room that a stretch needs
+room_for : (rules : Rules) (key : Option ℕ) (most k : ℕ) (c : Cursor) (s : State) → k + 1 ≤ most →
+    (most ≡ 1) ⊎ LeavesRoom rules key c s most → (k ≡ 0) ⊎ LeavesRoom rules key c s most
+room_for rules key most k c s few (inl one) = inl (omega (arith, few, one))
+room_for rules key most k c s few (inr room) = inr room
+
+-- a stretch of Steps, as a turn
+pub stretch_turn : (rules : Rules) (key : Option ℕ) (p n most : ℕ) (b c d : Cursor) (s t : State) (places : List Entry) →
+    s.board.off ≡ false → (chosen_with rules key b s).0 ≡ Some (Step p) → c ≡ (chosen_with rules key b s).1 →
+    (most ≡ 1) ⊎ LeavesRoom rules key c s most → 1 ≤ n → n ≤ most → most ≤ length places → IsStretch p s (take n places) t →
+    d ≡ with_more_steps (n - 1) t c → Turn rules key b s places (Ok n) d t
+stretch_turn rules key p n most b c d s t places on choice after room some few inside h cursor =
+    let long : length h.before + 1 ≡ n =
+    sym (length-append h.before (h.last ∷ [])) ∙ ap length (sym h.entries_are) ∙ length-take-le n places (omega (arith, few, inside)) in
+    let step = choice_step p rules key b s choice in
+    let pair : chosen_with rules key b s ≡ (Some (Step p), c) = λ i. (choice i, sym after i) in
+    let less : length h.before + 1 ≤ most = omega (arith, long, few) in
+    let whole : with_more_steps (length h.before) t c ≡ d =
+    ap (λ k. with_more_steps k t c) (omega (arith, long)) ∙ sym cursor in (
+      some,
+      omega (arith, few, inside),
+      λ keys next_key. subst (λ x. Chooses rules keys b s (take n places) x t) whole
+          (subst (λ es. Chooses rules keys b s es (with_more_steps (length h.before) t c) t) (sym h.entries_are)
+          (stretched rules keys key p h.before h.last most b c s h.between t on pair next_key (ap (λ (x : Cursor). x.typed) after ∙ step.1)
+          (ap (λ (x : Cursor). x.last) after ∙ step.0) (room_for rules key most (length h.before) c s less room) less h.are_plain h.is_step
+          h.leads)),
+    )
+
+-- an entry in the first place
+pub first_set : (es : List Entry) (x : Entry) → 1 ≤ length es → take 1 (slice_set es 0 x) ≡ x ∷ []
+first_set [] x some = absurd (let bad : ⊥ = omega (arith, some) in bad)
+first_set (e ∷ es) x some = refl
+
+-- the Steps behind the first
+pub steps_behind : (rules : Rules) (key : Option ℕ) (n most : ℕ) (c : Cursor) (s : State) → 1 ≤ n → n ≤ most →
+    (most ≡ 1) ⊎ LeavesRoom rules key c s most → (n - 1 ≡ 0) ⊎ AreInTurn c.order (n - 1 + 1)
+steps_behind rules key n most c s some few (inl one) = inl (omega (arith, some, few, one))
+steps_behind rules key n most c s some few (inr room) =
+    let rest = room.0.3 in inr (room.0.0, room.0.1, room.0.2, omega (arith, rest, some, few))
+
+-- the first entries of a longer list
+pub take_front : (n : ℕ) (es fs : List Entry) → n ≤ length es → take n (es ++ fs) ≡ take n es
+take_front n es fs h = take-append-le n es fs h

@@ -1,7 +1,7 @@
 use Rattle.std.proofs.Common.{◌≡◌, ◌∙◌, refl, sym, ap, ℕ, zero, suc, ◌+◌, ◌-◌, ◌<◌, ◌≤◌, Bool, true, false, cond, List, [], ◌∷◌, ◌++◌, length, take, set, arith, append_assoc}
 use Rattle.std.proofs.lemmas.Grind.{take-set_at}
 use Rattle.std.proofs.lemmas.Bool.Decides.{nat_tests}
-use Rattle.std.specs.Prelude.{Option, None, Some, ◌==◌, ◌||◌, find, filter, is_some, slice_get}
+use Rattle.std.specs.Prelude.{Option, None, Some, ◌==◌, ◌||◌, find, filter, is_some}
 use Rattle.std.specs.List.{list_any, range_with_len}
 
 -- Searches along a range.

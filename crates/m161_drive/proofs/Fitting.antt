@@ -19,7 +19,7 @@ use Rattle.m161_drive.specs.declared.cursor.Cursor.{Cursor}
 use Rattle.m161_drive.specs.declared.turns.Turns.{Turns}
 use Rattle.m161_drive.specs.declared.orders.OrderState.{OrderState}
 use Rattle.m161_drive.specs.declared.orders.OrderState.TheVariants.{InTurns, AtRandom, ByPriority}
-use Rattle.m161_drive.specs.Choice.{chosen_with, gap_is_over, next_step, ordered, since_filled, tick, transfer_ends, type_key, wants_key}
+use Rattle.m161_drive.specs.Choice.{chosen_with, gap_is_over, key_is_due, next_step, ordered, since_filled, tick, transfer_ends, type_key, wants_key}
 use Rattle.m161_drive.specs.Orders.{at_place, begun, by_order, by_ranks, by_turns, by_words, goes_on, one_of}
 use Rattle.m161_drive.specs.Policy.{Rules}
 use Rattle.m161_drive.specs.Priorities.{Ranks, higher, highest}
@@ -195,8 +195,8 @@ choice_fits rules key c s =
     if_fits (transfer_ends rules c s) (Some Done, c) (if wants_key rules c s then type_key key c s else next_step c s) s
     (λ h. just Done s (and_first (is_sending s) (nat_le rules.transfer (since_filled c.filled s) || not (some_ready s)) h))
     (if_fits (wants_key rules c s) (type_key key c s) (next_step c s) s
-    (λ h. key_fits key c s (and_second (not (transfer_ends rules c s)) room
-    (and_first (not (transfer_ends rules c s) && room) (gap_is_over rules.gap c s || not (some_ready s)) h)))
+    (λ h. key_fits key c s (and_first room (gap_is_over rules.gap c s || not (some_ready s))
+    (and_second (not (transfer_ends rules c s)) (key_is_due rules c s) h)))
     (step_fits c s))
 
 -- so it is refused for the last refusals alone

@@ -1,15 +1,15 @@
-use Rattle.std.proofs.Common.{◌≡◌, refl, ℕ, Bool, true, false, not, length}
-use Rattle.std.specs.Prelude.{Option, None, Some, ◌&&◌, ◌||◌, if◌then◌else◌, nat_lt}
+use Rattle.std.proofs.Common.{◌≡◌, refl, ℕ, Bool, true, false, not}
+use Rattle.std.specs.Prelude.{Option, None, Some, if◌then◌else◌}
 use Rattle.m161_machine.specs.declared.event.Event.{Event}
 use Rattle.m161_machine.specs.declared.event.Event.TheVariants.{Done}
 use Rattle.m161_machine.specs.State.{State}
 use Rattle.m161_drive.specs.declared.cursor.Cursor.{Cursor}
 use Rattle.m161_drive.specs.declared.orders.OrderState.{OrderState}
-use Rattle.m161_drive.specs.Choice.{chosen_with, gap_is_over, next_step, ordered, tick, transfer_ends, type_key, wants_key}
+use Rattle.m161_drive.specs.Choice.{chosen_with, key_is_due, next_step, ordered, tick, transfer_ends, type_key, wants_key}
 use Rattle.m161_drive.specs.Drive.{KeyIsTyped, KeyIsUnread, KeysAreApart, NoKeyIsCounted}
 use Rattle.m161_drive.specs.Orders.{by_order}
 use Rattle.m161_drive.specs.Policy.{Rules}
-use Rattle.m161_drive.specs.Ready.{is_ticking, next_behind, some_ready}
+use Rattle.m161_drive.specs.Ready.{is_ticking, next_behind}
 use Rattle.m161_drive.proofs.Fitting.{and_first}
 
 -- The next key in a choice.
@@ -37,10 +37,7 @@ wanted false false done x step n h = let bad : false ≡ true = h in absurd cc
 pub key_is_typed : (rules : Rules) (c : Cursor) (s : State) → KeyIsTyped rules c s
 unfolding chosen_with
 key_is_typed rules c s key h =
-    let room = nat_lt (length s.board.console.waiting) 256 in
-    let on : not (transfer_ends rules c s) ≡ true =
-    and_first (not (transfer_ends rules c s)) room
-    (and_first (not (transfer_ends rules c s) && room) (gap_is_over rules.gap c s || not (some_ready s)) h) in
+    let on : not (transfer_ends rules c s) ≡ true = and_first (not (transfer_ends rules c s)) (key_is_due rules c s) h in
     wanted (transfer_ends rules c s) (wants_key rules c s) (Some Done, c) (type_key key c s) (next_step c s) on h
 
 tick_counts : (p : Option ℕ) (c : Cursor) → (tick p c).1.typed ≡ c.typed

@@ -185,7 +185,7 @@ or_none : (a b : Bool) → (a || b) ≡ false → (a ≡ false) × (b ≡ false)
 or_none true b h = let bad : true ≡ false = h in absurd cc
 or_none false b h = (refl, h)
 
-any_none : (test : ℕ → Bool) (n a p : ℕ) → list_any test (range_with_len a n) ≡ false → a ≤ p → p < a + n → test p ≡ false
+pub any_none : (test : ℕ → Bool) (n a p : ℕ) → list_any test (range_with_len a n) ≡ false → a ≤ p → p < a + n → test p ≡ false
 any_none test zero a p h low high = absurd (omega arith)
 any_none test (suc n) a p h low high =
     let parts = or_none (test a) (list_any test (range_with_len (a + 1) n)) h in
@@ -195,7 +195,7 @@ any_none test (suc n) a p h low high =
     ]
 
 -- the result of an accepted Step
-accepted : (none off worn : Bool) (given : Outcome × State) (o : Outcome) (t : State) →
+pub accepted : (none off worn : Bool) (given : Outcome × State) (o : Outcome) (t : State) →
     unless (first_answer ((none, BadProcessor) ∷ (off, Off) ∷ (worn, Worn) ∷ [])) (Ok given) ≡ Ok (o, t) →
     (none ≡ false) × (given.0 ≡ o) × (given.1 ≡ t)
 accepted true off worn given o t h = let bad : ◌≡◌ {A = Result (Outcome × State) Refusal} (Err BadProcessor) (Ok (o, t)) = h in absurd cc
@@ -206,10 +206,10 @@ accepted false false false given o t h =
     let pair : given ≡ (o, t) = cc in
     (refl, ap (λ (x : Outcome × State). x.0) pair, ap (λ (x : Outcome × State). x.1) pair)
 
-is_less : (n p : ℕ) → nat_le n p ≡ false → p < n
+pub is_less : (n p : ℕ) → nat_le n p ≡ false → p < n
 is_less n p h = grind (arith, nat_tests)
 
-less_is : (p n : ℕ) → p < n → nat_lt p n ≡ true
+pub less_is : (p n : ℕ) → p < n → nat_lt p n ≡ true
 less_is p n h = grind (arith, nat_tests)
 
 not_ready : (a b : Bool) → a ≡ true → (a && not b) ≡ false → b ≡ true

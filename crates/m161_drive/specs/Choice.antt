@@ -25,12 +25,15 @@ abbrev pub gap_is_over : Option ℕ → Cursor → State → Bool
 gap_is_over None c s = false
 gap_is_over (Some gap) c s = nat_le gap (s.made - c.keyed)
 
+-- there is room for a key, and it is time for one
+abbrev pub key_is_due : Rules → Cursor → State → Bool
+key_is_due rules c s =
+    nat_lt (length s.board.console.waiting) 256
+    && (gap_is_over rules.gap c s || not (some_ready s))
+
 -- a key may be typed now, if there is one
 abbrev pub wants_key : Rules → Cursor → State → Bool
-wants_key rules c s =
-    not (transfer_ends rules c s)
-    && nat_lt (length s.board.console.waiting) 256
-    && (gap_is_over rules.gap c s || not (some_ready s))
+wants_key rules c s = not (transfer_ends rules c s) && key_is_due rules c s
 
 -- the next Step is one of a processor whose timer runs
 abbrev pub tick : Option ℕ → Cursor → Option Event × Cursor

@@ -1,75 +1,90 @@
-use Rattle.std.specs.Prelude.{◌≡◌, ℕ, ◌<◌, ◌≤◌, true, false, List, [], ◌∷◌, length, Option, None, Some, Ok, ◌⊎◌}
+use Rattle.std.specs.Prelude.{◌≡◌, ℕ, ◌<◌, ◌≤◌, true, false, List, [], ◌∷◌, ◌++◌, length, slice_get, take, Option, None, Some, Result, Ok, Err, ◌⊎◌}
 use Rattle.m161_cpu.specs.declared.processor.Outcome.{Outcome}
 use Rattle.m161_cpu.specs.declared.processor.Outcome.TheVariants.{Idle}
+use Rattle.m161_machine.specs.declared.event.Entry.{Entry}
 use Rattle.m161_machine.specs.declared.event.Event.{Event}
 use Rattle.m161_machine.specs.declared.event.Event.TheVariants.{Step}
 use Rattle.m161_machine.specs.declared.event.Refusal.{Refusal}
 use Rattle.m161_machine.specs.declared.event.Refusal.TheVariants.{Worn, NoMemory}
 use Rattle.m161_machine.specs.State.{State, next}
-use Rattle.m161_machine.specs.History.{History, Continues, Refuses}
+use Rattle.m161_machine.specs.History.{Refuses}
 use Rattle.m161_drive.specs.declared.cursor.Cursor.{Cursor}
 use Rattle.m161_drive.specs.declared.run.Driven.{Driven}
 use Rattle.m161_drive.specs.declared.run.Stop.{Stop}
 use Rattle.m161_drive.specs.declared.run.Stop.TheVariants.{Off, End, Stuck, Refused}
 use Rattle.m161_drive.specs.Policy.{Rules}
-use Rattle.m161_drive.specs.Choice.{chosen, chosen_with, cursor_at, taken, type_key, wants_key}
+use Rattle.m161_drive.specs.Choice.{chosen_with, cursor_at, taken, type_key, wants_key}
 use Rattle.m161_drive.specs.Ready.{is_asleep}
 
 -- Driven runs.
 
--- in a state that isn't off, the policy chooses this event, it is accepted, and this is left
+-- in a state that isn't off, the policy chooses the event of this entry, if the next key is this one;
+-- it is accepted with the entry's outcome, and this is left
 pub record Goes
-    (rules : Rules) (c : Cursor) (s : State) (e : Event) (d : Cursor) (t : State) : Type 0 where
+    (rules : Rules) (key : Option ℕ) (c : Cursor) (s : State) (e : Entry) (d : Cursor) (t : State)
+    : Type 0 where
   pub is_on : s.board.off ≡ false
-  pub choice_is : (chosen rules c s).0 ≡ Some e
-  pub outcome : Outcome
-  pub accepted : next s e ≡ Ok (outcome, t)
-  pub cursor_is : d ≡ taken e t (chosen rules c s).1
+  pub choice_is : (chosen_with rules key c s).0 ≡ Some e.event
+  pub accepted : next s e.event ≡ Ok (e.outcome, t)
+  pub cursor_is : d ≡ taken e.event t (chosen_with rules key c s).1
 
--- from a cursor and a state on, these are the events that the policy chooses, each in its state; all
--- are accepted, and lead to another cursor and state
-abbrev pub Chooses : Rules → Cursor → State → List Event → Cursor → State → Type 0
-Chooses rules c s [] d t = (d ≡ c) × (t ≡ s)
-Chooses rules c s (e ∷ es) d t =
-    (b : Cursor) × (u : State) × Goes rules c s e b u × Chooses rules b u es d t
+-- from a cursor and a state on, these are the entries of the events that the policy chooses, each in
+-- its state; they lead to another cursor and state. `keys` are the keys by their numbers
+abbrev pub Chooses :
+    Rules → (ℕ → Option ℕ) → Cursor → State → List Entry → Cursor → State → Type 0
+Chooses rules keys c s [] d t = (d ≡ c) × (t ≡ s)
+Chooses rules keys c s (e ∷ es) d t =
+    (b : Cursor) × (u : State) × Goes rules (keys c.typed) c s e b u × Chooses rules keys b u es d t
+
+-- why no event is made in a state, if the next key is this one
+abbrev pub Rests : Rules → Option ℕ → Cursor → State → Stop → Type 0
+Rests rules key c s Off = s.board.off ≡ true
+Rests rules key c s End = ⊥
+Rests rules key c s Stuck = (s.board.off ≡ false) × ((chosen_with rules key c s).0 ≡ None)
+Rests rules key c s (Refused refusal) =
+    (s.board.off ≡ false)
+    × ((e : Event) × ((chosen_with rules key c s).0 ≡ Some e) × Refuses (next s e) e refusal)
+
+-- the next events of a run, with their entries in the first of these places, whatever the keys
+-- behind the next one are; or why there is none
+abbrev pub Turn :
+    Rules → Option ℕ → Cursor → State → List Entry → Result ℕ Stop → Cursor → State → Type 0
+Turn rules key c s places (Ok n) d t =
+    (1 ≤ n) × (n ≤ length places)
+    × ((keys : ℕ → Option ℕ) → keys c.typed ≡ key → Chooses rules keys c s (take n places) d t)
+Turn rules key c s places (Err stop) d t = Rests rules key c s stop × (t ≡ s)
 
 -- why a run of at most n events stops in a state, `made` events after its start
 abbrev pub Stops : Rules → ℕ → ℕ → Cursor → State → Stop → Type 0
 Stops rules n made c s Off = s.board.off ≡ true
 Stops rules n made c s End = (s.board.off ≡ false) × (made ≡ n)
-Stops rules n made c s Stuck =
-    (s.board.off ≡ false) × (made < n) × ((chosen rules c s).0 ≡ None)
+Stops rules n made c s Stuck = (made < n) × Rests rules (slice_get rules.keys c.typed) c s Stuck
 Stops rules n made c s (Refused refusal) =
-    (s.board.off ≡ false) × (made < n)
-    × ((e : Event) × ((chosen rules c s).0 ≡ Some e) × Refuses (next s e) e refusal)
+    (made < n) × Rests rules (slice_get rules.keys c.typed) c s (Refused refusal)
 
--- the machine after a driven run: it went on along exactly the events that the policy chose, with a
--- new cursor, until the run stopped
-pub record Drives (rules : Rules) (n : ℕ) (m : History) (driven : Driven) (k : History) : Type 0 where
-  pub events : List Event
-  pub cursor : Cursor
-  pub made_is : length events ≡ driven.made
-  pub few : driven.made ≤ n
-  pub chosen_are : Chooses rules (cursor_at rules m.state) m.state events cursor k.state
-  pub continues : Continues m events k
-  pub stops : Stops rules n driven.made cursor k.state driven.stop
-
--- a driven run on a state alone: the policy chose exactly these events, with a new cursor, until the
--- run stopped in another state
-pub record DrivesState
-    (rules : Rules) (n : ℕ) (s : State) (driven : Driven) (events : List Event) (t : State)
+-- a driven run from a state: the policy chose exactly the events of these entries, with a new cursor,
+-- until the run stopped in another state
+pub record Drives
+    (rules : Rules) (n : ℕ) (s : State) (driven : Driven) (entries : List Entry) (t : State)
     : Type 0 where
   pub cursor : Cursor
-  pub made_is : length events ≡ driven.made
+  pub made_is : length entries ≡ driven.made
   pub few : driven.made ≤ n
-  pub chosen_are : Chooses rules (cursor_at rules s) s events cursor t
+  pub chosen_are :
+      Chooses rules (slice_get rules.keys) (cursor_at rules s) s entries cursor t
   pub stops : Stops rules n driven.made cursor t driven.stop
 
 -- at most n events that the policy chose, with a new cursor, lead from a state to another
 abbrev pub BeginsRun : Rules → ℕ → State → State → Type 0
 BeginsRun rules n s t =
-    (events : List Event) × (cursor : Cursor) × (length events ≤ n)
-    × Chooses rules (cursor_at rules s) s events cursor t
+    (entries : List Entry) × (cursor : Cursor) × (length entries ≤ n)
+    × Chooses rules (slice_get rules.keys) (cursor_at rules s) s entries cursor t
+
+-- what has something of the entries so far has it of these too, behind them
+abbrev pub IsNoted :
+    {A : Type 0} → (ℕ → A → List Entry → Type 0) → A → List Entry → A → Type 0
+IsNoted has old entries new =
+    (room : ℕ) (so_far : List Entry) → has room old so_far → has room new (so_far ++ entries)
 
 -- the law of every choice: in a state that isn't off, the chosen event is refused for Worn or, by
 -- want of memory, for NoMemory alone

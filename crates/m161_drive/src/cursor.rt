@@ -1,13 +1,15 @@
 //! The choice of the next event.
 
-ghost use Rattle.std.specs.Prelude.{◌≡◌, ◌-◌, ◌<◌, ◌^◌, IfSome, slice_get, length, Some};
-ghost use Rattle.m161_drive.specs.Choice.{chosen, chosen_with, cursor_at, filled_after, gap_is_over, next_step, since_filled, taken, transfer_ends, wants_key};
+ghost use Rattle.std.specs.Prelude.{◌≡◌, ◌⊎◌, ◌+◌, ◌-◌, ◌<◌, ◌≤◌, ◌^◌, IfSome, slice_get, length, Some};
+ghost use Rattle.m161_drive.specs.Choice.{chosen, chosen_with, cursor_at, filled_after, gap_is_over, key_is_due, next_step, since_filled, taken, transfer_ends, wants_key};
+ghost use Rattle.m161_drive.specs.helpers.Drive.{AreInTurn, AreUnsent, IsUntyped, LeavesRoom, with_more_steps};
 
 use crate::orders::OrderState;
 use crate::policy::Policy;
 use crate::ready::{next_ticking, some_ready};
-use crate::view::View;
-use m161_machine::Event;
+use m161_bus::Console;
+use m161_machine::{Core, Event};
+use m161_tlb::Tlb;
 
 /// What a policy has to know of the run so far. The policy and the machine are those that it was
 /// made for, each time.
@@ -39,19 +41,19 @@ fn filled_after(latch: Option<u8>, filled: Option<u64>, made: u64) -> Option<u64
 }
 
 impl Cursor {
-    /// A new cursor, for a run from the machine's state on. It has typed no key. A byte that is in
+    /// A new cursor, for a run from a state on. It has typed no key. A byte that is in
     /// the latch has just come there.
-    pub fn new<V: View>(policy: &Policy, machine: &V) -> Cursor
-        ensures { result ≡ cursor_at policy.now (V.state machine.now) }
+    pub fn new<T: Tlb, D: Console>(policy: &Policy, core: &Core<T, D>) -> Cursor
+        ensures { result ≡ cursor_at policy.now core.now.state }
     {
-        machine.has_few_processors();
-        let made = machine.made();
+        core.law();
+        let made = core.made();
         Cursor {
             typed: 0,
             keyed: made,
-            filled: filled_after(machine.latch(), None, made),
+            filled: filled_after(core.latch(), None, made),
             last: None,
-            order: OrderState::start(policy.order(), machine.processors()),
+            order: OrderState::start(policy.order(), core.processors()),
         }
     }
 
@@ -63,54 +65,59 @@ impl Cursor {
     }
 
     // How many events were accepted after the one that filled the latch.
-    fn since_filled<V: View>(&self, machine: &V) -> u64
-        ensures { result ≡ since_filled self.now.filled (V.state machine.now) }
+    fn since_filled<T: Tlb, D: Console>(&self, core: &Core<T, D>) -> u64
+        ensures { result ≡ since_filled self.now.filled core.now.state }
     {
         match self.filled {
-            Some(at) => machine.made().saturating_sub(at),
+            Some(at) => core.made().saturating_sub(at),
             None => 0,
         }
     }
 
     // Whether the byte in the latch is sent now.
     #[inline(always)]
-    fn transfer_ends<V: View>(&self, policy: &Policy, machine: &V) -> bool
-        ensures { result ≡ transfer_ends policy.now self.now (V.state machine.now) }
+    fn transfer_ends<T: Tlb, D: Console>(&self, policy: &Policy, core: &Core<T, D>) -> bool
+        ensures { result ≡ transfer_ends policy.now self.now core.now.state }
     {
-        machine.latch().is_some()
-            && (self.since_filled(machine) >= u64::from(policy.transfer()) || !some_ready(machine))
+        core.latch().is_some()
+            && (self.since_filled(core) >= u64::from(policy.transfer()) || !some_ready(core))
     }
 
     // Whether so many events were accepted after the last key as the policy wants.
-    fn gap_is_over<V: View>(&self, policy: &Policy, machine: &V) -> bool
-        ensures { result ≡ gap_is_over policy.now.gap self.now (V.state machine.now) }
+    fn gap_is_over<T: Tlb, D: Console>(&self, policy: &Policy, core: &Core<T, D>) -> bool
+        ensures { result ≡ gap_is_over policy.now.gap self.now core.now.state }
     {
         match policy.gap() {
-            Some(gap) => machine.made().saturating_sub(self.keyed) >= u64::from(gap),
+            Some(gap) => core.made().saturating_sub(self.keyed) >= u64::from(gap),
             None => false,
         }
     }
 
-    /// Whether a key is the next event, if there is a key.
-    pub fn wants_key<V: View>(&self, policy: &Policy, machine: &V) -> bool
-        ensures { result ≡ wants_key policy.now self.now (V.state machine.now) }
+    // Whether there is room for a key, and it is time for one.
+    fn key_is_due<T: Tlb, D: Console>(&self, policy: &Policy, core: &Core<T, D>) -> bool
+        ensures { result ≡ key_is_due policy.now self.now core.now.state }
     {
-        !self.transfer_ends(policy, machine)
-            && machine.waiting() < 256
-            && (self.gap_is_over(policy, machine) || !some_ready(machine))
+        core.waiting() < 256 && (self.gap_is_over(policy, core) || !some_ready(core))
+    }
+
+    /// Whether a key is the next event, if there is a key.
+    pub fn wants_key<T: Tlb, D: Console>(&self, policy: &Policy, core: &Core<T, D>) -> bool
+        ensures { result ≡ wants_key policy.now self.now core.now.state }
+    {
+        !self.transfer_ends(policy, core) && self.key_is_due(policy, core)
     }
 
     // The next Step, if a processor is ready or ticking.
     #[inline(always)]
-    fn next_step<V: View>(&mut self, machine: &V) -> Option<Event>
-        ensures event { result ≡ (next_step self.old (V.state machine.now)).0 }
-        ensures after { self.new ≡ (next_step self.old (V.state machine.now)).1 }
+    fn next_step<T: Tlb, D: Console>(&mut self, core: &Core<T, D>) -> Option<Event>
+        ensures event { result ≡ (next_step self.old core.now.state).0 }
+        ensures after { self.new ≡ (next_step self.old core.now.state).1 }
     {
-        if let Some(p) = self.order.choose(self.last, machine) {
+        if let Some(p) = self.order.choose(self.last, core) {
             self.last = Some(p);
             return Some(Event::Step(p));
         }
-        match next_ticking(machine, self.last) {
+        match next_ticking(core, self.last) {
             Some(p) => {
                 self.order.interrupt();
                 self.last = Some(p);
@@ -120,51 +127,132 @@ impl Cursor {
         }
     }
 
-    /// The event that the policy chooses in the machine's state, if the next key is this one. None
+    /// The event that the policy chooses in a state, if the next key is this one. None
     /// if there is nothing to do: the run is stuck. Of the same choice made again an order at random
     /// has another outcome, since its words are drawn.
     #[inline(always)]
     #[tactic(auto, unfolding(crate::specs::Choice::chosen_with))]
-    pub fn choose_with<V: View>(
+    pub fn choose_with<T: Tlb, D: Console>(
         &mut self,
         policy: &Policy,
-        machine: &V,
+        core: &Core<T, D>,
         key: Option<u8>,
     ) -> Option<Event>
         requires { IfSome key (λ _. self.old.typed < 2 ^ 64 - 1) }
-        ensures event { result ≡ (chosen_with policy.now key self.old (V.state machine.now)).0 }
-        ensures after { self.new ≡ (chosen_with policy.now key self.old (V.state machine.now)).1 }
+        ensures event { result ≡ (chosen_with policy.now key self.old core.now.state).0 }
+        ensures after { self.new ≡ (chosen_with policy.now key self.old core.now.state).1 }
     {
-        if self.transfer_ends(policy, machine) {
+        if self.transfer_ends(policy, core) {
             return Some(Event::Done);
         }
         if let Some(byte) = key {
-            if self.wants_key(policy, machine) {
+            if self.key_is_due(policy, core) {
                 self.typed += 1;
                 return Some(Event::Key(byte));
             }
         }
-        self.next_step(machine)
+        self.next_step(core)
     }
 
-    /// The event that the policy chooses in the machine's state, by its own keys.
+    /// The event that the policy chooses in a state, by its own keys.
     #[inline(always)]
-    pub fn choose<V: View>(&mut self, policy: &Policy, machine: &V) -> Option<Event>
-        ensures event { result ≡ (chosen policy.now self.old (V.state machine.now)).0 }
-        ensures after { self.new ≡ (chosen policy.now self.old (V.state machine.now)).1 }
+    pub fn choose<T: Tlb, D: Console>(
+        &mut self,
+        policy: &Policy,
+        core: &Core<T, D>,
+    ) -> Option<Event>
+        ensures event { result ≡ (chosen policy.now self.old core.now.state).0 }
+        ensures after { self.new ≡ (chosen policy.now self.old core.now.state).1 }
     {
         let key = policy.key(self.typed);
-        self.choose_with(policy, machine, key)
+        self.choose_with(policy, core, key)
     }
 
-    /// The chosen event was accepted, and led to the machine's state.
+    /// The chosen event was accepted, and led to this state.
     #[inline(always)]
-    pub fn took<V: View>(&mut self, event: Event, machine: &V)
-        ensures { self.new ≡ taken event (V.state machine.now) self.old }
+    pub fn took<T: Tlb, D: Console>(&mut self, event: Event, core: &Core<T, D>)
+        ensures { self.new ≡ taken event core.now.state self.old }
     {
         if let Event::Key(_) = event {
-            self.keyed = machine.made();
+            self.keyed = core.made();
         }
-        self.filled = filled_after(machine.latch(), self.filled, machine.made());
+        self.filled = filled_after(core.latch(), self.filled, core.made());
+    }
+
+    // How many Steps may come before a byte is sent; 0 where that isn't known.
+    fn until_sent<T: Tlb, D: Console>(&self, policy: &Policy, core: &Core<T, D>) -> u64
+        ensures { (result ≡ 0) ⊎ AreUnsent policy.now self.now core.now.state result }
+    {
+        match core.latch() {
+            Some(_) => match self.filled {
+                Some(_) => u64::from(policy.transfer()).saturating_sub(self.since_filled(core)),
+                None => 0,
+            },
+            None => match self.filled {
+                Some(_) => 0,
+                None => u64::MAX,
+            },
+        }
+    }
+
+    // How many Steps may come before this key is typed; 0 where that isn't known.
+    fn until_typed<T: Tlb, D: Console>(
+        &self,
+        policy: &Policy,
+        core: &Core<T, D>,
+        key: Option<u8>,
+    ) -> u64
+        ensures { (result ≡ 0)
+            ⊎ IsUntyped key policy.now.gap self.now core.now.state result }
+    {
+        let Some(_) = key else {
+            return u64::MAX;
+        };
+        match policy.gap() {
+            Some(gap) => {
+                if core.waiting() < 256 {
+                    u64::from(gap).saturating_sub(core.made().saturating_sub(self.keyed))
+                } else {
+                    u64::MAX
+                }
+            }
+            None => u64::MAX,
+        }
+    }
+
+    /// Behind the choice of a Step: how many Steps of its processor, this one the first of them, may
+    /// be made at once, of so many at most, before another event could be chosen than its next Step.
+    #[inline(always)]
+    pub(crate) fn steps_in_a_row<T: Tlb, D: Console>(
+        &self,
+        policy: &Policy,
+        core: &Core<T, D>,
+        key: Option<u8>,
+        most: usize,
+    ) -> usize
+        requires { 1 ≤ most }
+        ensures some { (1 ≤ result) × (result ≤ most) }
+        ensures room { (result ≡ 1) ⊎ LeavesRoom policy.now key self.now core.now.state result }
+    {
+        let rest = self.order.rest_of_turn();
+        if rest == 1 {
+            return 1;
+        }
+        let free = self
+            .until_sent(policy, core)
+            .min(self.until_typed(policy, core, key));
+        let rest = rest.min(free).min(most as u64);
+        if rest == 0 { 1 } else { rest as usize }
+    }
+
+    /// The chosen Step was accepted, and so were this many Steps of its processor behind it; they led
+    /// to this state.
+    #[inline(always)]
+    pub(crate) fn took_steps<T: Tlb, D: Console>(&mut self, more: usize, core: &Core<T, D>)
+        requires { (more ≡ 0) ⊎ AreInTurn self.old.order (more + 1) }
+        ensures { self.new ≡ with_more_steps more core.now.state self.old }
+    {
+        self.order.go_on(more);
+        self.filled = filled_after(core.latch(), self.filled, core.made());
     }
 }

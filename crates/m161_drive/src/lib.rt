@@ -16,26 +16,24 @@
 //! Guarantees of Finding Bugs, 2010).
 #![tactic(auto)]
 
-mod alone;
 mod cursor;
 mod laws;
+mod notes;
 mod orders;
 mod policy;
 mod ranking;
 mod ready;
 mod run;
 mod turns;
-mod view;
 mod words;
 
-pub use alone::{DrivenEvents, drive_core};
 pub use cursor::Cursor;
 pub use laws::{
     chooses_accepted, key_is_typed, key_is_unread, keys_are_apart, no_key_is_counted, stays_asleep,
 };
-pub use m161_machine::{Core, Event, Machine, Refusal};
+pub use m161_machine::{Core, Event, PackedEntry, Refusal};
 pub use m161_order::{Order, OrderError};
+pub use notes::{Notes, Unnoted};
 pub use policy::Policy;
 pub use ready::is_asleep;
-pub use run::{Driven, Stop, drive};
-pub use view::View;
+pub use run::{Driven, Stop, drive, turn};

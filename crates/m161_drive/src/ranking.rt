@@ -7,8 +7,10 @@ ghost use Rattle.m161_drive.specs.Words.{after_words, draws};
 ghost use Rattle.m161_drive.specs.helpers.Places.{AreFrom};
 
 use crate::ready::is_ready;
-use crate::view::View;
 use crate::words::{below, seeded};
+use m161_bus::Console;
+use m161_machine::Core;
+use m161_tlb::Tlb;
 use rand_pcg::Pcg32;
 use std::marker::Model;
 
@@ -184,11 +186,11 @@ impl Ranking {
     }
 
     // How many of the places may have a processor of the machine.
-    fn places<V: View>(&self, machine: &V) -> usize
+    fn places<T: Tlb, D: Console>(&self, core: &Core<T, D>) -> usize
         ensures within { result ≤ 32 }
-        ensures others { AreFrom (length (V.state machine.now).processors) result self.now.processors }
+        ensures others { AreFrom (length core.now.state.processors) result self.now.processors }
     {
-        if machine.processors() <= self.number {
+        if core.processors() <= self.number {
             self.used
         } else {
             32
@@ -196,13 +198,13 @@ impl Ranking {
     }
 
     // The place of the ready processor of the highest rank.
-    fn highest<V: View>(&self, machine: &V) -> Option<usize>
-        ensures value { result ≡ highest self.now (V.state machine.now) }
+    fn highest<T: Tlb, D: Console>(&self, core: &Core<T, D>) -> Option<usize>
+        ensures value { result ≡ highest self.now core.now.state }
         ensures within { IfSome result (λ k. k < 32) }
     {
         let mut best = None;
-        for k in 0..self.places(machine) {
-            if is_ready(machine, self.processors[k]) {
+        for k in 0..self.places(core) {
+            if is_ready(core, self.processors[k]) {
                 best = Some(self.higher(best, k));
             }
         }
@@ -238,11 +240,11 @@ impl Ranking {
     }
 
     /// The next processor, if one is ready.
-    pub(crate) fn choose<V: View>(&mut self, machine: &V) -> Option<u32>
-        ensures processor { result ≡ (by_ranks self.old (V.state machine.now)).0 }
-        ensures after { self.new ≡ (by_ranks self.old (V.state machine.now)).1 }
+    pub(crate) fn choose<T: Tlb, D: Console>(&mut self, core: &Core<T, D>) -> Option<u32>
+        ensures processor { result ≡ (by_ranks self.old core.now.state).0 }
+        ensures after { self.new ≡ (by_ranks self.old core.now.state).1 }
     {
-        match self.highest(machine) {
+        match self.highest(core) {
             Some(place) => {
                 let p = self.processors[place];
                 self.count_step(place);

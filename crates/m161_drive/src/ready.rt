@@ -4,30 +4,32 @@ ghost use Rattle.std.specs.Prelude.{◌≡◌, ◌-◌, ◌<◌, ◌≤◌, leng
 ghost use Rattle.std.specs.List.{list_any, range_with_len};
 ghost use Rattle.m161_drive.specs.Ready.{is_asleep, is_ready, is_ticking, next_behind, place_behind, ready, some_ready, some_ticking};
 
-use crate::view::View;
+use m161_bus::Console;
+use m161_machine::Core;
+use m161_tlb::Tlb;
 
 /// Whether a processor exists, and its Step isn't idle.
 #[inline(always)]
-pub(crate) fn is_ready<V: View>(machine: &V, p: u32) -> bool
-    ensures { result ≡ is_ready (V.state machine.now) p }
+pub(crate) fn is_ready<T: Tlb, D: Console>(core: &Core<T, D>, p: u32) -> bool
+    ensures { result ≡ is_ready core.now.state p }
 {
-    p < machine.processors() && !machine.rests(p)
+    p < core.processors() && !core.rests(p)
 }
 
 /// Whether a processor exists, and rests until its timer's interrupt.
-pub(crate) fn is_ticking<V: View>(machine: &V, p: u32) -> bool
-    ensures { result ≡ is_ticking (V.state machine.now) p }
+pub(crate) fn is_ticking<T: Tlb, D: Console>(core: &Core<T, D>, p: u32) -> bool
+    ensures { result ≡ is_ticking core.now.state p }
 {
-    p < machine.processors() && machine.ticks(p)
+    p < core.processors() && core.ticks(p)
 }
 
 // The first of these processors that is ready.
 #[inline(always)]
-fn ready_between<V: View>(machine: &V, from: u32, to: u32) -> Option<u32>
-    ensures { result ≡ find (is_ready (V.state machine.now)) (range_with_len from (to - from)) }
+fn ready_between<T: Tlb, D: Console>(core: &Core<T, D>, from: u32, to: u32) -> Option<u32>
+    ensures { result ≡ find (is_ready core.now.state) (range_with_len from (to - from)) }
 {
     for p in from..to {
-        if is_ready(machine, p) {
+        if is_ready(core, p) {
             return Some(p);
         }
     }
@@ -35,11 +37,11 @@ fn ready_between<V: View>(machine: &V, from: u32, to: u32) -> Option<u32>
 }
 
 // The first of these processors that is ticking.
-fn ticking_between<V: View>(machine: &V, from: u32, to: u32) -> Option<u32>
-    ensures { result ≡ find (is_ticking (V.state machine.now)) (range_with_len from (to - from)) }
+fn ticking_between<T: Tlb, D: Console>(core: &Core<T, D>, from: u32, to: u32) -> Option<u32>
+    ensures { result ≡ find (is_ticking core.now.state) (range_with_len from (to - from)) }
 {
     for p in from..to {
-        if is_ticking(machine, p) {
+        if is_ticking(core, p) {
             return Some(p);
         }
     }
@@ -59,54 +61,54 @@ fn place_behind(last: Option<u32>, processors: u32) -> u32
 
 /// The next ready processor behind the last in cyclic order.
 #[inline(always)]
-pub(crate) fn next_ready<V: View>(machine: &V, last: Option<u32>) -> Option<u32>
-    ensures { result ≡ next_behind (is_ready (V.state machine.now)) last (V.state machine.now) }
+pub(crate) fn next_ready<T: Tlb, D: Console>(core: &Core<T, D>, last: Option<u32>) -> Option<u32>
+    ensures { result ≡ next_behind (is_ready core.now.state) last core.now.state }
 {
-    let processors = machine.processors();
+    let processors = core.processors();
     let place = place_behind(last, processors);
-    match ready_between(machine, place, processors) {
+    match ready_between(core, place, processors) {
         Some(p) => Some(p),
-        None => ready_between(machine, 0, place),
+        None => ready_between(core, 0, place),
     }
 }
 
 /// The next ticking processor behind the last in cyclic order.
-pub(crate) fn next_ticking<V: View>(machine: &V, last: Option<u32>) -> Option<u32>
-    ensures { result ≡ next_behind (is_ticking (V.state machine.now)) last (V.state machine.now) }
+pub(crate) fn next_ticking<T: Tlb, D: Console>(core: &Core<T, D>, last: Option<u32>) -> Option<u32>
+    ensures { result ≡ next_behind (is_ticking core.now.state) last core.now.state }
 {
-    let processors = machine.processors();
+    let processors = core.processors();
     let place = place_behind(last, processors);
-    match ticking_between(machine, place, processors) {
+    match ticking_between(core, place, processors) {
         Some(p) => Some(p),
-        None => ticking_between(machine, 0, place),
+        None => ticking_between(core, 0, place),
     }
 }
 
 /// Whether a processor is ready.
-pub(crate) fn some_ready<V: View>(machine: &V) -> bool
-    ensures { result ≡ some_ready (V.state machine.now) }
+pub(crate) fn some_ready<T: Tlb, D: Console>(core: &Core<T, D>) -> bool
+    ensures { result ≡ some_ready core.now.state }
 {
-    ready_between(machine, 0, machine.processors()).is_some()
+    ready_between(core, 0, core.processors()).is_some()
 }
 
 // Whether a processor is ticking.
-fn some_ticking<V: View>(machine: &V) -> bool
-    ensures { result ≡ some_ticking (V.state machine.now) }
+fn some_ticking<T: Tlb, D: Console>(core: &Core<T, D>) -> bool
+    ensures { result ≡ some_ticking core.now.state }
 {
-    ticking_between(machine, 0, machine.processors()).is_some()
+    ticking_between(core, 0, core.processors()).is_some()
 }
 
 /// Writes the ready processors into the first places, in ascending order. Returns how many there are.
 #[inline(always)]
-pub(crate) fn list_ready<V: View>(machine: &V, places: &mut [u8; 32]) -> usize
-    ensures places { take result places.new ≡ ready (V.state machine.now) }
+pub(crate) fn list_ready<T: Tlb, D: Console>(core: &Core<T, D>, places: &mut [u8; 32]) -> usize
+    ensures places { take result places.new ≡ ready core.now.state }
     ensures within { result ≤ 32 }
     ensures length { length places.new ≡ 32 }
 {
-    machine.has_few_processors();
+    core.law();
     let mut count = 0;
-    for p in 0..machine.processors() {
-        if is_ready(machine, p) {
+    for p in 0..core.processors() {
+        if is_ready(core, p) {
             places[count] = p as u8;
             count += 1;
         }
@@ -116,8 +118,8 @@ pub(crate) fn list_ready<V: View>(machine: &V, places: &mut [u8; 32]) -> usize
 
 /// Whether no processor is ready, and none waits for its timer: until a key is typed or a byte is
 /// sent, each Step is idle, and none changes this.
-pub fn is_asleep<V: View>(machine: &V) -> bool
-    ensures { result ≡ is_asleep (V.state machine.now) }
+pub fn is_asleep<T: Tlb, D: Console>(core: &Core<T, D>) -> bool
+    ensures { result ≡ is_asleep core.now.state }
 {
-    !(some_ready(machine) || some_ticking(machine))
+    !(some_ready(core) || some_ticking(core))
 }

@@ -1,14 +1,17 @@
 //! Driven runs.
 
-ghost use Rattle.std.specs.Prelude.{◌≡◌, ◌<◌, None, Some};
-ghost use Rattle.m161_drive.specs.Drive.{Drives};
-ghost use Rattle.m161_drive.specs.helpers.Drive.{Turn};
+ghost use Rattle.std.specs.Prelude.{◌≡◌, ◌-◌, ◌<◌, ◌≤◌, ◌^◌, List, IfOk, IfSome, OnErr, length};
+ghost use Rattle.m161_machine.specs.declared.event.Entry.{Entry};
+ghost use Rattle.m161_drive.specs.Drive.{BeginsRun, Drives, IsNoted, Turn};
+ghost use Rattle.m161_drive.specs.helpers.Drive.{MakesChosen};
 
 use crate::cursor::Cursor;
+use crate::notes::Notes;
 use crate::policy::Policy;
 use m161_bus::Console;
-use m161_machine::{Machine, Refusal};
+use m161_machine::{Core, Event, PackedEntry, Refusal};
 use m161_tlb::Tlb;
+use std::alloc::AllocError;
 
 /// Why a driven run stops.
 #[derive(Clone, Copy, Debug, PartialEq, Eq)]
@@ -32,50 +35,99 @@ pub struct Driven {
     pub stop: Stop,
 }
 
-// Makes the next event, or says why there is none.
-#[inline(always)]
-fn drive_once<T: Tlb, D: Console>(
-    machine: &mut Machine<T, D>,
-    policy: &Policy,
+// So many events are made at once, at most: their entries are in the processor's nearest cache.
+const AT_ONCE: usize = 64;
+
+// Makes the chosen input of a device, with its entry in the first place.
+fn make_input<T: Tlb, D: Console>(
+    core: &mut Core<T, D>,
     cursor: &mut Cursor,
-) -> Option<Stop>
-    ensures { Turn policy.now cursor.old machine.old result cursor.new machine.new }
+    input: Event,
+    entries: &mut [PackedEntry],
+) -> Result<usize, Stop>
+    requires { 1 ≤ length entries.old }
+    ensures made { MakesChosen input cursor.old core.old.state entries.new result cursor.new core.new.state }
+    ensures length { length entries.new ≡ length entries.old }
 {
-    if machine.is_off() {
-        return Some(Stop::Off);
-    }
-    let Some(event) = cursor.choose(policy, machine) else {
-        return Some(Stop::Stuck);
-    };
-    match machine.event(event) {
-        Ok(_) => {
-            cursor.took(event, machine);
-            None
+    match core.packed_event(input) {
+        Ok(made) => {
+            entries[0] = made;
+            cursor.took(input, core);
+            Ok(1)
         }
-        Err(refusal) => Some(Stop::Refused(refusal)),
+        Err(refusal) => Err(Stop::Refused(refusal)),
     }
 }
 
-/// Makes the events that a policy chooses, with a new cursor: until the machine is off, `n` are
-/// made, none is chosen, or the chosen one is refused, which is looked at in this order before each.
-pub fn drive<T: Tlb, D: Console>(machine: &mut Machine<T, D>, policy: &Policy, n: u64) -> Driven
-    ensures { Drives policy.now n machine.old result machine.new }
+/// Makes the next events of a driven run, and writes their entries into the first places: the event
+/// that the policy chooses, if the next key is this one; and behind a Step of a turn those that follow
+/// in it, where nothing else can come between. Returns how many.
+///
+/// # Errors
+/// Why there is none. Nothing is changed then but the cursor.
+#[inline(always)]
+pub fn turn<T: Tlb, D: Console>(
+    core: &mut Core<T, D>,
+    policy: &Policy,
+    cursor: &mut Cursor,
+    key: Option<u8>,
+    entries: &mut [PackedEntry],
+) -> Result<usize, Stop>
+    requires some { 1 ≤ length entries.old }
+    requires key { IfSome key (λ _. cursor.old.typed < 2 ^ 64 - 1) }
+    ensures turn { Turn policy.now key cursor.old core.old.state entries.new result cursor.new core.new.state }
+    ensures length { length entries.new ≡ length entries.old }
 {
-    let mut cursor = Cursor::new(policy, machine);
-    machine.replay();
-    for made in 0..n {
-        if let Some(stop) = drive_once(machine, policy, &mut cursor) {
-            return Driven { made, stop };
+    if core.is_off() {
+        return Err(Stop::Off);
+    }
+    let Some(event) = cursor.choose_with(policy, core, key) else {
+        return Err(Stop::Stuck);
+    };
+    let Event::Step(p) = event else {
+        return make_input(core, cursor, event, entries);
+    };
+    if let Some(refusal) = core.refusal(p) {
+        return Err(Stop::Refused(refusal));
+    }
+    let most = cursor.steps_in_a_row(policy, core, key, entries.len());
+    let (first, _) = entries.split_at_mut(most);
+    let made = core.stretch(p, first);
+    cursor.took_steps(made - 1, core);
+    Ok(made)
+}
+
+/// Makes the events that a policy chooses, with a new cursor: until the machine is off, `n` are made,
+/// none is chosen, or the chosen one is refused, which is looked at in this order before each. Their
+/// entries are noted.
+///
+/// # Errors
+/// Memory was refused for the notes; the events that were made are a beginning of the run.
+pub fn drive<T: Tlb, D: Console, N: Notes>(
+    core: &mut Core<T, D>,
+    policy: &Policy,
+    n: u64,
+    notes: &mut N,
+) -> Result<Driven, AllocError>
+    ensures run { IfOk result (λ driven. (entries : List Entry)
+        × Drives policy.now n core.old.state driven entries core.new.state
+        × IsNoted N.has notes.old entries notes.new) }
+    ensures err { OnErr result (BeginsRun policy.now n core.old.state core.new.state) }
+{
+    let mut cursor = Cursor::new(policy, core);
+    let mut entries = [PackedEntry::blank(); AT_ONCE];
+    let mut made = 0;
+    while made < n {
+        let most = (n - made).min(AT_ONCE as u64) as usize;
+        let key = policy.key(cursor.typed());
+        match turn(core, policy, &mut cursor, key, &mut entries[..most]) {
+            Ok(more) => {
+                notes.add(&entries[..more])?;
+                made += more as u64;
+            }
+            Err(stop) => return Ok(Driven { made, stop }),
         }
     }
-    if machine.is_off() {
-        return Driven {
-            made: n,
-            stop: Stop::Off,
-        };
-    }
-    Driven {
-        made: n,
-        stop: Stop::End,
-    }
+    let stop = if core.is_off() { Stop::Off } else { Stop::End };
+    Ok(Driven { made, stop })
 }

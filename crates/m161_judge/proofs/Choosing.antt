@@ -5,14 +5,16 @@ use Rattle.std.proofs.lemmas.Bool.Decides.{nat_tests, eqb_tells}
 use Rattle.std.proofs.lemmas.List.Sums.{sum_by-cons}
 use Rattle.std.proofs.lemmas.Option.{slice_get_past}
 use Rattle.rand_pcg.specs.Lcg.{Lcg}
+use Rattle.m161_machine.specs.declared.event.Entry.{Entry}
 use Rattle.m161_machine.specs.declared.event.Event.{Event}
 use Rattle.m161_machine.specs.declared.event.Event.TheVariants.{Step, Key, Done}
+use Rattle.m161_machine.specs.History.{events_of}
 use Rattle.m161_machine.specs.State.{State}
 use Rattle.m161_drive.specs.declared.cursor.Cursor.{Cursor}
 use Rattle.m161_drive.specs.declared.turns.Turns.{Turns}
 use Rattle.m161_drive.specs.declared.orders.OrderState.{OrderState}
 use Rattle.m161_drive.specs.declared.orders.OrderState.TheVariants.{InTurns, AtRandom, ByPriority}
-use Rattle.m161_drive.specs.Choice.{chosen, chosen_with, gap_is_over, next_step, ordered, since_filled, tick, transfer_ends, type_key, wants_key}
+use Rattle.m161_drive.specs.Choice.{chosen, chosen_with, gap_is_over, key_is_due, next_step, ordered, since_filled, tick, transfer_ends, type_key, wants_key}
 use Rattle.m161_drive.specs.Drive.{Chooses, Goes}
 use Rattle.m161_drive.specs.Orders.{at_place, begun, by_order, by_ranks, by_turns, by_words, goes_on, interrupted, one_of}
 use Rattle.m161_drive.specs.Policy.{Rules}
@@ -175,8 +177,8 @@ stuck_chooses_none rules c s h =
     (λ t. let bad : true ≡ false = sym t ∙ open_latch in absurd cc)
     (if_none (wants_key rules c s) (type_key key c s) (next_step c s)
     (λ w.
-    let roomy = and_right (not (transfer_ends rules c s)) room
-    (and_left (not (transfer_ends rules c s) && room) (gap_is_over rules.gap c s || not (some_ready s)) w) in
+    let roomy = and_left room (gap_is_over rules.gap c s || not (some_ready s))
+    (and_right (not (transfer_ends rules c s)) (key_is_due rules c s) w) in
     let none_left : left ≡ false = key_none left (length s.board.console.waiting) is.no_key roomy in
     let past = not_less c.typed (length rules.keys) none_left in
     ap (λ k. (type_key k c s).0) (slice_get_past rules.keys c.typed past) ∙ step)
@@ -225,20 +227,21 @@ choice_counts rules key c s =
     (one_event c c Done (no_more c.typed))
     (if_counts (wants_key rules c s) c (type_key key c s) (next_step c s) (key_counts key c s) (step_counts c s))
 
-goes_counts : (rules : Rules) (c d : Cursor) (s t : State) (e : Event) → Goes rules c s e d t → d.typed ≡ c.typed + key_of e
-goes_counts rules c d s t e g =
-    ap (λ (x : Cursor). x.typed) g.cursor_is ∙ choice_counts rules (slice_get rules.keys c.typed) c s e g.choice_is
+goes_counts : (rules : Rules) (key : Option ℕ) (c d : Cursor) (s t : State) (e : Entry) → Goes rules key c s e d t → d.typed ≡ c.typed + key_of e.event
+goes_counts rules key c d s t e g =
+    ap (λ (x : Cursor). x.typed) g.cursor_is ∙ choice_counts rules key c s e.event g.choice_is
 
 -- where the events lead that a policy chooses
-pub chooses_leads : (rules : Rules) (es : List Event) (c d : Cursor) (s t : State) → Chooses rules c s es d t → after s es ≡ Some t
-chooses_leads rules [] c d s t h = ap Some (sym h.1)
-chooses_leads rules (e ∷ es) c d s t h =
-    ap (λ r. going_on r (λ v. after v es)) h.2.accepted ∙ chooses_leads rules es h.0 d h.1 t h.3
+pub chooses_leads : (rules : Rules) (keys : ℕ → Option ℕ) (es : List Entry) (c d : Cursor) (s t : State) → Chooses rules keys c s es d t →
+    after s (events_of es) ≡ Some t
+chooses_leads rules keys [] c d s t h = ap Some (sym h.1)
+chooses_leads rules keys (e ∷ es) c d s t h =
+    ap (λ r. going_on r (λ v. after v (events_of es))) h.2.accepted ∙ chooses_leads rules keys es h.0 d h.1 t h.3
 
 -- before each of them the run isn't stuck
-pub not_stuck_on_the_way : (rules : Rules) (es : List Event) (c d : Cursor) (s t : State) (k : ℕ) (u : State) → Chooses rules c s es d t →
-    k < length es → after s (take k es) ≡ Some u →
-    is_stuck (nat_lt (c.typed + count_by is_key (take k es)) (length rules.keys)) u ≡ true → ⊥
+pub not_stuck_on_the_way : (rules : Rules) (es : List Entry) (c d : Cursor) (s t : State) (k : ℕ) (u : State) → Chooses rules (slice_get rules.keys) c s es d t →
+    k < length (events_of es) → after s (take k (events_of es)) ≡ Some u →
+    is_stuck (nat_lt (c.typed + count_by is_key (take k (events_of es))) (length rules.keys)) u ≡ true → ⊥
 not_stuck_on_the_way rules [] c d s t k u h less at stuck = omega (arith, less)
 not_stuck_on_the_way rules (e ∷ es) c d s t zero u h less at stuck =
     let here : s ≡ u = some_is_one s u at in
@@ -246,11 +249,12 @@ not_stuck_on_the_way rules (e ∷ es) c d s t zero u h less at stuck =
     let now : is_stuck (nat_lt c.typed (length rules.keys)) s ≡ true =
     subst (λ v. is_stuck (nat_lt c.typed (length rules.keys)) v ≡ true) (sym here)
     (subst (λ n. is_stuck (nat_lt n (length rules.keys)) u ≡ true) typed stuck) in
-    none_is_not e (sym (stuck_chooses_none rules c s now) ∙ h.2.choice_is)
+    none_is_not e.event (sym (stuck_chooses_none rules c s now) ∙ h.2.choice_is)
 not_stuck_on_the_way rules (e ∷ es) c d s t (suc k) u h less at stuck =
-    let there : after h.1 (take k es) ≡ Some u = subst (λ r. going_on r (λ v. after v (take k es)) ≡ Some u) h.2.accepted at in
-    let typed : h.0.typed ≡ c.typed + key_of e = goes_counts rules c h.0 s h.1 e h.2 in
-    let cons = sum_by-cons (λ x. key_of x) e (take k es) in
-    let all : c.typed + count_by is_key (e ∷ take k es) ≡ h.0.typed + count_by is_key (take k es) = omega (arith, typed, cons) in
+    let events = take k (events_of es) in
+    let there : after h.1 events ≡ Some u = subst (λ r. going_on r (λ v. after v events) ≡ Some u) h.2.accepted at in
+    let typed : h.0.typed ≡ c.typed + key_of e.event = goes_counts rules (slice_get rules.keys c.typed) c h.0 s h.1 e h.2 in
+    let cons = sum_by-cons (λ x. key_of x) e.event events in
+    let all : c.typed + count_by is_key (e.event ∷ events) ≡ h.0.typed + count_by is_key events = omega (arith, typed, cons) in
     not_stuck_on_the_way rules es h.0 d h.1 t k u h.3 (omega (arith, less)) there
     (subst (λ n. is_stuck (nat_lt n (length rules.keys)) u ≡ true) all stuck)

@@ -1,4 +1,4 @@
-use Rattle.std.proofs.Common.{◌≡◌, ◌∙◌, ◌↔◌, refl, sym, ap, subst, ℕ, ◌+◌, ◌-◌, ◌<◌, Bool, true, false, not, List, [], ◌++◌, length, arith, ◌⊎◌, inl, inr}
+use Rattle.std.proofs.Common.{◌≡◌, ◌∙◌, refl, sym, ap, subst, ℕ, ◌-◌, ◌<◌, Bool, true, false, not, List, ◌++◌, length, arith, ◌⊎◌, inl, inr}
 use Rattle.std.specs.Prelude.{Option, None, Some, ◌&&◌, ◌||◌, if◌then◌else◌, find, is_some, nat_le, nat_lt, slice_get}
 use Rattle.std.specs.List.{list_any, range_with_len}
 use Rattle.std.proofs.lemmas.Bool.Decides.{nat_tests}
@@ -89,8 +89,8 @@ or_is true true h = refl
 or_is true false h = absurd (h refl refl)
 or_is false full h = refl
 
-and_all : (a b c : Bool) → a ≡ false → b ≡ true → c ≡ true → (not a && b && c) ≡ true
-and_all a b c x y z = λ i. not (x i) && y i && z i
+and_all : (a b c : Bool) → a ≡ false → b ≡ true → c ≡ true → (not a && (b && c)) ≡ true
+and_all a b c x y z = λ i. not (x i) && (y i && z i)
 
 some_key : (key : Option ℕ) (byte : ℕ) (c : Cursor) (s : State) → key ≡ Some byte → (type_key key c s).0 ≡ None → ⊥
 some_key key byte c s is h = some_event (Key byte) (subst (λ k. (type_key k c s).0 ≡ None) is h)

@@ -3,7 +3,6 @@ mod Seeing
 mod Judging
 mod Choosing
 mod Finding
-mod Booting
 mod Driven
 mod Walking
 mod Unique

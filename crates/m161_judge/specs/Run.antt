@@ -1,10 +1,10 @@
 use Rattle.std.specs.Prelude.{◌≡◌, ◌≢◌, ℕ, Bool, false, not, List, Option, None, Some, Result, Ok, Err}
 use Rattle.m161_machine.specs.declared.conf.Conf.{Conf}
 use Rattle.m161_machine.specs.declared.conf.BootError.{BootError}
-use Rattle.m161_machine.specs.declared.conf.BootError.TheVariants.{NoMemory}
+use Rattle.m161_machine.specs.declared.event.Entry.{Entry}
 use Rattle.m161_machine.specs.declared.event.Refusal.{Refusal}
+use Rattle.m161_machine.specs.History.{IsBootState, events_of}
 use Rattle.m161_machine.specs.State.{State}
-use Rattle.m161_machine.specs.History.{History, IsBooted}
 use Rattle.m161_audit.specs.declared.finding.AuditError.{AuditError}
 use Rattle.m161_audit.specs.declared.finding.AuditError.TheVariants.{Boot}
 use Rattle.m161_audit.specs.declared.watch.Watch.{Watch}
@@ -38,15 +38,16 @@ pub record IsRun
     (file : List ℕ) (conf : Conf) (rules : Rules) (n : ℕ) (goal : Criteria) (run : Run)
     : Type 0 where
   pub good : (k : ℕ) → AreGood conf.ram goal.watches k
-  pub booted : History
-  pub is_booted : IsBooted file conf booted
+  pub booted : State
+  pub is_booted : IsBootState file conf booted
   pub driven : Driven
-  pub machine : History
-  pub drives : Drives rules n booted driven machine
+  pub entries : List Entry
+  pub state : State
+  pub drives : Drives rules n booted driven entries state
   pub accepted : (refusal : Refusal) → driven.stop ≢ Refused refusal
-  pub events_are : run.events.items ≡ drives.events
-  pub judged : IsJudged goal booted.state run.events.items run.judged
-  pub cut : run.is_cut ≡ is_cut driven.stop (has_keys goal.keys run.events.items) machine.state
+  pub events_are : run.events.items ≡ events_of entries
+  pub judged : IsJudged goal booted run.events.items run.judged
+  pub cut : run.is_cut ≡ is_cut driven.stop (has_keys goal.keys run.events.items) state
 
 -- without a reason not to boot
 abbrev pub RunsBooted :
@@ -59,11 +60,3 @@ abbrev pub Runs :
     List ℕ → Conf → Option BootError → Rules → ℕ → Criteria → Result Run AuditError → Type 0
 Runs file conf (Some first) rules n goal result = result ≡ Err (Boot first)
 Runs file conf None rules n goal result = RunsBooted file conf rules n goal result
-
--- the state of a machine that is booted, or the first reason not to boot
-abbrev pub BootsState :
-    List ℕ → Conf → Option BootError → Result State AuditError → Type 0
-BootsState file conf (Some first) (Ok s) = ⊥
-BootsState file conf (Some first) (Err error) = error ≡ Boot first
-BootsState file conf None (Ok s) = (m : History) × IsBooted file conf m × (s ≡ m.state)
-BootsState file conf None (Err error) = error ≡ Boot NoMemory

@@ -2,16 +2,16 @@
 
 ghost use Rattle.std.specs.Prelude.{◌≡◌, IfOk};
 ghost use Rattle.m161_machine.specs.History.{boot_fault};
-ghost use Rattle.m161_judge.specs.Run.{BootsState};
+ghost use Rattle.m161_judge.specs.Judge.{BootsState};
 
 use m161_audit::AuditError;
 use m161_bus::Console;
-use m161_machine::{Conf, Core, Machine};
+use m161_machine::{Conf, Core};
 use m161_tlb::Tlb;
 use std::alloc::{AllocError, Global};
 use std::marker::Model;
 
-/// The state of a machine that was just booted, from which the runs of many policies begin.
+/// The state of a machine that was just booted, from which many runs begin.
 #[derive(Drop)]
 pub struct Booted<T: Tlb, D: Console> {
     core: Core<T, D>,
@@ -33,10 +33,8 @@ impl<T: Tlb + Drop, D: Console + Drop> Booted<T, D> {
     pub fn new(alloc: Global, file: &[u8], conf: Conf) -> Result<Booted<T, D>, AuditError>
         ensures { BootsState file.now conf (boot_fault file.now conf) result }
     {
-        let machine: Machine<T, D> = Machine::boot(alloc, file, conf)?;
-        Ok(Booted {
-            core: machine.into_core(),
-        })
+        let core = Core::boot(alloc, file, conf)?;
+        Ok(Booted { core })
     }
 
     /// The state.

@@ -27,7 +27,7 @@ mod walk;
 pub use booted::Booted;
 pub use goal::Goal;
 pub use laws::{cut_keeps_verdict, one_verdict, stuck_is_no_choice};
-pub use list::judge;
+pub use list::{judge, judge_events};
 pub use m161_audit::{AuditError, Watch};
 pub use m161_drive::Policy;
 pub use m161_machine::{BootError, Conf, Event, LinkUnit};

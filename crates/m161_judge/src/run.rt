@@ -1,10 +1,10 @@
 //! The verdict of a driven run.
 
-ghost use Rattle.std.specs.Prelude.{◌≡◌, ◌≤◌, ℕ, List, Ok};
+ghost use Rattle.std.specs.Prelude.{◌≡◌, ℕ, List, Ok};
 ghost use Rattle.m161_machine.specs.declared.conf.Conf.{Conf as ConfValue};
 ghost use Rattle.m161_machine.specs.History.{boot_fault};
-ghost use Rattle.m161_judge.specs.Judge.{bytes_of};
-ghost use Rattle.m161_judge.specs.Run.{BootsState, Runs, criteria, is_cut};
+ghost use Rattle.m161_judge.specs.Judge.{BootsState, bytes_of};
+ghost use Rattle.m161_judge.specs.Run.{Runs, criteria, is_cut};
 ghost use Rattle.m161_judge.specs.helpers.Walk.{DrivesRun};
 
 use crate::booted::Booted;
@@ -15,7 +15,7 @@ use crate::stuck::is_stuck;
 use crate::verdict::Judged;
 use m161_audit::{AuditError, Watch};
 use m161_bus::Console;
-use m161_drive::{Policy, Stop, View, drive_core};
+use m161_drive::{Policy, Stop, drive};
 use m161_machine::{BootError, Conf, Core, Event};
 use m161_tlb::Tlb;
 use std::alloc::Global;
@@ -32,11 +32,11 @@ pub struct Run {
 }
 
 // Whether a run ended only because no more events were asked for.
-fn is_cut<V: View>(machine: &V, stop: Stop, keys_left: bool) -> bool
-    ensures { result ≡ is_cut stop keys_left (V.state machine.now) }
+fn is_cut<T: Tlb, D: Console>(core: &Core<T, D>, stop: Stop, keys_left: bool) -> bool
+    ensures { result ≡ is_cut stop keys_left core.now.state }
 {
     match stop {
-        Stop::End => !is_stuck(machine, keys_left),
+        Stop::End => !is_stuck(core, keys_left),
         Stop::Off | Stop::Stuck | Stop::Refused(_) => false,
     }
 }
@@ -51,17 +51,18 @@ fn drive_run<T: Tlb, D: Console>(
 ) -> Result<Run, AuditError>
     ensures { DrivesRun policy.now n (bytes_of output.entry) core.old.state result }
 {
-    let chosen = drive_core(alloc, core, policy, n)?;
-    if let Stop::Refused(_) = chosen.driven.stop {
+    let mut events = Vec::new(alloc);
+    let driven = drive(core, policy, n, &mut events)?;
+    if let Stop::Refused(_) = driven.stop {
         return Err(AuditError::Boot(BootError::NoMemory));
     }
-    let keys_left = policy.key(count_keys(&chosen.events)).is_some();
-    let made = chosen.events.len();
+    let keys_left = policy.key(count_keys(&events)).is_some();
+    let made = events.len();
     let seen = nothing_seen().look(core, made, keys_left, output);
     Ok(Run {
-        events: chosen.events,
+        events,
         judged: seen.verdict(core, made, output),
-        is_cut: is_cut(core, chosen.driven.stop, keys_left),
+        is_cut: is_cut(core, driven.stop, keys_left),
     })
 }
 
@@ -80,8 +81,8 @@ fn drive_copy<T: Tlb + Drop, D: Console + Drop>(
 }
 
 /// Drives a machine that was just booted, over any TLB and any console, for at most `n` events that a
-/// policy chooses, and judges the run. The same as `judge_run` of the file from which it was booted,
-/// if the machine's log has room for all of them; but nothing is booted again.
+/// policy chooses, and judges the run. The same as `judge_run` of the file from which it was booted;
+/// but nothing is booted again.
 ///
 /// # Errors
 /// The first bad watch; or memory was refused, also at an event `Done`.
@@ -94,7 +95,7 @@ pub fn judge_booted<T: Tlb + Drop, D: Console + Drop>(
     output: Option<&[u8]>,
 ) -> Result<Run, AuditError>
     ensures { (file : List ℕ) (conf : ConfValue)
-        → BootsState file conf (boot_fault file conf) (Ok booted.now) → n ≤ conf.log
+        → BootsState file conf (boot_fault file conf) (Ok booted.now)
         → Runs file conf (boot_fault file conf) policy.now n
         (criteria watches.now (bytes_of output.entry) policy.now) result }
 {
@@ -108,7 +109,7 @@ pub fn judge_booted<T: Tlb + Drop, D: Console + Drop>(
 }
 
 /// Drives a machine that is booted from a file, over any TLB and any console, for at most `n` events
-/// that a policy chooses, and judges the run. The machine's log has room for all of them.
+/// that a policy chooses, and judges the run.
 ///
 /// # Errors
 /// The machine can't be booted; or the first bad watch; or memory was refused, also at an event
@@ -122,7 +123,6 @@ pub fn judge_run<T: Tlb + Drop, D: Console + Drop>(
     watches: &[Watch],
     output: Option<&[u8]>,
 ) -> Result<Run, AuditError>
-    requires { n ≤ conf.log }
     ensures { Runs file.now conf (boot_fault file.now conf) policy.now n
         (criteria watches.now (bytes_of output.entry) policy.now) result }
 {

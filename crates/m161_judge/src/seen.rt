@@ -9,8 +9,9 @@ ghost use Rattle.m161_judge.specs.helpers.Walk.{Ends, HasSeen, IsConflictOff, Is
 
 use crate::stuck::{has_sent, is_stuck};
 use crate::verdict::{Judged, Verdict};
-use m161_drive::View;
-use m161_machine::Conflict;
+use m161_bus::Console;
+use m161_machine::{Conflict, Core};
+use m161_tlb::Tlb;
 
 /// What was seen of a run's states so far.
 #[derive(Clone, Copy)]
@@ -39,22 +40,18 @@ fn judged(verdict: Verdict, events: usize) -> Judged
 }
 
 // The conflict that switched the machine off.
-fn conflict_off<V: View>(machine: &V) -> Option<Conflict>
-    ensures { IsConflictOff (V.state machine.now) result }
+fn conflict_off<T: Tlb, D: Console>(core: &Core<T, D>) -> Option<Conflict>
+    ensures { IsConflictOff core.now.state result }
 {
-    if machine.is_off() {
-        machine.conflict()
-    } else {
-        None
-    }
+    if core.is_off() { core.conflict() } else { None }
 }
 
 impl Seen {
     /// Looks at the machine's state after so many events.
     #[inline(always)]
-    pub(crate) fn look<V: View>(
+    pub(crate) fn look<T: Tlb, D: Console>(
         self,
-        machine: &V,
+        core: &Core<T, D>,
         made: usize,
         keys_left: bool,
         output: Option<&[u8]>,
@@ -62,14 +59,14 @@ impl Seen {
         ensures { (goal : Criteria) (s : State) (events : List Event)
             → goal.output ≡ bytes_of output.entry
             → keys_left ≡ has_keys goal.keys (take made events)
-            → LeadsTo s events made (V.state machine.now)
+            → LeadsTo s events made core.now.state
             → HasSeen goal s events made self
             → HasSeen goal s events (made + 1) result }
     {
-        if !is_stuck(machine, keys_left) {
+        if !is_stuck(core, keys_left) {
             return self;
         }
-        if has_sent(machine, output) {
+        if has_sent(core, output) {
             return Seen {
                 stuck: self.stuck,
                 was_stuck: true,
@@ -82,34 +79,34 @@ impl Seen {
     }
 
     /// The first verdict but Stale of a run that ends here, after so many events.
-    pub(crate) fn verdict<V: View>(
+    pub(crate) fn verdict<T: Tlb, D: Console>(
         self,
-        machine: &V,
+        core: &Core<T, D>,
         made: usize,
         output: Option<&[u8]>,
     ) -> Option<Judged>
         ensures { (goal : Criteria) (s : State) (events : List Event)
             → goal.output ≡ bytes_of output.entry
-            → Ends s events made (V.state machine.now)
+            → Ends s events made core.now.state
             → HasSeen goal s events (made + 1) self
             → IsJudgedBeside goal s events result }
     {
-        match conflict_off(machine) {
+        match conflict_off(core) {
             Some(conflict) => Some(judged(Verdict::Conflict(conflict), made)),
-            None => self.verdict_behind(machine, made, output),
+            None => self.verdict_behind(core, made, output),
         }
     }
 
     // The first verdict behind Stale and Conflict.
-    fn verdict_behind<V: View>(
+    fn verdict_behind<T: Tlb, D: Console>(
         self,
-        machine: &V,
+        core: &Core<T, D>,
         made: usize,
         output: Option<&[u8]>,
     ) -> Option<Judged>
         ensures { (goal : Criteria) (s : State) (events : List Event)
             → goal.output ≡ bytes_of output.entry
-            → Ends s events made (V.state machine.now)
+            → Ends s events made core.now.state
             → HasSeen goal s events (made + 1) self
             → IsJudgedBehind goal s events result }
     {
@@ -119,8 +116,8 @@ impl Seen {
         if output.is_none() {
             return None;
         }
-        if machine.is_off() {
-            if has_sent(machine, output) {
+        if core.is_off() {
+            if has_sent(core, output) {
                 return None;
             }
             return Some(judged(Verdict::Output, made));

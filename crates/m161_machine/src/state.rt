@@ -429,8 +429,8 @@ impl<T: Tlb, D: Console> Core<T, D> {
     }
 
     /// The law of every state: there are as many processors as the board says, at most 32; RAM has at
-    /// most 2^29 bytes; the configuration is within the limits; no processor has made more Steps than events were
-    /// accepted; and on a strict machine no two rows of a processor's TLB overlap.
+    /// most 2^29 bytes; the configuration is within the limits; no processor has made more Steps than
+    /// events were accepted; and on a strict machine no two rows of a processor's TLB overlap.
     pub fn law(&self)
         ensures number { length self.now.state.processors ≡ self.now.state.board.processors }
         ensures few { length self.now.state.processors ≤ 32 }

@@ -1,52 +1,69 @@
-use Rattle.std.specs.Prelude.{◌≡◌, true, false, List, [], ◌∷◌, ◌++◌, if◌then◌else◌, Option, None, Some, Ok}
-use Rattle.m161_cpu.specs.declared.processor.Outcome.{Outcome}
+use Rattle.std.specs.Prelude.{◌≡◌, ◌⊎◌, ℕ, ◌+◌, ◌-◌, ◌≤◌, true, List, [], ◌∷◌, length, take, Option, None, Some, Result, Ok, Err}
+use Rattle.m161_machine.specs.declared.event.Entry.{Entry}
 use Rattle.m161_machine.specs.declared.event.Event.{Event}
-use Rattle.m161_machine.specs.declared.event.Refusal.{Refusal}
 use Rattle.m161_machine.specs.State.{State, next}
-use Rattle.m161_machine.specs.History.{Answers, History, Refuses}
+use Rattle.m161_machine.specs.History.{Refuses}
 use Rattle.m161_drive.specs.declared.cursor.Cursor.{Cursor}
 use Rattle.m161_drive.specs.declared.run.Stop.{Stop}
 use Rattle.m161_drive.specs.declared.run.Stop.TheVariants.{Off, End, Stuck, Refused}
-use Rattle.m161_drive.specs.Choice.{chosen, taken}
-use Rattle.m161_drive.specs.Drive.{Goes}
+use Rattle.m161_drive.specs.declared.orders.OrderState.{OrderState}
+use Rattle.m161_drive.specs.declared.orders.OrderState.TheVariants.{InTurns, AtRandom, ByPriority}
+use Rattle.m161_drive.specs.declared.turns.Turns.{Turns}
+use Rattle.m161_drive.specs.Choice.{filled_after, since_filled, taken}
 use Rattle.m161_drive.specs.Policy.{Rules}
+use Rattle.m161_drive.specs.Ready.{is_sending}
 
 -- The next event of a driven run.
 
--- the chosen event is made
-pub record Makes (rules : Rules) (c : Cursor) (m : History) (d : Cursor) (k : History) : Type 0 where
-  pub is_on : m.state.board.off ≡ false
-  pub event : Event
-  pub choice_is : (chosen rules c m.state).0 ≡ Some event
-  pub outcome : Outcome
-  pub answers : Answers m event (Ok outcome) k
-  pub cursor_is : d ≡ taken event k.state (chosen rules c m.state).1
+-- the refusal of a chosen event
+abbrev pub IsRefused : Event → State → Stop → Type 0
+IsRefused e s Off = ⊥
+IsRefused e s End = ⊥
+IsRefused e s Stuck = ⊥
+IsRefused e s (Refused refusal) = Refuses (next s e) e refusal
 
--- why none is made in a state
-abbrev pub Rests : Rules → Cursor → State → Stop → Type 0
-Rests rules c s Off = s.board.off ≡ true
-Rests rules c s End = ⊥
-Rests rules c s Stuck = (s.board.off ≡ false) × ((chosen rules c s).0 ≡ None)
-Rests rules c s (Refused refusal) =
-    (s.board.off ≡ false)
-    × ((e : Event) × ((chosen rules c s).0 ≡ Some e) × Refuses (next s e) e refusal)
+-- a chosen event is made, and has its entry in the first place; or it is refused
+abbrev pub MakesChosen : Event → Cursor → State → List Entry → Result ℕ Stop → Cursor → State → Type 0
+MakesChosen e c s places (Ok n) d t =
+    (n ≡ 1) × ((entry : Entry) × (take 1 places ≡ entry ∷ []) × (entry.event ≡ e)
+    × (next s e ≡ Ok (entry.outcome, t)) × (d ≡ taken e t c))
+MakesChosen e c s places (Err stop) d t = IsRefused e s stop × (t ≡ s)
 
--- the chosen event is made; or none is, and nothing is changed but the cursor
-abbrev pub Turn : Rules → Cursor → History → Option Stop → Cursor → History → Type 0
-Turn rules c m None d k = Makes rules c m d k
-Turn rules c m (Some stop) d k = Rests rules c m.state stop × (k ≡ m)
+-- Steps in a row.
 
--- an event is made in a state, or refused
-abbrev pub IsMade : State → Event → Option Refusal → State → Type 0
-IsMade s e None t = (o : Outcome) × (next s e ≡ Ok (o, t))
-IsMade s e (Some refusal) t = Refuses (next s e) e refusal × (t ≡ s)
+-- an order goes on with the turn of the last processor, so many Steps further
+abbrev pub gone_on : ℕ → OrderState → OrderState
+gone_on n (InTurns t) = InTurns (record t { made = t.made + n })
+gone_on n (AtRandom g) = AtRandom g
+gone_on n (ByPriority r) = ByPriority r
 
--- the same on a state alone: the chosen event is written down behind those so far; or none is made
-abbrev pub TurnState :
-    Rules → Cursor → State → List Event → Option Stop → Cursor → State → List Event → Type 0
-TurnState rules c s es None d t fs = (e : Event) × Goes rules c s e d t × (fs ≡ es ++ e ∷ [])
-TurnState rules c s es (Some stop) d t fs = Rests rules c s stop × (t ≡ s) × (fs ≡ es)
+-- n Steps, the first of which was just chosen, are within a turn
+abbrev pub AreInTurn : OrderState → ℕ → Type 0
+AreInTurn o n =
+    (t : Turns) × (o ≡ InTurns t) × (1 ≤ t.made) × (t.made + n ≤ t.steps + 1)
 
--- why a run stops in a state, once it has made all events that were asked for
-abbrev pub last_stop : State → Stop
-last_stop s = if s.board.off then Off else End
+-- no byte is sent between so many Steps
+abbrev pub AreUnsent : Rules → Cursor → State → ℕ → Type 0
+AreUnsent rules c s n =
+    ((made : ℕ) → filled_after s.board.console.latch c.filled made ≡ c.filled)
+    × (is_sending s ≡ true → since_filled c.filled s + n ≤ rules.transfer)
+
+-- no key is typed between them, where this is the next one
+abbrev pub IsUntyped : Option ℕ → Option ℕ → Cursor → State → ℕ → Type 0
+IsUntyped None gap c s n = Unit {0}
+IsUntyped (Some key) None c s n = Unit {0}
+IsUntyped (Some key) (Some gap) c s n =
+    (256 ≤ length s.board.console.waiting) ⊎ ((s.made - c.keyed) + n ≤ gap)
+
+-- behind the choice of a Step in a state: so many Steps of its processor, this one the first of them,
+-- are chosen one after the other, as long as the board stays as it is and the processor doesn't rest
+abbrev pub LeavesRoom : Rules → Option ℕ → Cursor → State → ℕ → Type 0
+LeavesRoom rules key c s n =
+    AreInTurn c.order n × AreUnsent rules c s n × IsUntyped key rules.gap c s n
+
+-- the cursor once so many chosen Steps more were accepted, and led to this state
+abbrev pub with_more_steps : ℕ → State → Cursor → Cursor
+with_more_steps n s c = record c {
+  order = gone_on n c.order;
+  filled = filled_after s.board.console.latch c.filled s.made;
+}

@@ -1,14 +1,13 @@
 use Rattle.std.specs.Prelude.{◌≡◌, ℕ, ◌≢◌, ◌-◌, ◌<◌, Bool, true, false, List, length, Option, None, Some, Result, Ok, Err}
 use Rattle.m161_cpu.specs.declared.processor.Outcome.{Outcome}
-use Rattle.m161_machine.specs.declared.conf.Conf.{Conf}
-use Rattle.m161_machine.specs.declared.event.Conflict.{Conflict as ConflictOf}
-use Rattle.m161_machine.specs.declared.conf.BootError.{BootError}
 use Rattle.m161_machine.specs.declared.conf.BootError.TheVariants.{NoMemory}
+use Rattle.m161_machine.specs.declared.event.Conflict.{Conflict as ConflictOf}
+use Rattle.m161_machine.specs.declared.event.Entry.{Entry}
 use Rattle.m161_machine.specs.declared.event.Event.{Event}
 use Rattle.m161_machine.specs.declared.event.Event.TheVariants.{Step, Key, Done}
 use Rattle.m161_machine.specs.declared.event.Refusal.{Refusal}
+use Rattle.m161_machine.specs.History.{events_of}
 use Rattle.m161_machine.specs.State.{State, next}
-use Rattle.m161_machine.specs.History.{History, IsBooted}
 use Rattle.m161_machine.specs.StoreHistory.{without_stores}
 use Rattle.m161_audit.specs.declared.finding.AuditError.{AuditError}
 use Rattle.m161_audit.specs.declared.finding.AuditError.TheVariants.{Boot}
@@ -16,10 +15,9 @@ use Rattle.m161_audit.specs.declared.finding.Finding.{Finding}
 use Rattle.m161_audit.specs.declared.finding.Finding.TheVariants as finding
 use Rattle.m161_audit.specs.declared.watch.Watch.{Watch}
 use Rattle.m161_audit.specs.Stale.{IsFinding}
-use Rattle.m161_audit.specs.Watch.{AreGood}
 use Rattle.m161_drive.specs.declared.run.Driven.{Driven}
 use Rattle.m161_drive.specs.declared.run.Stop.TheVariants as drive
-use Rattle.m161_drive.specs.Drive.{DrivesState}
+use Rattle.m161_drive.specs.Drive.{Drives}
 use Rattle.m161_drive.specs.Policy.{Rules}
 use Rattle.m161_judge.specs.declared.run.Run.{Run}
 use Rattle.m161_judge.specs.declared.seen.Seen.{Seen}
@@ -27,7 +25,6 @@ use Rattle.m161_judge.specs.declared.verdict.Judged.{Judged}
 use Rattle.m161_judge.specs.declared.verdict.Verdict.{Verdict}
 use Rattle.m161_judge.specs.declared.walk.Walk.{Walk}
 use Rattle.m161_judge.specs.declared.walk.Walk.TheVariants as walk
-use Rattle.m161_judge.specs.Judge.{IsUnjudged}
 use Rattle.m161_judge.specs.Run.{criteria, is_cut}
 use Rattle.m161_judge.specs.Verdict.{Criteria, Holds, IsJudged, IsRefused, IsStuckAfter, IsStuckBadly, LeadsTo, has_keys, rank}
 
@@ -102,16 +99,6 @@ abbrev pub IsBelow : ℕ → Finding → Type 0
 IsBelow n finding.Clean = Unit {0}
 IsBelow n (finding.Stale place p address row) = place < n
 
--- the first stale use: of the run of any machine that was booted so; or why it isn't looked for
-abbrev pub FindsStale :
-    List ℕ → Conf → Option BootError → List Event → List Watch → Result Finding AuditError → Type 0
-FindsStale file conf (Some first) events watches (Ok finding) = Unit {0}
-FindsStale file conf (Some first) events watches (Err error) = error ≡ Boot first
-FindsStale file conf None events watches (Ok finding) =
-    ((k : ℕ) → AreGood conf.ram watches k)
-    × ((m : History) → IsBooted file conf m → IsFinding (without_stores m.state) events watches finding)
-FindsStale file conf None events watches (Err error) = IsUnjudged conf watches error
-
 -- a finding, and the first verdict but Stale, give the verdict
 abbrev pub Joins :
     Criteria → State → List Event → Finding → Option Judged → Option Judged → Type 0
@@ -123,9 +110,11 @@ Joins goal s events finding beside judged =
 pub record IsDrivenRun (rules : Rules) (n : ℕ) (output : Option (List ℕ)) (s : State) (run : Run)
     : Type 0 where
   pub driven : Driven
+  pub entries : List Entry
   pub state : State
-  pub drives : DrivesState rules n s driven run.events.items state
+  pub drives : Drives rules n s driven entries state
   pub accepted : (refusal : Refusal) → driven.stop ≢ drive.Refused refusal
+  pub events_are : run.events.items ≡ events_of entries
   pub made : IsRefused s run.events.items → ⊥
   pub beside :
       (watches : List Watch)
@@ -137,11 +126,3 @@ abbrev pub DrivesRun :
     Rules → ℕ → Option (List ℕ) → State → Result Run AuditError → Type 0
 DrivesRun rules n output s (Ok run) = IsDrivenRun rules n output s run
 DrivesRun rules n output s (Err error) = error ≡ Boot NoMemory
-
--- from boot on, by the first reason not to boot
-abbrev pub BootsRun :
-    List ℕ → Conf → Option BootError → Rules → ℕ → Option (List ℕ) → Result Run AuditError → Type 0
-BootsRun file conf (Some first) rules n output result = result ≡ Err (Boot first)
-BootsRun file conf None rules n output (Ok run) =
-    (m : History) × IsBooted file conf m × IsDrivenRun rules n output m.state run
-BootsRun file conf None rules n output (Err error) = error ≡ Boot NoMemory

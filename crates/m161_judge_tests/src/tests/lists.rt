@@ -4,7 +4,8 @@ use super::kernels::{HELLO, LETTER, LOOP, ONE, WAIT, file_with};
 use super::same;
 use m161::{Console, Tlb};
 use m161_judge::{
-    AuditError, BootError, Conf, Event, Goal, Judged, LinkUnit, Verdict, Watch, judge,
+    AuditError, BootError, Booted, Conf, Event, Goal, Judged, LinkUnit, Verdict, Watch, judge,
+    judge_events,
 };
 use m161_steplog::read_schedule;
 use m161_test_support::kernel::kernel_with;
@@ -86,6 +87,41 @@ fn outputs(rt: HostRuntime) -> Result<(), Fail> {
         Some(b"h"),
         judged(Verdict::Output, 19),
     )
+}
+
+// The verdict of a schedule, made on a machine that was booted before, without watches and keys.
+fn verdict_from(
+    alloc: Global,
+    booted: &Booted<Tlb, Console>,
+    schedule: &str,
+    output: Option<&[u8]>,
+) -> Result<Option<Judged>, Fail> {
+    let events = read_schedule(alloc, schedule)?.to_vec(alloc)?;
+    Ok(judge_events(alloc, booted, &events, &sends(output, b""))?)
+}
+
+#[test]
+fn lists_of_one_boot(rt: HostRuntime) -> Result<(), Fail> {
+    let alloc = rt.alloc();
+    let file = file_with(alloc, &HELLO)?;
+    let booted = Booted::<Tlb, Console>::new(alloc, &file, ONE)?;
+    let found = verdict_from(alloc, &booted, TO_OFF, Some(b"ho"))?;
+    same(&rt, found, judged(Verdict::Output, 19));
+    // each is made from boot
+    let found = verdict_from(alloc, &booted, "s 0 3\n", Some(b"hi"))?;
+    same(&rt, found, judged(Verdict::End, 3));
+    let found = verdict_from(alloc, &booted, TO_OFF, Some(b"hi"))?;
+    same(&rt, found, None);
+    // the watch is outside RAM
+    let bad = Goal {
+        watches: &[WATCH],
+        output: None,
+        keys: &[],
+    };
+    let none: [Event; 0] = [];
+    let found = judge_events(alloc, &booted, &none, &bad);
+    same(&rt, found, Err(AuditError::BadWatch(0)));
+    Ok(())
 }
 
 #[test]

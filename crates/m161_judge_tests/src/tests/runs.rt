@@ -10,7 +10,7 @@ use std::alloc::{AllocGlobal, Global};
 use std::process::Abort;
 use std::test::Fail;
 
-// Drives a kernel in turns of one Step, for at most `n` events, for which its log has room.
+// Drives a kernel in turns of one Step, for at most `n` events.
 fn driven(
     alloc: Global,
     words: &[u32],
@@ -20,7 +20,6 @@ fn driven(
 ) -> Result<Run, Fail> {
     let file = file_with(alloc, words)?;
     let policy = Policy::new(Order::Turns(1), 100, Some(1000), keys)?;
-    let n = n.min(1000);
     Ok(judge_run::<Tlb, Console>(alloc, &file, ONE, &policy, n, &[], output)?)
 }
 
@@ -58,7 +57,9 @@ fn outputs(rt: HostRuntime) -> Result<(), Fail> {
 fn ends(rt: HostRuntime) -> Result<(), Fail> {
     check(&rt, &LOOP, 10, None, (10, None, true))?;
     let end = judged(Verdict::End, 10);
-    check(&rt, &LOOP, 10, Some(b""), (10, end, true))
+    check(&rt, &LOOP, 10, Some(b""), (10, end, true))?;
+    // more events than the log that the machine was given has room for
+    check(&rt, &LOOP, 2000, None, (2000, None, true))
 }
 
 #[test]

@@ -1,20 +1,20 @@
-use Rattle.std.proofs.Common.{◌≡◌, ◌∙◌, ◌++◌, ◌-◌, ◌+◌, ◌<◌, ◌≤◌, take, set, sym, ap, arith, length}
+use Rattle.std.proofs.Common.{◌∙◌, ◌++◌, ◌-◌, ◌+◌, ◌<◌, take, sym, ap, arith, length}
 use Rattle.std.specs.Prelude.{filter}
 use Rattle.std.specs.List.{range_with_len}
 use Rattle.std.proofs.Math.ListN.{length-set}
 use Rattle.m161_drive.specs.Ready.{is_ready}
-use Rattle.m161_drive.proofs.Finding.{filter_done, filter_skip, listed_more}
+use Rattle.m161_drive.proofs.Finding.{filter_skip, listed_more}
 use Rattle.m161_drive.proofs.ready.list_ready.Goals as goal
 use Rattle.m161_drive.proofs.ready.list_ready.Goals.{then-is_ready, else-is_ready}
 
 pub loop-p-preserved : goal.loop-p-preserved
 loop-p-preserved g c =
-    let test = is_ready (g.V.View.state c.args.machine.now) in
-    let n = length (g.V.View.state c.args.machine.now).processors in
+    let test = is_ready c.args.core.now.state in
+    let n = length c.args.core.now.state.processors in
     let p = c.loop-p.p in
     let before = c.loop-p.invariant in
     let less : p < n = omega (arith, c.processors-p-end.ensures, c.loop-p-test.true) in
-    let room : c.loop-p.count < length c.loop-p.places = omega (arith, before.long, before.few, less, c.has_few_processors.ensures) in
+    let room : c.loop-p.count < length c.loop-p.places = omega (arith, before.long, before.few, less, c.law.ensures.few) in
     elim c.if-is_ready.branch [
       | then-is_ready w ↦ record {
         long = ap length w.places-is ∙ length-set c.loop-p.places c.loop-p.count p ∙ before.long;

@@ -10,6 +10,6 @@ invariant-loop-p g l = record {
   long : length l.places ≡ 32;
   few : l.count ≤ l.p;
   all :
-      take l.count l.places ++ filter (is_ready (g.V.View.state l.machine)) (range_with_len l.p (length (g.V.View.state l.machine).processors - l.p))
-      ≡ ready (g.V.View.state l.machine);
+      take l.count l.places ++ filter (is_ready l.core.state) (range_with_len l.p (length l.core.state.processors - l.p))
+      ≡ ready l.core.state;
 }

@@ -7,8 +7,8 @@ use Rattle.m161_drive.proofs.ready.next_ticking.Goals as goal
 
 pub returns-in-Some : goal.returns-in-Some
 returns-in-Some g c =
-    let test = is_ticking (g.V.View.state c.args.machine.now) in
-    let n = length (g.V.View.state c.args.machine.now).processors in
+    let test = is_ticking c.args.core.now.state in
+    let n = length c.args.core.now.state.processors in
     let a = place_behind c.args.last n in
     let n_is : c.processors-processors.result ≡ n = c.processors-processors.ensures in
     let a_is : c.place_behind-place.result ≡ a = c.place_behind-place.ensures ∙ ap (place_behind c.args.last) n_is in
@@ -18,8 +18,8 @@ returns-in-Some g c =
 
 pub returns-in-None : goal.returns-in-None
 returns-in-None g c =
-    let test = is_ticking (g.V.View.state c.args.machine.now) in
-    let n = length (g.V.View.state c.args.machine.now).processors in
+    let test = is_ticking c.args.core.now.state in
+    let n = length c.args.core.now.state.processors in
     let a = place_behind c.args.last n in
     let n_is : c.processors-processors.result ≡ n = c.processors-processors.ensures in
     let a_is : c.place_behind-place.result ≡ a = c.place_behind-place.ensures ∙ ap (place_behind c.args.last) n_is in

@@ -7,8 +7,8 @@ use Rattle.m161_drive.proofs.ready.some_ticking.Goals as goal
 
 pub returns : goal.returns
 returns g c =
-    let test = is_ticking (g.V.View.state c.args.machine.now) in
-    let n = length (g.V.View.state c.args.machine.now).processors in
+    let test = is_ticking c.args.core.now.state in
+    let n = length c.args.core.now.state.processors in
     c.is_some.ensures
     ∙ ap is_some (c.ticking_between.ensures ∙ ap (λ k. find test (range_with_len 0 (k - 0))) c.processors.ensures ∙ ap (find test) (range_whole n))
     ∙ sym (any_found test (range_with_len 0 n))

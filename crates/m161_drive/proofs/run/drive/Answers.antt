@@ -1,22 +1,43 @@
-use Rattle.std.proofs.Common.{refl, [], arith}
-use Rattle.m161_machine.proofs.Continuing.{continues_none}
-use Rattle.m161_drive.proofs.Driving.{drives_more, stopped, stops_so}
+use Rattle.std.specs.Prelude.{slice_get}
+use Rattle.std.proofs.Common.{◌≡◌, refl, ◌∙◌, sym, ap, subst, take, drop, arith}
+use Rattle.std.proofs.lemmas.List.{length-append, length-drop, length-take-le}
+use Rattle.m161_drive.specs.Drive.{IsNoted}
+use Rattle.m161_drive.proofs.Driving.{begun_so, driving_more, driving_none, on_err, take_front}
 use Rattle.m161_drive.proofs.run.drive.Goals as goal
 
 pub loop-made-init : goal.loop-made-init
-loop-made-init g c = record {
-  events = [];
-  made_is = refl;
-  chosen_are = (c.new-cursor.ensures, refl);
-  continues = let last = c.replay.ensures.last in continues_none c.args.machine.now (omega (arith, last));
-}
+loop-made-init g c = (
+  driving_none g.N.Notes.has c.args.policy.now c.args.core.now.state c.args.notes.now c.new-cursor.result c.new-cursor.ensures,
+  refl,
+  omega arith,
+)
+
+pub returns-in_err-add-in-Ok-clause-err : goal.returns-in_err-add-in-Ok-clause-err
+returns-in_err-add-in-Ok-clause-err g c =
+    let most = c.min-most.ensures in
+    let turn = c.in-Ok.ensures.turn in
+    let size = c.turn.ensures.length in
+    let key : slice_get c.args.policy.now.keys c.loop-made.cursor.typed ≡ c.key-key.result =
+    ap (slice_get c.args.policy.now.keys) (sym c.typed.ensures) ∙ sym c.key-key.ensures.value in
+    on_err c.from_residual.result (begun_so g.N.Notes.has c.args.policy.now c.args.n c.loop-made.made c.in-Ok.more c.args.core.now.state c.loop-made.core.state c.turn.new.core.state
+    c.loop-made.cursor c.turn.new.cursor c.args.notes.now c.loop-made.notes (take c.in-Ok.more c.turn.new.entries) c.loop-made.invariant.0
+    (length-take-le c.in-Ok.more c.turn.new.entries turn.1) (omega (arith, turn.1, size, most)) (turn.2 (slice_get c.args.policy.now.keys) key))
 
 pub loop-made-preserved : goal.loop-made-preserved
 loop-made-preserved g c =
-    drives_more c.args.policy.now c.args.machine.now c.loop-made.made c.loop-made.cursor c.drive_once.new.cursor c.loop-made.machine c.drive_once.new.machine
-    c.loop-made.invariant c.in_default.ensures
-
-pub returns-in-Some : goal.returns-in-Some
-returns-in-Some g c =
-    stopped c.args.policy.now c.args.n c.loop-made.made c.in-Some.stop c.args.machine.now c.loop-made.machine c.drive_once.new.machine c.loop-made.cursor (omega arith)
-    c.loop-made.invariant (stops_so c.args.policy.now c.args.n c.loop-made.made c.loop-made.cursor c.loop-made.machine.state c.in-Some.stop (omega arith) c.in-Some.ensures.0) c.in-Some.ensures.1
+    let most = c.min-most.ensures in
+    let turn = c.in-Ok.ensures.turn in
+    let size = c.turn.ensures.length in
+    let places = c.turn.new.entries in
+    let rest = drop c.min-most.result c.loop-made.entries in
+    let front = length-take-le c.min-most.result c.loop-made.entries (let long = c.loop-made.invariant.1 in omega (arith, most, long)) in
+    let key : slice_get c.args.policy.now.keys c.loop-made.cursor.typed ≡ c.key-key.result =
+    ap (slice_get c.args.policy.now.keys) (sym c.typed.ensures) ∙ sym c.key-key.ensures.value in
+    let noted = subst (λ es. IsNoted g.N.Notes.has c.loop-made.notes es c.add.new.self) (take_front c.in-Ok.more places rest turn.1) c.in_ok-add-in-Ok.ensures in (
+      driving_more g.N.Notes.has c.args.policy.now c.args.core.now.state c.loop-made.core.state c.turn.new.core.state c.args.notes.now c.loop-made.notes
+          c.add.new.self c.loop-made.made c.in-Ok.more c.loop-made.cursor c.turn.new.cursor (take c.in-Ok.more places) c.loop-made.invariant.0
+          (length-take-le c.in-Ok.more places turn.1) (turn.2 (slice_get c.args.policy.now.keys) key) noted,
+      (let long = c.loop-made.invariant.1 in let sum = length-append places rest in let end = length-drop c.min-most.result c.loop-made.entries in
+          omega (arith, sum, end, size, front, long, most)),
+      omega (arith, turn.1, size, front, most),
+    )

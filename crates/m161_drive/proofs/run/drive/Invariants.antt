@@ -1,6 +1,11 @@
+use Rattle.std.proofs.Common.{◌≡◌, ◌-◌, ◌≤◌, length}
 use Rattle.m161_drive.proofs.Driving.{Driving}
 use Rattle.m161_drive.proofs.run.drive.Given as goal
 
--- the events so far are chosen and made
+-- the events so far are chosen and made, and noted
 abbrev pub invariant-loop-made : goal.invariant-loop-made
-invariant-loop-made g l = Driving l.policy l.fn.machine l.made l.cursor l.machine
+invariant-loop-made g l = Driving g.N.Notes.has l.policy l.fn.core.state l.fn.notes l.made l.cursor l.core.state l.notes
+    × (length l.entries ≡ 64) × (l.made ≤ l.n)
+
+abbrev pub decreases-loop-made : goal.decreases-loop-made
+decreases-loop-made g l = l.n - l.made

@@ -11,13 +11,13 @@ use Rattle.m161_drive.proofs.ranking.Ranking.highest.Goals.{then-is_ready, else-
 pub loop-k-preserved : goal.loop-k-preserved
 loop-k-preserved g c =
     let r = c.args.self.now in
-    let test = λ (j : ℕ). is_ready (g.V.View.state c.args.machine.now) (slice_index r.processors j) in
+    let test = λ (j : ℕ). is_ready c.args.core.now.state (slice_index r.processors j) in
     let k = c.loop-k.k in
     let rest = filter test (range_with_len (k + 1) (32 - (k + 1))) in
     let less : k < 32 = omega (arith, c.loop-k-test.true, c.places-k-end.ensures.within) in
     let before = c.loop-k.invariant in
     let same : get_or c.self.inside.processors k 0 ≡ get_or r.processors k 0 = ap (λ (x : Ranks). get_or x.processors k 0) c.self.view_is in
-    let tested : test k ≡ c.is_ready.result = ap (is_ready (g.V.View.state c.args.machine.now)) (sym same) ∙ sym c.is_ready.ensures in
+    let tested : test k ≡ c.is_ready.result = ap (is_ready c.args.core.now.state) (sym same) ∙ sym c.is_ready.ensures in
     elim c.if-is_ready.branch [
       | then-is_ready w ↦ (
         ap (λ o. fold (higher r.ranks) o rest) (w.best-is ∙ w.higher.ensures.value)
@@ -36,7 +36,7 @@ loop-k-preserved g c =
 pub returns-clause-value : goal.returns-clause-value
 returns-clause-value g c =
     let r = c.args.self.now in
-    let state = g.V.View.state c.args.machine.now in
+    let state = c.args.core.now.state in
     let test = λ (j : ℕ). is_ready state (slice_index r.processors j) in
     let k = c.loop-k.k in
     let none = filter_rest test (32 - k) k (λ j from to. not_there state (slice_index r.processors j)

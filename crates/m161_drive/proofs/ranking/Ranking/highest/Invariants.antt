@@ -9,6 +9,6 @@ use Rattle.m161_drive.proofs.ranking.Ranking.highest.Given as goal
 abbrev pub invariant-loop-k : goal.invariant-loop-k
 invariant-loop-k g l =
     (fold (higher l.self.ranks) l.best
-    (filter (λ k. is_ready (g.V.View.state l.machine) (slice_index l.self.processors k)) (range_with_len l.k (32 - l.k)))
-    ≡ highest l.fn.self (g.V.View.state l.machine))
+    (filter (λ k. is_ready l.core.state (slice_index l.self.processors k)) (range_with_len l.k (32 - l.k)))
+    ≡ highest l.fn.self l.core.state)
     × IfSome l.best (λ b. b < 32)
