@@ -21,4 +21,4 @@ mod Unfolding
 mod Using
 mod Idle
 pub mod Stretching
-mod Modes
+pub mod Modes

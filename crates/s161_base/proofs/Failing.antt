@@ -1,10 +1,11 @@
-use Rattle.std.proofs.Common.{◌≡◌, ◌⊎◌, ℕ, List, Bool, true, false, Option, None, Some, IfSome, Err, ap, inl, inr, refl, sym}
+use Rattle.std.proofs.Common.{◌≡◌, ◌⊎◌, ℕ, List, Bool, true, false, Option, None, Some, IfSome, Ok, Err, ap, inl, inr, refl, sym}
 use Rattle.m161_elf.specs.declared.image.LoadError.{LoadError}
 use Rattle.m161_elf.specs.Image.{first_fault}
 use Rattle.m161_machine.specs.declared.conf.BootError.{BootError}
 use Rattle.m161_machine.specs.declared.conf.Conf.{Conf as MachineConf}
 use Rattle.m161_machine.specs.Conf.{is_within_limits}
-use Rattle.m161_machine.specs.History.{Boots, boot_fault, load_fault}
+use Rattle.m161_machine.specs.History.{Boots, BootsState, IsBootState, boot_fault, load_fault}
+use Rattle.m161_machine.specs.State.{CoreValue}
 use Rattle.m161_text.specs.Lines.{FirstBad}
 use Rattle.m161_steplog.specs.Schedule.{AreScheduleLines}
 use Rattle.s161_base.specs.Faults.{fault_of_boot}
@@ -66,3 +67,21 @@ pub boot_failed : (P : Fault → Type 0) (image : Option (List ℕ)) (conf : Mac
     Boots file conf (boot_fault file conf) (Err e) → P (fault_of_boot e)
 boot_failed P image conf file e is limits load memory h =
     boot_fails P image conf file e is limits load memory (why_not file conf (boot_fault file conf) e h)
+
+-- that of a boot that gives the state alone
+why_no_state : (file : List ℕ) (conf : MachineConf) (fault : Option BootError) (e : BootError) → BootsState file conf fault (Err e) →
+    (fault ≡ Some e) ⊎ (e ≡ BootError.NoMemory)
+why_no_state file conf (Some first) e h = inl (ap (λ x. Some x) (sym h))
+why_no_state file conf None e h = inr h
+
+pub state_failed : (P : Fault → Type 0) (image : Option (List ℕ)) (conf : MachineConf) (file : List ℕ) (e : BootError) → IfSome image (λ bytes. file ≡ bytes) →
+    (is_within_limits conf ≡ false → P Conf) → ((x : LoadError) → HasFault image conf x → P (Image x)) → P Memory →
+    BootsState file conf (boot_fault file conf) (Err e) → P (fault_of_boot e)
+state_failed P image conf file e is limits load memory h =
+    boot_fails P image conf file e is limits load memory (why_no_state file conf (boot_fault file conf) e h)
+
+-- and the state, where there is one
+pub state_booted : (file : List ℕ) (conf : MachineConf) (fault : Option BootError) (core : CoreValue) → BootsState file conf fault (Ok core) →
+    (fault ≡ None) × IsBootState file conf core.state
+state_booted file conf (Some first) core h = absurd h
+state_booted file conf None core h = (refl, h)

@@ -1,4 +1,4 @@
-use Rattle.std.specs.Prelude.{ℕ, List, Ok}
+use Rattle.std.specs.Prelude.{◌≡◌, ℕ, List, None, Ok}
 use Rattle.m161_asm.specs.declared.error.AsmError.{AsmError}
 use Rattle.m161_asm.specs.declared.error.ErrorKind.{ErrorKind}
 use Rattle.m161_asm.specs.declared.error.ErrorKind.TheVariants as asm
@@ -9,7 +9,8 @@ use Rattle.m161_machine.specs.declared.conf.BootError.{BootError}
 use Rattle.m161_machine.specs.declared.conf.BootError.TheVariants.{BadConf, Load, NoMemory}
 use Rattle.m161_steplog.specs.declared.fault.Fault.{Fault as TextFault}
 use Rattle.m161_steplog.specs.declared.fault.Fault.TheVariants as text
-use Rattle.m161_machine.specs.History.{History, Boots, boot_fault}
+use Rattle.m161_machine.specs.History.{History, Boots, IsBootState, boot_fault}
+use Rattle.m161_machine.specs.State.{State}
 use Rattle.s161_base.specs.declared.fault.Fault.{Fault}
 use Rattle.s161_base.specs.declared.fault.Fault.TheVariants.{Conf, Image, Log, Memory, Schedule, Source, Watches}
 
@@ -18,6 +19,10 @@ use Rattle.s161_base.specs.declared.fault.Fault.TheVariants.{Conf, Image, Log, M
 -- there is no reason not to boot this file, and booted is the machine
 abbrev pub BootsTo : List ℕ → Size → History → Type 0
 BootsTo file conf booted = Boots file conf (boot_fault file conf) (Ok booted)
+
+-- the same where only the state is wanted, with no log
+abbrev pub BootsIn : List ℕ → Size → State → Type 0
+BootsIn file conf booted = (boot_fault file conf ≡ None) × IsBootState file conf booted
 
 -- why a machine isn't booted, as a fault of the command
 abbrev pub fault_of_boot : BootError → Fault

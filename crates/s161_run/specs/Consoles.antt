@@ -1,8 +1,9 @@
 use Rattle.std.specs.Prelude.{◌≡◌, ◌⊎◌, ℕ, ◌≤◌, true, false, List, [], ◌++◌, length, take, Option, Some, IfSome}
 use Rattle.std.specs.Io.KnownBytes.{Appends, Consumes}
 use Rattle.m161_machine.specs.declared.conf.BootError.TheVariants.{Load}
+use Rattle.m161_machine.specs.declared.event.Entry.{Entry}
 use Rattle.m161_machine.specs.Conf.{is_within_limits}
-use Rattle.m161_machine.specs.History.{History, boot_fault}
+use Rattle.m161_machine.specs.History.{boot_fault}
 use Rattle.m161_machine.specs.State.{State}
 use Rattle.m161_drive.specs.declared.cursor.Cursor.{Cursor}
 use Rattle.m161_drive.specs.declared.run.Driven.{Driven}
@@ -17,7 +18,7 @@ use Rattle.s161_run.specs.declared.events.Stop.{Stop}
 use Rattle.s161_base.specs.declared.fault.Fault.{Fault}
 use Rattle.s161_base.specs.declared.fault.Fault.TheVariants.{Conf, File, Image, Input, Memory, Output}
 use Rattle.s161_base.specs.declared.fault.Unread.TheVariants.{Failed}
-use Rattle.s161_base.specs.Faults.{BootsTo}
+use Rattle.s161_base.specs.Faults.{BootsIn}
 use Rattle.s161_base.specs.Known.{OfKnown}
 use Rattle.s161_base.specs.Reading.{IsOfBytes}
 use Rattle.s161_base.specs.Samples.{IsFileName}
@@ -35,63 +36,63 @@ keys_taken rules c s drive.End = c.typed
 keys_taken rules c s drive.Stuck = c.typed
 keys_taken rules c s (drive.Refused refusal) = (chosen rules c s).1.typed
 
--- a driven run of at most n events, with all bytes of the input as its keys, which leaves this
--- machine. Exactly those that it took were read, and all that the console has sent was written, but
+-- a driven run of at most n events, with all bytes of the input as its keys, from one state to
+-- another. Exactly those that it took were read, and all that the console has sent was written, but
 -- for some bytes at its end
 pub record Serves
-    (options : Drive) (n : ℕ) (m : History) (x : Streams) (driven : Driven) (machine : History)
+    (options : Drive) (n : ℕ) (s : State) (x : Streams) (driven : Driven) (t : State)
     (unwritten : List ℕ) : Type 0 where
   pub keys : List ℕ
   pub are_keys : IfSome x.input (λ bytes. keys ≡ bytes)
-  pub drives : Drives (rules_of options keys) n m driven machine
+  pub entries : List Entry
+  pub drives : Drives (rules_of options keys) n s driven entries t
   pub are_read : Consumes x.input x.left
-      (take (keys_taken (rules_of options keys) drives.cursor machine.state driven.stop) keys)
+      (take (keys_taken (rules_of options keys) drives.cursor t driven.stop) keys)
   pub written : List ℕ
-  pub are_sent : machine.state.board.console.output ≡ written ++ unwritten
+  pub are_sent : t.board.console.output ≡ written ++ unwritten
   pub are_written : Appends x.before x.after written
 
 -- the input fails: some events were made, and a key is wanted
-pub record InputFails (options : Drive) (m : History) (x : Streams) : Type 0 where
+pub record InputFails (options : Drive) (s : State) (x : Streams) : Type 0 where
   pub n : ℕ
   pub few : n ≤ options.events
   pub driven : Driven
-  pub machine : History
-  pub serves : Serves options n m x driven machine []
-  pub is_wanted :
-      wants_key (rules_of options serves.keys) serves.drives.cursor machine.state ≡ true
+  pub state : State
+  pub serves : Serves options n s x driven state []
+  pub is_wanted : wants_key (rules_of options serves.keys) serves.drives.cursor state ≡ true
 
 -- the output fails: some events were made, and at most the last byte isn't written
-pub record OutputFails (options : Drive) (m : History) (x : Streams) : Type 0 where
+pub record OutputFails (options : Drive) (s : State) (x : Streams) : Type 0 where
   pub n : ℕ
   pub few : n ≤ options.events
   pub driven : Driven
   pub unwritten : List ℕ
   pub at_most_one : length unwritten ≤ 1
-  pub machine : History
-  pub serves : Serves options n m x driven machine unwritten
+  pub state : State
+  pub serves : Serves options n s x driven state unwritten
 
 -- which stream a fault is of, and how it fails
-abbrev pub Fails : Drive → History → Streams → Fault → Type 0
-Fails options m x (Input why) = (why ≡ Failed) × InputFails options m x
-Fails options m x Output = OutputFails options m x
-Fails options m x _ = ⊥
+abbrev pub Fails : Drive → State → Streams → Fault → Type 0
+Fails options s x (Input why) = (why ≡ Failed) × InputFails options s x
+Fails options s x Output = OutputFails options s x
+Fails options s x _ = ⊥
 
 -- the task's image is booted; its file has these bytes, as far as they are known
 pub record BootsFor
-    (task : ConsoleTask) (known : Option (List ℕ)) (booted : History) : Type 0 where
+    (task : ConsoleTask) (known : Option (List ℕ)) (booted : State) : Type 0 where
   pub file : List ℕ
   pub is_file : IfSome known (λ bytes. file ≡ bytes)
-  pub boots : BootsTo file (conf_of task.size) booted
+  pub boots : BootsIn file (conf_of task.size) booted
 
 -- a finished run, and why it stopped
 pub record IsConsoleRun
     (task : ConsoleTask) (known : Option (List ℕ)) (x : Streams) (stop : Stop) : Type 0 where
-  pub booted : History
+  pub booted : State
   pub boots : BootsFor task known booted
   pub driven : Driven
-  pub machine : History
-  pub serves : Serves task.drive task.drive.events booted x driven machine []
-  pub stop_is : stop ≡ stop_of driven machine
+  pub state : State
+  pub serves : Serves task.drive task.drive.events booted x driven state []
+  pub stop_is : stop ≡ stop_of driven state
 
 -- what a fault before the run says of its inputs. File and Memory hold whatever else is at fault
 abbrev pub IsEarlyFault : ConsoleTask → Option (List ℕ) → Fault → Type 0
@@ -106,7 +107,7 @@ IsEarlyFault task known _ = ⊥
 -- a fault in the run
 abbrev pub FailsInRun : ConsoleTask → Option (List ℕ) → Streams → Fault → Type 0
 FailsInRun task known x fault =
-    (booted : History) × BootsFor task known booted × Fails task.drive booted x fault
+    (booted : State) × BootsFor task known booted × Fails task.drive booted x fault
 
 -- a fault that ends the task: before the run, and the streams are untouched; or in the run
 abbrev pub IsConsoleFault : ConsoleTask → Option (List ℕ) → Streams → Fault → Type 0

@@ -2,8 +2,10 @@ use Rattle.std.specs.Prelude.{◌≡◌, ◌⊎◌, ℕ, false, List, [], Option
 use Rattle.std.proofs.Common.{Bor}
 use Rattle.m161_machine.specs.declared.conf.BootError.TheVariants.{Load}
 use Rattle.m161_machine.specs.declared.event.Conflict.{Conflict}
+use Rattle.m161_machine.specs.declared.event.Entry.{Entry}
 use Rattle.m161_machine.specs.Conf.{is_within_limits}
-use Rattle.m161_machine.specs.History.{History, boot_fault}
+use Rattle.m161_machine.specs.History.{boot_fault}
+use Rattle.m161_machine.specs.State.{State}
 use Rattle.m161_drive.specs.declared.run.Driven.{Driven}
 use Rattle.m161_drive.specs.declared.run.Stop.{Stop as DriveStop}
 use Rattle.m161_drive.specs.declared.run.Stop.TheVariants as drive
@@ -13,10 +15,10 @@ use Rattle.s161_command.specs.declared.drive.Drive.{Drive}
 use Rattle.s161_command.specs.declared.task.DrivenTask.{DrivenTask}
 use Rattle.s161_run.specs.declared.events.Stop.{Stop}
 use Rattle.s161_run.specs.declared.events.Stop.TheVariants.{End, Stuck, Refused}
-use Rattle.s161_run.specs.Runs.{status_of, stop_off, summary_text}
+use Rattle.s161_run.specs.Runs.{log_of_run, status_of, stop_off, summary_text}
 use Rattle.s161_base.specs.declared.fault.Fault.{Fault}
 use Rattle.s161_base.specs.declared.fault.Fault.TheVariants.{Conf, File, Image, Memory}
-use Rattle.s161_base.specs.Faults.{BootsTo}
+use Rattle.s161_base.specs.Faults.{BootsIn}
 use Rattle.s161_base.specs.Known.{OfKnown}
 use Rattle.s161_base.specs.Reading.{IsFileUnread, IsOfBytes}
 use Rattle.s161_base.specs.Samples.{IsFileName}
@@ -45,9 +47,9 @@ told made conflict drive.End = End
 told made conflict drive.Stuck = Stuck
 told made conflict (drive.Refused refusal) = Refused made refusal
 
--- how a driven run stopped that left this machine
-abbrev pub stop_of : Driven → History → Stop
-stop_of driven machine = told driven.made machine.state.conflict driven.stop
+-- how a driven run stopped that ended in this state
+abbrev pub stop_of : Driven → State → Stop
+stop_of driven s = told driven.made s.conflict driven.stop
 
 -- a finished driven run: what it prints and its exit status; the files have these bytes, and that of
 -- the image, as far as they are known
@@ -58,13 +60,16 @@ pub record IsDriven
   pub is_file : IfSome known (λ bytes. file ≡ bytes)
   pub keys : List ℕ
   pub are_keys : AreKeys task.drive.keys files keys
-  pub booted : History
-  pub boots : BootsTo file (conf_of task.run.size) booted
+  pub booted : State
+  pub boots : BootsIn file (conf_of task.run.size) booted
   pub driven : Driven
-  pub machine : History
-  pub drives : Drives (rules_of task.drive keys) task.drive.events booted driven machine
-  pub text_is : text ≡ summary_text machine file (stop_of driven machine) task.run.shown
-  pub status_is : status ≡ status_of (stop_of driven machine)
+  pub entries : List Entry
+  pub state : State
+  pub drives : Drives (rules_of task.drive keys) task.drive.events booted driven entries state
+  pub text_is :
+      text ≡ summary_text (log_of_run (conf_of task.run.size) file entries) state
+          (stop_of driven state) task.run.shown
+  pub status_is : status ≡ status_of (stop_of driven state)
 
 -- a fault is that of the file of the keys
 abbrev pub IsKeysFile : Option (Bor (List ℕ)) → Fault → Type 0

@@ -4,13 +4,16 @@ use Rattle.sha2.specs.Sha256.{sha256}
 use Rattle.m161_cpu.specs.declared.processor.ProcessorState.{ProcessorState}
 use Rattle.m161_cpu.specs.declared.processor.ProcessorState.TheVariants.{Stopped, Running, Waiting}
 use Rattle.m161_machine.specs.declared.conf.BootError.TheVariants.{Load}
+use Rattle.circular_buffer.specs.Buffer.{keep_last}
+use Rattle.m161_machine.specs.declared.conf.Conf.{Conf as MachineConf}
 use Rattle.m161_machine.specs.declared.event.Conflict.{Conflict}
+use Rattle.m161_machine.specs.declared.event.Entry.{Entry}
 use Rattle.m161_machine.specs.declared.event.Event.{Event}
 use Rattle.m161_machine.specs.declared.event.Refusal.{Refusal}
 use Rattle.m161_machine.specs.Conf.{is_within_limits}
 use Rattle.m161_machine.specs.Refusal.{name_of_refusal, number_of_refusal}
 use Rattle.m161_machine.specs.State.{State, next, processor_at}
-use Rattle.m161_machine.specs.History.{History, Continues, Refuses, boot_fault}
+use Rattle.m161_machine.specs.History.{Leads, Refuses, boot_fault, events_of}
 use Rattle.m161_display.specs.Shows.{show_regs_text}
 use Rattle.m161_text.specs.Lines.{with_line_end, FirstBad, lines_of}
 use Rattle.m161_steplog.specs.declared.machine.MachineLine.{MachineLine}
@@ -26,7 +29,7 @@ use Rattle.s161_run.specs.declared.events.Stop.{Stop}
 use Rattle.s161_run.specs.declared.events.Stop.TheVariants.{Off, Conflict as ConflictStop, End, Stuck, Refused}
 use Rattle.s161_base.specs.declared.fault.Fault.{Fault}
 use Rattle.s161_base.specs.declared.fault.Fault.TheVariants.{Conf, File, Image, Input, Memory, Schedule}
-use Rattle.s161_base.specs.Faults.{BootsTo}
+use Rattle.s161_base.specs.Faults.{BootsIn}
 use Rattle.s161_base.specs.Known.{IsText, OfKnown, OfText}
 use Rattle.s161_base.specs.Reading.{IsOfBytes, IsOfText}
 use Rattle.s161_base.specs.Samples.{IsFileName}
@@ -40,8 +43,8 @@ abbrev pub IsRefusedAt : List Event → ℕ → State → Refusal → Type 0
 IsRefusedAt events k s refusal = IsSomeAnd (slice_get events k) (λ e. Refuses (next s e) e refusal)
 
 -- a machine is on, and then off
-abbrev pub IsSwitchedOff : History → History → Type 0
-IsSwitchedOff m n = (m.state.board.off ≡ false) × (n.state.board.off ≡ true)
+abbrev pub IsSwitchedOff : State → State → Type 0
+IsSwitchedOff s t = (s.board.off ≡ false) × (t.board.off ≡ true)
 
 -- a conflict: its processor, the row that was to be written, and the other one
 abbrev pub conflict_text : Conflict → List ℕ
@@ -53,25 +56,24 @@ abbrev pub stop_off : Option Conflict → Stop
 stop_off None = Off
 stop_off (Some conflict) = ConflictStop conflict
 
--- why this many of these events were made of m, which left n, and no more: they switched the
+-- why this many of these events, which led from s to t, were made and no more: they switched the
 -- machine off, by a conflict or not; or they didn't, and there are no more, or the next is refused.
 -- Only a policy is stuck
-abbrev pub StopsAfter : History → List Event → ℕ → Stop → History → Type 0
-StopsAfter m events made Off n = IsSwitchedOff m n × (n.state.conflict ≡ None)
-StopsAfter m events made (ConflictStop conflict) n =
-    IsSwitchedOff m n × (n.state.conflict ≡ Some conflict)
-StopsAfter m events made End n = (n.state.board.off ≡ m.state.board.off) × (made ≡ length events)
-StopsAfter m events made Stuck n = ⊥
-StopsAfter m events made (Refused k refusal) n =
-    (n.state.board.off ≡ m.state.board.off) × (made ≡ k) × IsRefusedAt events k n.state refusal
+abbrev pub StopsAfter : State → List Event → ℕ → Stop → State → Type 0
+StopsAfter s events made Off t = IsSwitchedOff s t × (t.conflict ≡ None)
+StopsAfter s events made (ConflictStop conflict) t = IsSwitchedOff s t × (t.conflict ≡ Some conflict)
+StopsAfter s events made End t = (t.board.off ≡ s.board.off) × (made ≡ length events)
+StopsAfter s events made Stuck t = ⊥
+StopsAfter s events made (Refused k refusal) t =
+    (t.board.off ≡ s.board.off) × (made ≡ k) × IsRefusedAt events k t refusal
 
--- the first of these events are made of a machine, until one switches it off or is refused, and
--- leave n
+-- from a state the first of these events are made, with these entries, until one switches the machine
+-- off or is refused
 pub record MakesEvents
-    (m : History) (events : List Event) (stop : Stop) (n : History) : Type 0 where
-  pub made : ℕ
-  pub first : Continues m (take made events) n
-  pub why : StopsAfter m events made stop n
+    (s : State) (events : List Event) (stop : Stop) (entries : List Entry) (t : State) : Type 0 where
+  pub leads : Leads s entries t
+  pub are_first : events_of entries ≡ take (length entries) events
+  pub why : StopsAfter s events (length entries) stop t
 
 -- the line end that a text with this last byte lacks
 abbrev pub missing_line_end : Option ℕ → List ℕ
@@ -105,40 +107,42 @@ stop_line (Refused k refusal) =
     ␣ name_of_refusal refusal
 
 -- the size of a machine, and the digest of the file that it was booted from
-abbrev pub line_of : History → List ℕ → MachineLine
-line_of m file = record {
-  ram = m.start.conf.ram;
-  processors = m.start.conf.processors;
-  digest = sha256 file;
-}
+abbrev pub line_of : MachineConf → List ℕ → MachineLine
+line_of conf file = record { ram = conf.ram; processors = conf.processors; digest = sha256 file }
 
 -- what the outcomes of its events hang on
-abbrev pub mode_of : History → Mode
-mode_of m = record { link = m.start.conf.link; strict = m.start.conf.strict }
+abbrev pub mode_of : MachineConf → Mode
+mode_of conf = record { link = conf.link; strict = conf.strict }
 
--- the text of the log, or of its end if entries were dropped
-abbrev pub kept_text : History → List ℕ
-kept_text m =
-    if m.base.made == 0 then log_text (mode_of m) m.log
-    else tail_text (mode_of m) m.base.made m.log
+-- the text of these entries of a log, before which so many were dropped
+abbrev pub kept_text : MachineConf → ℕ → List Entry → List ℕ
+kept_text conf dropped entries =
+    if dropped == 0 then log_text (mode_of conf) entries
+    else tail_text (mode_of conf) dropped entries
 
 -- the machine line, and that text
-abbrev pub shown_log : History → List ℕ → List ℕ
-shown_log m file = with_line_end (machine_text (line_of m file)) ++ kept_text m
+abbrev pub shown_log : MachineConf → List ℕ → ℕ → List Entry → List ℕ
+shown_log conf file dropped entries =
+    with_line_end (machine_text (line_of conf file)) ++ kept_text conf dropped entries
+
+-- the log of a run with these entries: it keeps the last ones that it has room for
+abbrev pub log_of_run : MachineConf → List ℕ → List Entry → List ℕ
+log_of_run conf file entries =
+    shown_log conf file (length entries - conf.log) (keep_last conf.log entries)
 
 -- what a machine shows, with the text of a log before the last line
-abbrev pub summary_with : List ℕ → History → Stop → List ℕ
-summary_with log m stop =
-    output_text m.state.board.console.output
-    ++ started_texts m.state (length m.state.processors)
+abbrev pub summary_with : List ℕ → State → Stop → List ℕ
+summary_with log s stop =
+    output_text s.board.console.output
+    ++ started_texts s (length s.processors)
     ++ log
     ++ with_line_end (stop_line stop)
 
--- what `run` prints of a machine that was booted from this file
-abbrev pub summary_text : History → List ℕ → Stop → Shown → List ℕ
-summary_text m file stop shown.Summary = summary_with [] m stop
-summary_text m file stop shown.SummaryAndLog = summary_with (shown_log m file) m stop
-summary_text m file stop shown.Log = shown_log m file
+-- what `run` prints of a run that ended in a state, with the text of its log
+abbrev pub summary_text : List ℕ → State → Stop → Shown → List ℕ
+summary_text log s stop shown.Summary = summary_with [] s stop
+summary_text log s stop shown.SummaryAndLog = summary_with log s stop
+summary_text log s stop shown.Log = log
 
 abbrev pub status_of : Stop → ℕ
 status_of Off = 0
@@ -154,17 +158,19 @@ pub record IsRun
     (text : List ℕ) (status : ℕ) : Type 0 where
   pub file : List ℕ
   pub is_file : IfSome known (λ bytes. file ≡ bytes)
-  pub booted : History
-  pub boots : BootsTo file (conf_of task.size) booted
+  pub booted : State
+  pub boots : BootsIn file (conf_of task.size) booted
   pub schedule : List ℕ
   pub is_input : IfSome input (λ bytes. schedule ≡ bytes)
   pub is_text : IsText schedule
   pub events : List Event
   pub is_schedule : IsSchedule (lines_of schedule) events
-  pub machine : History
   pub stop : Stop
-  pub makes : MakesEvents booted events stop machine
-  pub text_is : text ≡ summary_text machine file stop task.shown
+  pub entries : List Entry
+  pub state : State
+  pub makes : MakesEvents booted events stop entries state
+  pub text_is :
+      text ≡ summary_text (log_of_run (conf_of task.size) file entries) state stop task.shown
   pub status_is : status ≡ status_of stop
 
 -- what a fault that ends a run says of its inputs: of a file, that it is the image's; of the

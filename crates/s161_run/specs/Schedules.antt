@@ -1,10 +1,11 @@
-use Rattle.std.specs.Prelude.{◌≡◌, ◌≢◌, ◌⊎◌, ℕ, false, ◌==◌, ◌||◌, nat_lt, if◌then◌else◌, min, List, Option, Some, IfSome}
-use Rattle.m161_machine.specs.declared.conf.Conf.{Conf as MachineConf}
+use Rattle.std.specs.Prelude.{◌≡◌, ◌≢◌, ◌⊎◌, ℕ, false, List, Option, Some, IfSome}
 use Rattle.m161_machine.specs.declared.conf.BootError.TheVariants.{Load}
+use Rattle.m161_machine.specs.declared.event.Entry.{Entry}
 use Rattle.m161_machine.specs.declared.event.Event.{Event}
 use Rattle.m161_machine.specs.declared.event.Refusal.{Refusal}
 use Rattle.m161_machine.specs.Conf.{is_within_limits}
-use Rattle.m161_machine.specs.History.{History, boot_fault}
+use Rattle.m161_machine.specs.History.{boot_fault, events_of}
+use Rattle.m161_machine.specs.State.{State}
 use Rattle.m161_drive.specs.declared.run.Driven.{Driven}
 use Rattle.m161_drive.specs.declared.run.Stop.TheVariants as drive
 use Rattle.m161_drive.specs.Drive.{Drives}
@@ -13,7 +14,7 @@ use Rattle.m161_steplog.specs.Written.{schedule_text}
 use Rattle.s161_command.specs.declared.task.ScheduleTask.{ScheduleTask}
 use Rattle.s161_base.specs.declared.fault.Fault.{Fault}
 use Rattle.s161_base.specs.declared.fault.Fault.TheVariants.{Conf, File, Image, Memory}
-use Rattle.s161_base.specs.Faults.{BootsTo}
+use Rattle.s161_base.specs.Faults.{BootsIn}
 use Rattle.s161_base.specs.Known.{OfKnown}
 use Rattle.s161_base.specs.Reading.{IsOfBytes}
 use Rattle.s161_base.specs.Samples.{IsFileName}
@@ -22,24 +23,15 @@ use Rattle.s161_run.specs.Driven.{AreKeys, IsKeysFile, rules_of}
 
 -- The output of `schedule`.
 
--- the entries that the machine's log keeps: all of the run's, so that they can be written down; but
--- a size that no machine has stays as it is asked for
-abbrev pub log_for : ℕ → ℕ → ℕ
-log_for asked events =
-    if asked == 0 || nat_lt 16_777_216 asked then asked else min events 4_294_967_295
-
-abbrev pub schedule_conf : ScheduleTask → MachineConf
-schedule_conf task =
-    record (conf_of task.size) { log = log_for task.size.log task.drive.events }
-
--- from a machine these are the events that a policy chooses, at most n; each is accepted, and memory
+-- from a state these are the events that a policy chooses, at most n; each is accepted, and memory
 -- isn't refused
-pub record Chose (rules : Rules) (n : ℕ) (m : History) (events : List Event) : Type 0 where
+pub record Chose (rules : Rules) (n : ℕ) (s : State) (events : List Event) : Type 0 where
   pub driven : Driven
-  pub machine : History
-  pub drives : Drives rules n m driven machine
+  pub entries : List Entry
+  pub state : State
+  pub drives : Drives rules n s driven entries state
   pub accepted : (refusal : Refusal) → driven.stop ≢ drive.Refused refusal
-  pub events_are : events ≡ drives.events
+  pub events_are : events ≡ events_of entries
 
 -- a finished schedule: the text of the events that the policy chooses; the files have these bytes,
 -- and that of the image, as far as they are known
@@ -50,8 +42,8 @@ pub record IsScheduled
   pub is_file : IfSome known (λ bytes. file ≡ bytes)
   pub keys : List ℕ
   pub are_keys : AreKeys task.drive.keys files keys
-  pub booted : History
-  pub boots : BootsTo file (schedule_conf task) booted
+  pub booted : State
+  pub boots : BootsIn file (conf_of task.size) booted
   pub events : List Event
   pub chose : Chose (rules_of task.drive keys) task.drive.events booted events
   pub text_is : text ≡ schedule_text events
@@ -61,8 +53,8 @@ abbrev pub IsScheduledFault : ScheduleTask → Option (List ℕ) → Fault → T
 IsScheduledFault task known (File name why) =
     ((name.now ≡ task.image.now) × IsFileName task.image.now × IsOfBytes why)
     ⊎ IsKeysFile task.drive.keys (File name why)
-IsScheduledFault task known Conf = is_within_limits (schedule_conf task) ≡ false
+IsScheduledFault task known Conf = is_within_limits (conf_of task.size) ≡ false
 IsScheduledFault task known (Image e) =
-    OfKnown known (λ file. boot_fault file (schedule_conf task) ≡ Some (Load e))
+    OfKnown known (λ file. boot_fault file (conf_of task.size) ≡ Some (Load e))
 IsScheduledFault task known Memory = Unit {0}
 IsScheduledFault task known _ = ⊥

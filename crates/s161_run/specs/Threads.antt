@@ -10,7 +10,7 @@ use Rattle.s161_run.specs.declared.events.Stop.{Stop}
 use Rattle.s161_run.specs.declared.events.Stop.TheVariants.{End}
 use Rattle.s161_base.specs.declared.fault.Fault.{Fault}
 use Rattle.s161_base.specs.declared.fault.Fault.TheVariants.{Conf, File, Image, Memory, Threads}
-use Rattle.s161_run.specs.Runs.{status_of, stop_off, summary_text}
+use Rattle.s161_run.specs.Runs.{shown_log, status_of, stop_off, summary_text}
 use Rattle.s161_base.specs.Faults.{BootsTo}
 use Rattle.s161_base.specs.Known.{OfKnown}
 use Rattle.s161_base.specs.Reading.{IsOfBytes}
@@ -38,7 +38,9 @@ pub record IsRunInThreads
   pub interleaves :
       Interleaves booted (replicate task.run.size.processors task.quota) made off machine
   pub text_is :
-      text ≡ summary_text machine file (stop_of off machine.state.conflict) task.run.shown
+      text ≡ summary_text
+          (shown_log (conf_of task.run.size) file machine.base.made machine.log) machine.state
+          (stop_of off machine.state.conflict) task.run.shown
   pub status_is : status ≡ status_of (stop_of off machine.state.conflict)
 
 -- the cause of a run that doesn't begin for this reason; or of one that began
