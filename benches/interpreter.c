@@ -2,8 +2,8 @@
  * opcode and one on the function, addresses checked for alignment, for RAM and for user mode, one
  * delay slot, a test for an interrupt, a tick that may raise the timer, the links that a store
  * ends, the power switch, and a log entry written each step. What a trap, a wait or a link would
- * need ends the run, since the loop meets none. The arguments are a number of runs and, unless it
- * is 1,000,000, the number of steps of each. */
+ * need ends the run, since the loop meets none. The arguments are a number of runs, unless it is
+ * 1,000,000 the number of steps of each, and `sieve` for `sieve.s` in place of the loop. */
 #include <stdint.h>
 #include <stdio.h>
 #include <stdlib.h>
@@ -31,6 +31,13 @@ struct machine {
 static const uint32_t program[] = {
     0x3c108000, 0x36101000, 0x8e080000, 0x01114821, 0x000950c0, 0x00095942, 0x014b4826,
     0xae090000, 0x920c0002, 0x26520001, 0x0189682a, 0xa20d0004, 0x1640fff5, 0x02328821,
+};
+
+static const uint32_t sieve[] = {
+    0x3c108000, 0x36102000, 0x34120001, 0x34132000, 0x02004021, 0x02134821, 0xa1000000, 0x25080001,
+    0x1509fffd, 0x00000000, 0x340a0002, 0x020a5821, 0x916c0000, 0x15800008, 0x014a6821, 0x26310001,
+    0x01b3702b, 0x11c00004, 0x020d7821, 0xa1f20000, 0x08000090, 0x01aa6821, 0x254a0001, 0x1553fff3,
+    0x00000000, 0x08000084, 0x00000000,
 };
 
 static uint32_t get_word(const uint8_t *p) {
@@ -187,7 +194,8 @@ static int step(struct machine *m) {
     return 1;
 }
 
-static int run(uint32_t room, uint32_t *word, uint64_t *steps) {
+static int run(const uint32_t *words, size_t number, uint32_t room, uint32_t *word,
+               uint64_t *steps) {
     struct machine *m = calloc(1, sizeof *m);
     if (!m)
         return 0;
@@ -197,8 +205,8 @@ static int run(uint32_t room, uint32_t *word, uint64_t *steps) {
     m->log = malloc((size_t)room * sizeof *m->log);
     if (!m->ram || !m->log)
         return 0;
-    for (size_t i = 0; i < sizeof program / sizeof *program; i++)
-        put_word(m->ram + 0x200 + 4 * i, program[i]);
+    for (size_t i = 0; i < number; i++)
+        put_word(m->ram + 0x200 + 4 * i, words[i]);
     /* the machine is read and written elsewhere, for all that the compiler knows */
     __asm__ volatile("" : : "r"(m) : "memory");
     for (uint32_t i = 0; i < room; i++)
@@ -219,9 +227,12 @@ int main(int argc, char **argv) {
     uint64_t steps = 0;
     long times = argc > 1 ? atol(argv[1]) : 0;
     uint32_t room = argc > 2 ? (uint32_t)atol(argv[2]) : 1000000;
+    int sieves = argc > 3 && !strcmp(argv[3], "sieve");
+    const uint32_t *words = sieves ? sieve : program;
+    size_t number = (sieves ? sizeof sieve : sizeof program) / sizeof *program;
     clock_gettime(CLOCK_MONOTONIC, &a);
     for (long i = 0; i < times; i++)
-        if (!run(room, &word, &steps))
+        if (!run(words, number, room, &word, &steps))
             return 1;
     clock_gettime(CLOCK_MONOTONIC, &b);
     printf("%llu %08x\n", (unsigned long long)steps, word);

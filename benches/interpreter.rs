@@ -2,8 +2,8 @@
 //! on the opcode and one on the function, addresses checked for alignment, for RAM and for user
 //! mode, one delay slot, a test for an interrupt, a tick that may raise the timer, the links that a
 //! store ends, the power switch, and a log entry written each step. What a trap, a wait or a link
-//! would need ends the run, since the loop meets none. The arguments are a number of runs and,
-//! unless it is 1,000,000, the number of steps of each.
+//! would need ends the run, since the loop meets none. The arguments are a number of runs, unless
+//! it is 1,000,000 the number of steps of each, and `sieve` for `sieve.s` in place of the loop.
 use std::hint::black_box;
 use std::time::Instant;
 
@@ -12,6 +12,15 @@ pub const RAM: u32 = 65_536;
 pub const PROGRAM: [u32; 14] = [
     0x3c108000, 0x36101000, 0x8e080000, 0x01114821, 0x000950c0, 0x00095942, 0x014b4826, 0xae090000,
     0x920c0002, 0x26520001, 0x0189682a, 0xa20d0004, 0x1640fff5, 0x02328821,
+];
+
+/// The words of `sieve.s`.
+#[allow(dead_code)]
+pub const SIEVE: [u32; 27] = [
+    0x3c108000, 0x36102000, 0x34120001, 0x34132000, 0x02004021, 0x02134821, 0xa1000000, 0x25080001,
+    0x1509fffd, 0x00000000, 0x340a0002, 0x020a5821, 0x916c0000, 0x15800008, 0x014a6821, 0x26310001,
+    0x01b3702b, 0x11c00004, 0x020d7821, 0xa1f20000, 0x08000090, 0x01aa6821, 0x254a0001, 0x1553fff3,
+    0x00000000, 0x08000084, 0x00000000,
 ];
 
 /// A machine of one processor.
@@ -176,8 +185,8 @@ impl Machine {
     }
 }
 
-/// The last word of a run, and how many steps it made.
-fn run(steps: u32) -> (u32, u64) {
+/// The last word of a run of this program, and how many steps it made.
+fn run(program: &[u32], steps: u32) -> (u32, u64) {
     // it is made and read elsewhere, for all that the compiler knows
     let mut machine = black_box(Machine {
         r: [0; 32],
@@ -199,7 +208,7 @@ fn run(steps: u32) -> (u32, u64) {
         log: Vec::with_capacity(steps as usize),
         room: steps as usize,
     });
-    for (i, word) in PROGRAM.iter().enumerate() {
+    for (i, word) in program.iter().enumerate() {
         let at = 0x200 + 4 * i;
         machine.ram[at..at + 4].copy_from_slice(&word.to_be_bytes());
     }
@@ -213,13 +222,17 @@ fn run(steps: u32) -> (u32, u64) {
 }
 
 fn main() {
-    let mut words = std::env::args().skip(1).map(|word| word.parse::<u32>().unwrap_or(0));
-    let times = words.next().unwrap_or(0);
-    let steps = words.next().unwrap_or(1_000_000);
+    let mut words = std::env::args().skip(1);
+    let mut number = |usual| words.next().map_or(usual, |word| word.parse::<u32>().unwrap_or(0));
+    let (times, steps) = (number(0), number(1_000_000));
+    let program: &[u32] = match words.next().as_deref() {
+        Some("sieve") => &SIEVE,
+        _ => &PROGRAM,
+    };
     let start = Instant::now();
     let (mut word, mut count) = (0u32, 0u64);
     for _ in 0..times {
-        let (last, made) = run(steps);
+        let (last, made) = run(program, steps);
         word = word.wrapping_add(last);
         count += made;
     }

@@ -4,7 +4,8 @@ mod Replaying
 mod Shown
 pub mod Keeping
 mod Threading
-mod Booting
+pub mod Logging
 mod Sending
 mod Choosing
 mod Running
+mod Turning

@@ -1,6 +1,6 @@
-use Rattle.std.proofs.Common.{◌≡◌, ◌∙◌, refl, sym, ap, subst, ℕ, zero, suc, ◌+◌, ◌<◌, ◌≤◌, List, [], ◌∷◌, ◌++◌, length, take, drop, replicate, slice_get, Bool, true, false, nat_le, Option, None, Some, IsSomeAnd, MatchOption, Result, Ok, Err, arith}
+use Rattle.std.proofs.Common.{◌≡◌, ◌∙◌, refl, sym, ap, subst, ℕ, zero, suc, ◌+◌, ◌<◌, ◌≤◌, List, [], ◌∷◌, ◌++◌, length, take, drop, replicate, slice_get, slice_set, Bool, true, false, nat_le, Option, None, Some, IsSomeAnd, MatchOption, Result, Ok, Err, append-nil, append_assoc, arith}
 use Rattle.std.proofs.Math.Seq.{drop-append_seam}
-use Rattle.std.proofs.lemmas.List.{drop-drop, drop-take, length-append, length-drop, length-replicate, take-append-drop, take-append-le, take-replicate, take-take}
+use Rattle.std.proofs.lemmas.List.{drop-drop, drop-take, length-append, length-drop, length-map, length-replicate, map-append, replicate-append-replicate, take-append-drop, take-append-le, take-replicate, take-take}
 use Rattle.m161_cpu.specs.declared.processor.Outcome.{Outcome}
 use Rattle.m161_machine.specs.declared.event.Conflict.{Conflict}
 use Rattle.m161_machine.specs.declared.event.Event.{Event}
@@ -9,9 +9,13 @@ use Rattle.m161_machine.specs.declared.event.Entry.{Entry}
 use Rattle.m161_machine.specs.declared.event.Refusal.{Refusal}
 use Rattle.m161_isa.specs.Choice.{first_answer}
 use Rattle.m161_machine.specs.State.{State, is_worn, next, unless, answer}
-use Rattle.m161_machine.specs.History.{History, events_of, Continues, Ends, Leads, Refuses}
-use Rattle.m161_machine.proofs.Continuing.{continues_on, refused_as}
-use Rattle.s161_run.specs.Runs.{IsRefusedAt, IsSwitchedOff, StopsAfter, stop_off}
+use Rattle.m161_machine.specs.History.{events_of, Leads, Refuses}
+use Rattle.m161_machine.proofs.Continuing.{refused_as}
+use Rattle.m161_machine.proofs.Leading.{leads_more, leads_on}
+use Rattle.m161_drive.specs.Drive.{IsNoted}
+use Rattle.s161_run.specs.declared.events.Stop.{Stop}
+use Rattle.s161_run.specs.Runs.{IsRefusedAt, IsSwitchedOff, MakesEvents, StopsAfter, stop_off}
+use Rattle.s161_run.specs.helpers.Events.{EndsAfter, MakesAlike, MakesOf}
 
 -- Runs of events, one after the other.
 
@@ -45,33 +49,123 @@ on_before true s e x off r =
     let bad : ◌≡◌ {A = Result (Outcome × State) Refusal} (Err refused.0) (Ok x) = sym first_is ∙ r in
     absurd (cc)
 
--- a machine of which an event is made was on
-first_on : (s t : State) (entries : List Entry) (events : List Event) → 0 < length events → events_of entries ≡ events → Leads s entries t →
-    s.board.off ≡ false
-first_on s t [] events some are leads = absurd (let none = ap length are in let bad : ⊥ = omega (arith, some, none) in bad)
-first_on s t (e ∷ es) events some are leads = on_before s.board.off s e.event (e.outcome, leads.0) refl leads.1
+-- a machine of which an event is made was on; where none is made, its state stays
+pub switched : (b0 : Bool) (s t : State) (entries : List Entry) → s.board.off ≡ b0 → ¬ (t.board.off ≡ b0) → Leads s entries t →
+    (b0 ≡ false) × (t.board.off ≡ true)
+switched b0 s t [] is other leads = absurd (other (ap (λ (u : State). u.board.off) leads ∙ is))
+switched b0 s t (e ∷ es) is other leads =
+    let on : b0 ≡ false = sym is ∙ on_before s.board.off s e.event (e.outcome, leads.0) refl leads.1 in
+    (on, by t.board.off refl on)
+  where
+    by : (b : Bool) → t.board.off ≡ b → b0 ≡ false → b ≡ true
+    by true e on = refl
+    by false e on = absurd (other (e ∙ sym on))
 
-pub on_where_made : (m n : History) (events : List Event) → 0 < length events → Continues m events n → m.state.board.off ≡ false
-on_where_made m n events some c = first_on m.state n.state c.entries events some c.events_are c.run_is
+-- One event, again and again.
 
--- where no event is made, the state stays
-stays : (s t : State) (entries : List Entry) (events : List Event) → length events ≡ 0 → events_of entries ≡ events → Leads s entries t → t ≡ s
-stays s t [] events none are leads = leads
-stays s t (e ∷ es) events none are leads = absurd (let some = ap length are in let bad : ⊥ = omega (arith, none, some) in bad)
+pub of_none : (e : Event) (s : State) → MakesOf e s [] s
+of_none e s = (refl, refl)
 
-pub same_where_none : (m n : History) (events : List Event) → length events ≡ 0 → Continues m events n → n.state ≡ m.state
-same_where_none m n events none c = stays m.state n.state c.entries events none c.events_are c.run_is
+pub of_more : (e : Event) (es fs : List Entry) (s u t : State) → MakesOf e s es u → MakesOf e u fs t → MakesOf e s (es ++ fs) t
+of_more e es fs s u t h k = (
+  leads_on es fs s u t h.0 k.0,
+  map-append (λ (x : Entry). x.event) es fs ∙ (λ i. h.1 i ++ k.1 i) ∙ replicate-append-replicate (length es) (length fs) e
+      ∙ ap (λ n. replicate n e) (sym (length-append es fs)),
+)
 
--- more of a list's events
-pub made_more : (m n k : History) (events rest : List Event) (made more : ℕ) → rest ≡ drop made events →
-    Continues m (take made events) n → Continues n (take more rest) k → Continues m (take (made + more) events) k
-made_more m n k events rest made more is c d =
-    let whole : take made events ++ take more (drop made events) ≡ take (made + more) events =
-    ap (λ es. take made events ++ es) (sym (drop-take made more events))
+-- once more
+pub of_one_more : (e : Event) (es : List Entry) (x : Entry) (s u t : State) → MakesOf e s es u → x.event ≡ e → next u e ≡ Ok (x.outcome, t) →
+    MakesOf e s (es ++ x ∷ []) t
+of_one_more e es x s u t h is made =
+    of_more e es (x ∷ []) s u t h ((t, subst (λ f. next u f ≡ Ok (x.outcome, t)) (sym is) made, refl), (λ i. is i ∷ []))
+
+-- an entry in the next place
+pub set_more : (k : ℕ) (es : List Entry) (x : Entry) → k < length es → take (k + 1) (slice_set es k x) ≡ take k es ++ x ∷ []
+set_more k [] x less = absurd (omega (arith, less))
+set_more zero (e ∷ es) x less = refl
+set_more (suc k) (e ∷ es) x less =
+    let next_one : suc k + 1 ≡ suc (k + 1) = omega arith in
+    ap (λ n. take n (slice_set (e ∷ es) (suc k) x)) next_one ∙ ap (λ l. e ∷ l) (set_more k es x (omega (arith, less)))
+
+-- so far, with what was noted
+pub record Again
+    {A : Type 0} (has : ℕ → A → List Entry → Type 0) (s : State) (old : A) (e : Event) (made : ℕ) (t : State) (new : A) : Type 0 where
+  pub entries : List Entry
+  pub made_is : length entries ≡ made
+  pub makes : MakesOf e s entries t
+  pub noted : IsNoted has old entries new
+
+pub again_none : {A : Type 0} (has : ℕ → A → List Entry → Type 0) (s : State) (notes : A) (e : Event) → Again has s notes e 0 s notes
+again_none has s notes e = record {
+  entries = [];
+  made_is = refl;
+  makes = of_none e s;
+  noted = λ room so_far h. subst (λ es. has room notes es) (sym (append-nil so_far)) h;
+}
+
+noted_more : {A : Type 0} (has : ℕ → A → List Entry → Type 0) (old mid new : A) (es fs : List Entry) → IsNoted has old es mid → IsNoted has mid fs new →
+    IsNoted has old (es ++ fs) new
+noted_more has old mid new es fs h k room before is =
+    subst (λ xs. has room new xs) (append_assoc before es fs) (k room (before ++ es) (h room before is))
+
+pub again_more : {A : Type 0} (has : ℕ → A → List Entry → Type 0) (s t u : State) (old mid new : A) (e : Event) (made more : ℕ) (es : List Entry) →
+    Again has s old e made t mid → length es ≡ more → MakesOf e t es u → IsNoted has mid es new → Again has s old e (made + more) u new
+again_more has s t u old mid new e made more es so_far long makes noted = record {
+  entries = so_far.entries ++ es;
+  made_is = length-append so_far.entries es ∙ (λ i. so_far.made_is i + long i);
+  makes = of_more e so_far.entries es s t u so_far.makes makes;
+  noted = noted_more has old mid new so_far.entries es so_far.noted noted;
+}
+
+pub again_ends : {A : Type 0} (has : ℕ → A → List Entry → Type 0) (s t : State) (old new : A) (e : Event) (times made : ℕ) (refusal : Option Refusal) →
+    Again has s old e made t new → EndsAfter e times t made refusal → MakesAlike has s old e times t new (made, refusal)
+again_ends has s t old new e times made refusal so_far ends = record {
+  entries = so_far.entries;
+  made_is = so_far.made_is;
+  makes = so_far.makes;
+  noted = so_far.noted;
+  ends = ends;
+}
+
+-- no more than so many were made
+pub at_most_all : (e : Event) (times : ℕ) (t : State) (made : ℕ) (refusal : Option Refusal) → EndsAfter e times t made refusal → made ≤ times
+at_most_all e times t made None h = omega (arith, h)
+at_most_all e times t made (Some refusal) h = omega (arith, h.0)
+
+-- the answer of Steps
+pub ended : (t : State) (e : Event) (n made : ℕ) (refusal : Option Refusal) →
+    MatchOption refusal (made ≡ n) (λ r. (made < n) × (next t e ≡ Err r)) →
+    MatchOption refusal (made ≡ n) (λ r. (made < n) × Refuses (next t e) e r)
+ended t e n made None h = h
+ended t e n made (Some refusal) h = (h.0, refused_as (next t e) e refusal h.1)
+
+-- Lists of events.
+
+-- the first of a list's events are made, and noted
+pub record Making
+    {A : Type 0} (has : ℕ → A → List Entry → Type 0) (s : State) (old : A) (events : List Event) (made : ℕ) (t : State) (new : A) : Type 0 where
+  pub entries : List Entry
+  pub made_is : length entries ≡ made
+  pub leads : Leads s entries t
+  pub are_first : events_of entries ≡ take made events
+  pub noted : IsNoted has old entries new
+
+pub making_none : {A : Type 0} (has : ℕ → A → List Entry → Type 0) (s : State) (notes : A) (events : List Event) → Making has s notes events 0 s notes
+making_none has s notes events = record {
+  entries = [];
+  made_is = refl;
+  leads = refl;
+  are_first = refl;
+  noted = λ room so_far h. subst (λ es. has room notes es) (sym (append-nil so_far)) h;
+}
+
+-- a longer beginning
+first_more : (events rest : List Event) (made more : ℕ) → rest ≡ drop made events → take made events ++ take more rest ≡ take (made + more) events
+first_more events rest made more is =
+    ap (λ es. take made events ++ take more es) is
+    ∙ ap (λ es. take made events ++ es) (sym (drop-take made more events))
     ∙ ap (λ es. es ++ drop made (take (made + more) events)) (sym (take-take made (made + more) events (omega arith)))
-    ∙ take-append-drop made (take (made + more) events) in
-    let P : List Event → Type 0 = λ es. Continues m es k in
-    subst P (ap (λ es. take made events ++ take more es) is ∙ whole) (continues_on m n k (take made events) (take more rest) c d)
+    ∙ take-append-drop made (take (made + more) events)
 
 got_after : (events : List Event) (made k : ℕ) → slice_get (drop made events) k ≡ slice_get events (made + k)
 got_after events zero k = let same : k ≡ 0 + k = omega arith in ap (slice_get events) same
@@ -94,11 +188,35 @@ run_taken rest after e n more run le =
     ap (take more) run ∙ take-append-le more (replicate n e) after long ∙ take-replicate more n e le
 
 -- some of them are made
-pub run_made : (m n k : History) (events rest after : List Event) (made more times : ℕ) (e : Event) → rest ≡ drop made events → rest ≡ replicate times e ++ after → more ≤ times →
-    Continues m (take made events) n → Continues n (replicate more e) k → Continues m (take (made + more) events) k
-run_made m n k events rest after made more times e is run le c d =
-    let P : List Event → Type 0 = λ es. Continues n es k in
-    made_more m n k events rest made more is c (subst P (sym (run_taken rest after e times more run le)) d)
+pub making_more : {A : Type 0} (has : ℕ → A → List Entry → Type 0) (s t u : State) (old mid new : A) (events rest after : List Event) (made times : ℕ)
+    (e : Event) (given : ℕ × Option Refusal) → rest ≡ drop made events → rest ≡ replicate times e ++ after →
+    Making has s old events made t mid → MakesAlike has t mid e times u new given → Making has s old events (made + given.0) u new
+making_more has s t u old mid new events rest after made times e given is run so_far alike =
+    let le = at_most_all e times u given.0 given.1 alike.ends in
+    let more : events_of alike.entries ≡ take given.0 rest =
+    alike.makes.1 ∙ ap (λ n. replicate n e) alike.made_is ∙ sym (run_taken rest after e times given.0 run le) in
+    record {
+      entries = so_far.entries ++ alike.entries;
+      made_is = length-append so_far.entries alike.entries ∙ (λ i. so_far.made_is i + alike.made_is i);
+      leads = leads_on so_far.entries alike.entries s t u so_far.leads alike.makes.0;
+      are_first =
+          map-append (λ (x : Entry). x.event) so_far.entries alike.entries ∙ (λ i. so_far.are_first i ++ more i) ∙ first_more events rest made given.0 is;
+      noted = noted_more has old mid new so_far.entries alike.entries so_far.noted alike.noted;
+    }
+
+-- and no more are
+pub makes_so : {A : Type 0} (has : ℕ → A → List Entry → Type 0) (s t : State) (old new : A) (events : List Event) (made : ℕ) (stop : Stop) →
+    Making has s old events made t new → StopsAfter s events made stop t →
+    (entries : List Entry) × MakesEvents s events stop entries t × IsNoted has old entries new
+makes_so has s t old new events made stop h why = (
+  h.entries,
+  record {
+    leads = h.leads;
+    are_first = subst (λ n. events_of h.entries ≡ take n events) (sym h.made_is) h.are_first;
+    why = subst (λ n. StopsAfter s events n stop t) (sym h.made_is) why;
+  },
+  h.noted,
+)
 
 -- they are within the list
 pub run_within : (events rest after : List Event) (made times : ℕ) (e : Event) → made ≤ length events → rest ≡ drop made events → rest ≡ replicate times e ++ after → made + times ≤ length events
@@ -125,30 +243,8 @@ run_refused events rest after made more times e s refusal is run lt refused =
     refused_after events rest made more s refusal is
     (subst P (sym (ap (λ es. slice_get es more) run ∙ got_of_run after e times more lt)) refused)
 
--- an event's Steps were made as often as was asked for, or one was refused
-pub ended : (m : History) (e : Event) (n made : ℕ) (refusal : Option Refusal) → Ends m e n made refusal →
-    MatchOption refusal (made ≡ n) (λ r. (made < n) × Refuses (next m.state e) e r)
-ended m e n made None h = h
-ended m e n made (Some refusal) h = (h.0, refused_as (next m.state e) e refusal h.1)
-
--- no more of them were made than there are
-pub at_most_all : (n made : ℕ) (refusal : Option Refusal) (P : Refusal → Type 0) → MatchOption refusal (made ≡ n) (λ r. (made < n) × P r) → made ≤ n
-at_most_all n made None P h = omega (arith, h)
-at_most_all n made (Some refusal) P h = omega (arith, h.0)
-
--- a machine that events switch off was on
-pub switched : (b0 : Bool) (m n : History) (events : List Event) → m.state.board.off ≡ b0 → ¬ (n.state.board.off ≡ b0) → Continues m events n →
-    (b0 ≡ false) × (n.state.board.off ≡ true)
-switched b0 m n [] is other c = absurd (other (ap (λ (s : State). s.board.off) (same_where_none m n [] refl c) ∙ is))
-switched b0 m n (e ∷ es) is other c =
-    let on : b0 ≡ false = sym is ∙ on_where_made m n (e ∷ es) (omega arith) c in
-    (on, by n.state.board.off refl on)
-  where
-    by : (b : Bool) → n.state.board.off ≡ b → b0 ≡ false → b ≡ true
-    by true e on = refl
-    by false e on = absurd (other (e ∙ sym on))
-
 -- a machine that was switched off stopped by its conflict, if it has one
-pub stopped_off : (m n : History) (events : List Event) (made : ℕ) (conflict : Option Conflict) → n.state.conflict ≡ conflict → IsSwitchedOff m n → StopsAfter m events made (stop_off conflict) n
-stopped_off m n events made None is off = (off, is)
-stopped_off m n events made (Some conflict) is off = (off, is)
+pub stopped_off : (s t : State) (events : List Event) (made : ℕ) (conflict : Option Conflict) → t.conflict ≡ conflict → IsSwitchedOff s t →
+    StopsAfter s events made (stop_off conflict) t
+stopped_off s t events made None is off = (off, is)
+stopped_off s t events made (Some conflict) is off = (off, is)

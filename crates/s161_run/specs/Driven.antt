@@ -68,7 +68,7 @@ pub record IsDriven
   pub drives : Drives (rules_of task.drive keys) task.drive.events booted driven entries state
   pub text_is :
       text ≡ summary_text (log_of_run (conf_of task.run.size) file entries) state
-          (stop_of driven state) task.run.shown
+      (stop_of driven state) task.run.shown
   pub status_is : status ≡ status_of (stop_of driven state)
 
 -- a fault is that of the file of the keys

@@ -39,8 +39,8 @@ pub record IsRunInThreads
       Interleaves booted (replicate task.run.size.processors task.quota) made off machine
   pub text_is :
       text ≡ summary_text
-          (shown_log (conf_of task.run.size) file machine.base.made machine.log) machine.state
-          (stop_of off machine.state.conflict) task.run.shown
+      (shown_log (conf_of task.run.size) file machine.base.made machine.log) machine.state
+      (stop_of off machine.state.conflict) task.run.shown
   pub status_is : status ≡ status_of (stop_of off machine.state.conflict)
 
 -- the cause of a run that doesn't begin for this reason; or of one that began

@@ -1,2 +1,5 @@
 -- Definitions that only contracts of private functions, or proofs, use.
 pub mod Consoles
+pub mod Events
+pub mod Shown
+pub mod Threads

@@ -9,7 +9,7 @@ ghost use Rattle.s161_run.specs.Consoles.{IsConsoleRun, IsConsoleFault};
 use crate::driven::stop_of;
 use crate::events::Stop;
 use crate::serving::serve;
-use m161::Machine;
+use m161::Core;
 use s161_base::fault::Fault;
 use s161_base::files::FileSource;
 use s161_base::sample::read_image;
@@ -44,7 +44,7 @@ pub fn console<'a, F: FileSource, I: Read, O: Write>(
         (O.contents output.new))) }
 {
     let file = read_image(alloc, files, task.image)?;
-    let mut machine = Machine::boot(alloc, &file, conf_of(task.size))?;
-    let driven = serve(&mut machine, task.drive, input, output)?;
-    Ok(stop_of(driven, &machine))
+    let mut core = Core::boot(alloc, &file, conf_of(task.size))?;
+    let driven = serve(&mut core, task.drive, input, output)?;
+    Ok(stop_of(driven, &core))
 }

@@ -6,10 +6,10 @@ ghost use Rattle.s161_base.specs.Samples.{image_file};
 ghost use Rattle.s161_run.specs.Driven.{IsDriven, IsDrivenFault, stop_of};
 
 use crate::events::{Stop, stop_off};
+use crate::log::new_log;
 use crate::policy::{make_driven, read_keys};
-use crate::run::status;
-use crate::summary::summary;
-use m161::Machine;
+use crate::summary::finish_run;
+use m161::Core;
 use m161_drive::Driven;
 use s161_base::fault::Fault;
 use s161_base::files::FileSource;
@@ -40,21 +40,21 @@ pub fn run_driven<'a, F: FileSource>(
     let file = read_image(alloc, files, task.run.image)?;
     let image = file.as_slice();
     let keys = read_keys(alloc, files, task.drive.keys)?;
-    let mut machine = Machine::boot(alloc, image, conf_of(task.run.size))?;
-    let driven = make_driven(&mut machine, task.drive, &keys);
-    let stop = stop_of(driven, &machine);
-    Ok(Finished {
-        text: summary(alloc, &machine, image, stop, task.run.shown)?,
-        status: status(stop),
-    })
+    let conf = conf_of(task.run.size);
+    let mut core = Core::boot(alloc, image, conf)?;
+    let mut log = new_log(alloc, conf, task.run.shown)?;
+    let driven = make_driven(&mut core, task.drive, &keys, &mut log)?;
+    let stop = stop_of(driven, &core);
+    let done = finish_run(alloc, &core, &log, image, stop, task.run.shown)?;
+    Ok(done)
 }
 
-/// How a driven run stopped that left this machine, as a command tells it.
-pub fn stop_of(driven: Driven, machine: &Machine) -> Stop
-    ensures { result ≡ stop_of driven machine.now }
+/// How a driven run stopped that ended in this state, as a command tells it.
+pub fn stop_of(driven: Driven, core: &Core) -> Stop
+    ensures { result ≡ stop_of driven core.now.state }
 {
     match driven.stop {
-        m161_drive::Stop::Off => stop_off(machine.conflict()),
+        m161_drive::Stop::Off => stop_off(core.conflict()),
         m161_drive::Stop::End => Stop::End,
         m161_drive::Stop::Stuck => Stop::Stuck,
         m161_drive::Stop::Refused(refusal) => Stop::Refused(driven.made as usize, refusal),

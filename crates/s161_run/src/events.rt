@@ -1,12 +1,17 @@
 //! Making the events of a schedule on a machine.
 
-ghost use Rattle.std.specs.Prelude.{◌≡◌, ◌<◌, MatchOption, Some, replicate};
-ghost use Rattle.m161_machine.specs.History.{Continues, Refuses};
+ghost use Rattle.std.specs.Prelude.{◌≡◌, ◌<◌, IfOk, List, MatchOption, Some, length, take};
+ghost use Rattle.m161_drive.specs.Drive.{IsNoted};
+ghost use Rattle.m161_machine.specs.declared.event.Entry.{Entry};
+ghost use Rattle.m161_machine.specs.History.{Refuses};
 ghost use Rattle.m161_machine.specs.State.{next};
 ghost use Rattle.s161_run.specs.Runs.{MakesEvents, conflict_text, stop_line, stop_off};
+ghost use Rattle.s161_run.specs.helpers.Events.{MakesAlike, MakesOf};
 
-use m161::Machine;
-use m161_machine::{Conflict, Event, Events, Refusal};
+use m161::Core;
+use m161_drive::Notes;
+use m161_machine::{Conflict, Event, Events, PackedEntry, Refusal};
+use std::alloc::AllocError;
 use std::fmt;
 
 /// Why no more events were made.
@@ -67,52 +72,94 @@ pub fn stop_off(conflict: Option<Conflict>) -> Stop
     }
 }
 
-/// Makes events in order, until one switches the machine off or is refused.
-pub fn make_events(machine: &mut Machine, events: &Events) -> Stop
-    ensures { MakesEvents machine.old events.now result machine.new }
+/// Makes events in order, until one switches the machine off or is refused, and notes their entries.
+///
+/// # Errors
+/// Memory was refused for the notes.
+pub fn make_events<N: Notes>(
+    core: &mut Core,
+    events: &Events,
+    notes: &mut N,
+) -> Result<Stop, AllocError>
+    ensures { IfOk result (λ stop. (entries : List Entry)
+        × MakesEvents core.old.state events.now stop entries core.new.state
+        × IsNoted N.has notes.old entries notes.new) }
 {
-    // So that the proof knows that the log is within its room.
-    machine.replay();
-    let was_off = machine.is_off();
+    let was_off = core.is_off();
     let mut made = 0;
     let mut left = events.runs();
     while let Some((event, times)) = left.next() {
-        let (more, refusal) = make_alike(machine, event, times);
+        let (more, refusal) = make_alike(core, event, times, notes)?;
         made += more as usize;
-        if machine.is_off() != was_off {
-            return stop_off(machine.conflict());
+        if core.is_off() != was_off {
+            return Ok(stop_off(core.conflict()));
         }
         if let Some(refusal) = refusal {
-            return Stop::Refused(made, refusal);
+            return Ok(Stop::Refused(made, refusal));
         }
     }
-    Stop::End
+    Ok(Stop::End)
 }
 
+// So many events are made at once, at most: their entries are in the processor's nearest cache.
+const AT_ONCE: usize = 64;
+
 // Makes an event this many times. Returns how many were made, and why the next one wasn't.
-fn make_alike(machine: &mut Machine, event: Event, times: u32) -> (u32, Option<Refusal>)
-    ensures made { Continues machine.old (replicate result.0 event) machine.new }
-    ensures why { MatchOption result.1 (result.0 ≡ times)
-        (λ refusal. (result.0 < times) × Refuses (next machine.new.state event) event refusal) }
+fn make_alike<N: Notes>(
+    core: &mut Core,
+    event: Event,
+    times: u32,
+    notes: &mut N,
+) -> Result<(u32, Option<Refusal>), AllocError>
+    ensures { IfOk result (MakesAlike N.has core.old.state notes.old event times
+        core.new.state notes.new) }
+{
+    let mut entries = [PackedEntry::blank(); AT_ONCE];
+    let mut made = 0;
+    while made < times {
+        let most = ((times - made) as usize).min(AT_ONCE);
+        let (more, refusal) = make_some(core, event, &mut entries[..most]);
+        notes.add(&entries[..more])?;
+        made += more as u32;
+        if let Some(refusal) = refusal {
+            return Ok((made, Some(refusal)));
+        }
+    }
+    Ok((times, None))
+}
+
+// Makes an event once for each place, or until it is refused, and writes the entries there. Returns
+// how many were made, and why the next one wasn't.
+fn make_some(core: &mut Core, event: Event, entries: &mut [PackedEntry]) -> (usize, Option<Refusal>)
+    ensures made { MakesOf event core.old.state (take result.0 entries.new) core.new.state }
+    ensures why { MatchOption result.1 (result.0 ≡ length entries.old)
+        (λ refusal. (result.0 < length entries.old)
+        × Refuses (next core.new.state event) event refusal) }
+    ensures length { length entries.new ≡ length entries.old }
 {
     match event {
-        Event::Step(p) => machine.steps(p, times),
-        event => make_inputs(machine, event, times),
+        Event::Step(p) => core.steps(p, entries),
+        event => make_inputs(core, event, entries),
     }
 }
 
 // The same, one event at a time.
-fn make_inputs(machine: &mut Machine, event: Event, times: u32) -> (u32, Option<Refusal>)
-    ensures made { Continues machine.old (replicate result.0 event) machine.new }
-    ensures why { MatchOption result.1 (result.0 ≡ times)
-        (λ refusal. (result.0 < times) × Refuses (next machine.new.state event) event refusal) }
+fn make_inputs(
+    core: &mut Core,
+    event: Event,
+    entries: &mut [PackedEntry],
+) -> (usize, Option<Refusal>)
+    ensures made { MakesOf event core.old.state (take result.0 entries.new) core.new.state }
+    ensures why { MatchOption result.1 (result.0 ≡ length entries.old)
+        (λ refusal. (result.0 < length entries.old)
+        × Refuses (next core.new.state event) event refusal) }
+    ensures length { length entries.new ≡ length entries.old }
 {
-    // So that the proof knows that the log is within its room.
-    machine.replay();
-    for made in 0..times {
-        if let Err(refusal) = machine.event(event) {
-            return (made, Some(refusal));
+    for k in 0..entries.len() {
+        match core.packed_event(event) {
+            Ok(entry) => entries[k] = entry,
+            Err(refusal) => return (k, Some(refusal)),
         }
     }
-    (times, None)
+    (entries.len(), None)
 }

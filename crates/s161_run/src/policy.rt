@@ -1,17 +1,18 @@
 //! Driving a machine by the options of a command line.
 
 ghost use Rattle.std.specs.Prelude.{◌≡◌, ◌⊎◌, ℕ, IfErr, IfOk, List, None};
-ghost use Rattle.m161_drive.specs.Drive.{Drives};
+ghost use Rattle.m161_drive.specs.Drive.{Drives, IsNoted};
+ghost use Rattle.m161_machine.specs.declared.event.Entry.{Entry};
 ghost use Rattle.m161_order.specs.Order.{order_fault};
 ghost use Rattle.s161_run.specs.Driven.{AreKeys, IsKeysFile, rules_of};
 
-use m161::Machine;
-use m161_drive::{Driven, Policy, drive};
+use m161::Core;
+use m161_drive::{Driven, Notes, Policy, drive};
 use s161_base::fault::Fault;
 use s161_base::files::FileSource;
 use s161_base::input::read_file;
 use s161_command::Drive;
-use std::alloc::Global;
+use std::alloc::{AllocError, Global};
 
 /// The bytes that are typed: those of the file of this name, or none.
 ///
@@ -32,13 +33,24 @@ pub fn read_keys<'a, F: FileSource>(
     }
 }
 
-/// Makes the events that the options' policy chooses.
-pub(crate) fn make_driven(machine: &mut Machine, options: Drive<'_>, keys: &[u8]) -> Driven
+/// Makes the events that the options' policy chooses, and notes their entries.
+///
+/// # Errors
+/// Memory was refused for the notes.
+pub(crate) fn make_driven<N: Notes>(
+    core: &mut Core,
+    options: Drive<'_>,
+    keys: &[u8],
+    notes: &mut N,
+) -> Result<Driven, AllocError>
     requires { order_fault options.order ≡ None }
-    ensures { Drives (rules_of options.entry keys.now) options.entry.events machine.old result machine.new }
+    ensures { IfOk result (λ driven. (entries : List Entry)
+        × Drives (rules_of options.entry keys.now) options.entry.events core.old.state driven entries
+        core.new.state
+        × IsNoted N.has notes.old entries notes.new) }
 {
     let Ok(policy) = Policy::new(options.order, options.transfer, options.gap, keys) else {
         unreachable!()
     };
-    drive(machine, &policy, options.events)
+    drive(core, &policy, options.events, notes)
 }

@@ -1,12 +1,13 @@
 //! Running an image under a schedule.
 
-ghost use Rattle.std.specs.Prelude.{◌≡◌, IfErr, IfOk};
-ghost use Rattle.s161_run.specs.Runs.{IsFaultOf, IsRun, status_of};
+ghost use Rattle.std.specs.Prelude.{IfErr, IfOk};
+ghost use Rattle.s161_run.specs.Runs.{IsFaultOf, IsRun};
 ghost use Rattle.s161_base.specs.Samples.{image_file};
 
-use crate::events::{Stop, make_events};
-use crate::summary::summary;
-use m161::Machine;
+use crate::events::make_events;
+use crate::log::new_log;
+use crate::summary::finish_run;
+use m161::Core;
 use s161_base::fault::Fault;
 use s161_base::files::FileSource;
 use s161_base::finished::Finished;
@@ -41,23 +42,10 @@ pub fn run<'a, F: FileSource, I: Read>(
     let image = file.as_slice();
     let schedule = read_input(alloc, input)?;
     let events = events_of(alloc, schedule.as_str())?;
-    let mut machine = Machine::boot(alloc, image, conf_of(task.size))?;
-    let stop = make_events(&mut machine, &events);
-    Ok(Finished {
-        text: summary(alloc, &machine, image, stop, task.shown)?,
-        status: status(stop),
-    })
-}
-
-/// The exit status of a run.
-pub fn status(stop: Stop) -> u8
-    ensures { result ≡ status_of stop }
-{
-    match stop {
-        Stop::Off => 0,
-        Stop::Refused(_, _) => 1,
-        Stop::End => 3,
-        Stop::Conflict(_) => 4,
-        Stop::Stuck => 5,
-    }
+    let conf = conf_of(task.size);
+    let mut core = Core::boot(alloc, image, conf)?;
+    let mut log = new_log(alloc, conf, task.shown)?;
+    let stop = make_events(&mut core, &events, &mut log)?;
+    let done = finish_run(alloc, &core, &log, image, stop, task.shown)?;
+    Ok(done)
 }

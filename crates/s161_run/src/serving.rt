@@ -9,8 +9,8 @@ ghost use Rattle.s161_base.specs.Streams.{AppendsSome, streams};
 ghost use Rattle.s161_run.specs.helpers.Consoles.{GivesKey, Goes, Makes, Turn, last_stop, place, sent_since};
 
 use crate::keys::read_key;
-use m161::Machine;
-use m161_drive::{Cursor, Driven, Policy, Stop};
+use m161::Core;
+use m161_drive::{Cursor, Driven, PackedEntry, Policy, Stop, turn};
 use s161_base::fault::{Fault, Unread};
 use s161_base::streams::send;
 use s161_command::Drive;
@@ -18,7 +18,7 @@ use std::io::{Read, Write};
 
 // The next key, if one is wanted and the input has one.
 fn next_key<'a, I: Read>(
-    machine: &Machine,
+    core: &Core,
     policy: &Policy,
     cursor: &Cursor,
     input: &mut I,
@@ -26,13 +26,13 @@ fn next_key<'a, I: Read>(
 ) -> Result<Option<u8>, Fault<'a>>
     requires { ended.old ≡ true → IsAtEnd (I.remaining input.old) }
     ensures ok { IfOk result (λ key.
-        GivesKey (wants_key policy.now cursor.now machine.now.state) ended.old
+        GivesKey (wants_key policy.now cursor.now core.now.state) ended.old
         (I.remaining input.old) key ended.new (I.remaining input.new)) }
     ensures err { IfErr result (λ fault. (fault ≡ Fault.Input Unread.Failed)
-        × (wants_key policy.now cursor.now machine.now.state ≡ true) × (ended.old ≡ false)
+        × (wants_key policy.now cursor.now core.now.state ≡ true) × (ended.old ≡ false)
         × Consumes (I.remaining input.old) (I.remaining input.new) []) }
 {
-    if cursor.wants_key(policy, machine) {
+    if cursor.wants_key(policy, core) {
         read_key(input, ended)
     } else {
         Ok(None)
@@ -42,37 +42,35 @@ fn next_key<'a, I: Read>(
 // Makes the event that the policy chooses, if the next key is this one, and writes the bytes that the
 // console has sent by it; or says why there is none.
 fn make_event<'a, O: Write>(
-    machine: &mut Machine,
+    core: &mut Core,
     policy: &Policy,
     cursor: &mut Cursor,
     key: Option<u8>,
     output: &mut O,
 ) -> Result<Option<Stop>, Fault<'a>>
-    requires { IfSome key (λ _. cursor.old.typed < 2 ^ 64 - 1) }
-    ensures ok { IfOk result (λ stop. Turn policy.now key cursor.old machine.old
-        (O.contents output.old) stop cursor.new machine.new (O.contents output.new)) }
+    requires on { core.old.state.board.off ≡ false }
+    requires few { IfSome key (λ _. cursor.old.typed < 2 ^ 64 - 1) }
+    ensures ok { IfOk result (λ stop. Turn policy.now key cursor.old core.old.state
+        (O.contents output.old) stop cursor.new core.new.state (O.contents output.new)) }
     ensures err { IfErr result (λ fault. (fault ≡ Fault.Output)
-        × Makes policy.now key cursor.old machine.old cursor.new machine.new
+        × Makes policy.now key cursor.old core.old.state cursor.new core.new.state
         × AppendsSome (O.contents output.old) (O.contents output.new)
-        (sent_since machine.old machine.new)) }
+        (sent_since core.old.state core.new.state)) }
 {
-    let Some(event) = cursor.choose_with(policy, machine, key) else {
-        return Ok(Some(Stop::Stuck));
-    };
-    let sent = machine.output().len();
-    match machine.event(event) {
+    let sent = core.output().len();
+    let mut entry = [PackedEntry::blank()];
+    match turn(core, policy, cursor, key, &mut entry) {
         Ok(_) => {
-            cursor.took(event, machine);
-            send(output, &machine.output()[sent..])?;
+            send(output, &core.output()[sent..])?;
             Ok(None)
         }
-        Err(refusal) => Ok(Some(Stop::Refused(refusal))),
+        Err(stop) => Ok(Some(stop)),
     }
 }
 
 // Makes the next event, or says why there is none.
 fn serve_once<'a, I: Read, O: Write>(
-    machine: &mut Machine,
+    core: &mut Core,
     policy: &Policy,
     cursor: &mut Cursor,
     input: &mut I,
@@ -82,15 +80,15 @@ fn serve_once<'a, I: Read, O: Write>(
     requires end { ended.old ≡ true → IsAtEnd (I.remaining input.old) }
     requires few { cursor.old.typed < 2 ^ 64 - 1 }
     ensures { Goes policy.now
-        (place cursor.old machine.old ended.old (I.remaining input.old) (O.contents output.old))
+        (place cursor.old core.old.state ended.old (I.remaining input.old) (O.contents output.old))
         result
-        (place cursor.new machine.new ended.new (I.remaining input.new) (O.contents output.new)) }
+        (place cursor.new core.new.state ended.new (I.remaining input.new) (O.contents output.new)) }
 {
-    if machine.is_off() {
+    if core.is_off() {
         return Ok(Some(Stop::Off));
     }
-    let key = next_key(machine, policy, cursor, input, ended)?;
-    make_event(machine, policy, cursor, key, output)
+    let key = next_key(core, policy, cursor, input, ended)?;
+    make_event(core, policy, cursor, key, output)
 }
 
 /// Makes the events that the options' policy chooses, with the input's bytes as its keys, and writes
@@ -99,45 +97,40 @@ fn serve_once<'a, I: Read, O: Write>(
 /// # Errors
 /// The input can't be read, or the output failed.
 pub(crate) fn serve<'a, I: Read, O: Write>(
-    machine: &mut Machine,
+    core: &mut Core,
     options: Drive<'_>,
     input: &mut I,
     output: &mut O,
 ) -> Result<Driven, Fault<'a>>
     requires limits { order_fault options.order ≡ None }
-    requires silent { machine.old.state.board.console.output ≡ [] }
-    ensures ok { IfOk result (λ driven. Serves options.entry options.entry.events machine.old
+    requires silent { core.old.state.board.console.output ≡ [] }
+    ensures ok { IfOk result (λ driven. Serves options.entry options.entry.events core.old.state
         (streams (I.remaining input.old) (I.remaining input.new) (O.contents output.old)
-        (O.contents output.new)) driven machine.new []) }
-    ensures err { IfErr result (Fails options.entry machine.old
+        (O.contents output.new)) driven core.new.state []) }
+    ensures err { IfErr result (Fails options.entry core.old.state
         (streams (I.remaining input.old) (I.remaining input.new) (O.contents output.old)
         (O.contents output.new))) }
 {
     let Ok(policy) = Policy::new(options.order, options.transfer, options.gap, &[]) else {
         unreachable!()
     };
-    let mut cursor = Cursor::new(&policy, machine);
+    let mut cursor = Cursor::new(&policy, core);
     let mut ended = false;
-    machine.replay();
     for made in 0..options.events {
-        let stop = serve_once(machine, &policy, &mut cursor, input, &mut ended, output)?;
+        let stop = serve_once(core, &policy, &mut cursor, input, &mut ended, output)?;
         if let Some(stop) = stop {
             return Ok(Driven { made, stop });
         }
     }
     Ok(Driven {
         made: options.events,
-        stop: last_stop(machine),
+        stop: last_stop(core),
     })
 }
 
 // Why a run stops of which all events were made that were asked for.
-fn last_stop(machine: &Machine) -> Stop
-    ensures { result ≡ last_stop machine.now.state }
+fn last_stop(core: &Core) -> Stop
+    ensures { result ≡ last_stop core.now.state }
 {
-    if machine.is_off() {
-        Stop::Off
-    } else {
-        Stop::End
-    }
+    if core.is_off() { Stop::Off } else { Stop::End }
 }

@@ -1,52 +1,86 @@
 //! The text that `run` prints.
 
-ghost use Rattle.std.specs.Prelude.{◌≡◌, ◌++◌, ◌<◌, length, string_bytes, IfOk, OnOk};
-ghost use Rattle.s161_run.specs.Runs.{output_text, shown_log, started_text, summary_text, summary_with};
+ghost use Rattle.std.specs.Prelude.{◌≡◌, ◌++◌, ◌-◌, ◌<◌, length, IfOk, OnOk};
+ghost use Rattle.std.specs.List.{All};
+ghost use Rattle.m161_machine.specs.History.{FitsMode};
+ghost use Rattle.m161_machine.specs.declared.event.Entry.{Entry};
+ghost use Rattle.s161_run.specs.Runs.{output_text, shown_log, started_text, status_of, summary_text, summary_with};
 
 use crate::events::Stop;
-use m161::Machine;
+use crate::log::log_of_run;
+use circular_buffer::HeapCircularBuffer;
+use m161::Core;
 use m161_display::show_regs;
-use m161_machine::ProcessorState;
-use m161_steplog::{Mode, machine_line, write_log, write_tail};
-use s161_base::machines::image_digest;
+use m161_machine::{PackedEntry, ProcessorState};
+use s161_base::finished::Finished;
 use s161_command::Shown;
 use std::alloc::{AllocError, Global};
 
-/// What is shown of a machine that was booted from this file: the console's output, each started
-/// processor, and why the events ended, with the log before that line if it is asked for; or the log
+/// What is shown of a run that ended in this state: the console's output, each started processor, and
+/// why the events ended, with this text of its log before that line if it is asked for; or the log
 /// alone.
-pub fn summary(
+pub(crate) fn summary(
     alloc: Global,
-    machine: &Machine,
-    file: &[u8],
+    core: &Core,
+    log: &[u8],
     stop: Stop,
     shown: Shown,
 ) -> Result<Vec<u8>, AllocError>
-    ensures { IfOk result (λ text. text.items ≡ summary_text machine.now file.now stop shown) }
+    ensures { IfOk result (λ text. text.items ≡ summary_text log.now core.now.state stop shown) }
 {
     match shown {
-        Shown::Summary => summary_with(alloc, b"", machine, stop),
-        Shown::SummaryAndLog => {
-            let log = shown_log(alloc, machine, file)?;
-            summary_with(alloc, log.as_bytes(), machine, stop)
-        }
-        Shown::Log => Ok(shown_log(alloc, machine, file)?.into_bytes()),
+        Shown::Summary => summary_with(alloc, b"", core, stop),
+        Shown::SummaryAndLog => summary_with(alloc, log, core, stop),
+        Shown::Log => log.to_vec(alloc),
+    }
+}
+
+/// The text and the exit status of a run from a boot of this file, with this log of it.
+///
+/// # Errors
+/// Memory was refused.
+pub(crate) fn finish_run(
+    alloc: Global,
+    core: &Core,
+    log: &HeapCircularBuffer<PackedEntry>,
+    file: &[u8],
+    stop: Stop,
+    shown: Shown,
+) -> Result<Finished, AllocError>
+    requires { All (λ (e : Entry). FitsMode core.now.state.conf.strict e.outcome) log.now.items }
+    ensures text { IfOk result (λ done. done.text.items ≡ summary_text
+        (shown_log core.now.state.conf file.now (core.now.state.made - length log.now.items)
+        log.now.items) core.now.state stop shown) }
+    ensures status { IfOk result (λ done. done.status ≡ status_of stop) }
+{
+    let log = log_of_run(alloc, core, log, file, shown)?;
+    Ok(Finished {
+        text: summary(alloc, core, log.as_bytes(), stop, shown)?,
+        status: status(stop),
+    })
+}
+
+/// The exit status of a run.
+pub fn status(stop: Stop) -> u8
+    ensures { result ≡ status_of stop }
+{
+    match stop {
+        Stop::Off => 0,
+        Stop::Refused(_, _) => 1,
+        Stop::End => 3,
+        Stop::Conflict(_) => 4,
+        Stop::Stuck => 5,
     }
 }
 
 // What a machine shows, with the text of a log before the last line.
-fn summary_with(
-    alloc: Global,
-    log: &[u8],
-    machine: &Machine,
-    stop: Stop,
-) -> Result<Vec<u8>, AllocError>
-    ensures { IfOk result (λ text. text.items ≡ summary_with log.now machine.now stop) }
+fn summary_with(alloc: Global, log: &[u8], core: &Core, stop: Stop) -> Result<Vec<u8>, AllocError>
+    ensures { IfOk result (λ text. text.items ≡ summary_with log.now core.now.state stop) }
 {
     let mut text = Vec::new(alloc);
-    push_output(&mut text, machine.output())?;
-    for p in 0..machine.processors() {
-        push_processor(alloc, &mut text, machine, p)?;
+    push_output(&mut text, core.output())?;
+    for p in 0..core.processors() {
+        push_processor(alloc, &mut text, core, p)?;
     }
     text.extend_from_slice(log)?;
     let line = format!(in alloc; "{stop}\n")?;
@@ -68,42 +102,16 @@ fn push_output(text: &mut Vec<u8>, output: &[u8]) -> Result<(), AllocError>
 }
 
 // A processor, if it was started.
-fn push_processor(
-    alloc: Global,
-    text: &mut Vec<u8>,
-    machine: &Machine,
-    p: u32,
-) -> Result<(), AllocError>
-    requires { p < length machine.now.state.processors }
+fn push_processor(alloc: Global, text: &mut Vec<u8>, core: &Core, p: u32) -> Result<(), AllocError>
+    requires { p < length core.now.state.processors }
     ensures { OnOk result (text.new.items
-        ≡ text.old.items ++ started_text machine.now.state p) }
+        ≡ text.old.items ++ started_text core.now.state p) }
 {
-    match machine.state(p) {
+    match core.state(p) {
         ProcessorState::Stopped => Ok(()),
         ProcessorState::Running | ProcessorState::Waiting => {
-            let shown = show_regs(alloc, machine.core(), p)?;
+            let shown = show_regs(alloc, core, p)?;
             text.extend_from_slice(shown.as_bytes())
         }
     }
-}
-
-// The machine line, and the log's text.
-fn shown_log(alloc: Global, machine: &Machine, file: &[u8]) -> Result<String, AllocError>
-    ensures { IfOk result (λ text. string_bytes text ≡ shown_log machine.now file.now) }
-{
-    let conf = machine.conf();
-    // So that the proof knows that only a strict machine's log has conflicts.
-    machine.replay();
-    let mut text = machine_line(alloc, conf.ram, conf.processors, &image_digest(file))?;
-    let entries = machine.copy_log(alloc)?;
-    let mode = Mode {
-        link: conf.link,
-        strict: conf.strict,
-    };
-    let log = match machine.base().made() {
-        0 => write_log(alloc, mode, &entries)?,
-        dropped => write_tail(alloc, mode, dropped, &entries)?,
-    };
-    text.push_str(log.as_str())?;
-    Ok(text)
 }

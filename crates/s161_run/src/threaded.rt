@@ -1,13 +1,14 @@
 //! Running an image in threads.
 
 ghost use Rattle.std.specs.Prelude.{◌≡◌, IfErr, IfOk, replicate};
-ghost use Rattle.s161_run.specs.Runs.{status_of, summary_text};
+ghost use Rattle.s161_run.specs.Runs.{shown_log, status_of, summary_text};
 ghost use Rattle.s161_base.specs.Samples.{image_file};
 ghost use Rattle.s161_run.specs.Threads.{IsRunInThreads, IsThreadsFault, stop_of};
+ghost use Rattle.s161_run.specs.helpers.Threads.{FailsBooted, RunsBooted};
 
 use crate::events::{Stop, stop_off};
-use crate::run::status;
-use crate::summary::summary;
+use crate::log::log_of_machine;
+use crate::summary::{status, summary};
 use m161::{Console, Machine, Tlb};
 use m161_machine::Conflict;
 use m161_threads::{Gate, Report, run_bursts};
@@ -53,14 +54,29 @@ pub fn run_in_threads<'a, R: Threads + Wait + Sync, F: FileSource>(
     let file = read_image(alloc, files, run.image)?;
     let image = file.as_slice();
     let machine = Machine::boot(alloc, image, conf_of(run.size))?;
-    machine.replay();
-    let quotas = quotas_of(alloc, quota, machine.processors())?;
-    let report = match run_bursts(rt, alloc, machine, quotas.as_slice(), &Open, burst) {
-        Ok(report) => report,
-        Err(fault) => return Err(Fault::Threads(fault.cause)),
-    };
+    let report = run_booted(rt, alloc, machine, quota, burst)?;
     let done = finish(alloc, report, image, run.shown)?;
     Ok(done)
+}
+
+// Gives each processor of a machine a thread that makes its quota of Steps, in bursts.
+fn run_booted<'a, R: Threads + Wait + Sync>(
+    rt: &R,
+    alloc: Global,
+    machine: Machine,
+    quota: u32,
+    burst: u32,
+) -> Result<Report<Tlb, Console>, Fault<'a>>
+    ensures ok { IfOk result (λ report. RunsBooted machine quota burst report.counts.items report.off
+        report.machine) }
+    ensures fault { IfErr result (FailsBooted machine burst) }
+{
+    machine.replay();
+    let quotas = quotas_of(alloc, quota, machine.processors())?;
+    match run_bursts(rt, alloc, machine, quotas.as_slice(), &Open, burst) {
+        Ok(report) => Ok(report),
+        Err(fault) => Err(Fault::Threads(fault.cause)),
+    }
 }
 
 // The same quota for each processor.
@@ -85,8 +101,9 @@ fn finish<'a>(
     shown: Shown,
 ) -> Result<Finished, Fault<'a>>
     ensures text { IfOk result (λ done.
-        done.text.items ≡ summary_text report.machine file.now
-        (stop_of report.off report.machine.state.conflict) shown) }
+        done.text.items ≡ summary_text
+        (shown_log report.machine.start.conf file.now report.machine.base.made report.machine.log)
+        report.machine.state (stop_of report.off report.machine.state.conflict) shown) }
     ensures status { IfOk result (λ done.
         done.status ≡ status_of (stop_of report.off report.machine.state.conflict)) }
     ensures err { IfErr result (λ fault. fault ≡ Fault.Memory) }
@@ -97,8 +114,9 @@ fn finish<'a>(
         off,
     } = report;
     let stop = stop_of(off, machine.conflict());
+    let log = log_of_machine(alloc, &machine, file, shown)?;
     Ok(Finished {
-        text: summary(alloc, &machine, file, stop, shown)?,
+        text: summary(alloc, machine.core(), log.as_bytes(), stop, shown)?,
         status: status(stop),
     })
 }

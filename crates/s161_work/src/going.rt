@@ -12,7 +12,7 @@ use s161_base::streams::send;
 use s161_command::{ConsoleTask, DebugTask, TraceTask};
 use s161_debug::debug::debug;
 use s161_run::console::console;
-use s161_run::run::status;
+use s161_run::summary::status;
 use s161_trace::trace::trace;
 use std::alloc::Global;
 use std::io::{Read, Write};

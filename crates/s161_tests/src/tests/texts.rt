@@ -2,9 +2,9 @@
 
 use super::same;
 use super::streams::{NoFiles, OneFile};
-use m161::Machine;
+use m161::Core;
 use m161_isa::LinkUnit;
-use m161_machine::Conf;
+use m161_machine::{Conf, Event};
 use m161_steplog::read_schedule;
 use m161_test_support::files::file_from;
 use m161_test_support::kernel::KERNEL;
@@ -123,8 +123,16 @@ fn image_without_listing(rt: HostRuntime) -> Result<(), Fail> {
     Ok(())
 }
 
-/// The sample's machine, once a schedule is made, and why it ended; `None` where it has none.
-fn sample_machine(alloc: Global, schedule: &str) -> Result<Option<(Machine, Stop)>, Fail> {
+/// The run of the sample by a schedule.
+#[derive(Drop)]
+struct Ran {
+    core: Core,
+    events: Vec<Event>,
+    stop: Stop,
+}
+
+/// The sample's run, once a schedule is made; `None` where there is no sample.
+fn run_sample(alloc: Global, schedule: &str) -> Result<Option<Ran>, Fail> {
     let conf = Conf {
         ram: 1_048_576,
         processors: 2,
@@ -135,28 +143,29 @@ fn sample_machine(alloc: Global, schedule: &str) -> Result<Option<(Machine, Stop
     let Ok(file) = sample_image(alloc) else {
         return Ok(None);
     };
-    let mut machine = Machine::boot(alloc, &file, conf)?;
-    let events = read_schedule(alloc, schedule)?;
-    let stop = make_events(&mut machine, &events);
-    Ok(Some((machine, stop)))
+    let mut core = Core::boot(alloc, &file, conf)?;
+    let asked = read_schedule(alloc, schedule)?;
+    let mut events = Vec::new(alloc);
+    let stop = make_events(&mut core, &asked, &mut events)?;
+    Ok(Some(Ran { core, events, stop }))
 }
 
 /// How many Steps the first two processors have made.
-fn counts(machine: &Machine) -> Option<(u64, u64)> {
-    if machine.processors() < 2 {
+fn counts(core: &Core) -> Option<(u64, u64)> {
+    if core.processors() < 2 {
         return None;
     }
-    Some((machine.count(0), machine.count(1)))
+    Some((core.count(0), core.count(1)))
 }
 
 #[test]
 fn run_sample_counts(rt: HostRuntime) -> Result<(), Fail> {
     let schedule = "s 0 11\ns 1 16\ns 0 6\ns 1 23\ns 0 4\ns 1 17\ns 0 4\n";
-    match sample_machine(rt.alloc(), schedule)? {
-        Some((machine, stop)) => {
+    match run_sample(rt.alloc(), schedule)? {
+        Some(Ran { core, events, stop }) => {
             same(&rt, stop, Stop::Off);
-            same(&rt, counts(&machine), Some((25, 56)));
-            same(&rt, machine.log_len(), 81);
+            same(&rt, counts(&core), Some((25, 56)));
+            same(&rt, events.len(), 81);
         }
         None => same(&rt, "no sample", ""),
     }

@@ -1,35 +1,58 @@
 use Rattle.std.proofs.Common.{◌≡◌, ◌∙◌, ap, subst, sym, List, ℕ, IfSome}
-use Rattle.std.proofs.lemmas.Result.{err_from_is_err_and}
-use Rattle.s161_base.specs.Faults.{BootsTo}
+use Rattle.m161_machine.specs.declared.conf.Conf.{Conf}
+use Rattle.m161_machine.specs.History.{boot_fault}
+use Rattle.m161_machine.specs.State.{State}
+use Rattle.s161_base.proofs.Failing.{state_booted}
+use Rattle.s161_base.specs.Faults.{BootsIn}
 use Rattle.s161_base.specs.Samples.{image_file}
-use Rattle.s161_run.specs.Driven.{AreKeys}
-use Rattle.s161_run.proofs.Keeping.{keys_are}
+use Rattle.s161_base.specs.Sizes.{conf_of}
 use Rattle.s161_run.specs.declared.events.Stop.{Stop}
-use Rattle.s161_run.specs.Runs.{status_of, summary_text}
+use Rattle.s161_run.specs.Driven.{AreKeys}
+use Rattle.s161_run.specs.Runs.{log_of_run, status_of, summary_text}
+use Rattle.s161_run.specs.helpers.Shown.{room_of}
+use Rattle.s161_run.proofs.Keeping.{keys_are}
+use Rattle.s161_run.proofs.Logging.{kept_fit, logged, run_leads, run_shown}
 use Rattle.s161_run.proofs.driven.run_driven.Goals as goal
 
-pub returns-in_err-summary-clause-fault : goal.returns-in_err-summary-clause-fault
-returns-in_err-summary-clause-fault g c =
-    let made = err_from_is_err_and c.from_residual-in_err-summary.result c.from_residual-in_err-summary.ensures.1 in
-    rw (made.1, made.2) tt
+pub finish_run-requires : goal.finish_run-requires
+finish_run-requires g c =
+    let made = c.in_ok-driven.ensures in
+    let room = room_of c.args.task.run.shown c.conf_of-conf.result.log in
+    kept_fit room made.0 c.make_driven.new.notes.items c.in_ok-core.core.state c.make_driven.new.core.state (run_leads made.1)
+    (logged room c.in_ok-log.log c.make_driven.new.notes made.0 c.in_ok-log.ensures.0 c.in_ok-log.ensures.1 made.2)
 
 pub returns-clause-ok : goal.returns-clause-ok
 returns-clause-ok g c =
     let files = g.F.FileSource.known c.args.files.now in
     let known = image_file files c.args.task.run.image.now in
     let R : List ℕ → Type 0 = λ file. IfSome known (λ bytes. file ≡ bytes) in
-    let machine = c.make_driven-driven.new.machine in
+    let file = c.as_slice-image.result.now in
+    let conf = conf_of c.args.task.run.size in
+    let shown = c.args.task.run.shown in
+    let booted = c.in_ok-core.core.state in
+    let boots : BootsIn file conf booted =
+    subst (λ conf. BootsIn file conf booted) c.conf_of-conf.ensures (state_booted file c.conf_of-conf.result (boot_fault file c.conf_of-conf.result) c.in_ok-core.core c.in_ok-core.ensures) in
+    let made = c.in_ok-driven.ensures in
+    let state = c.make_driven.new.core.state in
+    let log = log_of_run conf file made.0 in
     record {
-      file = c.as_slice-image.result.now;
+      file = file;
       is_file = subst R (sym c.as_slice-image.ensures.value) c.in_ok-file.ensures.whole;
       keys = c.deref.result.now;
       are_keys = subst (AreKeys c.args.task.drive.keys files) (sym c.deref.ensures.value)
           (keys_are c.args.task.drive.keys (g.F.FileSource.known c.read_image.new.files) files c.in_ok-keys.keys.items c.in_ok-file.ensures.still c.in_ok-keys.ensures.whole);
-      booted = c.in_ok-machine.machine;
-      boots = subst (λ conf. BootsTo c.as_slice-image.result.now conf c.in_ok-machine.machine) c.conf_of.ensures c.in_ok-machine.ensures.answer;
-      driven = c.make_driven-driven.result;
-      machine = machine;
-      drives = c.make_driven-driven.ensures;
-      text_is = c.in_ok-summary.ensures ∙ ap (λ (stop : Stop). summary_text machine c.as_slice-image.result.now stop c.args.task.run.shown) c.stop_of-stop.ensures;
-      status_is = c.status.ensures ∙ ap status_of c.stop_of-stop.ensures;
+      booted = booted;
+      boots = boots;
+      driven = c.in_ok-driven.driven;
+      entries = made.0;
+      state = state;
+      drives = made.1;
+      text_is =
+          c.in_ok-done.ensures.text
+          ∙ run_shown shown conf file made.0 c.make_driven.new.notes.items booted state c.stop_of-stop.result
+          (ap (λ (s : State). s.made) boots.1.state_is) (ap (λ (s : State). s.conf) boots.1.state_is ∙ boots.1.conf_is) (run_leads made.1)
+          (logged (room_of shown conf.log) c.in_ok-log.log c.make_driven.new.notes made.0
+          (c.in_ok-log.ensures.0 ∙ ap (λ (x : Conf). room_of shown x.log) c.conf_of-conf.ensures) c.in_ok-log.ensures.1 made.2)
+          ∙ ap (λ (stop : Stop). summary_text log state stop shown) c.stop_of-stop.ensures;
+      status_is = c.in_ok-done.ensures.status ∙ ap status_of c.stop_of-stop.ensures;
     }

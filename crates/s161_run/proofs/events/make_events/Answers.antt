@@ -1,56 +1,72 @@
-use Rattle.std.proofs.Common.{◌≡◌, ◌∙◌, ◌≤◌, ◌+◌, ap, arith, length, refl, rules, subst, sym}
+use Rattle.std.proofs.Common.{◌≡◌, ◌∙◌, ◌≤◌, ◌+◌, ap, arith, length, refl, rules, subst, sym, Some, Option, ℕ, List, None}
 use Rattle.std.proofs.lemmas.List.{length-drop}
-use Rattle.m161_machine.proofs.Continuing.{continues_none}
+use Rattle.m161_drive.specs.Drive.{IsNoted}
+use Rattle.m161_machine.specs.declared.event.Entry.{Entry}
+use Rattle.m161_machine.specs.declared.event.Refusal.{Refusal}
 use Rattle.s161_run.specs.Runs.{MakesEvents, stop_off}
 use Rattle.s161_run.specs.declared.events.Stop.{Stop}
-use Rattle.s161_run.proofs.Making.{at_most_all, run_made, run_passed, run_refused, run_within, stopped_off, switched}
+use Rattle.s161_run.specs.declared.events.Stop.TheVariants.{End, Refused}
+use Rattle.s161_run.specs.helpers.Events.{EndsAfter}
+use Rattle.s161_run.proofs.Making.{makes_so, making_more, making_none, run_passed, run_refused, run_within, stopped_off, switched}
 use Rattle.s161_run.proofs.events.make_events.Goals as goal
 
 pub returns-then-is_off-was_off : goal.returns-then-is_off-was_off
-returns-then-is_off-was_off c =
+returns-then-is_off-was_off g c =
     let before = c.loop-event.invariant in
-    let most : c.make_alike-more.result.0 ≤ c.in-Some.times = at_most_all c.in-Some.times c.make_alike-more.result.0 c.make_alike-more.result.1 _ c.make_alike-more.ensures.why in
-    let made = run_made c.args.machine.now c.loop-event.machine c.make_alike-more.new.machine c.args.events.now c.loop-event.left c.next.new.self c.loop-event.made c.make_alike-more.result.0 c.in-Some.times c.in-Some.event
-    before.3 c.in-Some.ensures.steps.0 most before.0 c.make_alike-more.ensures.made in
-    let off = switched c.args.machine.now.state.board.off c.loop-event.machine c.make_alike-more.new.machine _ before.1 (search rules) c.make_alike-more.ensures.made in
-    let m = c.args.machine.now in
-    let n = c.make_alike-more.new.machine in
-    let count = c.loop-event.made + c.make_alike-more.result.0 in
-    subst (λ (stop : Stop). MakesEvents m c.args.events.now stop n) (sym (c.stop_off.ensures ∙ ap stop_off c.conflict.ensures)) (record {
-      made = count;
-      first = made;
-      why = stopped_off m n c.args.events.now count n.state.conflict refl off;
-    })
+    let alike = c.in_ok-more.ensures in
+    let s = c.args.core.now.state in
+    let t = c.make_alike.new.core.state in
+    let events = c.args.events.now in
+    let made = c.loop-event.made + c.in_ok-more.more in
+    let so_far =
+    making_more g.N.Notes.has s c.loop-event.core.state t c.args.notes.now c.loop-event.notes c.make_alike.new.notes events c.loop-event.left c.next.new.self
+    c.loop-event.made c.in-Some.times c.in-Some.event (c.in_ok-more.more, c.in_ok-more.refusal) before.3 c.in-Some.ensures.steps.0 before.0 alike in
+    let off = switched s.board.off c.loop-event.core.state t alike.entries before.1 (search rules) alike.makes.0 in
+    subst (λ (stop : Stop). (entries : List Entry) × MakesEvents s events stop entries t × IsNoted g.N.Notes.has c.args.notes.now entries c.make_alike.new.notes)
+    (sym (c.stop_off.ensures ∙ ap stop_off c.conflict.ensures))
+    (makes_so g.N.Notes.has s t c.args.notes.now c.make_alike.new.notes events made (stop_off t.conflict) so_far (stopped_off s t events made t.conflict refl off))
 
 pub returns-in-Some-refusal : goal.returns-in-Some-refusal
-returns-in-Some-refusal c =
+returns-in-Some-refusal g c =
     let before = c.loop-event.invariant in
-    let most : c.make_alike-more.result.0 ≤ c.in-Some.times = at_most_all c.in-Some.times c.make_alike-more.result.0 c.make_alike-more.result.1 _ c.make_alike-more.ensures.why in
-    let made = run_made c.args.machine.now c.loop-event.machine c.make_alike-more.new.machine c.args.events.now c.loop-event.left c.next.new.self c.loop-event.made c.make_alike-more.result.0 c.in-Some.times c.in-Some.event
-    before.3 c.in-Some.ensures.steps.0 most before.0 c.make_alike-more.ensures.made in
-    let refused = run_refused c.args.events.now c.loop-event.left c.next.new.self c.loop-event.made c.make_alike-more.result.0 c.in-Some.times c.in-Some.event c.make_alike-more.new.machine.state c.in-Some-refusal.refusal
-    before.3 c.in-Some.ensures.steps.0 (search rules) (search rules) in
-    record { made = c.loop-event.made + c.make_alike-more.result.0; first = made; why = (search rules, refl, refused) }
+    let alike = c.in_ok-more.ensures in
+    let s = c.args.core.now.state in
+    let t = c.make_alike.new.core.state in
+    let events = c.args.events.now in
+    let made = c.loop-event.made + c.in_ok-more.more in
+    let so_far =
+    making_more g.N.Notes.has s c.loop-event.core.state t c.args.notes.now c.loop-event.notes c.make_alike.new.notes events c.loop-event.left c.next.new.self
+    c.loop-event.made c.in-Some.times c.in-Some.event (c.in_ok-more.more, c.in_ok-more.refusal) before.3 c.in-Some.ensures.steps.0 before.0 alike in
+    let ends = subst (EndsAfter c.in-Some.event c.in-Some.times t c.in_ok-more.more) c.in-Some-refusal.is alike.ends in
+    let refused = run_refused events c.loop-event.left c.next.new.self c.loop-event.made c.in_ok-more.more c.in-Some.times c.in-Some.event t c.in-Some-refusal.refusal
+    before.3 c.in-Some.ensures.steps.0 ends.0 ends.1 in
+    makes_so g.N.Notes.has s t c.args.notes.now c.make_alike.new.notes events made (Refused made c.in-Some-refusal.refusal) so_far (search rules, refl, refused)
 
 pub loop-event-init : goal.loop-event-init
-loop-event-init c =
-    (continues_none c.args.machine.now (let last = c.replay.ensures.last in omega (arith, last)), refl, omega arith, c.runs-left.ensures.all)
+loop-event-init g c =
+    (making_none g.N.Notes.has c.args.core.now.state c.args.notes.now c.args.events.now, refl, omega arith, c.runs-left.ensures.all)
 
 pub loop-event-preserved : goal.loop-event-preserved
-loop-event-preserved c =
+loop-event-preserved g c =
     let before = c.loop-event.invariant in
-    let all : c.make_alike-more.result.0 ≡ c.in-Some.times = search rules in
-    let made = run_made c.args.machine.now c.loop-event.machine c.make_alike-more.new.machine c.args.events.now c.loop-event.left c.next.new.self c.loop-event.made c.make_alike-more.result.0 c.in-Some.times c.in-Some.event
-    before.3 c.in-Some.ensures.steps.0 (omega (arith, all)) before.0 c.make_alike-more.ensures.made in (
-      made,
+    let alike = c.in_ok-more.ensures in
+    let s = c.args.core.now.state in
+    let t = c.make_alike.new.core.state in
+    let events = c.args.events.now in
+    let so_far =
+    making_more g.N.Notes.has s c.loop-event.core.state t c.args.notes.now c.loop-event.notes c.make_alike.new.notes events c.loop-event.left c.next.new.self
+    c.loop-event.made c.in-Some.times c.in-Some.event (c.in_ok-more.more, c.in_ok-more.refusal) before.3 c.in-Some.ensures.steps.0 before.0 alike in
+    let all : c.in_ok-more.more ≡ c.in-Some.times = subst (EndsAfter c.in-Some.event c.in-Some.times t c.in_ok-more.more) c.in_default-refusal.is alike.ends in (
+      so_far,
       search rules,
-      rw all (run_within c.args.events.now c.loop-event.left c.next.new.self c.loop-event.made c.in-Some.times c.in-Some.event before.2 before.3 c.in-Some.ensures.steps.0),
-      rw all (run_passed c.args.events.now c.loop-event.left c.next.new.self c.loop-event.made c.in-Some.times c.in-Some.event before.3 c.in-Some.ensures.steps.0),
+      rw all (run_within events c.loop-event.left c.next.new.self c.loop-event.made c.in-Some.times c.in-Some.event before.2 before.3 c.in-Some.ensures.steps.0),
+      rw all (run_passed events c.loop-event.left c.next.new.self c.loop-event.made c.in-Some.times c.in-Some.event before.3 c.in-Some.ensures.steps.0),
     )
 
 pub returns : goal.returns
-returns c =
+returns g c =
     let before = c.loop-event.invariant in
     let none = ap length c.in_default.ensures.steps.0 in
-    let all : c.loop-event.made ≡ length c.args.events.now = omega (arith, before.2, none, ap length before.3, length-drop c.loop-event.made c.args.events.now) in
-    record { made = c.loop-event.made; first = before.0; why = (before.1, all) }
+    let all : c.loop-event.made ≡ length c.args.events.now =
+    (let rest = ap length before.3 in let size = length-drop c.loop-event.made c.args.events.now in omega (arith, before.2, none, rest, size)) in
+    makes_so g.N.Notes.has c.args.core.now.state c.loop-event.core.state c.args.notes.now c.loop-event.notes c.args.events.now c.loop-event.made End before.0 (before.1, all)

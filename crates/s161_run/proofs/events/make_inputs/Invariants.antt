@@ -1,6 +1,6 @@
-use Rattle.std.proofs.Common.{replicate}
-use Rattle.m161_machine.specs.History.{Continues}
+use Rattle.std.proofs.Common.{◌≡◌, length, take}
+use Rattle.s161_run.specs.helpers.Events.{MakesOf}
 use Rattle.s161_run.proofs.events.make_inputs.Given as goal
 
-abbrev pub invariant-loop-made : goal.invariant-loop-made
-invariant-loop-made l = Continues l.fn.machine (replicate l.made l.event) l.machine
+abbrev pub invariant-loop-k : goal.invariant-loop-k
+invariant-loop-k l = MakesOf l.event l.fn.core.state (take l.k l.entries) l.core.state × (length l.entries ≡ length l.fn.entries)

@@ -1,14 +1,25 @@
-use Rattle.std.proofs.Common.{◌≡◌, List, ℕ, Err, IfSome, rules, subst, sym}
+use Rattle.std.proofs.Common.{◌≡◌, ◌∙◌, List, ℕ, Err, IfSome, ap, rules, subst, sym}
 use Rattle.std.proofs.lemmas.Result.{err_from_is_err_and}
-use Rattle.m161_machine.specs.History.{Boots, boot_fault}
-use Rattle.s161_base.specs.Faults.{BootsTo}
+use Rattle.m161_machine.specs.History.{BootsState, boot_fault}
+use Rattle.m161_machine.specs.State.{State}
+use Rattle.m161_machine.specs.declared.conf.Conf.{Conf}
+use Rattle.s161_base.specs.Faults.{BootsIn}
 use Rattle.s161_base.specs.Texts.{HasSchedule}
-use Rattle.s161_run.specs.Runs.{IsFaultOf}
-use Rattle.s161_base.proofs.Failing.{boot_failed, schedule_failed}
+use Rattle.s161_base.proofs.Failing.{schedule_failed, state_booted, state_failed}
 use Rattle.s161_base.specs.Known.{IsText}
 use Rattle.s161_base.specs.Samples.{image_file}
 use Rattle.s161_base.specs.Sizes.{conf_of}
+use Rattle.s161_run.specs.Runs.{IsFaultOf}
+use Rattle.s161_run.specs.helpers.Shown.{room_of}
+use Rattle.s161_run.proofs.Logging.{kept_fit, logged, run_shown}
 use Rattle.s161_run.proofs.run.run.Goals as goal
+
+pub finish_run-requires : goal.finish_run-requires
+finish_run-requires g c =
+    let made = c.in_ok-stop.ensures in
+    let room = room_of c.args.task.shown c.conf_of-conf.result.log in
+    kept_fit room made.0 c.make_events.new.notes.items c.in_ok-core.core.state c.make_events.new.core.state made.1.leads
+    (logged room c.in_ok-log.log c.make_events.new.notes made.0 c.in_ok-log.ensures.0 c.in_ok-log.ensures.1 made.2)
 
 pub returns-clause-ok : goal.returns-clause-ok
 returns-clause-ok g c =
@@ -16,21 +27,33 @@ returns-clause-ok g c =
     let P : List ℕ → Type 0 = λ schedule. IfSome known (λ bytes. schedule ≡ bytes) in
     let file_known = image_file (g.F.FileSource.known c.args.files.now) c.args.task.image.now in
     let R : List ℕ → Type 0 = λ file. IfSome file_known (λ bytes. file ≡ bytes) in
+    let file = c.as_slice-image.result.now in
+    let conf = conf_of c.args.task.size in
+    let booted = c.in_ok-core.core.state in
+    let boots : BootsIn file conf booted =
+    subst (λ conf. BootsIn file conf booted) c.conf_of-conf.ensures (state_booted file c.conf_of-conf.result (boot_fault file c.conf_of-conf.result) c.in_ok-core.core c.in_ok-core.ensures) in
+    let made = c.in_ok-stop.ensures in
     record {
-      file = c.as_slice-image.result.now;
+      file = file;
       is_file = subst R (sym c.as_slice-image.ensures.value) c.in_ok-file.ensures.whole;
-      booted = c.in_ok-machine.machine;
-      boots = subst (λ conf. BootsTo c.as_slice-image.result.now conf c.in_ok-machine.machine) c.conf_of.ensures c.in_ok-machine.ensures.answer;
+      booted = booted;
+      boots = boots;
       schedule = c.as_str.result.now;
       is_input = subst P (sym c.as_str.ensures.value) c.in_ok-schedule.ensures.whole;
       is_text = subst IsText (sym c.as_str.ensures.value) c.in_ok-schedule.schedule.ok;
       events = c.in_ok-events.events;
       is_schedule = c.in_ok-events.ensures.found;
-      machine = c.make_events-stop.new.machine;
-      stop = c.make_events-stop.result;
-      makes = c.make_events-stop.ensures;
-      text_is = c.in_ok-summary.ensures;
-      status_is = c.status.ensures;
+      stop = c.in_ok-stop.stop;
+      entries = made.0;
+      state = c.make_events.new.core.state;
+      makes = made.1;
+      text_is =
+          c.in_ok-done.ensures.text
+          ∙ run_shown c.args.task.shown conf file made.0 c.make_events.new.notes.items booted c.make_events.new.core.state c.in_ok-stop.stop
+          (ap (λ (s : State). s.made) boots.1.state_is) (ap (λ (s : State). s.conf) boots.1.state_is ∙ boots.1.conf_is) made.1.leads
+          (logged (room_of c.args.task.shown conf.log) c.in_ok-log.log c.make_events.new.notes made.0
+          (c.in_ok-log.ensures.0 ∙ ap (λ (x : Conf). room_of c.args.task.shown x.log) c.conf_of-conf.ensures) c.in_ok-log.ensures.1 made.2);
+      status_is = c.in_ok-done.ensures.status;
     }
 
 pub returns-in_err-events-clause-fault : goal.returns-in_err-events-clause-fault
@@ -45,23 +68,18 @@ returns-in_err-events-clause-fault g c =
     search (rules, failed)
 
 -- standard input has a schedule, and the boot's answer says the rest
-pub returns-in_err-machine-clause-fault : goal.returns-in_err-machine-clause-fault
-returns-in_err-machine-clause-fault g c =
+pub returns-in_err-core-clause-fault : goal.returns-in_err-core-clause-fault
+returns-in_err-core-clause-fault g c =
     let known = image_file (g.F.FileSource.known c.args.files.now) c.args.task.image.now in
     let input = g.I.Read.remaining c.args.input.now in
     let P : List ℕ → Type 0 = λ schedule. IfSome input (λ bytes. schedule ≡ bytes) in
     let R : List ℕ → Type 0 = λ file. IfSome known (λ bytes. file ≡ bytes) in
-    let made = err_from_is_err_and c.from_residual-in_err-machine.result c.from_residual-in_err-machine.ensures.1 in
+    let made = err_from_is_err_and c.from_residual-in_err-core.result c.from_residual-in_err-core.ensures.1 in
     let utf8 = subst IsText (sym c.as_str.ensures.value) c.in_ok-schedule.schedule.ok in
     let schedule : HasSchedule input = (c.as_str.result.now, subst P (sym c.as_str.ensures.value) c.in_ok-schedule.ensures.whole, (utf8, (c.in_ok-events.events, c.in_ok-events.ensures.found))) in
     let file = c.as_slice-image.result.now in
-    let e = c.in_err-machine.field-0.0 in
-    let answer = subst (λ conf. Boots file conf (boot_fault file conf) (Err e)) c.conf_of.ensures c.in_err-machine.ensures.answer in
-    let failed = boot_failed (IsFaultOf c.args.task known input) known (conf_of c.args.task.size) file e
+    let e = c.in_err-core.field-0.0 in
+    let answer = subst (λ conf. BootsState file conf (boot_fault file conf) (Err e)) c.conf_of-conf.ensures c.in_err-core.ensures in
+    let failed = state_failed (IsFaultOf c.args.task known input) known (conf_of c.args.task.size) file e
     (subst R (sym c.as_slice-image.ensures.value) c.in_ok-file.ensures.whole) (λ outside. (schedule, outside)) (λ x has. (schedule, has)) tt answer in
     rw (made.1, made.2) failed
-
-pub returns-in_err-summary-clause-fault : goal.returns-in_err-summary-clause-fault
-returns-in_err-summary-clause-fault g c =
-    let made = err_from_is_err_and c.from_residual-in_err-summary.result c.from_residual-in_err-summary.ensures.1 in
-    rw (made.1, made.2) tt

@@ -1,13 +1,22 @@
-use Rattle.std.proofs.Common.{◌∙◌, ap}
+use Rattle.std.proofs.Common.{◌≡◌, ◌∙◌, ap, subst, sym, ℕ, List}
 use Rattle.std.specs.Prelude.{Option}
 use Rattle.m161_machine.specs.declared.event.Conflict.{Conflict}
+use Rattle.m161_machine.specs.State.{State}
 use Rattle.s161_run.specs.declared.events.Stop.{Stop}
-use Rattle.s161_run.specs.Runs.{summary_text}
+use Rattle.s161_run.specs.Runs.{shown_log, summary_text}
 use Rattle.s161_run.specs.Threads.{stop_of}
+use Rattle.s161_run.specs.helpers.Shown.{IsShown}
+use Rattle.s161_run.proofs.Logging.{shown_text}
 use Rattle.s161_run.proofs.threaded.finish.Goals as goal
 
 pub returns-clause-text : goal.returns-clause-text
 returns-clause-text c =
+    let m = c.args.report.machine in
+    let log = shown_log m.start.conf c.args.file.now m.base.made m.log in
+    let shown = c.args.shown in
+    let is = subst (λ text. IsShown shown text log) (sym c.as_bytes.ensures.value) c.in_ok-log.ensures in
     c.in_ok-summary.ensures
-    ∙ ap (λ (stop : Stop). summary_text c.args.report.machine c.args.file.now stop c.args.shown) c.stop_of-stop.ensures
-    ∙ ap (λ (conflict : Option Conflict). summary_text c.args.report.machine c.args.file.now (stop_of c.args.report.off conflict) c.args.shown) c.conflict.ensures
+    ∙ ap (λ (s : State). summary_text c.as_bytes.result.now s c.stop_of-stop.result shown) c.core.ensures
+    ∙ shown_text shown c.as_bytes.result.now log m.state c.stop_of-stop.result is
+    ∙ ap (λ (stop : Stop). summary_text log m.state stop shown) c.stop_of-stop.ensures
+    ∙ ap (λ (conflict : Option Conflict). summary_text log m.state (stop_of c.args.report.off conflict) shown) c.conflict.ensures

@@ -1,13 +1,15 @@
 use Rattle.std.proofs.Common.{◌≡◌, ◌∙◌, ap, sym, subst, ℕ, List, None, length, replicate, IfSome}
-use Rattle.std.proofs.lemmas.List.{length-replicate}
+use Rattle.std.proofs.lemmas.Result.{err_from_is_err_and}
 use Rattle.m161_machine.specs.declared.conf.Conf.{Conf}
-use Rattle.m161_machine.specs.History.{boot_fault}
+use Rattle.m161_machine.specs.History.{Start, boot_fault}
 use Rattle.m161_threads.specs.Runs.{Interleaves, bad_call}
 use Rattle.s161_base.specs.Faults.{BootsTo}
 use Rattle.s161_base.specs.Samples.{image_file}
-use Rattle.s161_run.specs.Threads.{IsCause}
-use Rattle.s161_run.proofs.Threading.{booted_clear, booted_ok, failed_cause}
 use Rattle.s161_base.specs.Sizes.{conf_of}
+use Rattle.s161_run.specs.Runs.{shown_log, summary_text}
+use Rattle.s161_run.specs.Threads.{IsThreadsFault, stop_of}
+use Rattle.s161_run.specs.helpers.Threads.{number_of}
+use Rattle.s161_run.proofs.Threading.{booted_clear, booted_ok, failed_booted}
 use Rattle.s161_run.proofs.threaded.run_in_threads.Goals as goal
 
 pub returns-clause-ok : goal.returns-clause-ok
@@ -15,50 +17,42 @@ returns-clause-ok g c =
     let known = image_file (g.F.FileSource.known c.args.files.now) c.args.task.run.image.now in
     let R : List ℕ → Type 0 = λ file. IfSome known (λ bytes. file ≡ bytes) in
     let conf = (conf_of c.args.task.run.size) in
+    let file = c.as_slice-image.result.now in
     let booted = c.in_ok-machine.machine in
-    let boots = subst (λ conf. BootsTo c.as_slice-image.result.now conf booted) c.conf_of.ensures c.in_ok-machine.ensures.answer in
-    let is_booted = booted_ok c.as_slice-image.result.now conf (boot_fault c.as_slice-image.result.now conf) booted boots in
-    let number : c.processors.result ≡ conf.processors =
-    c.processors.ensures ∙ c.replay.ensures.processors ∙ ap (λ (x : Conf). x.processors) is_booted.conf_is in
-    let quotas : c.as_slice.result.now ≡ replicate conf.processors c.args.task.quota =
-    c.as_slice.ensures.value ∙ c.in_ok-quotas.ensures ∙ ap (λ n. replicate n c.args.task.quota) number in
-    let there : length booted.state.processors ≡ conf.processors =
-    c.replay.ensures.processors ∙ ap (λ (x : Conf). x.processors) is_booted.conf_is in
-    let given : length c.as_slice.result.now ≡ conf.processors = ap length quotas ∙ length-replicate conf.processors c.args.task.quota in
-    let report = c.in-Ok.report in
+    let boots = subst (λ conf. BootsTo file conf booted) c.conf_of.ensures c.in_ok-machine.ensures.answer in
+    let is_booted = booted_ok file conf (boot_fault file conf) booted boots in
+    let number : number_of booted ≡ conf.processors = ap (λ (x : Conf). x.processors) is_booted.conf_is in
+    let report = c.in_ok-report.report in
+    let ran = c.in_ok-report.ensures.ok in
+    let same : report.machine.start.conf ≡ conf = ap (λ (x : Start). x.conf) ran.interleaves.start_is ∙ is_booted.conf_is in
     record {
-      file = c.as_slice-image.result.now;
+      file = file;
       is_file = subst R (sym c.as_slice-image.ensures.value) c.in_ok-file.ensures.whole;
       booted = booted;
       boots = boots;
-      begins = subst (λ (n : ℕ). bad_call n conf.processors c.args.task.burst ≡ None) given
-          (subst (λ (n : ℕ). bad_call (length c.as_slice.result.now) n c.args.task.burst ≡ None) there c.in-Ok.ensures.begun);
+      begins = subst (λ (n : ℕ). bad_call n n c.args.task.burst ≡ None) number ran.begins;
       made = report.counts.items;
       off = report.off;
       machine = report.machine;
-      interleaves = subst (λ (qs : List ℕ). Interleaves booted qs report.counts.items report.off report.machine) quotas c.in-Ok.ensures.ok;
-      text_is = c.in_ok-done.ensures.text;
+      interleaves = subst (λ (n : ℕ). Interleaves booted (replicate n c.args.task.quota) report.counts.items report.off report.machine) number ran.interleaves;
+      text_is =
+          c.in_ok-done.ensures.text
+          ∙ ap (λ (conf : Conf). summary_text (shown_log conf file report.machine.base.made report.machine.log) report.machine.state
+          (stop_of report.off report.machine.state.conflict) c.args.task.run.shown) same;
       status_is = c.in_ok-done.ensures.status;
     }
 
-pub returns-in-Err-clause-fault : goal.returns-in-Err-clause-fault
-returns-in-Err-clause-fault g c =
+pub returns-in_err-report-clause-fault : goal.returns-in_err-report-clause-fault
+returns-in_err-report-clause-fault g c =
     let known = image_file (g.F.FileSource.known c.args.files.now) c.args.task.run.image.now in
     let R : List ℕ → Type 0 = λ file. IfSome known (λ bytes. file ≡ bytes) in
     let conf = (conf_of c.args.task.run.size) in
+    let file = c.as_slice-image.result.now in
     let booted = c.in_ok-machine.machine in
-    let cause = c.in-Err.fault.cause in
-    let boots = subst (λ conf. BootsTo c.as_slice-image.result.now conf booted) c.conf_of.ensures c.in_ok-machine.ensures.answer in
-    let is_booted = booted_ok c.as_slice-image.result.now conf (boot_fault c.as_slice-image.result.now conf) booted boots in
-    let there : length booted.state.processors ≡ conf.processors =
-    c.replay.ensures.processors ∙ ap (λ (x : Conf). x.processors) is_booted.conf_is in
-    let quotas : length c.as_slice.result.now ≡ conf.processors =
-    ap length (c.as_slice.ensures.value ∙ c.in_ok-quotas.ensures) ∙ length-replicate c.processors.result c.args.task.quota
-    ∙ c.processors.ensures ∙ there in
-    let clear : boot_fault c.as_slice-image.result.now conf ≡ None =
-    booted_clear c.as_slice-image.result.now conf (boot_fault c.as_slice-image.result.now conf) booted boots in
-    let why : IsCause (bad_call conf.processors conf.processors c.args.task.burst) cause =
-    subst (λ (n : ℕ). IsCause (bad_call n conf.processors c.args.task.burst) cause) quotas
-    (subst (λ (n : ℕ). IsCause (bad_call (length c.as_slice.result.now) n c.args.task.burst) cause) there
-    (failed_cause (bad_call (length c.as_slice.result.now) (length booted.state.processors) c.args.task.burst) booted cause c.in-Err.fault.machine c.in-Err.ensures.err)) in
-    ((c.as_slice-image.result.now, subst R (sym c.as_slice-image.ensures.value) c.in_ok-file.ensures.whole, clear), why)
+    let failed = err_from_is_err_and c.from_residual-in_err-report.result c.from_residual-in_err-report.ensures.1 in
+    let boots = subst (λ conf. BootsTo file conf booted) c.conf_of.ensures c.in_ok-machine.ensures.answer in
+    let is_booted = booted_ok file conf (boot_fault file conf) booted boots in
+    let clear : boot_fault file conf ≡ None = booted_clear file conf (boot_fault file conf) booted boots in
+    rw (failed.1, failed.2)
+    (failed_booted (IsThreadsFault c.args.task known) booted conf.processors c.args.task.burst c.in_err-report.field-0.0 (ap (λ (x : Conf). x.processors) is_booted.conf_is)
+    (λ cause why. ((file, subst R (sym c.as_slice-image.ensures.value) c.in_ok-file.ensures.whole, clear), why)) tt c.in_err-report.ensures.fault)
