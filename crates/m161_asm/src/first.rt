@@ -1,4 +1,5 @@
-//! The first pass: a text to its lines and symbols.
+//! The first pass: a text to its lines and symbols. The lines are kept, with names that point into the
+//! source; the second pass doesn't read the text.
 
 ghost use Rattle.std.specs.Prelude.{◌≡◌, ◌≤◌, ◌<◌, ◌+◌, ◌^◌, ◌++◌, ◌∷◌, [], length, drop, take, OnOk, IfOk, IfErr, is_some, true, List, ℕ};
 ghost use Rattle.std.specs.List.{position_or_len};

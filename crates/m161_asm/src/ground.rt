@@ -1,4 +1,6 @@
-//! Which addresses are filled.
+//! Which addresses are filled. Between two `.org` lines they are one run. An `.org` closes it, puts it
+//! among the sorted runs, at most 1,024, and finds by binary search the first one that ends above the
+//! new address; until the next `.org` only that run's start is compared, in constant time a line.
 
 ghost use Rattle.std.specs.Prelude.{◌≡◌, ◌≤◌, ◌<◌, ◌+◌, ◌*◌, ◌^◌, ℕ, Bool, OnOk, length, drop, false, List, ◌||◌, ◌⊎◌};
 ghost use Rattle.m161_asm.specs.helpers.Ground.{InOrder, Splits, IsOrdered, HasFilled, limit_of, meet, meets};

@@ -19,7 +19,8 @@ pub struct Segment {
     pub words: Vec<u32>,
 }
 
-/// An assembled text.
+/// An assembled text. The limits are ghost fields, so that users need no condition; who changes a public
+/// field in place has to prove them again.
 #[derive(Drop)]
 pub struct Program {
     /// The segments, in the order of the text: at most 1,024, with at most 4,194,304 words. Each

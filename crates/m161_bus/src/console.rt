@@ -36,7 +36,9 @@ pub enum DoneError {
 }
 
 /// A console: bytes that were typed and wait to be read, a latch for the byte that is being sent,
-/// and all bytes that were sent.
+/// and all bytes that were sent. It doesn't ask for `Drop`: with that, each family of crates that takes
+/// the machine would get a copy of the loop of Steps. A function that lets a machine go asks for it
+/// itself.
 pub trait Console {
     ghost content: { Self → ConsoleState };
 

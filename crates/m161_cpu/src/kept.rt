@@ -5,6 +5,10 @@
 //! tag      the page and the identifier as EntryHi has them; ffffffff in a place that keeps nothing
 //! change   what is added to an address of the page, modulo 2^32, to get the physical one
 //! ```
+//!
+//! There are three tables: text and data often have the same place, and would displace each other in
+//! one. That of stores has only what a store got, so a hit needs no test of D. RAM's bound is tested at
+//! each hit, since RAM is no part of the processor.
 
 ghost use Rattle.std.specs.Prelude.{◌≡◌, ℕ, ◌+◌, ◌/◌, ◌^◌, ◌<◌, List, Some, slice_get, slice_set, IfSome};
 ghost use Rattle.m161_tlb.specs.declared.row.Row.{Row};

@@ -6,7 +6,8 @@
 //! pc         the address of the current instruction; `following` is that of the next
 //! slot       the current instruction is in a branch's delay slot
 //! control    coprocessor 0; tlb: 64 rows
-//! link       the physical word of the last `ll`, while it is live
+//! link       the first byte of the unit that the last `ll` was to, a word or an aligned 16 bytes,
+//!            while it is live
 //! state      stopped until it is started, then running or waiting
 //! count      its Steps, idle ones included
 //!

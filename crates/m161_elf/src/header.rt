@@ -48,7 +48,7 @@ pub struct ProgramHeader {
     pub p_memsz: u32,
 }
 
-/// The half-word at an offset in the file.
+/// The half-word at an offset in the file. Read here, since `Ram`'s functions are those of a memory.
 pub(crate) fn file_half(file: &[u8], at: usize) -> u16
     requires { at + 2 ≤ length file.now }
     ensures { result ≡ half_at file.now at }

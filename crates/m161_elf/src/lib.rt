@@ -1,4 +1,4 @@
-//! ELF32 files for MIPS: loading them into memory, and writing the file of an assembled program.
+//! ELF32 files for MIPS: their image in memory, and their symbols.
 //!
 //! ```text
 //! header           52 bytes: identification 0, e_type 16, e_machine 18, e_entry 24, e_phoff 28,
@@ -21,12 +21,8 @@
 //! whose names are in the section of type SHT_STRTAB that sh_link numbers. A damaged table is no
 //! fault of the file: it has no symbols then.
 //!
-//! The file of a program has a header for each of its segments, with p_flags 7 (read, write and
-//! execute) and p_align 4, and after the table the segments' words, all in the program's order.
-//!
 //! Source: the ELF32 specification and its MIPS supplement; the order of the faults, that the last
-//! segment is used, which symbols are listed, and the layout of a program's file, are this project's
-//! own.
+//! segment is used, and which symbols are listed are this project's own.
 #![tactic(auto)]
 
 mod address;

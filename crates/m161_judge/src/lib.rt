@@ -1,10 +1,12 @@
 //! Verdicts on runs: whether a list of events, made from boot, goes wrong.
 //!
 //! ```text
-//! stale    a Step uses an old row of the TLB, as the audit finds it
-//! stuck    after some events no policy has an event to choose
-//! output   the machine is off, and the console hasn't sent what is asked for
-//! end      there are no more events, and the machine isn't off
+//! stale     a Step uses an old row of the TLB, as the audit finds it
+//! conflict  a strict machine is off, by two rows of a TLB that would overlap
+//! stuck     after some events no policy has an event to choose, and the console hasn't sent what is
+//!           asked for, if anything is
+//! output    the machine is off, and the console hasn't sent what is asked for
+//! end       there are no more events, the machine isn't off, and was never stuck
 //! ```
 //!
 //! The verdict is the first of these that holds, in this order, and says how many of the events it

@@ -5,7 +5,7 @@ ghost use Rattle.m161_elf.specs.Image.{is_in_ram};
 ghost use Rattle.m161_machine.specs.declared.event.Event.TheVariants as events;
 ghost use Rattle.m161_machine.specs.Conf.{is_within_limits};
 ghost use Rattle.m161_machine.specs.State.{AreAllApart, CountUpTo, KeepsSizes};
-ghost use Rattle.m161_machine.specs.History.{boot_fault, boot_state, history_at_boot, Boots, Answers, CanGive, Continues, CountsSteps, Ends, FitsMode, IsLoaded, IsReached, IsReplay};
+ghost use Rattle.m161_machine.specs.History.{boot_fault, boot_state, history_at_boot, Boots, Answers, CanGive, Continues, CountsSteps, Ends, FitsMode, IsLoaded, IsReached, IsReplay, transfers_of};
 ghost use Rattle.m161_machine.specs.StoreHistory.{StoresReplay};
 ghost use Rattle.m161_machine.specs.helpers.History.{start_of};
 ghost use Rattle.m161_machine.specs.Stretch.{Advances};
@@ -32,7 +32,7 @@ pub struct Machine<T: Tlb, D: Console> {
     present: Box<Core<T, D>>,
     base: Box<Core<T, D>>,
     window: Window,
-    // Room for the entries of Steps that are made at once.
+    // Room for the entries of Steps that are made at once (the window lends no slice to write to).
     fresh: Vec<PackedEntry>,
     image: Image,
     conf: Conf,
@@ -130,10 +130,11 @@ impl<T: Tlb + Drop, D: Console + Drop> Machine<T, D> {
     }
 
     /// The state at the base of the log alone: the log's events, made on it, lead to the machine's
-    /// state.
+    /// state. Its console has room for all that they send.
     #[inline(never)]
     pub fn into_base(self) -> Core<T, D>
-        ensures { result.state ≡ self.base }
+        ensures state { result.state ≡ self.base }
+        ensures room { transfers_of self.log ≤ result.room }
     {
         let Machine {
             present: _,
@@ -260,6 +261,7 @@ impl<T: Tlb, D: Console> Machine<T, D> {
     pub fn done(&mut self) -> Result<Outcome, Refusal>
         ensures { Answers self.old events.Done result self.new }
     {
+        // Whether the console sends is looked at first, so that NothingSent comes before NoMemory.
         if let Some(refusal) = self.present.refusal_of_done() {
             return Err(refusal);
         }

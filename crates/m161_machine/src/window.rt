@@ -24,9 +24,10 @@ pub(crate) const AT_ONCE: usize = 256;
 #[derive(Drop)]
 pub(crate) struct Window {
     entries: HeapCircularBuffer<PackedEntry>,
-    // How many of the entries are of `Done`.
+    // How many of the entries are of `Done`: kept, so that `done` needn't look through the window to
+    // know what room the base needs.
     transfers: usize,
-    // Room for the entries that are dropped at once.
+    // Room for the entries that are dropped at once (the buffer lends no slice to write to).
     dropped: Vec<PackedEntry>,
 }
 
@@ -185,7 +186,7 @@ impl Window {
 }
 
 // Moves this many entries, the oldest ones, into the room for them, and makes their events on the
-// base. Returns how many of them are of `Done`.
+// base. The entries are written over with the same values. Returns how many of them are of `Done`.
 fn make_oldest<T: Tlb, D: Console>(
     entries: &mut HeapCircularBuffer<PackedEntry>,
     room: &mut Vec<PackedEntry>,

@@ -30,7 +30,9 @@ pub use identifier::Identifier;
 pub use page::Page;
 pub use row::{Row, words_and_rows};
 
-/// A table of 64 rows. None of its calls allocates.
+/// A table of 64 rows. None of its calls allocates. It doesn't ask for `Drop`: with that, each family
+/// of crates that takes the machine would get a copy of the loop of Steps. A function that lets a
+/// machine go asks for it itself.
 pub trait Tlb {
     ghost use Rattle.std.specs.Prelude.{List};
     ghost use Rattle.m161_tlb.specs.declared.row.Row.{Row};

@@ -15,7 +15,10 @@
 //!
 //! A call costs what the chains that it follows are long; most have one row or none. The rows that
 //! a row with G overlaps can be in each private bucket, so `overlap` follows no chain for it.
-//! `Index` proves the laws of `m161_tlb`'s `Tlb`, and none of its calls allocates.
+//! Each link means the first row of its bucket from a given row on, so neither the type nor its proof
+//! has a list of a chain's members. A bucket's own link stands among those of rows, so a write has no
+//! first row as a case of its own. `Index` proves the laws of `m161_tlb`'s `Tlb`, and none of its calls
+//! allocates.
 #![tactic(auto)]
 
 ghost use Rattle.std.specs.Prelude.{◌≡◌, ◌*◌, ◌+◌, ◌<◌, false, List, Some, length, get_or, slice_get, slice_set, IfSome};

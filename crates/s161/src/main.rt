@@ -12,9 +12,9 @@
 //! s161 search IMAGE       looks for a seed whose run goes wrong, and prints a schedule of it
 //! s161 replay IMAGE LOG   boots an ELF file, makes the events of a log, and prints whether their
 //!                         outcomes are the log's
-//! s161 debug IMAGE SCHEDULE
-//!                         boots an ELF file, and executes debugger commands from standard input
-//!                         over the schedule's events
+//! s161 trace IMAGE        prints a line for each event of a run
+//! s161 debug IMAGE [FILE] boots an ELF file, and executes debugger commands from standard input over
+//!                         the events of a schedule, of a log, or of an order
 //! s161 audit IMAGE WATCHES
 //!                         looks for a stale use of the TLB under the schedule on standard input
 //! s161 as                 assembles the text on standard input, and writes its ELF file to

@@ -1,4 +1,6 @@
-//! The line of a fault.
+//! The line of a fault: `s161: ` and what it is, and mostly an explanation in brackets. Written piece by
+//! piece, so that telling that memory was refused takes none; and what an output that fails has got is a
+//! beginning of the line, which no clause says of `write!`.
 
 ghost use Rattle.std.specs.Prelude.{◌≡◌, ◌++◌, IfErr, OnOk, codes, decimal, option_map};
 ghost use Rattle.std.specs.Io.KnownBytes.{Appends};

@@ -31,7 +31,7 @@ pub struct Drive<'a> {
 /// How a command takes an order.
 #[derive(Clone, Copy, Debug, PartialEq, Eq)]
 pub enum OrderUse {
-    /// `run`: without one no policy chooses the events.
+    /// `run` and `trace`: without one no policy chooses the events.
     Optional,
     /// `schedule`: one is wanted.
     Needed,
@@ -185,7 +185,8 @@ fn shows_log_twice<'a>(given: &ArgMatches<'a>) -> bool
     is_set(given, "show-log") && is_set(given, "only-log")
 }
 
-/// Why the options don't go together, if so.
+/// Why the options don't go together, if so. Judged here and not by rules of clap, whose contract is
+/// exact only without rules between arguments.
 pub(crate) fn clash_of<'a>(given: &ArgMatches<'a>, orders: OrderUse) -> Option<Clash>
     ensures { MatchOption result (go_together orders (rows_of (found_of given.now)) ≡ true)
         (λ clash. Clashes orders (rows_of (found_of given.now)) clash) }

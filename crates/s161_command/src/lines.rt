@@ -407,7 +407,7 @@ const LABELS: Argument = Argument {
     required: false,
 };
 
-// The log of `replay`.
+// The log of `replay`, named `entries`, since the option `--log` has the name `log`.
 const ENTRIES: Argument = Argument {
     name: "entries",
     kind: Kind::File,
@@ -577,7 +577,8 @@ static DIS: Line = Line {
     arguments: &[IMAGE, NAMES, SYMBOLS],
 };
 
-// The line of `demo`.
+// The line of `demo`. Each line has a function of its own: one static with all of them reaches the
+// prover's limit of steps.
 fn demo_command() -> &'static Line
     ensures { line_app result.now ≡ demo_line }
 {
@@ -673,7 +674,8 @@ pub(crate) fn line_of(name: CommandName) -> &'static Line
     }
 }
 
-/// The end of the help of a command, if there is one.
+/// The end of the help of a command, if there is one. In a function, since a static with these texts
+/// costs the prover seconds.
 pub(crate) fn after_help_of(name: CommandName) -> Option<&'static str> {
     match name {
         CommandName::Demo => None,

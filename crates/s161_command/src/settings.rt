@@ -1,4 +1,6 @@
-//! The options of a command that may be wrong though clap takes them.
+//! The options of a command that may be wrong though clap takes them. Found first, as a small value that
+//! is copied, so that tasks are read by functions without a fault: each way out of a function costs the
+//! prover more, the more is alive there.
 
 ghost use Rattle.std.specs.Prelude.{◌≡◌, MatchResult, codes};
 ghost use Rattle.clap.specs.Words.{first_of, found_of, rows_of};

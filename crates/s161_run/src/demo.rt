@@ -19,7 +19,8 @@ pub const CONF: Conf = Conf {
     strict: false,
 };
 
-/// An ELF file of one segment at 80000200, with the program below.
+/// An ELF file of one segment at 80000200, with the program below. A list of bytes, proved to be the
+/// file of these words (`demo_image`), so that `demo` doesn't allocate it.
 ///
 /// ```text
 /// lui $8, 0x1234

@@ -1,4 +1,4 @@
-//! Tests of the program's commands, of the assembler and of the debugger. `program`, `run`,
+//! Tests of the program's commands, of the assembler and of the debugger.
 #![tactic(auto)]
 
 #[cfg(test)]

@@ -89,7 +89,7 @@ fn print_usage<E: Write>(text: &[u8], errors: &mut E) -> u8
 }
 
 // Writes why options can't be followed to standard error. Returns the exit status: 2 if all of it was
-// written.
+// written. Formatted before it is written, as clap's texts are, so that one call writes both.
 fn report_clash<E: Write>(alloc: Global, clash: Clash, errors: &mut E) -> u8
     ensures unsaid { result ≡ 1 → IsTold Memory (E.contents errors.old) (E.contents errors.new)
         ⊎ HasMore (E.contents errors.old) (E.contents errors.new) }

@@ -1,4 +1,5 @@
-//! What a processor shows.
+//! What a processor shows. In a file of its own, so that a wrong edit can name each line that reads a
+//! field.
 
 ghost use Rattle.std.specs.Prelude.{◌≡◌, ◌≢◌, ℕ, true, false, ◌-◌, ◌%◌, ◌<◌, Some, slice_get, slice_index};
 ghost use Rattle.m161_cop0.specs.Control.{read_of};

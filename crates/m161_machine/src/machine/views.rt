@@ -1,10 +1,11 @@
 //! The views of a machine. Only `copy_log` and `copy_start` allocate.
 
-ghost use Rattle.std.specs.Prelude.{◌≡◌, ◌≢◌, ◌<◌, true, false, None, Some, length, slice_get, slice_index, slice_index_or, IfOk};
+ghost use Rattle.std.specs.Prelude.{◌≡◌, ◌≢◌, ◌<◌, ◌≤◌, true, false, None, Some, length, slice_get, slice_index, slice_index_or, IfOk};
 ghost use Rattle.m161_bus.specs.Board.{IsShown, interrupt_lines, shown_word};
 ghost use Rattle.m161_cop0.specs.Control.{read_of};
 ghost use Rattle.m161_cop0.specs.Registers.{number_of_register};
 ghost use Rattle.m161_cpu.specs.Fetch.{fetched_word};
+ghost use Rattle.m161_machine.specs.History.{transfers_of};
 ghost use Rattle.m161_machine.specs.State.{processor_at, step_result, word_in};
 ghost use Rattle.m161_machine.specs.Resting.{IdleIsRest, rests, ticks};
 ghost use Rattle.m161_machine.specs.Uses.{uses_in};
@@ -95,9 +96,11 @@ impl<T: Tlb, D: Console> Machine<T, D> {
     }
 
     /// The state at the base of the log: the log's events, made on it, lead to the machine's state.
-    /// It is the state at boot while no entry was dropped.
+    /// It is the state at boot while no entry was dropped. Its console has room for all that they
+    /// send.
     pub fn base(&self) -> &Core<T, D>
-        ensures { result.now.state ≡ self.now.base }
+        ensures state { result.now.state ≡ self.now.base }
+        ensures room { transfers_of self.now.log ≤ result.now.room }
     {
         &*self.base
     }

@@ -9,7 +9,9 @@ use std::test::Fail;
 
 /// A line for each word: the word, its row's name, and the numbers of its operands. The words are
 /// those of GNU as 2.40 for mips-linux-gnu (-march=r3000, mips2 for sync, ll and sc, mips32 for
-/// wait), from the text of the instructions.
+/// wait), from the text of the instructions. A row without operands has one canonical word; its second
+/// word has bits in unused fields: GNU as's for `syscall`, `break`, `sync` and `wait`, this project's own
+/// for the other five.
 const WORDS: &str = "\
 000208c0 sll 1 2 3
 00000000 sll 0 0 0
