@@ -1,32 +1,34 @@
 use Rattle.std.proofs.Common.{◌≡◌, ◌⊎◌, ◌∙◌, ℕ, List, Option, None, Some, Err, ap, inl, inr, refl, subst}
 use Rattle.m161_audit.specs.declared.finding.AuditError.{AuditError}
 use Rattle.m161_audit.specs.declared.finding.AuditError.TheVariants as audit
-use Rattle.m161_judge.specs.Run.{BootsState, Runs}
+use Rattle.m161_judge.specs.Judge.{BootsState}
+use Rattle.m161_judge.specs.Run.{Runs}
 use Rattle.m161_drive.specs.Policy.{Rules}
 use Rattle.m161_machine.specs.declared.conf.BootError.{BootError}
 use Rattle.m161_machine.specs.History.{boot_fault}
 use Rattle.s161_search.specs.Audits.{fault_of_audit}
 use Rattle.s161_base.proofs.Failing.{boot_fails}
 use Rattle.s161_base.specs.Faults.{fault_of_boot}
+use Rattle.s161_base.specs.Sizes.{conf_of}
 use Rattle.s161_base.specs.declared.fault.Fault.{Fault}
 use Rattle.s161_base.specs.declared.fault.Fault.TheVariants.{Conf, File, Image, Input, Log, LogImage, LogMachine, Memory, Output, Schedule, Source, Threads, Watch, Watches, Word}
 use Rattle.s161_command.specs.declared.task.SearchTask.{SearchTask}
 use Rattle.s161_search.specs.Given.{Given, IsGiven, criteria_of}
 use Rattle.s161_search.specs.Searches.{IsSearchFault}
-use Rattle.s161_search.specs.Seeds.{IsRunFault, search_conf}
+use Rattle.s161_search.specs.Seeds.{IsRunFault}
 
 -- Why a search ends early.
 
 -- a boot's answer
-boot_failed : (task : SearchTask) (given : Given) (x : BootError) → (boot_fault given.file (search_conf task) ≡ Some x) ⊎ (x ≡ BootError.NoMemory) →
+boot_failed : (task : SearchTask) (given : Given) (x : BootError) → (boot_fault given.file (conf_of task.size) ≡ Some x) ⊎ (x ≡ BootError.NoMemory) →
     IsRunFault task given (fault_of_boot x)
 boot_failed task given x h =
-    boot_fails (IsRunFault task given) (Some given.file) (search_conf task) given.file x refl (λ outside. outside)
-    (λ e has. subst (λ file. boot_fault file (search_conf task) ≡ Some (BootError.Load e)) has.1 has.2) tt h
+    boot_fails (IsRunFault task given) (Some given.file) (conf_of task.size) given.file x refl (λ outside. outside)
+    (λ e has. subst (λ file. boot_fault file (conf_of task.size) ≡ Some (BootError.Load e)) has.1 has.2) tt h
 
 -- a run that isn't made
 pub run_failed : (task : SearchTask) (given : Given) (rules : Rules) (n : ℕ) (fault : Option BootError) (e : AuditError) →
-    boot_fault given.file (search_conf task) ≡ fault → Runs given.file (search_conf task) fault rules n (criteria_of given) (Err e) →
+    boot_fault given.file (conf_of task.size) ≡ fault → Runs given.file (conf_of task.size) fault rules n (criteria_of given) (Err e) →
     IsRunFault task given (fault_of_audit e)
 run_failed task given rules n (Some first) (audit.Boot x) has h =
     let same : first ≡ x = cc in
@@ -37,7 +39,7 @@ run_failed task given rules n None (audit.BadWatch k) has h = (has, h.0, h.1)
 
 -- a machine that isn't booted
 pub unbooted : (task : SearchTask) (given : Given) (fault : Option BootError) (e : AuditError) →
-    boot_fault given.file (search_conf task) ≡ fault → BootsState given.file (search_conf task) fault (Err e) → IsRunFault task given (fault_of_audit e)
+    boot_fault given.file (conf_of task.size) ≡ fault → BootsState given.file (conf_of task.size) fault (Err e) → IsRunFault task given (fault_of_audit e)
 unbooted task given (Some first) (audit.Boot x) has h =
     let same : first ≡ x = cc in
     boot_failed task given x (inl (has ∙ ap (λ e. Some e) same))

@@ -3,9 +3,9 @@ use Rattle.std.specs.Prelude.{◌==◌, Result, option_map}
 use Rattle.std.proofs.lemmas.Bool.{eqb-true}
 use Rattle.m161_judge.specs.declared.run.Run.{Run}
 use Rattle.m161_judge.specs.declared.verdict.Judged.{Judged}
-use Rattle.m161_judge.specs.Judge.{Judges}
+use Rattle.m161_judge.specs.Judge.{BootsState}
 use Rattle.m161_judge.specs.Laws.{CutKeepsVerdict, IsOneVerdict}
-use Rattle.m161_judge.specs.Run.{BootsState, IsRun, Runs, criteria}
+use Rattle.m161_judge.specs.Run.{IsRun, Runs, criteria}
 use Rattle.m161_audit.specs.declared.finding.AuditError.{AuditError}
 use Rattle.m161_audit.specs.declared.watch.Watch.{Watch}
 use Rattle.m161_machine.specs.declared.conf.Conf.{Conf}
@@ -16,16 +16,18 @@ use Rattle.m161_judge.specs.Verdict.{Criteria, IsJudged, rank}
 use Rattle.m161_drive.specs.Policy.{Rules}
 use Rattle.m161_machine.specs.declared.conf.BootError.{BootError}
 use Rattle.m161_machine.specs.declared.event.Event.{Event}
-use Rattle.m161_machine.specs.History.{History, boot_fault}
+use Rattle.m161_machine.specs.History.{boot_fault}
 use Rattle.m161_machine.specs.State.{State}
 use Rattle.m161_shorten.specs.declared.judged.Judged.{Judged as KindJudged}
 use Rattle.m161_shorten.specs.Verdicts.{AreNeeded, ByVerdicts}
 use Rattle.m161_shorten.specs.Passes.{Shortens}
+use Rattle.s161_base.specs.Sizes.{conf_of}
 use Rattle.s161_command.specs.declared.task.SearchTask.{SearchTask}
 use Rattle.s161_search.specs.Given.{Given, criteria_of}
-use Rattle.s161_search.specs.Seeds.{AreClean, IsRunAt, one_if, drive_at, search_conf, seed_at, with_seed}
+use Rattle.s161_search.specs.Seeds.{AreClean, IsRunAt, one_if, drive_at, seed_at, with_seed}
 use Rattle.s161_search.specs.Searches.{ArePrinted, HasKind, IsJudgedAt, is_whole, kind_of}
 use Rattle.s161_search.specs.declared.found.Printed.{Printed}
+use Rattle.s161_search.specs.helpers.Begun.{BeginsAt, HasKindFrom}
 use Rattle.s161_search.specs.helpers.Tried.{ArePrintedWith}
 use Rattle.s161_search.proofs.Booting.{booted_as_one}
 
@@ -41,13 +43,13 @@ rules_are drive k seed order policy bytes keys is order_is seed_is keys_are =
 
 -- a run of what was read
 pub same_run : (task : SearchTask) (given : Given) (k : ℕ) (file : List ℕ) (conf : Conf) (rules : Rules) (watches : List Watch) (output : Option (List ℕ)) (result : Result Run AuditError) →
-    file ≡ given.file → conf ≡ search_conf task → rules ≡ rules_of (drive_at task.drive k) given.keys → watches ≡ given.watches → output ≡ given.output →
+    file ≡ given.file → conf ≡ conf_of task.size → rules ≡ rules_of (drive_at task.drive k) given.keys → watches ≡ given.watches → output ≡ given.output →
     Runs file conf (boot_fault file conf) rules task.drive.events (criteria watches output rules) result →
-    Runs given.file (search_conf task) (boot_fault given.file (search_conf task)) (rules_of (drive_at task.drive k) given.keys) task.drive.events (criteria_of given) result
+    Runs given.file (conf_of task.size) (boot_fault given.file (conf_of task.size)) (rules_of (drive_at task.drive k) given.keys) task.drive.events (criteria_of given) result
 same_run task given k file conf rules watches output result file_is conf_is rules_is watches_is output_is h =
     let n = task.drive.events in
     let R = rules_of (drive_at task.drive k) given.keys in
-    subst (λ f. Runs f (search_conf task) (boot_fault f (search_conf task)) R n (criteria given.watches given.output R) result) file_is
+    subst (λ f. Runs f (conf_of task.size) (boot_fault f (conf_of task.size)) R n (criteria given.watches given.output R) result) file_is
     (subst (λ x. Runs file x (boot_fault file x) R n (criteria given.watches given.output R) result) conf_is
     (subst (λ r. Runs file conf (boot_fault file conf) r n (criteria given.watches given.output r) result) rules_is
     (subst (λ w. Runs file conf (boot_fault file conf) rules n (criteria w given.output rules) result) watches_is
@@ -61,8 +63,8 @@ boots_as file same conf equal result file_is conf_is h =
 
 -- a run that was made
 pub run_made : (task : SearchTask) (given : Given) (rules : Rules) (fault : Option BootError) (run : Run) →
-    Runs given.file (search_conf task) fault rules task.drive.events (criteria_of given) (Ok run) →
-    IsRun given.file (search_conf task) rules task.drive.events (criteria_of given) run
+    Runs given.file (conf_of task.size) fault rules task.drive.events (criteria_of given) (Ok run) →
+    IsRun given.file (conf_of task.size) rules task.drive.events (criteria_of given) run
 run_made task given rules (Some first) run h = absurd cc
 run_made task given rules None run h = h
 
@@ -70,27 +72,21 @@ run_made task given rules None run h = h
 pub run_judged : (task : SearchTask) (given : Given) (k : ℕ) (run : Run) (judged : Judged) → IsRunAt task given k run → run.judged ≡ Some judged →
     IsJudgedAt task given run.events.items (Some judged)
 run_judged task given k run judged is wrong =
-    (is.booted, is.is_booted, subst (λ v. IsJudged (criteria_of given) is.booted.state run.events.items v) wrong is.judged)
-
--- the verdict of a list
-pub list_judged : (task : SearchTask) (given : Given) (events : List Event) (fault : Option BootError) (judged : Option Judged) →
-    Judges given.file (search_conf task) fault events (criteria_of given) (Ok judged) → IsJudgedAt task given events judged
-list_judged task given events (Some first) judged h = absurd cc
-list_judged task given events None judged h = h.1
+    (is.booted, is.is_booted, subst (λ v. IsJudged (criteria_of given) is.booted run.events.items v) wrong is.judged)
 
 -- a list has one verdict
 pub one_judged : (task : SearchTask) (given : Given) (events : List Event) (a b : Option Judged) →
     ((goal : Criteria) (s : State) (es : List Event) → IsOneVerdict goal s es) →
     IsJudgedAt task given events a → IsJudgedAt task given events b → a ≡ b
 one_judged task given events a b one h k =
-    let same = booted_as_one given.file (search_conf task) h.0 k.0 h.1 k.1 in
-    one (criteria_of given) k.0.state events a b
+    let same = booted_as_one given.file (conf_of task.size) h.0 k.0 h.1 k.1 in
+    one (criteria_of given) k.0 events a b
     (subst (λ s. IsJudged (criteria_of given) s events a) same h.2) k.2
 
 cut_judged : (task : SearchTask) (given : Given) (events : List Event) (judged : Judged) →
     ((goal : Criteria) (s : State) (es : List Event) (j : Judged) → CutKeepsVerdict goal s es j) →
     IsJudgedAt task given events (Some judged) → IsJudgedAt task given (take judged.events events) (Some judged)
-cut_judged task given events judged cut h = (h.0, h.1, cut (criteria_of given) h.0.state events judged h.2)
+cut_judged task given events judged cut h = (h.0, h.1, cut (criteria_of given) h.0 events judged h.2)
 
 -- a verdict of a kind, on what was cut behind it
 abbrev pub HasSuch : SearchTask → Given → List Event → ℕ → Type 0
@@ -159,19 +155,26 @@ left_has_one task given events fs judged cut one h left again =
     let same : None ≡ Some such.0 = one_judged task given fs None (Some such.0) one again such.1 in
     cc
 
--- by the verdict's kind, and of the events that it needs
+-- by the verdict's kind, and of the events that it needs, from the state at boot
 
-pub left_as : (task : SearchTask) (given : Given) (fs es gs : List Event) (k r : ℕ) → es ≡ gs → k ≡ r →
-    (fs ≡ es) ⊎ AreNeeded (λ kind. k == kind) (HasKind task given) fs → (fs ≡ gs) ⊎ AreNeeded (λ kind. r == kind) (HasKind task given) fs
-left_as task given fs es gs k r same kind h =
+left_at : (task : SearchTask) (given : Given) (s : State) (fs es : List Event) (k : ℕ) → BeginsAt task given s →
+    (fs ≡ es) ⊎ AreNeeded (λ kind. k == kind) (HasKindFrom s given) fs → (fs ≡ es) ⊎ AreNeeded (λ kind. k == kind) (HasKind task given) fs
+left_at task given s fs es k begins (inl is) = inl is
+left_at task given s fs es k begins (inr (xs, n, (kind, has, same), is)) = inr (xs, n, (kind, has task begins, same), is)
+
+pub left_as : (task : SearchTask) (given : Given) (s : State) (fs es gs : List Event) (k r : ℕ) → BeginsAt task given s → es ≡ gs → k ≡ r →
+    (fs ≡ es) ⊎ AreNeeded (λ kind. k == kind) (HasKindFrom s given) fs → (fs ≡ gs) ⊎ AreNeeded (λ kind. r == kind) (HasKind task given) fs
+left_as task given s fs es gs k r begins same kind h =
     subst (λ xs. (fs ≡ xs) ⊎ AreNeeded (λ kind. r == kind) (HasKind task given) fs) same
-    (subst (λ n. (fs ≡ es) ⊎ AreNeeded (λ kind. n == kind) (HasKind task given) fs) kind h)
+    (subst (λ n. (fs ≡ es) ⊎ AreNeeded (λ kind. n == kind) (HasKind task given) fs) kind (left_at task given s fs es k begins h))
 
-pub short_as : (task : SearchTask) (given : Given) (fs es gs : List Event) (k r : ℕ) → es ≡ gs → k ≡ r →
-    ByVerdicts (λ kind. k == kind) (HasKind task given) (λ needs. Shortens needs es fs) → ByVerdicts (λ kind. r == kind) (HasKind task given) (λ needs. Shortens needs gs fs)
-short_as task given fs es gs k r same kind h =
+pub short_as : (task : SearchTask) (given : Given) (s : State) (fs es gs : List Event) (k r : ℕ) → BeginsAt task given s → es ≡ gs → k ≡ r →
+    ByVerdicts (λ kind. k == kind) (HasKindFrom s given) (λ needs. Shortens needs es fs) →
+    ByVerdicts (λ kind. r == kind) (HasKind task given) (λ needs. Shortens needs gs fs)
+short_as task given s fs es gs k r begins same kind h =
     subst (λ xs. ByVerdicts (λ kind. r == kind) (HasKind task given) (λ needs. Shortens needs xs fs)) same
-    (subst (λ n. ByVerdicts (λ kind. n == kind) (HasKind task given) (λ needs. Shortens needs es fs)) kind h)
+    (subst (λ n. ByVerdicts (λ kind. n == kind) (HasKind task given) (λ needs. Shortens needs es fs)) kind
+    (λ tells told. h tells (λ xs verdict has. told xs verdict (has task begins))))
 
 -- one run more
 

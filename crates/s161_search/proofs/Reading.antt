@@ -5,7 +5,6 @@ use Rattle.s161_base.specs.declared.fault.Fault.{Fault}
 use Rattle.s161_base.specs.declared.fault.Fault.TheVariants.{File, Memory, Watches}
 use Rattle.s161_base.specs.declared.fault.Unread.TheVariants.{NotUtf8}
 use Rattle.s161_base.specs.Known.{IsText}
-use Rattle.s161_search.specs.Audits.{IsWatchesFault}
 use Rattle.s161_search.specs.Given.{AreWatchesOf, IsBadLine, IsWatchesFile}
 use Rattle.s161_search.specs.helpers.Watches.{AreWatchesIn, IsFaultIn, IsTextOf}
 

@@ -5,7 +5,8 @@ use Rattle.m161_judge.specs.declared.verdict.Verdict.{Verdict}
 use Rattle.m161_judge.specs.declared.verdict.Verdict.TheVariants.{Stale, Conflict, Stuck, Output as OutputVerdict, End}
 use Rattle.m161_judge.specs.Verdict.{IsJudged, rank}
 use Rattle.m161_machine.specs.declared.event.Event.{Event}
-use Rattle.m161_machine.specs.History.{History, IsBooted}
+use Rattle.m161_machine.specs.History.{IsBootState}
+use Rattle.m161_machine.specs.State.{State}
 use Rattle.m161_shorten.specs.declared.judged.Judged.{Judged as KindJudged}
 use Rattle.m161_shorten.specs.Passes.{Shortens}
 use Rattle.m161_shorten.specs.Verdicts.{ByVerdicts}
@@ -14,19 +15,20 @@ use Rattle.s161_base.specs.declared.fault.Fault.{Fault}
 use Rattle.s161_base.specs.declared.fault.Fault.TheVariants.{Conf, File, Image, Memory, Watch, Watches}
 use Rattle.s161_base.specs.Reading.{IsOfBytes}
 use Rattle.s161_base.specs.Samples.{IsFileName}
+use Rattle.s161_base.specs.Sizes.{conf_of}
 use Rattle.s161_command.specs.declared.task.SearchTask.{SearchTask}
 use Rattle.s161_run.specs.Driven.{IsKeysFile}
 use Rattle.s161_search.specs.Given.{Given, IsBadLine, IsGiven, IsWatchesFile, criteria_of}
-use Rattle.s161_search.specs.Seeds.{AreClean, IsFirstWrong, IsRunFault, search_conf, seed_at}
+use Rattle.s161_search.specs.Seeds.{AreClean, IsFirstWrong, IsRunFault, seed_at}
 use Rattle.s161_search.specs.Texts.{clean_text, found_text}
 
 -- The output and the exit status of `search`.
 
--- the verdict of a list of events, made on a machine of the search
+-- the verdict of a list of events, from the state at boot
 abbrev pub IsJudgedAt : SearchTask → Given → List Event → Option Judged → Type 0
 IsJudgedAt task given events judged =
-    (booted : History) × IsBooted given.file (search_conf task) booted
-    × IsJudged (criteria_of given) booted.state events judged
+    (booted : State) × IsBootState given.file (conf_of task.size) booted
+    × IsJudged (criteria_of given) booted events judged
 
 -- a verdict, of which only the kind matters
 abbrev pub kind_of : Judged → KindJudged ℕ

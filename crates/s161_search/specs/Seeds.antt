@@ -1,9 +1,8 @@
-use Rattle.std.specs.Prelude.{◌≡◌, ℕ, zero, suc, ◌+◌, ◌%◌, ◌^◌, ◌<◌, Bool, if◌then◌else◌, false, List, Option, None, Some}
+use Rattle.std.specs.Prelude.{◌≡◌, ℕ, zero, suc, ◌+◌, ◌%◌, ◌^◌, ◌<◌, Bool, if◌then◌else◌, false, None, Some}
 use Rattle.m161_audit.specs.Watch.{AreGood, IsBad}
 use Rattle.m161_judge.specs.declared.run.Run.{Run}
 use Rattle.m161_judge.specs.declared.verdict.Judged.{Judged}
 use Rattle.m161_judge.specs.Run.{IsRun}
-use Rattle.m161_machine.specs.declared.conf.Conf.{Conf as MachineConf}
 use Rattle.m161_machine.specs.declared.conf.BootError.TheVariants.{Load}
 use Rattle.m161_machine.specs.Conf.{is_within_limits}
 use Rattle.m161_machine.specs.History.{boot_fault}
@@ -15,7 +14,6 @@ use Rattle.s161_base.specs.Sizes.{conf_of}
 use Rattle.s161_command.specs.declared.drive.Drive.{Drive}
 use Rattle.s161_command.specs.declared.task.SearchTask.{SearchTask}
 use Rattle.s161_run.specs.Driven.{rules_of}
-use Rattle.s161_run.specs.Schedules.{log_for}
 use Rattle.s161_search.specs.Given.{Given, criteria_of}
 
 -- The seeds that a search tries.
@@ -40,23 +38,18 @@ seed_at order k = (seed_of order + k) % 2 ^ 64
 abbrev pub drive_at : Drive → ℕ → Drive
 drive_at drive k = record drive { order = with_seed (seed_at drive.order k) drive.order }
 
--- the machine of each run: its log keeps all of the run's entries, as that of `schedule`
-abbrev pub search_conf : SearchTask → MachineConf
-search_conf task =
-    record (conf_of task.size) { log = log_for task.size.log task.drive.events }
-
 -- run k, and its verdict
 abbrev pub IsRunAt : SearchTask → Given → ℕ → Run → Type 0
 IsRunAt task given k run =
-    IsRun given.file (search_conf task) (rules_of (drive_at task.drive k) given.keys)
+    IsRun given.file (conf_of task.size) (rules_of (drive_at task.drive k) given.keys)
     task.drive.events (criteria_of given) run
 
 -- why a run isn't made. Memory holds whatever else is at fault
 abbrev pub IsRunFault : SearchTask → Given → Fault → Type 0
-IsRunFault task given Conf = is_within_limits (search_conf task) ≡ false
-IsRunFault task given (Image e) = boot_fault given.file (search_conf task) ≡ Some (Load e)
+IsRunFault task given Conf = is_within_limits (conf_of task.size) ≡ false
+IsRunFault task given (Image e) = boot_fault given.file (conf_of task.size) ≡ Some (Load e)
 IsRunFault task given (Watch k) =
-    (boot_fault given.file (search_conf task) ≡ None)
+    (boot_fault given.file (conf_of task.size) ≡ None)
     × IsBad task.size.ram given.watches k × AreGood task.size.ram given.watches k
 IsRunFault task given Memory = Unit {0}
 IsRunFault task given _ = ⊥

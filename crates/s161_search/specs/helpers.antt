@@ -2,3 +2,4 @@
 pub mod Watches
 pub mod Tried
 pub mod Inputs
+pub mod Begun

@@ -2,36 +2,34 @@
 
 ghost use Rattle.std.specs.Prelude.{◌≡◌, IfOk};
 ghost use Rattle.m161_judge.specs.Verdict.{rank};
+ghost use Rattle.s161_search.specs.helpers.Begun.{IsJudgedFrom};
 ghost use Rattle.s161_search.specs.helpers.Inputs.{given_of};
-ghost use Rattle.s161_search.specs.Searches.{IsJudgedAt};
 
 use crate::inputs::Inputs;
-use crate::seeds::search_conf;
 use m161::{Console, Tlb};
-use m161_judge::{Goal, Judged, Verdict, judge};
+use m161_judge::{Booted, Goal, Judged, Verdict, judge_events};
 use m161_machine::Event;
 use m161_shorten::Judge;
-use s161_command::SearchTask;
 use std::alloc::{AllocError, Global};
 
-/// The verdict of a list of events.
+/// The verdict of a list of events, made from the state at boot.
 ///
 /// # Errors
 /// Memory was refused.
 pub(crate) fn judge_again(
     alloc: Global,
-    task: SearchTask<'_>,
+    booted: &Booted<Tlb, Console>,
     inputs: &Inputs,
     events: &[Event],
 ) -> Result<Option<Judged>, AllocError>
-    ensures { IfOk result (IsJudgedAt task.entry (given_of inputs.now) events.now) }
+    ensures { IfOk result (IsJudgedFrom booted.now (given_of inputs.now) events.now) }
 {
     let goal = Goal {
         watches: &inputs.watches,
         output: inputs.output(),
         keys: &inputs.keys,
     };
-    match judge::<Tlb, Console>(alloc, &inputs.file, search_conf(task), events, &goal) {
+    match judge_events(alloc, booted, events, &goal) {
         Ok(judged) => Ok(judged),
         Err(_) => Err(AllocError),
     }
@@ -55,24 +53,24 @@ pub(crate) fn rank(verdict: Verdict) -> u8
 pub(crate) struct KindJudge<'a> {
     /// Where memory comes from.
     pub alloc: Global,
-    /// What is asked for.
-    pub task: SearchTask<'a>,
+    /// The state at boot.
+    pub booted: &'a Booted<Tlb, Console>,
     /// What was read.
     pub inputs: &'a Inputs,
 }
 
 impl<'a> Judge for KindJudge<'a> {
+    ghost use Rattle.s161_search.specs.helpers.Begun.{HasKindFrom};
     ghost use Rattle.s161_search.specs.helpers.Inputs.{given_of};
-    ghost use Rattle.s161_search.specs.Searches.{HasKind};
 
     type Kind = u8;
 
     type Error = AllocError;
 
-    ghost judges = { λ judge. HasKind judge.task (given_of judge.inputs.now) };
+    ghost judges = { λ judge. HasKindFrom judge.booted.now (given_of judge.inputs.now) };
 
     fn judge(&mut self, events: &[Event]) -> Result<Option<m161_shorten::Judged<u8>>, AllocError> {
-        match judge_again(self.alloc, self.task, self.inputs, events)? {
+        match judge_again(self.alloc, self.booted, self.inputs, events)? {
             Some(judged) => Ok(Some(m161_shorten::Judged {
                 kind: rank(judged.verdict),
                 needs: judged.events,

@@ -1,13 +1,15 @@
 //! The schedule of a run that goes wrong.
 
 ghost use Rattle.std.specs.Prelude.{◌≡◌, IfOk, Some};
+ghost use Rattle.s161_search.specs.helpers.Begun.{BeginsAt};
 ghost use Rattle.s161_search.specs.helpers.Inputs.{given_of};
 ghost use Rattle.s161_search.specs.Searches.{IsJudgedAt, is_whole};
 ghost use Rattle.s161_search.specs.helpers.Tried.{ArePrintedWith};
 
 use crate::again::{KindJudge, judge_again, rank};
 use crate::inputs::Inputs;
-use m161_judge::{Judged, Verdict, cut_keeps_verdict, one_verdict};
+use m161::{Console, Tlb};
+use m161_judge::{Booted, Judged, Verdict, cut_keeps_verdict, one_verdict};
 use m161_machine::Event;
 use m161_shorten::shorten;
 use s161_command::SearchTask;
@@ -38,12 +40,14 @@ fn is_whole(whole: bool, verdict: Verdict) -> bool
 /// Memory was refused.
 pub(crate) fn print_of(
     alloc: Global,
+    booted: &Booted<Tlb, Console>,
     task: SearchTask<'_>,
     inputs: &Inputs,
     judged: Judged,
     mut events: Vec<Event>,
 ) -> Result<Printed, AllocError>
-    requires { IsJudgedAt task (given_of inputs.now) events.items (Some judged) }
+    requires booted { BeginsAt task (given_of inputs.now) booted.now }
+    requires judged { IsJudgedAt task (given_of inputs.now) events.items (Some judged) }
     ensures { IfOk result (ArePrintedWith task.entry (given_of inputs.now) events.items judged) }
 {
     if is_whole(task.whole, judged.verdict) {
@@ -57,12 +61,12 @@ pub(crate) fn print_of(
     one_verdict();
     let mut judge = KindJudge {
         alloc,
-        task,
+        booted,
         inputs,
     };
     events.truncate(judged.events);
     let events = shorten(&mut judge, rank(judged.verdict), events)?;
-    let Some(last) = judge_again(alloc, task, inputs, &events)? else {
+    let Some(last) = judge_again(alloc, booted, inputs, &events)? else {
         unreachable!()
     };
     Ok(Printed {

@@ -3,14 +3,17 @@
 ghost use Rattle.std.specs.Prelude.{◌≡◌, ◌≢◌, ◌≤◌, IfErr, IfOk, None};
 ghost use Rattle.m161_order.specs.Order.{order_fault};
 ghost use Rattle.s161_base.specs.Samples.{image_file};
+ghost use Rattle.s161_search.specs.helpers.Begun.{BeginsAt};
 ghost use Rattle.s161_search.specs.helpers.Inputs.{given_of};
 ghost use Rattle.s161_search.specs.Searches.{IsFound, IsSearched, IsSearchFault};
 ghost use Rattle.s161_search.specs.Seeds.{IsFirstWrong};
 
 use crate::found::print_of;
 use crate::inputs::{Inputs, read_inputs};
-use crate::seeds::{FirstWrong, Tried, has_room, seed_at, try_seeds};
+use crate::seeds::{FirstWrong, Tried, boot, seed_at, try_seeds};
 use crate::texts::{clean_line, found_lines};
+use m161::{Console, Tlb};
+use m161_judge::Booted;
 use s161_base::fault::Fault;
 use s161_base::files::FileSource;
 use s161_base::finished::Finished;
@@ -37,16 +40,14 @@ pub fn search<'a, F: FileSource>(
     ensures within { IfOk result (λ done. (done.status ≤ 5) × (done.status ≢ 2)) }
 {
     let inputs = read_inputs(alloc, files, task)?;
-    if !has_room(task) {
-        return Err(Fault::Conf);
-    }
-    match try_seeds(alloc, task, &inputs)? {
+    let booted = boot(alloc, task, &inputs)?;
+    match try_seeds(alloc, &booted, task, &inputs)? {
         Tried::Clean(cut) => Ok(Finished {
             text: clean_line(alloc, task.seeds, cut)?.into_bytes(),
             status: 0,
         }),
         Tried::Wrong(wrong) => Ok(Finished {
-            text: found_text(alloc, task, &inputs, wrong)?,
+            text: found_text(alloc, &booted, task, &inputs, wrong)?,
             status: 4,
         }),
     }
@@ -55,15 +56,17 @@ pub fn search<'a, F: FileSource>(
 // What is printed of the first run that goes wrong.
 fn found_text(
     alloc: Global,
+    booted: &Booted<Tlb, Console>,
     task: SearchTask<'_>,
     inputs: &Inputs,
     wrong: FirstWrong,
 ) -> Result<Vec<u8>, AllocError>
-    requires { IsFirstWrong task (given_of inputs.now) wrong.place wrong.run wrong.judged }
+    requires booted { BeginsAt task (given_of inputs.now) booted.now }
+    requires first { IsFirstWrong task (given_of inputs.now) wrong.place wrong.run wrong.judged }
     ensures { IfOk result (λ text. IsFound task.entry (given_of inputs.now) text.items) }
 {
     let seed = seed_at(task.drive.order, wrong.place);
-    let printed = print_of(alloc, task, inputs, wrong.judged, wrong.run.events)?;
+    let printed = print_of(alloc, booted, task, inputs, wrong.judged, wrong.run.events)?;
     let text = found_lines(alloc, seed, printed.verdict, &printed.events)?;
     Ok(text.into_bytes())
 }

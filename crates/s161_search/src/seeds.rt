@@ -1,12 +1,10 @@
 //! The runs of a search.
 
-ghost use Rattle.std.specs.Prelude.{◌≡◌, ◌≤◌, ◌%◌, ◌+◌, ◌^◌, true, false, IfErr, IfOk, None, Ok};
-ghost use Rattle.m161_judge.specs.Run.{BootsState};
-ghost use Rattle.m161_machine.specs.Conf.{is_within_limits};
-ghost use Rattle.m161_machine.specs.History.{boot_fault};
+ghost use Rattle.std.specs.Prelude.{◌≡◌, ◌%◌, ◌+◌, ◌^◌, IfErr, IfOk, None};
 ghost use Rattle.m161_order.specs.Order.{order_fault};
+ghost use Rattle.s161_search.specs.helpers.Begun.{BeginsAt};
 ghost use Rattle.s161_search.specs.helpers.Inputs.{given_of};
-ghost use Rattle.s161_search.specs.Seeds.{IsRunAt, IsRunFault, search_conf, seed_at, seed_of, with_seed};
+ghost use Rattle.s161_search.specs.Seeds.{IsRunAt, IsRunFault, seed_at, seed_of, with_seed};
 ghost use Rattle.s161_search.specs.helpers.Tried.{IsTried};
 
 use crate::audit::fault_of_audit;
@@ -14,12 +12,10 @@ use crate::inputs::Inputs;
 use m161::{Console, Tlb};
 use m161_drive::Policy;
 use m161_judge::{Booted, Judged, Run, judge_booted};
-use m161_machine::Conf;
 use m161_order::Order;
 use s161_base::fault::Fault;
 use s161_base::sizes::conf_of;
 use s161_command::SearchTask;
-use s161_run::schedule::log_for;
 use std::alloc::Global;
 
 /// The first run that goes wrong.
@@ -40,25 +36,6 @@ pub(crate) enum Tried {
     Clean(u32),
     /// A run goes wrong.
     Wrong(FirstWrong),
-}
-
-/// The machine of each run.
-pub(crate) fn search_conf(task: SearchTask<'_>) -> Conf
-    ensures { result ≡ search_conf task.entry }
-{
-    Conf {
-        log: log_for(task.size.log, task.drive.events),
-        ..conf_of(task.size)
-    }
-}
-
-/// Whether a machine's log can have room for all of a run's events.
-pub(crate) fn has_room(task: SearchTask<'_>) -> bool
-    ensures room { result ≡ true → task.entry.drive.events ≤ (search_conf task.entry).log }
-    ensures none { result ≡ false → is_within_limits (search_conf task.entry) ≡ false }
-{
-    let log = log_for(task.size.log, task.drive.events);
-    1 <= log && log <= 16_777_216
 }
 
 // The seed of an order; one by turns has none.
@@ -99,17 +76,19 @@ fn with_seed(seed: u64, order: Order) -> Order
     }
 }
 
-// The state from which all runs begin.
-fn boot<'a>(
+/// The state at boot, from which all runs begin.
+///
+/// # Errors
+/// The image can't be booted.
+pub(crate) fn boot<'a>(
     alloc: Global,
     task: SearchTask<'a>,
     inputs: &Inputs,
 ) -> Result<Booted<Tlb, Console>, Fault<'a>>
-    ensures ok { IfOk result (λ booted. BootsState (given_of inputs.now).file (search_conf task.entry)
-        (boot_fault (given_of inputs.now).file (search_conf task.entry)) (Ok booted)) }
+    ensures ok { IfOk result (BeginsAt task.entry (given_of inputs.now)) }
     ensures fault { IfErr result (IsRunFault task.entry (given_of inputs.now)) }
 {
-    match Booted::new(alloc, &inputs.file, search_conf(task)) {
+    match Booted::new(alloc, &inputs.file, conf_of(task.size)) {
         Ok(booted) => Ok(booted),
         Err(error) => Err(fault_of_audit(error)),
     }
@@ -123,10 +102,8 @@ fn run_seed<'a>(
     inputs: &Inputs,
     k: u32,
 ) -> Result<Run, Fault<'a>>
-    requires booted { BootsState (given_of inputs.now).file (search_conf task)
-        (boot_fault (given_of inputs.now).file (search_conf task)) (Ok booted.now) }
+    requires booted { BeginsAt task (given_of inputs.now) booted.now }
     requires limits { order_fault task.drive.order ≡ None }
-    requires room { task.drive.events ≤ (search_conf task).log }
     ensures ok { IfOk result (IsRunAt task.entry (given_of inputs.now) k) }
     ensures fault { IfErr result (IsRunFault task.entry (given_of inputs.now)) }
 {
@@ -153,18 +130,18 @@ fn run_seed<'a>(
 /// A run can't be made.
 pub(crate) fn try_seeds<'a>(
     alloc: Global,
+    booted: &Booted<Tlb, Console>,
     task: SearchTask<'a>,
     inputs: &Inputs,
 ) -> Result<Tried, Fault<'a>>
+    requires booted { BeginsAt task (given_of inputs.now) booted.now }
     requires limits { order_fault task.drive.order ≡ None }
-    requires room { task.drive.events ≤ (search_conf task).log }
     ensures ok { IfOk result (IsTried task.entry (given_of inputs.now)) }
     ensures fault { IfErr result (IsRunFault task.entry (given_of inputs.now)) }
 {
-    let booted = boot(alloc, task, inputs)?;
     let mut cut = 0;
     for place in 0..task.seeds {
-        let run = run_seed(alloc, &booted, task, inputs, place)?;
+        let run = run_seed(alloc, booted, task, inputs, place)?;
         if let Some(judged) = run.judged {
             return Ok(Tried::Wrong(FirstWrong { place, run, judged }));
         }

@@ -1,4 +1,4 @@
-use Rattle.std.specs.Prelude.{◌≡◌, ℕ, List, Some}
+use Rattle.std.specs.Prelude.{◌≡◌, List, Some}
 use Rattle.m161_judge.specs.declared.verdict.Judged.{Judged}
 use Rattle.m161_judge.specs.Verdict.{rank}
 use Rattle.m161_machine.specs.declared.event.Event.{Event}
@@ -6,7 +6,6 @@ use Rattle.s161_command.specs.declared.task.SearchTask.{SearchTask}
 use Rattle.s161_search.specs.declared.found.Printed.{Printed}
 use Rattle.s161_search.specs.declared.seeds.Tried.{Tried}
 use Rattle.s161_search.specs.declared.seeds.Tried.TheVariants.{Clean, Wrong}
-use Rattle.s161_search.specs.declared.seeds.FirstWrong.{FirstWrong}
 use Rattle.s161_search.specs.Given.{Given}
 use Rattle.s161_search.specs.Searches.{ArePrinted, IsJudgedAt, is_whole}
 use Rattle.s161_search.specs.Seeds.{AreClean, IsFirstWrong}
