@@ -1,7 +1,8 @@
 //! The same events, chosen by policies and by hand.
 
-use m161::{Conf, Console, LinkUnit, Machine, Tlb};
-use m161_drive::{Order, Policy, drive};
+use circular_buffer::HeapCircularBuffer;
+use m161::{Conf, Console, Core, LinkUnit, Machine, Tlb};
+use m161_drive::{Order, PackedEntry, Policy, drive};
 use m161_judge::{Booted, Watch, judge_booted};
 use std::alloc::Global;
 use std::time::{Clock, Instant};
@@ -13,7 +14,7 @@ pub(crate) enum Way {
     ByHand,
     /// By hand: all Steps are those of processor 0.
     Alone,
-    /// By a policy of this order.
+    /// By a policy of this order, on a state; their entries are kept, as a log keeps them.
     Driven(Order),
     /// At random, by one seed after the other, each from the state at boot on; and the runs are
     /// judged, with a watch or without.
@@ -38,16 +39,15 @@ pub(crate) struct Took {
     pub(crate) nanoseconds: u128,
 }
 
-// A machine of two processors, with room for all events.
-fn machine(alloc: Global, image: &[u8], events: u32) -> Option<Machine> {
-    let conf = Conf {
+// Two processors, and a log of so many entries.
+fn conf(log: u32) -> Conf {
+    Conf {
         ram: 65_536,
         processors: 2,
-        log: events,
+        log,
         link: LinkUnit::Word,
         strict: false,
-    };
-    Machine::boot(alloc, image, conf).ok()
+    }
 }
 
 // Makes the events by hand: seven of processor 0, which starts the other one, and then by turns.
@@ -69,14 +69,7 @@ fn alone(machine: &mut Machine, events: u32) {
 // Makes and judges the runs of so many seeds, all from one state at boot. Returns how many events
 // they have.
 fn judge_seeds(alloc: Global, image: &[u8], seeds: u32, watches: &[Watch]) -> Option<u64> {
-    let conf = Conf {
-        ram: 65_536,
-        processors: 2,
-        log: EVENTS,
-        link: LinkUnit::Word,
-        strict: false,
-    };
-    let Ok(booted) = Booted::<Tlb, Console>::new(alloc, image, conf) else {
+    let Ok(booted) = Booted::<Tlb, Console>::new(alloc, image, conf(EVENTS)) else {
         return None;
     };
     let mut made = 0u64;
@@ -90,26 +83,39 @@ fn judge_seeds(alloc: Global, image: &[u8], seeds: u32, watches: &[Watch]) -> Op
     Some(made)
 }
 
-// Makes events one way, on one machine. Returns how many were made.
-fn make_on_one(alloc: Global, image: &[u8], way: Way, events: u32) -> Option<u64> {
-    let mut machine = machine(alloc, image, events)?;
-    match way {
-        Way::ByHand => by_hand(&mut machine, events),
-        Way::Alone | Way::Judged(_) => alone(&mut machine, events),
-        Way::Driven(order) => {
-            let policy = Policy::new(order, 100, Some(1_000), &[]).ok()?;
-            let _ = drive(&mut machine, &policy, u64::from(events));
-        }
+// Makes events by hand, on a machine with room for all: those of processor 0, or of both in turn. Returns
+// how many were made.
+fn make_by_hand(alloc: Global, image: &[u8], is_alone: bool, events: u32) -> Option<u64> {
+    let mut machine = Machine::boot(alloc, image, conf(events)).ok()?;
+    if is_alone {
+        alone(&mut machine, events);
+    } else {
+        by_hand(&mut machine, events);
     }
     Some(machine.made())
+}
+
+// Makes events that a policy of this order chooses, and keeps the entries of all. Returns how many were
+// made.
+fn make_driven(alloc: Global, image: &[u8], order: Order, events: u32) -> Option<u64> {
+    let mut core = Core::boot(alloc, image, conf(events)).ok()?;
+    let mut entries = HeapCircularBuffer::<PackedEntry>::with_capacity(
+        alloc,
+        events as usize,
+    ).ok()?;
+    let policy = Policy::new(order, 100, Some(1_000), &[]).ok()?;
+    let driven = drive(&mut core, &policy, u64::from(events), &mut entries).ok()?;
+    Some(driven.made)
 }
 
 // Makes events one way. Returns how many were made.
 fn make_events(alloc: Global, image: &[u8], way: Way, events: u32) -> Option<u64> {
     match way {
+        Way::ByHand => make_by_hand(alloc, image, false, events),
+        Way::Alone => make_by_hand(alloc, image, true, events),
+        Way::Driven(order) => make_driven(alloc, image, order, events),
         Way::Judged(false) => judge_seeds(alloc, image, events / EVENTS, &[]),
         Way::Judged(true) => judge_seeds(alloc, image, events / EVENTS, &[WATCH]),
-        Way::ByHand | Way::Alone | Way::Driven(_) => make_on_one(alloc, image, way, events),
     }
 }
 

@@ -40,7 +40,10 @@ impl Notes for HeapCircularBuffer<PackedEntry> {
     ghost has = { λ room last so_far. (last.capacity ≡ room) × (last.items ≡ keep_last room so_far) };
 
     fn add(&mut self, entries: &[PackedEntry]) -> Result<(), AllocError> {
-        self.extend_from_slice(entries);
+        // A run whose log isn't shown has no room for it, and spends no time on it.
+        if self.capacity() > 0 {
+            self.extend_from_slice(entries);
+        }
         Ok(())
     }
 }

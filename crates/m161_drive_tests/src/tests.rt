@@ -4,8 +4,10 @@
 
 mod keys;
 mod machines;
+mod notes;
 mod orders;
 mod runs;
+mod turns;
 
 use std::fmt::Debug;
 use std::process::Abort;

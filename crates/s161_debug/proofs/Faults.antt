@@ -8,7 +8,7 @@ use Rattle.s161_command.specs.declared.task.AskedSize.{AskedSize}
 use Rattle.s161_base.specs.declared.fault.Fault.{Fault}
 use Rattle.s161_base.specs.declared.fault.Fault.TheVariants.{Conf, File, Image, Input, Log, LogImage, LogMachine, Memory, Output, Schedule, Source, Threads, Watch, Watches, Word}
 use Rattle.s161_base.specs.declared.machines.LoggedMachine.{LoggedMachine}
-use Rattle.s161_base.specs.Machines.{is_image, is_other_machine, machine_fault}
+use Rattle.s161_base.specs.Machines.{asked_conf, is_image, is_other_machine, machine_fault}
 use Rattle.s161_base.specs.Faults.{fault_of_boot}
 use Rattle.s161_base.specs.Texts.{IsLogFault, IsScheduleFault}
 use Rattle.s161_base.proofs.Failing.{boot_failed, schedule_failed}
@@ -58,28 +58,28 @@ chosen P true same fault machine image is = let found : LogMachine ≡ fault = c
 chosen P false true fault machine image is = absurd (cc)
 chosen P false false fault machine image is = let found : LogImage ≡ fault = cc in subst P found (image refl)
 
-pub refused : (IsBooted : MachineConf → Type 0) (asked : AskedSize) (file : List ℕ) (logged : Option LoggedMachine) (fault : Fault) →
-    machine_fault asked file logged ≡ Some fault → IsMachineFault asked file logged IsBooted fault
-refused IsBooted asked file None fault is = absurd (cc)
-refused IsBooted asked file (Some m) fault is =
-    chosen (IsMachineFault asked file (Some m) IsBooted) (is_other_machine asked m) (is_image file m.line) fault
+pub refused : (asked : AskedSize) (file : List ℕ) (logged : Option LoggedMachine) (fault : Fault) →
+    machine_fault asked file logged ≡ Some fault → IsMachineFault asked file logged fault
+refused asked file None fault is = absurd (cc)
+refused asked file (Some m) fault is =
+    chosen (IsMachineFault asked file (Some m)) (is_other_machine asked m) (is_image file m.line) fault
     (λ e. e) (λ e. e) is
 
 -- the machine isn't booted
-pub not_booted : (IsBooted : MachineConf → Type 0) (asked : AskedSize) (file : List ℕ) (logged : Option LoggedMachine) (conf : MachineConf) (fault : Fault) →
-    machine_fault asked file logged ≡ None → IsBooted conf → IsBootFault file conf fault → IsMachineFault asked file logged IsBooted fault
-not_booted IsBooted asked file logged conf Conf none is h = (none, (conf, is, h))
-not_booted IsBooted asked file logged conf (Image e) none is h = (none, (conf, is, h))
-not_booted IsBooted asked file logged conf Memory none is h = tt
-not_booted IsBooted asked file logged conf (File name why) none is h = absurd h
-not_booted IsBooted asked file logged conf (Schedule n) none is h = absurd h
-not_booted IsBooted asked file logged conf (Log n) none is h = absurd h
-not_booted IsBooted asked file logged conf (Watches n) none is h = absurd h
-not_booted IsBooted asked file logged conf (Watch k) none is h = absurd h
-not_booted IsBooted asked file logged conf (Threads cause) none is h = absurd h
-not_booted IsBooted asked file logged conf (Input why) none is h = absurd h
-not_booted IsBooted asked file logged conf Word none is h = absurd h
-not_booted IsBooted asked file logged conf LogMachine none is h = absurd h
-not_booted IsBooted asked file logged conf LogImage none is h = absurd h
-not_booted IsBooted asked file logged conf Output none is h = absurd h
-not_booted IsBooted asked file logged conf (Source e) none is h = absurd h
+pub not_booted : (asked : AskedSize) (file : List ℕ) (logged : Option LoggedMachine) (fault : Fault) →
+    machine_fault asked file logged ≡ None → IsBootFault file (asked_conf asked logged) fault → IsMachineFault asked file logged fault
+not_booted asked file logged Conf none h = (none, h)
+not_booted asked file logged (Image e) none h = (none, h)
+not_booted asked file logged Memory none h = tt
+not_booted asked file logged (File name why) none h = absurd h
+not_booted asked file logged (Schedule n) none h = absurd h
+not_booted asked file logged (Log n) none h = absurd h
+not_booted asked file logged (Watches n) none h = absurd h
+not_booted asked file logged (Watch k) none h = absurd h
+not_booted asked file logged (Threads cause) none h = absurd h
+not_booted asked file logged (Input why) none h = absurd h
+not_booted asked file logged Word none h = absurd h
+not_booted asked file logged LogMachine none h = absurd h
+not_booted asked file logged LogImage none h = absurd h
+not_booted asked file logged Output none h = absurd h
+not_booted asked file logged (Source e) none h = absurd h

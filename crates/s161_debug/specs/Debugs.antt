@@ -1,16 +1,15 @@
 use Rattle.std.specs.Prelude.{◌≡◌, ◌⊎◌, ℕ, Bool, true, false, nat_eq, if◌then◌else◌, List, [], ◌∷◌, Option, None, Some, IfSome, codes}
 use Rattle.std.specs.List.{starts_with}
 use Rattle.m161_machine.specs.declared.conf.BootError.TheVariants.{Load}
-use Rattle.m161_machine.specs.declared.conf.Conf.{Conf as MachineConf}
 use Rattle.m161_machine.specs.declared.event.Entry.{Entry}
 use Rattle.m161_machine.specs.declared.event.Event.{Event}
 use Rattle.m161_machine.specs.Conf.{is_within_limits}
 use Rattle.m161_machine.specs.History.{History, boot_fault, events_of}
+use Rattle.m161_machine.specs.State.{State}
 use Rattle.m161_dis.specs.declared.naming.Style.{Style}
 use Rattle.m161_text.specs.Lines.{FirstBad, lines_of}
 use Rattle.m161_steplog.specs.Comments.{IsFirstBadOfLog, is_comment}
 use Rattle.m161_steplog.specs.Schedule.{AreScheduleLines, IsSchedule}
-use Rattle.s161_command.specs.declared.drive.Drive.{Drive}
 use Rattle.s161_command.specs.declared.task.AskedSize.{AskedSize}
 use Rattle.s161_command.specs.declared.task.DebugTask.{DebugTask}
 use Rattle.s161_command.specs.declared.task.Registers.TheVariants.{Numbered}
@@ -27,7 +26,7 @@ use Rattle.s161_base.specs.Reading.{IsFileUnread, IsOfBytes, IsOfText}
 use Rattle.s161_base.specs.Samples.{IsFileName}
 use Rattle.s161_base.specs.Streams.{AreUntouched, Streams}
 use Rattle.s161_run.specs.Driven.{AreKeys, IsKeysFile, rules_of}
-use Rattle.s161_run.specs.Schedules.{Chose, log_for}
+use Rattle.s161_run.specs.Schedules.{Chose}
 use Rattle.s161_debug.specs.Sessions.{Breaks, Ends, session_of}
 
 -- The inputs of `debug`: its image, and its list of events.
@@ -55,34 +54,24 @@ ListsAs false text events logged = IsSchedule (lines_of text) events × (logged 
 abbrev pub Lists : List ℕ → List Event → Option LoggedMachine → Type 0
 Lists text events logged = ListsAs (is_log text) text events logged
 
--- the machine of a driven run: as the session's, but its log keeps all of the run's events
-abbrev pub driven_conf : AskedSize → Drive → MachineConf
-driven_conf size drive =
-    record (asked_conf size None) { log = log_for size.log drive.events }
-
--- on a machine of its own, booted from this file, these are the events that a policy chooses
-pub record ChoseFrom (file : List ℕ) (size : AskedSize) (drive : Drive) (keys : List ℕ)
-    (events : List Event) : Type 0 where
-  pub booted : History
-  pub boots : BootsTo file (driven_conf size drive) booted
-  pub chose : Chose (rules_of drive keys) drive.events booted events
-
--- where the events come from: the text of a file; or a driven run, whose keys are the bytes of a file
+-- where the events come from: the text of a file; or a driven run from a state, whose keys are the
+-- bytes of a file
 abbrev pub ComesFrom :
-    Source → AskedSize → (List ℕ → Option (List ℕ)) → List ℕ → List Event → Option LoggedMachine →
-    Type 0
-ComesFrom (source.File name) size files file events logged =
+    Source → (List ℕ → Option (List ℕ)) → State → List Event → Option LoggedMachine → Type 0
+ComesFrom (source.File name) files s events logged =
     OfText (files name.now) (λ text. Lists text events logged)
-ComesFrom (source.Driven drive) size files file events logged =
-    ((keys : List ℕ) × AreKeys drive.keys files keys × ChoseFrom file size drive keys events)
+ComesFrom (source.Driven drive) files s events logged =
+    ((keys : List ℕ) × AreKeys drive.keys files keys
+    × Chose (rules_of drive keys) drive.events s events)
     × (logged ≡ None)
 
--- a session's machine was booted from a file, and these are its events
+-- a session's machine was booted from a file, and these are its events; a driven run begins with the
+-- state in which the session begins
 pub record IsOpened
     (from : Source) (size : AskedSize) (files : List ℕ → Option (List ℕ)) (file : List ℕ)
     (booted : History) (events : List Event) : Type 0 where
   pub logged : Option LoggedMachine
-  pub come : ComesFrom from size files file events logged
+  pub come : ComesFrom from files booted.state events logged
   pub is_that : machine_fault size file logged ≡ None
   pub boots : BootsTo file (asked_conf size logged) booted
 
@@ -114,24 +103,20 @@ IsListFault text Memory = Unit {0}
 IsListFault text _ = ⊥
 
 -- a file, in the machine that is asked for, isn't the one that a log names; or it is, and isn't
--- booted in one of these sizes; or memory was refused
-abbrev pub IsMachineFault :
-    AskedSize → List ℕ → Option LoggedMachine → (MachineConf → Type 0) → Fault → Type 0
-IsMachineFault size file logged IsBooted LogMachine =
-    machine_fault size file logged ≡ Some LogMachine
-IsMachineFault size file logged IsBooted LogImage = machine_fault size file logged ≡ Some LogImage
-IsMachineFault size file logged IsBooted Conf =
+-- booted in that size; or memory was refused
+abbrev pub IsMachineFault : AskedSize → List ℕ → Option LoggedMachine → Fault → Type 0
+IsMachineFault size file logged LogMachine = machine_fault size file logged ≡ Some LogMachine
+IsMachineFault size file logged LogImage = machine_fault size file logged ≡ Some LogImage
+IsMachineFault size file logged Conf =
+    (machine_fault size file logged ≡ None) × (is_within_limits (asked_conf size logged) ≡ false)
+IsMachineFault size file logged (Image e) =
     (machine_fault size file logged ≡ None)
-    × ((conf : MachineConf) × IsBooted conf × (is_within_limits conf ≡ false))
-IsMachineFault size file logged IsBooted (Image e) =
-    (machine_fault size file logged ≡ None)
-    × ((conf : MachineConf) × IsBooted conf × (boot_fault file conf ≡ Some (Load e)))
-IsMachineFault size file logged IsBooted Memory = Unit {0}
-IsMachineFault size file logged IsBooted _ = ⊥
+    × (boot_fault file (asked_conf size logged) ≡ Some (Load e))
+IsMachineFault size file logged Memory = Unit {0}
+IsMachineFault size file logged _ = ⊥
 
 -- why a session isn't opened over an image's file. A text isn't read, or lists no events; or else
--- the machine's fault. Or the keys of a driven run aren't read; or else a machine's fault, that of the
--- run's or the session's
+-- the machine's fault. Or the keys of a driven run aren't read; or else the machine's fault
 abbrev pub IsSourceFault :
     Source → AskedSize → (List ℕ → Option (List ℕ)) → List ℕ → Fault → Type 0
 IsSourceFault (source.File name) size files file fault =
@@ -139,11 +124,9 @@ IsSourceFault (source.File name) size files file fault =
     ⊎ OfText (files name.now) (λ text. IsListFault text fault)
     ⊎ OfText (files name.now) (λ text.
     (events : List Event) × (logged : Option LoggedMachine) × Lists text events logged
-    × IsMachineFault size file logged (λ conf. conf ≡ asked_conf size logged) fault)
+    × IsMachineFault size file logged fault)
 IsSourceFault (source.Driven drive) size files file fault =
-    IsKeysFile drive.keys fault
-    ⊎ IsMachineFault size file None
-    (λ conf. (conf ≡ driven_conf size drive) ⊎ (conf ≡ asked_conf size None)) fault
+    IsKeysFile drive.keys fault ⊎ IsMachineFault size file None fault
 
 -- a fault before the session: memory was refused, whatever else is at fault; or the image's file
 -- isn't read; or the source's fault. The order in which files are read is tested: the image's, then

@@ -9,7 +9,9 @@ ghost use Rattle.s161_base.specs.Machines.{asked_conf, machine_fault};
 ghost use Rattle.s161_base.specs.Samples.{image_file};
 ghost use Rattle.s161_base.specs.Texts.{IsLogFault, IsScheduleFault};
 ghost use Rattle.s161_command.specs.declared.task.Source.TheVariants as sources;
-ghost use Rattle.s161_debug.specs.Debugs.{driven_conf, first_plain, is_log, ChoseFrom, IsEarlyFault, IsListFault, IsMachineFault, IsOpened, IsSourceFault, Lists, ListsAs, Opens};
+ghost use Rattle.s161_run.specs.Driven.{rules_of};
+ghost use Rattle.s161_run.specs.Schedules.{Chose};
+ghost use Rattle.s161_debug.specs.Debugs.{first_plain, is_log, IsEarlyFault, IsListFault, IsMachineFault, IsOpened, IsSourceFault, Lists, ListsAs, Opens};
 ghost use Rattle.s161_debug.specs.helpers.Debugs.{IsBootFault};
 
 use m161::Machine;
@@ -25,7 +27,7 @@ use s161_base::sample::read_image;
 use s161_base::texts::{events_of, log_of};
 use s161_command::{AskedSize, DebugTask, Drive, Registers, Source};
 use s161_run::policy::read_keys;
-use s161_run::schedule::{chosen_events, events_made, log_for};
+use s161_run::schedule::{chosen_events, events_made};
 use std::alloc::Global;
 
 /// The machine of a session, its events, and how it shows registers and addresses.
@@ -51,7 +53,7 @@ struct Listed {
 }
 
 /// Reads the image and then the file of the events, or of the keys of the driven run that chooses
-/// them; makes the driven run on a machine of its own; boots the image; and reads its symbols.
+/// them; boots the image; makes the driven run on a copy of the state; and reads the image's symbols.
 ///
 /// # Errors
 /// The first fault.
@@ -144,8 +146,7 @@ fn open_listed<'a>(
     ensures ok { IfOk result (λ opened. (machine_fault size image.now listed.logged ≡ None)
         × BootsTo image.now (asked_conf size listed.logged) opened.machine
         × (opened.events.items ≡ listed.events.items)) }
-    ensures fault { IfErr result (IsMachineFault size image.now listed.logged
-        (λ conf. conf ≡ asked_conf size listed.logged)) }
+    ensures fault { IfErr result (IsMachineFault size image.now listed.logged) }
 {
     if let Some(fault) = machine_fault(size, image, listed.logged) {
         return Err(fault);
@@ -157,7 +158,7 @@ fn open_listed<'a>(
     })
 }
 
-// Makes the driven run, and then boots the machine that is asked for.
+// Boots the machine that is asked for, and makes the driven run on a copy of its state.
 fn open_chosen<'a>(
     alloc: Global,
     image: &[u8],
@@ -166,46 +167,15 @@ fn open_chosen<'a>(
     keys: &[u8],
 ) -> Result<Booted, Fault<'a>>
     requires { order_fault drive.order ≡ None }
-    ensures ok { IfOk result (λ opened.
-        ChoseFrom image.now size drive.entry keys.now opened.events.items
-        × BootsTo image.now (asked_conf size None) opened.machine) }
-    ensures fault { IfErr result (IsMachineFault size image.now None
-        (λ conf. (conf ≡ driven_conf size drive.entry) ⊎ (conf ≡ asked_conf size None))) }
+    ensures ok { IfOk result (λ opened. BootsTo image.now (asked_conf size None) opened.machine
+        × Chose (rules_of drive.entry keys.now) drive.entry.events opened.machine.state
+        opened.events.items) }
+    ensures fault { IfErr result (IsMachineFault size image.now None) }
 {
-    let events = drive_events(alloc, image, size, drive, keys)?;
     let machine = boot(alloc, image, asked_conf(size, None))?;
+    let mut core = machine.core().copy(alloc)?;
+    let events = chosen_events(alloc, &mut core, drive, keys)?;
     Ok(Booted { machine, events })
-}
-
-// The events that the policy chooses, on a machine of its own.
-fn drive_events<'a>(
-    alloc: Global,
-    image: &[u8],
-    size: AskedSize,
-    drive: Drive<'_>,
-    keys: &[u8],
-) -> Result<Vec<Event>, Fault<'a>>
-    requires { order_fault drive.order ≡ None }
-    ensures ok { IfOk result (λ events.
-        ChoseFrom image.now size drive.entry keys.now events.items) }
-    ensures fault { IfErr result (IsBootFault image.now (driven_conf size drive.entry)) }
-{
-    let conf = driven_conf(size, drive);
-    let mut machine = boot(alloc, image, conf)?;
-    // So that the proof knows that the log has its room.
-    machine.replay();
-    chosen_events(alloc, &mut machine, drive, keys)
-}
-
-// The machine of a driven run.
-fn driven_conf(size: AskedSize, drive: Drive<'_>) -> Conf
-    ensures value { result ≡ driven_conf size drive.entry }
-    ensures room { 1 ≤ result.log → result.log ≤ 16_777_216 → drive.entry.events ≤ result.log }
-{
-    Conf {
-        log: log_for(size.log, drive.events),
-        ..asked_conf(size, None)
-    }
 }
 
 // Boots an image.

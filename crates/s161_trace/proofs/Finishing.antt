@@ -2,17 +2,17 @@ use Rattle.std.proofs.Common.{◌≡◌, ◌∙◌, ◌⊎◌, refl, sym, ap, su
 use Rattle.std.specs.Prelude.{IfErr, IfOk, string_bytes}
 use Rattle.std.specs.Io.KnownBytes.{Appends}
 use Rattle.std.proofs.KnownBytes.{Appends-trans}
+use Rattle.std.proofs.lemmas.Result.{IfErr-weaker, IfOk-weaker}
 use Rattle.m161_machine.specs.declared.conf.BootError.{BootError}
+use Rattle.m161_machine.specs.declared.event.Entry.{Entry}
 use Rattle.m161_machine.specs.declared.event.Event.{Event}
-use Rattle.m161_machine.specs.History.{Boots, History, boot_fault}
+use Rattle.m161_machine.specs.declared.conf.Conf.{Conf}
+use Rattle.m161_machine.specs.History.{Boots, BootsState, History, IsBootState, boot_fault}
 use Rattle.m161_machine.specs.State.{State}
 use Rattle.m161_steplog.specs.Schedule.{IsSchedule}
 use Rattle.m161_text.specs.Lines.{lines_of, text_of, with_line_end}
-use Rattle.m161_drive.specs.declared.run.Driven.{Driven}
-use Rattle.m161_drive.specs.Drive.{Drives}
-use Rattle.m161_drive.specs.Policy.{Rules}
-use Rattle.s161_base.proofs.Failing.{boot_failed}
-use Rattle.s161_base.specs.Faults.{BootsTo, fault_of_boot}
+use Rattle.s161_base.proofs.Failing.{state_failed}
+use Rattle.s161_base.specs.Faults.{BootsIn, fault_of_boot}
 use Rattle.s161_base.specs.Known.{OfText}
 use Rattle.s161_base.specs.Sizes.{conf_of}
 use Rattle.s161_base.specs.Streams.{AppendsSome, streams}
@@ -21,328 +21,281 @@ use Rattle.s161_base.specs.declared.fault.Fault.{Fault}
 use Rattle.s161_base.specs.declared.fault.Fault.TheVariants.{Memory}
 use Rattle.s161_command.specs.declared.drive.Drive.{Drive}
 use Rattle.s161_command.specs.declared.task.TraceTask.{TraceTask}
-use Rattle.s161_run.specs.Driven.{AreKeys, IsDrivenFault, rules_of, stop_of}
+use Rattle.s161_run.specs.Driven.{AreKeys, IsDrivenFault, rules_of}
 use Rattle.s161_run.specs.declared.events.Stop.{Stop}
-use Rattle.s161_run.specs.Runs.{IsFaultOf, MakesEvents, stop_line}
+use Rattle.s161_run.specs.Runs.{IsFaultOf, stop_line}
 use Rattle.s161_trace.specs.declared.lines.Lines.{Lines}
 use Rattle.s161_trace.specs.declared.window.Window.{Window}
 use Rattle.s161_trace.specs.Traces.{Begins, BootsFor, IsEarlyFault, IsTraceFault, IsTraced, IsUnread, Runs, driven_of, lines_text, run_of, trace_text, traced}
-use Rattle.s161_trace.specs.helpers.Booted.{FailsBooted, FailsRun, IsUnbooted, PrintsRun}
+use Rattle.s161_trace.specs.helpers.Booted.{FailsRun, PrintsRun}
 use Rattle.s161_trace.specs.helpers.Driven.{DrivesAll, DrivesSome}
-use Rattle.s161_trace.specs.helpers.Printing.{FailsToPrint, IsNew, IsPrinted, IsUnprinted, Prints, lines_from, run_text, window_of}
+use Rattle.s161_trace.specs.helpers.Printing.{FailsToPrint, FailsToPrintAll, FailsToPut, IsNew, Prints, PrintsAll, lines_from, run_text, window_of}
 use Rattle.s161_trace.specs.helpers.Scheduled.{MakesAll, MakesSome}
 use Rattle.s161_trace.proofs.Printing.{puts_some}
 
 -- Whole runs whose lines are printed.
 
-module _ (w : Window) (s : State) (l : Lines) (fresh : IsNew w s l) where
-  text_is : (events : List Event) → text_of (lines_from l.window l.number l.tracer events) ≡ text_of (lines_from w 0 s events)
-  text_is events = λ i. text_of (lines_from (fresh.0 i) (fresh.1 i) (fresh.2 i) events)
+module _ (w : Window) (s : State) (l : Lines) (fresh : IsNew w s l) (IsSome : State → List Entry → State → Type 0)
+    (IsAll : State → List Entry → Stop → State → Type 0) (entries : List Entry) (t : State) (a : Option (List ℕ)) where
+  text : List ℕ
+  text = text_of (lines_from l.window l.number l.tracer entries)
 
   -- nothing was kept back before
-  whole : (events : List Event) → string_bytes l.piece ++ text_of (lines_from l.window l.number l.tracer events) ≡ text_of (lines_from w 0 s events)
-  whole events = ap (λ kept. kept ++ text_of (lines_from l.window l.number l.tracer events)) fresh.3 ∙ text_is events
+  whole : string_bytes l.piece ++ text_of (lines_from l.window l.number l.tracer entries) ≡ text_of (lines_from w 0 s entries)
+  whole = ap (λ kept. kept ++ text_of (lines_from l.window l.number l.tracer entries)) fresh.3
+      ∙ (λ i. text_of (lines_from (fresh.0 i) (fresh.1 i) (fresh.2 i) entries))
 
-  module _ (a b c : Option (List ℕ)) (events : List Event) (t : State) (k : Lines) (prints : Prints l a events t k b) (stop : Stop) where
+  -- before the last line
+  pub some_fail : (c : Option (List ℕ)) (fault : Fault) → IsSome s entries t → FailsToPrint l a entries t c fault →
+      FailsToPrintAll w s IsSome IsAll t a c fault
+  some_fail c fault is h = inr (h.1.0, (entries, inl (is, subst (AppendsSome a c) whole h.1.1)))
+
+  module _ (b c : Option (List ℕ)) (k : Lines) (prints : Prints l a entries t k b) (stop : Stop) (is : IsAll s entries stop t) where
     abbrev last : List ℕ
     last = with_line_end (stop_line stop)
 
-    pub printed : Appends b c (string_bytes k.piece ++ with_line_end (stop_line stop)) → IsPrinted w s events stop a c
-    printed h =
-        let written = prints.puts.0 in
-        subst (Appends a c)
-        (sym (append_assoc written (string_bytes k.piece) last) ∙ ap (λ bytes. bytes ++ last) (prints.puts.2 ∙ whole events))
-        (Appends-trans a b c written (string_bytes k.piece ++ last) prints.puts.1 h)
+    pub all_printed : Appends b c (string_bytes k.piece ++ with_line_end (stop_line stop)) → PrintsAll w s IsAll t a c stop
+    all_printed h =
+        let written = prints.puts.0 in (
+          entries,
+          is,
+          subst (Appends a c)
+              (sym (append_assoc written (string_bytes k.piece) last) ∙ ap (λ bytes. bytes ++ last) (prints.puts.2 ∙ whole))
+              (Appends-trans a b c written (string_bytes k.piece ++ last) prints.puts.1 h),
+        )
 
-    pub some_printed : AppendsSome b c (string_bytes k.piece ++ with_line_end (stop_line stop)) → AppendsSome a c (run_text w s events stop)
-    some_printed h =
-        let text = text_of (lines_from l.window l.number l.tracer events) in
-        subst (AppendsSome a c)
-        (sym (append_assoc (string_bytes l.piece) text last) ∙ ap (λ bytes. bytes ++ last) (whole events))
-        (puts_some a b c (string_bytes l.piece) (string_bytes k.piece) text last prints.puts h)
-
-  pub some_lines : (a c : Option (List ℕ)) (events : List Event) (fault : Fault) → FailsToPrint l a events c fault →
-      AppendsSome a c (text_of (lines_from w 0 s events))
-  some_lines a c events fault h = subst (AppendsSome a c) (whole events) h.1
+    pub all_fail : (fault : Fault) → FailsToPut b (string_bytes k.piece) (with_line_end (stop_line stop)) c fault →
+        FailsToPrintAll w s IsSome IsAll t a c fault
+    all_fail fault h =
+        let text = text_of (lines_from l.window l.number l.tracer entries) in
+        inr (
+          h.0,
+          (
+            entries,
+            inr (
+              stop,
+              is,
+              subst (AppendsSome a c)
+                  (sym (append_assoc (string_bytes l.piece) text last) ∙ ap (λ bytes. bytes ++ last) whole)
+                  (puts_some a b c (string_bytes l.piece) (string_bytes k.piece) text last prints.puts h.1),
+            ),
+          ),
+        )
 
 -- a call that ends with this fault
 pub ends_so : (P : Fault → Type 0) (r : Result Stop Fault) (fault : Fault) → r ≡ Err fault → P fault → IfErr r P
 ends_so P r fault is h = subst (λ x. IfErr x P) (sym is) h
 
+-- what was booted
+boots_as : (file : List ℕ) (conf : Conf) (fault : Option BootError) (m : History) → Boots file conf fault (Ok m) →
+    (fault ≡ None) × IsBootState file conf m.state
+boots_as file conf (Some first) m h = absurd h
+boots_as file conf None m h = (refl, record { start = m.start; conf_is = h.conf_is; image = h.image; state_is = h.state_is })
+
+pub booted_so : (task : TraceTask) (file : List ℕ) (conf : Conf) (m : History) → conf ≡ conf_of task.size →
+    Boots file conf (boot_fault file conf) (Ok m) → BootsIn file (conf_of task.size) m.state
+booted_so task file conf m is h = subst (λ c. BootsIn file c m.state) is (boots_as file conf (boot_fault file conf) m h)
+
+-- and why not
+fails_as : (file : List ℕ) (conf : Conf) (fault : Option BootError) (e : BootError) → Boots file conf fault (Err e) →
+    BootsState file conf fault (Err e)
+fails_as file conf (Some first) e h = h
+fails_as file conf None e h = h
+
 -- runs from the boot on
+module _ (task : TraceTask) (file : List ℕ) (IsSome : State → List Entry → State → Type 0) (IsAll : State → List Entry → Stop → State → Type 0)
+    (a : Option (List ℕ)) where
+  pub not_booted : (conf : Conf) (e : BootError) (fault : Fault) → conf ≡ conf_of task.size → Boots file conf (boot_fault file conf) (Err e) →
+      fault ≡ fault_of_boot e → FailsRun task file IsSome IsAll a a fault
+  not_booted conf e fault is answer fault_is =
+      let here = subst (λ c. BootsState file c (boot_fault file c) (Err e)) is (fails_as file conf (boot_fault file conf) e answer) in
+      inl (record { error = e; answer = here; fault_is = fault_is; same = refl })
 
-pub not_booted : (task : TraceTask) (file : List ℕ) (IsSome : History → History → List Event → Type 0)
-    (IsAll : History → History → List Event → Stop → Type 0) (a : Option (List ℕ)) (e : BootError) (fault : Fault) →
-    Boots file (conf_of task.size) (boot_fault file (conf_of task.size)) (Err e) → fault ≡ fault_of_boot e →
-    FailsRun task file IsSome IsAll a a fault
-not_booted task file IsSome IsAll a e fault answer is = inl (record { error = e; answer = answer; fault_is = is; same = refl })
+  module _ (s : State) (boots : BootsIn file (conf_of task.size) s) where
+    pub without_window : FailsRun task file IsSome IsAll a a Memory
+    without_window = inr (record { booted = s; boots = boots; state = s; fails = inl (refl, refl) })
 
-pub without_window : (task : TraceTask) (file : List ℕ) (IsSome : History → History → List Event → Type 0)
-    (IsAll : History → History → List Event → Stop → Type 0) (a : Option (List ℕ)) (m : History) → BootsTo file (conf_of task.size) m →
-    FailsRun task file IsSome IsAll a a Memory
-without_window task file IsSome IsAll a m boots = inr (record { booted = m; boots = boots; machine = m; fails = inl (refl, refl) })
-
-module _ (task : TraceTask) (file : List ℕ) (a c : Option (List ℕ)) (m n : History) (boots : BootsTo file (conf_of task.size) m)
-    (w : Window) (is : w ≡ window_of task file) where
-  pub run_fails : (IsSome : History → History → List Event → Type 0) (IsAll : History → History → List Event → Stop → Type 0)
-      (r : Result Stop Fault) → IfErr r (IsUnprinted w m.state (IsSome m n) (IsAll m n) a c) → IfErr r (FailsRun task file IsSome IsAll a c)
-  run_fails IsSome IsAll (Ok stop) h = tt
-  run_fails IsSome IsAll (Err fault) h =
-      inr (record {
-        booted = m;
+    module _ (w : Window) (is : w ≡ window_of task file) (t : State) (c : Option (List ℕ)) (r : Result Stop Fault) where
+      pub run_prints : IfOk r (PrintsAll w s IsAll t a c) → IfOk r (PrintsRun task file IsAll a c)
+      run_prints = IfOk-weaker r (PrintsAll w s IsAll t a c) (PrintsRun task file IsAll a c) (λ stop h. record {
+        booted = s;
         boots = boots;
-        machine = n;
-        fails = subst (λ v. IsUnprinted v m.state (IsSome m n) (IsAll m n) a c fault) is h;
+        state = t;
+        prints = subst (λ v. PrintsAll v s IsAll t a c stop) is h;
       })
 
-  pub schedule_printed : (events : List Event) (r : Result Stop Fault) →
-      IfOk r (λ stop. (makes : MakesEvents m events stop n) × IsPrinted w m.state (take makes.made events) stop a c) →
-      IfOk r (PrintsRun task file (λ booted machine. MakesAll booted events machine) a c)
-  schedule_printed events (Ok stop) h = record {
-    booted = m;
-    boots = boots;
-    events = take h.0.made events;
-    machine = n;
-    all = (h.0, refl);
-    printed = subst (λ v. IsPrinted v m.state (take h.0.made events) stop a c) is h.1;
-  }
-  schedule_printed events (Err fault) h = tt
-
-  pub drive_printed : (rules : Rules) (most : ℕ) (r : Result Stop Fault) →
-      IfOk r (λ stop. (driven : Driven) × (stop ≡ stop_of driven n) × (drives : Drives rules most m driven n)
-      × IsPrinted w m.state drives.events stop a c) →
-      IfOk r (PrintsRun task file (DrivesAll rules most) a c)
-  drive_printed rules most (Ok stop) h = record {
-    booted = m;
-    boots = boots;
-    events = h.2.events;
-    machine = n;
-    all = record { driven = h.0; drives = h.2; events_are = refl; stop_is = h.1 };
-    printed = subst (λ v. IsPrinted v m.state h.2.events stop a c) is h.3;
-  }
-  drive_printed rules most (Err fault) h = tt
-
--- a task's
-module _ (task : TraceTask) (files : List ℕ → Option (List ℕ)) (known input left a c : Option (List ℕ)) (booted n : History)
-    (boots : BootsFor task known booted) (unread : IsUnread task.drive (streams input left a c)) where
-  -- the lines that are asked for are those from the first event on
-  shown : (events : List Event) → text_of (lines_from (window_of task boots.file) 0 booted.state events) ≡ lines_text task boots.file booted.state events
-  shown events =
-      let w = window_of task boots.file in
-      let all : task.count - (0 - task.from) ≡ task.count = omega arith in
-      let first : task.from - 0 ≡ task.from = omega arith in
-      λ i. text_of (take (all i) (drop (first i) (traced w.style 0 booted.state events)))
-
-  shown_whole : (events : List Event) (stop : Stop) → run_text (window_of task boots.file) booted.state events stop ≡ trace_text task boots.file booted.state events stop
-  shown_whole events stop = ap (λ text. text ++ with_line_end (stop_line stop)) (shown events)
-
-  pub task_traced : (events : List Event) (stop : Stop) → Runs task.drive files input booted events stop n →
-      IsPrinted (window_of task boots.file) booted.state events stop a c → IsTraced task files known (streams input left a c) stop
-  task_traced events stop runs h = record {
-    booted = booted;
-    boots = boots;
-    events = events;
-    machine = n;
-    runs = runs;
-    is_unread = unread;
-    written = subst (Appends a c) (shown_whole events stop) h;
-  }
-
-  module _ (IsSome : List Event → Type 0) (IsAll : List Event → Stop → Type 0)
-      (begins : (events : List Event) → IsSome events → Begins task.drive files input booted events n)
-      (runs : (events : List Event) (stop : Stop) → IsAll events stop → Runs task.drive files input booted events stop n) where
-    some_written : (events : List Event) →
-        (IsSome events × AppendsSome a c (text_of (lines_from (window_of task boots.file) 0 booted.state events)))
-        ⊎ ((stop : Stop) × IsAll events stop × AppendsSome a c (run_text (window_of task boots.file) booted.state events stop)) →
-        (Begins task.drive files input booted events n × AppendsSome a c (lines_text task boots.file booted.state events))
-        ⊎ ((stop : Stop) × Runs task.drive files input booted events stop n × AppendsSome a c (trace_text task boots.file booted.state events stop))
-    some_written events (inl x) = inl (begins events x.0, subst (AppendsSome a c) (shown events) x.1)
-    some_written events (inr x) = inr (x.0, runs events x.0 x.1, subst (AppendsSome a c) (shown_whole events x.0) x.2)
-
-    pub task_failed : IsEarlyFault task.drive task known input Memory → (fault : Fault) →
-        IsUnprinted (window_of task boots.file) booted.state IsSome IsAll a c fault → IsTraceFault task files known (streams input left a c) fault
-    task_failed early fault (inl h) = record {
-      is_unread = unread;
-      why = inl (subst (λ f. IsEarlyFault task.drive task known input f) (sym h.0) early, h.1);
-    }
-    task_failed early fault (inr h) = record {
-      is_unread = unread;
-      why = inr (record {
-        is_fault = h.0;
-        booted = booted;
+      pub run_fails : IfErr r (FailsToPrintAll w s IsSome IsAll t a c) → IfErr r (FailsRun task file IsSome IsAll a c)
+      run_fails = IfErr-weaker r (FailsToPrintAll w s IsSome IsAll t a c) (FailsRun task file IsSome IsAll a c) (λ fault h. inr (record {
+        booted = s;
         boots = boots;
-        events = h.1.0;
-        machine = n;
-        some_written = some_written h.1.0 h.1.1;
-      });
-    }
+        state = t;
+        fails = subst (λ v. FailsToPrintAll v s IsSome IsAll t a c fault) is h;
+      }))
+
+-- A task's. The lines that are asked for are those from the first event on.
+
+shown : (task : TraceTask) (file : List ℕ) (s : State) (entries : List Entry) →
+    text_of (lines_from (window_of task file) 0 s entries) ≡ lines_text task file s entries
+shown task file s entries =
+    let w = window_of task file in
+    let all : task.count - (0 - task.from) ≡ task.count = omega arith in
+    let first : task.from - 0 ≡ task.from = omega arith in
+    λ i. text_of (take (all i) (drop (first i) (traced w.style 0 s entries)))
+
+shown_whole : (task : TraceTask) (file : List ℕ) (s : State) (entries : List Entry) (stop : Stop) →
+    run_text (window_of task file) s entries stop ≡ trace_text task file s entries stop
+shown_whole task file s entries stop = ap (λ text. text ++ with_line_end (stop_line stop)) (shown task file s entries)
+
+-- a want of memory can always be
+no_memory : (drive : Option Drive) (task : TraceTask) (known input : Option (List ℕ)) → IsEarlyFault drive task known input Memory
+no_memory None task known input = tt
+no_memory (Some options) task known input = tt
+
+module _ (task : TraceTask) (drive : Option Drive) (drive_is : task.drive ≡ drive) (files : List ℕ → Option (List ℕ))
+    (known input left a c : Option (List ℕ)) (unread : IsUnread drive (streams input left a c)) where
+  is_unread : IsUnread task.drive (streams input left a c)
+  is_unread = subst (λ d. IsUnread d (streams input left a c)) (sym drive_is) unread
+
+  -- before the run
+  early : (fault : Fault) → IsEarlyFault drive task known input fault → c ≡ a → IsTraceFault task files known (streams input left a c) fault
+  early fault h same = record {
+    is_unread = is_unread;
+    why = inl (subst (λ d. IsEarlyFault d task known input fault) (sym drive_is) h, same);
+  }
+
+  module _ (file : List ℕ) (is_file : IfSome known (λ bytes. file ≡ bytes)) (IsAll : State → List Entry → Stop → State → Type 0)
+      (runs : (s t : State) (entries : List Entry) (stop : Stop) → IsAll s entries stop t → Runs drive files input s entries stop t) where
+    abbrev boots_so : (s : State) → BootsIn file (conf_of task.size) s → BootsFor task known s
+    boots_so s h = record { file = file; is_file = is_file; boots = h }
+
+    runs_so : (s t : State) (entries : List Entry) (stop : Stop) → IsAll s entries stop t → Runs task.drive files input s entries stop t
+    runs_so s t entries stop h = subst (λ d. Runs d files input s entries stop t) (sym drive_is) (runs s t entries stop h)
+
+    task_traced : (stop : Stop) → PrintsRun task file IsAll a c stop → IsTraced task files known (streams input left a c) stop
+    task_traced stop h =
+        let entries = h.prints.0 in
+        record {
+          booted = h.booted;
+          boots = boots_so h.booted h.boots;
+          entries = entries;
+          state = h.state;
+          runs = runs_so h.booted h.state entries stop h.prints.1;
+          is_unread = is_unread;
+          written = subst (Appends a c) (shown_whole task file h.booted entries stop) h.prints.2;
+        }
+
+    module _ (IsSome : State → List Entry → State → Type 0)
+        (begins : (s t : State) (entries : List Entry) → IsSome s entries t → Begins drive files input s entries t)
+        (unbooted : (e : BootError) → BootsState file (conf_of task.size) (boot_fault file (conf_of task.size)) (Err e) →
+        IsEarlyFault drive task known input (fault_of_boot e)) where
+      some_written : (s t : State) (entries : List Entry) →
+          (IsSome s entries t × AppendsSome a c (text_of (lines_from (window_of task file) 0 s entries)))
+          ⊎ ((stop : Stop) × IsAll s entries stop t × AppendsSome a c (run_text (window_of task file) s entries stop)) →
+          (Begins task.drive files input s entries t × AppendsSome a c (lines_text task file s entries))
+          ⊎ ((stop : Stop) × Runs task.drive files input s entries stop t × AppendsSome a c (trace_text task file s entries stop))
+      some_written s t entries (inl x) =
+          inl (
+            subst (λ d. Begins d files input s entries t) (sym drive_is) (begins s t entries x.0),
+            subst (AppendsSome a c) (shown task file s entries) x.1,
+          )
+      some_written s t entries (inr x) =
+          inr (x.0, runs_so s t entries x.0 x.1, subst (AppendsSome a c) (shown_whole task file s entries x.0) x.2)
+
+      in_run : (s t : State) → BootsIn file (conf_of task.size) s → (fault : Fault) →
+          FailsToPrintAll (window_of task file) s IsSome IsAll t a c fault → IsTraceFault task files known (streams input left a c) fault
+      in_run s t boots fault (inl h) = early fault (subst (IsEarlyFault drive task known input) (sym h.0) (no_memory drive task known input)) h.1
+      in_run s t boots fault (inr h) = record {
+        is_unread = is_unread;
+        why = inr (record {
+          is_fault = h.0;
+          booted = s;
+          boots = boots_so s boots;
+          entries = h.1.0;
+          state = t;
+          some_written = some_written s t h.1.0 h.1.1;
+        });
+      }
+
+      task_failed : (fault : Fault) → FailsRun task file IsSome IsAll a c fault → IsTraceFault task files known (streams input left a c) fault
+      task_failed fault (inl h) =
+          early fault (subst (IsEarlyFault drive task known input) (sym h.fault_is) (unbooted h.error h.answer)) h.same
+      task_failed fault (inr h) = in_run h.booted h.state h.boots fault h.fails
 
 -- by a schedule
 module _ (task : TraceTask) (files : List ℕ → Option (List ℕ)) (known input left : Option (List ℕ)) (none : task.drive ≡ None) where
-  unread_none : (a c : Option (List ℕ)) → IsUnread task.drive (streams input left a c)
-  unread_none a c = subst (λ d. IsUnread d (streams input left a c)) (sym none) tt
-
-  early_none : (fault : Fault) → IsEarlyFault None task known input fault → IsEarlyFault task.drive task known input fault
-  early_none fault h = subst (λ d. IsEarlyFault d task known input fault) (sym none) h
-
   pub schedule_early : (a : Option (List ℕ)) (fault : Fault) → IsEarlyFault None task known input fault →
       IsTraceFault task files known (streams input left a a) fault
-  schedule_early a fault h = record { is_unread = unread_none a a; why = inl (early_none fault h, refl) }
+  schedule_early a fault h = early task None none files known input left a a tt fault h refl
 
-  module _ (a c : Option (List ℕ)) (booted n : History) (boots : BootsFor task known booted) (scheduled : List Event)
-      (is : OfText input (λ text. IsSchedule (lines_of text) scheduled)) where
-    runs_none : (events : List Event) (stop : Stop) → MakesAll booted scheduled n events stop → Runs task.drive files input booted events stop n
-    runs_none events stop x = subst (λ d. Runs d files input booted events stop n) (sym none) (record {
-      scheduled = scheduled;
-      is_schedule = is;
-      makes = x.0;
-      events_are = x.1;
-    })
-
-    begins_none : (events : List Event) → MakesSome booted scheduled n events → Begins task.drive files input booted events n
-    begins_none events x = subst (λ d. Begins d files input booted events n) (sym none) (record {
-      scheduled = scheduled;
-      is_schedule = is;
-      made = x.0;
-      events_are = x.1;
-      continues = x.2;
-    })
-
-    pub schedule_traced : (events : List Event) (stop : Stop) → MakesAll booted scheduled n events stop →
-        IsPrinted (window_of task boots.file) booted.state events stop a c → IsTraced task files known (streams input left a c) stop
-    schedule_traced events stop x = task_traced task files known input left a c booted n boots (unread_none a c) events stop (runs_none events stop x)
-
-    pub schedule_failed : (fault : Fault) →
-        IsUnprinted (window_of task boots.file) booted.state (MakesSome booted scheduled n) (MakesAll booted scheduled n) a c fault →
-        IsTraceFault task files known (streams input left a c) fault
-    schedule_failed =
-        task_failed task files known input left a c booted n boots (unread_none a c) (MakesSome booted scheduled n) (MakesAll booted scheduled n) begins_none runs_none
-        (early_none Memory tt)
-
-  -- with the schedule that was read
+  -- that was read
   module _ (a c : Option (List ℕ)) (file : List ℕ) (is_file : IfSome known (λ bytes. file ≡ bytes)) (scheduled : List Event)
-      (is : OfText input (λ text. IsSchedule (lines_of text) scheduled)) where
+      (is : OfText input (λ text. IsSchedule (lines_of text) scheduled)) (r : Result Stop Fault) where
     has_schedule : HasSchedule input
     has_schedule = (is.0, is.1, (is.2.0, (scheduled, is.2.1)))
 
-    pub schedule_ok : (r : Result Stop Fault) → IfOk r (PrintsRun task file (λ booted machine. MakesAll booted scheduled machine) a c) →
-        IfOk r (IsTraced task files known (streams input left a c))
-    schedule_ok (Ok stop) h =
-        schedule_traced a c h.booted h.machine (record { file = file; is_file = is_file; boots = h.boots }) scheduled is h.events stop h.all h.printed
-    schedule_ok (Err fault) h = tt
+    runs_none : (s t : State) (entries : List Entry) (stop : Stop) → MakesAll scheduled s entries stop t → Runs None files input s entries stop t
+    runs_none s t entries stop h = record { scheduled = scheduled; is_schedule = is; makes = h }
 
-    unbooted_none : (fault : Fault) → IsUnbooted task file a c fault → IsTraceFault task files known (streams input left a c) fault
-    unbooted_none fault h =
-        let failed = boot_failed (IsFaultOf (run_of task) known input) known (conf_of task.size) file h.error is_file
-        (λ outside. (has_schedule, outside)) (λ e has. (has_schedule, has)) tt h.answer in
-        record {
-          is_unread = unread_none a c;
-          why = inl (early_none fault (subst (IsFaultOf (run_of task) known input) (sym h.fault_is) failed), h.same);
-        }
+    begins_none : (s t : State) (entries : List Entry) → MakesSome scheduled s entries t → Begins None files input s entries t
+    begins_none s t entries h = record { scheduled = scheduled; is_schedule = is; are_first = h.0; leads = h.1 }
 
-    booted_none : (fault : Fault) →
-        FailsBooted task file (λ booted machine. MakesSome booted scheduled machine) (λ booted machine. MakesAll booted scheduled machine) a c fault →
-        IsTraceFault task files known (streams input left a c) fault
-    booted_none fault h =
-        schedule_failed a c h.booted h.machine (record { file = file; is_file = is_file; boots = h.boots }) scheduled is fault h.fails
+    unbooted_none : (e : BootError) → BootsState file (conf_of task.size) (boot_fault file (conf_of task.size)) (Err e) →
+        IsFaultOf (run_of task) known input (fault_of_boot e)
+    unbooted_none e h =
+        state_failed (IsFaultOf (run_of task) known input) known (conf_of task.size) file e is_file (λ outside. (has_schedule, outside))
+        (λ e has. (has_schedule, has)) tt h
 
-    schedule_why : (fault : Fault) →
-        FailsRun task file (λ booted machine. MakesSome booted scheduled machine) (λ booted machine. MakesAll booted scheduled machine) a c fault →
-        IsTraceFault task files known (streams input left a c) fault
-    schedule_why fault (inl h) = unbooted_none fault h
-    schedule_why fault (inr h) = booted_none fault h
+    pub schedule_ok : IfOk r (PrintsRun task file (MakesAll scheduled) a c) → IfOk r (IsTraced task files known (streams input left a c))
+    schedule_ok =
+        IfOk-weaker r (PrintsRun task file (MakesAll scheduled) a c) (IsTraced task files known (streams input left a c))
+        (task_traced task None none files known input left a c tt file is_file (MakesAll scheduled) runs_none)
 
-    pub schedule_bad : (r : Result Stop Fault) →
-        IfErr r (FailsRun task file (λ booted machine. MakesSome booted scheduled machine) (λ booted machine. MakesAll booted scheduled machine) a c) →
+    pub schedule_bad : IfErr r (FailsRun task file (MakesSome scheduled) (MakesAll scheduled) a c) →
         IfErr r (IsTraceFault task files known (streams input left a c))
-    schedule_bad (Ok stop) h = tt
-    schedule_bad (Err fault) h = schedule_why fault h
+    schedule_bad =
+        IfErr-weaker r (FailsRun task file (MakesSome scheduled) (MakesAll scheduled) a c) (IsTraceFault task files known (streams input left a c))
+        (task_failed task None none files known input left a c tt file is_file (MakesAll scheduled) runs_none (MakesSome scheduled) begins_none
+        unbooted_none)
 
 -- by a policy
-module _ (task : TraceTask) (options : Drive) (files : List ℕ → Option (List ℕ)) (known input : Option (List ℕ)) (some : task.drive ≡ Some options) where
-  unread_some : (a c : Option (List ℕ)) → IsUnread task.drive (streams input input a c)
-  unread_some a c = subst (λ d. IsUnread d (streams input input a c)) (sym some) refl
-
-  early_some : (fault : Fault) → IsEarlyFault (Some options) task known input fault → IsEarlyFault task.drive task known input fault
-  early_some fault h = subst (λ d. IsEarlyFault d task known input fault) (sym some) h
-
-  pub drive_early : (a : Option (List ℕ)) (fault : Fault) → IsEarlyFault (Some options) task known input fault →
+module _ (task : TraceTask) (options : Drive) (files : List ℕ → Option (List ℕ)) (known : Option (List ℕ)) (some : task.drive ≡ Some options) where
+  pub drive_early : (input a : Option (List ℕ)) (fault : Fault) → IsDrivenFault (driven_of task options) known fault →
       IsTraceFault task files known (streams input input a a) fault
-  drive_early a fault h = record { is_unread = unread_some a a; why = inl (early_some fault h, refl) }
+  drive_early input a fault h = early task (Some options) some files known input input a a refl fault h refl
 
-  module _ (a c : Option (List ℕ)) (booted n : History) (boots : BootsFor task known booted) (keys : List ℕ)
-      (are : AreKeys options.keys files keys) where
-    runs_some : (events : List Event) (stop : Stop) → DrivesAll (rules_of options keys) options.events booted n events stop →
-        Runs task.drive files input booted events stop n
-    runs_some events stop x = subst (λ d. Runs d files input booted events stop n) (sym some) (record {
-      keys = keys;
-      are_keys = are;
-      driven = x.driven;
-      drives = x.drives;
-      events_are = x.events_are;
-      stop_is = x.stop_is;
-    })
+  -- with the keys that were read
+  module _ (a c : Option (List ℕ)) (file : List ℕ) (is_file : IfSome known (λ bytes. file ≡ bytes)) (keys : List ℕ)
+      (are : AreKeys options.keys files keys) (r : Result Stop Fault) where
+    abbrev IsAll : State → List Entry → Stop → State → Type 0
+    IsAll = DrivesAll (rules_of options keys) options.events
 
-    begins_some : (events : List Event) → DrivesSome (rules_of options keys) options.events booted n events →
-        Begins task.drive files input booted events n
-    begins_some events x = subst (λ d. Begins d files input booted events n) (sym some) (record {
-      keys = keys;
-      are_keys = are;
-      few = x.few;
-      cursor = x.cursor;
-      chosen_are = x.chosen_are;
-      continues = x.made;
-    })
+    abbrev IsSome : State → List Entry → State → Type 0
+    IsSome = DrivesSome (rules_of options keys) options.events
 
-    pub drive_traced : (events : List Event) (stop : Stop) → DrivesAll (rules_of options keys) options.events booted n events stop →
-        IsPrinted (window_of task boots.file) booted.state events stop a c → IsTraced task files known (streams input input a c) stop
-    drive_traced events stop x = task_traced task files known input input a c booted n boots (unread_some a c) events stop (runs_some events stop x)
+    runs_some : (input : Option (List ℕ)) (s t : State) (entries : List Entry) (stop : Stop) → IsAll s entries stop t →
+        Runs (Some options) files input s entries stop t
+    runs_some input s t entries stop h = record { keys = keys; are_keys = are; driven = h.0; drives = h.1; stop_is = h.2 }
 
-    pub drive_failed : (fault : Fault) →
-        IsUnprinted (window_of task boots.file) booted.state (DrivesSome (rules_of options keys) options.events booted n)
-        (DrivesAll (rules_of options keys) options.events booted n) a c fault →
-        IsTraceFault task files known (streams input input a c) fault
-    drive_failed =
-        task_failed task files known input input a c booted n boots (unread_some a c) (DrivesSome (rules_of options keys) options.events booted n)
-        (DrivesAll (rules_of options keys) options.events booted n) begins_some runs_some (early_some Memory tt)
+    begins_some : (input : Option (List ℕ)) (s t : State) (entries : List Entry) → IsSome s entries t →
+        Begins (Some options) files input s entries t
+    begins_some input s t entries h = record { keys = keys; are_keys = are; few = h.few; cursor = h.cursor; chosen_are = h.chosen_are }
 
--- with the keys that were read
-module _ (task : TraceTask) (options : Drive) (files : List ℕ → Option (List ℕ)) (known : Option (List ℕ)) (some : task.drive ≡ Some options)
-    (a c : Option (List ℕ)) (file : List ℕ) (is_file : IfSome known (λ bytes. file ≡ bytes)) (keys : List ℕ) (are : AreKeys options.keys files keys) where
-  pub drive_ok : (r : Result Stop Fault) → IfOk r (PrintsRun task file (DrivesAll (rules_of options keys) options.events) a c) →
-      IfOk r (λ stop. (input : Option (List ℕ)) → IsTraced task files known (streams input input a c) stop)
-  drive_ok (Ok stop) h = λ input.
-      drive_traced task options files known input some a c h.booted h.machine (record { file = file; is_file = is_file; boots = h.boots }) keys are h.events stop
-      h.all h.printed
-  drive_ok (Err fault) h = tt
+    unbooted_some : (e : BootError) → BootsState file (conf_of task.size) (boot_fault file (conf_of task.size)) (Err e) →
+        IsDrivenFault (driven_of task options) known (fault_of_boot e)
+    unbooted_some e h =
+        state_failed (IsDrivenFault (driven_of task options) known) known (conf_of task.size) file e is_file (λ outside. outside)
+        (λ e has. has) tt h
 
-  unbooted_some : (input : Option (List ℕ)) (fault : Fault) → IsUnbooted task file a c fault → IsTraceFault task files known (streams input input a c) fault
-  unbooted_some input fault h =
-      let failed = boot_failed (IsDrivenFault (driven_of task options) known) known (conf_of task.size) file h.error is_file
-      (λ outside. outside) (λ e has. has) tt h.answer in
-      record {
-        is_unread = unread_some task options files known input some a c;
-        why =
-            inl (
-              early_some task options files known input some fault (subst (IsDrivenFault (driven_of task options) known) (sym h.fault_is) failed),
-              h.same,
-            );
-      }
+    pub drive_ok : IfOk r (PrintsRun task file (DrivesAll (rules_of options keys) options.events) a c) →
+        IfOk r (λ stop. (input : Option (List ℕ)) → IsTraced task files known (streams input input a c) stop)
+    drive_ok =
+        IfOk-weaker r (PrintsRun task file IsAll a c) (λ stop. (input : Option (List ℕ)) → IsTraced task files known (streams input input a c) stop)
+        (λ stop h input. task_traced task (Some options) some files known input input a c refl file is_file IsAll (runs_some input) stop h)
 
-  booted_some : (input : Option (List ℕ)) (fault : Fault) →
-      FailsBooted task file (DrivesSome (rules_of options keys) options.events) (DrivesAll (rules_of options keys) options.events) a c fault →
-      IsTraceFault task files known (streams input input a c) fault
-  booted_some input fault h =
-      drive_failed task options files known input some a c h.booted h.machine (record { file = file; is_file = is_file; boots = h.boots }) keys are fault h.fails
-
-  drive_why : (input : Option (List ℕ)) (fault : Fault) →
-      FailsRun task file (DrivesSome (rules_of options keys) options.events) (DrivesAll (rules_of options keys) options.events) a c fault →
-      IsTraceFault task files known (streams input input a c) fault
-  drive_why input fault (inl h) = unbooted_some input fault h
-  drive_why input fault (inr h) = booted_some input fault h
-
-  pub drive_bad : (r : Result Stop Fault) →
-      IfErr r (FailsRun task file (DrivesSome (rules_of options keys) options.events) (DrivesAll (rules_of options keys) options.events) a c) →
-      IfErr r (λ fault. (input : Option (List ℕ)) → IsTraceFault task files known (streams input input a c) fault)
-  drive_bad (Ok stop) h = tt
-  drive_bad (Err fault) h = λ input. drive_why input fault h
+    pub drive_bad : IfErr r (FailsRun task file (DrivesSome (rules_of options keys) options.events) (DrivesAll (rules_of options keys) options.events) a c) →
+        IfErr r (λ fault. (input : Option (List ℕ)) → IsTraceFault task files known (streams input input a c) fault)
+    drive_bad =
+        IfErr-weaker r (FailsRun task file IsSome IsAll a c)
+        (λ fault. (input : Option (List ℕ)) → IsTraceFault task files known (streams input input a c) fault)
+        (λ fault h input. task_failed task (Some options) some files known input input a c refl file is_file IsAll (runs_some input) IsSome
+        (begins_some input) unbooted_some fault h)

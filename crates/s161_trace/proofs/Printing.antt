@@ -1,5 +1,5 @@
-use Rattle.std.proofs.Common.{◌≡◌, ◌∙◌, refl, sym, ap, subst, ℕ, suc, ◌+◌, ◌-◌, ◌≤◌, Bool, true, false, nat_le, nat_lt, List, [], ◌∷◌, ◌++◌, length, take, drop, Option, Ok, append-nil, append_assoc, arith}
-use Rattle.std.proofs.lemmas.List.{length-append, length-map, take-append-le, take_all}
+use Rattle.std.proofs.Common.{◌≡◌, ◌∙◌, refl, sym, ap, subst, ℕ, suc, ◌+◌, ◌-◌, ◌≤◌, Bool, true, false, nat_le, nat_lt, List, [], ◌∷◌, ◌++◌, length, take, drop, Option, Ok, append-nil, append_assoc, inr, arith}
+use Rattle.std.proofs.lemmas.List.{length-append, take-append-le, take_all}
 use Rattle.std.proofs.Math.Seq.{drop-nil, take-append_seam, take-nil}
 use Rattle.std.proofs.lemmas.List.Concat.{flat_map-append}
 use Rattle.std.proofs.lemmas.Bool.{leb-true, ltb-true, leb-false, ltb-false}
@@ -10,10 +10,12 @@ use Rattle.m161_cpu.specs.declared.processor.Outcome.{Outcome}
 use Rattle.m161_machine.specs.declared.event.Entry.{Entry}
 use Rattle.m161_machine.specs.declared.event.Event.{Event}
 use Rattle.m161_machine.specs.State.{State, next}
-use Rattle.m161_machine.specs.History.{Continues, History, Leads, events_of}
+use Rattle.m161_machine.specs.History.{Leads, entry}
+use Rattle.m161_machine.proofs.Leading.{leads_on}
 use Rattle.m161_text.specs.Lines.{text_of, with_line_end}
 use Rattle.m161_trace.specs.Line.{event_line}
 use Rattle.s161_base.specs.declared.fault.Fault.{Fault}
+use Rattle.s161_base.specs.declared.fault.Fault.TheVariants.{Memory}
 use Rattle.s161_base.specs.Streams.{AppendsSome}
 use Rattle.s161_trace.specs.declared.lines.Lines.{Lines}
 use Rattle.s161_trace.specs.declared.window.Window.{Window}
@@ -66,77 +68,65 @@ part : {A : Type 0} (from count k : ℕ) (x : A) (xs : List A) →
 part from count k x xs = part_by (nat_le from k) from count k x xs refl
 
 -- the line of an event, if it has one
-abbrev pub line_of : Window → ℕ → State → Event → Outcome → State → List (List ℕ)
-line_of w number s e o t = if has_line w number then event_line w.style number e s o t ∷ [] else []
+abbrev pub line_of : Window → ℕ → State → Entry → State → List (List ℕ)
+line_of w number s e t = if has_line w number then event_line w.style number e.event s e.outcome t ∷ [] else []
 
 module _ (w : Window) where
   pub no_lines : (number : ℕ) (s : State) → lines_from w number s [] ≡ []
   no_lines number s = take_none (w.count - (number - w.from)) (w.from - number)
 
   -- of the first event, and of those after it
-  pub first_line : (number : ℕ) (s : State) (e : Event) (es : List Event) (o : Outcome) (t : State) → next s e ≡ Ok (o, t) →
-      lines_from w number s (e ∷ es) ≡ line_of w number s e o t ++ lines_from w (number + 1) t es
-  first_line number s e es o t h =
-      ap (λ r. take (w.count - (number - w.from)) (drop (w.from - number) (line_and w.style number s e r (λ u. traced w.style (number + 1) u es)))) h
-      ∙ part w.from w.count number (event_line w.style number e s o t) (traced w.style (number + 1) t es)
+  pub first_line : (number : ℕ) (s : State) (e : Entry) (es : List Entry) (t : State) → next s e.event ≡ Ok (e.outcome, t) →
+      lines_from w number s (e ∷ es) ≡ line_of w number s e t ++ lines_from w (number + 1) t es
+  first_line number s e es t h =
+      ap (λ r. take (w.count - (number - w.from)) (drop (w.from - number) (line_and w.style number s e.event r (λ u. traced w.style (number + 1) u es)))) h
+      ∙ part w.from w.count number (event_line w.style number e.event s e.outcome t) (traced w.style (number + 1) t es)
 
-  pub one_line : (number : ℕ) (s : State) (e : Event) (o : Outcome) (t : State) → next s e ≡ Ok (o, t) →
-      lines_from w number s (e ∷ []) ≡ line_of w number s e o t
-  one_line number s e o t h =
-      first_line number s e [] o t h ∙ ap (λ ls. line_of w number s e o t ++ ls) (no_lines (number + 1) t)
-      ∙ append-nil (line_of w number s e o t)
+  one_line : (number : ℕ) (s : State) (e : Entry) (t : State) → next s e.event ≡ Ok (e.outcome, t) →
+      lines_from w number s (e ∷ []) ≡ line_of w number s e t
+  one_line number s e t h =
+      first_line number s e [] t h ∙ ap (λ ls. line_of w number s e t ++ ls) (no_lines (number + 1) t)
+      ∙ append-nil (line_of w number s e t)
 
   -- of some events, and of those after them
-  pub lines_on : (es : List Entry) (fs : List Event) (number : ℕ) (s t : State) → Leads s es t →
-      lines_from w number s (events_of es ++ fs) ≡ lines_from w number s (events_of es) ++ lines_from w (number + length es) t fs
+  lines_on : (es fs : List Entry) (number : ℕ) (s t : State) → Leads s es t →
+      lines_from w number s (es ++ fs) ≡ lines_from w number s es ++ lines_from w (number + length es) t fs
   lines_on [] fs number s t h =
       let same : number + 0 ≡ number = omega arith in
       ap (λ u. lines_from w number u fs) (sym h)
       ∙ sym (ap (λ n. lines_from w n t fs) same)
       ∙ sym (ap (λ ls. ls ++ lines_from w (number + 0) t fs) (no_lines number s))
   lines_on (e ∷ es) fs number s t h =
-      let one = line_of w number s e.event e.outcome h.0 in
-      let rest = lines_from w (number + 1) h.0 (events_of es) in
+      let one = line_of w number s e h.0 in
+      let rest = lines_from w (number + 1) h.0 es in
       let after : number + 1 + length es ≡ number + suc (length es) = omega arith in
-      first_line number s e.event (events_of es ++ fs) e.outcome h.0 h.1
+      first_line number s e (es ++ fs) h.0 h.1
       ∙ ap (λ ls. one ++ ls) (lines_on es fs (number + 1) h.0 t h.2)
       ∙ sym (append_assoc one rest (lines_from w (number + 1 + length es) t fs))
-      ∙ ap (λ ls. ls ++ lines_from w (number + 1 + length es) t fs) (sym (first_line number s e.event (events_of es) e.outcome h.0 h.1))
-      ∙ ap (λ n. lines_from w number s (events_of (e ∷ es)) ++ lines_from w n t fs) after
+      ∙ ap (λ ls. ls ++ lines_from w (number + 1 + length es) t fs) (sym (first_line number s e es h.0 h.1))
+      ∙ ap (λ n. lines_from w number s (e ∷ es) ++ lines_from w n t fs) after
 
   -- their text
+  pub text_on : (number : ℕ) (s t : State) (es fs : List Entry) → Leads s es t →
+      text_of (lines_from w number s (es ++ fs)) ≡ text_of (lines_from w number s es) ++ text_of (lines_from w (number + length es) t fs)
+  text_on number s t es fs h =
+      ap text_of (lines_on es fs number s t h)
+      ∙ flat_map-append with_line_end (lines_from w number s es) (lines_from w (number + length es) t fs)
+
   pub with_line : (number : ℕ) (s : State) (e : Event) (o : Outcome) (t : State) → has_line w number ≡ true → next s e ≡ Ok (o, t) →
-      text_of (lines_from w number s (e ∷ [])) ≡ with_line_end (event_line w.style number e s o t)
+      text_of (lines_from w number s (entry e o ∷ [])) ≡ with_line_end (event_line w.style number e s o t)
   with_line number s e o t has h =
       let line = event_line w.style number e s o t in
-      ap text_of (one_line number s e o t h)
+      ap text_of (one_line number s (entry e o) t h)
       ∙ ap (λ b. text_of (if b then line ∷ [] else [])) has
       ∙ append-nil (with_line_end line)
 
   pub without_line : (number : ℕ) (s : State) (e : Event) (o : Outcome) (t : State) → has_line w number ≡ false → next s e ≡ Ok (o, t) →
-      text_of (lines_from w number s (e ∷ [])) ≡ []
+      text_of (lines_from w number s (entry e o ∷ [])) ≡ []
   without_line number s e o t has h =
       let line = event_line w.style number e s o t in
-      ap text_of (one_line number s e o t h)
+      ap text_of (one_line number s (entry e o) t h)
       ∙ ap (λ b. text_of (if b then line ∷ [] else [])) has
-
--- events that are accepted one after the other, from one state to another
-abbrev pub Led : State → List Event → State → Type 0
-Led s es t = (entries : List Entry) × (events_of entries ≡ es) × Leads s entries t
-
-pub led : (l : Lines) (m n : History) (es : List Event) → l.tracer ≡ m.state → Continues m es n → Led l.tracer es n.state
-led l m n es same c = (c.entries, c.events_are, subst (λ s. Leads s c.entries n.state) (sym same) c.run_is)
-
-text_on : (w : Window) (number : ℕ) (s t : State) (es fs : List Event) → Led s es t →
-    text_of (lines_from w number s (es ++ fs)) ≡ text_of (lines_from w number s es) ++ text_of (lines_from w (number + length es) t fs)
-text_on w number s t es fs run =
-    let P : List Event → Type 0 = λ xs.
-    text_of (lines_from w number s (xs ++ fs)) ≡ text_of (lines_from w number s xs) ++ text_of (lines_from w (number + length xs) t fs) in
-    let entries = run.0 in
-    subst P run.1
-    (ap text_of (lines_on w entries fs number s t run.2)
-    ∙ flat_map-append with_line_end (lines_from w number s (events_of entries)) (lines_from w (number + length entries) t fs)
-    ∙ ap (λ n. text_of (lines_from w number s (events_of entries)) ++ text_of (lines_from w (number + n) t fs)) (sym (length-map entries _)))
 
 -- bytes that are put out
 
@@ -222,20 +212,33 @@ prints_none l a s same = record {
   window_is = refl;
   number_is = omega arith;
   tracer_is = same;
+  leads = sym same;
   puts =
       subst (λ lines. PutsOut a (string_bytes l.piece) (text_of lines) a (string_bytes l.piece))
       (sym (no_lines l.window l.number l.tracer)) (puts_none a (string_bytes l.piece));
 }
 
-module _ (l k : Lines) (a b c : Option (List ℕ)) (es fs : List Event) (t : State) (run : Led l.tracer es t)
-    (x : Prints l a es t k b) where
+-- one event
+pub one_leads : (s : State) (e : Event) (o : Outcome) (t : State) → next s e ≡ Ok (o, t) → Leads s (entry e o ∷ []) t
+one_leads s e o t h = (t, h, refl)
+
+pub one_fails : (l : Lines) (a : Option (List ℕ)) (e : Event) (o : Outcome) (t : State) → next l.tracer e ≡ Ok (o, t) →
+    FailsToPrint l a (entry e o ∷ []) t a Memory
+one_fails l a e o t h =
+    let text = text_of (lines_from l.window l.number l.tracer (entry e o ∷ [])) in
+    (one_leads l.tracer e o t h, (inr refl, some_none a (string_bytes l.piece ++ text)))
+
+module _ (l k : Lines) (a b c : Option (List ℕ)) (es fs : List Entry) (t : State) (x : Prints l a es t k b) where
   -- those of the later events, in the words of the first
   later : text_of (lines_from l.window l.number l.tracer es) ++ text_of (lines_from k.window k.number k.tracer fs)
       ≡ text_of (lines_from l.window l.number l.tracer (es ++ fs))
   later =
       ap (λ text. text_of (lines_from l.window l.number l.tracer es) ++ text)
       (λ i. text_of (lines_from (x.window_is i) (x.number_is i) (x.tracer_is i) fs))
-      ∙ sym (text_on l.window l.number l.tracer t es fs run)
+      ∙ sym (text_on l.window l.number l.tracer t es fs x.leads)
+
+  leads_then : (u : State) → Leads k.tracer fs u → Leads l.tracer (es ++ fs) u
+  leads_then u h = leads_on es fs l.tracer t u x.leads (subst (λ v. Leads v fs u) x.tracer_is h)
 
   pub prints_on : (j : Lines) (u : State) → Prints k b fs u j c → Prints l a (es ++ fs) u j c
   prints_on j u y = record {
@@ -243,14 +246,18 @@ module _ (l k : Lines) (a b c : Option (List ℕ)) (es fs : List Event) (t : Sta
     number_is =
         let first = x.number_is in let second = y.number_is in omega (arith, first, second, length-append es fs);
     tracer_is = y.tracer_is;
+    leads = leads_then u y.leads;
     puts =
         subst (λ text. PutsOut a (string_bytes l.piece) text c (string_bytes j.piece)) later
         (puts_on a b c (string_bytes l.piece) (string_bytes k.piece) (string_bytes j.piece) _ _ x.puts y.puts);
   }
 
-  pub fails_on : (fault : Fault) → FailsToPrint k b fs c fault → FailsToPrint l a (es ++ fs) c fault
-  fails_on fault y = (
-    y.0,
-    subst (λ text. AppendsSome a c (string_bytes l.piece ++ text)) later
-        (puts_some a b c (string_bytes l.piece) (string_bytes k.piece) _ _ x.puts y.1),
+  pub fails_on : (u : State) (fault : Fault) → FailsToPrint k b fs u c fault → FailsToPrint l a (es ++ fs) u c fault
+  fails_on u fault y = (
+    leads_then u y.0,
+    (
+      y.1.0,
+      subst (λ text. AppendsSome a c (string_bytes l.piece ++ text)) later
+          (puts_some a b c (string_bytes l.piece) (string_bytes k.piece) _ _ x.puts y.1.1),
+    ),
   )

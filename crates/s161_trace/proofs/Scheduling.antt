@@ -1,66 +1,100 @@
-use Rattle.std.proofs.Common.{◌≡◌, ◌∙◌, refl, sym, ap, subst, ℕ, ◌+◌, ◌<◌, ◌≤◌, List, [], ◌∷◌, ◌++◌, length, take, drop, replicate, MatchOption, Option, None, Some, arith}
-use Rattle.std.proofs.lemmas.List.{length-drop, length-replicate, replicate-append-replicate, take-append-le, take-replicate}
+use Rattle.std.proofs.Common.{◌≡◌, ◌∙◌, refl, sym, ap, subst, ℕ, ◌+◌, ◌<◌, ◌≤◌, List, [], ◌∷◌, ◌++◌, length, take, drop, replicate, Option, None, Some, arith}
+use Rattle.std.proofs.lemmas.List.{length-append, length-drop, length-map, length-replicate, map-append, replicate-append-replicate, take-append-le, take-replicate}
 use Rattle.std.proofs.Math.Seq.{take-add}
+use Rattle.m161_machine.specs.declared.event.Entry.{Entry}
 use Rattle.m161_machine.specs.declared.event.Event.{Event}
 use Rattle.m161_machine.specs.declared.event.Refusal.{Refusal}
-use Rattle.m161_machine.specs.State.{next}
-use Rattle.m161_machine.specs.History.{Continues, History, Refuses}
-use Rattle.m161_machine.proofs.Continuing.{repeats_more}
+use Rattle.m161_machine.specs.State.{State}
+use Rattle.m161_machine.specs.History.{Leads, entry, events_of}
 use Rattle.s161_base.specs.declared.fault.Fault.{Fault}
+use Rattle.s161_run.specs.declared.events.Stop.{Stop}
 use Rattle.s161_run.specs.declared.events.Stop.TheVariants.{End, Refused}
-use Rattle.s161_run.specs.Runs.{stop_off}
-use Rattle.s161_run.proofs.Making.{at_most_all, run_made, run_passed, run_refused, run_within, stopped_off, switched}
+use Rattle.s161_run.specs.Runs.{StopsAfter, stop_off}
+use Rattle.s161_run.specs.helpers.Events.{EndsAfter}
+use Rattle.s161_run.proofs.Making.{at_most_all, run_passed, run_refused, run_within, stopped_off, switched}
 use Rattle.s161_trace.specs.declared.lines.Lines.{Lines}
-use Rattle.s161_trace.specs.helpers.Printing.{FailsToPrint, Prints}
+use Rattle.s161_trace.specs.helpers.Printing.{Prints}
 use Rattle.s161_trace.specs.helpers.Scheduled.{FailsAlike, FailsInSchedule, FailsOnce, PrintsSchedule, Turn, TurnsAlike}
-use Rattle.s161_trace.proofs.Printing.{Led, fails_on, led, prints_on}
+use Rattle.s161_trace.proofs.Printing.{fails_on, prints_none, prints_on}
 
 -- The lines of a schedule's events.
 
--- the same event, some times
-module _ (m n : History) (l k : Lines) (a b : Option (List ℕ)) (step : l.tracer ≡ m.state) (made : ℕ) (e : Event)
-    (continues : Continues m (replicate made e) n) (prints : Prints l a (replicate made e) n.state k b) where
-  once_more : replicate made e ++ e ∷ [] ≡ replicate (made + 1) e
-  once_more = replicate-append-replicate made 1 e
+-- entries, and those after them
+events_on : (es fs : List Entry) (xs ys : List Event) → events_of es ≡ xs → events_of fs ≡ ys → events_of (es ++ fs) ≡ xs ++ ys
+events_on es fs xs ys is are = map-append (λ (e : Entry). e.event) es fs ∙ (λ i. is i ++ are i)
 
-  run : Led l.tracer (replicate made e) n.state
-  run = led l m n (replicate made e) step continues
+-- the same event was made so often, and its lines are put out
+pub record Alike
+    (l : Lines) (a : Option (List ℕ)) (e : Event) (made : ℕ) (t : State) (k : Lines) (b : Option (List ℕ)) : Type 0 where
+  pub entries : List Entry
+  pub are_alike : events_of entries ≡ replicate made e
+  pub prints : Prints l a entries t k b
 
-  module _ (n1 : History) (c : Option (List ℕ)) where
-    pub makes_once_more : (k1 : Lines) → Turn n k b e None n1 k1 c → Continues m (replicate (made + 1) e) n1
-    makes_once_more k1 turn = repeats_more m n n1 made e turn.0.0 continues turn.0.1
+pub none_alike : (l : Lines) (a : Option (List ℕ)) (e : Event) (s : State) → l.tracer ≡ s → Alike l a e 0 s l a
+none_alike l a e s step = record { entries = []; are_alike = refl; prints = prints_none l a s step }
 
-    pub prints_once_more : (k1 : Lines) → Turn n k b e None n1 k1 c → Prints l a (replicate (made + 1) e) n1.state k1 c
-    prints_once_more k1 turn =
-        subst (λ es. Prints l a es n1.state k1 c) once_more
-        (prints_on l k a b c (replicate made e) (e ∷ []) n.state run prints k1 n1.state turn.1)
+module _ (l : Lines) (a : Option (List ℕ)) (e : Event) (made : ℕ) (t : State) (k : Lines) (b : Option (List ℕ))
+    (so_far : Alike l a e made t k b) where
+  -- how many lines were numbered
+  pub number_alike : k.number ≡ l.number + made
+  number_alike =
+      let number = so_far.prints.number_is in
+      let long = length-map so_far.entries (λ (x : Entry). x.event) in
+      omega (arith, number, long, ap length so_far.are_alike, length-replicate made e)
 
-    pub fails_once_more : (times : ℕ) (fault : Fault) → made < times → FailsOnce n k b e n1 c fault → FailsAlike m l a e times n1 c fault
-    fails_once_more times fault less turn = record {
-      number = made + 1;
-      few = omega (arith, less);
-      made = repeats_more m n n1 made e turn.0.0 continues turn.0.1;
-      fails =
-          subst (λ es. FailsToPrint l a es c fault) once_more
-          (fails_on l k a b c (replicate made e) (e ∷ []) n.state run prints fault turn.1);
-    }
+  once_more : (es : List Entry) → events_of es ≡ e ∷ [] → events_of (so_far.entries ++ es) ≡ replicate (made + 1) e
+  once_more es is = events_on so_far.entries es (replicate made e) (e ∷ []) so_far.are_alike is ∙ replicate-append-replicate made 1 e
 
-    pub refused_then : (times : ℕ) (refusal : Refusal) (k1 : Lines) → made < times → Turn n k b e (Some refusal) n1 k1 c →
-        TurnsAlike m l a e times (made, Some refusal) n1 k1 c
-    refused_then times refusal k1 less turn =
+  module _ (u : State) (c : Option (List ℕ)) where
+    pub alike_more : (j : Lines) → Turn t k b e None u j c → Alike l a e (made + 1) u j c
+    alike_more j turn =
+        let one = entry e turn.0 ∷ [] in
+        record {
+          entries = so_far.entries ++ one;
+          are_alike = once_more one refl;
+          prints = prints_on l k a b c so_far.entries one t so_far.prints j u turn.1;
+        }
+
+    pub fails_more : (times : ℕ) (fault : Fault) → made < times → FailsOnce k b e u c fault → FailsAlike l a e times u c fault
+    fails_more times fault less turn =
+        let one = entry e turn.0 ∷ [] in
+        record {
+          number = made + 1;
+          few = omega (arith, less);
+          entries = so_far.entries ++ one;
+          are_alike = once_more one refl;
+          fails = fails_on l k a b c so_far.entries one t so_far.prints u fault turn.1;
+        }
+
+    pub refused_then : (times : ℕ) (refusal : Refusal) (j : Lines) → made < times → Turn t k b e (Some refusal) u j c →
+        TurnsAlike l a e times (made, Some refusal) u j c
+    refused_then times refusal j less turn =
         rw (turn.1, turn.2, turn.3) (record {
-          made = continues;
-          prints = prints;
-          why = (less, turn.0);
+          entries = so_far.entries;
+          are_alike = so_far.are_alike;
+          prints = so_far.prints;
+          ends = (less, turn.0);
         })
 
-  pub made_all : (times : ℕ) → made ≡ times → TurnsAlike m l a e times (times, None) n k b
+  pub made_all : (times : ℕ) → made ≡ times → TurnsAlike l a e times (times, None) t k b
   made_all times all =
-      subst (λ i. TurnsAlike m l a e i (i, None) n k b) all (record {
-        made = continues;
-        prints = prints;
-        why = refl;
+      subst (λ i. TurnsAlike l a e i (i, None) t k b) all (record {
+        entries = so_far.entries;
+        are_alike = so_far.are_alike;
+        prints = so_far.prints;
+        ends = refl;
       })
+
+-- the first events of a list are made, and their lines put out
+pub record Made
+    (l : Lines) (a : Option (List ℕ)) (events : List Event) (made : ℕ) (t : State) (k : Lines) (b : Option (List ℕ)) : Type 0 where
+  pub entries : List Entry
+  pub made_is : length entries ≡ made
+  pub are_first : events_of entries ≡ take made events
+  pub prints : Prints l a entries t k b
+
+pub made_none : (l : Lines) (a : Option (List ℕ)) (events : List Event) (s : State) → l.tracer ≡ s → Made l a events 0 s l a
+made_none l a events s step = record { entries = []; made_is = refl; are_first = refl; prints = prints_none l a s step }
 
 -- some of the first events of a list, which are the same one
 taken_alike : (rest after : List Event) (e : Event) (times more : ℕ) → rest ≡ replicate times e ++ after → more ≤ times →
@@ -69,85 +103,92 @@ taken_alike rest after e times more same few =
     let long : more ≤ length (replicate times e) = omega (arith, length-replicate times e, few) in
     ap (take more) same ∙ take-append-le more (replicate times e) after long ∙ take-replicate more times e few
 
--- more of a list's events, which are the same one
-module _ (m n : History) (l k : Lines) (a b : Option (List ℕ)) (step : l.tracer ≡ m.state)
-    (events rest after : List Event) (made times : ℕ) (e : Event) (is : rest ≡ drop made events)
-    (same : rest ≡ replicate times e ++ after) (continues : Continues m (take made events) n)
-    (prints : Prints l a (take made events) n.state k b) (n1 : History) (c : Option (List ℕ)) where
-  so_many : (more : ℕ) → more ≤ times → take made events ++ replicate more e ≡ take (made + more) events
-  so_many more few =
-      ap (λ es. take made events ++ es) (sym (taken_alike rest after e times more same few) ∙ ap (take more) is)
-      ∙ sym (take-add made more events)
+module _ (s : State) (l : Lines) (a : Option (List ℕ)) (step : l.tracer ≡ s) (events : List Event) where
+  from_start : (es : List Entry) (t : State) → Leads l.tracer es t → Leads s es t
+  from_start es t h = subst (λ u. Leads u es t) step h
 
-  run_so_far : Led l.tracer (take made events) n.state
-  run_so_far = led l m n (take made events) step continues
+  first_of : (es : List Entry) (made : ℕ) → length es ≡ made → events_of es ≡ take made events → events_of es ≡ take (length es) events
+  first_of es made long are = are ∙ ap (λ n. take n events) (sym long)
 
-  pub fails_then : (fault : Fault) → FailsAlike n k b e times n1 c fault → FailsInSchedule m l a events n1 c fault
-  fails_then fault x = record {
-    number = made + x.number;
-    made = run_made m n n1 events rest after made x.number times e is same x.few continues x.made;
-    fails =
-        subst (λ es. FailsToPrint l a es c fault) (so_many x.number x.few)
-        (fails_on l k a b c (take made events) (replicate x.number e) n.state run_so_far prints fault x.fails);
+  -- no event more
+  stops_here : (made : ℕ) (t : State) (k : Lines) (b : Option (List ℕ)) (so_far : Made l a events made t k b) (stop : Stop) →
+      StopsAfter s events (length so_far.entries) stop t → PrintsSchedule s l a events stop t k b
+  stops_here made t k b so_far stop why = record {
+    entries = so_far.entries;
+    makes = record {
+      leads = from_start so_far.entries t so_far.prints.leads;
+      are_first = first_of so_far.entries made so_far.made_is so_far.are_first;
+      why = why;
+    };
+    prints = so_far.prints;
   }
 
-  module _ (given : ℕ × Option Refusal) (k1 : Lines) (x : TurnsAlike n k b e times given n1 k1 c) where
-    most : given.0 ≤ times
-    most = at_most_all times given.0 given.1 (λ r. Refuses (next n1.state e) e r) x.why
+  -- more of the events, which are the same one
+  module _ (made : ℕ) (t : State) (k : Lines) (b : Option (List ℕ)) (so_far : Made l a events made t k b) (rest after : List Event)
+      (times : ℕ) (e : Event) (is : rest ≡ drop made events) (same : rest ≡ replicate times e ++ after) (u : State) (c : Option (List ℕ)) where
+    are_then : (more : ℕ) (es : List Entry) → more ≤ times → events_of es ≡ replicate more e →
+        events_of (so_far.entries ++ es) ≡ take (made + more) events
+    are_then more es few alike =
+        events_on so_far.entries es (take made events) (replicate more e) so_far.are_first alike
+        ∙ ap (λ xs. take made events ++ xs) (sym (taken_alike rest after e times more same few) ∙ ap (take more) is)
+        ∙ sym (take-add made more events)
 
-    pub first_then : Continues m (take (made + given.0) events) n1
-    first_then = run_made m n n1 events rest after made given.0 times e is same most continues x.made
+    long_then : (more : ℕ) (es : List Entry) → events_of es ≡ replicate more e → length (so_far.entries ++ es) ≡ made + more
+    long_then more es alike =
+        let before = so_far.made_is in
+        let long = length-map es (λ (x : Entry). x.event) in
+        omega (arith, before, long, ap length alike, length-replicate more e, length-append so_far.entries es)
 
-    pub prints_then : Prints l a (take (made + given.0) events) n1.state k1 c
-    prints_then =
-        subst (λ es. Prints l a es n1.state k1 c) (so_many given.0 most)
-        (prints_on l k a b c (take made events) (replicate given.0 e) n.state run_so_far prints k1 n1.state x.prints)
-
-    pub off_then : n.state.board.off ≡ m.state.board.off → ¬ (n1.state.board.off ≡ m.state.board.off) →
-        PrintsSchedule m l a events (stop_off n1.state.conflict) n1 k1 c
-    off_then stays other = record {
-      makes = record {
-        made = made + given.0;
-        first = first_then;
-        why =
-            stopped_off m n1 events (made + given.0) n1.state.conflict refl
-            (switched m.state.board.off n n1 (replicate given.0 e) stays other x.made);
-      };
-      prints = prints_then;
-    }
-
-    pub refused_at : (refusal : Refusal) → given.1 ≡ Some refusal → n1.state.board.off ≡ m.state.board.off →
-        PrintsSchedule m l a events (Refused (made + given.0) refusal) n1 k1 c
-    refused_at refusal some stays =
-        let why = subst (λ r. MatchOption r (given.0 ≡ times) (λ r. (given.0 < times) × Refuses (next n1.state e) e r)) some x.why in
+    pub fails_then : (fault : Fault) → FailsAlike k b e times u c fault → FailsInSchedule s l a events u c fault
+    fails_then fault x =
+        let all = so_far.entries ++ x.entries in
+        let fails = fails_on l k a b c so_far.entries x.entries t so_far.prints u fault x.fails in
         record {
-          makes = record {
-            made = made + given.0;
-            first = first_then;
-            why = (stays, refl, run_refused events rest after made given.0 times e n1.state refusal is same why.0 why.1);
-          };
-          prints = prints_then;
+          entries = all;
+          some = (
+            first_of all (made + x.number) (long_then x.number x.entries x.are_alike) (are_then x.number x.entries x.few x.are_alike),
+            from_start all u fails.0,
+          );
+          fails = fails;
         }
 
-    pub within_then : made ≤ length events → given.0 ≡ times → made + given.0 ≤ length events
-    within_then within all = rw all (run_within events rest after made times e within is same)
+    module _ (given : ℕ × Option Refusal) (j : Lines) (x : TurnsAlike k b e times given u j c) where
+      most : given.0 ≤ times
+      most = at_most_all e times u given.0 given.1 x.ends
 
-    pub passed_then : given.0 ≡ times → after ≡ drop (made + given.0) events
-    passed_then all = rw all (run_passed events rest after made times e is same)
+      pub made_then : Made l a events (made + given.0) u j c
+      made_then = record {
+        entries = so_far.entries ++ x.entries;
+        made_is = long_then given.0 x.entries x.are_alike;
+        are_first = are_then given.0 x.entries most x.are_alike;
+        prints = prints_on l k a b c so_far.entries x.entries t so_far.prints j u x.prints;
+      }
 
--- no event more
-pub ended_then : (m n : History) (l k : Lines) (a b : Option (List ℕ)) (events rest : List Event) (made : ℕ) → rest ≡ drop made events →
-    rest ≡ [] → made ≤ length events → n.state.board.off ≡ m.state.board.off → Continues m (take made events) n →
-    Prints l a (take made events) n.state k b → PrintsSchedule m l a events End n k b
-ended_then m n l k a b events rest made is none within stays continues prints = record {
-  makes = record {
-    made = made;
-    first = continues;
-    why = (
-      stays,
-      (let long = ap length is in let empty = ap length none in
-          omega (arith, within, long, empty, length-drop made events)),
-    );
-  };
-  prints = prints;
-}
+      pub off_then : ¬ (u.board.off ≡ s.board.off) → PrintsSchedule s l a events (stop_off u.conflict) u j c
+      off_then other =
+          let all = made_then.entries in
+          stops_here (made + given.0) u j c made_then (stop_off u.conflict)
+          (stopped_off s u events (length all) u.conflict refl
+          (switched s.board.off s u all refl other (from_start all u made_then.prints.leads)))
+
+      pub refused_at : (refusal : Refusal) → given.1 ≡ Some refusal → u.board.off ≡ s.board.off →
+          PrintsSchedule s l a events (Refused (made + given.0) refusal) u j c
+      refused_at refusal some stays =
+          let ends = subst (λ r. EndsAfter e times u given.0 r) some x.ends in
+          stops_here (made + given.0) u j c made_then (Refused (made + given.0) refusal)
+          (stays, made_then.made_is, run_refused events rest after made given.0 times e u refusal is same ends.0 ends.1)
+
+      pub within_then : made ≤ length events → given.0 ≡ times → made + given.0 ≤ length events
+      within_then within all = rw all (run_within events rest after made times e within is same)
+
+      pub passed_then : given.0 ≡ times → after ≡ drop (made + given.0) events
+      passed_then all = rw all (run_passed events rest after made times e is same)
+
+  -- none is left
+  pub ended_then : (made : ℕ) (t : State) (k : Lines) (b : Option (List ℕ)) (so_far : Made l a events made t k b) (rest : List Event) →
+      rest ≡ drop made events → rest ≡ [] → made ≤ length events → t.board.off ≡ s.board.off → PrintsSchedule s l a events End t k b
+  ended_then made t k b so_far rest is none within stays =
+      let long = ap length is in
+      let empty = ap length none in
+      let all = so_far.made_is in
+      stops_here made t k b so_far End (stays, omega (arith, within, long, empty, all, length-drop made events))

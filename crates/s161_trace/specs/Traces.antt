@@ -1,10 +1,11 @@
-use Rattle.std.specs.Prelude.{◌≡◌, ◌⊎◌, ℕ, ◌+◌, ◌≤◌, List, [], ◌∷◌, ◌++◌, take, drop, length, Option, None, Some, IfSome, Result, Ok, Err}
+use Rattle.std.specs.Prelude.{◌≡◌, ◌⊎◌, ℕ, ◌+◌, ◌≤◌, List, [], ◌∷◌, ◌++◌, take, drop, length, slice_get, Option, None, Some, IfSome, Result, Ok, Err}
 use Rattle.std.specs.Io.KnownBytes.{Appends}
 use Rattle.m161_cpu.specs.declared.processor.Outcome.{Outcome}
+use Rattle.m161_machine.specs.declared.event.Entry.{Entry}
 use Rattle.m161_machine.specs.declared.event.Event.{Event}
 use Rattle.m161_machine.specs.declared.event.Refusal.{Refusal}
 use Rattle.m161_machine.specs.State.{State, next}
-use Rattle.m161_machine.specs.History.{Continues, History}
+use Rattle.m161_machine.specs.History.{Leads, events_of}
 use Rattle.m161_dis.specs.declared.naming.Style.{Style}
 use Rattle.m161_drive.specs.declared.cursor.Cursor.{Cursor}
 use Rattle.m161_drive.specs.declared.run.Driven.{Driven}
@@ -15,7 +16,7 @@ use Rattle.m161_text.specs.Lines.{lines_of, text_of, with_line_end}
 use Rattle.m161_trace.specs.Line.{event_line}
 use Rattle.s161_base.specs.declared.fault.Fault.{Fault}
 use Rattle.s161_base.specs.declared.fault.Fault.TheVariants.{Memory, Output}
-use Rattle.s161_base.specs.Faults.{BootsTo}
+use Rattle.s161_base.specs.Faults.{BootsIn}
 use Rattle.s161_base.specs.Known.{OfText}
 use Rattle.s161_base.specs.Naming.{style_of}
 use Rattle.s161_base.specs.Sizes.{conf_of}
@@ -39,89 +40,86 @@ line_and style number s e (Err refusal) rest = []
 line_and style number s e (Ok given) rest =
     event_line style number e s given.0 given.1 ∷ rest given.1
 
--- the lines of events from a state on, the first of which has this number
-abbrev pub traced : Style → ℕ → State → List Event → List (List ℕ)
+-- the lines of the events of these entries, from a state on; the first of them has this number
+abbrev pub traced : Style → ℕ → State → List Entry → List (List ℕ)
 traced style number s [] = []
 traced style number s (e ∷ es) =
-    line_and style number s e (next s e) (λ t. traced style (number + 1) t es)
+    line_and style number s e.event (next s e.event) (λ t. traced style (number + 1) t es)
 
 -- those that the task asks for, over this file of its image
-abbrev pub shown_lines : TraceTask → List ℕ → State → List Event → List (List ℕ)
-shown_lines task file s events =
+abbrev pub shown_lines : TraceTask → List ℕ → State → List Entry → List (List ℕ)
+shown_lines task file s entries =
     take task.count
-    (drop task.from (traced (style_of task.registers task.symbols task.image.now file) 0 s events))
+    (drop task.from (traced (style_of task.registers task.symbols task.image.now file) 0 s entries))
 
--- their text, of a run that made these events
-abbrev pub lines_text : TraceTask → List ℕ → State → List Event → List ℕ
-lines_text task file s events = text_of (shown_lines task file s events)
+-- their text, of a run from a state on that has these entries
+abbrev pub lines_text : TraceTask → List ℕ → State → List Entry → List ℕ
+lines_text task file s entries = text_of (shown_lines task file s entries)
 
 -- all that is printed of a run that stopped
-abbrev pub trace_text : TraceTask → List ℕ → State → List Event → Stop → List ℕ
-trace_text task file s events stop =
-    lines_text task file s events ++ with_line_end (stop_line stop)
+abbrev pub trace_text : TraceTask → List ℕ → State → List Entry → Stop → List ℕ
+trace_text task file s entries stop =
+    lines_text task file s entries ++ with_line_end (stop_line stop)
 
--- the first events of a schedule, which is all of an input, are made of a machine, and leave n: so
--- many as are made before it is off or one is refused
+-- from a state the first events of a schedule, which is all of an input, are made: so many as are
+-- made before the machine is off or one is refused. These are their entries, and they lead to
+-- another state
 pub record RunsSchedule
-    (input : Option (List ℕ)) (m : History) (events : List Event) (stop : Stop) (n : History)
+    (input : Option (List ℕ)) (s : State) (entries : List Entry) (stop : Stop) (t : State)
     : Type 0 where
   pub scheduled : List Event
   pub is_schedule : OfText input (λ text. IsSchedule (lines_of text) scheduled)
-  pub makes : MakesEvents m scheduled stop n
-  pub events_are : events ≡ take makes.made scheduled
+  pub makes : MakesEvents s scheduled stop entries t
 
--- the events that a policy chooses, with the keys of a file, are made of a machine, and leave n
+-- from a state the events that a policy chooses, with the keys of a file, are made
 pub record RunsDriven
-    (options : Drive) (files : List ℕ → Option (List ℕ)) (m : History) (events : List Event)
-    (stop : Stop) (n : History) : Type 0 where
+    (options : Drive) (files : List ℕ → Option (List ℕ)) (s : State) (entries : List Entry)
+    (stop : Stop) (t : State) : Type 0 where
   pub keys : List ℕ
   pub are_keys : AreKeys options.keys files keys
   pub driven : Driven
-  pub drives : Drives (rules_of options keys) options.events m driven n
-  pub events_are : events ≡ drives.events
-  pub stop_is : stop ≡ stop_of driven n
+  pub drives : Drives (rules_of options keys) options.events s driven entries t
+  pub stop_is : stop ≡ stop_of driven t
 
 -- a whole run: without a drive by the schedule that the input holds
 abbrev pub Runs :
-    Option Drive → (List ℕ → Option (List ℕ)) → Option (List ℕ) → History → List Event → Stop →
-    History → Type 0
-Runs None files input m events stop n = RunsSchedule input m events stop n
-Runs (Some drive) files input m events stop n = RunsDriven drive files m events stop n
+    Option Drive → (List ℕ → Option (List ℕ)) → Option (List ℕ) → State → List Entry → Stop →
+    State → Type 0
+Runs None files input s entries stop t = RunsSchedule input s entries stop t
+Runs (Some drive) files input s entries stop t = RunsDriven drive files s entries stop t
 
 -- such a run so far, whether or not more events come: the first of a schedule's
 pub record BeginsSchedule
-    (input : Option (List ℕ)) (m : History) (events : List Event) (n : History) : Type 0 where
+    (input : Option (List ℕ)) (s : State) (entries : List Entry) (t : State) : Type 0 where
   pub scheduled : List Event
   pub is_schedule : OfText input (λ text. IsSchedule (lines_of text) scheduled)
-  pub made : ℕ
-  pub events_are : events ≡ take made scheduled
-  pub continues : Continues m events n
+  pub are_first : events_of entries ≡ take (length entries) scheduled
+  pub leads : Leads s entries t
 
 -- or those that the policy chooses, one after the other
 pub record BeginsDriven
-    (options : Drive) (files : List ℕ → Option (List ℕ)) (m : History) (events : List Event)
-    (n : History) : Type 0 where
+    (options : Drive) (files : List ℕ → Option (List ℕ)) (s : State) (entries : List Entry)
+    (t : State) : Type 0 where
   pub keys : List ℕ
   pub are_keys : AreKeys options.keys files keys
-  pub few : length events ≤ options.events
+  pub few : length entries ≤ options.events
   pub cursor : Cursor
   pub chosen_are :
-      Chooses (rules_of options keys) (cursor_at (rules_of options keys) m.state) m.state events
-      cursor n.state
-  pub continues : Continues m events n
+      Chooses (rules_of options keys) (slice_get keys) (cursor_at (rules_of options keys) s) s
+      entries cursor t
 
 abbrev pub Begins :
-    Option Drive → (List ℕ → Option (List ℕ)) → Option (List ℕ) → History → List Event →
-    History → Type 0
-Begins None files input m events n = BeginsSchedule input m events n
-Begins (Some drive) files input m events n = BeginsDriven drive files m events n
+    Option Drive → (List ℕ → Option (List ℕ)) → Option (List ℕ) → State → List Entry → State →
+    Type 0
+Begins None files input s entries t = BeginsSchedule input s entries t
+Begins (Some drive) files input s entries t = BeginsDriven drive files s entries t
 
 -- the task's image is booted; its file has these bytes, as far as they are known
 pub record BootsFor
-    (task : TraceTask) (known : Option (List ℕ)) (booted : History) : Type 0 where
+    (task : TraceTask) (known : Option (List ℕ)) (booted : State) : Type 0 where
   pub file : List ℕ
   pub is_file : IfSome known (λ bytes. file ≡ bytes)
-  pub boots : BootsTo file (conf_of task.size) booted
+  pub boots : BootsIn file (conf_of task.size) booted
 
 -- with an order the input isn't read
 abbrev pub IsUnread : Option Drive → Streams → Type 0
@@ -132,13 +130,13 @@ IsUnread (Some drive) x = x.left ≡ x.input
 pub record IsTraced
     (task : TraceTask) (files : List ℕ → Option (List ℕ)) (known : Option (List ℕ)) (x : Streams)
     (stop : Stop) : Type 0 where
-  pub booted : History
+  pub booted : State
   pub boots : BootsFor task known booted
-  pub events : List Event
-  pub machine : History
-  pub runs : Runs task.drive files x.input booted events stop machine
+  pub entries : List Entry
+  pub state : State
+  pub runs : Runs task.drive files x.input booted entries stop state
   pub is_unread : IsUnread task.drive x
-  pub written : Appends x.before x.after (trace_text task boots.file booted.state events stop)
+  pub written : Appends x.before x.after (trace_text task boots.file booted entries stop)
 
 -- the run of a task, as `run` is asked for it
 abbrev pub run_of : TraceTask → RunTask
@@ -159,15 +157,15 @@ pub record FailsInRun
     (task : TraceTask) (files : List ℕ → Option (List ℕ)) (known : Option (List ℕ)) (x : Streams)
     (fault : Fault) : Type 0 where
   pub is_fault : (fault ≡ Output) ⊎ (fault ≡ Memory)
-  pub booted : History
+  pub booted : State
   pub boots : BootsFor task known booted
-  pub events : List Event
-  pub machine : History
+  pub entries : List Entry
+  pub state : State
   pub some_written :
-      (Begins task.drive files x.input booted events machine
-      × AppendsSome x.before x.after (lines_text task boots.file booted.state events))
-      ⊎ ((stop : Stop) × Runs task.drive files x.input booted events stop machine
-      × AppendsSome x.before x.after (trace_text task boots.file booted.state events stop))
+      (Begins task.drive files x.input booted entries state
+      × AppendsSome x.before x.after (lines_text task boots.file booted entries))
+      ⊎ ((stop : Stop) × Runs task.drive files x.input booted entries stop state
+      × AppendsSome x.before x.after (trace_text task boots.file booted entries stop))
 
 -- a fault that ends the task: before the run, and nothing was written; or in the run
 pub record IsTraceFault

@@ -2,11 +2,9 @@
 
 ghost use Rattle.std.specs.Prelude.{◌≡◌, ◌<◌, ◌-◌, ◌^◌, None, IfErr, IfOk};
 ghost use Rattle.m161_order.specs.Order.{order_fault};
-ghost use Rattle.m161_drive.specs.declared.run.Driven.{Driven};
-ghost use Rattle.m161_drive.specs.Drive.{Drives};
-ghost use Rattle.s161_run.specs.Driven.{rules_of, stop_of};
-ghost use Rattle.s161_trace.specs.helpers.Driven.{DrivesAll, DrivesSome, FailsInDrive, FailsOnce, PrintsDrive, Turn, last_stop};
-ghost use Rattle.s161_trace.specs.helpers.Printing.{IsPrinted, IsUnprinted};
+ghost use Rattle.s161_run.specs.Driven.{rules_of};
+ghost use Rattle.s161_trace.specs.helpers.Driven.{DrivesAll, DrivesSome, FailsInDrive, FailsOnce, PrintsDrive, Turn};
+ghost use Rattle.s161_trace.specs.helpers.Printing.{FailsToPrintAll, PrintsAll};
 
 use crate::lines::Lines;
 use crate::window::Window;
@@ -29,35 +27,25 @@ fn trace_once<'a, O: Write>(
 ) -> Result<Option<Stop>, Fault<'a>>
     requires step { lines.old.tracer ≡ machine.old.state }
     requires few { lines.old.number < 2 ^ 64 - 1 }
-    ensures ok { IfOk result (λ stop. Turn policy.now cursor.old machine.old lines.old
-        (O.contents output.old) stop cursor.new machine.new lines.new (O.contents output.new)) }
-    ensures err { IfErr result (FailsOnce policy.now cursor.old machine.old lines.old
-        (O.contents output.old) cursor.new machine.new (O.contents output.new)) }
+    ensures ok { IfOk result (λ stop. Turn policy.now cursor.old machine.old.state lines.old
+        (O.contents output.old) stop cursor.new machine.new.state lines.new
+        (O.contents output.new)) }
+    ensures err { IfErr result (FailsOnce policy.now cursor.old machine.old.state lines.old
+        (O.contents output.old) cursor.new machine.new.state (O.contents output.new)) }
 {
     if machine.is_off() {
         return Ok(Some(Stop::Off));
     }
-    let Some(event) = cursor.choose(policy, machine) else {
+    let Some(event) = cursor.choose(policy, machine.core()) else {
         return Ok(Some(Stop::Stuck));
     };
     match machine.event(event) {
         Ok(outcome) => {
-            cursor.took(event, machine);
+            cursor.took(event, machine.core());
             lines.add(machine, event, outcome, output)?;
             Ok(None)
         }
         Err(refusal) => Ok(Some(Stop::Refused(refusal))),
-    }
-}
-
-// Why a run stops of which all events were made that were asked for.
-fn last_stop(machine: &Machine) -> Stop
-    ensures { result ≡ last_stop machine.now.state }
-{
-    if machine.is_off() {
-        Stop::Off
-    } else {
-        Stop::End
     }
 }
 
@@ -71,23 +59,24 @@ fn trace_policy<'a, O: Write>(
 ) -> Result<Driven, Fault<'a>>
     requires step { lines.old.tracer ≡ machine.old.state }
     requires first { lines.old.number ≡ 0 }
-    ensures ok { IfOk result (λ driven. PrintsDrive policy.now most machine.old lines.old
-        (O.contents output.old) driven machine.new lines.new (O.contents output.new)) }
-    ensures err { IfErr result (FailsInDrive policy.now most machine.old lines.old
-        (O.contents output.old) machine.new (O.contents output.new)) }
+    ensures ok { IfOk result (λ driven. PrintsDrive policy.now most machine.old.state lines.old
+        (O.contents output.old) driven machine.new.state lines.new (O.contents output.new)) }
+    ensures err { IfErr result (FailsInDrive policy.now most machine.old.state lines.old
+        (O.contents output.old) machine.new.state (O.contents output.new)) }
 {
-    let mut cursor = Cursor::new(policy, machine);
-    machine.replay();
+    let mut cursor = Cursor::new(policy, machine.core());
     for made in 0..most {
         let stop = trace_once(machine, policy, &mut cursor, lines, output)?;
         if let Some(stop) = stop {
             return Ok(Driven { made, stop });
         }
     }
-    Ok(Driven {
-        made: most,
-        stop: last_stop(machine),
-    })
+    let stop = if machine.is_off() {
+        Stop::Off
+    } else {
+        Stop::End
+    };
+    Ok(Driven { made: most, stop })
 }
 
 // Makes the events that the options' policy chooses, with these keys, and puts out their lines.
@@ -102,10 +91,11 @@ fn trace_drive<'a, O: Write>(
     requires step { lines.old.tracer ≡ machine.old.state }
     requires first { lines.old.number ≡ 0 }
     ensures ok { IfOk result (λ driven. PrintsDrive (rules_of options.entry keys.now)
-        options.entry.events machine.old lines.old (O.contents output.old) driven machine.new lines.new
-        (O.contents output.new)) }
+        options.entry.events machine.old.state lines.old (O.contents output.old) driven
+        machine.new.state lines.new (O.contents output.new)) }
     ensures err { IfErr result (FailsInDrive (rules_of options.entry keys.now) options.entry.events
-        machine.old lines.old (O.contents output.old) machine.new (O.contents output.new)) }
+        machine.old.state lines.old (O.contents output.old) machine.new.state
+        (O.contents output.new)) }
 {
     let Ok(policy) = Policy::new(options.order, options.transfer, options.gap, keys) else {
         unreachable!()
@@ -127,19 +117,17 @@ pub(crate) fn print_drive<'a, O: Write>(
     output: &mut O,
 ) -> Result<Told, Fault<'a>>
     requires { order_fault options.order ≡ None }
-    ensures ok { IfOk result (λ stop. (driven : Driven) × (stop ≡ stop_of driven machine.new)
-        × (drives : Drives (rules_of options.entry keys.now) options.entry.events machine.old driven
-        machine.new)
-        × IsPrinted window machine.old.state drives.events stop (O.contents output.old)
-        (O.contents output.new)) }
-    ensures err { IfErr result (IsUnprinted window machine.old.state
-        (DrivesSome (rules_of options.entry keys.now) options.entry.events machine.old machine.new)
-        (DrivesAll (rules_of options.entry keys.now) options.entry.events machine.old machine.new)
+    ensures ok { IfOk result (PrintsAll window machine.old.state
+        (DrivesAll (rules_of options.entry keys.now) options.entry.events) machine.new.state
+        (O.contents output.old) (O.contents output.new)) }
+    ensures err { IfErr result (FailsToPrintAll window machine.old.state
+        (DrivesSome (rules_of options.entry keys.now) options.entry.events)
+        (DrivesAll (rules_of options.entry keys.now) options.entry.events) machine.new.state
         (O.contents output.old) (O.contents output.new)) }
 {
     let mut lines = Lines::new(alloc, machine, window)?;
     let driven = trace_drive(machine, options, keys, &mut lines, output)?;
-    let stop = stop_of(driven, machine);
+    let stop = stop_of(driven, machine.core());
     lines.finish(alloc, stop, output)?;
     Ok(stop)
 }

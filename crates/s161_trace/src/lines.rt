@@ -2,6 +2,7 @@
 
 ghost use Rattle.std.specs.Prelude.{◌≡◌, ◌+◌, ◌++◌, ◌<◌, ◌^◌, ◌-◌, ◌∷◌, [], IfErr, IfOk, OnOk, Ok, string_bytes, true};
 ghost use Rattle.std.specs.Io.KnownBytes.{Appends};
+ghost use Rattle.m161_machine.specs.History.{entry};
 ghost use Rattle.m161_machine.specs.State.{State, next};
 ghost use Rattle.m161_text.specs.Lines.{with_line_end};
 ghost use Rattle.m161_trace.specs.Line.{event_line};
@@ -160,10 +161,10 @@ impl Lines {
         requires has { has_line self.old.window self.old.number ≡ true }
         requires accepted { next self.old.tracer event ≡ Ok (outcome, machine.now.state) }
         requires few { self.old.number < 2 ^ 64 - 1 }
-        ensures ok { OnOk result (Prints self.old (O.contents output.old) (event ∷ [])
-            machine.now.state self.new (O.contents output.new)) }
-        ensures err { IfErr result (FailsToPrint self.old (O.contents output.old) (event ∷ [])
-            (O.contents output.new)) }
+        ensures ok { OnOk result (Prints self.old (O.contents output.old)
+            (entry event outcome ∷ []) machine.now.state self.new (O.contents output.new)) }
+        ensures err { IfErr result (FailsToPrint self.old (O.contents output.old)
+            (entry event outcome ∷ []) machine.now.state (O.contents output.new)) }
     {
         self.write(machine, event, outcome)?;
         self.put(output)?;
@@ -180,10 +181,10 @@ impl Lines {
     ) -> Result<(), Fault<'a>>
         requires accepted { next self.old.tracer event ≡ Ok (outcome, machine.now.state) }
         requires few { self.old.number < 2 ^ 64 - 1 }
-        ensures ok { OnOk result (Prints self.old (O.contents output.old) (event ∷ [])
-            machine.now.state self.new (O.contents output.new)) }
-        ensures err { IfErr result (FailsToPrint self.old (O.contents output.old) (event ∷ [])
-            (O.contents output.new)) }
+        ensures ok { OnOk result (Prints self.old (O.contents output.old)
+            (entry event outcome ∷ []) machine.now.state self.new (O.contents output.new)) }
+        ensures err { IfErr result (FailsToPrint self.old (O.contents output.old)
+            (entry event outcome ∷ []) machine.now.state (O.contents output.new)) }
     {
         if self.window.has(self.number) {
             return self.add_line(machine, event, outcome, output);

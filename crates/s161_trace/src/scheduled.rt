@@ -1,8 +1,7 @@
 //! Printing the lines of a run by a schedule.
 
-ghost use Rattle.std.specs.Prelude.{◌≡◌, ◌<◌, ◌≤◌, ◌+◌, ◌-◌, ◌^◌, IfErr, IfOk, take};
-ghost use Rattle.s161_run.specs.Runs.{MakesEvents};
-ghost use Rattle.s161_trace.specs.helpers.Printing.{IsPrinted, IsUnprinted};
+ghost use Rattle.std.specs.Prelude.{◌≡◌, ◌<◌, ◌+◌, ◌-◌, ◌^◌, IfErr, IfOk};
+ghost use Rattle.s161_trace.specs.helpers.Printing.{FailsToPrintAll, PrintsAll};
 ghost use Rattle.s161_trace.specs.helpers.Scheduled.{FailsAlike, FailsInSchedule, FailsOnce, MakesAll, MakesSome, PrintsSchedule, Turn, TurnsAlike};
 
 use crate::lines::Lines;
@@ -23,10 +22,10 @@ fn trace_event<'a, O: Write>(
 ) -> Result<Option<Refusal>, Fault<'a>>
     requires step { lines.old.tracer ≡ machine.old.state }
     requires few { lines.old.number < 2 ^ 64 - 1 }
-    ensures ok { IfOk result (λ refusal. Turn machine.old lines.old (O.contents output.old) event
-        refusal machine.new lines.new (O.contents output.new)) }
-    ensures err { IfErr result (FailsOnce machine.old lines.old (O.contents output.old) event
-        machine.new (O.contents output.new)) }
+    ensures ok { IfOk result (λ refusal. Turn machine.old.state lines.old (O.contents output.old)
+        event refusal machine.new.state lines.new (O.contents output.new)) }
+    ensures err { IfErr result (FailsOnce lines.old (O.contents output.old) event machine.new.state
+        (O.contents output.new)) }
 {
     match machine.event(event) {
         Ok(outcome) => {
@@ -48,13 +47,11 @@ fn trace_alike<'a, O: Write>(
 ) -> Result<(u32, Option<Refusal>), Fault<'a>>
     requires step { lines.old.tracer ≡ machine.old.state }
     requires few { lines.old.number + times < 2 ^ 64 }
-    ensures ok { IfOk result (λ given. TurnsAlike machine.old lines.old (O.contents output.old) event times
-        given machine.new lines.new (O.contents output.new)) }
-    ensures err { IfErr result (FailsAlike machine.old lines.old (O.contents output.old) event times
-        machine.new (O.contents output.new)) }
+    ensures ok { IfOk result (λ given. TurnsAlike lines.old (O.contents output.old) event times given
+        machine.new.state lines.new (O.contents output.new)) }
+    ensures err { IfErr result (FailsAlike lines.old (O.contents output.old) event times
+        machine.new.state (O.contents output.new)) }
 {
-    // So that the proof knows that the log is within its room.
-    machine.replay();
     for made in 0..times {
         let refusal = trace_event(machine, event, lines, output)?;
         if let Some(refusal) = refusal {
@@ -73,13 +70,12 @@ fn trace_events<'a, O: Write>(
 ) -> Result<Stop, Fault<'a>>
     requires step { lines.old.tracer ≡ machine.old.state }
     requires first { lines.old.number ≡ 0 }
-    ensures ok { IfOk result (λ stop. PrintsSchedule machine.old lines.old (O.contents output.old)
-        events.now stop machine.new lines.new (O.contents output.new)) }
-    ensures err { IfErr result (FailsInSchedule machine.old lines.old (O.contents output.old)
-        events.now machine.new (O.contents output.new)) }
+    ensures ok { IfOk result (λ stop. PrintsSchedule machine.old.state lines.old
+        (O.contents output.old) events.now stop machine.new.state lines.new
+        (O.contents output.new)) }
+    ensures err { IfErr result (FailsInSchedule machine.old.state lines.old
+        (O.contents output.old) events.now machine.new.state (O.contents output.new)) }
 {
-    // So that the proof knows that the log is within its room.
-    machine.replay();
     let was_off = machine.is_off();
     let mut made = 0;
     let mut left = events.runs();
@@ -108,13 +104,10 @@ pub(crate) fn print_schedule<'a, O: Write>(
     window: Window,
     output: &mut O,
 ) -> Result<Stop, Fault<'a>>
-    ensures ok { IfOk result (λ stop. (makes : MakesEvents machine.old events.now stop machine.new)
-        × IsPrinted window machine.old.state (take makes.made events.now) stop
-        (O.contents output.old) (O.contents output.new)) }
-    ensures err { IfErr result (IsUnprinted window machine.old.state
-        (MakesSome machine.old events.now machine.new)
-        (MakesAll machine.old events.now machine.new)
-        (O.contents output.old) (O.contents output.new)) }
+    ensures ok { IfOk result (PrintsAll window machine.old.state (MakesAll events.now)
+        machine.new.state (O.contents output.old) (O.contents output.new)) }
+    ensures err { IfErr result (FailsToPrintAll window machine.old.state (MakesSome events.now)
+        (MakesAll events.now) machine.new.state (O.contents output.old) (O.contents output.new)) }
 {
     let mut lines = Lines::new(alloc, machine, window)?;
     let stop = trace_events(machine, events, &mut lines, output)?;

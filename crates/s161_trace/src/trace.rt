@@ -94,13 +94,10 @@ fn run_schedule<'a, O: Write>(
     events: &Events,
     output: &mut O,
 ) -> Result<Stop, Fault<'a>>
-    ensures ok { IfOk result (PrintsRun task.now file.now
-        (λ booted machine. MakesAll booted events.now machine)
+    ensures ok { IfOk result (PrintsRun task.now file.now (MakesAll events.now)
         (O.contents output.old) (O.contents output.new)) }
-    ensures err { IfErr result (FailsRun task.now file.now
-        (λ booted machine. MakesSome booted events.now machine)
-        (λ booted machine. MakesAll booted events.now machine)
-        (O.contents output.old) (O.contents output.new)) }
+    ensures err { IfErr result (FailsRun task.now file.now (MakesSome events.now)
+        (MakesAll events.now) (O.contents output.old) (O.contents output.new)) }
 {
     let mut machine = Machine::boot(alloc, file, conf_of(task.size))?;
     let window = Window::of(alloc, task, file)?;

@@ -2,47 +2,16 @@
 
 ghost use Rattle.std.specs.Prelude.{◌-◌, ◌<◌, ◌^◌, IfSome};
 
-use super::machines::{Kernel, TWO, WAIT, booted, check_events, check_run, event_of};
+use super::machines::{
+    Kernel, READS, SENDS, SENDS_AND_WAITS, TWO, WAIT, booted, check_events, check_run, event_of,
+    make_steps,
+};
 use super::same;
-use m161::Machine;
+use m161::Core;
 use m161_drive::{Cursor, Order, Policy, Stop};
 use std::alloc::AllocGlobal;
 use std::process::Abort;
 use std::test::Fail;
-
-/// Writes a byte to the console by its third Step, and spins.
-static SENDS: Kernel = Kernel {
-    words: &[
-        0x3c08_bfe0, // lui $8, 0xbfe0
-        0x3409_0068, // ori $9, $0, 0x0068
-        0xad09_0000, // sw $9, 0($8)
-        0x1000_ffff, // beq $0, $0, to itself
-        0, // nop
-    ],
-    processors: 1,
-};
-
-/// Writes a byte to the console by its third Step, and waits for good.
-static SENDS_AND_WAITS: Kernel = Kernel {
-    words: &[
-        0x3c08_bfe0, // lui $8, 0xbfe0
-        0x3409_0068, // ori $9, $0, 0x0068
-        0xad09_0000, // sw $9, 0($8)
-        0x4200_0020, // wait
-    ],
-    processors: 1,
-};
-
-/// Takes a key by its second Step, and spins.
-static READS: Kernel = Kernel {
-    words: &[
-        0x3c08_bfe0, // lui $8, 0xbfe0
-        0x8d09_0000, // lw $9, 0($8)
-        0x1000_ffff, // beq $0, $0, to itself
-        0, // nop
-    ],
-    processors: 1,
-};
 
 /// Drives a kernel in turns of one Step, where these have to be the events. A run that waits for
 /// good is stuck behind them.
@@ -55,15 +24,14 @@ fn check_kernel(
     marks: &[u8],
     is_stuck: bool,
 ) -> Result<(), Fail> {
-    let mut machine = booted(rt, kernel)?;
+    let mut core = booted(rt, kernel)?;
     let policy = Policy::new(Order::Turns(1), transfer, gap, keys)?;
     let (more, stop) = if is_stuck {
         (100, Stop::Stuck)
     } else {
         (0, Stop::End)
     };
-    check_run(rt, &mut machine, &policy, marks, more, stop);
-    Ok(())
+    check_run(rt, &mut core, &policy, marks, more, stop)
 }
 
 /// A byte is sent after so many events as the policy says, or where no processor is ready.
@@ -81,11 +49,11 @@ fn drive_transfer(rt: HostRuntime) -> Result<(), Fail> {
 /// A byte that is in the latch at the start of a run counts as one that has just come.
 #[test]
 fn drive_full_latch(rt: HostRuntime) -> Result<(), Fail> {
-    let mut machine = booted(&rt, &SENDS)?;
-    same(&rt, machine.steps(0, 7), (7, None));
+    let mut core = booted(&rt, &SENDS)?;
+    make_steps(&rt, &mut core, 0, 7);
     let policy = Policy::new(Order::Turns(1), 5, None, b"")?;
-    check_events(&rt, &mut machine, &policy, b"00000!00");
-    same(&rt, machine.output(), b"h".as_slice());
+    check_events(&rt, &mut core, &policy, b"00000!00")?;
+    same(&rt, core.output(), b"h".as_slice());
     Ok(())
 }
 
@@ -103,29 +71,22 @@ fn drive_gap(rt: HostRuntime) -> Result<(), Fail> {
 /// The gap of the first key begins with the run.
 #[test]
 fn drive_first_gap(rt: HostRuntime) -> Result<(), Fail> {
-    let mut machine = booted(&rt, &READS)?;
-    same(&rt, machine.steps(0, 7), (7, None));
+    let mut core = booted(&rt, &READS)?;
+    make_steps(&rt, &mut core, 0, 7);
     let policy = Policy::new(Order::Turns(1), 100, Some(5), b"ab")?;
-    check_events(&rt, &mut machine, &policy, b"00000a00");
-    Ok(())
+    check_events(&rt, &mut core, &policy, b"00000a00")
 }
 
 /// A key doesn't end a turn.
 #[test]
 fn drive_turns_with_keys(rt: HostRuntime) -> Result<(), Fail> {
-    let mut machine = booted(&rt, &TWO)?;
+    let mut core = booted(&rt, &TWO)?;
     let policy = Policy::new(Order::Turns(4), 2, Some(9), b"abc")?;
-    check_events(
-        &rt,
-        &mut machine,
-        &policy,
-        b"000000001a111000011b110000111c",
-    );
-    Ok(())
+    check_events(&rt, &mut core, &policy, b"000000001a111000011b110000111c")
 }
 
 /// 260 keys, all of them `a`.
-static KEYS: [u8; 260] = [b'a'; 260];
+pub(crate) static KEYS: [u8; 260] = [b'a'; 260];
 
 /// The 257th key comes only once the kernel has taken one.
 #[test]
@@ -141,10 +102,10 @@ fn drive_257_keys(rt: HostRuntime) -> Result<(), Fail> {
 }
 
 /// The next key, where one is wanted.
-fn next_key(machine: &Machine, cursor: &Cursor, policy: &Policy, keys: &Policy) -> Option<u8>
+fn next_key(core: &Core, cursor: &Cursor, policy: &Policy, keys: &Policy) -> Option<u8>
     ensures { IfSome result (λ _. cursor.now.typed < 2 ^ 64 - 1) }
 {
-    if cursor.wants_key(policy, machine) {
+    if cursor.wants_key(policy, core) {
         keys.key(cursor.typed())
     } else {
         None
@@ -154,30 +115,45 @@ fn next_key(machine: &Machine, cursor: &Cursor, policy: &Policy, keys: &Policy) 
 /// Makes an event by a cursor's choice, with a key only where one is wanted; it has to be this one.
 fn check_choice(
     rt: &impl Abort,
-    machine: &mut Machine,
+    core: &mut Core,
     cursor: &mut Cursor,
     policy: &Policy,
     keys: &Policy,
     mark: u8,
 ) {
-    let key = next_key(machine, cursor, policy, keys);
+    let key = next_key(core, cursor, policy, keys);
     let expected = event_of(mark);
-    same(rt, cursor.choose_with(policy, machine, key), Some(expected));
-    same(rt, machine.event(expected).is_ok(), true);
-    cursor.took(expected, machine);
+    same(rt, cursor.choose_with(policy, core, key), Some(expected));
+    same(rt, core.event(expected).is_ok(), true);
+    cursor.took(expected, core);
 }
 
 /// A caller who has the next key only where one is wanted drives the same run.
 #[test]
 fn drive_by_hand(rt: HostRuntime) -> Result<(), Fail> {
-    let mut machine = booted(&rt, &SENDS)?;
+    let mut core = booted(&rt, &SENDS)?;
     let policy = Policy::new(Order::Turns(1), 2, Some(4), b"")?;
     let keys = Policy::new(Order::Turns(1), 0, None, b"ab")?;
-    let mut cursor = Cursor::new(&policy, &machine);
+    let mut cursor = Cursor::new(&policy, &core);
     for mark in b"0000a!000b0000" {
-        check_choice(&rt, &mut machine, &mut cursor, &policy, &keys, *mark);
+        check_choice(&rt, &mut core, &mut cursor, &policy, &keys, *mark);
     }
     same(&rt, cursor.typed(), 2);
-    same(&rt, machine.waiting(), 2);
+    same(&rt, core.waiting(), 2);
+    Ok(())
+}
+
+/// A policy says what it was made of.
+#[test]
+fn policy_parts(rt: HostRuntime) -> Result<(), Fail> {
+    let policy = Policy::new(Order::Random(3), 5, Some(7), b"ab")?;
+    same(&rt, policy.order(), Order::Random(3));
+    same(&rt, policy.transfer(), 5);
+    same(&rt, policy.gap(), Some(7));
+    same(
+        &rt,
+        (policy.key(0), policy.key(1), policy.key(2)),
+        (Some(b'a'), Some(b'b'), None),
+    );
     Ok(())
 }

@@ -1,7 +1,7 @@
 //! Machines that are driven, and how the events that they made are compared.
 
 use super::same;
-use m161::Machine;
+use m161::Core;
 use m161_drive::{Driven, Event, Order, OrderError, Policy, Stop, drive};
 use m161_machine::{Conf, LinkUnit};
 use m161_test_support::files::file_from;
@@ -48,9 +48,43 @@ pub(crate) static TWO: Kernel = Kernel {
     processors: 2,
 };
 
-/// A machine with a kernel, and with a handler that switches off.
+/// Writes a byte to the console by its third Step, and spins.
+pub(crate) static SENDS: Kernel = Kernel {
+    words: &[
+        0x3c08_bfe0, // lui $8, 0xbfe0
+        0x3409_0068, // ori $9, $0, 0x0068
+        0xad09_0000, // sw $9, 0($8)
+        0x1000_ffff, // beq $0, $0, to itself
+        0, // nop
+    ],
+    processors: 1,
+};
+
+/// Writes a byte to the console by its third Step, and waits for good.
+pub(crate) static SENDS_AND_WAITS: Kernel = Kernel {
+    words: &[
+        0x3c08_bfe0, // lui $8, 0xbfe0
+        0x3409_0068, // ori $9, $0, 0x0068
+        0xad09_0000, // sw $9, 0($8)
+        0x4200_0020, // wait
+    ],
+    processors: 1,
+};
+
+/// Takes a key by its second Step, and spins.
+pub(crate) static READS: Kernel = Kernel {
+    words: &[
+        0x3c08_bfe0, // lui $8, 0xbfe0
+        0x8d09_0000, // lw $9, 0($8)
+        0x1000_ffff, // beq $0, $0, to itself
+        0, // nop
+    ],
+    processors: 1,
+};
+
+/// The state at boot of a machine with a kernel, and with a handler that switches off.
 #[inline(never)]
-pub(crate) fn booted(rt: &impl AllocGlobal, kernel: &Kernel) -> Result<Machine, Fail> {
+pub(crate) fn booted(rt: &impl AllocGlobal, kernel: &Kernel) -> Result<Core, Fail> {
     let mut image = Vec::new(rt.alloc());
     image.extend_from_slice(&HANDLER)?;
     for _place in 2..96 {
@@ -61,11 +95,11 @@ pub(crate) fn booted(rt: &impl AllocGlobal, kernel: &Kernel) -> Result<Machine, 
     let conf = Conf {
         ram: 4096,
         processors: kernel.processors,
-        log: 5000,
+        log: 1,
         link: LinkUnit::Word,
         strict: false,
     };
-    Ok(Machine::boot(rt.alloc(), &file, conf)?)
+    Ok(Core::boot(rt.alloc(), &file, conf)?)
 }
 
 /// A policy without keys.
@@ -85,13 +119,10 @@ pub(crate) fn event_of(mark: u8) -> Event {
     }
 }
 
-/// An event of the log, by its number behind the first ones.
-fn event_at(machine: &Machine, first: usize, i: usize) -> Option<Event> {
-    let place = first.saturating_add(i);
-    if place < machine.log_len() {
-        Some(machine.log_at(place).event)
-    } else {
-        None
+/// Makes Steps of a processor one by one, of which none may be refused.
+pub(crate) fn make_steps(rt: &impl Abort, core: &mut Core, p: u32, steps: u32) {
+    for _step in 0..steps {
+        same(rt, core.step(p).is_ok(), true);
     }
 }
 
@@ -100,26 +131,56 @@ pub(crate) fn check_end(rt: &impl Abort, driven: Driven, made: u64, stop: Stop) 
     same(rt, driven, Driven { made, stop });
 }
 
-/// Drives a machine, where the run has to make the marked events and to stop so. `more` events are
+/// Drives a state, where the run has to make the marked events and to stop so. `more` events are
 /// asked for beyond those.
 pub(crate) fn check_run(
-    rt: &impl Abort,
-    machine: &mut Machine,
+    rt: &(impl Abort + AllocGlobal),
+    core: &mut Core,
     policy: &Policy,
     marks: &[u8],
     more: u32,
     stop: Stop,
-) {
-    let first = machine.log_len();
+) -> Result<(), Fail> {
     let n = marks.len() as u64;
-    let driven = drive(machine, policy, n.saturating_add(u64::from(more)));
+    let mut events = Vec::new(rt.alloc());
+    let driven = drive(core, policy, n.saturating_add(u64::from(more)), &mut events)?;
     check_end(rt, driven, n, stop);
+    same(rt, events.len(), marks.len());
     for (i, mark) in marks.iter().enumerate() {
-        same(rt, event_at(machine, first, i), Some(event_of(*mark)));
+        same(rt, events.get(i).copied(), Some(event_of(*mark)));
+    }
+    Ok(())
+}
+
+/// Drives a state for as many events as are marked, which have to be these.
+pub(crate) fn check_events(
+    rt: &(impl Abort + AllocGlobal),
+    core: &mut Core,
+    policy: &Policy,
+    marks: &[u8],
+) -> Result<(), Fail> {
+    check_run(rt, core, policy, marks, 0, Stop::End)
+}
+
+/// Fails the test where a processor differs in two states.
+fn check_same_processor(rt: &impl Abort, core: &Core, other: &Core, p: u32) {
+    if p < core.processors() && p < other.processors() {
+        same(rt, core.pc(p), other.pc(p));
+        same(rt, core.count(p), other.count(p));
+        same(rt, core.state(p), other.state(p));
     }
 }
 
-/// Drives a machine for as many events as are marked, which have to be these.
-pub(crate) fn check_events(rt: &impl Abort, machine: &mut Machine, policy: &Policy, marks: &[u8]) {
-    check_run(rt, machine, policy, marks, 0, Stop::End);
+/// Fails the test where two states differ in what they show first.
+pub(crate) fn check_same(rt: &impl Abort, core: &Core, other: &Core) {
+    same(rt, core.made(), other.made());
+    same(rt, core.is_off(), other.is_off());
+    same(rt, core.latch(), other.latch());
+    same(rt, core.waiting(), other.waiting());
+    same(rt, core.output(), other.output());
+    same(rt, core.memory() == other.memory(), true);
+    same(rt, core.processors(), other.processors());
+    for p in 0..core.processors() {
+        check_same_processor(rt, core, other, p);
+    }
 }

@@ -1,7 +1,6 @@
 //! The orders of Steps.
 
-use super::machines::{Kernel, TWO, booted, check_events, policy};
-use super::same;
+use super::machines::{Kernel, TWO, booted, check_events, make_steps, policy};
 use m161_drive::{Order, OrderError};
 use std::alloc::AllocGlobal;
 use std::process::Abort;
@@ -74,9 +73,8 @@ fn check_order(
     order: Order,
     marks: &[u8],
 ) -> Result<(), Fail> {
-    let mut machine = booted(rt, kernel)?;
-    check_events(rt, &mut machine, &policy(order)?, marks);
-    Ok(())
+    let mut core = booted(rt, kernel)?;
+    check_events(rt, &mut core, &policy(order)?, marks)
 }
 
 /// The same from the state on in which the first processor has started the others.
@@ -87,10 +85,9 @@ fn check_started(
     order: Order,
     marks: &[u8],
 ) -> Result<(), Fail> {
-    let mut machine = booted(rt, kernel)?;
-    same(rt, machine.steps(0, steps), (steps, None));
-    check_events(rt, &mut machine, &policy(order)?, marks);
-    Ok(())
+    let mut core = booted(rt, kernel)?;
+    make_steps(rt, &mut core, 0, steps);
+    check_events(rt, &mut core, &policy(order)?, marks)
 }
 
 #[test]

@@ -1,9 +1,10 @@
 //! Runs from their start to their stop.
 
-use super::machines::{Kernel, TWO, WAIT, booted, check_end, event_of, policy};
+use super::machines::{Kernel, WAIT, booted, check_end, check_same, make_steps, policy};
 use super::same;
-use m161::Machine;
-use m161_drive::{Order, Stop, drive, drive_core, is_asleep};
+use circular_buffer::HeapCircularBuffer;
+use m161::Core;
+use m161_drive::{Order, PackedEntry, Stop, Unnoted, drive, is_asleep};
 use m161_machine::{Conf, LinkUnit};
 use m161_test_support::kernel::kernel_file;
 use m161_test_support::outcomes::IDLE;
@@ -69,35 +70,11 @@ static SLEEPERS: Kernel = Kernel {
 
 #[test]
 fn drive_hello(rt: HostRuntime) -> Result<(), Fail> {
-    let mut machine = booted(&rt, &HELLO)?;
-    let driven = drive(&mut machine, &policy(Order::Turns(1))?, 100_000);
+    let mut core = booted(&rt, &HELLO)?;
+    let driven = drive(&mut core, &policy(Order::Turns(1))?, 100_000, &mut Unnoted)?;
     same(&rt, driven.stop, Stop::Off);
-    same(&rt, driven.made, machine.made());
-    same(&rt, machine.output(), b"hi".as_slice());
-    Ok(())
-}
-
-#[test]
-fn hello_on_a_state(rt: HostRuntime) -> Result<(), Fail> {
-    let mut core = booted(&rt, &HELLO)?.into_core();
-    let run = drive_core(rt.alloc(), &mut core, &policy(Order::Turns(1))?, 100_000)?;
-    same(&rt, run.driven.stop, Stop::Off);
-    same(&rt, run.driven.made, core.made());
-    same(&rt, run.events.len() as u64, core.made());
+    same(&rt, driven.made, core.made());
     same(&rt, core.output(), b"hi".as_slice());
-    Ok(())
-}
-
-/// The events of `drive-turns`: two turns of two Steps in turn, from the start of the second
-/// processor on.
-#[test]
-fn turns_on_a_state(rt: HostRuntime) -> Result<(), Fail> {
-    let mut core = booted(&rt, &TWO)?.into_core();
-    let run = drive_core(rt.alloc(), &mut core, &policy(Order::Turns(2))?, 20)?;
-    check_end(&rt, run.driven, 20, Stop::End);
-    for (i, mark) in b"00000000110011001100".iter().enumerate() {
-        same(&rt, run.events.get(i).copied(), Some(event_of(*mark)));
-    }
     Ok(())
 }
 
@@ -108,8 +85,8 @@ fn check_waiting(
     made: u64,
     stop: Stop,
 ) -> Result<(), Fail> {
-    let mut machine = booted(rt, kernel)?;
-    let driven = drive(&mut machine, &policy(Order::Turns(1))?, 100_000);
+    let mut core = booted(rt, kernel)?;
+    let driven = drive(&mut core, &policy(Order::Turns(1))?, 100_000, &mut Unnoted)?;
     check_end(rt, driven, made, stop);
     Ok(())
 }
@@ -121,24 +98,24 @@ fn drive_stuck(rt: HostRuntime) -> Result<(), Fail> {
 }
 
 /// Fails the test where a Step of a processor isn't idle, or the machine isn't asleep after it.
-fn check_idle(rt: &impl Abort, machine: &mut Machine, p: u32) {
-    same(rt, machine.step(p), IDLE);
-    same(rt, is_asleep(machine), true);
+fn check_idle(rt: &impl Abort, core: &mut Core, p: u32) {
+    same(rt, core.step(p), IDLE);
+    same(rt, is_asleep(core), true);
 }
 
 #[test]
 fn asleep(rt: HostRuntime) -> Result<(), Fail> {
-    let mut machine = booted(&rt, &SLEEPERS)?;
-    same(&rt, machine.steps(0, 10), (10, None));
+    let mut core = booted(&rt, &SLEEPERS)?;
+    make_steps(&rt, &mut core, 0, 10);
     // the second one hasn't waited yet
-    same(&rt, is_asleep(&machine), false);
-    same(&rt, machine.steps(1, 1), (1, None));
-    same(&rt, is_asleep(&machine), true);
+    same(&rt, is_asleep(&core), false);
+    make_steps(&rt, &mut core, 1, 1);
+    same(&rt, is_asleep(&core), true);
     for _round in 0..1000 {
-        check_idle(&rt, &mut machine, 0);
-        check_idle(&rt, &mut machine, 1);
+        check_idle(&rt, &mut core, 0);
+        check_idle(&rt, &mut core, 1);
     }
-    let driven = drive(&mut machine, &policy(Order::Turns(1))?, 100);
+    let driven = drive(&mut core, &policy(Order::Turns(1))?, 100, &mut Unnoted)?;
     check_end(&rt, driven, 0, Stop::Stuck);
     Ok(())
 }
@@ -146,30 +123,20 @@ fn asleep(rt: HostRuntime) -> Result<(), Fail> {
 /// A machine isn't asleep while a timer runs.
 #[test]
 fn awake(rt: HostRuntime) -> Result<(), Fail> {
-    let mut machine = booted(&rt, &TIMER)?;
-    same(&rt, machine.steps(0, 5), (5, None));
-    same(&rt, is_asleep(&machine), false);
-    same(&rt, machine.step(0), IDLE);
-    same(&rt, is_asleep(&machine), false);
+    let mut core = booted(&rt, &TIMER)?;
+    make_steps(&rt, &mut core, 0, 5);
+    same(&rt, is_asleep(&core), false);
+    same(&rt, core.step(0), IDLE);
+    same(&rt, is_asleep(&core), false);
     Ok(())
 }
 
-/// Makes the events of a machine's log on another one, which has to answer as the log says.
-fn make_again(
-    rt: &(impl Abort + AllocGlobal),
-    made: &Machine,
-    again: &mut Machine,
-) -> Result<(), Fail> {
-    for entry in made.copy_log(rt.alloc())?.as_slice() {
-        same(rt, again.event(entry.event), Ok(entry.outcome));
+/// Makes the events of these entries one by one, which have to be accepted with the entries' outcomes.
+fn make_again(rt: &impl Abort, entries: &HeapCircularBuffer<PackedEntry>, core: &mut Core) {
+    for made in entries.iter() {
+        let entry = made.entry();
+        same(rt, core.event(entry.event), Ok(entry.outcome));
     }
-    same(
-        rt,
-        (again.made(), again.is_off()),
-        (made.made(), made.is_off()),
-    );
-    same(rt, again.memory() == made.memory(), true);
-    Ok(())
 }
 
 /// Drives the sample kernel to its end, and makes the same events again.
@@ -178,15 +145,19 @@ fn check_again(rt: &(impl Abort + AllocGlobal), order: Order) -> Result<(), Fail
     let conf = Conf {
         ram: 1_048_576,
         processors: 2,
-        log: 100_000,
+        log: 1,
         link: LinkUnit::Word,
         strict: false,
     };
-    let mut driven = Machine::boot(rt.alloc(), &file, conf)?;
-    let run = drive(&mut driven, &policy(order)?, 100_000);
-    check_end(rt, run, driven.made(), Stop::Off);
-    let mut again = Machine::boot(rt.alloc(), &file, conf)?;
-    make_again(rt, &driven, &mut again)
+    let mut core = Core::boot(rt.alloc(), &file, conf)?;
+    let mut entries = HeapCircularBuffer::with_capacity(rt.alloc(), 100_000)?;
+    let driven = drive(&mut core, &policy(order)?, 100_000, &mut entries)?;
+    check_end(rt, driven, core.made(), Stop::Off);
+    same(rt, entries.len() as u64, core.made());
+    let mut again = Core::boot(rt.alloc(), &file, conf)?;
+    make_again(rt, &entries, &mut again);
+    check_same(rt, &core, &again);
+    Ok(())
 }
 
 #[test]

@@ -1,6 +1,7 @@
 use Rattle.std.specs.Prelude.{◌≡◌, ◌⊎◌, ℕ, ◌+◌, ◌-◌, Bool, ◌&&◌, nat_le, nat_lt, List, [], ◌++◌, take, drop, length, string_bytes, Option}
 use Rattle.std.specs.Io.KnownBytes.{Appends}
-use Rattle.m161_machine.specs.declared.event.Event.{Event}
+use Rattle.m161_machine.specs.declared.event.Entry.{Entry}
+use Rattle.m161_machine.specs.History.{Leads}
 use Rattle.m161_machine.specs.State.{State}
 use Rattle.m161_text.specs.Lines.{text_of, with_line_end}
 use Rattle.s161_base.specs.declared.fault.Fault.{Fault}
@@ -29,9 +30,9 @@ abbrev pub has_line : Window → ℕ → Bool
 has_line w number = nat_le w.from number && nat_lt (number - w.from) w.count
 
 -- the lines that are asked for, of events from a state on, the first of which has this number
-abbrev pub lines_from : Window → ℕ → State → List Event → List (List ℕ)
-lines_from w number s events =
-    take (w.count - (number - w.from)) (drop (w.from - number) (traced w.style number s events))
+abbrev pub lines_from : Window → ℕ → State → List Entry → List (List ℕ)
+lines_from w number s entries =
+    take (w.count - (number - w.from)) (drop (w.from - number) (traced w.style number s entries))
 
 -- bytes are put behind those that are kept back, and some of all are written
 abbrev pub PutsOut :
@@ -49,40 +50,49 @@ FailsToPut before kept more after fault =
 abbrev pub IsNew : Window → State → Lines → Type 0
 IsNew w s l = (l.window ≡ w) × (l.number ≡ 0) × (l.tracer ≡ s) × (string_bytes l.piece ≡ [])
 
--- these events led from one state to another, and their lines are put out
+-- the events of these entries led to a state, and their lines are put out
 pub record Prints
-    (l : Lines) (before : Option (List ℕ)) (events : List Event) (t : State)
+    (l : Lines) (before : Option (List ℕ)) (entries : List Entry) (t : State)
     (k : Lines) (after : Option (List ℕ)) : Type 0 where
   pub window_is : k.window ≡ l.window
-  pub number_is : k.number ≡ l.number + length events
+  pub number_is : k.number ≡ l.number + length entries
   pub tracer_is : k.tracer ≡ t
+  pub leads : Leads l.tracer entries t
   pub puts :
-      PutsOut before (string_bytes l.piece) (text_of (lines_from l.window l.number l.tracer events))
+      PutsOut before (string_bytes l.piece) (text_of (lines_from l.window l.number l.tracer entries))
       after (string_bytes k.piece)
 
--- these events were made, and the output or memory fails as their lines are put out
+-- they led to a state, and the output or memory fails as their lines are put out
 abbrev pub FailsToPrint :
-    Lines → Option (List ℕ) → List Event → Option (List ℕ) → Fault → Type 0
-FailsToPrint l before events after fault =
-    FailsToPut before (string_bytes l.piece)
-    (text_of (lines_from l.window l.number l.tracer events)) after fault
+    Lines → Option (List ℕ) → List Entry → State → Option (List ℕ) → Fault → Type 0
+FailsToPrint l before entries t after fault =
+    Leads l.tracer entries t
+    × FailsToPut before (string_bytes l.piece)
+    (text_of (lines_from l.window l.number l.tracer entries)) after fault
 
--- all that is printed of a run from a state on, which made these events and stopped
-abbrev pub run_text : Window → State → List Event → Stop → List ℕ
-run_text w s events stop = text_of (lines_from w 0 s events) ++ with_line_end (stop_line stop)
+-- all that is printed of a run from a state on, which has these entries and stopped
+abbrev pub run_text : Window → State → List Entry → Stop → List ℕ
+run_text w s entries stop = text_of (lines_from w 0 s entries) ++ with_line_end (stop_line stop)
 
-abbrev pub IsPrinted :
-    Window → State → List Event → Stop → Option (List ℕ) → Option (List ℕ) → Type 0
-IsPrinted w s events stop before after = Appends before after (run_text w s events stop)
+-- all events of a run from one state to another are made, and what is asked for is printed: `IsAll`
+-- is what is said of their entries
+abbrev pub PrintsAll :
+    Window → State → (State → List Entry → Stop → State → Type 0) → State → Option (List ℕ) →
+    Option (List ℕ) → Stop → Type 0
+PrintsAll w s IsAll t before after stop =
+    (entries : List Entry) × IsAll s entries stop t
+    × Appends before after (run_text w s entries stop)
 
 -- the output or memory fails: before the first event; or once some events were made, whose lines are
--- written in part; or once all were made
-abbrev pub IsUnprinted :
-    Window → State → (List Event → Type 0) → (List Event → Stop → Type 0) → Option (List ℕ) →
-    Option (List ℕ) → Fault → Type 0
-IsUnprinted w s IsSome IsAll before after fault =
+-- written in part; or once all were made. `IsSome` is what is said of the entries of some
+abbrev pub FailsToPrintAll :
+    Window → State → (State → List Entry → State → Type 0) →
+    (State → List Entry → Stop → State → Type 0) → State → Option (List ℕ) → Option (List ℕ) →
+    Fault → Type 0
+FailsToPrintAll w s IsSome IsAll t before after fault =
     ((fault ≡ Memory) × (after ≡ before))
     ⊎ (((fault ≡ Output) ⊎ (fault ≡ Memory))
-    × ((events : List Event)
-    × ((IsSome events × AppendsSome before after (text_of (lines_from w 0 s events)))
-    ⊎ ((stop : Stop) × IsAll events stop × AppendsSome before after (run_text w s events stop)))))
+    × ((entries : List Entry)
+    × ((IsSome s entries t × AppendsSome before after (text_of (lines_from w 0 s entries)))
+    ⊎ ((stop : Stop) × IsAll s entries stop t
+    × AppendsSome before after (run_text w s entries stop)))))

@@ -1,76 +1,75 @@
-use Rattle.std.specs.Prelude.{◌≡◌, ◌≤◌, ◌<◌, ℕ, List, [], ◌∷◌, take, Option, None, Some, MatchOption, Ok, replicate}
+use Rattle.std.specs.Prelude.{◌≡◌, ◌≤◌, ℕ, List, [], ◌∷◌, take, length, Option, None, Some, replicate}
 use Rattle.m161_cpu.specs.declared.processor.Outcome.{Outcome}
+use Rattle.m161_machine.specs.declared.event.Entry.{Entry}
 use Rattle.m161_machine.specs.declared.event.Event.{Event}
 use Rattle.m161_machine.specs.declared.event.Refusal.{Refusal}
-use Rattle.m161_machine.specs.State.{next}
-use Rattle.m161_machine.specs.History.{Answers, Continues, History, Refuses}
+use Rattle.m161_machine.specs.State.{State, next}
+use Rattle.m161_machine.specs.History.{Leads, Refuses, entry, events_of}
 use Rattle.s161_base.specs.declared.fault.Fault.{Fault}
 use Rattle.s161_run.specs.declared.events.Stop.{Stop}
 use Rattle.s161_run.specs.Runs.{MakesEvents}
+use Rattle.s161_run.specs.helpers.Events.{EndsAfter}
 use Rattle.s161_trace.specs.declared.lines.Lines.{Lines}
 use Rattle.s161_trace.specs.helpers.Printing.{FailsToPrint, Prints}
 
 -- Runs by a schedule whose lines are printed.
 
--- an event is accepted
-abbrev pub Accepts : History → Event → History → Type 0
-Accepts m e n = (o : Outcome) × Answers m e (Ok o) n
-
 -- an event is made, and its line put out; or it is refused, and nothing is changed
 abbrev pub Turn :
-    History → Lines → Option (List ℕ) → Event → Option Refusal → History → Lines →
+    State → Lines → Option (List ℕ) → Event → Option Refusal → State → Lines →
     Option (List ℕ) → Type 0
-Turn m l before e None n k after = Accepts m e n × Prints l before (e ∷ []) n.state k after
-Turn m l before e (Some refusal) n k after =
-    Refuses (next m.state e) e refusal × (n ≡ m) × (k ≡ l) × (after ≡ before)
+Turn s l before e None t k after = (o : Outcome) × Prints l before (entry e o ∷ []) t k after
+Turn s l before e (Some refusal) t k after =
+    Refuses (next s e) e refusal × (t ≡ s) × (k ≡ l) × (after ≡ before)
 
 -- an event is made, and its line can't be put out
 abbrev pub FailsOnce :
-    History → Lines → Option (List ℕ) → Event → History → Option (List ℕ) → Fault → Type 0
-FailsOnce m l before e n after fault = Accepts m e n × FailsToPrint l before (e ∷ []) after fault
+    Lines → Option (List ℕ) → Event → State → Option (List ℕ) → Fault → Type 0
+FailsOnce l before e t after fault =
+    (o : Outcome) × FailsToPrint l before (entry e o ∷ []) t after fault
 
 -- the same event is made some times, and its lines put out: as often as is asked for, or the next is
 -- refused
 pub record TurnsAlike
-    (m : History) (l : Lines) (before : Option (List ℕ)) (e : Event) (times : ℕ)
-    (given : ℕ × Option Refusal) (n : History) (k : Lines) (after : Option (List ℕ))
-    : Type 0 where
-  pub made : Continues m (replicate given.0 e) n
-  pub prints : Prints l before (replicate given.0 e) n.state k after
-  pub why : MatchOption given.1 (given.0 ≡ times)
-      (λ refusal. (given.0 < times) × Refuses (next n.state e) e refusal)
+    (l : Lines) (before : Option (List ℕ)) (e : Event) (times : ℕ) (given : ℕ × Option Refusal)
+    (t : State) (k : Lines) (after : Option (List ℕ)) : Type 0 where
+  pub entries : List Entry
+  pub are_alike : events_of entries ≡ replicate given.0 e
+  pub prints : Prints l before entries t k after
+  pub ends : EndsAfter e times t given.0 given.1
 
 -- it is made some times, and its lines can't be put out
 pub record FailsAlike
-    (m : History) (l : Lines) (before : Option (List ℕ)) (e : Event) (times : ℕ)
-    (n : History) (after : Option (List ℕ)) (fault : Fault) : Type 0 where
+    (l : Lines) (before : Option (List ℕ)) (e : Event) (times : ℕ) (t : State)
+    (after : Option (List ℕ)) (fault : Fault) : Type 0 where
   pub number : ℕ
   pub few : number ≤ times
-  pub made : Continues m (replicate number e) n
-  pub fails : FailsToPrint l before (replicate number e) after fault
+  pub entries : List Entry
+  pub are_alike : events_of entries ≡ replicate number e
+  pub fails : FailsToPrint l before entries t after fault
+
+-- the first of these events are made, with these entries
+abbrev pub MakesSome : List Event → State → List Entry → State → Type 0
+MakesSome events s entries t =
+    (events_of entries ≡ take (length entries) events) × Leads s entries t
+
+-- these are all that are made, for this reason
+abbrev pub MakesAll : List Event → State → List Entry → Stop → State → Type 0
+MakesAll events s entries stop t = MakesEvents s events stop entries t
 
 -- the first of these events are made and their lines put out, until one switches the machine off or
 -- is refused
 pub record PrintsSchedule
-    (m : History) (l : Lines) (before : Option (List ℕ)) (events : List Event) (stop : Stop)
-    (n : History) (k : Lines) (after : Option (List ℕ)) : Type 0 where
-  pub makes : MakesEvents m events stop n
-  pub prints : Prints l before (take makes.made events) n.state k after
+    (s : State) (l : Lines) (before : Option (List ℕ)) (events : List Event) (stop : Stop)
+    (t : State) (k : Lines) (after : Option (List ℕ)) : Type 0 where
+  pub entries : List Entry
+  pub makes : MakesEvents s events stop entries t
+  pub prints : Prints l before entries t k after
 
 -- the first of these events are made, and their lines can't be put out
 pub record FailsInSchedule
-    (m : History) (l : Lines) (before : Option (List ℕ)) (events : List Event)
-    (n : History) (after : Option (List ℕ)) (fault : Fault) : Type 0 where
-  pub number : ℕ
-  pub made : Continues m (take number events) n
-  pub fails : FailsToPrint l before (take number events) after fault
-
--- these are the first events, and they are made
-abbrev pub MakesSome : History → List Event → History → List Event → Type 0
-MakesSome m scheduled n events =
-    (made : ℕ) × (events ≡ take made scheduled) × Continues m events n
-
--- these are all that are made, for this reason
-abbrev pub MakesAll : History → List Event → History → List Event → Stop → Type 0
-MakesAll m scheduled n events stop =
-    (makes : MakesEvents m scheduled stop n) × (events ≡ take makes.made scheduled)
+    (s : State) (l : Lines) (before : Option (List ℕ)) (events : List Event) (t : State)
+    (after : Option (List ℕ)) (fault : Fault) : Type 0 where
+  pub entries : List Entry
+  pub some : MakesSome events s entries t
+  pub fails : FailsToPrint l before entries t after fault

@@ -18,9 +18,9 @@ returns-clause-ok g c =
     let keys = subst (AreKeys c.args.drive.keys files) (sym c.deref.ensures.value) c.in_ok-keys.ensures.whole in
     if_ok c.open_chosen.result (λ opened h. record {
       logged = None;
-      come = ((c.deref.result.now, keys, h.0), refl);
+      come = ((c.deref.result.now, keys, h.1), refl);
       is_that = refl;
-      boots = h.1;
+      boots = h.0;
     }) c.open_chosen.ensures.ok
 
 pub returns-clause-fault : goal.returns-clause-fault

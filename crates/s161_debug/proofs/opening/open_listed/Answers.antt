@@ -1,18 +1,19 @@
-use Rattle.std.proofs.Common.{◌≡◌, None, rules}
+use Rattle.std.proofs.Common.{◌≡◌, None, rules, subst}
 use Rattle.std.proofs.lemmas.Result.{err_from_is_err_and}
-use Rattle.s161_base.specs.Machines.{asked_conf, machine_fault}
+use Rattle.s161_base.specs.Machines.{machine_fault}
+use Rattle.m161_machine.specs.declared.conf.Conf.{Conf}
+use Rattle.s161_debug.specs.helpers.Debugs.{IsBootFault}
 use Rattle.s161_debug.proofs.Faults.{not_booted, refused}
 use Rattle.s161_debug.proofs.opening.open_listed.Goals as goal
 
 pub returns-in-Some-clause-fault : goal.returns-in-Some-clause-fault
 returns-in-Some-clause-fault c =
-    let conf = asked_conf c.args.size c.args.listed.logged in
-    refused (λ x. x ≡ conf) c.args.size c.args.image.now c.args.listed.logged c.in-Some.fault (search rules)
+    refused c.args.size c.args.image.now c.args.listed.logged c.in-Some.fault (search rules)
 
 pub returns-in_err-machine-clause-fault : goal.returns-in_err-machine-clause-fault
 returns-in_err-machine-clause-fault c =
     let made = err_from_is_err_and c.from_residual.result c.from_residual.ensures.1 in
-    let conf = asked_conf c.args.size c.args.listed.logged in
     let none : machine_fault c.args.size c.args.image.now c.args.listed.logged ≡ None = search rules in
+    let P : Conf → Type 0 = λ conf. IsBootFault c.args.image.now conf c.in_err-machine.field-0.0 in
     rw (made.1, made.2)
-    (not_booted (λ x. x ≡ conf) c.args.size c.args.image.now c.args.listed.logged c.asked_conf.result c.in_err-machine.field-0.0 none c.asked_conf.ensures c.in_err-machine.ensures.fault)
+    (not_booted c.args.size c.args.image.now c.args.listed.logged c.in_err-machine.field-0.0 none (subst P c.asked_conf.ensures c.in_err-machine.ensures.fault))

@@ -17,7 +17,7 @@ returns-in_err-read-clause-fault g c =
     let P : Fault → Type 0 = λ fault. (input : Option (List ℕ)) → IsTraceFault c.args.task files known (streams input input a a) fault in
     ends_so P c.from_residual.result made.0 made.1
     (subst P (sym made.2)
-    (λ input. drive_early c.args.task c.args.options files known input c.requires.drive a c.in_err-read.field-0.0 c.in_err-read.ensures.fault))
+    (λ input. drive_early c.args.task c.args.options files known c.requires.drive input a c.in_err-read.field-0.0 c.in_err-read.ensures.fault))
 
 pub returns-clause-ok : goal.returns-clause-ok
 returns-clause-ok g c =

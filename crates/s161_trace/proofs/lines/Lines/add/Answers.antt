@@ -1,9 +1,10 @@
-use Rattle.std.proofs.Common.{◌≡◌, ◌∙◌, ◌++◌, refl, subst, sym, inr, [], ◌∷◌}
+use Rattle.std.proofs.Common.{◌≡◌, ◌∙◌, subst, sym, [], ◌∷◌}
 use Rattle.std.proofs.lemmas.Result.{err_from_is_err_and}
 use Rattle.std.specs.Prelude.{string_bytes}
+use Rattle.m161_machine.specs.History.{entry}
 use Rattle.m161_text.specs.Lines.{text_of}
 use Rattle.s161_trace.specs.helpers.Printing.{PutsOut, lines_from}
-use Rattle.s161_trace.proofs.Printing.{puts_none, some_none, without_line}
+use Rattle.s161_trace.proofs.Printing.{one_fails, one_leads, puts_none, without_line}
 use Rattle.s161_trace.proofs.lines.Lines.add.Goals as goal
 
 pub returns-in_err-pass-clause-err : goal.returns-in_err-pass-clause-err
@@ -11,19 +12,20 @@ returns-in_err-pass-clause-err g c =
     let made = err_from_is_err_and c.from_residual.result c.from_residual.ensures.1 in
     let l = c.args.self.now in
     rw (made.1, made.2)
-    (inr refl, some_none (g.O.Write.contents c.args.output.now) (string_bytes l.piece ++ text_of (lines_from l.window l.number l.tracer (c.args.event ∷ []))))
+    (one_fails l (g.O.Write.contents c.args.output.now) c.args.event c.args.outcome c.args.machine.now.state c.requires.accepted)
 
 pub returns-clause-ok : goal.returns-clause-ok
 returns-clause-ok g c =
     let l = c.args.self.now in
     let a = g.O.Write.contents c.args.output.now in
     let kept = string_bytes l.piece in
-    let none : text_of (lines_from l.window l.number l.tracer (c.args.event ∷ [])) ≡ [] =
+    let none : text_of (lines_from l.window l.number l.tracer (entry c.args.event c.args.outcome ∷ [])) ≡ [] =
     without_line l.window l.number l.tracer c.args.event c.args.outcome c.args.machine.now.state (sym c.has.ensures ∙ c.if-has.false) c.requires.accepted in
     record {
       window_is = c.in_ok-pass.ensures.window;
       number_is = c.in_ok-pass.ensures.number;
       tracer_is = c.in_ok-pass.ensures.made c.args.outcome c.args.machine.now.state c.requires.accepted;
+      leads = one_leads l.tracer c.args.event c.args.outcome c.args.machine.now.state c.requires.accepted;
       puts =
           subst (λ more. PutsOut a kept more a (string_bytes c.pass.new.self.piece)) (sym none)
           (subst (λ left. PutsOut a kept [] a left) (sym c.in_ok-pass.ensures.piece) (puts_none a kept));

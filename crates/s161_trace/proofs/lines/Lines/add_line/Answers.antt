@@ -1,9 +1,8 @@
-use Rattle.std.proofs.Common.{◌∙◌, refl, subst, sym, inr, [], ◌∷◌, ◌++◌}
+use Rattle.std.proofs.Common.{◌∙◌, subst, sym}
 use Rattle.std.proofs.lemmas.Result.{err_from_is_err_and}
 use Rattle.std.specs.Prelude.{string_bytes}
-use Rattle.m161_text.specs.Lines.{text_of}
-use Rattle.s161_trace.specs.helpers.Printing.{FailsToPut, PutsOut, lines_from}
-use Rattle.s161_trace.proofs.Printing.{some_none, with_line}
+use Rattle.s161_trace.specs.helpers.Printing.{FailsToPut, PutsOut}
+use Rattle.s161_trace.proofs.Printing.{one_fails, one_leads, with_line}
 use Rattle.s161_trace.proofs.lines.Lines.add_line.Goals as goal
 
 pub returns-in_err-write-clause-err : goal.returns-in_err-write-clause-err
@@ -11,7 +10,7 @@ returns-in_err-write-clause-err g c =
     let made = err_from_is_err_and c.from_residual.result c.from_residual.ensures.1 in
     let l = c.args.self.now in
     rw (made.1, made.2)
-    (inr refl, some_none (g.O.Write.contents c.args.output.now) (string_bytes l.piece ++ text_of (lines_from l.window l.number l.tracer (c.args.event ∷ []))))
+    (one_fails l (g.O.Write.contents c.args.output.now) c.args.event c.args.outcome c.args.machine.now.state c.requires.accepted)
 
 pub returns-in_err-put-clause-err : goal.returns-in_err-put-clause-err
 returns-in_err-put-clause-err g c =
@@ -22,10 +21,12 @@ returns-in_err-put-clause-err g c =
     let fault = c.in_err-put.field-0.0 in
     let line = string_bytes c.write.new.self.line in
     let text = with_line l.window l.number l.tracer c.args.event c.args.outcome c.args.machine.now.state c.requires.has c.requires.accepted in
-    rw (made.1, made.2)
-    (subst (λ more. FailsToPut a (string_bytes l.piece) more b fault) (sym text)
-    (subst (λ more. FailsToPut a (string_bytes l.piece) more b fault) c.in_ok-write.ensures.line
-    (subst (λ kept. FailsToPut a kept line b fault) c.in_ok-write.ensures.piece c.in_err-put.ensures.err)))
+    rw (made.1, made.2) (
+      one_leads l.tracer c.args.event c.args.outcome c.args.machine.now.state c.requires.accepted,
+      subst (λ more. FailsToPut a (string_bytes l.piece) more b fault) (sym text)
+          (subst (λ more. FailsToPut a (string_bytes l.piece) more b fault) c.in_ok-write.ensures.line
+          (subst (λ kept. FailsToPut a kept line b fault) c.in_ok-write.ensures.piece c.in_err-put.ensures.err)),
+    )
 
 pub returns-clause-ok : goal.returns-clause-ok
 returns-clause-ok g c =
@@ -39,6 +40,7 @@ returns-clause-ok g c =
       window_is = c.in_ok-put.ensures.window ∙ c.in_ok-write.ensures.window;
       number_is = c.in_ok-put.ensures.number ∙ c.in_ok-write.ensures.number;
       tracer_is = c.in_ok-put.ensures.tracer ∙ c.in_ok-write.ensures.tracer;
+      leads = one_leads l.tracer c.args.event c.args.outcome c.args.machine.now.state c.requires.accepted;
       puts =
           subst (λ more. PutsOut a (string_bytes l.piece) more b left) (sym text)
           (subst (λ more. PutsOut a (string_bytes l.piece) more b left) c.in_ok-write.ensures.line
