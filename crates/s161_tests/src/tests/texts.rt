@@ -175,12 +175,12 @@ fn run_sample_counts(rt: HostRuntime) -> Result<(), Fail> {
 /// The sample's memory has the kernel's words.
 #[test]
 fn sample_words(rt: HostRuntime) -> Result<(), Fail> {
-    let Some((machine, _)) = sample_machine(rt.alloc(), "")? else {
+    let Some(ran) = run_sample(rt.alloc(), "")? else {
         same(&rt, "no sample", "");
         return Ok(());
     };
     for (at, word, _) in &KERNEL {
-        same(&rt, (*at, machine.word(*at)), (*at, Some(*word)));
+        same(&rt, (*at, ran.core.word(*at)), (*at, Some(*word)));
     }
     Ok(())
 }
