@@ -10,3 +10,4 @@ pub mod Awake
 mod Used
 mod Told
 pub mod Apart
+pub mod Units

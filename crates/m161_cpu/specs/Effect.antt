@@ -1,4 +1,5 @@
 use Rattle.std.specs.Prelude.{ℕ, ◌+◌, ◌-◌, ◌*◌, ◌/◌, ◌%◌, ◌^◌, ◌+ℤ◌, ◌-ℤ◌, Bool, true, not, nat_le, ◌==◌, bit_and, bit_or, bit_xor, if◌then◌else◌, List, [], ◌∷◌, length, slice_get, slice_index, slice_index_or, Option, None, Some, Result, Ok, Err}
+use Rattle.m161_isa.specs.Address.{branch_target, jump_target}
 use Rattle.m161_isa.specs.declared.operand.Operand.{Operand}
 use Rattle.m161_isa.specs.declared.operand.Operand.TheVariants as operand
 use Rattle.m161_isa.specs.declared.effect.Effect.{Effect}
@@ -42,8 +43,8 @@ value_of p operand.Amount n = n
 value_of p operand.Unsigned n = n
 value_of p operand.Signed n = sign_extended_half n
 value_of p operand.Offset n = sign_extended_half n
-value_of p operand.Branch n = (p.pc + 4 + 4 * sign_extended_half n) % 2 ^ 32
-value_of p operand.Jump n = (p.pc + 4) % 2 ^ 32 / 2 ^ 28 * 2 ^ 28 + n * 4
+value_of p operand.Branch n = branch_target p.pc n
+value_of p operand.Jump n = jump_target p.pc n
 value_of p operand.Cop0 n = n
 
 -- an operand of an instruction: the number in its field, and the word that it is

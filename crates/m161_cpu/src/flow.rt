@@ -1,8 +1,8 @@
 //! Jumps and branches.
 
-ghost use Rattle.std.specs.Prelude.{◌≡◌, ◌+◌, ◌*◌, ◌/◌, ◌%◌, ◌^◌, ℕ, List};
+ghost use Rattle.std.specs.Prelude.{◌≡◌, ℕ, List};
 ghost use Rattle.m161_isa.specs.declared.instr.Instr.TheVariants.{BranchEqual, BranchZero, Jump, JumpAndLinkRegister, JumpRegister};
-ghost use Rattle.m161_alu.specs.Word.{sign_extended_half};
+ghost use Rattle.m161_isa.specs.Address.{branch_target, jump_target};
 ghost use Rattle.m161_cpu.specs.Effect.{branch_flow, return_address};
 ghost use Rattle.m161_cpu.specs.Processor.{with_register};
 ghost use Rattle.m161_cpu.specs.helpers.Execute.{ExecutesInProcessor};
@@ -29,7 +29,7 @@ impl<T: Tlb> Cpu<T> {
     // The target of a branch at pc.
     #[inline(always)]
     fn branch_target(&self, offset: Immediate) -> u32
-        ensures { result ≡ (self.now.pc + 4 + 4 * sign_extended_half offset) % 2 ^ 32 }
+        ensures { result ≡ branch_target self.now.pc offset }
     {
         self.pc()
             .wrapping_add(4)
@@ -39,9 +39,9 @@ impl<T: Tlb> Cpu<T> {
     // The target of a jump at pc: the upper four bits are those of the next address.
     #[inline(always)]
     fn jump_target(&self, target: Target) -> u32
-        ensures { result ≡ (self.now.pc + 4) % 2 ^ 32 / 2 ^ 28 * 2 ^ 28 + target * 4 }
+        ensures { result ≡ jump_target self.now.pc target }
     {
-        (self.pc().wrapping_add(4) >> 28 << 28) + target.field() * 4
+        (self.pc().wrapping_add(4) >> 28 << 28) + 4 * target.field()
     }
 
     // Puts the return address into a register.
