@@ -4,7 +4,8 @@ use Rattle.std.proofs.lemmas.Bool.Decides.{nat_tests}
 use Rattle.m161_isa.specs.declared.operand.Operand.{Operand}
 use Rattle.m161_isa.specs.declared.operand.Operand.TheVariants as operand
 use Rattle.m161_isa.specs.Table.{width_of}
-use Rattle.m161_dis.specs.Canon.{register_text, hex_number, branch_target, jump_target}
+use Rattle.m161_isa.specs.Address.{branch_target, jump_target}
+use Rattle.m161_dis.specs.Canon.{register_text, hex_number}
 use Rattle.m161_asm.specs.Tokens.{Register, Number, Mark, Placed}
 use Rattle.m161_asm.specs.Lines.{Fault, Whole, Part, Field, BranchTo, JumpTo, Parsed, part, immediate, is_within, bits_of_whole}
 use Rattle.m161_asm.specs.Text.{field_of, word_address, number_by}

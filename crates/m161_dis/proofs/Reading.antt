@@ -6,6 +6,7 @@ use Rattle.m161_isa.specs.declared.table.Row.TheVariants as rows
 use Rattle.m161_isa.specs.declared.operand.Operand.{Operand}
 use Rattle.m161_isa.specs.declared.operand.Operand.TheVariants as operand
 use Rattle.m161_isa.specs.Table.{table, width_of, number_of}
+use Rattle.m161_dis.specs.declared.naming.Naming.TheVariants.{Numbers}
 use Rattle.m161_dis.specs.Canon.{lead_of, operand_text, operands_text}
 use Rattle.m161_asm.specs.Tokens.{Mark}
 use Rattle.m161_asm.specs.Lines.{◌>>=◌, Fault, Part, operand_parts, comma_and_part, row_named}
@@ -68,7 +69,7 @@ signed_spelled true n more = refl
 signed_spelled false n more = refl
 
 operand_spelled : (o : Operand) (at n : ℕ) (more : List Piece)
-    → text_of (operand_pieces at o n ++ more) ≡ operand_text at o n ++ text_of more
+    → text_of (operand_pieces at o n ++ more) ≡ operand_text Numbers at o n ++ text_of more
 operand_spelled operand.Signed at n more = signed_spelled (nat_lt n 0x8000) n more
 operand_spelled operand.Offset at n more = signed_spelled (nat_lt n 0x8000) n more
 operand_spelled operand.Base at n more =
@@ -89,14 +90,14 @@ lead_spelled true _ more = refl
 lead_spelled false _ more = refl
 
 pub operands_spelled : (os : List Operand) (first : Bool) (word at : ℕ)
-    → text_of (pieces_of at word first os) ≡ operands_text word at (lead_text first) os
+    → text_of (pieces_of at word first os) ≡ operands_text Numbers word at (lead_text first) os
 operands_spelled [] first word at = refl
 operands_spelled (o ∷ os) first word at =
     lead_spelled first o (operand_pieces at o (number_of word o) ++ pieces_of at word false os)
     ∙ ap (λ x. lead_of o (lead_text first) ++ x)
     (operand_spelled o at (number_of word o) (pieces_of at word false os)
-    ∙ ap (λ x. operand_text at o (number_of word o) ++ x) (operands_spelled os false word at))
-    ∙ sym (append_assoc (lead_of o (lead_text first)) (operand_text at o (number_of word o)) _)
+    ∙ ap (λ x. operand_text Numbers at o (number_of word o) ++ x) (operands_spelled os false word at))
+    ∙ sym (append_assoc (lead_of o (lead_text first)) (operand_text Numbers at o (number_of word o)) _)
 
 -- the names of the rows
 pub row_named-name : (r : Row) → row_named (table r).name ≡ Some r

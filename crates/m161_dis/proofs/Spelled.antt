@@ -8,7 +8,7 @@ use Rattle.m161_isa.specs.declared.table.Row.TheVariants as rows
 use Rattle.m161_isa.specs.declared.operand.Operand.{Operand}
 use Rattle.m161_isa.specs.declared.operand.Operand.TheVariants as operand
 use Rattle.m161_isa.specs.Table.{table, width_of, number_of}
-use Rattle.m161_dis.specs.Canon.{branch_target, jump_target}
+use Rattle.m161_isa.specs.Address.{branch_target, jump_target}
 use Rattle.m161_asm.specs.Tokens.{Name, Number, lexeme, beginning, begins_name, AName, ANumber, Beginning, continues_name, number_from, number_of_literal, numeral}
 use Rattle.m161_dis.proofs.Pieces.{Piece, IsPiece, Sound, text_of, starts_apart, run-word, words_clean, blank, comma_piece, open_piece, close_piece, minus_piece}
 use Rattle.m161_dis.proofs.Numerals.{Decimal, decimal_is, decimal_len, below, register_piece, hex4_piece, hex8_piece}

@@ -6,6 +6,7 @@ use Rattle.m161_isa.specs.declared.table.Row.TheVariants as rows
 use Rattle.m161_isa.specs.declared.operand.Operand.{Operand}
 use Rattle.m161_isa.specs.declared.operand.Operand.TheVariants as operand
 use Rattle.m161_isa.specs.Table.{table, row_that_fits, number_of, numbers_of, word_with}
+use Rattle.m161_dis.specs.declared.naming.Naming.TheVariants.{Numbers}
 use Rattle.m161_dis.specs.Canon.{canon_by, canonical_row, canonical_by, data_text, hex_number, instruction_text}
 use Rattle.m161_asm.specs.Tokens.{Name, Directive, Number, Placed, tokens, tokens_from, lexeme, beginning, is_letter}
 use Rattle.std.specs.Char.{is_ascii_digit}
@@ -83,7 +84,7 @@ unfolding statement
 named_statement past x c e ts r xs a b d = rw (a, b, d) refl
 
 row_text : (word at : ℕ) (r : Row)
-    → stands_for at (instruction_text word at r)
+    → stands_for at (instruction_text Numbers word at r)
     ≡ stands_for at
     (text_of (((table r).name, Some (Name (table r).name))
     ∷ pieces_of at word true (table r).operands))
@@ -92,7 +93,7 @@ row_text word at r =
     (sym (operands_spelled (table r).operands true word at))
 
 pub row_stands : (word at : ℕ) (r : Row) → at < 2 ^ 32 → at % 4 ≡ 0
-    → stands_for at (instruction_text word at r) ≡ Ok (word_with r (numbers_of word (Some r)) ∷ [])
+    → stands_for at (instruction_text Numbers word at r) ≡ Ok (word_with r (numbers_of word (Some r)) ∷ [])
 unfolding stands_for statement
 row_stands word at r h w =
     let x = (table r).name in
@@ -189,7 +190,7 @@ unfolding canonical_row
 canonical_word word r e = canonical_word_by word r (row_that_fits word) e
 
 canon_stands : (word at : ℕ) (o : Option Row) → canonical_row word ≡ o → word < 2 ^ 32 → at < 2 ^ 32
-    → at % 4 ≡ 0 → stands_for at (canon_by word at o) ≡ Ok (word ∷ [])
+    → at % 4 ≡ 0 → stands_for at (canon_by Numbers word at o) ≡ Ok (word ∷ [])
 canon_stands word at None e k h w = data_stands word at k h w
 canon_stands word at (Some r) e k h w =
     row_stands word at r h w ∙ ap (λ x. Ok (x ∷ [])) (canonical_word word r e)
@@ -198,7 +199,7 @@ pub survives : SurvivesDisassembling
 survives word at k h w =
     elim (word == 0) as
     (λ b. (word == 0) ≡ b
-    → stands_for at (cond b (codes "nop") (canon_by word at (canonical_row word)))
+    → stands_for at (cond b (codes "nop") (canon_by Numbers word at (canonical_row word)))
     ≡ Ok (word ∷ [])) [
       | true ↦ λ t. let z : word ≡ 0 = (Decides-eqb word 0).0 t in
           let P : ℕ → Type 0 = λ x. stands_for at (codes "nop") ≡ Ok (x ∷ []) in

@@ -18,11 +18,11 @@
 
 ghost use Rattle.std.specs.Prelude.{◌≡◌, ◌+◌, ◌*◌, ◌≤◌, ◌<◌, ◌^◌, ◌++◌, [], IfOk, Some, None, false, if◌then◌else◌, is_ok, length, option_map, slice_get, slice_index_or, string_bytes, string_capacity, string_len};
 ghost use Rattle.m161_asm.specs.Tokens.{register_names};
+ghost use Rattle.m161_isa.specs.Address.{branch_target, jump_target};
 ghost use Rattle.m161_isa.specs.Table.{table, width_of};
 ghost use Rattle.m161_symbols.specs.Names.{behind_of};
 ghost use Rattle.m161_symbols.specs.Table.{read_place};
-ghost use Rattle.m161_dis.specs.Canon.{branch_target, canon, canon_as, canon_named, canon_with, canonical_row, jump_target, lead_of, register_text, signed_text, target_among, target_of, target_of_operand, target_place};
-ghost use Rattle.m161_dis.specs.helpers.Naming.{canon_as_by, operand_as, operands_as, register_as};
+ghost use Rattle.m161_dis.specs.Canon.{canon, canon_as, canon_by, canon_named, canon_with, canonical_row, lead_of, operand_text, operands_text, register_in, register_text, signed_text, target_among, target_of, target_of_operand, target_place};
 
 mod laws;
 mod naming;
@@ -167,7 +167,7 @@ fn put_line(text: &mut String, naming: Naming, word: u32, at: u32)
 fn put_word(text: &mut String, naming: Naming, word: u32, at: u32)
     requires { string_len text.old + LONGEST ≤ string_capacity text.old }
     ensures bytes { string_bytes text.new
-        ≡ string_bytes text.old ++ canon_as_by naming word at (canonical_row word) }
+        ≡ string_bytes text.old ++ canon_by naming word at (canonical_row word) }
     ensures len { string_len text.new ≤ string_len text.old + LONGEST }
     ensures capacity { string_capacity text.old ≤ string_capacity text.new }
 {
@@ -225,7 +225,7 @@ fn put_operands(
     requires room { string_len text.old + 16 * length operands.now ≤ string_capacity text.old }
     requires lead { length lead.now ≤ 2 }
     ensures bytes { string_bytes text.new
-        ≡ string_bytes text.old ++ operands_as naming word at lead.now operands.now }
+        ≡ string_bytes text.old ++ operands_text naming word at lead.now operands.now }
     ensures len { string_len text.new ≤ string_len text.old + 16 * length operands.now }
     ensures capacity { string_capacity text.old ≤ string_capacity text.new }
 {
@@ -251,7 +251,7 @@ fn put_operand(
     requires room { string_len text.old + 16 ≤ string_capacity text.old }
     requires lead { length lead.now ≤ 2 }
     ensures bytes { string_bytes text.new ≡ string_bytes text.old
-        ++ lead_of operand lead.now ++ operand_as naming at operand number }
+        ++ lead_of operand lead.now ++ operand_text naming at operand number }
     ensures len { string_len text.new ≤ string_len text.old + 16 }
     ensures capacity { string_capacity text.old ≤ string_capacity text.new }
 {
@@ -317,7 +317,7 @@ fn name_of_register(number: u32) -> &'static str
 fn put_register(text: &mut String, naming: Naming, number: u32)
     requires number { number < 32 }
     requires room { string_len text.old + 11 ≤ string_capacity text.old }
-    ensures bytes { string_bytes text.new ≡ string_bytes text.old ++ register_as naming number }
+    ensures bytes { string_bytes text.new ≡ string_bytes text.old ++ register_in naming number }
     ensures len { string_len text.new ≤ string_len text.old + 11 }
     ensures capacity { string_capacity text.old ≤ string_capacity text.new }
 {
