@@ -70,9 +70,10 @@ none_counted (suc n) = All-cons (λ (p : Processor). p.count ≤ 0) stopped_proc
 
 pub sound_at_boot : (start : Start) (processors : List Processor) (memory : List ℕ) (board : BoardState) (links : LinkState) →
     is_within_limits start.conf ≡ true → length memory ≡ start.conf.ram → board.processors ≡ start.conf.processors →
+    links.unit ≡ start.conf.link →
     processors ≡ started_processor start.entry 0 0 0 ∷ replicate (start.conf.processors - 1) stopped_processor →
     IsSound (state_of start.conf processors memory board links 0 None)
-sound_at_boot start processors memory board links within size number processors_are =
+sound_at_boot start processors memory board links within size number unit processors_are =
     let one : 1 ≤ start.conf.processors = search rules in
     let few : start.conf.processors ≤ 32 = search rules in
     let ram : start.conf.ram ≤ 2 ^ 24 = search rules in
@@ -87,4 +88,5 @@ sound_at_boot start processors memory board links within size number processors_
       limits_hold = within;
       counts = subst (CountUpTo 0) (sym processors_are) (All-cons (λ (p : Processor). p.count ≤ 0) first rest (omega arith) (none_counted (start.conf.processors - 1)));
       apart = λ strict. subst AreAllApart (sym processors_are) (apart_at_boot first (start.conf.processors - 1) start_apart);
+      unit_is = unit;
     }

@@ -14,6 +14,7 @@ pub record IsSound (s : State) : Type 0 where
   -- so no count of Steps overflows
   pub counts : CountUpTo s.made s.processors
   pub apart : s.conf.strict ≡ true → AreAllApart s.processors
+  pub unit_is : s.links.unit ≡ s.conf.link
 
 -- what holds of every machine's history
 pub record IsLawful (h : History) : Type 0 where

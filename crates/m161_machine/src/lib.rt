@@ -44,6 +44,6 @@ pub use m161_elf::LoadError;
 pub use m161_isa::{LinkUnit, Reg};
 pub use m161_tlb::{Frame, Identifier, Page, Row, Tlb};
 pub use machine::Machine;
-pub use packed::PackedEntry;
+pub use packed::{PackedEntry, plan_all};
 pub use start::Start;
 pub use state::{Core, worn};

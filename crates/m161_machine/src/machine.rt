@@ -296,7 +296,8 @@ impl<T: Tlb, D: Console> Machine<T, D> {
     /// has the last entries for which there is room. The configuration is within the limits and
     /// never changes. Since the base each processor has counted exactly its Steps in the log, and
     /// each entry's outcome is one that its event can have, and a conflict only on a strict machine.
-    /// On that no two rows of a processor's TLB overlap, in the state and in the base.
+    /// On that no two rows of a processor's TLB overlap, in the state and in the base. In both, links are
+    /// to the unit of the configuration.
     pub fn replay(&self)
         ensures replay { IsReplay self.now }
         ensures reached { IsReached self.now.start self.now.base }
@@ -315,6 +316,8 @@ impl<T: Tlb, D: Console> Machine<T, D> {
         ensures mode { All (λ e. FitsMode self.now.start.conf.strict e.outcome) self.now.log }
         ensures apart { self.now.start.conf.strict ≡ true
             → AreAllApart self.now.state.processors × AreAllApart self.now.base.processors }
+        ensures unit { (self.now.state.links.unit ≡ self.now.start.conf.link)
+            × (self.now.base.links.unit ≡ self.now.start.conf.link) }
     {
         let _window = &self.window;
         self.present.law();
@@ -421,5 +424,5 @@ fn advance_into<T: Tlb, D: Console>(
     ensures sizes { KeepsSizes core.old.state core.new.state }
 {
     let (first, _) = room.as_mut_slice().split_at_mut(most);
-    core.advance(p, first, false)
+    core.advance(p, first)
 }

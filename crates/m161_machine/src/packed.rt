@@ -1,12 +1,13 @@
 //! The log's entries as they are stored: four bytes each, since every Step writes one.
 
-ghost use Rattle.std.specs.Prelude.{◌≡◌, ◌+◌, ◌*◌, ◌/◌, ◌%◌, ◌<◌, ◌≤◌, ◌^◌, IfOk, length};
+ghost use Rattle.std.specs.Prelude.{◌≡◌, ℕ, ◌+◌, ◌*◌, ◌/◌, ◌%◌, ◌<◌, ◌≤◌, ◌^◌, IfOk, length, replicate};
 ghost use Rattle.m161_cop0.specs.Trap.{IsVector};
 ghost use Rattle.m161_cpu.specs.declared.processor.Outcome.TheVariants as outcomes;
 ghost use Rattle.m161_cpu.specs.Step.{AreTwoRows, IsOfStep};
 ghost use Rattle.m161_machine.specs.declared.event.Event.TheVariants as events;
 ghost use Rattle.m161_machine.specs.History.{entry, is_step_of};
 ghost use Rattle.m161_machine.specs.Packed.{number_of_vector, outcome_with, place_of, vector_with};
+ghost use Rattle.m161_machine.specs.Stretch.{planned};
 
 use crate::event::{Entry, Event};
 use m161_cop0::Exception;
@@ -181,11 +182,29 @@ impl PackedEntry {
         PackedEntry { word: DONE }
     }
 
+    /// A Step of a processor that is to be made.
+    #[inline(always)]
+    pub fn planned(p: u32) -> PackedEntry
+        requires { p < 32 }
+        ensures { result ≡ planned p }
+    {
+        PackedEntry::of_step(p, Outcome::Ran)
+    }
+
+    /// The processor of a Step that is to be made.
+    #[inline(always)]
+    pub(crate) fn processor(&self) -> u32
+        requires { (p : ℕ) × (p < 32) × (self.now ≡ planned p) }
+        ensures { self.now ≡ planned result }
+    {
+        self.word / 64
+    }
+
     /// An entry that is to be written over.
     pub fn blank() -> PackedEntry
-        ensures { result ≡ entry (events.Step 0) outcomes.Ran }
+        ensures { result ≡ planned 0 }
     {
-        PackedEntry::of_step(0, Outcome::Ran)
+        PackedEntry::planned(0)
     }
 
     /// The entry.
@@ -226,4 +245,15 @@ pub(crate) fn blanks(alloc: Global, number: usize) -> Result<Vec<PackedEntry>, A
         blanks.push_reserved(PackedEntry::blank());
     }
     Ok(blanks)
+}
+
+/// Plans a Step of a processor at each of these places.
+#[inline(always)]
+pub fn plan_all(places: &mut [PackedEntry], p: u32)
+    requires { p < 32 }
+    ensures { places.new ≡ replicate (length places.old) (planned p) }
+{
+    for place in 0..places.len() {
+        places[place] = PackedEntry::planned(p);
+    }
 }

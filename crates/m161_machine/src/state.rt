@@ -1,6 +1,6 @@
 //! The state of a machine, without its log.
 
-ghost use Rattle.std.specs.Prelude.{◌≡◌, ◌≢◌, ◌⊎◌, ◌+◌, ◌-◌, ◌^◌, ◌<◌, ◌≤◌, ◌∷◌, replicate, length, take, None, Ok, Err, IfNone, IfSome, IfOk, IsOk, OnOk, OnErr, true, false};
+ghost use Rattle.std.specs.Prelude.{◌≡◌, ◌≢◌, ◌⊎◌, ◌+◌, ◌-◌, ◌^◌, ◌<◌, ◌≤◌, ◌∷◌, replicate, length, drop, take, None, Ok, Err, IfNone, IfSome, IfOk, IsOk, OnOk, OnErr, true, false};
 ghost use Rattle.m161_cpu.specs.Processor.{started_processor, stopped_processor};
 ghost use Rattle.m161_cpu.specs.Step.{IsOfStep};
 ghost use Rattle.m161_cpu.specs.declared.processor.Outcome.{Outcome};
@@ -8,10 +8,10 @@ ghost use Rattle.m161_machine.specs.declared.event.Event.TheVariants as events;
 ghost use Rattle.m161_machine.specs.State.{AreAllApart, CountUpTo, KeepsSizes, State, is_worn, next, refusal, step_result, with_step};
 ghost use Rattle.m161_machine.specs.declared.event.Refusal.{Refusal};
 ghost use Rattle.m161_machine.specs.Resting.{rests};
-ghost use Rattle.m161_machine.specs.Stretch.{Advances, IsQuiet, IsStretch};
+ghost use Rattle.m161_machine.specs.Stretch.{Advances, ArePlanned, IsQuiet, IsStretch};
 ghost use Rattle.m161_machine.specs.Uses.{MakesStep};
 ghost use Rattle.m161_machine.specs.Conf.{is_within_limits};
-ghost use Rattle.m161_machine.specs.History.{BootsState, Makes, MakesEntry, boot_fault, boot_state};
+ghost use Rattle.m161_machine.specs.History.{BootsState, Leads, Makes, MakesEntry, boot_fault, boot_state, events_of};
 ghost use Rattle.m161_machine.specs.helpers.History.{start_of};
 ghost use Rattle.m161_machine.specs.declared.step.Pace.TheVariants.{Quiet};
 ghost use Rattle.m161_machine.specs.helpers.Pace.{outcome_of};
@@ -22,7 +22,7 @@ mod views;
 
 use crate::conf::{BootError, Conf};
 use crate::event::{Conflict, Event, Refusal};
-use crate::packed::PackedEntry;
+use crate::packed::{PackedEntry, plan_all};
 use crate::step::{Pace, step_parts};
 use m161_bus::{Board, Console, DoneError};
 use m161_cpu::{Cpu, Links, Outcome};
@@ -208,14 +208,13 @@ impl<T: Tlb, D: Console> Core<T, D> {
         ensures room { self.new.room ≡ self.old.room }
     {
         let mut kept = [PackedEntry::blank()];
-        let _made = self.advance(p, &mut kept, false);
+        let _made = self.advance(p, &mut kept);
     }
 
-    /// Makes a Step of processor `p` for each place of `kept`, until one of them switches the
-    /// machine off or, in a stretch, isn't plain; and writes each one's entry into its place.
-    /// Returns how many were made. Its loop is the only place in a program with the code of a Step.
-    #[inline(never)]
-    pub(crate) fn advance(&mut self, p: u32, kept: &mut [PackedEntry], stretch: bool) -> usize
+    /// Makes a Step of processor `p` for each place of `kept`, until one of them switches the machine
+    /// off; and writes each one's entry into its place. Returns how many were made.
+    #[inline(always)]
+    pub(crate) fn advance(&mut self, p: u32, kept: &mut [PackedEntry]) -> usize
         requires place { p < length self.old.state.processors }
         requires on { self.old.state.board.off ≡ false }
         requires few { self.old.state.made + length kept.old ≤ 2 ^ 63 - 1 }
@@ -223,22 +222,48 @@ impl<T: Tlb, D: Console> Core<T, D> {
         ensures length { length kept.new ≡ length kept.old }
         ensures within { result ≤ length kept.old }
         ensures some { 1 ≤ length kept.old → 1 ≤ result }
-        ensures end { stretch ≡ false → result ≡ length kept.old
+        ensures end { result ≡ length kept.old
             ⊎ (result < length kept.old) × (self.new.state.board.off ≡ true) }
-        ensures stretch { stretch ≡ true → 1 ≤ length kept.old
-            → IsStretch p self.old.state (take result kept.new) self.new.state }
         ensures sizes { KeepsSizes self.old.state self.new.state }
         ensures room { self.new.room ≡ self.old.room }
     {
+        self.law();
+        plan_all(kept, p);
+        self.make_planned(kept, false)
+    }
+
+    /// Makes the Steps that the places of `kept` name, until one of them switches the machine off
+    /// or, in a stretch, isn't plain; and writes each one's entry into its place. Returns how many
+    /// were made. Its loop is the only place in a program with the code of a Step.
+    #[inline(never)]
+    pub(crate) fn make_planned(&mut self, kept: &mut [PackedEntry], stretch: bool) -> usize
+        requires planned { ArePlanned (length self.old.state.processors) kept.old }
+        requires on { self.old.state.board.off ≡ false }
+        requires few { self.old.state.made + length kept.old ≤ 2 ^ 63 - 1 }
+        ensures leads { Leads self.old.state (take result kept.new) self.new.state }
+        ensures events { events_of (take result kept.new) ≡ events_of (take result kept.old) }
+        ensures behind { drop result kept.new ≡ drop result kept.old }
+        ensures length { length kept.new ≡ length kept.old }
+        ensures within { result ≤ length kept.old }
+        ensures some { 1 ≤ length kept.old → 1 ≤ result }
+        ensures end { stretch ≡ false → result ≡ length kept.old
+            ⊎ (result < length kept.old) × (self.new.state.board.off ≡ true) }
+        ensures stretch { stretch ≡ true → 1 ≤ length kept.old
+            → IsStretch self.old.state (take result kept.new) self.new.state }
+        ensures sizes { KeepsSizes self.old.state self.new.state }
+        ensures room { self.new.room ≡ self.old.room }
+    {
+        self.law();
         let mut made = 0;
         while made < kept.len() {
-            if !self.may_go_on(p, made, stretch) {
-                return made;
-            }
+            let p = kept[made].processor();
             match self.make_step(p) {
+                // The place has this Step's entry.
                 Pace::Quiet => {
-                    kept[made] = PackedEntry::of_step(p, Outcome::Ran);
                     made += 1;
+                    if stretch && !self.is_running(p) {
+                        return made;
+                    }
                 }
                 Pace::Aside(outcome) => {
                     kept[made] = PackedEntry::of_step(p, outcome);
@@ -288,17 +313,6 @@ impl<T: Tlb, D: Console> Core<T, D> {
         );
         *made += 1;
         pace
-    }
-
-    // Whether a next Step of processor `p` belongs to these: not to a stretch, if it would be idle.
-    #[inline(always)]
-    fn may_go_on(&self, p: u32, made: usize, stretch: bool) -> bool
-        requires { p < length self.now.state.processors }
-        ensures ends { result ≡ false → (stretch ≡ true) × (1 ≤ made) }
-        ensures goes_on { result ≡ true → stretch ≡ true
-            → (made ≡ 0) ⊎ (rests p self.now.state ≡ false) }
-    {
-        self.is_running(p) || !stretch || made == 0
     }
 
     // Whether processor `p` executes instructions; then its next Step isn't idle.
@@ -430,7 +444,8 @@ impl<T: Tlb, D: Console> Core<T, D> {
 
     /// The law of every state: there are as many processors as the board says, at most 32; RAM has at
     /// most 2^29 bytes; the configuration is within the limits; no processor has made more Steps than
-    /// events were accepted; and on a strict machine no two rows of a processor's TLB overlap.
+    /// events were accepted; on a strict machine no two rows of a processor's TLB overlap; and links are
+    /// to the unit of the configuration.
     pub fn law(&self)
         ensures number { length self.now.state.processors ≡ self.now.state.board.processors }
         ensures few { length self.now.state.processors ≤ 32 }
@@ -438,6 +453,7 @@ impl<T: Tlb, D: Console> Core<T, D> {
         ensures limits { is_within_limits self.now.state.conf ≡ true }
         ensures counts { CountUpTo self.now.state.made self.now.state.processors }
         ensures apart { self.now.state.conf.strict ≡ true → AreAllApart self.now.state.processors }
+        ensures unit { self.now.state.links.unit ≡ self.now.state.conf.link }
     {
         let _processors = &self.processors;
     }
@@ -495,7 +511,7 @@ impl<T: Tlb, D: Console> Core<T, D> {
             return Err(refusal);
         }
         let mut kept = [PackedEntry::blank()];
-        let _made = self.advance(p, &mut kept, false);
+        let _made = self.advance(p, &mut kept);
         Ok(kept[0])
     }
 }

@@ -66,6 +66,7 @@ pub(crate) fn step_parts<T: Tlb, D: Console>(
     ensures proper { IsOfStep (outcome_of result) }
     ensures apart { strict ≡ true → AreAllApart processors.old.items
         → AreAllApart processors.new.items }
+    ensures unit { links.new.unit ≡ links.old.unit }
 {
     match processors[p as usize].step(p, ram, board, links, strict) {
         // For LLVM: an arm of its own, so that the outcome of most Steps is known without a test.

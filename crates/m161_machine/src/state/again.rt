@@ -85,7 +85,7 @@ impl<T: Tlb, D: Console> Core<T, D> {
     {
         let number = steps_at_start(p, entries);
         let (steps, _) = entries.split_at_mut(number);
-        let _all = self.advance(p, steps, false);
+        let _all = self.advance(p, steps);
         number
     }
 }

@@ -1,4 +1,4 @@
-use Rattle.std.proofs.Common.{◌≡◌, ◌∙◌, ap, subst}
+use Rattle.std.proofs.Common.{◌≡◌, ◌∙◌, ap, sym, subst}
 use Rattle.m161_machine.specs.declared.conf.Conf.{Conf}
 use Rattle.m161_machine.specs.State.{AreAllApart, CoreValue, State}
 use Rattle.m161_machine.specs.History.{FitsMode, History, boot_state}
@@ -30,18 +30,34 @@ returns-clause-steps g c = counts_steps c.args.self.now (lawful g c).replay
 pub returns-clause-outcomes : goal.returns-clause-outcomes
 returns-clause-outcomes g c = run_gives c.args.self.now.log c.args.self.now.base c.args.self.now.state (lawful g c).replay
 
-pub returns-clause-apart : goal.returns-clause-apart
-returns-clause-apart g c = λ strict.
+state_is : (g : Over) (c : goal.After-law-2 g) → c.deref.result.now.state ≡ c.args.self.now.state
+state_is g c = ap (λ (v : CoreValue). v.state) c.deref.ensures ∙ ap (λ (h : History). h.state) c.self.view_is
+
+base_is : (g : Over) (c : goal.After-law-2 g) → c.deref-2.result.now.state ≡ c.args.self.now.base
+base_is g c = ap (λ (v : CoreValue). v.state) c.deref-2.ensures ∙ ap (λ (h : History). h.base) c.self.view_is
+
+base_conf : (g : Over) (c : goal.After-law-2 g) → c.args.self.now.base.conf ≡ c.args.self.now.start.conf
+base_conf g c =
     let l = lawful g c in
-    let state_is : c.deref.result.now.state ≡ c.args.self.now.state = ap (λ (v : CoreValue). v.state) c.deref.ensures ∙ ap (λ (h : History). h.state) c.self.view_is in
-    let base_is : c.deref-2.result.now.state ≡ c.args.self.now.base = ap (λ (v : CoreValue). v.state) c.deref-2.ensures ∙ ap (λ (h : History). h.base) c.self.view_is in
-    let base_conf : c.args.self.now.base.conf ≡ c.args.self.now.start.conf = conf_stays l.reached.0 (boot_state c.args.self.now.start) c.args.self.now.base l.reached.1 in (
-      subst AreAllApart (ap (λ (s : State). s.processors) state_is) (c.law.ensures.apart (ap (λ (s : State). s.conf.strict) state_is ∙ ap (λ (k : Conf). k.strict) l.conf_is ∙ strict)),
-      subst AreAllApart (ap (λ (s : State). s.processors) base_is) (c.law-2.ensures.apart (ap (λ (s : State). s.conf.strict) base_is ∙ ap (λ (k : Conf). k.strict) base_conf ∙ strict)),
-    )
+    conf_stays l.reached.0 (boot_state c.args.self.now.start) c.args.self.now.base l.reached.1
+
+pub returns-clause-apart : goal.returns-clause-apart
+returns-clause-apart g c = λ strict. (
+  subst AreAllApart (ap (λ (s : State). s.processors) (state_is g c))
+      (c.law.ensures.apart (ap (λ (s : State). s.conf.strict) (state_is g c) ∙ ap (λ (k : Conf). k.strict) (lawful g c).conf_is ∙ strict)),
+  subst AreAllApart (ap (λ (s : State). s.processors) (base_is g c))
+      (c.law-2.ensures.apart (ap (λ (s : State). s.conf.strict) (base_is g c) ∙ ap (λ (k : Conf). k.strict) (base_conf g c) ∙ strict)),
+)
+
+pub returns-clause-unit : goal.returns-clause-unit
+returns-clause-unit g c = (
+  ap (λ (s : State). s.links.unit) (sym (state_is g c)) ∙ c.law.ensures.unit
+      ∙ ap (λ (s : State). s.conf.link) (state_is g c) ∙ ap (λ (k : Conf). k.link) (lawful g c).conf_is,
+  ap (λ (s : State). s.links.unit) (sym (base_is g c)) ∙ c.law-2.ensures.unit
+      ∙ ap (λ (s : State). s.conf.link) (base_is g c) ∙ ap (λ (k : Conf). k.link) (base_conf g c),
+)
 
 pub returns-clause-mode : goal.returns-clause-mode
 returns-clause-mode g c =
-    let l = lawful g c in
-    let base_conf : c.args.self.now.base.conf ≡ c.args.self.now.start.conf = conf_stays l.reached.0 (boot_state c.args.self.now.start) c.args.self.now.base l.reached.1 in
-    subst (λ (k : Conf). All (λ (e : Entry). FitsMode k.strict e.outcome) c.args.self.now.log) base_conf (run_fits c.args.self.now.log c.args.self.now.base c.args.self.now.state l.replay)
+    subst (λ (k : Conf). All (λ (e : Entry). FitsMode k.strict e.outcome) c.args.self.now.log) (base_conf g c)
+    (run_fits c.args.self.now.log c.args.self.now.base c.args.self.now.state (lawful g c).replay)

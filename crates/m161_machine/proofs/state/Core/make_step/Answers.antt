@@ -19,6 +19,7 @@ invariant_of-self g c = (
     limits_hold = c.self.invariant.0.limits_hold;
     counts = c.step_parts-pace.ensures.counts c.self.inside.made c.self.invariant.0.counts;
     apart = λ strict. c.step_parts-pace.ensures.apart strict (c.self.invariant.0.apart strict);
+    unit_is = c.step_parts-pace.ensures.unit ∙ c.self.invariant.0.unit_is;
   },
   c.step_parts-pace.ensures.started,
   c.step_parts-pace.ensures.noted,

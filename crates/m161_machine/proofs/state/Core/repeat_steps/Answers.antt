@@ -1,4 +1,4 @@
-use Rattle.std.proofs.Common.{◌≡◌, ◌∙◌, refl, ap, sym, subst, ◌⊎◌, ◌<◌, ◌++◌, true, take, arith}
+use Rattle.std.proofs.Common.{◌≡◌, ◌∙◌, ap, sym, subst, ◌⊎◌, ◌<◌, ◌++◌, true, take, arith}
 use Rattle.m161_machine.specs.History.{Leads}
 use Rattle.m161_machine.proofs.Again.{first_step, steps_again}
 use Rattle.m161_machine.proofs.state.Core.repeat_steps.Given.{Over}
@@ -29,7 +29,7 @@ again g c =
     steps_again c.args.p c.steps_at_start-number.result c.advance-all.result c.args.self.now.state c.advance-all.new.self.state c.requires.accepted.0
     c.args.entries.now c.advance-all.new.kept c.requires.accepted.1 c.steps_at_start-number.ensures.within c.steps_at_start-number.ensures.steps
     c.advance-all.ensures.advances (c.advance-all.ensures.length ∙ long) (omega (arith, within, long))
-    (subst (λ n. (c.advance-all.result ≡ n) ⊎ ((c.advance-all.result < n) × (c.advance-all.new.self.state.board.off ≡ true))) long (c.advance-all.ensures.end refl))
+    (subst (λ n. (c.advance-all.result ≡ n) ⊎ ((c.advance-all.result < n) × (c.advance-all.new.self.state.board.off ≡ true))) long c.advance-all.ensures.end)
 
 pub returns-clause-leads : goal.returns-clause-leads
 returns-clause-leads g c = (again g c).1

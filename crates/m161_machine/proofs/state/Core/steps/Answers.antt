@@ -1,4 +1,4 @@
-use Rattle.std.proofs.Common.{◌≡◌, ◌∙◌, refl, sym, ℕ, ◌+◌, ◌-◌, ◌^◌, ◌<◌, ◌≤◌, ◌⊎◌, inl, inr, Bool, true, false, List, length, take, arith, rules}
+use Rattle.std.proofs.Common.{◌≡◌, ◌∙◌, sym, ℕ, ◌+◌, ◌-◌, ◌^◌, ◌<◌, ◌≤◌, ◌⊎◌, inl, inr, Bool, true, false, List, length, take, arith, rules}
 use Rattle.std.proofs.lemmas.List.{length-take-le}
 use Rattle.m161_machine.specs.declared.event.Entry.{Entry}
 use Rattle.m161_machine.specs.declared.event.Event.TheVariants.{Step}
@@ -40,7 +40,7 @@ returns-else-is_off-clause-end g c = (
       (worn_by c.args.self.now.state.made c.advance-made.new.self.state.made (length c.args.entries.now) c.before_worn-most.result c.advance-made.result
       c.before_worn-most.ensures.least
       (all_made (length c.split_at_mut-first.result.0.now) c.advance-made.result c.advance-made.new.self.state.board.off
-      (sym c.is_off.ensures ∙ c.if-is_off.false) (c.advance-made.ensures.end refl) ∙ c.split_at_mut-first.ensures.front_len)
+      (sym c.is_off.ensures ∙ c.if-is_off.false) (c.advance-made.ensures.end) ∙ c.split_at_mut-first.ensures.front_len)
       (made_is c.advance-made.result c.advance-made.new.kept c.args.self.now.state c.advance-made.new.self.state
       (let within = c.advance-made.ensures.within in let long = c.advance-made.ensures.length in omega (arith, within, long)) c.advance-made.ensures.advances.0)
       (search rules)),
