@@ -1,21 +1,26 @@
-use Rattle.std.specs.Prelude.{Option, OnErr, Some, Result, Ok, Err, if◌then◌else◌, Bool, true, false, slice_get, slice_set}
-use Rattle.std.proofs.Common.{◌≡◌, ◌∙◌, refl, sym, ap, subst, ℕ, ◌+◌, ◌<◌, ◌≤◌, List, [], ◌∷◌, ◌++◌, length, take, arith, append_assoc, ◌-◌, ◌⊎◌, inl, inr}
-use Rattle.std.proofs.lemmas.List.{append-nil, length-append, length-take-le, take-append-le}
+use Rattle.std.specs.Prelude.{Option, OnErr, Some, Result, Ok, Err, if◌then◌else◌, Bool, true, false, slice_get, slice_index_or, slice_set}
+use Rattle.std.proofs.Common.{◌≡◌, ◌∙◌, refl, sym, ap, subst, ℕ, suc, ◌+◌, ◌<◌, ◌≤◌, List, [], ◌∷◌, ◌++◌, length, take, arith, append_assoc, ◌-◌, ◌⊎◌, inl, inr}
+use Rattle.std.proofs.lemmas.List.{append-nil, get_or-take, get_or_push, length-append, length-take-le, take-append-le}
+use Rattle.std.proofs.lemmas.List.Elements.{All-cons, All-nil}
 use Rattle.m161_machine.specs.declared.event.Entry.{Entry}
 use Rattle.m161_machine.specs.declared.event.Event.{Event}
 use Rattle.m161_machine.specs.declared.event.Event.TheVariants.{Step}
 use Rattle.m161_machine.specs.declared.event.Refusal.{Refusal}
-use Rattle.m161_machine.specs.History.{Refuses}
+use Rattle.m161_machine.specs.History.{Refuses, events_of}
 use Rattle.m161_machine.specs.State.{State, next, refusal}
-use Rattle.m161_machine.specs.Stretch.{IsStretch}
+use Rattle.m161_machine.specs.Stretch.{ArePlanned, IsStretch, planned as planned_step}
 use Rattle.m161_drive.specs.declared.cursor.Cursor.{Cursor}
 use Rattle.m161_drive.specs.declared.run.Stop.{Stop}
 use Rattle.m161_drive.specs.declared.run.Stop.TheVariants.{Off, End, Stuck, Refused}
 use Rattle.m161_drive.specs.Policy.{Rules}
 use Rattle.m161_drive.specs.Choice.{chosen_with, cursor_at, taken}
 use Rattle.m161_drive.specs.Drive.{BeginsRun, Chooses, Drives, Goes, IsNoted, Rests, Stops, Turn}
-use Rattle.m161_drive.specs.helpers.Drive.{AreInTurn, IsRefused, LeavesRoom, MakesChosen, with_more_steps}
-use Rattle.m161_drive.proofs.Stretched.{choice_step, stretched}
+use Rattle.m161_drive.specs.declared.orders.OrderState.{OrderState}
+use Rattle.m161_drive.specs.Ready.{is_ready}
+use Rattle.m161_drive.specs.helpers.Drive.{IsPlan, IsRefused, LeavesRoom, MakesChosen, Plans, next_order, with_more_steps}
+use Rattle.m161_drive.proofs.Fitting.{order_ready}
+use Rattle.m161_drive.proofs.Planned.{ready_there}
+use Rattle.m161_drive.proofs.Stretched.{choice_step, step_same, stretched}
 
 -- Driven runs.
 
@@ -151,44 +156,76 @@ input_turn rules key b c d s t e places (Err stop) on some choice after h =
     (refused_so rules key b s e stop on choice h.0, h.1)
 
 -- the room that a stretch needs
-room_for : (rules : Rules) (key : Option ℕ) (most k : ℕ) (c : Cursor) (s : State) → k + 1 ≤ most →
-    (most ≡ 1) ⊎ LeavesRoom rules key c s most → (k ≡ 0) ⊎ LeavesRoom rules key c s most
-room_for rules key most k c s few (inl one) = inl (omega (arith, few, one))
-room_for rules key most k c s few (inr room) = inr room
+room_behind : (rules : Rules) (key : Option ℕ) (p most n k : ℕ) (c : Cursor) (s : State) (plan : List Entry) → IsPlan c.order p s most plan →
+    (most ≡ 1) ⊎ LeavesRoom rules key c s most → k + 1 ≡ n → n ≤ most → length (take most plan) ≡ most →
+    (k ≡ 0) ⊎ (is_ready s p ≡ true) × LeavesRoom rules key c s most
+room_behind rules key p most n k c s plan planned (inl one) long few whole = inl (omega (arith, one, long, few))
+room_behind rules key p most n k c s plan planned (inr room) long few whole = elim planned.goes_on as (λ _. (k ≡ 0) ⊎ (is_ready s p ≡ true) × LeavesRoom rules key c s most) [
+  | inl none ↦ inl (let one = ap length planned.places_are ∙ ap (λ (es : List Entry). length (planned_step p ∷ es)) none in omega (arith, one, whole, long, few))
+  | inr w ↦ inr (w.0, room)
+]
 
--- a stretch of Steps, as a turn
-pub stretch_turn : (rules : Rules) (key : Option ℕ) (p n most : ℕ) (b c d : Cursor) (s t : State) (places : List Entry) →
+-- a stretch of planned Steps, as a turn
+pub stretch_turn : (rules : Rules) (key : Option ℕ) (p n most : ℕ) (b c d : Cursor) (s t : State) (plan places : List Entry) →
     s.board.off ≡ false → (chosen_with rules key b s).0 ≡ Some (Step p) → c ≡ (chosen_with rules key b s).1 →
-    (most ≡ 1) ⊎ LeavesRoom rules key c s most → 1 ≤ n → n ≤ most → most ≤ length places → IsStretch p s (take n places) t →
-    d ≡ with_more_steps (n - 1) t c → Turn rules key b s places (Ok n) d t
-stretch_turn rules key p n most b c d s t places on choice after room some few inside h cursor =
+    IsPlan c.order p s most plan → (most ≡ 1) ⊎ LeavesRoom rules key c s most → 1 ≤ n → n ≤ most → most ≤ length places → most ≤ length plan →
+    events_of (take n places) ≡ events_of (take n (take most plan)) → (h : IsStretch s (take n places) t) →
+    d ≡ with_more_steps (n - 1) h.processor t c → Turn rules key b s places (Ok n) d t
+stretch_turn rules key p n most b c d s t plan places on choice after planned room some few inside size events h cursor =
+    let whole_plan = length-take-le most plan size in
     let long : length h.before + 1 ≡ n =
     sym (length-append h.before (h.last ∷ [])) ∙ ap length (sym h.entries_are) ∙ length-take-le n places (omega (arith, few, inside)) in
     let step = choice_step p rules key b s choice in
     let pair : chosen_with rules key b s ≡ (Some (Step p), c) = λ i. (choice i, sym after i) in
     let less : length h.before + 1 ≤ most = omega (arith, long, few) in
-    let whole : with_more_steps (length h.before) t c ≡ d =
-    ap (λ k. with_more_steps k t c) (omega (arith, long)) ∙ sym cursor in (
+    let made : events_of (h.before ++ h.last ∷ []) ≡ Step p ∷ events_of (take (length h.before) planned.rest) =
+    ap events_of (sym h.entries_are) ∙ events
+    ∙ (λ i. events_of (take (sym long i) (planned.places_are i)))
+    ∙ (let one : length h.before + 1 ≡ suc (length h.before) = omega arith in ap (λ k. events_of (take k (planned_step p ∷ planned.rest))) one) in
+    let whole : with_more_steps (length h.before) h.processor t c ≡ d =
+    (let n_is : length h.before ≡ n - 1 = omega (arith, long) in ap (λ k. with_more_steps k h.processor t c) n_is) ∙ sym cursor in (
       some,
       omega (arith, few, inside),
       λ keys next_key. subst (λ x. Chooses rules keys b s (take n places) x t) whole
-          (subst (λ es. Chooses rules keys b s es (with_more_steps (length h.before) t c) t) (sym h.entries_are)
-          (stretched rules keys key p h.before h.last most b c s h.between t on pair next_key (ap (λ (x : Cursor). x.typed) after ∙ step.1)
-          (ap (λ (x : Cursor). x.last) after ∙ step.0) (room_for rules key most (length h.before) c s less room) less h.are_plain h.is_step
-          h.leads)),
+          (subst (λ es. Chooses rules keys b s es (with_more_steps (length h.before) h.processor t c) t) (sym h.entries_are)
+          (stretched rules keys key p h.processor h.before h.last planned.rest planned.end most b c s h.between t on pair next_key
+          (ap (λ (x : Cursor). x.typed) after ∙ step.1) (ap (λ (x : Cursor). x.last) after ∙ step.0)
+          (room_behind rules key p most n (length h.before) c s plan planned room long few whole_plan) less planned.plans made h.are_plain h.is_step h.leads)),
     )
+
+-- the processor of the last Step of a stretch
+last_at : (es : List Entry) (x : Entry) (fs : List Entry) (n : ℕ) (d : Entry) → es ≡ fs ++ x ∷ [] → length fs ≡ n → slice_index_or es n d ≡ x
+last_at es x fs n d is long = ap (λ ys. slice_index_or ys n d) is ∙ get_or_push fs x d n long
+
+pub last_of : (s t : State) (places : List Entry) (n : ℕ) (d : Entry) → 1 ≤ n → n ≤ length places → (h : IsStretch s (take n places) t) →
+    (q : ℕ) → (slice_index_or places (n - 1) d).event ≡ Step q → q ≡ h.processor
+last_of s t places n d some within h q is =
+    let long : length h.before + 1 ≡ n =
+    sym (length-append h.before (h.last ∷ [])) ∙ ap length (sym h.entries_are) ∙ length-take-le n places within in
+    let number : length h.before ≡ n - 1 = omega (arith, long) in
+    let there : slice_index_or places (n - 1) d ≡ h.last =
+    sym (get_or-take n places (n - 1) d (omega (arith, some))) ∙ last_at (take n places) h.last h.before (n - 1) d h.entries_are number in
+    step_same q h.processor (sym is ∙ ap (λ (e : Entry). e.event) there ∙ h.is_step)
 
 -- an entry in the first place
 pub first_set : (es : List Entry) (x : Entry) → 1 ≤ length es → take 1 (slice_set es 0 x) ≡ x ∷ []
 first_set [] x some = absurd (let bad : ⊥ = omega (arith, some) in bad)
 first_set (e ∷ es) x some = refl
 
--- the Steps behind the first
-pub steps_behind : (rules : Rules) (key : Option ℕ) (n most : ℕ) (c : Cursor) (s : State) → 1 ≤ n → n ≤ most →
-    (most ≡ 1) ⊎ LeavesRoom rules key c s most → (n - 1 ≡ 0) ⊎ AreInTurn c.order (n - 1 + 1)
-steps_behind rules key n most c s some few (inl one) = inl (omega (arith, some, few, one))
-steps_behind rules key n most c s some few (inr room) =
-    let rest = room.0.3 in inr (room.0.0, room.0.1, room.0.2, omega (arith, rest, some, few))
+-- the planned Steps are of processors that are there
+plans_there : (o : OrderState) (last : ℕ) (s : State) (es : List Entry) (q : ℕ) → Plans o last s es q → ArePlanned (length s.processors) es
+plans_there o last s [] q h = All-nil (λ (e : Entry). (p : ℕ) × (p < length s.processors) × (e ≡ planned_step p))
+plans_there o last s (e ∷ es) q h =
+    All-cons (λ (e : Entry). (p : ℕ) × (p < length s.processors) × (e ≡ planned_step p)) e es
+    (h.0, ready_there s h.0 (order_ready o (Some last) s h.0 (ap (λ (x : Option ℕ × OrderState). x.0) h.2)), h.1)
+    (plans_there (next_order o) h.0 s es q h.3)
+
+pub plan_there : (o : OrderState) (p n : ℕ) (s : State) (plan : List Entry) → p < length s.processors → IsPlan o p s n plan →
+    ArePlanned (length s.processors) (take n plan)
+plan_there o p n s plan here h =
+    subst (ArePlanned (length s.processors)) (sym h.places_are)
+    (All-cons (λ (e : Entry). (p : ℕ) × (p < length s.processors) × (e ≡ planned_step p)) (planned_step p) h.rest (p, here, refl)
+    (plans_there o p s h.rest h.end h.plans))
 
 -- the first entries of a longer list
 pub take_front : (n : ℕ) (es fs : List Entry) → n ≤ length es → take n (es ++ fs) ≡ take n es

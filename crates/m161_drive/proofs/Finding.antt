@@ -2,7 +2,7 @@ use Rattle.std.proofs.Common.{◌≡◌, ◌∙◌, refl, sym, ap, ℕ, zero, su
 use Rattle.std.proofs.lemmas.Grind.{take-set_at}
 use Rattle.std.proofs.lemmas.Bool.Decides.{nat_tests}
 use Rattle.std.specs.Prelude.{Option, None, Some, ◌==◌, ◌||◌, find, filter, is_some}
-use Rattle.std.specs.List.{list_any, range_with_len}
+use Rattle.std.specs.List.{last_or, list_any, range_with_len}
 
 -- Searches along a range.
 
@@ -103,3 +103,23 @@ filter_rest test (suc n) p fails =
     let rest = filter test (range_with_len (p + 1) n) in
     ap (λ b. cond b (p ∷ rest) rest) (fails p (omega arith) (omega arith))
     ∙ filter_rest test n (p + 1) (λ k from to. fails k (omega (arith, from)) (omega (arith, to)))
+
+-- the last place that passes
+last_skip : (b : Bool) (x : ℕ) (ys : List ℕ) (k : ℕ) (o : Option ℕ) → ((q : Option ℕ) → last_or q ys ≡ Some k) →
+    last_or o (cond b (x ∷ ys) ys) ≡ Some k
+last_skip true x ys k o h = h (Some x)
+last_skip false x ys k o h = h o
+
+pub last_here : (test : ℕ → Bool) (n m p k : ℕ) (o : Option ℕ) → k ≡ p + m → m < n → test k ≡ true →
+    ((j : ℕ) → k < j → j < p + n → test j ≡ false) → last_or o (filter test (range_with_len p n)) ≡ Some k
+last_here test zero m p k o place less passes fails = absurd (omega (arith, less))
+last_here test (suc n) zero p k o place less passes fails =
+    let same : k ≡ p = omega (arith, place) in
+    let rest = filter test (range_with_len (p + 1) n) in
+    ap (λ b. last_or o (cond b (p ∷ rest) rest)) (ap test (sym same) ∙ passes)
+    ∙ ap (last_or (Some p)) (filter_rest test n (p + 1) (λ j from to. fails j (omega (arith, from, same)) (omega (arith, to))))
+    ∙ ap (λ i. Some i) (sym same)
+last_here test (suc n) (suc m) p k o place less passes fails =
+    last_skip (test p) p (filter test (range_with_len (p + 1) n)) k o
+    (λ q. last_here test n m (p + 1) k q (omega (arith, place)) (omega (arith, less)) passes
+    (λ j from to. fails j from (omega (arith, to))))

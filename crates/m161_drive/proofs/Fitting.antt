@@ -1,7 +1,7 @@
 use Rattle.std.proofs.Common.{◌≡◌, refl, subst, ℕ, zero, suc, ◌+◌, Bool, true, false, cond, not, List, [], ◌∷◌, ◌++◌, length, arith, ◌⊎◌, inl, inr}
 use Rattle.std.proofs.lemmas.Bool.Decides.{nat_tests}
-use Rattle.std.specs.Prelude.{Option, None, Some, Result, Ok, Err, ◌&&◌, ◌||◌, if◌then◌else◌, nat_lt, nat_le, find, filter, fold, slice_get, slice_index, is_some}
-use Rattle.std.specs.List.{range_with_len}
+use Rattle.std.specs.Prelude.{Option, None, Some, Result, Ok, Err, ◌&&◌, ◌||◌, if◌then◌else◌, nat_lt, nat_le, find, filter, slice_get, slice_index, is_some}
+use Rattle.std.specs.List.{last_or, range_with_len}
 use Rattle.rand_pcg.specs.Lcg.{Lcg}
 use Rattle.m161_bus.specs.Board.{board_done, board_key, with_console}
 use Rattle.m161_bus.specs.Console.{ConsoleState, after_sending, done_from}
@@ -22,7 +22,7 @@ use Rattle.m161_drive.specs.declared.orders.OrderState.TheVariants.{InTurns, AtR
 use Rattle.m161_drive.specs.Choice.{chosen_with, gap_is_over, key_is_due, next_step, ordered, since_filled, tick, transfer_ends, type_key, wants_key}
 use Rattle.m161_drive.specs.Orders.{at_place, begun, by_order, by_ranks, by_turns, by_words, goes_on, one_of}
 use Rattle.m161_drive.specs.Policy.{Rules}
-use Rattle.m161_drive.specs.Priorities.{Ranks, higher, highest}
+use Rattle.m161_drive.specs.Priorities.{Ranks, highest}
 use Rattle.m161_drive.specs.Ready.{cyclic, is_ready, is_sending, is_ticking, next_behind, place_behind, ready, some_ready}
 use Rattle.m161_drive.specs.Words.{below}
 
@@ -61,31 +61,23 @@ filter_passes test [] i p h = let bad : ◌≡◌ {A = Option ℕ} None (Some p)
 filter_passes test (x ∷ xs) i p h =
     get_if test (test x) x p (filter test xs) i refl (λ j k. filter_passes test xs j p k) h
 
--- and the highest of those that pass
+-- and the last of those that pass
 abbrev Holds : (ℕ → Bool) → Option ℕ → Type 0
 Holds test o = (j : ℕ) → o ≡ Some j → test j ≡ true
 
-pick_holds : (test : ℕ → Bool) (b : Bool) (x y : ℕ) → test x ≡ true → test y ≡ true → Holds test (if b then Some x else Some y)
-pick_holds test true x y t u j h = let same : ◌≡◌ {A = Option ℕ} (Some x) (Some j) = h in cc
-pick_holds test false x y t u j h = let same : ◌≡◌ {A = Option ℕ} (Some y) (Some j) = h in cc
+one_holds : (test : ℕ → Bool) (x : ℕ) → test x ≡ true → Holds test (Some x)
+one_holds test x t j h = let same : ◌≡◌ {A = Option ℕ} (Some x) (Some j) = h in cc
 
-higher_holds : (test : ℕ → Bool) (ranks : List ℕ) (best : Option ℕ) (x : ℕ) → test x ≡ true → Holds test best →
-    Holds test (higher ranks best x)
-higher_holds test ranks None x t ok j h = let same : ◌≡◌ {A = Option ℕ} (Some x) (Some j) = h in cc
-higher_holds test ranks (Some best) x t ok j h =
-    pick_holds test (nat_lt (slice_index ranks best) (slice_index ranks x)) x best t (ok best refl) j h
+last_if : (test : ℕ → Bool) (b : Bool) (x : ℕ) (ys : List ℕ) (last : Option ℕ) → test x ≡ b → Holds test last →
+    ((o : Option ℕ) → Holds test o → Holds test (last_or o ys)) →
+    Holds test (last_or last (cond b (x ∷ ys) ys))
+last_if test true x ys last t ok rest = rest (Some x) (one_holds test x t)
+last_if test false x ys last t ok rest = rest last ok
 
-fold_if : (test : ℕ → Bool) (ranks : List ℕ) (b : Bool) (x : ℕ) (ys : List ℕ) (best : Option ℕ) → test x ≡ b → Holds test best →
-    ((o : Option ℕ) → Holds test o → Holds test (fold (higher ranks) o ys)) →
-    Holds test (fold (higher ranks) best (cond b (x ∷ ys) ys))
-fold_if test ranks true x ys best t ok rest = rest (higher ranks best x) (higher_holds test ranks best x t ok)
-fold_if test ranks false x ys best t ok rest = rest best ok
-
-fold_holds : (test : ℕ → Bool) (ranks xs : List ℕ) (best : Option ℕ) → Holds test best →
-    Holds test (fold (higher ranks) best (filter test xs))
-fold_holds test ranks [] best ok = ok
-fold_holds test ranks (x ∷ xs) best ok =
-    fold_if test ranks (test x) x (filter test xs) best refl ok (λ o k. fold_holds test ranks xs o k)
+last_holds : (test : ℕ → Bool) (xs : List ℕ) (last : Option ℕ) → Holds test last → Holds test (last_or last (filter test xs))
+last_holds test [] last ok = ok
+last_holds test (x ∷ xs) last ok =
+    last_if test (test x) x (filter test xs) last refl ok (λ o k. last_holds test xs o k)
 
 none_holds : (test : ℕ → Bool) → Holds test None
 none_holds test j h = let bad : ◌≡◌ {A = Option ℕ} None (Some j) = h in absurd cc
@@ -137,10 +129,10 @@ place_ready test (Some k) r ok j same =
 ranks_ready : (r : Ranks) (s : State) → Holds (is_ready s) (by_ranks r s).0
 ranks_ready r s =
     place_ready (is_ready s) (highest r s) r
-    (fold_holds (λ k. is_ready s (slice_index r.processors k)) r.ranks (range_with_len 0 32) None
+    (last_holds (λ k. is_ready s (slice_index r.processors k)) (range_with_len 0 32) None
     (none_holds (λ k. is_ready s (slice_index r.processors k))))
 
-order_ready : (o : OrderState) (last : Option ℕ) (s : State) → Holds (is_ready s) (by_order o last s).0
+pub order_ready : (o : OrderState) (last : Option ℕ) (s : State) → Holds (is_ready s) (by_order o last s).0
 order_ready (InTurns t) last s = turns_ready t last s
 order_ready (AtRandom g) last s = words_ready g s
 order_ready (ByPriority r) last s = ranks_ready r s

@@ -5,5 +5,7 @@ pub mod Fitting
 pub mod Keys
 pub mod Sleeping
 pub mod Ranked
+pub mod Moved
 pub mod Stretched
 mod Rows
+pub mod Planned

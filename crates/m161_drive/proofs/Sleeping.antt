@@ -209,6 +209,9 @@ accepted false false false given o t h =
 pub is_less : (n p : ℕ) → nat_le n p ≡ false → p < n
 is_less n p h = grind (arith, nat_tests)
 
+pub less_in : (p n : ℕ) → nat_lt p n ≡ true → p < n
+less_in p n h = grind (arith, nat_tests)
+
 pub less_is : (p n : ℕ) → p < n → nat_lt p n ≡ true
 less_is p n h = grind (arith, nat_tests)
 

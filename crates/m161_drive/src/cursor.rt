@@ -2,13 +2,13 @@
 
 ghost use Rattle.std.specs.Prelude.{◌≡◌, ◌⊎◌, ◌+◌, ◌-◌, ◌<◌, ◌≤◌, ◌^◌, IfSome, slice_get, length, Some};
 ghost use Rattle.m161_drive.specs.Choice.{chosen, chosen_with, cursor_at, filled_after, gap_is_over, key_is_due, next_step, since_filled, taken, transfer_ends, wants_key};
-ghost use Rattle.m161_drive.specs.helpers.Drive.{AreInTurn, AreUnsent, IsUntyped, LeavesRoom, with_more_steps};
+ghost use Rattle.m161_drive.specs.helpers.Drive.{AreUnsent, IsPlan, IsUntyped, LeavesRoom, MayGoOn, with_more_steps};
 
 use crate::orders::OrderState;
 use crate::policy::Policy;
 use crate::ready::{next_ticking, some_ready};
 use m161_bus::Console;
-use m161_machine::{Core, Event};
+use m161_machine::{Core, Event, PackedEntry};
 use m161_tlb::Tlb;
 
 /// What a policy has to know of the run so far. The policy and the machine are those that it was
@@ -220,10 +220,10 @@ impl Cursor {
         }
     }
 
-    /// Behind the choice of a Step: how many Steps of its processor, this one the first of them, may
-    /// be made at once, of so many at most, before another event could be chosen than its next Step.
+    // Behind the choice of a Step: of how many events, this one the first of them, and of so many at
+    // most, each is a Step, as long as the board stays as it is and some processor is ready.
     #[inline(always)]
-    pub(crate) fn steps_in_a_row<T: Tlb, D: Console>(
+    fn steps_at_once<T: Tlb, D: Console>(
         &self,
         policy: &Policy,
         core: &Core<T, D>,
@@ -234,25 +234,50 @@ impl Cursor {
         ensures some { (1 ≤ result) × (result ≤ most) }
         ensures room { (result ≡ 1) ⊎ LeavesRoom policy.now key self.now core.now.state result }
     {
-        let rest = self.order.rest_of_turn();
-        if rest == 1 {
-            return 1;
-        }
         let free = self
             .until_sent(policy, core)
-            .min(self.until_typed(policy, core, key));
-        let rest = rest.min(free).min(most as u64);
-        if rest == 0 { 1 } else { rest as usize }
+            .min(self.until_typed(policy, core, key))
+            .min(most as u64);
+        if free == 0 { 1 } else { free as usize }
     }
 
-    /// The chosen Step was accepted, and so were this many Steps of its processor behind it; they led
-    /// to this state.
+    /// Behind the choice of a Step of processor `p`: plans it, and those that are chosen behind it as
+    /// long as each is plain, into the first places. Returns how many.
     #[inline(always)]
-    pub(crate) fn took_steps<T: Tlb, D: Console>(&mut self, more: usize, core: &Core<T, D>)
-        requires { (more ≡ 0) ⊎ AreInTurn self.old.order (more + 1) }
-        ensures { self.new ≡ with_more_steps more core.now.state self.old }
+    pub(crate) fn plan<T: Tlb, D: Console>(
+        &self,
+        policy: &Policy,
+        core: &Core<T, D>,
+        key: Option<u8>,
+        p: u32,
+        places: &mut [PackedEntry],
+    ) -> usize
+        requires some { 1 ≤ length places.old }
+        requires small { p < 32 }
+        ensures plan { IsPlan self.now.order p core.now.state result places.new }
+        ensures room { (result ≡ 1) ⊎ LeavesRoom policy.now key self.now core.now.state result }
+        ensures some { (1 ≤ result) × (result ≤ length places.old) }
+        ensures length { length places.new ≡ length places.old }
+    {
+        let most = self.steps_at_once(policy, core, key, places.len());
+        let (first, _) = places.split_at_mut(most);
+        self.order.plan(core, p, first)
+    }
+
+    /// The chosen Step was accepted, and so were this many planned ones behind it, the last of them of
+    /// processor `last`; they led to this state.
+    #[inline(always)]
+    pub(crate) fn took_steps<T: Tlb, D: Console>(
+        &mut self,
+        more: usize,
+        last: u32,
+        core: &Core<T, D>,
+    )
+        requires { (more ≡ 0) ⊎ MayGoOn self.old.order }
+        ensures { self.new ≡ with_more_steps more last core.now.state self.old }
     {
         self.order.go_on(more);
+        self.last = Some(last);
         self.filled = filled_after(core.latch(), self.filled, core.made());
     }
 }

@@ -1,16 +1,19 @@
 //! The orders, as a run goes on.
 
-ghost use Rattle.std.specs.Prelude.{◌≡◌, ◌⊎◌, ◌+◌, ◌≤◌, None};
+ghost use Rattle.std.specs.Prelude.{◌≡◌, ◌⊎◌, ℕ, ◌<◌, ◌≤◌, true, length, take, None};
 ghost use Rattle.m161_drive.specs.Orders.{by_order, by_words, interrupted, order_at_start};
-ghost use Rattle.m161_drive.specs.helpers.Drive.{AreInTurn, gone_on};
+ghost use Rattle.m161_drive.specs.Ready.{is_ready};
+ghost use Rattle.m161_drive.specs.Words.{after_words};
+ghost use Rattle.m161_drive.specs.declared.orders.OrderState.TheVariants.{AtRandom};
+ghost use Rattle.m161_drive.specs.helpers.Drive.{IsPlan, MayGoOn, Plans, gone_on};
 ghost use Rattle.m161_order.specs.Order.{order_fault};
 
 use crate::ranking::Ranking;
-use crate::ready::list_ready;
-use crate::turns::Turns;
+use crate::ready::{is_ready, list_ready};
+use crate::turns::{CHOICES, Turns};
 use crate::words::{below, seeded};
 use m161_bus::Console;
-use m161_machine::Core;
+use m161_machine::{Core, PackedEntry};
 use m161_order::Order;
 use m161_tlb::Tlb;
 use rand_pcg::Pcg32;
@@ -39,6 +42,46 @@ fn by_words<T: Tlb, D: Console>(generator: &mut Pcg32, core: &Core<T, D>) -> Opt
     }
     let place = below(generator, count as u32);
     Some(u32::from(places[place as usize]))
+}
+
+// Plans the Steps behind one of processor `p`, by words that aren't drawn yet. Returns how many.
+fn plan_by_words<T: Tlb, D: Console>(
+    generator: &Pcg32,
+    core: &Core<T, D>,
+    p: u32,
+    places: &mut [PackedEntry],
+) -> usize
+    ensures plan { (q : ℕ)
+        × Plans (AtRandom generator.now) p core.now.state (take result places.new) q }
+    ensures within { result ≤ length places.old }
+    ensures length { length places.new ≡ length places.old }
+{
+    core.law();
+    let Ok(mut words) = generator.clone() else {
+        return 0;
+    };
+    let most = places.len().min(CHOICES);
+    let mut planned = 0;
+    while planned < most {
+        match by_words(&mut words, core) {
+            Some(next) => {
+                places[planned] = PackedEntry::planned(next);
+                planned += 1;
+            }
+            None => return planned,
+        }
+    }
+    planned
+}
+
+// Draws so many words.
+#[inline(always)]
+fn pass_words(generator: &mut Pcg32, number: usize)
+    ensures { generator.new ≡ after_words number generator.old }
+{
+    for word in 0..number {
+        let _below = below(generator, 1);
+    }
 }
 
 impl OrderState {
@@ -85,26 +128,62 @@ impl OrderState {
         }
     }
 
-    /// How many Steps are left of the turn whose Step was just chosen, this one among them.
+    /// Plans a Step of processor `p`, which was just chosen, and those that follow it as long as the
+    /// same processors are ready. Returns how many.
     #[inline(always)]
-    pub(crate) fn rest_of_turn(&self) -> u64
-        ensures some { 1 ≤ result }
-        ensures rest { (result ≡ 1) ⊎ AreInTurn self.now result }
+    pub(crate) fn plan<T: Tlb, D: Console>(
+        &self,
+        core: &Core<T, D>,
+        p: u32,
+        places: &mut [PackedEntry],
+    ) -> usize
+        requires some { 1 ≤ length places.old }
+        requires small { p < 32 }
+        ensures plan { IsPlan self.now p core.now.state result places.new }
+        ensures some { (1 ≤ result) × (result ≤ length places.old) }
+        ensures length { length places.new ≡ length places.old }
     {
-        match self {
-            OrderState::InTurns(turns) => turns.rest(),
-            OrderState::AtRandom(_) | OrderState::ByPriority(_) => 1,
+        let (first, rest) = places.split_at_mut(1);
+        first[0] = PackedEntry::planned(p);
+        if is_ready(core, p) {
+            1 + self.plan_behind(core, p, rest)
+        } else {
+            1
         }
     }
 
-    /// Goes on with the turn, so many Steps further.
+    // Plans the Steps behind one of a ready processor, which was just chosen. Returns how many.
+    #[inline(always)]
+    fn plan_behind<T: Tlb, D: Console>(
+        &self,
+        core: &Core<T, D>,
+        p: u32,
+        places: &mut [PackedEntry],
+    ) -> usize
+        requires ready { is_ready core.now.state p ≡ true }
+        requires small { p < 32 }
+        ensures plan { (q : ℕ) × Plans self.now p core.now.state (take result places.new) q }
+        ensures begun { (result ≡ 0) ⊎ MayGoOn self.now }
+        ensures within { result ≤ length places.old }
+        ensures length { length places.new ≡ length places.old }
+    {
+        match self {
+            OrderState::InTurns(turns) => turns.plan(core, p, places),
+            OrderState::AtRandom(generator) => plan_by_words(generator, core, p, places),
+            OrderState::ByPriority(_) => 0,
+        }
+    }
+
+    /// Goes on by so many Steps.
     #[inline(always)]
     pub(crate) fn go_on(&mut self, more: usize)
-        requires { (more ≡ 0) ⊎ AreInTurn self.old (more + 1) }
+        requires { (more ≡ 0) ⊎ MayGoOn self.old }
         ensures { self.new ≡ gone_on more self.old }
     {
-        if let OrderState::InTurns(turns) = self {
-            turns.go_on(more);
+        match self {
+            OrderState::InTurns(turns) => turns.go_on(more),
+            OrderState::AtRandom(generator) => pass_words(generator, more),
+            OrderState::ByPriority(_) => {}
         }
     }
 }

@@ -1,8 +1,9 @@
 //! Steps by priorities.
 
-ghost use Rattle.std.specs.Prelude.{◌≡◌, ◌+◌, ◌-◌, ◌<◌, ◌≤◌, nat_lt, length, take, count_by, Some, IfSome};
+ghost use Rattle.std.specs.Prelude.{◌≡◌, ℕ, ◌+◌, ◌-◌, ◌<◌, ◌≤◌, nat_lt, length, take, count_by, slice_index, Some, IfSome};
+ghost use Rattle.std.specs.List.{insert, remove};
 ghost use Rattle.m161_drive.specs.Orders.{by_ranks};
-ghost use Rattle.m161_drive.specs.Priorities.{after_ranked, higher, highest, last_point, ranks_at_start, renewed, shuffled, with_stretch};
+ghost use Rattle.m161_drive.specs.Priorities.{after_fall, after_ranked, highest, last_point, moved, ranks_at_start, shuffled, with_stretch};
 ghost use Rattle.m161_drive.specs.Words.{after_words, draws};
 ghost use Rattle.m161_drive.specs.helpers.Places.{AreFrom};
 
@@ -23,9 +24,12 @@ pub(crate) struct Ranking {
     // How many points there are; the places behind them aren't used.
     changes: usize,
     points: [u32; 64],
-    // The processors, as the start ordered them, and the rank of each.
+    // The processors, the one of the lowest priority first.
     processors: [u32; 32],
-    ranks: [u32; 32],
+    // The first `down` of them fell in this stretch, after the points of these numbers; the places
+    // behind these numbers aren't used.
+    fallen: [u32; 32],
+    down: usize,
     // So many processors the machine had at the start, and only the first `used` places have one of
     // them.
     number: u32,
@@ -45,12 +49,12 @@ impl Model for Ranking {
       made = r.made;
       points = take r.changes r.points;
       processors = r.processors;
-      ranks = r.ranks;
+      fallen = take r.down r.fallen;
     } };
 
     ghost invariant = { λ r.
         (r.changes ≤ 64) × (length r.points ≡ 64) × (length r.processors ≡ 32)
-        × (length r.ranks ≡ 32) × (r.made < r.within)
+        × (length r.fallen ≡ 32) × (r.down ≤ 32) × (r.made < r.within)
         × (r.used ≤ 32) × AreFrom r.number r.used r.processors };
 }
 
@@ -98,30 +102,70 @@ fn draw_points(points: &mut [u32; 64], changes: usize, generator: &mut Pcg32, wi
     }
 }
 
-// How many ranks are less than this one.
-fn less_than(ranks: &[u32; 32], rank: u32) -> u32
-    ensures value { result ≡ count_by (λ q. nat_lt q rank) ranks.now }
-    ensures few { result ≤ 32 }
+// How many of the numbers are less than this one.
+fn less_than(numbers: &[u32], number: u32) -> usize
+    ensures value { result ≡ count_by (λ other. nat_lt other number) numbers.now }
+    ensures within { result ≤ length numbers.now }
 {
     let mut count = 0;
-    for other in ranks {
-        if *other < rank {
+    for other in numbers {
+        if *other < number {
             count += 1;
         }
     }
     count
 }
 
-// The ranks from 64 on, in the same order.
-fn renewed(ranks: &[u32; 32]) -> [u32; 32]
-    ensures value { result ≡ renewed ranks.now }
-    ensures length { length result ≡ 32 }
+// Takes the number at a place out: those behind it move forward by one place, and the last place
+// isn't used from then on.
+fn take_out(numbers: &mut [u32; 32], place: usize)
+    requires { place < 32 }
+    ensures value { take 31 numbers.new ≡ remove numbers.old place }
+    ensures length { length numbers.new ≡ 32 }
 {
-    let mut renewed = [0; 32];
-    for k in 0..32 {
-        renewed[k] = 64 + less_than(ranks, ranks[k]);
+    numbers.copy_within(place + 1..32, place);
+}
+
+// Puts a number in at a place: those from there on move back by one place, the last of which wasn't
+// used.
+fn put_in(numbers: &mut [u32; 32], place: usize, number: u32)
+    requires { place < 32 }
+    ensures value { numbers.new ≡ insert (take 31 numbers.old) place number }
+    ensures length { length numbers.new ≡ 32 }
+{
+    numbers.copy_within(place..31, place + 1);
+    numbers[place] = number;
+}
+
+// Takes the number at a place out of the first `count`, if it's one of them. Returns how many are
+// left.
+fn take_out_of(numbers: &mut [u32; 32], count: usize, place: usize) -> usize
+    requires count { count ≤ 32 }
+    requires place { place < 32 }
+    ensures value { take result numbers.new ≡ remove (take count numbers.old) place }
+    ensures within { result < 32 }
+    ensures length { length numbers.new ≡ 32 }
+{
+    if place < count {
+        take_out(numbers, place);
+        count - 1
+    } else {
+        count
     }
-    renewed
+}
+
+// Moves the number at a place to another.
+fn move_to(numbers: &mut [u32; 32], from: usize, to: usize)
+    requires from { from < 32 }
+    requires to { to < 32 }
+    ensures value { numbers.new ≡ moved from to numbers.old }
+    ensures others { (k : ℕ) → from < k → to < k
+        → slice_index numbers.new k ≡ slice_index numbers.old k }
+    ensures length { length numbers.new ≡ 32 }
+{
+    let number = numbers[from];
+    take_out(numbers, from);
+    put_in(numbers, to, number);
 }
 
 // The number of the last of these points that is this Step.
@@ -157,7 +201,8 @@ impl Ranking {
             changes: changes as usize,
             points: [0; 64],
             processors: order,
-            ranks: IN_ORDER,
+            fallen: [0; 32],
+            down: 0,
             number: processors,
             used,
         };
@@ -176,13 +221,14 @@ impl Ranking {
             changes,
             points,
             processors: _,
-            ranks,
+            fallen: _,
+            down,
             number: _,
             used: _,
         } = self;
-        *ranks = renewed(ranks);
         draw_points(points, *changes, generator, *within);
         *made = 0;
+        *down = 0;
     }
 
     // How many of the places may have a processor of the machine.
@@ -197,31 +243,33 @@ impl Ranking {
         }
     }
 
-    // The place of the ready processor of the highest rank.
+    // The place of the ready processor of the highest priority.
     fn highest<T: Tlb, D: Console>(&self, core: &Core<T, D>) -> Option<usize>
         ensures value { result ≡ highest self.now core.now.state }
         ensures within { IfSome result (λ k. k < 32) }
     {
-        let mut best = None;
-        for k in 0..self.places(core) {
+        let mut k = self.places(core);
+        while k > 0 {
+            k -= 1;
             if is_ready(core, self.processors[k]) {
-                best = Some(self.higher(best, k));
+                return Some(k);
             }
         }
-        best
+        None
     }
 
-    // The place of the higher rank: this one, if it's above the best one.
-    fn higher(&self, best: Option<usize>, k: usize) -> usize
-        requires best { IfSome best (λ b. b < 32) }
-        requires within { k < 32 }
-        ensures value { Some result ≡ higher self.now.ranks best k }
-        ensures within { result < 32 }
+    // The processor at a place falls after the point of this number. One that falls again may move
+    // back.
+    fn fall(&mut self, place: usize, point: u32)
+        requires { place < 32 }
+        ensures { self.new ≡ after_fall place (Some point) self.old }
     {
-        match best {
-            Some(b) => { if self.ranks[b] < self.ranks[k] { k } else { b } }
-            None => k,
-        }
+        let others = take_out_of(&mut self.fallen, self.down, place);
+        let to = less_than(&self.fallen[..others], point);
+        put_in(&mut self.fallen, to, point);
+        self.down = others + 1;
+        move_to(&mut self.processors, place, to);
+        self.used = self.used.max(place + 1).max(to + 1);
     }
 
     // Counts the Step of the processor at a place, which may fall after it.
@@ -230,7 +278,7 @@ impl Ranking {
         ensures { self.new ≡ after_ranked place self.old }
     {
         if let Some(j) = last_point(&self.points[..self.changes], self.made) {
-            self.ranks[place] = j as u32;
+            self.fall(place, j as u32);
         }
         if self.made + 1 == self.within {
             self.begin_stretch();

@@ -1,6 +1,7 @@
 //! Driven runs.
 
-ghost use Rattle.std.specs.Prelude.{◌≡◌, ◌-◌, ◌<◌, ◌≤◌, ◌^◌, List, IfOk, IfSome, OnErr, length};
+ghost use Rattle.std.specs.Prelude.{◌≡◌, ◌-◌, ◌<◌, ◌≤◌, ◌^◌, ℕ, List, IfOk, IfSome, OnErr, length};
+ghost use Rattle.m161_machine.specs.declared.event.Event.TheVariants as events;
 ghost use Rattle.m161_machine.specs.declared.event.Entry.{Entry};
 ghost use Rattle.m161_drive.specs.Drive.{BeginsRun, Drives, IsNoted, Turn};
 ghost use Rattle.m161_drive.specs.helpers.Drive.{MakesChosen};
@@ -59,9 +60,22 @@ fn make_input<T: Tlb, D: Console>(
     }
 }
 
+// The processor of a Step's entry.
+#[inline(always)]
+fn processor_of(made: PackedEntry) -> u32
+    requires { (p : ℕ) × (made.event ≡ events.Step p) }
+    ensures { made.event ≡ events.Step result }
+{
+    match made.entry().event {
+        Event::Step(p) => p,
+        Event::Key(_) | Event::Done => 0,
+    }
+}
+
 /// Makes the next events of a driven run, and writes their entries into the first places: the event
-/// that the policy chooses, if the next key is this one; and behind a Step of a turn those that follow
-/// in it, where nothing else can come between. Returns how many.
+/// that the policy chooses, if the next key is this one; and behind a Step those that are chosen then,
+/// as long as each is plain and no key is typed and no byte sent. Returns how many. Which processors
+/// rest stays as it is then, so they are chosen first and made in one call.
 ///
 /// # Errors
 /// Why there is none. Nothing is changed then but the cursor.
@@ -90,10 +104,11 @@ pub fn turn<T: Tlb, D: Console>(
     if let Some(refusal) = core.refusal(p) {
         return Err(Stop::Refused(refusal));
     }
-    let most = cursor.steps_in_a_row(policy, core, key, entries.len());
-    let (first, _) = entries.split_at_mut(most);
-    let made = core.stretch(p, first);
-    cursor.took_steps(made - 1, core);
+    let planned = cursor.plan(policy, core, key, p, entries);
+    let (places, _) = entries.split_at_mut(planned);
+    let made = core.stretch(places);
+    let last = processor_of(places[made - 1]);
+    cursor.took_steps(made - 1, last, core);
     Ok(made)
 }
 

@@ -1,12 +1,19 @@
 //! Steps in turns.
 
-ghost use Rattle.std.specs.Prelude.{◌≡◌, ◌⊎◌, ◌+◌, ◌≤◌};
+ghost use Rattle.std.specs.Prelude.{◌≡◌, ◌⊎◌, ℕ, ◌<◌, ◌≤◌, true, length, take};
+ghost use Rattle.m161_drive.specs.declared.orders.OrderState.TheVariants.{InTurns};
 ghost use Rattle.m161_drive.specs.Orders.{begun, by_turns, goes_on};
+ghost use Rattle.m161_drive.specs.Ready.{is_ready};
+ghost use Rattle.m161_drive.specs.helpers.Drive.{MayGoOn, Plans, gone_on};
 
 use crate::ready::{is_ready, next_ready};
 use m161_bus::Console;
-use m161_machine::Core;
+use m161_machine::{Core, PackedEntry, plan_all};
 use m161_tlb::Tlb;
+
+/// So many choices at most are made before their time, since a Step that isn't plain makes those behind
+/// it useless.
+pub(crate) const CHOICES: usize = 16;
 
 /// The order by turns.
 #[derive(Clone, Copy, Debug)]
@@ -52,28 +59,76 @@ impl Turns {
         }
     }
 
-    /// How many Steps are left of the turn whose Step was just chosen, this one among them.
+    /// Plans the Steps behind one of a ready processor, which was just chosen: the rest of its turn,
+    /// and Steps of the turns that follow. Returns how many.
     #[inline(always)]
-    pub(crate) fn rest(&self) -> u64
-        ensures some { 1 ≤ result }
-        ensures rest { (result ≡ 1)
-            ⊎ (1 ≤ self.now.made) × (self.now.made + result ≤ self.now.steps + 1) }
+    pub(crate) fn plan<T: Tlb, D: Console>(
+        &self,
+        core: &Core<T, D>,
+        p: u32,
+        places: &mut [PackedEntry],
+    ) -> usize
+        requires ready { is_ready core.now.state p ≡ true }
+        requires small { p < 32 }
+        ensures plan { (q : ℕ) × Plans (InTurns self.now) p core.now.state (take result places.new) q }
+        ensures begun { (result ≡ 0) ⊎ MayGoOn (InTurns self.now) }
+        ensures within { result ≤ length places.old }
+        ensures length { length places.new ≡ length places.old }
     {
-        if self.made > 0 && self.made < self.steps {
-            u64::from(self.steps - self.made) + 1
-        } else {
-            1
+        if self.made == 0 || self.made > self.steps {
+            return 0;
         }
+        let rest = ((self.steps - self.made) as usize).min(places.len());
+        let (turn, others) = places.split_at_mut(rest);
+        plan_all(turn, p);
+        let ended = Turns {
+            steps: self.steps,
+            made: self.steps,
+        };
+        rest + ended.plan_others(core, p, others)
     }
 
-    /// Goes on with the turn, so many Steps further.
+    // Plans the Steps behind the last one of a turn.
+    fn plan_others<T: Tlb, D: Console>(
+        &self,
+        core: &Core<T, D>,
+        p: u32,
+        places: &mut [PackedEntry],
+    ) -> usize
+        requires ready { is_ready core.now.state p ≡ true }
+        requires ended { self.now.made ≡ self.now.steps }
+        ensures plan { (q : ℕ) × Plans (InTurns self.now) p core.now.state (take result places.new) q }
+        ensures within { result ≤ length places.old }
+        ensures length { length places.new ≡ length places.old }
+    {
+        core.law();
+        let mut turns = *self;
+        let mut last = p;
+        let most = places.len().min(CHOICES);
+        let mut planned = 0;
+        while planned < most {
+            match turns.choose(Some(last), core) {
+                Some(next) => {
+                    places[planned] = PackedEntry::planned(next);
+                    last = next;
+                    planned += 1;
+                }
+                None => return planned,
+            }
+        }
+        planned
+    }
+
+    /// Goes on by so many Steps.
     #[inline(always)]
     pub(crate) fn go_on(&mut self, more: usize)
-        requires { (more ≡ 0) ⊎ (self.old.made + more ≤ self.old.steps) }
-        ensures { self.new ≡ record self.old { made = self.old.made + more } }
+        requires { (more ≡ 0) ⊎ MayGoOn (InTurns self.old) }
+        ensures { InTurns self.new ≡ gone_on more (InTurns self.old) }
     {
         if more > 0 {
-            self.made += more as u32;
+            let steps = u64::from(self.steps);
+            let behind = u64::from(self.made) - 1 + more as u64 % steps;
+            self.made = (behind % steps) as u32 + 1;
         }
     }
 }

@@ -1,8 +1,9 @@
-use Rattle.std.specs.Prelude.{◌≡◌, ◌⊎◌, ℕ, ◌+◌, ◌-◌, ◌≤◌, true, List, [], ◌∷◌, length, take, Option, None, Some, Result, Ok, Err}
+use Rattle.std.specs.Prelude.{◌≡◌, ◌⊎◌, ℕ, zero, suc, ◌+◌, ◌-◌, ◌≤◌, true, nat_lt, if◌then◌else◌, List, [], ◌∷◌, length, take, Option, None, Some, Result, Ok, Err}
 use Rattle.m161_machine.specs.declared.event.Entry.{Entry}
 use Rattle.m161_machine.specs.declared.event.Event.{Event}
 use Rattle.m161_machine.specs.State.{State, next}
 use Rattle.m161_machine.specs.History.{Refuses}
+use Rattle.m161_machine.specs.Stretch.{planned}
 use Rattle.m161_drive.specs.declared.cursor.Cursor.{Cursor}
 use Rattle.m161_drive.specs.declared.run.Stop.{Stop}
 use Rattle.m161_drive.specs.declared.run.Stop.TheVariants.{Off, End, Stuck, Refused}
@@ -10,8 +11,10 @@ use Rattle.m161_drive.specs.declared.orders.OrderState.{OrderState}
 use Rattle.m161_drive.specs.declared.orders.OrderState.TheVariants.{InTurns, AtRandom, ByPriority}
 use Rattle.m161_drive.specs.declared.turns.Turns.{Turns}
 use Rattle.m161_drive.specs.Choice.{filled_after, since_filled, taken}
+use Rattle.m161_drive.specs.Orders.{by_order}
 use Rattle.m161_drive.specs.Policy.{Rules}
-use Rattle.m161_drive.specs.Ready.{is_sending}
+use Rattle.m161_drive.specs.Ready.{is_ready, is_sending}
+use Rattle.m161_drive.specs.Words.{after_word}
 
 -- The next event of a driven run.
 
@@ -29,18 +32,45 @@ MakesChosen e c s places (Ok n) d t =
     × (next s e ≡ Ok (entry.outcome, t)) × (d ≡ taken e t c))
 MakesChosen e c s places (Err stop) d t = IsRefused e s stop × (t ≡ s)
 
--- Steps in a row.
+-- Steps one after the other.
 
--- an order goes on with the turn of the last processor, so many Steps further
+-- a turn behind the next Step by turns, where the processor of the last one is ready
+abbrev pub next_in_turn : Turns → Turns
+next_in_turn t = record t { made = if nat_lt t.made t.steps then t.made + 1 else 1 }
+
+-- an order behind its next choice, where the processor of the last one is ready; by priorities none is
+-- made before its time
+abbrev pub next_order : OrderState → OrderState
+next_order (InTurns t) = InTurns (next_in_turn t)
+next_order (AtRandom g) = AtRandom (after_word g)
+next_order (ByPriority r) = ByPriority r
+
+-- and behind n more
 abbrev pub gone_on : ℕ → OrderState → OrderState
-gone_on n (InTurns t) = InTurns (record t { made = t.made + n })
-gone_on n (AtRandom g) = AtRandom g
-gone_on n (ByPriority r) = ByPriority r
+gone_on zero o = o
+gone_on (suc n) o = gone_on n (next_order o)
 
--- n Steps, the first of which was just chosen, are within a turn
-abbrev pub AreInTurn : OrderState → ℕ → Type 0
-AreInTurn o n =
-    (t : Turns) × (o ≡ InTurns t) × (1 ≤ t.made) × (t.made + n ≤ t.steps + 1)
+-- an order that can go on in this way
+abbrev pub MayGoOn : OrderState → Type 0
+MayGoOn (InTurns t) = (1 ≤ t.made) × (t.made ≤ t.steps)
+MayGoOn (AtRandom g) = Unit {0}
+MayGoOn (ByPriority r) = Unit {0}
+
+-- behind a Step of the last processor, these places name the Steps that an order chooses one after
+-- the other, as long as the same processors are ready as in a state; the last of them is of q
+abbrev pub Plans : OrderState → ℕ → State → List Entry → ℕ → Type 0
+Plans o last s [] q = q ≡ last
+Plans o last s (e ∷ es) q =
+    (p : ℕ) × (e ≡ planned p) × (by_order o (Some last) s ≡ (Some p, next_order o))
+    × Plans (next_order o) p s es q
+
+-- the first n places plan a Step of processor p, which was just chosen, and those that follow it
+pub record IsPlan (o : OrderState) (p : ℕ) (s : State) (n : ℕ) (places : List Entry) : Type 0 where
+  pub rest : List Entry
+  pub end : ℕ
+  pub places_are : take n places ≡ planned p ∷ rest
+  pub plans : Plans o p s rest end
+  pub goes_on : (rest ≡ []) ⊎ (is_ready s p ≡ true) × MayGoOn o
 
 -- no byte is sent between so many Steps
 abbrev pub AreUnsent : Rules → Cursor → State → ℕ → Type 0
@@ -55,15 +85,16 @@ IsUntyped (Some key) None c s n = Unit {0}
 IsUntyped (Some key) (Some gap) c s n =
     (256 ≤ length s.board.console.waiting) ⊎ ((s.made - c.keyed) + n ≤ gap)
 
--- behind the choice of a Step in a state: so many Steps of its processor, this one the first of them,
--- are chosen one after the other, as long as the board stays as it is and the processor doesn't rest
+-- behind the choice of a Step in a state: of so many events, this one the first of them, each is a
+-- Step, as long as the board stays as it is and some processor is ready
 abbrev pub LeavesRoom : Rules → Option ℕ → Cursor → State → ℕ → Type 0
-LeavesRoom rules key c s n =
-    AreInTurn c.order n × AreUnsent rules c s n × IsUntyped key rules.gap c s n
+LeavesRoom rules key c s n = AreUnsent rules c s n × IsUntyped key rules.gap c s n
 
--- the cursor once so many chosen Steps more were accepted, and led to this state
-abbrev pub with_more_steps : ℕ → State → Cursor → Cursor
-with_more_steps n s c = record c {
+-- the cursor once n chosen Steps more were accepted, the last of them of processor q, and led to this
+-- state
+abbrev pub with_more_steps : ℕ → ℕ → State → Cursor → Cursor
+with_more_steps n q s c = record c {
   order = gone_on n c.order;
+  last = Some q;
   filled = filled_after s.board.console.latch c.filled s.made;
 }

@@ -1,14 +1,12 @@
-use Rattle.std.proofs.Common.{◌≡◌, ◌-◌, ◌<◌, slice_index}
-use Rattle.std.specs.Prelude.{IfSome, filter, fold}
-use Rattle.std.specs.List.{range_with_len}
-use Rattle.m161_drive.specs.Priorities.{higher, highest}
+use Rattle.std.proofs.Common.{◌≡◌, ℕ, ◌<◌, ◌≤◌, false, slice_index}
 use Rattle.m161_drive.specs.Ready.{is_ready}
 use Rattle.m161_drive.proofs.ranking.Ranking.highest.Given as goal
 
--- the best so far, or one of the rest
+-- no processor is ready at the places behind those that are left
 abbrev pub invariant-loop-k : goal.invariant-loop-k
 invariant-loop-k g l =
-    (fold (higher l.self.ranks) l.best
-    (filter (λ k. is_ready l.core.state (slice_index l.self.processors k)) (range_with_len l.k (32 - l.k)))
-    ≡ highest l.fn.self l.core.state)
-    × IfSome l.best (λ b. b < 32)
+    (l.k ≤ 32)
+    × ((j : ℕ) → l.k ≤ j → j < 32 → is_ready l.core.state (slice_index l.self.processors j) ≡ false)
+
+abbrev pub decreases-loop-k : goal.decreases-loop-k
+decreases-loop-k g l = l.k
