@@ -1,6 +1,6 @@
 use Rattle.std.proofs.Common.{◌≡◌, ◌∙◌, refl, sym, ap, subst, ℕ, zero, suc, ◌+◌, ◌<◌, ◌≤◌, Bool, true, false, cond, not, List, [], ◌∷◌, length, take, arith, inl, inr}
-use Rattle.std.specs.Prelude.{Option, None, Some, ◌&&◌, ◌||◌, if◌then◌else◌, nat_lt, nat_le, count_by, find, filter, fold, slice_get, slice_index}
-use Rattle.std.specs.List.{list_any, range_with_len}
+use Rattle.std.specs.Prelude.{Option, None, Some, ◌&&◌, ◌||◌, if◌then◌else◌, nat_lt, nat_le, count_by, find, filter, slice_get, slice_index}
+use Rattle.std.specs.List.{last_or, list_any, range_with_len}
 use Rattle.std.proofs.lemmas.Bool.Decides.{nat_tests, eqb_tells}
 use Rattle.std.proofs.lemmas.List.Sums.{sum_by-cons}
 use Rattle.std.proofs.lemmas.Option.{slice_get_past}
@@ -18,7 +18,7 @@ use Rattle.m161_drive.specs.Choice.{chosen, chosen_with, gap_is_over, key_is_due
 use Rattle.m161_drive.specs.Drive.{Chooses, Goes}
 use Rattle.m161_drive.specs.Orders.{at_place, begun, by_order, by_ranks, by_turns, by_words, goes_on, interrupted, one_of}
 use Rattle.m161_drive.specs.Policy.{Rules}
-use Rattle.m161_drive.specs.Priorities.{Ranks, higher, highest}
+use Rattle.m161_drive.specs.Priorities.{Ranks, highest}
 use Rattle.m161_drive.specs.Ready.{cyclic, is_asleep, is_ready, is_sending, is_ticking, next_behind, place_behind, some_ready, some_ticking}
 use Rattle.m161_judge.specs.Verdict.{after, going_on, is_key, is_stuck}
 use Rattle.m161_judge.proofs.Running.{none_is_not, some_is_one}
@@ -102,7 +102,7 @@ words_none g s fails = ap (λ ps. (one_of ps g).0) (filter_none (is_ready s) fai
 ranks_none : (r : Ranks) (s : State) → Fails (is_ready s) → (by_ranks r s).0 ≡ None
 ranks_none r s fails =
     let none : highest r s ≡ None =
-    ap (fold (higher r.ranks) None) (filter_none (λ k. is_ready s (slice_index r.processors k)) (λ k. fails (slice_index r.processors k)) (range_with_len 0 32)) in
+    ap (last_or None) (filter_none (λ k. is_ready s (slice_index r.processors k)) (λ k. fails (slice_index r.processors k)) (range_with_len 0 32)) in
     ap (λ o. (at_place o r).0) none
 
 order_none : (o : OrderState) (last : Option ℕ) (s : State) → Fails (is_ready s) → (by_order o last s).0 ≡ None
