@@ -13,12 +13,11 @@ use Rattle.m161_steplog.specs.Comments.{IsLogFile}
 use Rattle.m161_steplog.specs.declared.machine.MachineLine.{MachineLine}
 use Rattle.m161_steplog.specs.Machine.{digest_text, machine_text, first_line, IsMachineLine}
 use Rattle.m161_steplog.proofs.LogLines.{lacks_nil, lacks_cons, lacks_append, header_first}
-use Rattle.m161_steplog.proofs.Logs.{log_again}
 use Rattle.m161_steplog.proofs.Machines.{first_cut}
 use Rattle.m161_steplog.proofs.Passing.{IsPlain, Passed, passed_more, plain_line}
 
 plain_log : (text : List ℕ) (mode : Mode) (es : List Entry) → IsLog text mode es → IsPlain text
-plain_log text mode es log = plain_line text log.1.0 (map entry_text es) (log_again text mode es log.0 log.1) (header_first mode log.1.0 log.1.1)
+plain_log text mode es log = plain_line text log.header (map entry_text es) log.text (header_first mode log.header log.first)
 
 pub log_file : (text : List ℕ) (mode : Mode) (es : List Entry) → IsLog text mode es → IsLogFile text mode es
 log_file text mode es log = subst (λ t. IsLog t mode es) (sym (plain_log text mode es log).1) log

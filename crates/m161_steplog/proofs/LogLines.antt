@@ -1,5 +1,5 @@
 -- A line of a log.
-use Rattle.std.proofs.Common.{◌≡◌, ◌≢◌, inl, inr, Bool, true, false, ℕ, zero, suc, ◌<◌, ◌≤◌, List, [], ◌∷◌, ◌++◌, length, get_or, refl, sym, ap, ◌∙◌, ap₂, arith, length-append, Option, Some, None, codes, decimal, rules}
+use Rattle.std.proofs.Common.{◌≡◌, ◌≢◌, inl, inr, Bool, true, false, ℕ, zero, suc, ◌≤◌, List, [], ◌∷◌, ◌++◌, get_or, refl, sym, ap, ◌∙◌, ap₂, arith, Option, Some, None, codes, decimal, rules}
 use Rattle.std.proofs.lemmas.Option.{none-some, some_pair_parts}
 use Rattle.std.proofs.lemmas.List.{append_cancel_left}
 use Rattle.m161_isa.specs.declared.link.LinkUnit.{LinkUnit}
@@ -184,7 +184,7 @@ taken byte outcome text (Some x) cut is one = record {
 pub no_space : (line : List ℕ) → Lacks 32 line → Reads IsProper entry_text line None
 no_space line lacks = nothing (λ e proper same. has_space (event_text e.event) (outcome_text e.outcome) (rw (← same) lacks))
 
--- No line has a line feed, and none is empty.
+-- No line has a line feed.
 unit_lacks_feed : (unit : LinkUnit) → Lacks 10 (unit_text unit)
 unit_lacks_feed units.Word = search (rules, lacks_cons, lacks_nil)
 unit_lacks_feed units.Line = search (rules, lacks_cons, lacks_nil)
@@ -235,17 +235,10 @@ mode_same m n header (inl a) (inr b) = absurd (omega (arith, ap (λ ds. get_or d
 mode_same m n header (inr a) (inl b) = absurd (omega (arith, ap (λ ds. get_or ds 9 0) (sym b ∙ a.0), number_of n.strict n.link))
 mode_same m n header (inr a) (inr b) = a.1 ∙ sym b.1
 
--- a first line isn't empty, and no comment
-pub header_some : (mode : Mode) (header : List ℕ) → IsHeader mode header → 0 < length header
-header_some mode header (inl is) = omega (arith, ap length is, length-append (codes "m161 log ") (mode_text mode))
-header_some mode header (inr is) = omega (arith, ap length is.0)
-
+-- a first line is no comment
 pub header_first : (mode : Mode) (header : List ℕ) → IsHeader mode header → is_comment header ≡ false
 header_first mode header (inl is) = ap is_comment is
 header_first mode header (inr is) = ap is_comment is.0
-
-pub entry_some : (e : Entry) → 0 < length (entry_text e)
-entry_some e = simp length-append (omega arith)
 
 pub event_lacks_feed : (event : Event) → IsEvent event → Lacks 10 (event_text event)
 event_lacks_feed (events.Step p) fits = lacks_append 10 (codes "s ") (decimal p) (search (rules, lacks_cons, lacks_nil)) (decimal_lacks 10 p (omega arith) (omega arith))

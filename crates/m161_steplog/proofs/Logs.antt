@@ -1,5 +1,5 @@
--- A log's text and its lines.
-use Rattle.std.proofs.Common.{◌≡◌, ◌⊎◌, ℕ, zero, suc, ◌<◌, ◌≤◌, List, [], ◌∷◌, ◌++◌, None, Some, Err, IsErrOf, length, take, drop, map, get_or, refl, sym, ap, ap₂, subst, ◌+◌, ◌^◌, ◌∙◌, arith, inl, inr, length-append, append_assoc, append-nil, flat_map}
+-- The lines of a log.
+use Rattle.std.proofs.Common.{◌≡◌, ℕ, zero, suc, ◌<◌, ◌≤◌, List, [], ◌∷◌, ◌++◌, None, Some, Err, IsErrOf, length, take, drop, map, get_or, refl, sym, ap, ap₂, subst, ◌+◌, ◌^◌, ◌∙◌, arith, inl, append_assoc, append-nil}
 use Rattle.std.proofs.lemmas.List.{take-append-le, take-map, length-map, map_push}
 use Rattle.std.proofs.lemmas.Option.{none-some, same_Some}
 use Rattle.std.specs.List.{AllByRecursion}
@@ -8,48 +8,19 @@ use Rattle.m161_steplog.specs.declared.fault.Fault.{Fault}
 use Rattle.m161_steplog.specs.declared.fault.Fault.TheVariants as faults
 use Rattle.m161_text.specs.Parts.{Reads, Lacks}
 use Rattle.m161_steplog.specs.Text.{entry_text}
-use Rattle.m161_text.specs.Lines.{lines_of, text_of, FirstBad}
+use Rattle.m161_text.specs.Lines.{lines_of, FirstBad}
 use Rattle.m161_steplog.specs.declared.log.LogText.{LogText}
 use Rattle.m161_steplog.specs.declared.mode.Mode.{Mode}
-use Rattle.m161_steplog.specs.Log.{headed_text, header_text, log_text, log_lines, IsEntryOf, IsHeader, IsLogText, IsLog, AreLogLines}
+use Rattle.m161_steplog.specs.Log.{header_text, log_text, log_lines, IsEntryOf, IsHeader, IsLog, AreLinesOf, AreLogLines}
 use Rattle.m161_steplog.specs.Comments.{comment_count, behind_comments, IsLogFile, IsFirstBadOfLog}
 use Rattle.m161_steplog.specs.helpers.Log.{IsDistinct, ReadsHeader, ReadsLines, fault_behind}
 use Rattle.m161_steplog.proofs.Passing.{bad_within}
-use Rattle.m161_text.proofs.Feeds.{IsSome, lines_of-ended, ended-lines_of, unended}
-use Rattle.m161_steplog.proofs.LogLines.{entry_some, entry_lacks_feed, header_lacks_feed, header_some, mode_same}
-
-flat_map-map : {A B C : Type 0} (f : B → List C) (g : A → B) (xs : List A) → flat_map f (map g xs) ≡ flat_map (λ x. f (g x)) xs
-flat_map-map f g [] = refl
-flat_map-map f g (x ∷ xs) = ap (λ ys. f (g x) ++ ys) (flat_map-map f g xs)
-
-ended-log_lines : (header : List ℕ) (es : List Entry) → text_of (log_lines header es) ≡ headed_text header es
-ended-log_lines header es = ap (λ xs. (header ++ 10 ∷ []) ++ xs) (flat_map-map (λ line. line ++ 10 ∷ []) entry_text es)
-
--- the lines of a log make its text
-is_log : (text : List ℕ) (mode : Mode) (header : List ℕ) (es : List Entry) → IsHeader mode header → lines_of text ≡ log_lines header es → IsLogText text mode es
-is_log text mode header es first lines = let whole = ended-lines_of text in (header, first, rw (lines, ended-log_lines header es) at whole)
+use Rattle.m161_text.proofs.Feeds.{lines_of-ended}
+use Rattle.m161_steplog.proofs.LogLines.{entry_lacks_feed, header_lacks_feed, mode_same}
 
 each_lacks : (mode : Mode) (es : List Entry) → AllByRecursion (IsEntryOf mode) es → AllByRecursion (Lacks 10) (map entry_text es)
 each_lacks mode [] each = tt
 each_lacks mode (e ∷ es) each = (entry_lacks_feed e each.0.proper, each_lacks mode es each.1)
-
-each_some : (es : List Entry) → AllByRecursion IsSome (map entry_text es)
-each_some [] = tt
-each_some (e ∷ es) = (entry_some e, each_some es)
-
-lines_of-headed : (mode : Mode) (header : List ℕ) (es : List Entry) → Lacks 10 header → AllByRecursion (IsEntryOf mode) es → lines_of (headed_text header es) ≡ log_lines header es
-lines_of-headed mode header es lacks each = ap lines_of (sym (ended-log_lines header es)) ∙ lines_of-ended (log_lines header es) (lacks, each_lacks mode es each)
-
-headed_again : (mode : Mode) (text header : List ℕ) (es : List Entry) → Lacks 10 header → 0 < length header → AllByRecursion (IsEntryOf mode) es → (text ≡ headed_text header es) ⊎ (text ++ 10 ∷ [] ≡ headed_text header es) → lines_of text ≡ log_lines header es
-headed_again mode text header es lacks some each (inl e) = ap lines_of e ∙ lines_of-headed mode header es lacks each
-headed_again mode text header es lacks some each (inr e) =
-    let whole : lines_of (text ++ 10 ∷ []) ≡ log_lines header es = ap lines_of e ∙ lines_of-headed mode header es lacks each in
-    let long : 0 < length text = omega (arith, some, ap length e, length-append text (10 ∷ []), length-append (header ++ 10 ∷ []) (flat_map (λ (x : Entry). entry_text x ++ 10 ∷ []) es), length-append header (10 ∷ [])) in
-    sym (unended text long (rw whole (each_some es))) ∙ whole
-
--- the text of a log has its lines
-pub log_again : (text : List ℕ) (mode : Mode) (es : List Entry) → AllByRecursion (IsEntryOf mode) es → (log : IsLogText text mode es) → lines_of text ≡ log_lines log.0 es
-log_again text mode es each log = headed_again mode text log.0 es (header_lacks_feed mode log.0 log.1) (header_some mode log.0 log.1) each log.2
 
 -- an entry that was read is distinct
 distinct_by : (mode : Mode) (line : List ℕ) (e : Entry) → Reads (IsEntryOf mode) entry_text line (Some e) → IsDistinct mode e
@@ -89,29 +60,42 @@ all_lines text mode es read = read.lines ∙ append-nil (log_lines read.header e
 -- a text has one mode and one list of entries
 log_same : (text : List ℕ) (m n : Mode) (es fs : List Entry) → ReadsLines text m es [] → IsLog text n fs → (m ≡ n) × (es ≡ fs)
 log_same text m n es fs read log =
-    let same : log_lines read.header es ≡ log_lines log.1.0 fs = sym (all_lines text m es read) ∙ log_again text n fs log.0 log.1 in
-    let header : read.header ≡ log.1.0 = ap (λ ls. get_or ls 0 []) same in
+    let same : log_lines read.header es ≡ log_lines log.header fs = sym (all_lines text m es read) ∙ log.text in
+    let header : read.header ≡ log.header = ap (λ ls. get_or ls 0 []) same in
     let rest : map entry_text es ≡ map entry_text fs = ap (drop 1) same in
-    let modes : m ≡ n = mode_same m n read.header read.first (subst (IsHeader n) (sym header) log.1.1) in
-    (modes, distinct_same m es fs read.each (of_same m n fs modes log.0) rest)
+    let modes : m ≡ n = mode_same m n read.header read.first (subst (IsHeader n) (sym header) log.first) in
+    (modes, distinct_same m es fs read.each (of_same m n fs modes log.each) rest)
+
+-- the first lines of a log are those of a log
+first_lines : (mode : Mode) (es : List Entry) (lines : List (List ℕ)) (j : ℕ) → AreLinesOf mode es lines → AreLinesOf mode (take j es) (take (suc j) lines)
+first_lines mode es lines j log = record {
+  header = log.header;
+  first = log.first;
+  each = all_take mode j es log.each;
+  text = ap (take (suc j)) log.text ∙ ap (λ ls. log.header ∷ ls) (take-map entry_text j es);
+}
 
 -- a log has no bad line
 log_no_bad : (text : List ℕ) (mode : Mode) (es : List Entry) (n : ℕ) → IsLog text mode es → FirstBad AreLogLines text n → ⊥
 log_no_bad text mode es zero log fault = absurd (omega (arith, fault.one))
-log_no_bad text mode es (suc j) log fault =
-    fault.bad (mode, log.1.0, take j es, log.1.1, all_take mode j es log.0, ap (take (suc j)) (log_again text mode es log.0 log.1) ∙ ap (λ ls. log.1.0 ∷ ls) (take-map entry_text j es))
+log_no_bad text mode es (suc j) log fault = fault.bad (mode, take j es, first_lines mode es (lines_of text) j log)
 
 -- the text of a log, as it is written
 pub written_log : (mode : Mode) (es : List Entry) → AllByRecursion (IsEntryOf mode) es → IsLog (log_text mode es) mode es
-written_log mode es each = (each, (header_text mode, inl refl, inl refl))
+written_log mode es each = record {
+  header = header_text mode;
+  first = inl refl;
+  each = each;
+  text = lines_of-ended (log_lines (header_text mode) es) (header_lacks_feed mode (header_text mode) (inl refl), each_lacks mode es each);
+}
 
 -- a first line that no mode has
 pub bad_header : (text header : List ℕ) (more : List (List ℕ)) → lines_of text ≡ header ∷ more → ReadsHeader header None → FirstBad AreLogLines text 1
 bad_header text header more lines none = record {
   one = omega arith;
   bad = λ log.
-      let same : header ∷ [] ≡ log_lines log.1 log.2 = sym (ap (take 1) lines) ∙ log.5 in
-      none-some log.0 (none.only log.0 (subst (IsHeader log.0) (sym (ap (λ ls. get_or ls 0 []) same)) log.3));
+      let same : header ∷ [] ≡ log_lines log.2.header log.1 = sym (ap (take 1) lines) ∙ log.2.text in
+      none-some log.0 (none.only log.0 (subst (IsHeader log.0) (sym (ap (λ ls. get_or ls 0 []) same)) log.2.first));
   before = λ k some few. absurd (omega arith);
 }
 
@@ -146,11 +130,11 @@ bad_entry : (text line : List ℕ) (more : List (List ℕ)) (mode : Mode) (es : 
 bad_entry text line more mode es read none = record {
   one = omega arith;
   bad = λ log.
-      let lines = sym (ap (take (suc (suc (length es)))) read.lines) ∙ log.5 in
-      let header : read.header ≡ log.1 = ap (λ ls. get_or ls 0 []) lines in
-      let modes : mode ≡ log.0 = mode_same mode log.0 read.header read.first (subst (IsHeader log.0) (sym header) log.3) in
-      let same : map entry_text es ++ line ∷ [] ≡ map entry_text log.2 = sym (upto es) ∙ ap (drop 1) lines in
-      let last = last_is mode line es log.2 (of_same mode log.0 log.2 modes log.4) same in
+      let lines = sym (ap (take (suc (suc (length es)))) read.lines) ∙ log.2.text in
+      let header : read.header ≡ log.2.header = ap (λ ls. get_or ls 0 []) lines in
+      let modes : mode ≡ log.0 = mode_same mode log.0 read.header read.first (subst (IsHeader log.0) (sym header) log.2.first) in
+      let same : map entry_text es ++ line ∷ [] ≡ map entry_text log.1 = sym (upto es) ∙ ap (drop 1) lines in
+      let last = last_is mode line es log.1 (of_same mode log.0 log.1 modes log.2.each) same in
       none-some last.0 (none.only last.0 last.1 last.2);
   before = before;
 }
@@ -163,15 +147,28 @@ bad_entry text line more mode es read none = record {
     before zero some few = absurd (omega arith)
     before (suc j) some few =
         let long : j ≤ length (map entry_text es) = omega (arith, length-map es entry_text) in
-        let front : take j (map entry_text es ++ line ∷ more) ≡ map entry_text (take j es) = take-append-le j (map entry_text es) (line ∷ more) long ∙ take-map entry_text j es in
-        (mode, read.header, take j es, read.first, all_take mode j es (all_fit mode es read.each), ap (take (suc j)) read.lines ∙ ap (λ ls. read.header ∷ ls) front)
+        let front : take j (map entry_text es ++ line ∷ more) ≡ map entry_text (take j es) = take-append-le j (map entry_text es) (line ∷ more) long ∙ take-map entry_text j es in (
+          mode,
+          take j es,
+          record {
+            header = read.header;
+            first = read.first;
+            each = all_take mode j es (all_fit mode es read.each);
+            text = ap (take (suc j)) read.lines ∙ ap (λ ls. read.header ∷ ls) front;
+          },
+        )
 
 pub bad_entry_at : (text line : List ℕ) (more : List (List ℕ)) (mode : Mode) (es : List Entry) (n : ℕ) → n ≡ suc (suc (length es)) → ReadsLines text mode es (line ∷ more) → Reads (IsEntryOf mode) entry_text line None → FirstBad AreLogLines text n
 bad_entry_at text line more mode es n e read none = rw e (bad_entry text line more mode es read none)
 
 -- the log behind comments
 pub file_found : (text rest : List ℕ) (mode : Mode) (es : List Entry) → rest ≡ behind_comments text → ReadsLines rest mode es [] → IsLogFile text mode es
-file_found text rest mode es is read = subst (λ t. IsLog t mode es) is (all_fit mode es read.each, is_log rest mode read.header es read.first (all_lines rest mode es read))
+file_found text rest mode es is read = subst (λ t. IsLog t mode es) is (record {
+  header = read.header;
+  first = read.first;
+  each = all_fit mode es read.each;
+  text = all_lines rest mode es read;
+})
 
 pub file_only : (text rest : List ℕ) (m n : Mode) (es fs : List Entry) → rest ≡ behind_comments text → ReadsLines rest m es [] → IsLogFile text n fs → (m ≡ n) × (es ≡ fs)
 file_only text rest m n es fs is read log = log_same rest m n es fs read (subst (λ t. IsLog t n fs) (sym is) log)

@@ -1,13 +1,13 @@
 //! The text of a log.
 
-ghost use Rattle.std.specs.Prelude.{◌≡◌, ◌++◌, All, ◌+◌, ◌<◌, ◌^◌, ℕ, List, [], IfOk, OnOk, IsErrOf, string_bytes};
+ghost use Rattle.std.specs.Prelude.{◌≡◌, ◌++◌, All, ◌+◌, ◌<◌, ◌^◌, ℕ, List, [], map, IfOk, OnOk, IsErrOf, string_bytes};
 ghost use Rattle.m161_machine.specs.declared.event.Entry.{Entry};
 ghost use Rattle.m161_machine.specs.History.{FitsMode};
 ghost use Rattle.m161_steplog.specs.declared.fault.Fault.TheVariants as faults;
 ghost use Rattle.m161_steplog.specs.Text.{entry_text};
-ghost use Rattle.m161_text.specs.Lines.{FirstBad};
+ghost use Rattle.m161_text.specs.Lines.{text_of, FirstBad};
 ghost use Rattle.m161_steplog.specs.declared.mode.Mode.{Mode};
-ghost use Rattle.m161_steplog.specs.Log.{entry_lines, log_text, tail_text, AreLogLines, IsReadLog};
+ghost use Rattle.m161_steplog.specs.Log.{log_text, tail_text, AreLogLines, IsReadLog};
 ghost use Rattle.m161_steplog.specs.Comments.{IsLogFile, IsFirstBadOfLog};
 ghost use Rattle.m161_steplog.specs.helpers.Log.{ReadsLines, fault_behind};
 
@@ -75,7 +75,7 @@ pub fn write_tail(
 // Appends a line for each entry.
 fn push_entries(alloc: Global, text: &mut String, entries: &[Entry]) -> Result<(), AllocError>
     ensures { OnOk result
-        (string_bytes text.new ≡ string_bytes text.old ++ entry_lines entries.now) }
+        (string_bytes text.new ≡ string_bytes text.old ++ text_of (map entry_text entries.now)) }
 {
     for entry in entries {
         let line = entry_line(alloc, entry)?;
