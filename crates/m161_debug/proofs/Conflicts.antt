@@ -1,5 +1,5 @@
 -- A run that stops at a conflict leaves a state that tells it.
-use Rattle.std.proofs.Common.{◌≡◌, ◌∙◌, ap, refl, subst, ℕ, ◌+◌, ◌&&◌, Bool, true, false, nat_lt, if◌then◌else◌, List, [], ◌∷◌, Option, None, Some, Result, Ok, Err}
+use Rattle.std.proofs.Common.{◌≡◌, refl, subst, ℕ, true, Option, None, Some, Result, Ok, Err}
 use Rattle.std.specs.Prelude.{is_some}
 use Rattle.m161_bus.specs.Board.{BoardState, board_done, board_key}
 use Rattle.m161_bus.specs.declared.console.DoneError.{DoneError}
@@ -12,10 +12,8 @@ use Rattle.m161_machine.specs.declared.event.Event.TheVariants as events
 use Rattle.m161_machine.specs.declared.event.Refusal.{Refusal}
 use Rattle.m161_machine.specs.declared.event.Refusal.TheVariants as refusals
 use Rattle.m161_machine.specs.State.{State, answer, answered_done, answered_key, conflict_after, next, refusal, refusal_of_done, step_result, unless, with_board, with_step}
-use Rattle.m161_debug.specs.declared.breakpoints.Breakpoint.{Breakpoint}
-use Rattle.m161_debug.specs.declared.stop.Stop.{Stop}
-use Rattle.m161_debug.specs.declared.stop.Stop.TheVariants.{Break, Conflict, End, Off, Refused, Until}
-use Rattle.m161_debug.specs.Stops.{is_break, off_stop, stop_or, wait_after, wait_from, TellsConflict}
+use Rattle.m161_debug.specs.declared.stop.Stop.TheVariants.{Conflict, Off}
+use Rattle.m161_debug.specs.Stops.{off_stop, TellsConflict}
 use Rattle.m161_debug.proofs.Going.{none_some}
 
 -- an accepted event with such an outcome
@@ -65,35 +63,7 @@ of_next : (s : State) (e : Event) (y : Given) (k j : ℕ) → next s e ≡ Ok y 
 unfolding next
 of_next s e y k j h = of_answer s e y k j (not_refused (refusal s e) (answer s e) y h)
 
--- a run
-
-abbrev IsTold : ℕ → Stop × State → Type 0
-IsTold j x = x.0 ≡ Conflict j → is_some x.1.conflict ≡ true
-
-waiting : (b : Bool) (k j : ℕ) (t : State) (rest : Stop × State) → IsTold j rest → IsTold j (if b then (Until k, t) else rest)
-waiting true k j t rest told is = absurd (let bad : Until k ≡ Conflict j = is in cc)
-waiting false k j t rest told is = told is
-
-ended : (stop : Option Stop) (o : Outcome) (t : State) (k j : ℕ) (rest : Stop × State) → off_stop k o ≡ stop → Tells k j (o, t) → IsTold j rest → IsTold j (stop_or stop t rest)
-ended None o t k j rest is tells told = told
-ended (Some stop) o t k j rest is tells told = λ same. tells (is ∙ ap (λ x. Some x) same)
-
-answered : (aw : Event → Outcome → State → Bool) (k j : ℕ) (s : State) (e : Event) (x : Result Given Refusal) (rest : State → Stop × State) → next s e ≡ x → ((t : State) → IsTold j (rest t))
-    → IsTold j (wait_after aw k s e x rest)
-answered aw k j s e (Err r) rest is told = λ h. absurd (let bad : Refused k r ≡ Conflict j = h in cc)
-answered aw k j s e (Ok y) rest is told =
-    ended (off_stop k y.0) y.0 y.1 k j (if aw e y.0 y.1 then (Until k, y.1) else rest y.1) refl (of_next s e y k j is)
-    (waiting (aw e y.0 y.1) k j y.1 (rest y.1) (told y.1))
-
-broken : (b : Bool) (k j : ℕ) (s : State) (rest : Stop × State) → IsTold j rest → IsTold j (if b then (Break k, s) else rest)
-broken true k j s rest told = λ h. absurd (let bad : Break k ≡ Conflict j = h in cc)
-broken false k j s rest told = told
-
-of_run : (aw : Event → Outcome → State → Bool) (bs : List Breakpoint) (k : ℕ) (s : State) (es : List Event) (j : ℕ) → IsTold j (wait_from aw bs k s es)
-of_run aw bs k s [] j = λ h. absurd (let bad : End k ≡ Conflict j = h in cc)
-of_run aw bs k s (e ∷ es) j =
-    broken (nat_lt 0 k && is_break bs s e) k j s (wait_after aw k s e (next s e) (λ t. wait_from aw bs (k + 1) t es))
-    (answered aw k j s e (next s e) (λ t. wait_from aw bs (k + 1) t es) refl (λ t. of_run aw bs (k + 1) t es j))
-
 pub tells_conflict : TellsConflict
-tells_conflict aw bs k s es j t h = subst (IsTold j) h (of_run aw bs k s es j) refl
+tells_conflict aw bs s es k t has =
+    let h = has.2 in
+    of_next has.0 h.0 (outcomes.Conflict h.1 h.2, t) k k h.3.2 refl

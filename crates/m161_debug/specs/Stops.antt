@@ -1,12 +1,13 @@
-use Rattle.std.specs.Prelude.{◌≡◌, ◌⊎◌, ℕ, ◌+◌, Bool, true, false, nat_lt, ◌&&◌, if◌then◌else◌, is_some, List, [], ◌∷◌, length, take, drop, slice_get, Option, None, Some, IsOk, Result, Ok, Err}
+use Rattle.std.specs.Prelude.{◌≡◌, ◌⊎◌, ℕ, ◌+◌, ◌<◌, Bool, true, false, nat_lt, ◌&&◌, is_some, List, length, take, slice_get, Option, None, Some, IsOk, Result, Ok, Err}
 use Rattle.m161_cpu.specs.declared.processor.Outcome.{Outcome}
 use Rattle.m161_cpu.specs.declared.processor.Outcome.TheVariants as outcomes
+use Rattle.m161_machine.specs.declared.event.Entry.{Entry}
 use Rattle.m161_machine.specs.declared.event.Event.{Event}
 use Rattle.m161_machine.specs.declared.event.Event.TheVariants as events
 use Rattle.m161_machine.specs.declared.event.Refusal.{Refusal}
 use Rattle.m161_machine.specs.declared.event.Refusal.TheVariants.{NoMemory}
 use Rattle.m161_machine.specs.State.{State, processor_at, next}
-use Rattle.m161_machine.specs.History.{History, Continues}
+use Rattle.m161_machine.specs.History.{History, Continues, Leads, events_of}
 use Rattle.m161_debug.specs.declared.breakpoints.Breakpoint.{Breakpoint}
 use Rattle.m161_debug.specs.declared.stop.Stop.{Stop}
 use Rattle.m161_debug.specs.declared.stop.Stop.TheVariants.{Break, Refused, Off, Conflict, Until, End}
@@ -14,7 +15,7 @@ use Rattle.m161_debug.specs.Breakpoints.{breakpoint, has}
 use Rattle.m161_debug.specs.declared.condition.Condition.{Condition}
 use Rattle.m161_debug.specs.Conditions.{holds}
 
--- Where a run over a list of events stops.
+-- Where a run over a list of events stops: at the least place with a reason to.
 
 -- a Step is at a breakpoint: its processor is about to execute the instruction there
 abbrev pub is_break : List Breakpoint → State → Event → Bool
@@ -32,44 +33,66 @@ off_stop k outcomes.PoweredOff = Some (Off k)
 off_stop k (outcomes.Conflict row other) = Some (Conflict k)
 off_stop k outcomes.Taken = None
 
--- a run at this stop, if it is one, in this state
-abbrev pub stop_or : Option Stop → State → Stop × State → Stop × State
-stop_or None t rest = rest
-stop_or (Some stop) t rest = (stop, t)
+-- whether what a run waits for holds after an event with this outcome, which led to this state
+abbrev pub Awaited : Type 0
+Awaited = Event → Outcome → State → Bool
 
--- after event k: it was refused, it switched the machine off, or the run goes on
-abbrev pub stop_after :
-    ℕ → State → Result (Outcome × State) Refusal → (State → Stop × State) → Stop × State
-stop_after k s (Err refusal) rest = (Refused k refusal, s)
-stop_after k s (Ok r) rest = stop_or (off_stop k r.0) r.1 (rest r.1)
-
--- where a run over the events from place k on stops, and the state at the stop; no breakpoint is
--- looked for at place 0
-abbrev pub stop_from : List Breakpoint → ℕ → State → List Event → Stop × State
-stop_from bs k s [] = (End k, s)
-stop_from bs k s (e ∷ es) =
-    if nat_lt 0 k && is_break bs s e then (Break k, s)
-    else stop_after k s (next s e) (λ t. stop_from bs (k + 1) t es)
-
--- the same with one stop more: after event k, what the run waits for holds. One that switches the
--- machine off stops the run as Off or Conflict
-abbrev pub wait_after :
-    (Event → Outcome → State → Bool) → ℕ → State → Event → Result (Outcome × State) Refusal →
-    (State → Stop × State) → Stop × State
-wait_after awaited k s e (Err refusal) rest = (Refused k refusal, s)
-wait_after awaited k s e (Ok r) rest =
-    stop_or (off_stop k r.0) r.1 (if awaited e r.0 r.1 then (Until k, r.1) else rest r.1)
-
-abbrev pub wait_from :
-    (Event → Outcome → State → Bool) → List Breakpoint → ℕ → State → List Event → Stop × State
-wait_from awaited bs k s [] = (End k, s)
-wait_from awaited bs k s (e ∷ es) =
-    if nat_lt 0 k && is_break bs s e then (Break k, s)
-    else wait_after awaited k s e (next s e) (λ t. wait_from awaited bs (k + 1) t es)
-
--- a run that waits for what never holds
-abbrev pub never : Event → Outcome → State → Bool
+-- of a run that waits for nothing
+abbrev pub never : Awaited
 never e o t = false
+
+-- the place of a stop: that of its event, or behind all events
+abbrev pub place_of : Stop → ℕ
+place_of (Break k) = k
+place_of (Refused k refusal) = k
+place_of (Off k) = k
+place_of (Conflict k) = k
+place_of (Until k) = k
+place_of (End n) = n
+
+-- the events before place k are accepted, one after the other, and lead from s to t
+abbrev pub IsBefore : State → List Event → ℕ → State → Type 0
+IsBefore s es k t =
+    (entries : List Entry) × (events_of entries ≡ take k es) × Leads s entries t
+
+-- an event at place k is at a breakpoint; none is looked for at place 0
+abbrev pub breaks : List Breakpoint → ℕ → State → Event → Bool
+breaks bs k s e = nat_lt 0 k && is_break bs s e
+
+-- event k is this one, no breakpoint stops the run before it, and in s it has this result
+abbrev pub IsTried :
+    List Breakpoint → List Event → ℕ → State → Event → Result (Outcome × State) Refusal → Type 0
+IsTried bs es k s e result =
+    (slice_get es k ≡ Some e) × (breaks bs k s e ≡ false) × (next s e ≡ result)
+
+-- in s, the state before its place, a run stops so, in t: before a breakpoint; at an event that is
+-- refused; after one that switches the machine off; after one that leaves it on, and after which
+-- what the run waits for holds; behind the last event
+abbrev pub StopsIn : Awaited → List Breakpoint → List Event → State → Stop → State → Type 0
+StopsIn awaited bs es s (Break k) t =
+    (e : Event) × (slice_get es k ≡ Some e) × (breaks bs k s e ≡ true) × (t ≡ s)
+StopsIn awaited bs es s (Refused k refusal) t =
+    (e : Event) × IsTried bs es k s e (Err refusal) × (t ≡ s)
+StopsIn awaited bs es s (Off k) t =
+    (e : Event) × IsTried bs es k s e (Ok (outcomes.PoweredOff, t))
+StopsIn awaited bs es s (Conflict k) t =
+    (e : Event) × (row : ℕ) × (other : ℕ)
+    × IsTried bs es k s e (Ok (outcomes.Conflict row other, t))
+StopsIn awaited bs es s (Until k) t =
+    (e : Event) × (o : Outcome) × IsTried bs es k s e (Ok (o, t)) × (off_stop k o ≡ None)
+    × (awaited e o t ≡ true)
+StopsIn awaited bs es s (End n) t = (n ≡ length es) × (t ≡ s)
+
+-- a run over the events from s has a reason for this stop, in t
+abbrev pub HasReason :
+    Awaited → List Breakpoint → State → List Event → Stop → State → Type 0
+HasReason awaited bs s es stop t =
+    (before : State) × IsBefore s es (place_of stop) before × StopsIn awaited bs es before stop t
+
+-- it has none at a place before this one
+abbrev pub NoneBefore : Awaited → List Breakpoint → State → List Event → ℕ → Type 0
+NoneBefore awaited bs s es k =
+    (stop : Stop) (t : State) → place_of stop < k → HasReason awaited bs s es stop t → ⊥
 
 -- how many events were made up to a stop: also the one after which it waited no more, and the one
 -- that switched the machine off
@@ -81,43 +104,41 @@ made_at (Conflict k) = k + 1
 made_at (Until k) = k + 1
 made_at (End n) = n
 
--- for event k, a Done that would be accepted, memory was refused: no stop is among the events
--- before it
-pub record LacksMemory
-    (stops : ℕ → State → List Event → Stop × State)
-    (s : State) (es : List Event) (k : ℕ) (t : State) : Type 0 where
-  pub event : slice_get es k ≡ Some events.Done
-  pub accepts : IsOk (next t events.Done)
-  pub no_stop : stops 0 s es ≡ stops k t (drop k es)
+-- memory is refused to a Done that would be accepted in t
+abbrev pub LacksMemory : List Event → Stop → State → Type 0
+LacksMemory es stop t =
+    (k : ℕ) × (stop ≡ Refused k NoMemory) × (slice_get es k ≡ Some events.Done)
+    × IsOk (next t events.Done)
 
 -- where a run over these events stops, and the machine at the stop: the events before the stop were
--- made of it
+-- made of it, and there is no reason to stop at a place before
 pub record StopsBy
-    (stops : ℕ → State → List Event → Stop × State)
+    (awaited : Awaited) (bs : List Breakpoint)
     (m : History) (es : List Event) (stop : Stop) (n : History) : Type 0 where
   pub made : Continues m (take (made_at stop) es) n
-  pub stop_is : (stops 0 m.state es ≡ (stop, n.state))
-      ⊎ ((k : ℕ) × (stop ≡ Refused k NoMemory) × LacksMemory stops m.state es k n.state)
+  pub is_first : NoneBefore awaited bs m.state es (place_of stop)
+  pub reason : HasReason awaited bs m.state es stop n.state ⊎ LacksMemory es stop n.state
 
 -- of a run that waits for nothing
 abbrev pub Stops : List Breakpoint → History → List Event → Stop → History → Type 0
-Stops bs m es stop n = StopsBy (stop_from bs) m es stop n
+Stops bs m es stop n = StopsBy never bs m es stop n
 
 -- and of one that waits for a condition
 abbrev pub StopsUntil :
     Condition → List Breakpoint → History → List Event → Stop → History → Type 0
-StopsUntil condition bs m es stop n =
-    StopsBy (wait_from (holds condition m.state) bs) m es stop n
+StopsUntil condition bs m es stop n = StopsBy (holds condition m.state) bs m es stop n
 
--- the law: a run that waits for what never holds is one that waits for nothing
-abbrev pub WaitsForNothing : Type 0
-WaitsForNothing =
-    (bs : List Breakpoint) (k : ℕ) (s : State) (es : List Event)
-    → wait_from never bs k s es ≡ stop_from bs k s es
+-- the law: a run has one first reason to stop, and stops in one state
+abbrev pub HasOneStop : Type 0
+HasOneStop =
+    (awaited : Awaited) (bs : List Breakpoint) (s : State) (es : List Event) (stop other : Stop)
+    (t u : State)
+    → NoneBefore awaited bs s es (place_of stop) → HasReason awaited bs s es stop t
+    → NoneBefore awaited bs s es (place_of other) → HasReason awaited bs s es other u
+    → (stop ≡ other) × (t ≡ u)
 
 -- the law: a run that stops at a conflict leaves a state that tells it
 abbrev pub TellsConflict : Type 0
 TellsConflict =
-    (awaited : Event → Outcome → State → Bool) (bs : List Breakpoint) (k : ℕ) (s : State)
-    (es : List Event) (j : ℕ) (t : State)
-    → wait_from awaited bs k s es ≡ (Conflict j, t) → is_some t.conflict ≡ true
+    (awaited : Awaited) (bs : List Breakpoint) (s : State) (es : List Event) (k : ℕ) (t : State)
+    → HasReason awaited bs s es (Conflict k) t → is_some t.conflict ≡ true

@@ -1,11 +1,11 @@
 //! Laws of the definitions. The functions do nothing: their contracts are the laws.
 
-ghost use Rattle.m161_debug.specs.Stops.{TellsConflict, WaitsForNothing};
+ghost use Rattle.m161_debug.specs.Stops.{HasOneStop, TellsConflict};
 
-/// The law that one definition says where runs stop: a run that waits for nothing stops where one
-/// does that waits for what never holds.
-pub fn waits_for_nothing()
-    ensures { WaitsForNothing }
+/// The law that says that the definition of where runs stop leaves no choice: a run has one first
+/// reason to stop, and it leaves one state.
+pub fn has_one_stop()
+    ensures { HasOneStop }
 {}
 
 /// The law of a conflict's text: where a run stops at a conflict, the machine tells it.

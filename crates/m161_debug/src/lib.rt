@@ -58,7 +58,7 @@ pub use breakpoints::BreakError;
 pub use command::CommandError;
 pub use condition::Condition;
 pub use jump::JumpError;
-pub use laws::{tells_conflict, waits_for_nothing};
+pub use laws::{has_one_stop, tells_conflict};
 pub use m161_machine::{Event, Machine, Outcome, Refusal};
 pub use session::Session;
 pub use stop::Stop;

@@ -8,7 +8,7 @@ ghost use Rattle.m161_machine.specs.History.{Answers, Continues, boot_state, eve
 ghost use Rattle.m161_debug.specs.Breakpoints.{breakpoint, break_answer, break_fault, break_leaves, has, without_breakpoint, IsSet};
 ghost use Rattle.m161_debug.specs.Conditions.{is_watchable};
 ghost use Rattle.m161_debug.specs.helpers.Conditions.{holds_if};
-ghost use Rattle.m161_debug.specs.Stops.{is_break, wait_from, Stops, StopsBy, StopsUntil};
+ghost use Rattle.m161_debug.specs.Stops.{is_break, Stops, StopsBy, StopsUntil};
 ghost use Rattle.m161_debug.specs.Jumps.{jump_fault, Jumps};
 ghost use Rattle.m161_debug.specs.helpers.Batch.{events_in};
 ghost use Rattle.m161_debug.specs.Obeys.{used_by};
@@ -320,8 +320,8 @@ impl<T: Tlb + Drop, D: Console + Drop> Session<T, D> {
     // Makes events in order, up to the first stop, or after what the run waits for, if it does.
     fn run(&mut self, condition: Option<Condition>, events: Batch<'_>) -> Stop
         requires { IfSome condition (λ c. is_watchable c self.old.machine.state ≡ true) }
-        ensures stop { StopsBy (wait_from (holds_if condition self.old.machine.state)
-            self.old.breakpoints) self.old.machine (events_in events.entry) result self.new.machine }
+        ensures stop { StopsBy (holds_if condition self.old.machine.state) self.old.breakpoints
+            self.old.machine (events_in events.entry) result self.new.machine }
         ensures breakpoints { self.new.breakpoints ≡ self.old.breakpoints }
         ensures style { self.new.style ≡ self.old.style }
         ensures within { used_by result ≤ length (events_in events.entry) }

@@ -1,10 +1,10 @@
-use Rattle.std.proofs.Common.{◌≡◌, ◌∙◌, ◌≤◌, ◌&&◌, ap, false, nat_lt, sym, true, subst, refl, length, arith, rules}
+use Rattle.std.proofs.Common.{◌≡◌, ◌∙◌, ◌≤◌, ap, false, sym, true, subst, refl, length, arith, rules}
 use Rattle.m161_machine.specs.History.{History}
 use Rattle.m161_machine.proofs.Continuing.{continues_none}
-use Rattle.m161_debug.specs.Stops.{is_break}
+use Rattle.m161_debug.specs.Stops.{breaks}
 use Rattle.m161_debug.specs.helpers.Batch.{events_in}
 use Rattle.m161_debug.specs.helpers.Marks.{is_met, mark_of, IsMark}
-use Rattle.m161_debug.proofs.Going.{breaks, goes_on, made_more, refused, switches_off, waits_no_more, IsAt, Passes}
+use Rattle.m161_debug.proofs.Going.{ends, goes_on, made_more, none_before_first, refused, stops_at_break, switches_off, waits_no_more, IsAt, Passes}
 use Rattle.m161_debug.proofs.Marking.{found_by, stays_mark}
 use Rattle.m161_debug.proofs.session.Session.run.Goals as goal
 use Rattle.m161_debug.proofs.session.Session.run.Goals.{else-k-gt0-via-then-k-gt0+else-is_at_break, else-k-gt0-via-else-k-gt0}
@@ -15,7 +15,7 @@ loop-k-init g c =
     let fits : length c.self.inside.machine.log ≤ c.self.inside.machine.start.conf.log = let last = c.replay.ensures.last in omega (arith, last) in
     record {
       made = continues_none c.args.self.now.machine (subst (λ (m : History). length m.log ≤ m.start.conf.log) same fits);
-      no_stop = refl;
+      none = none_before_first _ _ _ _;
       same = refl;
       style = refl;
     }
@@ -23,8 +23,8 @@ loop-k-init g c =
 pub returns-then-is_at_break-clause-stop : goal.returns-then-is_at_break-clause-stop
 returns-then-is_at_break-clause-stop g c =
     let at : IsAt (events_in c.args.events) c.loop-k.k c.at.result = (omega arith, c.at.ensures) in
-    let here : (nat_lt 0 c.loop-k.k && is_break c.args.self.now.breakpoints c.loop-k.self.machine.state c.at.result) ≡ true = search rules in
-    breaks _ _ _ c.loop-k.self.machine _ _ _ at c.loop-k.invariant.made c.loop-k.invariant.no_stop here
+    let here : breaks c.args.self.now.breakpoints c.loop-k.k c.loop-k.self.machine.state c.at.result ≡ true = search rules in
+    stops_at_break _ _ _ c.loop-k.self.machine _ _ _ at c.loop-k.invariant.made c.loop-k.invariant.none here
 
 pub returns-in-Err-clause-stop : goal.returns-in-Err-clause-stop
 returns-in-Err-clause-stop g c =
@@ -33,7 +33,7 @@ returns-in-Err-clause-stop g c =
       | else-k-gt0-via-then-k-gt0+else-is_at_break w ↦ search rules
       | else-k-gt0-via-else-k-gt0 w ↦ search rules
     ] in
-    refused _ _ _ _ _ _ _ _ _ at c.loop-k.invariant.made c.loop-k.invariant.no_stop passes c.in-Err.ensures.answers
+    refused _ _ _ _ _ _ _ _ _ at c.loop-k.invariant.made c.loop-k.invariant.none passes c.in-Err.ensures.answers
 
 pub returns-in-Some-clause-stop : goal.returns-in-Some-clause-stop
 returns-in-Some-clause-stop g c =
@@ -42,7 +42,7 @@ returns-in-Some-clause-stop g c =
       | else-k-gt0-via-then-k-gt0+else-is_at_break w ↦ search rules
       | else-k-gt0-via-else-k-gt0 w ↦ search rules
     ] in
-    switches_off _ _ c.args.self.now.machine c.loop-k.self.machine c.step.new.self.machine _ _ _ _ c.in-Some.stop at c.loop-k.invariant.made c.loop-k.invariant.no_stop passes
+    switches_off _ _ c.args.self.now.machine c.loop-k.self.machine c.step.new.self.machine _ _ _ _ c.in-Some.stop at c.loop-k.invariant.made c.loop-k.invariant.none passes
     c.in-Ok.ensures.answers (search rules)
 
 pub is_met-requires : goal.is_met-requires
@@ -66,7 +66,7 @@ returns-then-is_met-clause-stop g c =
     let seen = c.is_met.ensures ∙ ap (λ (m : History). is_met c.mark_of-mark.result c.at.result c.in-Ok.outcome m.state) after in
     let found = found_by c.args.condition c.args.self.now.machine.state c.mark_of-mark.result c.at.result c.in-Ok.outcome c.step.new.self.machine.state c.is_met.result value seen in
     let met : c.is_met.result ≡ true = search rules in
-    waits_no_more _ _ c.args.self.now.machine c.loop-k.self.machine c.step.new.self.machine _ _ _ _ at c.loop-k.invariant.made c.loop-k.invariant.no_stop passes c.in-Ok.ensures.answers (search rules) (found ∙ met)
+    waits_no_more _ _ c.args.self.now.machine c.loop-k.self.machine c.step.new.self.machine _ _ _ _ at c.loop-k.invariant.made c.loop-k.invariant.none passes c.in-Ok.ensures.answers (search rules) (found ∙ met)
 
 pub loop-k-preserved : goal.loop-k-preserved
 loop-k-preserved g c =
@@ -83,7 +83,12 @@ loop-k-preserved g c =
     let unmet : c.is_met.result ≡ false = search rules in
     record {
       made = made_more _ _ _ _ _ _ _ at c.loop-k.invariant.made c.in-Ok.ensures.answers;
-      no_stop = goes_on _ _ c.args.self.now.machine c.loop-k.self.machine c.step.new.self.machine _ _ _ _ at c.loop-k.invariant.no_stop passes c.in-Ok.ensures.answers (search rules) (found ∙ unmet);
+      none = goes_on _ _ c.args.self.now.machine c.loop-k.self.machine c.step.new.self.machine _ _ _ _ at c.loop-k.invariant.made c.loop-k.invariant.none passes c.in-Ok.ensures.answers (search rules) (found ∙ unmet);
       same = c.in-Ok.ensures.breakpoints ∙ c.loop-k.invariant.same;
       style = c.in-Ok.ensures.style ∙ c.loop-k.invariant.style;
     }
+
+pub returns-clause-stop : goal.returns-clause-stop
+returns-clause-stop g c =
+    let whole : c.loop-k.k ≡ length (events_in c.args.events) = omega arith in
+    ends _ _ c.args.self.now.machine c.loop-k.self.machine (events_in c.args.events) c.loop-k.k _ whole (omega arith) c.loop-k.invariant.made c.loop-k.invariant.none
