@@ -5,4 +5,6 @@ pub mod Pairs
 pub mod Swaps
 pub mod Fewer
 pub mod Trying
+pub mod Alike
 pub mod Measures
+pub mod Ending

@@ -1,9 +1,11 @@
-use Rattle.std.specs.Prelude.{◌≡◌, ℕ, List, Option}
+use Rattle.std.specs.Prelude.{◌≡◌, Bool, List, Option}
 use Rattle.m161_machine.specs.declared.event.Event.{Event}
+use Rattle.m161_shorten.specs.declared.judged.Judged.{Judged}
 use Rattle.m161_shorten.specs.Passes.{Shortens}
 
--- the law of the passes: whatever the verdicts are, the passes over a list end, with one list
-abbrev pub EndsWithOne : (List Event → Option ℕ) → List Event → Type 0
-EndsWithOne needs es =
-    (fs : List Event) × Shortens needs es fs
-    × ((gs : List Event) → Shortens needs es gs → gs ≡ fs)
+-- the law of the passes, by a judge that says one thing of each list: they end, with one list
+abbrev pub EndsWithOne :
+    {K : Type 0} → (K → Bool) → (List Event → Option (Judged K) → Type 0) → List Event → Type 0
+EndsWithOne is_kind judges es =
+    (fs : List Event) × Shortens is_kind judges es fs
+    × ((gs : List Event) → Shortens is_kind judges es gs → gs ≡ fs)

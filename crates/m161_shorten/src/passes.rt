@@ -1,10 +1,10 @@
 //! The passes over the blocks of a list.
 
-ghost use Rattle.std.specs.Prelude.{◌≡◌, ◌⊎◌, ◌≤◌, ◌<◌, true, false, nat_lt, length, IfOk, OnOk, OnErr};
+ghost use Rattle.std.specs.Prelude.{◌≡◌, ◌⊎◌, ◌≤◌, ◌<◌, false, nat_lt, length, IfOk, OnOk};
 ghost use Rattle.m161_shorten.specs.Blocks.{blocks};
-ghost use Rattle.m161_shorten.specs.Passes.{after_block, first_place, Shortens};
-ghost use Rattle.m161_shorten.specs.Verdicts.{AreNeeded, AreSame, ByVerdicts, KeepsCut, Needs, NeedsAll};
-ghost use Rattle.m161_shorten.specs.helpers.Tries.{CutsAt, GoesFurther, Moves};
+ghost use Rattle.m161_shorten.specs.Passes.{first_place, MakesTrials, Shortens};
+ghost use Rattle.m161_shorten.specs.Verdicts.{AreNeeded, AreSame, KeepsCut, NeedsAll};
+ghost use Rattle.m161_shorten.specs.helpers.Tries.{Moves};
 
 use crate::judge::Judge;
 use crate::ranges::{block_end, start_of};
@@ -68,9 +68,7 @@ impl Passes {
     fn try_block<J: Judge>(&mut self, judge: &mut J, kind: J::Kind) -> Result<(), J::Error>
         requires left { 0 < self.old.left }
         requires some { self.old.block < length (blocks self.old.events) }
-        ensures tried { OnOk result (ByVerdicts (J.Kind.eq kind) (J.judges judge.old)
-            (λ needs. self.new ≡ after_block needs self.old)) }
-        ensures cuts { OnOk result (CutsAt (Needs (J.Kind.eq kind) (J.judges judge.old)) self.old self.new) }
+        ensures tried { OnOk result (MakesTrials (J.Kind.eq kind) (J.judges judge.old) self.old self.new) }
         ensures same { AreSame (J.judges judge.old) (J.judges judge.new) }
     {
         let tried = try_start(judge, kind, &mut self.events, self.start, self.left)?;
@@ -95,12 +93,9 @@ impl Passes {
     }
 
     // Goes on to the next place; false if there is none.
-    #[tactic(auto, unfolding(crate::specs::Passes::next_place))]
+    #[tactic(auto, unfolding(crate::specs::Passes::GoesTo))]
     fn go_on<J: Judge>(&mut self, judge: &mut J, kind: J::Kind) -> Result<bool, J::Error>
-        ensures moves { IfOk result (λ more. ByVerdicts (J.Kind.eq kind) (J.judges judge.old)
-            (λ needs. Moves needs self.old more self.new)) }
-        ensures ends { IfOk result (λ more. more ≡ false → self.new ≡ self.old) }
-        ensures further { IfOk result (λ more. more ≡ true → GoesFurther (Needs (J.Kind.eq kind) (J.judges judge.old)) self.old self.new) }
+        ensures moves { IfOk result (λ more. Moves (J.Kind.eq kind) (J.judges judge.old) self.old more self.new) }
         ensures same { AreSame (J.judges judge.old) (J.judges judge.new) }
     {
         if self.left == 0 {
@@ -129,16 +124,17 @@ pub fn shorten<J: Judge>(
     kind: J::Kind,
     events: Vec<Event>,
 ) -> Result<Vec<Event>, J::Error>
-    ensures passes { IfOk result (λ shorter. ByVerdicts (J.Kind.eq kind) (J.judges judge.old)
-        (λ needs. Shortens needs events.items shorter.items)) }
+    ensures passes { IfOk result (λ shorter. Shortens (J.Kind.eq kind) (J.judges judge.old)
+        events.items shorter.items) }
     // Either nothing was taken, or the events are what the verdict on a list that was judged needs.
     ensures judged { IfOk result (λ shorter. (shorter.items ≡ events.items)
         ⊎ AreNeeded (J.Kind.eq kind) (J.judges judge.old) shorter.items) }
     ensures blocks { IfOk result (λ shorter. length (blocks shorter.items) ≤ length (blocks events.items)) }
     ensures events { IfOk result (λ shorter. length shorter.items ≤ length events.items) }
     // A list that goes wrong at its end still does.
-    ensures needed { IfOk result (λ shorter. ByVerdicts (J.Kind.eq kind) (J.judges judge.old)
-        (λ needs. KeepsCut needs → NeedsAll needs events.items → NeedsAll needs shorter.items)) }
+    ensures needed { IfOk result (λ shorter. KeepsCut (J.Kind.eq kind) (J.judges judge.old)
+        → NeedsAll (J.Kind.eq kind) (J.judges judge.old) events.items
+        → NeedsAll (J.Kind.eq kind) (J.judges judge.old) shorter.items) }
     ensures same { AreSame (J.judges judge.old) (J.judges judge.new) }
 {
     let mut passes = Passes::new(events);

@@ -1,10 +1,9 @@
 //! Trials.
 
-ghost use Rattle.std.specs.Prelude.{◌≡◌, ◌≤◌, ◌<◌, [], ◌∷◌, length, take, IfOk, IfSome, OnErr};
-ghost use Rattle.m161_shorten.specs.Passes.{taken_of};
-ghost use Rattle.m161_shorten.specs.Verdicts.{AreSame, ByVerdicts, Needs};
+ghost use Rattle.std.specs.Prelude.{◌≡◌, ◌≤◌, ◌<◌, [], ◌∷◌, length, take, IfOk, OnErr};
+ghost use Rattle.m161_shorten.specs.Verdicts.{AreSame};
 ghost use Rattle.m161_shorten.specs.helpers.Ranges.{pair_trials, swapped, trials_at, IsPair};
-ghost use Rattle.m161_shorten.specs.helpers.Tries.{Cuts, Tries};
+ghost use Rattle.m161_shorten.specs.helpers.Tries.{NeedsAs, Tries};
 
 use crate::judge::Judge;
 use crate::ranges::{Pair, find_pair, swap_parts};
@@ -25,9 +24,7 @@ fn needs<J: Judge>(
     kind: J::Kind,
     events: &[Event],
 ) -> Result<Option<usize>, J::Error>
-    ensures needs { IfOk result (λ n. ByVerdicts (J.Kind.eq kind) (J.judges judge.old)
-        (λ needs. n ≡ needs events.now)) }
-    ensures has { IfOk result (λ n. IfSome n (Needs (J.Kind.eq kind) (J.judges judge.old) events.now)) }
+    ensures needs { IfOk result (NeedsAs (J.Kind.eq kind) (J.judges judge.old) events.now) }
     ensures same { AreSame (J.judges judge.old) (J.judges judge.new) }
 {
     match judge.judge(events)? {
@@ -48,10 +45,7 @@ fn try_swapped<J: Judge>(
     requires first { a ≤ b }
     requires second { b ≤ c }
     requires within { c ≤ length events.old.items }
-    ensures tries { IfOk result (λ tried. ByVerdicts (J.Kind.eq kind) (J.judges judge.old)
-        (λ needs. Tries (taken_of needs (swapped a b c events.old.items ∷ []))
-        events.old.items tried events.new.items)) }
-    ensures cuts { IfOk result (λ tried. Cuts (Needs (J.Kind.eq kind) (J.judges judge.old)) (swapped a b c events.old.items ∷ [])
+    ensures tries { IfOk result (λ tried. Tries (J.Kind.eq kind) (J.judges judge.old) (swapped a b c events.old.items ∷ [])
         events.old.items tried events.new.items) }
     ensures one { IfOk result (λ tried. tried.judged ≡ 1) }
     ensures err { OnErr result (events.new.items ≡ events.old.items) }
@@ -90,10 +84,7 @@ fn try_pair<J: Judge>(
 ) -> Result<Tried, J::Error>
     requires some { 0 < left }
     requires pair { IsPair pair events.old.items }
-    ensures tries { IfOk result (λ tried. ByVerdicts (J.Kind.eq kind) (J.judges judge.old)
-        (λ needs. Tries (taken_of needs (take left (pair_trials pair events.old.items)))
-        events.old.items tried events.new.items)) }
-    ensures cuts { IfOk result (λ tried. Cuts (Needs (J.Kind.eq kind) (J.judges judge.old)) (take left (pair_trials pair events.old.items))
+    ensures tries { IfOk result (λ tried. Tries (J.Kind.eq kind) (J.judges judge.old) (take left (pair_trials pair events.old.items))
         events.old.items tried events.new.items) }
     ensures few { IfOk result (λ tried. tried.judged ≤ left) }
     ensures err { OnErr result (events.new.items ≡ events.old.items) }
@@ -120,10 +111,7 @@ pub(crate) fn try_start<J: Judge>(
 ) -> Result<Tried, J::Error>
     requires some { 0 < left }
     requires start { start ≤ length events.old.items }
-    ensures tries { IfOk result (λ tried. ByVerdicts (J.Kind.eq kind) (J.judges judge.old)
-        (λ needs. Tries (taken_of needs (take left (trials_at start events.old.items)))
-        events.old.items tried events.new.items)) }
-    ensures cuts { IfOk result (λ tried. Cuts (Needs (J.Kind.eq kind) (J.judges judge.old)) (take left (trials_at start events.old.items))
+    ensures tries { IfOk result (λ tried. Tries (J.Kind.eq kind) (J.judges judge.old) (take left (trials_at start events.old.items))
         events.old.items tried events.new.items) }
     ensures few { IfOk result (λ tried. tried.judged ≤ left) }
     ensures err { OnErr result (events.new.items ≡ events.old.items) }

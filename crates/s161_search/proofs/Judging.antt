@@ -19,8 +19,9 @@ use Rattle.m161_machine.specs.declared.event.Event.{Event}
 use Rattle.m161_machine.specs.History.{boot_fault}
 use Rattle.m161_machine.specs.State.{State}
 use Rattle.m161_shorten.specs.declared.judged.Judged.{Judged as KindJudged}
-use Rattle.m161_shorten.specs.Verdicts.{AreNeeded, ByVerdicts}
+use Rattle.m161_shorten.specs.Verdicts.{AreNeeded}
 use Rattle.m161_shorten.specs.Passes.{Shortens}
+use Rattle.m161_shorten.proofs.Alike.{shortens_by}
 use Rattle.s161_base.specs.Sizes.{conf_of}
 use Rattle.s161_command.specs.declared.task.SearchTask.{SearchTask}
 use Rattle.s161_search.specs.Given.{Given, criteria_of}
@@ -169,12 +170,11 @@ left_as task given s fs es gs k r begins same kind h =
     (subst (λ n. (fs ≡ es) ⊎ AreNeeded (λ kind. n == kind) (HasKind task given) fs) kind (left_at task given s fs es k begins h))
 
 pub short_as : (task : SearchTask) (given : Given) (s : State) (fs es gs : List Event) (k r : ℕ) → BeginsAt task given s → es ≡ gs → k ≡ r →
-    ByVerdicts (λ kind. k == kind) (HasKindFrom s given) (λ needs. Shortens needs es fs) →
-    ByVerdicts (λ kind. r == kind) (HasKind task given) (λ needs. Shortens needs gs fs)
+    Shortens (λ kind. k == kind) (HasKindFrom s given) es fs → Shortens (λ kind. r == kind) (HasKind task given) gs fs
 short_as task given s fs es gs k r begins same kind h =
-    subst (λ xs. ByVerdicts (λ kind. r == kind) (HasKind task given) (λ needs. Shortens needs xs fs)) same
-    (subst (λ n. ByVerdicts (λ kind. n == kind) (HasKind task given) (λ needs. Shortens needs es fs)) kind
-    (λ tells told. h tells (λ xs verdict has. told xs verdict (has task begins))))
+    subst (λ xs. Shortens (λ kind. r == kind) (HasKind task given) xs fs) same
+    (subst (λ n. Shortens (λ kind. n == kind) (HasKind task given) es fs) kind
+    (shortens_by (λ kind. k == kind) (HasKindFrom s given) (HasKind task given) es fs (λ xs verdict has. has task begins) h))
 
 -- one run more
 

@@ -9,7 +9,6 @@ use Rattle.m161_machine.specs.History.{IsBootState}
 use Rattle.m161_machine.specs.State.{State}
 use Rattle.m161_shorten.specs.declared.judged.Judged.{Judged as KindJudged}
 use Rattle.m161_shorten.specs.Passes.{Shortens}
-use Rattle.m161_shorten.specs.Verdicts.{ByVerdicts}
 use Rattle.m161_text.specs.Lines.{with_line_end}
 use Rattle.s161_base.specs.declared.fault.Fault.{Fault}
 use Rattle.s161_base.specs.declared.fault.Fault.TheVariants.{Conf, File, Image, Memory, Watch, Watches}
@@ -52,8 +51,8 @@ is_whole whole End = true
 abbrev pub ArePrinted : Bool → SearchTask → Given → List Event → Judged → List Event → Type 0
 ArePrinted true task given events judged printed = printed ≡ events
 ArePrinted false task given events judged printed =
-    ByVerdicts (λ kind. rank judged.verdict == kind) (HasKind task given)
-    (λ needs. Shortens needs (take judged.events events) printed)
+    Shortens (λ kind. rank judged.verdict == kind) (HasKind task given)
+    (take judged.events events) printed
 
 -- the schedule of the first run that goes wrong, behind its seed and its verdict; the printed verdict
 -- is that of the printed events, and is of the run's kind

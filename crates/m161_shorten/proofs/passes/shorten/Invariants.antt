@@ -1,18 +1,14 @@
-use Rattle.std.proofs.Common.{◌≤◌, length, ℕ, List}
-use Rattle.std.specs.Prelude.{Option}
-use Rattle.m161_machine.specs.declared.event.Event.{Event}
-use Rattle.m161_shorten.specs.declared.judged.Judged.{Judged}
+use Rattle.std.proofs.Common.{◌≤◌, length, ℕ}
 use Rattle.m161_shorten.specs.Blocks.{blocks}
 use Rattle.m161_shorten.specs.Passes.{first_place, GoesOn}
-use Rattle.m161_shorten.specs.Verdicts.{AreSame, IsTold, Needs, needs_by}
+use Rattle.m161_shorten.specs.Verdicts.{AreSame, Needs}
 use Rattle.m161_shorten.proofs.Measures.{IsFrom, weight}
 use Rattle.m161_shorten.proofs.passes.shorten.Given as goal
 
 -- the places so far
 abbrev pub invariant-loop-passes : goal.invariant-loop-passes
 invariant-loop-passes g l = record {
-  places : (tells : List Event → Option (Judged g.row.J-Kind.Denot)) → IsTold (g.J.Judge.judges l.fn.judge) tells →
-      (n : ℕ) × GoesOn (needs_by (g.J.Kind.PartialEq.eq l.kind) tells) n (first_place l.fn.events.items) l.passes;
+  places : (n : ℕ) × GoesOn (g.J.Kind.PartialEq.eq l.kind) (g.J.Judge.judges l.fn.judge) n (first_place l.fn.events.items) l.passes;
   few : length l.passes.events ≤ length l.fn.events.items;
   judged : IsFrom (Needs (g.J.Kind.PartialEq.eq l.kind) (g.J.Judge.judges l.fn.judge)) l.fn.events.items l.passes.events;
   fewer : length (blocks l.passes.events) ≤ length (blocks l.fn.events.items);
