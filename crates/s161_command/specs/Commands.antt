@@ -170,10 +170,11 @@ optional_file_rule name = record (new_rule name) { value_names = 1 }
 -- the arguments of `debug`, without those of a driven run: an image, a file and options
 abbrev pub plain_debug_line : App
 plain_debug_line =
-    with_rule (with_rule (with_rule (with_asked_size_rules (codes "1048576")
+    with_rule (with_rule (with_rule (with_rule (with_asked_size_rules (codes "1048576")
     (with_rule (on_image (codes "debug")) (optional_file_rule (codes "file"))))
     (text_rule (codes "link")))
     strict_rule)
+    (flag_rule (codes "names")))
     (flag_rule (codes "symbols"))
 
 -- the arguments of `debug`; its list of events has at most 16,777,216
@@ -339,6 +340,7 @@ pub record AsksDebug (rows : List Row) (task : DebugTask) : Type 0 where
   pub size : IsAskedSize 1_048_576 rows task.size
   pub link : IsLinkIf (first_of (codes "link") rows) task.size.link
   pub strict : task.size.strict ≡ is_set (codes "strict") rows
+  pub registers : task.registers ≡ registers_of rows
   pub symbols : task.symbols ≡ is_set (codes "symbols") rows
 
 -- `dis` asks for this

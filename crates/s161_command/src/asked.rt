@@ -231,6 +231,7 @@ fn task_of_debug<'a>(given: &ArgMatches<'a>, settings: Settings) -> Task<'a>
         image: file_given(given, "image"),
         source: source_given(given, settings),
         size: asked_size_given(given, 1_048_576, settings.link, strict),
+        registers: registers_given(given),
         symbols: is_set(given, "symbols"),
     })
 }

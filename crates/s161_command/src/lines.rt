@@ -547,6 +547,7 @@ static DEBUG: Line = Line {
         DEBUG_LOG,
         ASKED_LINK,
         ASKED_STRICT,
+        NAMES,
         SYMBOLS,
         TURNS,
         RANDOM,

@@ -179,6 +179,8 @@ pub struct DebugTask<'a> {
     pub source: Source<'a>,
     /// The machine's size.
     pub size: AskedSize,
+    /// How registers of instructions are shown.
+    pub registers: Registers,
     /// Whether addresses are shown by the names of the image's symbol table.
     pub symbols: bool,
 }

@@ -12,7 +12,6 @@ use Rattle.m161_steplog.specs.Comments.{IsFirstBadOfLog, is_comment}
 use Rattle.m161_steplog.specs.Schedule.{AreScheduleLines, IsSchedule}
 use Rattle.s161_command.specs.declared.task.AskedSize.{AskedSize}
 use Rattle.s161_command.specs.declared.task.DebugTask.{DebugTask}
-use Rattle.s161_command.specs.declared.task.Registers.TheVariants.{Numbered}
 use Rattle.s161_command.specs.declared.task.Source.{Source}
 use Rattle.s161_command.specs.declared.task.Source.TheVariants as source
 use Rattle.s161_base.specs.declared.fault.Fault.{Fault}
@@ -83,7 +82,7 @@ pub record Opens
   pub file : List ℕ
   pub is_file : IfSome image (λ bytes. file ≡ bytes)
   pub opened : IsOpened task.source task.size files file booted events
-  pub style_is : style ≡ style_of Numbered task.symbols task.image.now file
+  pub style_is : style ≡ style_of task.registers task.symbols task.image.now file
 
 -- a finished session
 pub record IsDebug

@@ -25,7 +25,7 @@ use s161_base::machines::{LoggedMachine, asked_conf, machine_fault};
 use s161_base::naming::style_of;
 use s161_base::sample::read_image;
 use s161_base::texts::{events_of, log_of};
-use s161_command::{AskedSize, DebugTask, Drive, Registers, Source};
+use s161_command::{AskedSize, DebugTask, Drive, Source};
 use s161_run::policy::read_keys;
 use s161_run::schedule::{chosen_events, events_made};
 use std::alloc::Global;
@@ -72,7 +72,7 @@ pub(crate) fn open<'a, F: FileSource>(
     let file = read_image(alloc, files, task.image)?;
     let image = file.as_slice();
     let booted = open_image(alloc, files, image, task.size, task.source)?;
-    let style = style_of(alloc, Registers::Numbered, task.symbols, task.image, image)?;
+    let style = style_of(alloc, task.registers, task.symbols, task.image, image)?;
     Ok(Opened {
         machine: booted.machine,
         events: booted.events,
