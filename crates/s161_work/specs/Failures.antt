@@ -25,7 +25,7 @@ use Rattle.s161_run.specs.Threads.{IsThreadsFault}
 use Rattle.s161_trace.specs.Traces.{IsTraceFault}
 use Rattle.s161_work.specs.Assemblies.{IsAssemblyFault}
 use Rattle.s161_work.specs.Listings.{IsListingFault}
-use Rattle.s161_work.specs.Works.{Does, GivesHelp, Going, HasMore, IsRefused, IsResultOf, Standard, debugging, going_of, serving, standard, streams_of, tracing}
+use Rattle.s161_work.specs.Works.{Does, GivesHelp, Going, HasMore, IsRefused, IsResultOf, LeavesInput, Standard, debugging, going_of, serving, standard, streams_of, tracing}
 
 -- How a command line ends with the status 1.
 
@@ -112,7 +112,7 @@ FailsAs (Some (debugging debug)) task files before after fault =
 FailsAs None task files before after fault =
     Fails (IsResultOf task files before.input) (IsTaskFault task files before.input)
     before.output after.output fault
-    × (after.errors ≡ before.errors)
+    × (after.errors ≡ before.errors) × LeavesInput task before.input after.input
 
 -- the line of a fault was written to standard error, as far as that took it
 abbrev pub IsTold : Fault → Option (List ℕ) → Option (List ℕ) → Type 0

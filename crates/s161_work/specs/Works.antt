@@ -118,6 +118,26 @@ going_of (Trace task) = Some (tracing task)
 going_of (Debug task) = Some (debugging task)
 going_of _ = None
 
+-- a task that reads nothing of standard input
+abbrev pub ReadsNoInput : Task → Type 0
+ReadsNoInput Demo = Unit {0}
+ReadsNoInput (Run task) = ⊥
+ReadsNoInput (RunInThreads task) = Unit {0}
+ReadsNoInput (RunDriven task) = Unit {0}
+ReadsNoInput (Schedule task) = Unit {0}
+ReadsNoInput (Console task) = ⊥
+ReadsNoInput (Trace task) = ⊥
+ReadsNoInput (Debug task) = ⊥
+ReadsNoInput (Search task) = Unit {0}
+ReadsNoInput (Replay task) = Unit {0}
+ReadsNoInput (Audit task) = ⊥
+ReadsNoInput (Assemble task) = ⊥
+ReadsNoInput (Disassemble task) = Unit {0}
+
+-- and so it read nothing of it
+abbrev pub LeavesInput : Task → Option (List ℕ) → Option (List ℕ) → Type 0
+LeavesInput task before after = ReadsNoInput task → after ≡ before
+
 -- a task was finished with this exit status: one that writes as it goes on; or it printed its text,
 -- and nothing was written to standard error
 abbrev pub FinishesAs :
@@ -130,7 +150,7 @@ FinishesAs (Some (debugging debug)) task files before after status =
     IsDebuggedOut debug files before after status
 FinishesAs None task files before after status =
     Prints (IsResultOf task files before.input) before.output after.output status
-    × (after.errors ≡ before.errors)
+    × (after.errors ≡ before.errors) × LeavesInput task before.input after.input
 
 abbrev pub Finishes : Task → (Text → Option (List ℕ)) → Standard → Standard → ℕ → Type 0
 Finishes task files before after status =
@@ -172,3 +192,9 @@ abbrev pub IsRefused : List Text → Type 0
 IsRefused words =
     (¬ IsAccepted words)
     ⊎ ((clash : Clash) × IsAccepted words × ClashesIn (subcommand_of command_line words) clash)
+
+-- so standard error says why; nothing was read of standard input, nor written to standard output
+abbrev pub Rejects : List Text → Standard → Standard → Type 0
+Rejects words before after =
+    IsRefused words × (after.input ≡ before.input) × (after.output ≡ before.output)
+    × HasMore before.errors after.errors

@@ -11,7 +11,7 @@ ghost use Rattle.s161_texts.specs.Listings.{IsDisassembled};
 ghost use Rattle.s161_work.specs.Assemblies.{IsAssemblyFault};
 ghost use Rattle.s161_work.specs.Failures.{Fails, IsTaskFault};
 ghost use Rattle.s161_work.specs.Listings.{IsListingFault};
-ghost use Rattle.s161_work.specs.Works.{IsResultOf, Prints, WithZero, going_of};
+ghost use Rattle.s161_work.specs.Works.{IsResultOf, LeavesInput, Prints, WithZero, going_of};
 
 use s161_base::fault::Fault;
 use s161_base::files::FileSource;
@@ -52,6 +52,7 @@ pub(crate) fn print_task<'a, R: Threads + Wait + Sync, F: FileSource, I: Read, O
         (IsResultOf task.entry (F.known files.old) (I.remaining input.old))
         (IsTaskFault task.entry (F.known files.old) (I.remaining input.old))
         (O.contents output.old) (O.contents output.new)) }
+    ensures unread { LeavesInput task.entry (I.remaining input.old) (I.remaining input.new) }
     ensures within { IfOk result (λ status. (status ≤ 5) × (status ≢ 2)) }
 {
     let finished = finish(rt, alloc, task, files, input)?;
@@ -73,6 +74,7 @@ fn finish<'a, R: Threads + Wait + Sync, F: FileSource, I: Read>(
         (I.remaining input.old) done.text.items done.status) }
     ensures fault { IfErr result (IsTaskFault task.entry (F.known files.old)
         (I.remaining input.old)) }
+    ensures unread { LeavesInput task.entry (I.remaining input.old) (I.remaining input.new) }
     ensures within { IfOk result (λ done. (done.status ≤ 5) × (done.status ≢ 2)) }
 {
     match task {

@@ -25,7 +25,8 @@ pub(crate) fn refuse<O: Write, E: Write>(
     output: &mut O,
     errors: &mut E,
 ) -> u8
-    ensures refused { result ≡ 2 → IsSaid rejection }
+    ensures refused { result ≡ 2 → IsSaid rejection × (O.contents output.new ≡ O.contents output.old)
+        × HasMore (E.contents errors.old) (E.contents errors.new) }
     ensures help { result ≡ 0 → IsHelped rejection (O.contents output.old) (O.contents output.new)
         × (E.contents errors.new ≡ E.contents errors.old) }
     ensures unsaid { result ≡ 1 → IsUnsaid rejection (O.contents output.old) (O.contents output.new)
@@ -46,7 +47,8 @@ fn reject<O: Write, E: Write>(alloc: Global, error: &Error, output: &mut O, erro
         × (E.contents errors.new ≡ E.contents errors.old) }
     ensures unsaid { result ≡ 1 → IsUnsaid (Rejection.Words error.now) (O.contents output.old)
         (O.contents output.new) (E.contents errors.old) (E.contents errors.new) }
-    ensures usage { result ≡ 2 → O.contents output.new ≡ O.contents output.old }
+    ensures usage { result ≡ 2 → (O.contents output.new ≡ O.contents output.old)
+        × HasMore (E.contents errors.old) (E.contents errors.new) }
     ensures within { result ≤ 2 }
 {
     if error.kind() == ErrorKind::OutOfMemory {
@@ -78,7 +80,7 @@ fn print_help<O: Write, E: Write>(text: &[u8], output: &mut O, errors: &mut E) -
 
 // Writes a text to standard error. Returns the exit status: 2 if all of it was written.
 fn print_usage<E: Write>(text: &[u8], errors: &mut E) -> u8
-    ensures usage { result ≡ 2 → Appends (E.contents errors.old) (E.contents errors.new) text.now }
+    ensures usage { result ≡ 2 → HasMore (E.contents errors.old) (E.contents errors.new) }
     ensures unsaid { result ≡ 1 → HasMore (E.contents errors.old) (E.contents errors.new) }
     ensures within { (1 ≤ result) × (result ≤ 2) }
 {
@@ -93,6 +95,7 @@ fn print_usage<E: Write>(text: &[u8], errors: &mut E) -> u8
 fn report_clash<E: Write>(alloc: Global, clash: Clash, errors: &mut E) -> u8
     ensures unsaid { result ≡ 1 → IsTold Memory (E.contents errors.old) (E.contents errors.new)
         ⊎ HasMore (E.contents errors.old) (E.contents errors.new) }
+    ensures usage { result ≡ 2 → HasMore (E.contents errors.old) (E.contents errors.new) }
     ensures within { (1 ≤ result) × (result ≤ 2) }
 {
     match format!(in alloc; "error: {clash}\n\nFor more information, try '--help'.\n") {

@@ -3,7 +3,7 @@
 ghost use Rattle.std.specs.Prelude.{◌≡◌, ◌≢◌, ◌≤◌, IfErr, IfOk, map, string_bytes};
 ghost use Rattle.s161_command.specs.Commands.{HasLimits};
 ghost use Rattle.s161_work.specs.Failures.{EndsBadly, FailsAs, IsTold};
-ghost use Rattle.s161_work.specs.Works.{Finishes, Follows, IsDone, IsRefused, going_of, standard};
+ghost use Rattle.s161_work.specs.Works.{Finishes, Follows, IsDone, Rejects, going_of, standard};
 
 use crate::going::{debug_out, serve, trace_out};
 use crate::printing::print_task;
@@ -34,8 +34,9 @@ where
     I: Read,
     O: Write,
     E: Write,
-    ensures rejected { result ≡ 2
-        → IfOk words.entry (λ ws. IsRefused (map string_bytes ws.items)) }
+    ensures rejected { result ≡ 2 → IfOk words.entry (λ ws. Rejects (map string_bytes ws.items)
+        (standard (I.remaining input.old) (O.contents output.old) (E.contents errors.old))
+        (standard (I.remaining input.new) (O.contents output.new) (E.contents errors.new))) }
     ensures finished { IsDone result → IfOk words.entry (λ ws. Follows (map string_bytes ws.items)
         (F.known files.old)
         (standard (I.remaining input.old) (O.contents output.old) (E.contents errors.old))
@@ -78,7 +79,9 @@ where
     I: Read,
     O: Write,
     E: Write,
-    ensures rejected { result ≡ 2 → IsRefused (map S.text words.now) }
+    ensures rejected { result ≡ 2 → Rejects (map S.text words.now)
+        (standard (I.remaining input.old) (O.contents output.old) (E.contents errors.old))
+        (standard (I.remaining input.new) (O.contents output.new) (E.contents errors.new)) }
     ensures finished { IsDone result → Follows (map S.text words.now) (F.known files.old)
         (standard (I.remaining input.old) (O.contents output.old) (E.contents errors.old))
         (standard (I.remaining input.new) (O.contents output.new) (E.contents errors.new)) result }

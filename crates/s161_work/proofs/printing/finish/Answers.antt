@@ -15,3 +15,12 @@ returns-in-Replay-clause-ok g c = rw c.in-Replay.is c.replay.ensures.ok
 
 pub returns-in-Audit-clause-ok : goal.returns-in-Audit-clause-ok
 returns-in-Audit-clause-ok g c = rw c.in-Audit.is c.audit.ensures.ok
+
+pub returns-in-Run-clause-unread : goal.returns-in-Run-clause-unread
+returns-in-Run-clause-unread g c = rw c.in-Run.is (λ none. absurd none)
+
+pub returns-in-Audit-clause-unread : goal.returns-in-Audit-clause-unread
+returns-in-Audit-clause-unread g c = rw c.in-Audit.is (λ none. absurd none)
+
+pub returns-in-Assemble-clause-unread : goal.returns-in-Assemble-clause-unread
+returns-in-Assemble-clause-unread g c = rw c.in-Assemble.is (λ none. absurd none)

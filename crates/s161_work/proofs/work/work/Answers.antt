@@ -1,8 +1,10 @@
+use Rattle.std.proofs.Common.{refl}
 use Rattle.s161_work.proofs.Refusals.{refused, unsaid_ends}
 use Rattle.s161_work.proofs.work.work.Goals as goal
 
 pub returns-in-Err-clause-rejected : goal.returns-in-Err-clause-rejected
-returns-in-Err-clause-rejected g c = λ two. refused _ c.in-Err.rejection c.in-Err.ensures.rejected (c.refuse.ensures.refused two)
+returns-in-Err-clause-rejected g c = λ two.
+    let said = c.refuse.ensures.refused two in (refused _ c.in-Err.rejection c.in-Err.ensures.rejected said.0, refl, said.1, said.2)
 
 pub returns-in-Err-clause-failed : goal.returns-in-Err-clause-failed
 returns-in-Err-clause-failed g c = λ one.
