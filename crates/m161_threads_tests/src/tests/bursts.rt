@@ -97,6 +97,23 @@ fn bursts(rt: HostRuntime) -> Result<(), Fail> {
     Ok(())
 }
 
+/// A worker that says that the machine is worn out after some thousands of Steps would be seen here.
+#[test]
+fn long_bursts(rt: HostRuntime) -> Result<(), Fail> {
+    let (_, machine) = boot(rt.alloc(), &LOOP, 2, 64)?;
+    let (found, calls) = run_listed(&rt, machine, &[100_000, 100_000], 1024);
+    let Ok(report) = found else {
+        return Err(Fail::new("no report"));
+    };
+    same(&rt, report.counts.as_slice(), [100_000, 100_000].as_slice());
+    same(&rt, (report.machine.made(), report.off), (200_000, false));
+    for p in 0..2u32 {
+        // 97 bursts of 1,024 Steps, and one of 672
+        check_calls(&rt, &calls, p, 98, 1024);
+    }
+    Ok(())
+}
+
 #[test]
 fn many_workers(rt: HostRuntime) -> Result<(), Fail> {
     for (processors, longest, bursts) in [(32, 3, 4), (3, 1, 10), (1, 1024, 1)] {

@@ -31,7 +31,10 @@ fn over<I: Read>(
 #[test]
 fn slow_reader(rt: HostRuntime) -> Result<(), Fail> {
     let output = join(&rt, &[&POWERED_OFF, &["stop: off\n"]])?;
-    let mut slow = Slow::new(b"s 0 2\n");
+    // a comment of so many bytes that a reader that gives up after some calls is seen
+    let mut input = vec![in rt.alloc(); b'#'; 200_000]?;
+    input.extend_from_slice(b"\ns 0 2\n")?;
+    let mut slow = Slow::new(&input);
     let found = over(&rt, &mut slow, [output.as_str(), ""])?;
     same(&rt, found, (0, all(output.as_str()), all("")));
     Ok(())
