@@ -7,7 +7,6 @@
 mod audit;
 mod bus;
 mod cop0;
-mod core;
 mod dis;
 mod elf;
 mod fetches;
