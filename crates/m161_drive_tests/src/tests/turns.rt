@@ -56,15 +56,14 @@ fn check_entries(
     }
 }
 
-/// Makes a turn with this many places, 64 at most: it has to have this many events, or none for this
-/// reason. Makes its events one by one.
-fn check_turn(
+/// Makes a turn with this many places, 64 at most, and its events one by one. Returns how many, or why
+/// there is none.
+fn make_turn(
     rt: &impl Abort,
     pair: &mut Pair,
     policy: &Policy,
     places: usize,
-    expected: Result<usize, Stop>,
-) {
+) -> Result<usize, Stop> {
     let Pair {
         core,
         cursor,
@@ -75,10 +74,23 @@ fn check_turn(
     let places = places.clamp(1, 64);
     let key = policy.key(cursor.typed());
     let found = turn(core, policy, cursor, key, &mut entries[..places]);
-    same(rt, found, expected);
     if let Ok(made) = found {
         check_entries(rt, again, one_by_one, policy, &entries[..made]);
     }
+    found
+}
+
+/// Makes a turn with this many places, 64 at most: it has to have this many events, or none for this
+/// reason.
+fn check_turn(
+    rt: &impl Abort,
+    pair: &mut Pair,
+    policy: &Policy,
+    places: usize,
+    expected: Result<usize, Stop>,
+) {
+    let found = make_turn(rt, pair, policy, places);
+    same(rt, found, expected);
 }
 
 /// Makes turns, which have to have these lengths.
@@ -109,8 +121,8 @@ fn check_kernel(
     Ok(())
 }
 
-/// A turn ends with its places, before a byte is sent, before a key is typed, and
-/// behind a Step that changes the board.
+/// A turn of the driver ends 16 choices behind a turn's Steps, with its places, before a byte is sent,
+/// before a key is typed, and behind a Step that changes the board.
 #[test]
 fn turn_lengths(rt: HostRuntime) -> Result<(), Fail> {
     let long = Policy::new(Order::Turns(1000), 5, Some(20), b"ab")?;
@@ -121,7 +133,12 @@ fn turn_lengths(rt: HostRuntime) -> Result<(), Fail> {
         &long,
         4,
         &[3, 4, 1, 1, 4, 4, 3, 1, 4, 4, 4, 4, 4, 1, 4],
-    )
+    )?;
+    let tens = Policy::new(Order::Turns(10), 24, None, b"ab")?;
+    check_kernel(&rt, &SENDS, &tens, 64, &[3, 23, 1, 1, 19, 20])?;
+    check_kernel(&rt, &SENDS, &tens, 4, &[3, 4, 4, 4, 4, 4, 4, 1, 4, 4, 4])?;
+    let eights = Policy::new(Order::Turns(8), 100, Some(1000), b"")?;
+    check_kernel(&rt, &TWO, &eights, 64, &[5, 2, 17, 24])
 }
 
 /// A turn is one event where there is one place, and by priorities.
@@ -136,6 +153,21 @@ fn turns_of_one(rt: HostRuntime) -> Result<(), Fail> {
     };
     let priorities = Policy::new(order, 5, Some(20), b"ab")?;
     check_kernel(&rt, &TWO, &priorities, 64, &[1; 60])
+}
+
+/// In turns of one Step and at random 16 choices are made beforehand.
+#[test]
+fn turns_of_many(rt: HostRuntime) -> Result<(), Fail> {
+    let ones = Policy::new(Order::Turns(1), 5, Some(20), b"ab")?;
+    check_kernel(&rt, &SENDS, &ones, 64, &[3, 5, 1, 11, 1, 17, 3, 1, 17, 17])?;
+    let random = Policy::new(Order::Random(7), 5, Some(20), b"ab")?;
+    let mut pair = start(&rt, &TWO, &random)?;
+    for _turn in 0..20 {
+        let found = make_turn(&rt, &mut pair, &random, 64);
+        same(&rt, matches!(found, Ok(1..=17)), true);
+        check_same(&rt, &pair.core, &pair.again);
+    }
+    Ok(())
 }
 
 /// While 256 keys wait, none is due, and a turn goes on.
