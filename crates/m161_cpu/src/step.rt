@@ -40,6 +40,7 @@ impl<T: Tlb> Cpu<T> {
         ensures proper { IsOfStep result }
         // On a strict machine no two rows of its TLB come to overlap.
         ensures apart { strict ≡ true → AreApart self.old.rows → AreApart self.new.rows }
+        // A link's unit, a word or a line, never changes.
         ensures unit { links.new.unit ≡ links.old.unit }
     {
         self.rest_or_run(c, ram, board, links, strict)

@@ -1,11 +1,11 @@
 //! The orders, as a run goes on.
 
-ghost use Rattle.std.specs.Prelude.{◌≡◌, ◌⊎◌, ℕ, ◌<◌, ◌≤◌, true, length, take, None};
-ghost use Rattle.m161_drive.specs.Orders.{by_order, by_words, interrupted, order_at_start};
+ghost use Rattle.std.specs.Prelude.{◌≡◌, ◌⊎◌, ◌<◌, ◌≤◌, true, length, None, Some};
+ghost use Rattle.m161_drive.specs.Orders.{by_order, by_words, interrupted, one_of, order_at_start};
 ghost use Rattle.m161_drive.specs.Ready.{is_ready};
 ghost use Rattle.m161_drive.specs.Words.{after_words};
 ghost use Rattle.m161_drive.specs.declared.orders.OrderState.TheVariants.{AtRandom};
-ghost use Rattle.m161_drive.specs.helpers.Drive.{IsPlan, MayGoOn, Plans, gone_on};
+ghost use Rattle.m161_drive.specs.helpers.Drive.{IsPlan, MayGoOn, PlansBehind, gone_on};
 ghost use Rattle.m161_order.specs.Order.{order_fault};
 
 use crate::ranking::Ranking;
@@ -29,19 +29,28 @@ pub(crate) enum OrderState {
     ByPriority(Ranking),
 }
 
+// One of these processors, by the next word.
+#[inline(always)]
+fn one_of(generator: &mut Pcg32, processors: &[u8]) -> u32
+    requires { (1 ≤ length processors.now) × (length processors.now ≤ 32) }
+    ensures { (Some result, generator.new) ≡ one_of processors.now generator.old }
+{
+    let place = below(generator, processors.len() as u32);
+    u32::from(processors[place as usize])
+}
+
 // A ready processor by the next word; no word is drawn if none is ready.
 fn by_words<T: Tlb, D: Console>(generator: &mut Pcg32, core: &Core<T, D>) -> Option<u32>
     ensures processor { result ≡ (by_words generator.old core.now.state).0 }
     ensures after { generator.new ≡ (by_words generator.old core.now.state).1 }
 {
     // For LLVM: room of this function, since bytes that were just written would be slow to copy.
-    let mut places = [0; 32];
-    let count = list_ready(core, &mut places);
+    let mut processors = [0; 32];
+    let count = list_ready(core, &mut processors);
     if count == 0 {
         return None;
     }
-    let place = below(generator, count as u32);
-    Some(u32::from(places[place as usize]))
+    Some(one_of(generator, &processors[..count]))
 }
 
 // Plans the Steps behind one of processor `p`, by words that aren't drawn yet. Returns how many.
@@ -51,27 +60,24 @@ fn plan_by_words<T: Tlb, D: Console>(
     p: u32,
     places: &mut [PackedEntry],
 ) -> usize
-    ensures plan { (q : ℕ)
-        × Plans (AtRandom generator.now) p core.now.state (take result places.new) q }
+    ensures plan { PlansBehind (AtRandom generator.now) p core.now.state result places.new }
     ensures within { result ≤ length places.old }
     ensures length { length places.new ≡ length places.old }
 {
     core.law();
+    let mut processors = [0; 32];
+    let count = list_ready(core, &mut processors);
     let Ok(mut words) = generator.clone() else {
         return 0;
     };
-    let most = places.len().min(CHOICES);
-    let mut planned = 0;
-    while planned < most {
-        match by_words(&mut words, core) {
-            Some(next) => {
-                places[planned] = PackedEntry::planned(next);
-                planned += 1;
-            }
-            None => return planned,
-        }
+    if count == 0 {
+        return 0;
     }
-    planned
+    let most = places.len().min(CHOICES);
+    for place in 0..most {
+        places[place] = PackedEntry::planned(one_of(&mut words, &processors[..count]));
+    }
+    most
 }
 
 // Draws so many words.
@@ -162,8 +168,7 @@ impl OrderState {
     ) -> usize
         requires ready { is_ready core.now.state p ≡ true }
         requires small { p < 32 }
-        ensures plan { (q : ℕ) × Plans self.now p core.now.state (take result places.new) q }
-        ensures begun { (result ≡ 0) ⊎ MayGoOn self.now }
+        ensures plan { PlansBehind self.now p core.now.state result places.new }
         ensures within { result ≤ length places.old }
         ensures length { length places.new ≡ length places.old }
     {

@@ -1,10 +1,10 @@
 //! Steps in turns.
 
-ghost use Rattle.std.specs.Prelude.{◌≡◌, ◌⊎◌, ℕ, ◌<◌, ◌≤◌, true, length, take};
+ghost use Rattle.std.specs.Prelude.{◌≡◌, ◌⊎◌, ◌<◌, ◌≤◌, true, length};
 ghost use Rattle.m161_drive.specs.declared.orders.OrderState.TheVariants.{InTurns};
 ghost use Rattle.m161_drive.specs.Orders.{begun, by_turns, goes_on};
 ghost use Rattle.m161_drive.specs.Ready.{is_ready};
-ghost use Rattle.m161_drive.specs.helpers.Drive.{MayGoOn, Plans, gone_on};
+ghost use Rattle.m161_drive.specs.helpers.Drive.{MayGoOn, PlansBehind, gone_on};
 
 use crate::ready::{is_ready, next_ready};
 use m161_bus::Console;
@@ -70,8 +70,7 @@ impl Turns {
     ) -> usize
         requires ready { is_ready core.now.state p ≡ true }
         requires small { p < 32 }
-        ensures plan { (q : ℕ) × Plans (InTurns self.now) p core.now.state (take result places.new) q }
-        ensures begun { (result ≡ 0) ⊎ MayGoOn (InTurns self.now) }
+        ensures plan { PlansBehind (InTurns self.now) p core.now.state result places.new }
         ensures within { result ≤ length places.old }
         ensures length { length places.new ≡ length places.old }
     {
@@ -96,8 +95,8 @@ impl Turns {
         places: &mut [PackedEntry],
     ) -> usize
         requires ready { is_ready core.now.state p ≡ true }
-        requires ended { self.now.made ≡ self.now.steps }
-        ensures plan { (q : ℕ) × Plans (InTurns self.now) p core.now.state (take result places.new) q }
+        requires ended { (1 ≤ self.now.made) × (self.now.made ≡ self.now.steps) }
+        ensures plan { PlansBehind (InTurns self.now) p core.now.state result places.new }
         ensures within { result ≤ length places.old }
         ensures length { length places.new ≡ length places.old }
     {

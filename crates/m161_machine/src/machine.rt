@@ -296,8 +296,8 @@ impl<T: Tlb, D: Console> Machine<T, D> {
     /// has the last entries for which there is room. The configuration is within the limits and
     /// never changes. Since the base each processor has counted exactly its Steps in the log, and
     /// each entry's outcome is one that its event can have, and a conflict only on a strict machine.
-    /// On that no two rows of a processor's TLB overlap, in the state and in the base. In both, links are
-    /// to the unit of the configuration.
+    /// There no two rows of a processor's TLB overlap, in the state and in the base. In both, a link
+    /// is to a word or to a line, as the configuration says.
     pub fn replay(&self)
         ensures replay { IsReplay self.now }
         ensures reached { IsReached self.now.start self.now.base }

@@ -444,8 +444,8 @@ impl<T: Tlb, D: Console> Core<T, D> {
 
     /// The law of every state: there are as many processors as the board says, at most 32; RAM has at
     /// most 2^29 bytes; the configuration is within the limits; no processor has made more Steps than
-    /// events were accepted; on a strict machine no two rows of a processor's TLB overlap; and links are
-    /// to the unit of the configuration.
+    /// events were accepted; on a strict machine no two rows of a processor's TLB overlap; and a link
+    /// is to a word or to a line, as the configuration says.
     pub fn law(&self)
         ensures number { length self.now.state.processors ≡ self.now.state.board.processors }
         ensures few { length self.now.state.processors ≤ 32 }

@@ -64,6 +64,11 @@ Plans o last s (e ∷ es) q =
     (p : ℕ) × (e ≡ planned p) × (by_order o (Some last) s ≡ (Some p, next_order o))
     × Plans (next_order o) p s es q
 
+-- behind a Step of processor p, the first n places name Steps that an order chooses in this way
+abbrev pub PlansBehind : OrderState → ℕ → State → ℕ → List Entry → Type 0
+PlansBehind o p s n places =
+    ((n ≡ 0) ⊎ MayGoOn o) × ((q : ℕ) × Plans o p s (take n places) q)
+
 -- the first n places plan a Step of processor p, which was just chosen, and those that follow it
 pub record IsPlan (o : OrderState) (p : ℕ) (s : State) (n : ℕ) (places : List Entry) : Type 0 where
   pub rest : List Entry

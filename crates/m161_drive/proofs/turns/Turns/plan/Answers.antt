@@ -1,4 +1,4 @@
-use Rattle.std.proofs.Common.{◌∙◌, ap, length, replicate, arith}
+use Rattle.std.proofs.Common.{◌∙◌, ap, inr, length, replicate, arith}
 use Rattle.m161_machine.specs.Stretch.{planned}
 use Rattle.m161_drive.proofs.Planned.{turns_planned}
 use Rattle.m161_drive.proofs.turns.Turns.plan.Goals as goal
@@ -11,6 +11,9 @@ returns-clause-plan g c =
     let zero = c.if-self-eq0.false in
     let most = c.if-self.false in
     let others = c.plan_others.ensures.length in
-    turns_planned c.args.self.now c.args.p c.min-rest.result c.plan_others.result (length c.args.places.now) c.args.core.now.state c.plan_all.new.places c.plan_others.new.places
-    c.requires.ready (omega (arith, zero)) (omega (arith, most)) least (c.plan_all.ensures ∙ ap (λ n. replicate n (planned c.args.p)) front)
-    (omega (arith, others, back)) c.plan_others.ensures.plan
+    (
+      inr (omega (arith, zero), omega (arith, most)),
+      turns_planned c.args.self.now c.args.p c.min-rest.result c.plan_others.result (length c.args.places.now) c.args.core.now.state c.plan_all.new.places c.plan_others.new.places
+          c.requires.ready (omega (arith, zero)) (omega (arith, most)) least (c.plan_all.ensures ∙ ap (λ n. replicate n (planned c.args.p)) front)
+          (omega (arith, others, back)) c.plan_others.ensures.plan.1,
+    )
