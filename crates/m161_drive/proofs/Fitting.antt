@@ -1,6 +1,7 @@
-use Rattle.std.proofs.Common.{◌≡◌, refl, subst, ℕ, zero, suc, ◌+◌, Bool, true, false, cond, not, List, [], ◌∷◌, ◌++◌, length, arith, ◌⊎◌, inl, inr}
+use Rattle.std.proofs.Common.{◌≡◌, refl, ap, subst, ℕ, zero, suc, ◌+◌, ◌-◌, ◌<◌, Bool, true, false, cond, not, List, [], ◌∷◌, ◌++◌, length, min, arith, ◌⊎◌, inl, inr}
 use Rattle.std.proofs.lemmas.Bool.Decides.{nat_tests}
-use Rattle.std.specs.Prelude.{Option, None, Some, Result, Ok, Err, ◌&&◌, ◌||◌, if◌then◌else◌, nat_lt, nat_le, find, filter, slice_get, slice_index, is_some}
+use Rattle.std.proofs.lemmas.Option.{slice_get-get_or}
+use Rattle.std.specs.Prelude.{Option, None, Some, Result, Ok, Err, ◌&&◌, ◌||◌, ◌==◌, if◌then◌else◌, nat_lt, nat_le, count_by, find, filter, slice_get, slice_index, is_some}
 use Rattle.std.specs.List.{last_or, range_with_len}
 use Rattle.rand_pcg.specs.Lcg.{Lcg}
 use Rattle.m161_bus.specs.Board.{board_done, board_key, with_console}
@@ -18,13 +19,16 @@ use Rattle.m161_machine.specs.State.{State, answered_done, answered_key, is_worn
 use Rattle.m161_drive.specs.declared.cursor.Cursor.{Cursor}
 use Rattle.m161_drive.specs.declared.turns.Turns.{Turns}
 use Rattle.m161_drive.specs.declared.orders.OrderState.{OrderState}
-use Rattle.m161_drive.specs.declared.orders.OrderState.TheVariants.{InTurns, AtRandom, ByPriority}
+use Rattle.m161_drive.specs.declared.orders.OrderState.TheVariants.{InTurns, ByDelays, AtRandom, ByPriority}
 use Rattle.m161_drive.specs.Choice.{chosen_with, gap_is_over, key_is_due, next_step, ordered, since_filled, tick, transfer_ends, type_key, wants_key}
-use Rattle.m161_drive.specs.Orders.{at_place, begun, by_order, by_ranks, by_turns, by_words, goes_on, one_of}
+use Rattle.m161_drive.specs.Orders.{at_place, begun, by_order, by_ranks, by_turns, by_words, delayed, goes_on, one_of}
+use Rattle.m161_drive.specs.Delayed.{Delayed, passed, ready_from}
 use Rattle.m161_drive.specs.Policy.{Rules}
 use Rattle.m161_drive.specs.Priorities.{Ranks, highest}
 use Rattle.m161_drive.specs.Ready.{cyclic, is_ready, is_sending, is_ticking, next_behind, place_behind, ready, some_ready}
 use Rattle.m161_drive.specs.Words.{below}
+use Rattle.m161_drive.proofs.Passing.{ready_head}
+use Rattle.m161_drive.proofs.Sleeping.{less_in}
 
 -- What is chosen: a processor that is there, a key for which there is room, the end of a transfer.
 
@@ -132,8 +136,22 @@ ranks_ready r s =
     (last_holds (λ k. is_ready s (slice_index r.processors k)) (range_with_len 0 32) None
     (none_holds (λ k. is_ready s (slice_index r.processors k))))
 
+passed_ready : (n p : ℕ) (s : State) → is_ready s p ≡ true → is_ready s (passed n p s) ≡ true
+passed_ready n p s ready =
+    let here = less_in p (length s.processors) (and_first (nat_lt p (length s.processors)) (not (rests p s)) ready) in
+    let some = ap length (ready_head p s ready here) in
+    filter_passes (is_ready s) (cyclic p (length s.processors)) (min n (length (ready_from p s) - 1)) (passed n p s)
+    (slice_get-get_or (ready_from p s) (min n (length (ready_from p s) - 1)) 0 (omega (arith, some)))
+
+delayed_ready : (o : Option ℕ) (t : Turns) (d : Delayed) (s : State) → Holds (is_ready s) o → Holds (is_ready s) (delayed o t d s).0
+delayed_ready None t d s ok = none_holds (is_ready s)
+delayed_ready (Some p) t d s ok =
+    let due = count_by (λ n. n == 0) d.left in one_holds (is_ready s) (passed due p s) (passed_ready due p s (ok p refl))
+
 pub order_ready : (o : OrderState) (last : Option ℕ) (s : State) → Holds (is_ready s) (by_order o last s).0
 order_ready (InTurns t) last s = turns_ready t last s
+order_ready (ByDelays d) last s =
+    delayed_ready (by_turns d.turns last s).0 (by_turns d.turns last s).1 d s (turns_ready d.turns last s)
 order_ready (AtRandom g) last s = words_ready g s
 order_ready (ByPriority r) last s = ranks_ready r s
 

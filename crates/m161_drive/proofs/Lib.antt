@@ -8,4 +8,5 @@ pub mod Ranked
 pub mod Moved
 pub mod Stretched
 mod Rows
+pub mod Passing
 pub mod Planned

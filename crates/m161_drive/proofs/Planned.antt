@@ -3,21 +3,24 @@ use Rattle.std.proofs.Math.Nat.{add-mod-mod, add-mod_left, mod-eq_of_lt}
 use Rattle.std.proofs.Math.Seq.{take-append-add}
 use Rattle.std.proofs.lemmas.Bool.Decides.{nat_tests}
 use Rattle.std.proofs.lemmas.List.{length-replicate, length-take-le, take_all, take_more_set}
-use Rattle.std.specs.Prelude.{Option, None, Some, ◌&&◌, if◌then◌else◌, nat_lt}
+use Rattle.std.specs.Prelude.{Option, None, Some, ◌==◌, ◌&&◌, if◌then◌else◌, count_by, nat_lt}
 use Rattle.rand_pcg.specs.Lcg.{Lcg}
 use Rattle.m161_machine.specs.declared.event.Entry.{Entry}
 use Rattle.m161_machine.specs.Resting.{rests}
 use Rattle.m161_machine.specs.State.{State}
 use Rattle.m161_machine.specs.Stretch.{planned}
+use Rattle.m161_order.specs.Delays.{behind}
 use Rattle.m161_drive.specs.declared.orders.OrderState.{OrderState}
-use Rattle.m161_drive.specs.declared.orders.OrderState.TheVariants.{InTurns, AtRandom, ByPriority}
+use Rattle.m161_drive.specs.declared.orders.OrderState.TheVariants.{InTurns, ByDelays, AtRandom, ByPriority}
 use Rattle.m161_drive.specs.declared.turns.Turns.{Turns}
-use Rattle.m161_drive.specs.Orders.{begun, by_order, by_turns, by_words, goes_on, one_of}
+use Rattle.m161_drive.specs.Delayed.{Delayed, passed}
+use Rattle.m161_drive.specs.Orders.{begun, by_order, by_turns, by_words, delayed, goes_on, one_of}
 use Rattle.m161_drive.specs.Priorities.{Ranks}
 use Rattle.m161_drive.specs.Ready.{is_ready, next_behind, ready}
 use Rattle.m161_drive.specs.Words.{after_word, after_words}
 use Rattle.m161_drive.specs.helpers.Drive.{Plans, gone_on, next_in_turn, next_order}
 use Rattle.m161_drive.proofs.Fitting.{and_first, order_ready}
+use Rattle.m161_drive.proofs.Passing.{behind_all, behind_more, count_behind, passed_none, turned_same}
 use Rattle.m161_drive.proofs.Sleeping.{less_in, less_is}
 
 -- Plans.
@@ -212,3 +215,45 @@ one_next (x ∷ xs) g q h = λ i. (h i, after_word g)
 pub words_next : (g : Lcg) (last q : ℕ) (s : State) → (by_words g s).0 ≡ Some q →
     by_order (AtRandom g) (Some last) s ≡ (Some q, next_order (AtRandom g))
 words_next g last q s h = ap (λ (x : Option ℕ × Lcg). (x.0, AtRandom x.1)) (one_next (ready s) g q h)
+
+-- By turns with delays: up to the next delay as by turns.
+
+delays_next : (t : Turns) (left : List ℕ) (last r : ℕ) (s : State) →
+    by_order (InTurns t) (Some last) s ≡ (Some r, next_order (InTurns t)) → count_by (λ n. n == 0) left ≡ 0 →
+    by_order (ByDelays (record { turns = t; left = left })) (Some last) s
+    ≡ (Some r, next_order (ByDelays (record { turns = t; left = left })))
+delays_next t left last r s h none =
+    let d : Delayed = record { turns = t; left = left } in
+    let one : (by_turns t (Some last) s).0 ≡ Some r = ap (λ (x : Option ℕ × OrderState). x.0) h in
+    let state : ◌≡◌ {A = OrderState} (InTurns (by_turns t (Some last) s).1) (InTurns (next_in_turn t)) =
+    ap (λ (x : Option ℕ × OrderState). x.1) h in
+    let turn : (by_turns t (Some last) s).1 ≡ next_in_turn t = cc in
+    let ready : is_ready s r ≡ true = order_ready (InTurns t) (Some last) s r one in
+    let first : passed (count_by (λ n. n == 0) left) r s ≡ r =
+    ap (λ n. passed n r s) none ∙ passed_none r s ready (ready_there s r ready) in
+    let same = turned_same r (passed (count_by (λ n. n == 0) left) r s) (next_in_turn t) (sym first) in
+    ap (λ (x : Option ℕ × Delayed). (x.0, ByDelays x.1)) (λ i. delayed (one i) (turn i) d s)
+    ∙ (λ i. (Some (first i), ByDelays (record { turns = same i; left = behind 1 left })))
+
+pub delays_planned : (t : Turns) (left : List ℕ) (last : ℕ) (s : State) (es : List Entry) (q : ℕ) →
+    ((k : ℕ) → k < length es → count_by (λ n. n == k) left ≡ 0) → Plans (InTurns t) last s es q →
+    Plans (ByDelays (record { turns = t; left = left })) last s es q
+delays_planned t left last s [] q none h = h
+delays_planned t left last s (e ∷ es) q none h = (
+  h.0,
+  h.1,
+  delays_next t left last h.0 s h.2 (none 0 (omega arith)),
+  delays_planned (next_in_turn t) (behind 1 left) h.0 s es q
+      (λ k less. count_behind k left ∙ none (k + 1) (omega (arith, less))) h.3,
+)
+
+-- so many Steps further
+pub delays_gone : (n : ℕ) (t u : Turns) (left : List ℕ) → InTurns u ≡ gone_on n (InTurns t) →
+    ByDelays (record { turns = u; left = behind n left }) ≡ gone_on n (ByDelays (record { turns = t; left = left }))
+delays_gone zero t u left h =
+    let state : ◌≡◌ {A = OrderState} (InTurns u) (InTurns t) = h in
+    let same : u ≡ t = cc in
+    λ i. ByDelays (record { turns = same i; left = behind_all left i })
+delays_gone (suc n) t u left h =
+    ap (λ ns. ByDelays (record { turns = u; left = ns })) (sym (behind_more n left))
+    ∙ delays_gone n (next_in_turn t) u (behind 1 left) h

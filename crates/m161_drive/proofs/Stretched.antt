@@ -1,7 +1,7 @@
 use Rattle.std.proofs.Common.{◌≡◌, ◌∙◌, refl, sym, ap, subst, ℕ, ◌+◌, ◌-◌, ◌<◌, ◌≤◌, Bool, true, false, not, List, [], ◌∷◌, ◌++◌, length, take, arith, ◌⊎◌, inl, inr}
 use Rattle.std.proofs.lemmas.Bool.Decides.{eqb_tells, nat_tests}
 use Rattle.std.proofs.lemmas.List.{length-append, length-map}
-use Rattle.std.specs.Prelude.{◌≢◌, Option, None, Some, Ok, ◌&&◌, ◌||◌, if◌then◌else◌, nat_lt, nat_le, is_some, filter, find, slice_index}
+use Rattle.std.specs.Prelude.{◌≢◌, Option, None, Some, Ok, ◌&&◌, ◌||◌, if◌then◌else◌, nat_lt, nat_le, is_some, filter, find, slice_index, ◌-◌, ◌==◌, min, count_by}
 use Rattle.std.specs.List.{last_or, range_with_len}
 use Rattle.rand_pcg.specs.Lcg.{Lcg}
 use Rattle.m161_bus.specs.Board.{interrupt_lines}
@@ -16,11 +16,13 @@ use Rattle.m161_machine.specs.State.{State, is_worn, next, step_result, with_ste
 use Rattle.m161_machine.specs.Stretch.{ArePlain, IsPlain}
 use Rattle.m161_drive.specs.declared.cursor.Cursor.{Cursor}
 use Rattle.m161_drive.specs.declared.orders.OrderState.{OrderState}
-use Rattle.m161_drive.specs.declared.orders.OrderState.TheVariants.{InTurns, AtRandom, ByPriority}
+use Rattle.m161_drive.specs.declared.orders.OrderState.TheVariants.{InTurns, ByDelays, AtRandom, ByPriority}
 use Rattle.m161_drive.specs.declared.turns.Turns.{Turns}
 use Rattle.m161_drive.specs.Choice.{chosen_with, filled_after, gap_is_over, key_is_due, next_step, ordered, since_filled, taken, tick, transfer_ends, type_key, wants_key}
 use Rattle.m161_drive.specs.Drive.{Chooses, Goes}
-use Rattle.m161_drive.specs.Orders.{at_place, begun, by_order, by_ranks, by_turns, by_words, one_of}
+use Rattle.m161_drive.specs.Orders.{at_place, begun, by_delays, by_order, by_ranks, by_turns, by_words, delayed, one_of}
+use Rattle.m161_drive.specs.Delayed.{Delayed, passed, turned}
+use Rattle.m161_order.specs.Delays.{behind}
 use Rattle.m161_drive.specs.Policy.{Rules}
 use Rattle.m161_drive.specs.Priorities.{Ranks}
 use Rattle.m161_drive.specs.Ready.{cyclic, is_ready, is_sending, is_ticking, next_behind, place_behind, some_ready}
@@ -171,6 +173,21 @@ turns_alike t last s u a = λ i.
     if nat_lt 0 t.made && nat_lt t.made t.steps && a.tests i last then (Some last, record t { made = t.made + 1 })
     else begun (find (a.tests i) (cyclic (place_behind (Some last) (a.number i)) (a.number i))) t
 
+passed_alike : (n p : ℕ) (s u : State) → AreAlike s u → passed n p u ≡ passed n p s
+passed_alike n p s u a = λ i.
+    let ps = filter (a.tests i) (cyclic p (a.number i)) in slice_index ps (min n (length ps - 1))
+
+delayed_alike : (o : Option ℕ) (t : Turns) (d : Delayed) (s u : State) → AreAlike s u → delayed o t d u ≡ delayed o t d s
+delayed_alike None t d s u a = refl
+delayed_alike (Some p) t d s u a =
+    ap (λ q. (Some q, record { turns = turned p q t; left = behind 1 d.left }))
+    (passed_alike (count_by (λ n. n == 0) d.left) p s u a)
+
+delays_alike : (d : Delayed) (last : ℕ) (s u : State) → AreAlike s u → by_delays d (Some last) u ≡ by_delays d (Some last) s
+delays_alike d last s u a =
+    ap (λ (x : Option ℕ × Turns). delayed x.0 x.1 d u) (turns_alike d.turns last s u a)
+    ∙ delayed_alike (by_turns d.turns (Some last) s).0 (by_turns d.turns (Some last) s).1 d s u a
+
 words_alike : (g : Lcg) (s u : State) → AreAlike s u → by_words g u ≡ by_words g s
 words_alike g s u a = λ i. one_of (filter (a.tests i) (range_with_len 0 (a.number i))) g
 
@@ -180,6 +197,7 @@ ranks_alike r s u a = λ i.
 
 order_alike : (o : OrderState) (last : ℕ) (s u : State) → AreAlike s u → by_order o (Some last) u ≡ by_order o (Some last) s
 order_alike (InTurns t) last s u a = ap (λ (x : Option ℕ × Turns). (x.0, InTurns x.1)) (turns_alike t last s u a)
+order_alike (ByDelays d) last s u a = ap (λ (x : Option ℕ × Delayed). (x.0, ByDelays x.1)) (delays_alike d last s u a)
 order_alike (AtRandom g) last s u a = ap (λ (x : Option ℕ × Lcg). (x.0, AtRandom x.1)) (words_alike g s u a)
 order_alike (ByPriority r) last s u a = ap (λ (x : Option ℕ × Ranks). (x.0, ByPriority x.1)) (ranks_alike r s u a)
 

@@ -2,6 +2,7 @@ pub mod Words
 pub mod Ready
 pub mod Policy
 pub mod Priorities
+pub mod Delayed
 pub mod Orders
 pub mod Choice
 pub mod Drive

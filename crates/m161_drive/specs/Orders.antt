@@ -1,11 +1,13 @@
-use Rattle.std.specs.Prelude.{ℕ, ◌+◌, Bool, false, nat_lt, ◌&&◌, if◌then◌else◌, List, [], ◌∷◌, length, slice_get, slice_index, Option, None, Some}
+use Rattle.std.specs.Prelude.{ℕ, ◌+◌, Bool, false, nat_lt, ◌==◌, ◌&&◌, if◌then◌else◌, List, [], ◌∷◌, length, count_by, slice_get, slice_index, Option, None, Some}
 use Rattle.rand_pcg.specs.Lcg.{Lcg}
 use Rattle.m161_machine.specs.State.{State}
+use Rattle.m161_order.specs.Delays.{behind, delays_of}
 use Rattle.m161_order.specs.declared.order.Order.{Order}
 use Rattle.m161_order.specs.declared.order.Order.TheVariants as order
 use Rattle.m161_drive.specs.declared.turns.Turns.{Turns}
 use Rattle.m161_drive.specs.declared.orders.OrderState.{OrderState}
-use Rattle.m161_drive.specs.declared.orders.OrderState.TheVariants.{InTurns, AtRandom, ByPriority}
+use Rattle.m161_drive.specs.declared.orders.OrderState.TheVariants.{InTurns, ByDelays, AtRandom, ByPriority}
+use Rattle.m161_drive.specs.Delayed.{Delayed, passed, turned}
 use Rattle.m161_drive.specs.Ready.{is_ready, next_behind, ready}
 use Rattle.m161_drive.specs.Words.{after_word, below, seeded}
 use Rattle.m161_drive.specs.Priorities.{Ranks, after_ranked, highest, ranks_at_start}
@@ -28,6 +30,16 @@ by_turns t last s =
     if goes_on t last s then (last, record t { made = t.made + 1 })
     else begun (next_behind (is_ready s) last s) t
 
+-- so many ready processors are passed over as delays come at this choice
+abbrev pub delayed : Option ℕ → Turns → Delayed → State → Option ℕ × Delayed
+delayed None t d s = (None, d)
+delayed (Some p) t d s =
+    let q = passed (count_by (λ n. n == 0) d.left) p s in
+    (Some q, record { turns = turned p q t; left = behind 1 d.left })
+
+abbrev pub by_delays : Delayed → Option ℕ → State → Option ℕ × Delayed
+by_delays d last s = delayed (by_turns d.turns last s).0 (by_turns d.turns last s).1 d s
+
 -- one of these, by the next word; no word is drawn for none
 abbrev pub one_of : List ℕ → Lcg → Option ℕ × Lcg
 one_of [] g = (None, g)
@@ -46,18 +58,22 @@ by_ranks r s = at_place (highest r s) r
 -- the choice by any order; `last` is the processor of the last Step that was chosen
 abbrev pub by_order : OrderState → Option ℕ → State → Option ℕ × OrderState
 by_order (InTurns t) last s = ((by_turns t last s).0, InTurns (by_turns t last s).1)
+by_order (ByDelays d) last s = ((by_delays d last s).0, ByDelays (by_delays d last s).1)
 by_order (AtRandom g) last s = ((by_words g s).0, AtRandom (by_words g s).1)
 by_order (ByPriority r) last s = ((by_ranks r s).0, ByPriority (by_ranks r s).1)
 
 -- a Step that the order didn't choose ends a turn
 abbrev pub interrupted : OrderState → OrderState
 interrupted (InTurns t) = InTurns (record t { made = 0 })
+interrupted (ByDelays d) = ByDelays (record d { turns = record d.turns { made = 0 } })
 interrupted (AtRandom g) = AtRandom g
 interrupted (ByPriority r) = ByPriority r
 
 -- an order at the start of a run on n processors
 abbrev pub order_at_start : Order → ℕ → OrderState
 order_at_start (order.Turns steps) n = InTurns (record { steps = steps; made = 0 })
+order_at_start (order.Delayed steps delays) n =
+    ByDelays (record { turns = record { steps = steps; made = 0 }; left = delays_of delays })
 order_at_start (order.Random seed) n = AtRandom (seeded seed)
 order_at_start (order.Priorities seed changes within) n =
     ByPriority (ranks_at_start seed changes within n)

@@ -7,7 +7,7 @@
 //! choice   the first of these that applies: the console has sent its byte; a key; a Step of a ready
 //!          processor by the order; a Step of a processor whose timer runs; none
 //! ready    a processor whose Step isn't idle
-//! orders   turns of n Steps; at random; by priorities that change at random Steps
+//! orders   turns of n Steps; turns with delays; at random; by priorities that change at random Steps
 //! ```
 //!
 //! A driven run is a run along a list of events like any other: what the policy chose can be written
@@ -17,6 +17,7 @@
 #![tactic(auto)]
 
 mod cursor;
+mod delayed;
 mod laws;
 mod notes;
 mod orders;
@@ -32,7 +33,7 @@ pub use laws::{
     chooses_accepted, key_is_typed, key_is_unread, keys_are_apart, no_key_is_counted, stays_asleep,
 };
 pub use m161_machine::{Core, Event, PackedEntry, Refusal};
-pub use m161_order::{Order, OrderError};
+pub use m161_order::{DelayError, Delays, Order, OrderError};
 pub use notes::{Notes, Unnoted};
 pub use policy::Policy;
 pub use ready::is_asleep;

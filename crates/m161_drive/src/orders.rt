@@ -8,6 +8,7 @@ ghost use Rattle.m161_drive.specs.declared.orders.OrderState.TheVariants.{AtRand
 ghost use Rattle.m161_drive.specs.helpers.Drive.{IsPlan, MayGoOn, PlansBehind, gone_on};
 ghost use Rattle.m161_order.specs.Order.{order_fault};
 
+use crate::delayed::DelayedTurns;
 use crate::ranking::Ranking;
 use crate::ready::{is_ready, list_ready};
 use crate::turns::{CHOICES, Turns};
@@ -23,6 +24,8 @@ use rand_pcg::Pcg32;
 pub(crate) enum OrderState {
     /// In turns.
     InTurns(Turns),
+    /// In turns, with delays.
+    ByDelays(DelayedTurns),
     /// By the words to come.
     AtRandom(Pcg32),
     /// By priorities.
@@ -99,6 +102,9 @@ impl OrderState {
     {
         match order {
             Order::Turns(steps) => OrderState::InTurns(Turns { steps, made: 0 }),
+            Order::Delayed { turns, delays } => {
+                OrderState::ByDelays(DelayedTurns::start(turns, delays))
+            }
             Order::Random(seed) => OrderState::AtRandom(seeded(seed)),
             Order::Priorities {
                 seed,
@@ -120,6 +126,7 @@ impl OrderState {
     {
         match self {
             OrderState::InTurns(turns) => turns.choose(last, core),
+            OrderState::ByDelays(delayed) => delayed.choose(last, core),
             OrderState::AtRandom(generator) => by_words(generator, core),
             OrderState::ByPriority(ranking) => ranking.choose(core),
         }
@@ -129,8 +136,10 @@ impl OrderState {
     pub(crate) fn interrupt(&mut self)
         ensures { self.new ≡ interrupted self.old }
     {
-        if let OrderState::InTurns(turns) = self {
-            turns.made = 0;
+        match self {
+            OrderState::InTurns(turns) => turns.made = 0,
+            OrderState::ByDelays(delayed) => delayed.interrupt(),
+            OrderState::AtRandom(_) | OrderState::ByPriority(_) => {}
         }
     }
 
@@ -174,6 +183,7 @@ impl OrderState {
     {
         match self {
             OrderState::InTurns(turns) => turns.plan(core, p, places),
+            OrderState::ByDelays(delayed) => delayed.plan(core, p, places),
             OrderState::AtRandom(generator) => plan_by_words(generator, core, p, places),
             OrderState::ByPriority(_) => 0,
         }
@@ -187,6 +197,7 @@ impl OrderState {
     {
         match self {
             OrderState::InTurns(turns) => turns.go_on(more),
+            OrderState::ByDelays(delayed) => delayed.go_on(more),
             OrderState::AtRandom(generator) => pass_words(generator, more),
             OrderState::ByPriority(_) => {}
         }

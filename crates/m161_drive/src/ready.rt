@@ -1,7 +1,8 @@
 //! What the processors of a machine wait for.
 
-ghost use Rattle.std.specs.Prelude.{◌≡◌, ◌-◌, ◌<◌, ◌≤◌, length, take, find};
+ghost use Rattle.std.specs.Prelude.{◌≡◌, ◌+◌, ◌-◌, ◌<◌, ◌≤◌, ◌++◌, true, length, filter, take, find};
 ghost use Rattle.std.specs.List.{list_any, range_with_len};
+ghost use Rattle.m161_drive.specs.Delayed.{ready_from};
 ghost use Rattle.m161_drive.specs.Ready.{is_asleep, is_ready, is_ticking, next_behind, place_behind, ready, some_ready, some_ticking};
 
 use m161_bus::Console;
@@ -98,6 +99,34 @@ fn some_ticking<T: Tlb, D: Console>(core: &Core<T, D>) -> bool
     ticking_between(core, 0, core.processors()).is_some()
 }
 
+// Writes those of these processors that are ready behind the first places. Returns how many places are
+// written then.
+#[inline(always)]
+fn add_ready<T: Tlb, D: Console>(
+    core: &Core<T, D>,
+    from: u32,
+    to: u32,
+    places: &mut [u8; 32],
+    written: usize,
+) -> usize
+    requires ascending { from ≤ to }
+    requires few { to ≤ 32 }
+    requires room { written + (to - from) ≤ 32 }
+    ensures places { take result places.new
+        ≡ take written places.old ++ filter (is_ready core.now.state) (range_with_len from (to - from)) }
+    ensures within { result ≤ written + (to - from) }
+    ensures length { length places.new ≡ 32 }
+{
+    let mut count = written;
+    for p in from..to {
+        if is_ready(core, p) {
+            places[count] = p as u8;
+            count += 1;
+        }
+    }
+    count
+}
+
 /// Writes the ready processors into the first places, in ascending order. Returns how many there are.
 #[inline(always)]
 pub(crate) fn list_ready<T: Tlb, D: Console>(core: &Core<T, D>, places: &mut [u8; 32]) -> usize
@@ -106,14 +135,25 @@ pub(crate) fn list_ready<T: Tlb, D: Console>(core: &Core<T, D>, places: &mut [u8
     ensures length { length places.new ≡ 32 }
 {
     core.law();
-    let mut count = 0;
-    for p in 0..core.processors() {
-        if is_ready(core, p) {
-            places[count] = p as u8;
-            count += 1;
-        }
-    }
-    count
+    add_ready(core, 0, core.processors(), places, 0)
+}
+
+/// Writes the ready processors into the first places, in cyclic order from a ready one on. Returns how
+/// many there are.
+pub(crate) fn list_ready_from<T: Tlb, D: Console>(
+    core: &Core<T, D>,
+    p: u32,
+    places: &mut [u8; 32],
+) -> usize
+    requires { is_ready core.now.state p ≡ true }
+    ensures places { take result places.new ≡ ready_from p core.now.state }
+    ensures some { 1 ≤ result }
+    ensures within { result ≤ 32 }
+    ensures length { length places.new ≡ 32 }
+{
+    core.law();
+    let behind = add_ready(core, p, core.processors(), places, 0);
+    add_ready(core, 0, p, places, behind)
 }
 
 /// Whether no processor is ready, and none waits for its timer: until a key is typed or a byte is

@@ -13,10 +13,11 @@ use Rattle.m161_machine.specs.State.{State}
 use Rattle.m161_drive.specs.declared.cursor.Cursor.{Cursor}
 use Rattle.m161_drive.specs.declared.turns.Turns.{Turns}
 use Rattle.m161_drive.specs.declared.orders.OrderState.{OrderState}
-use Rattle.m161_drive.specs.declared.orders.OrderState.TheVariants.{InTurns, AtRandom, ByPriority}
+use Rattle.m161_drive.specs.declared.orders.OrderState.TheVariants.{InTurns, ByDelays, AtRandom, ByPriority}
 use Rattle.m161_drive.specs.Choice.{chosen, chosen_with, gap_is_over, key_is_due, next_step, ordered, since_filled, tick, transfer_ends, type_key, wants_key}
 use Rattle.m161_drive.specs.Drive.{Chooses, Goes}
-use Rattle.m161_drive.specs.Orders.{at_place, begun, by_order, by_ranks, by_turns, by_words, goes_on, interrupted, one_of}
+use Rattle.m161_drive.specs.Delayed.{Delayed}
+use Rattle.m161_drive.specs.Orders.{at_place, begun, by_delays, by_order, by_ranks, by_turns, by_words, delayed, goes_on, interrupted, one_of}
 use Rattle.m161_drive.specs.Policy.{Rules}
 use Rattle.m161_drive.specs.Priorities.{Ranks, highest}
 use Rattle.m161_drive.specs.Ready.{cyclic, is_asleep, is_ready, is_sending, is_ticking, next_behind, place_behind, some_ready, some_ticking}
@@ -96,6 +97,10 @@ turns_none : (t : Turns) (last : Option ℕ) (s : State) → Fails (is_ready s) 
 turns_none t last s fails = if_turns (goes_on t last s) (last, record t { made = t.made + 1 }) (begun (next_behind (is_ready s) last s) t)
     (goes_fails t last s fails) (begun_none (next_behind (is_ready s) last s) t (find_none (is_ready s) fails (cyclic (place_behind last (length s.processors)) (length s.processors))))
 
+delays_none : (d : Delayed) (last : Option ℕ) (s : State) → Fails (is_ready s) → (by_delays d last s).0 ≡ None
+delays_none d last s fails =
+    ap (λ o. (delayed o (by_turns d.turns last s).1 d s).0) (turns_none d.turns last s fails)
+
 words_none : (g : Lcg) (s : State) → Fails (is_ready s) → (by_words g s).0 ≡ None
 words_none g s fails = ap (λ ps. (one_of ps g).0) (filter_none (is_ready s) fails (range_with_len 0 (length s.processors)))
 
@@ -107,6 +112,7 @@ ranks_none r s fails =
 
 order_none : (o : OrderState) (last : Option ℕ) (s : State) → Fails (is_ready s) → (by_order o last s).0 ≡ None
 order_none (InTurns t) last s fails = turns_none t last s fails
+order_none (ByDelays d) last s fails = delays_none d last s fails
 order_none (AtRandom g) last s fails = words_none g s fails
 order_none (ByPriority r) last s fails = ranks_none r s fails
 

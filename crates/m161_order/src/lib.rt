@@ -2,6 +2,8 @@
 //! that what reads a command line doesn't wait for it.
 #![tactic(auto)]
 
+mod delays;
 mod order;
 
+pub use delays::{DelayError, Delays};
 pub use order::{Order, OrderError};

@@ -3,6 +3,7 @@
 ghost use Rattle.std.specs.Prelude.{◌≡◌};
 ghost use Rattle.m161_order.specs.Order.{order_fault};
 
+use crate::delays::Delays;
 use thiserror::Error;
 
 /// An order of the Steps of ready processors.
@@ -10,6 +11,14 @@ use thiserror::Error;
 pub enum Order {
     /// So many Steps of each in turn, at least 1.
     Turns(u32),
+    /// In turns, but that ready processors are passed over at some choices (delay-bounded scheduling;
+    /// Emmi, Qadeer and Rakamarić 2011).
+    Delayed {
+        /// How many Steps a turn has, at least 1.
+        turns: u32,
+        /// The numbers of these choices.
+        delays: Delays,
+    },
     /// One at random, by the words of this seed.
     Random(u64),
     /// The one of the highest priority. The priorities are drawn at the start, and change at Steps
@@ -44,7 +53,11 @@ impl Order {
         ensures { result ≡ order_fault self }
     {
         match self {
-            Order::Turns(steps) => {
+            Order::Turns(steps)
+            | Order::Delayed {
+                turns: steps,
+                delays: _,
+            } => {
                 if steps == 0 {
                     return Some(OrderError::NoTurn);
                 }

@@ -7,7 +7,7 @@ use Rattle.m161_machine.specs.declared.conf.BootError.TheVariants.{Load}
 use Rattle.m161_machine.specs.Conf.{is_within_limits}
 use Rattle.m161_machine.specs.History.{boot_fault}
 use Rattle.m161_order.specs.declared.order.Order.{Order}
-use Rattle.m161_order.specs.declared.order.Order.TheVariants.{Turns, Random, Priorities}
+use Rattle.m161_order.specs.declared.order.Order.TheVariants.{Turns, Delayed, Random, Priorities}
 use Rattle.s161_base.specs.declared.fault.Fault.{Fault}
 use Rattle.s161_base.specs.declared.fault.Fault.TheVariants.{Conf, Image, Memory, Watch}
 use Rattle.s161_base.specs.Sizes.{conf_of}
@@ -21,12 +21,14 @@ use Rattle.s161_search.specs.Given.{Given, criteria_of}
 -- the seed of an order; one by turns has none
 abbrev pub seed_of : Order → ℕ
 seed_of (Turns steps) = 0
+seed_of (Delayed turns delays) = 0
 seed_of (Random seed) = seed
 seed_of (Priorities seed changes within) = seed
 
 -- the same order with another seed
 abbrev pub with_seed : ℕ → Order → Order
 with_seed seed (Turns steps) = Turns steps
+with_seed seed (Delayed turns delays) = Delayed turns delays
 with_seed seed (Random first) = Random seed
 with_seed seed (Priorities first changes within) = Priorities seed changes within
 

@@ -43,7 +43,7 @@ fn seed_of(order: Order) -> u64
     ensures { result ≡ seed_of order }
 {
     match order {
-        Order::Turns(_) => 0,
+        Order::Turns(_) | Order::Delayed { .. } => 0,
         Order::Random(seed) => seed,
         Order::Priorities { seed, .. } => seed,
     }
@@ -62,7 +62,7 @@ fn with_seed(seed: u64, order: Order) -> Order
     ensures limits { order_fault order ≡ None → order_fault result ≡ None }
 {
     match order {
-        Order::Turns(steps) => Order::Turns(steps),
+        Order::Turns(_) | Order::Delayed { .. } => order,
         Order::Random(_) => Order::Random(seed),
         Order::Priorities {
             changes,

@@ -4,11 +4,12 @@ use Rattle.m161_machine.specs.declared.event.Event.{Event}
 use Rattle.m161_machine.specs.State.{State, next}
 use Rattle.m161_machine.specs.History.{Refuses}
 use Rattle.m161_machine.specs.Stretch.{planned}
+use Rattle.m161_order.specs.Delays.{behind}
 use Rattle.m161_drive.specs.declared.cursor.Cursor.{Cursor}
 use Rattle.m161_drive.specs.declared.run.Stop.{Stop}
 use Rattle.m161_drive.specs.declared.run.Stop.TheVariants.{Off, End, Stuck, Refused}
 use Rattle.m161_drive.specs.declared.orders.OrderState.{OrderState}
-use Rattle.m161_drive.specs.declared.orders.OrderState.TheVariants.{InTurns, AtRandom, ByPriority}
+use Rattle.m161_drive.specs.declared.orders.OrderState.TheVariants.{InTurns, ByDelays, AtRandom, ByPriority}
 use Rattle.m161_drive.specs.declared.turns.Turns.{Turns}
 use Rattle.m161_drive.specs.Choice.{filled_after, since_filled, taken}
 use Rattle.m161_drive.specs.Orders.{by_order}
@@ -38,10 +39,11 @@ MakesChosen e c s places (Err stop) d t = IsRefused e s stop × (t ≡ s)
 abbrev pub next_in_turn : Turns → Turns
 next_in_turn t = record t { made = if nat_lt t.made t.steps then t.made + 1 else 1 }
 
--- an order behind its next choice, where the processor of the last one is ready; by priorities none is
--- made before its time
+-- an order behind its next choice, where the processor of the last one is ready and no delay comes; by
+-- priorities none is made before its time
 abbrev pub next_order : OrderState → OrderState
 next_order (InTurns t) = InTurns (next_in_turn t)
+next_order (ByDelays d) = ByDelays (record { turns = next_in_turn d.turns; left = behind 1 d.left })
 next_order (AtRandom g) = AtRandom (after_word g)
 next_order (ByPriority r) = ByPriority r
 
@@ -53,6 +55,7 @@ gone_on (suc n) o = gone_on n (next_order o)
 -- an order that can go on in this way
 abbrev pub MayGoOn : OrderState → Type 0
 MayGoOn (InTurns t) = (1 ≤ t.made) × (t.made ≤ t.steps)
+MayGoOn (ByDelays d) = (1 ≤ d.turns.made) × (d.turns.made ≤ d.turns.steps)
 MayGoOn (AtRandom g) = Unit {0}
 MayGoOn (ByPriority r) = Unit {0}
 

@@ -2,7 +2,7 @@
 
 use super::same;
 use m161::Core;
-use m161_drive::{Driven, Event, Order, OrderError, Policy, Stop, drive};
+use m161_drive::{DelayError, Delays, Driven, Event, Order, OrderError, Policy, Stop, drive};
 use m161_machine::{Conf, LinkUnit};
 use m161_test_support::files::file_from;
 use m161_test_support::outcomes::ENTRY;
@@ -105,6 +105,15 @@ pub(crate) fn booted(rt: &impl AllocGlobal, kernel: &Kernel) -> Result<Core, Fai
 /// A policy without keys.
 pub(crate) fn policy(order: Order) -> Result<Policy<'static>, OrderError> {
     Policy::new(order, 100, Some(1000), &[])
+}
+
+/// The order by turns of so many Steps, with delays at these choices.
+pub(crate) fn delayed(turns: u32, numbers: &[u32]) -> Result<Order, DelayError> {
+    let mut delays = Delays::none();
+    for number in numbers {
+        delays.push(*number)?;
+    }
+    Ok(Order::Delayed { turns, delays })
 }
 
 /// The event that a mark stands for: a digit for a Step of that processor, `!` for a byte that is

@@ -1,7 +1,7 @@
 //! The orders of Steps.
 
-use super::machines::{Kernel, TWO, booted, check_events, make_steps, policy};
-use m161_drive::{Order, OrderError};
+use super::machines::{Kernel, TWO, booted, check_events, delayed, make_steps, policy};
+use m161_drive::{DelayError, Order, OrderError};
 use std::alloc::AllocGlobal;
 use std::process::Abort;
 use std::test::Fail;
@@ -114,6 +114,34 @@ fn drive_waiting_turns(rt: HostRuntime) -> Result<(), Fail> {
         Order::Turns(3),
         b"00000000011100011010101010101010",
     )
+}
+
+/// At a delay the ready processor behind the next one makes the Step, and its turn begins. More delays
+/// than others are ready pass over all others; where one is ready, and behind the run, none has an effect.
+#[test]
+fn drive_delays(rt: HostRuntime) -> Result<(), Fail> {
+    check_order(&rt, &TWO, delayed(50, &[8])?, b"00000000111111111111")?;
+    check_order(&rt, &TWO, delayed(50, &[7, 7])?, b"00000001111111111111")?;
+    check_order(&rt, &TWO, delayed(2, &[8])?, b"00000000001100110011")?;
+    check_order(
+        &rt,
+        &TWO,
+        delayed(1, &[3, 6, 1000])?,
+        b"00000001010101010101",
+    )?;
+    check_started(&rt, &FIVE, 10, delayed(1, &[1, 1, 3])?, b"0341234012340123")?;
+    check_started(&rt, &FIVE, 10, delayed(3, &[4])?, b"0001222333444000")?;
+    check_started(&rt, &FIVE, 10, delayed(1, &[0; 7])?, b"4012340123401234")
+}
+
+/// Delays that can't be followed.
+#[test]
+fn bad_delays(rt: HostRuntime) -> Result<(), Fail> {
+    assert!(rt; matches!(policy(delayed(0, &[1])?), Err(OrderError::NoTurn)));
+    assert!(rt; matches!(delayed(1, &[2, 1]), Err(DelayError::Descending)));
+    assert!(rt; matches!(delayed(1, &[0; 65]), Err(DelayError::TooMany)));
+    assert!(rt; matches!(delayed(1, &[u32::MAX; 64]), Ok(_)));
+    Ok(())
 }
 
 /// A seed chooses among two processors, and among five.

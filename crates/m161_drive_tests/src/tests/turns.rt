@@ -1,7 +1,9 @@
 //! Events that are made at once, and the same events made one by one.
 
 use super::keys::KEYS;
-use super::machines::{Kernel, READS, SENDS, SENDS_AND_WAITS, TWO, WAIT, booted, check_same};
+use super::machines::{
+    Kernel, READS, SENDS, SENDS_AND_WAITS, TWO, WAIT, booted, check_same, delayed,
+};
 use super::same;
 use m161::Core;
 use m161_drive::{Cursor, Order, PackedEntry, Policy, Stop, turn};
@@ -168,6 +170,13 @@ fn turns_of_many(rt: HostRuntime) -> Result<(), Fail> {
         check_same(&rt, &pair.core, &pair.again);
     }
     Ok(())
+}
+
+/// With delays a turn of the driver ends before the next one.
+#[test]
+fn turns_up_to_a_delay(rt: HostRuntime) -> Result<(), Fail> {
+    let policy = Policy::new(delayed(8, &[9, 9, 20])?, 100, Some(1000), b"")?;
+    check_kernel(&rt, &TWO, &policy, 64, &[5, 2, 2, 11, 24, 24])
 }
 
 /// While 256 keys wait, none is due, and a turn goes on.

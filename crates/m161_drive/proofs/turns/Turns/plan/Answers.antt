@@ -10,8 +10,7 @@ returns-clause-plan g c =
     let least = c.min-rest.ensures in
     let zero = c.if-self-eq0.false in
     let most = c.if-self.false in
-    let others = c.plan_others.ensures.length in
-    (
+    let others = c.plan_others.ensures.length in (
       inr (omega (arith, zero), omega (arith, most)),
       turns_planned c.args.self.now c.args.p c.min-rest.result c.plan_others.result (length c.args.places.now) c.args.core.now.state c.plan_all.new.places c.plan_others.new.places
           c.requires.ready (omega (arith, zero)) (omega (arith, most)) least (c.plan_all.ensures ∙ ap (λ n. replicate n (planned c.args.p)) front)
