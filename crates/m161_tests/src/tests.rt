@@ -1,12 +1,14 @@
 //! Tests of the machine and of the crates over it, with words and registers from outside. A file is
 //! named for the crate that it tests; `instructions` and `programs` run words on a machine. A worked
 //! row goes into `programs`, or with other events into `traps`, `cop0`, `tlb`, `fetches`, `bus` or
-//! `processors`, in the form that `listing` says; one of links to lines into `links`. `sample` runs
-//! a whole small kernel of two processors.
+//! `processors`, in the form that `listing` says; one of links to lines into `links`. `cores` makes
+//! the calls of a state without a log. `sample` runs a whole small kernel of two processors, and
+//! variants of it.
 
 mod audit;
 mod bus;
 mod cop0;
+mod cores;
 mod dis;
 mod elf;
 mod fetches;

@@ -115,7 +115,7 @@ fn pause(tried: u32) {
 }
 
 // Takes the lock. A worker that makes bursts first tries so many times, with longer and longer
-// pauses: to sleep until the holder lets it go costs both as much as hundreds of Steps.
+// pauses: to sleep until the holder lets it go costs both the time of many Steps.
 fn take_lock<'b, B, R: Wait>(rt: &R, book: &'b Mutex<B>, tries: u32) -> MutexGuard<'b, B> {
     for tried in 0..tries {
         if let Some(guard) = book.try_lock() {

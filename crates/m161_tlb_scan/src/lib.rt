@@ -8,8 +8,7 @@
 //! overlap looks at each row from row 0 on
 //! ```
 //!
-//! A search for the page of row 53 executes about 100 machine instructions, as does one that finds
-//! nothing. `Scan` proves the laws of `m161_tlb`'s `Tlb`, and none of its calls allocates.
+//! `Scan` proves the laws of `m161_tlb`'s `Tlb`, and none of its calls allocates.
 #![tactic(auto)]
 
 ghost use Rattle.std.specs.Prelude.{◌≡◌, ◌*◌, ◌+◌, ◌<◌, false, List, Some, length, get_or, slice_get, slice_set, IfSome};

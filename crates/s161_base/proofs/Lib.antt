@@ -1,3 +1,4 @@
+pub mod Asking
 pub mod Failing
 mod Named
 mod Plain

@@ -1,7 +1,8 @@
 //! Reading files and standard input.
 
-ghost use Rattle.std.specs.Prelude.{◌≡◌, ◌≢◌, ◌⊎◌, ◌≤◌, ℕ, List, None, Some, IfErr, IfOk, IfSome, length, string_bytes};
+ghost use Rattle.std.specs.Prelude.{◌≡◌, ◌≢◌, ◌⊎◌, ◌≤◌, ℕ, List, [], ◌∷◌, None, Some, IfErr, IfOk, IfSome, length, string_bytes};
 ghost use Rattle.std.specs.IoError.{error_kind};
+ghost use Rattle.s161_base.specs.Asked.{Asks};
 ghost use Rattle.s161_base.specs.Known.{IsText};
 ghost use Rattle.s161_base.specs.Reading.{IsFileUnread, IsInputUnread, IsOfBytes, IsOfText};
 
@@ -55,6 +56,7 @@ pub fn read_file<'a, F: FileSource>(
     ensures whole { IfOk result (λ bytes. IfSome (F.known files.old name.entry.now) (λ known.
         bytes.items ≡ known)) }
     ensures still { (other : List ℕ) → F.known files.new other ≡ F.known files.old other }
+    ensures asks { Asks (name.entry.now ∷ []) (F.asked files.old) (F.asked files.new) }
     ensures err { IfErr result (λ fault. IsFileUnread name.entry IsOfBytes fault
         ⊎ (fault ≡ Fault.Memory)) }
 {
@@ -78,6 +80,7 @@ pub fn read_text<'a, F: FileSource>(
 ) -> Result<String, Fault<'a>>
     ensures whole { IfOk result (λ text. IfSome (F.known files.old name.entry.now) (λ known.
         string_bytes text ≡ known)) }
+    ensures asks { Asks (name.entry.now ∷ []) (F.asked files.old) (F.asked files.new) }
     ensures err { IfErr result (λ fault.
         IsFileUnread name.entry (IsOfText (F.known files.old name.entry.now)) fault
         ⊎ (fault ≡ Fault.Memory)) }

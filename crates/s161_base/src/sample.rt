@@ -1,6 +1,7 @@
 //! The built-in sample kernel.
 
 ghost use Rattle.std.specs.Prelude.{◌≡◌, ◌⊎◌, ℕ, List, IfErr, IfOk, IfSome, bytes_eq, codes};
+ghost use Rattle.s161_base.specs.Asked.{Asks, image_files};
 ghost use Rattle.s161_base.specs.Reading.{IsFileUnread, IsOfBytes};
 ghost use Rattle.s161_base.specs.Samples.{image_file, sample_file, sample_labels, IsFileName};
 ghost use Rattle.s161_base.specs.helpers.Samples.{IsSample};
@@ -164,7 +165,7 @@ pub(crate) fn is_sample(name: &str) -> bool
 ///
 /// # Errors
 /// The file can't be read; or memory was refused.
-#[tactic(auto, unfolding(crate::specs::Samples::image_file, crate::specs::Samples::IsFileName))]
+#[tactic(auto, unfolding(crate::specs::Samples::image_file, crate::specs::Samples::IsFileName, crate::specs::Asked::image_files))]
 pub fn read_image<'a, F: FileSource>(
     alloc: Global,
     files: &mut F,
@@ -173,6 +174,7 @@ pub fn read_image<'a, F: FileSource>(
     ensures whole { IfOk result (λ file. IfSome (image_file (F.known files.old) name.entry.now)
         (λ known. file.items ≡ known)) }
     ensures still { (other : List ℕ) → F.known files.new other ≡ F.known files.old other }
+    ensures asks { Asks (image_files name.entry.now) (F.asked files.old) (F.asked files.new) }
     ensures err { IfErr result (λ fault. (fault ≡ Fault.Memory)
         ⊎ (IsFileUnread name.entry IsOfBytes fault × IsFileName name.entry.now)) }
 {

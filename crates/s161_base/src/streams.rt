@@ -50,7 +50,8 @@ fn write_whole<'a, O: Write>(output: &mut O, bytes: &[u8]) -> Result<(), Fault<'
     Err(Fault::Output)
 }
 
-/// Writes these bytes so that they are out: an output that keeps some back is flushed.
+/// Writes these bytes so that they are out: an output that keeps some back is flushed. It is named
+/// `send`, not `put`, since it flushes too, and since its error is already the fault of a command.
 ///
 /// # Errors
 /// The output failed.

@@ -1,3 +1,4 @@
+mod Asking
 mod Failing
 pub mod Making
 mod Replaying

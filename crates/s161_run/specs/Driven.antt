@@ -1,4 +1,4 @@
-use Rattle.std.specs.Prelude.{◌≡◌, ◌⊎◌, ℕ, false, List, [], Option, None, Some, IfSome}
+use Rattle.std.specs.Prelude.{◌≡◌, ◌⊎◌, ℕ, false, List, [], ◌++◌, Option, None, Some, IfSome}
 use Rattle.std.proofs.Common.{Bor}
 use Rattle.m161_machine.specs.declared.conf.BootError.TheVariants.{Load}
 use Rattle.m161_machine.specs.declared.event.Conflict.{Conflict}
@@ -16,6 +16,7 @@ use Rattle.s161_command.specs.declared.task.DrivenTask.{DrivenTask}
 use Rattle.s161_run.specs.declared.events.Stop.{Stop}
 use Rattle.s161_run.specs.declared.events.Stop.TheVariants.{End, Stuck, Refused}
 use Rattle.s161_run.specs.Runs.{log_of_run, status_of, stop_off, summary_text}
+use Rattle.s161_base.specs.Asked.{image_files, option_files}
 use Rattle.s161_base.specs.declared.fault.Fault.{Fault}
 use Rattle.s161_base.specs.declared.fault.Fault.TheVariants.{Conf, File, Image, Memory}
 use Rattle.s161_base.specs.Faults.{BootsIn}
@@ -25,6 +26,10 @@ use Rattle.s161_base.specs.Samples.{IsFileName}
 use Rattle.s161_base.specs.Sizes.{conf_of}
 
 -- The events, the output and the exit status of `run` by a policy.
+
+-- its files, in the order in which they are read
+abbrev pub driven_files : DrivenTask → List (List ℕ)
+driven_files task = image_files task.run.image.now ++ option_files task.drive.keys
 
 -- the policy of these options, with these keys
 abbrev pub rules_of : Drive → List ℕ → Rules

@@ -1,4 +1,4 @@
-use Rattle.std.specs.Prelude.{◌≡◌, ◌⊎◌, ℕ, false, List, Option, None, Some, Ok, IfSome, codes, decimal}
+use Rattle.std.specs.Prelude.{◌≡◌, ◌⊎◌, ℕ, false, List, Option, None, Some, Ok, IfSome, codes, decimal, [], ◌∷◌, ◌++◌}
 use Rattle.m161_machine.specs.declared.conf.BootError.TheVariants.{Load}
 use Rattle.m161_machine.specs.declared.event.Entry.{Entry}
 use Rattle.m161_machine.specs.Conf.{is_within_limits}
@@ -10,6 +10,7 @@ use Rattle.m161_steplog.specs.Comments.{IsFirstBadOfLog}
 use Rattle.m161_text.specs.Parts.{◌␣◌}
 use Rattle.m161_steplog.specs.Verdict.{Verifies}
 use Rattle.s161_command.specs.declared.task.ReplayTask.{ReplayTask}
+use Rattle.s161_base.specs.Asked.{image_files}
 use Rattle.s161_base.specs.declared.fault.Fault.{Fault}
 use Rattle.s161_base.specs.declared.fault.Fault.TheVariants.{Conf, File, Image, Log, LogImage, LogMachine, Memory}
 use Rattle.s161_base.specs.Known.{IsText, OfKnown, OfText}
@@ -27,6 +28,10 @@ verdict_text (Differs k) = codes "differs" ␣ decimal k
 abbrev pub status_of_verdict : Verdict → ℕ
 status_of_verdict Agrees = 0
 status_of_verdict (Differs k) = 4
+
+-- its files, in the order in which they are read
+abbrev pub replay_files : ReplayTask → List (List ℕ)
+replay_files task = image_files task.image.now ++ task.text.now ∷ []
 
 -- a finished replay: what it prints and its exit status; the files of the image and the log have
 -- these bytes, as far as they are known
@@ -60,7 +65,7 @@ OfReplay image log IsSo =
 -- what a fault that ends a replay says of its inputs: of a file, that it is the image's or the
 -- log's; of the log, its first bad line; then, that the log has none, and that the machine isn't the
 -- one that it names; of the configuration or the image, that it is. File and Memory hold whatever
--- else is at fault. The order in which files are read is tested: the image's, then the log's
+-- else is at fault
 abbrev pub IsReplayFault : ReplayTask → Option (List ℕ) → Option (List ℕ) → Fault → Type 0
 IsReplayFault task image log (File name why) =
     ((name.now ≡ task.image.now) × IsFileName task.image.now × IsOfBytes why)

@@ -175,8 +175,7 @@ pub record IsRun
 
 -- what a fault that ends a run says of its inputs: of a file, that it is the image's; of the
 -- schedule, its first bad line; of the configuration or the image, that the schedule had no fault.
--- File, Input and Memory hold whatever else is at fault. The order in which inputs are read is
--- tested: the image's file, then standard input
+-- File, Input and Memory hold whatever else is at fault
 abbrev pub IsFaultOf : RunTask → Option (List ℕ) → Option (List ℕ) → Fault → Type 0
 IsFaultOf task known input (File name why) =
     (name.now ≡ task.image.now) × IsFileName task.image.now × IsOfBytes why

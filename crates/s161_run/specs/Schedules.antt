@@ -1,4 +1,4 @@
-use Rattle.std.specs.Prelude.{◌≡◌, ◌≢◌, ◌⊎◌, ℕ, false, List, Option, Some, IfSome}
+use Rattle.std.specs.Prelude.{◌≡◌, ◌≢◌, ◌⊎◌, ℕ, false, List, ◌++◌, Option, Some, IfSome}
 use Rattle.m161_machine.specs.declared.conf.BootError.TheVariants.{Load}
 use Rattle.m161_machine.specs.declared.event.Entry.{Entry}
 use Rattle.m161_machine.specs.declared.event.Event.{Event}
@@ -12,6 +12,7 @@ use Rattle.m161_drive.specs.Drive.{Drives}
 use Rattle.m161_drive.specs.Policy.{Rules}
 use Rattle.m161_steplog.specs.Written.{schedule_text}
 use Rattle.s161_command.specs.declared.task.ScheduleTask.{ScheduleTask}
+use Rattle.s161_base.specs.Asked.{image_files, option_files}
 use Rattle.s161_base.specs.declared.fault.Fault.{Fault}
 use Rattle.s161_base.specs.declared.fault.Fault.TheVariants.{Conf, File, Image, Memory}
 use Rattle.s161_base.specs.Faults.{BootsIn}
@@ -22,6 +23,10 @@ use Rattle.s161_base.specs.Sizes.{conf_of}
 use Rattle.s161_run.specs.Driven.{AreKeys, IsKeysFile, rules_of}
 
 -- The output of `schedule`.
+
+-- its files, in the order in which they are read
+abbrev pub schedule_files : ScheduleTask → List (List ℕ)
+schedule_files task = image_files task.image.now ++ option_files task.drive.keys
 
 -- from a state these are the events that a policy chooses, at most n; each is accepted, and memory
 -- isn't refused

@@ -2,6 +2,7 @@
 
 ghost use Rattle.std.specs.Prelude.{◌≡◌, IfErr, IfOk, None};
 ghost use Rattle.m161_order.specs.Order.{order_fault};
+ghost use Rattle.s161_base.specs.Asked.{AsksFor, image_files};
 ghost use Rattle.s161_base.specs.Samples.{image_file};
 ghost use Rattle.s161_base.specs.Streams.{streams};
 ghost use Rattle.s161_run.specs.Consoles.{IsConsoleRun, IsConsoleFault};
@@ -42,6 +43,8 @@ pub fn console<'a, F: FileSource, I: Read, O: Write>(
         (image_file (F.known files.old) task.entry.image.now)
         (streams (I.remaining input.old) (I.remaining input.new) (O.contents output.old)
         (O.contents output.new))) }
+    ensures asks { AsksFor (image_files task.entry.image.now) result (F.asked files.old)
+        (F.asked files.new) }
 {
     let file = read_image(alloc, files, task.image)?;
     let mut core = Core::boot(alloc, &file, conf_of(task.size))?;

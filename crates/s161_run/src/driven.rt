@@ -2,8 +2,9 @@
 
 ghost use Rattle.std.specs.Prelude.{◌≡◌, IfErr, IfOk, None};
 ghost use Rattle.m161_order.specs.Order.{order_fault};
+ghost use Rattle.s161_base.specs.Asked.{AsksFor};
 ghost use Rattle.s161_base.specs.Samples.{image_file};
-ghost use Rattle.s161_run.specs.Driven.{IsDriven, IsDrivenFault, stop_of};
+ghost use Rattle.s161_run.specs.Driven.{IsDriven, IsDrivenFault, driven_files, stop_of};
 
 use crate::events::{Stop, stop_off};
 use crate::log::new_log;
@@ -36,6 +37,8 @@ pub fn run_driven<'a, F: FileSource>(
         (image_file (F.known files.old) task.entry.run.image.now) done.text.items done.status) }
     ensures fault { IfErr result (IsDrivenFault task.entry
         (image_file (F.known files.old) task.entry.run.image.now)) }
+    ensures asks { AsksFor (driven_files task.entry) result (F.asked files.old)
+        (F.asked files.new) }
 {
     let file = read_image(alloc, files, task.run.image)?;
     let image = file.as_slice();

@@ -4,6 +4,7 @@ ghost use Rattle.std.specs.Prelude.{◌≡◌, ◌⊎◌, ℕ, IfErr, IfOk, List
 ghost use Rattle.m161_drive.specs.Drive.{Drives, IsNoted};
 ghost use Rattle.m161_machine.specs.declared.event.Entry.{Entry};
 ghost use Rattle.m161_order.specs.Order.{order_fault};
+ghost use Rattle.s161_base.specs.Asked.{Asks, option_files};
 ghost use Rattle.s161_run.specs.Driven.{AreKeys, IsKeysFile, rules_of};
 
 use m161::Core;
@@ -18,6 +19,7 @@ use std::alloc::{AllocError, Global};
 ///
 /// # Errors
 /// The file can't be read or is too long; or memory was refused.
+#[tactic(auto, using(s161_base::proofs::Asking::asks_none))]
 pub fn read_keys<'a, F: FileSource>(
     alloc: Global,
     files: &mut F,
@@ -25,6 +27,7 @@ pub fn read_keys<'a, F: FileSource>(
 ) -> Result<Vec<u8>, Fault<'a>>
     ensures whole { IfOk result (λ keys. AreKeys name.entry (F.known files.old) keys.items) }
     ensures still { (other : List ℕ) → F.known files.new other ≡ F.known files.old other }
+    ensures asks { Asks (option_files name.entry) (F.asked files.old) (F.asked files.new) }
     ensures err { IfErr result (λ fault. IsKeysFile name.entry fault ⊎ (fault ≡ Fault.Memory)) }
 {
     match name {

@@ -2,7 +2,8 @@
 
 ghost use Rattle.std.specs.Prelude.{◌≡◌, IfErr, IfOk, string_bytes};
 ghost use Rattle.m161_text.specs.Lines.{with_line_end};
-ghost use Rattle.s161_run.specs.Replays.{IsReplayed, IsReplayFault, status_of_verdict, verdict_text};
+ghost use Rattle.s161_base.specs.Asked.{AsksFor};
+ghost use Rattle.s161_run.specs.Replays.{IsReplayed, IsReplayFault, replay_files, status_of_verdict, verdict_text};
 ghost use Rattle.s161_base.specs.Samples.{image_file};
 
 use m161::{Console, Tlb};
@@ -36,6 +37,8 @@ pub fn replay<'a, F: FileSource>(
     ensures fault { IfErr result (IsReplayFault task.entry
         (image_file (F.known files.old) task.entry.image.now)
         (F.known files.old task.entry.text.now)) }
+    ensures asks { AsksFor (replay_files task.entry) result (F.asked files.old)
+        (F.asked files.new) }
 {
     let file = read_image(alloc, files, task.image)?;
     let image = file.as_slice();

@@ -2,6 +2,7 @@
 
 ghost use Rattle.std.specs.Prelude.{IfErr, IfOk};
 ghost use Rattle.s161_run.specs.Runs.{IsFaultOf, IsRun};
+ghost use Rattle.s161_base.specs.Asked.{AsksFor, IsBeforeInput, image_files};
 ghost use Rattle.s161_base.specs.Samples.{image_file};
 
 use crate::events::make_events;
@@ -37,6 +38,10 @@ pub fn run<'a, F: FileSource, I: Read>(
         done.text.items done.status) }
     ensures fault { IfErr result (IsFaultOf task.entry
         (image_file (F.known files.old) task.entry.image.now) (I.remaining input.old)) }
+    ensures asks { AsksFor (image_files task.entry.image.now) result (F.asked files.old)
+        (F.asked files.new) }
+    ensures unread { IfErr result (λ fault. IsBeforeInput fault (I.remaining input.old)
+        (I.remaining input.new)) }
 {
     let file = read_image(alloc, files, task.image)?;
     let image = file.as_slice();

@@ -3,9 +3,10 @@
 ghost use Rattle.std.specs.Prelude.{◌≡◌, IfErr, IfOk, None};
 ghost use Rattle.m161_machine.specs.History.{events_of};
 ghost use Rattle.m161_order.specs.Order.{order_fault};
+ghost use Rattle.s161_base.specs.Asked.{AsksFor};
 ghost use Rattle.s161_base.specs.Samples.{image_file};
 ghost use Rattle.s161_run.specs.Driven.{rules_of};
-ghost use Rattle.s161_run.specs.Schedules.{Chose, IsScheduled, IsScheduledFault};
+ghost use Rattle.s161_run.specs.Schedules.{Chose, IsScheduled, IsScheduledFault, schedule_files};
 
 use crate::policy::{make_driven, read_keys};
 use m161::Core;
@@ -36,6 +37,8 @@ pub fn schedule<'a, F: FileSource>(
         (image_file (F.known files.old) task.entry.image.now) text.items) }
     ensures fault { IfErr result (IsScheduledFault task.entry
         (image_file (F.known files.old) task.entry.image.now)) }
+    ensures asks { AsksFor (schedule_files task.entry) result (F.asked files.old)
+        (F.asked files.new) }
 {
     let file = read_image(alloc, files, task.image)?;
     let keys = read_keys(alloc, files, task.drive.keys)?;

@@ -2,6 +2,7 @@
 
 ghost use Rattle.std.specs.Prelude.{◌≡◌, IfErr, IfOk, replicate};
 ghost use Rattle.s161_run.specs.Runs.{shown_log, status_of, summary_text};
+ghost use Rattle.s161_base.specs.Asked.{AsksFor, image_files};
 ghost use Rattle.s161_base.specs.Samples.{image_file};
 ghost use Rattle.s161_run.specs.Threads.{IsRunInThreads, IsThreadsFault, stop_of};
 ghost use Rattle.s161_run.specs.helpers.Threads.{FailsBooted, RunsBooted};
@@ -49,6 +50,8 @@ pub fn run_in_threads<'a, R: Threads + Wait + Sync, F: FileSource>(
         done.text.items done.status) }
     ensures fault { IfErr result (IsThreadsFault task.entry
         (image_file (F.known files.old) task.entry.run.image.now)) }
+    ensures asks { AsksFor (image_files task.entry.run.image.now) result (F.asked files.old)
+        (F.asked files.new) }
 {
     let ThreadsTask { run, quota, burst } = task;
     let file = read_image(alloc, files, run.image)?;

@@ -1,5 +1,4 @@
-use Rattle.std.proofs.Common.{◌≡◌, ℕ, List, ◌++◌, Option, take, inl, inr, refl}
-use Rattle.std.proofs.KnownBytes.{Appends-trans}
+use Rattle.std.proofs.Common.{◌≡◌, ℕ, List, Option, take, inl, inr, refl}
 use Rattle.clap.specs.Words.{Text, kind_of}
 use Rattle.clap.specs.declared.error.kind.ErrorKind.{ErrorKind}
 use Rattle.clap.specs.declared.error.kind.ErrorKind.TheVariants.{OutOfMemory}
@@ -8,8 +7,8 @@ use Rattle.s161_command.specs.declared.task.Rejection.{Rejection}
 use Rattle.s161_command.specs.declared.task.Rejection.TheVariants.{Words, Options}
 use Rattle.s161_command.specs.Commands.{IsHelp, IsRejected}
 use Rattle.s161_work.specs.Failures.{EndsBadly, unhelped, unread, unsaid}
-use Rattle.s161_work.specs.Works.{GivesHelp, HasMore, IsRefused, standard}
-use Rattle.s161_work.specs.helpers.Refusals.{IsHelped, IsSaid, IsUnsaid}
+use Rattle.s161_work.specs.Works.{GivesHelp, HasMore, IsRefused, SaysWhy, standard}
+use Rattle.s161_work.specs.helpers.Refusals.{IsHelped, IsSaid, IsUnsaid, Says}
 
 -- Command lines that aren't followed.
 
@@ -37,8 +36,11 @@ has_more (Options clash) a b help = absurd help
 pub some_more : (a b : Option (List ℕ)) (text : List ℕ) → AppendsSome a b text → HasMore a b
 some_more a b text h = (take h.0 text, h.1)
 
-pub more_on : (a b c : Option (List ℕ)) → HasMore a b → HasMore b c → HasMore a c
-more_on a b c first second = (first.0 ++ second.0, Appends-trans a b c first.0 second.0 first.1 second.1)
+-- what was said of a command line that isn't followed
+pub says_why : (words : List Text) (rejection : Rejection) (a b : Option (List ℕ)) → IsRejected words rejection → IsSaid rejection → Says rejection a b
+    → SaysWhy words a b
+says_why words (Words error) a b h said text = inl (h.1 said, (text.0, text.2))
+says_why words (Options clash) a b h said text = inr ((clash, h.0, h.1), text)
 
 -- a command line whose task isn't known ends badly
 pub unsaid_ends : (words : List Text) (files : Text → Option (List ℕ)) (rejection : Rejection) (input a b x y : Option (List ℕ)) → IsRejected words rejection
@@ -46,4 +48,4 @@ pub unsaid_ends : (words : List Text) (files : Text → Option (List ℕ)) (reje
 unsaid_ends words files rejection input a b x y h (inl memory) = unread refl memory.0 memory.1
 unsaid_ends words files rejection input a b x y h (inr (inl help)) =
     unhelped (asks_help words rejection a b h help.0) refl (has_more rejection a b help.0) help.1
-unsaid_ends words files rejection input a b x y h (inr (inr said)) = unsaid (refused words rejection h said.0) refl said.1 said.2
+unsaid_ends words files rejection input a b x y h (inr (inr said)) = unsaid (refused words rejection h said.0) refl said.1 (said.2.0, said.2.2)

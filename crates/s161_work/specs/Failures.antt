@@ -118,6 +118,12 @@ FailsAs None task files before after fault =
 abbrev pub IsTold : Fault → Option (List ℕ) → Option (List ℕ) → Type 0
 IsTold fault before after = AppendsSome before after (with_line_end (fault_line fault))
 
+-- standard error failed while a text was written to it, and has some of that; and then as much as it
+-- took of the line of this fault
+abbrev pub FailsToSay : List ℕ → Option (List ℕ) → Option (List ℕ) → Type 0
+FailsToSay text before after =
+    (between : Option (List ℕ)) × AppendsSome before between text × IsTold Output between after
+
 -- a command line's task was ended by a fault, over these files and streams, which was told then
 abbrev pub FailsToDo : List Text → (Text → Option (List ℕ)) → Standard → Standard → Type 0
 FailsToDo words files before after =
@@ -145,7 +151,8 @@ pub data EndsBadly
   unread :
       after.input ≡ before.input → after.output ≡ before.output →
       IsTold Memory before.errors after.errors → EndsBadly words files before after
-  -- it isn't followed, and standard error failed
+  -- it isn't followed, and standard error failed while that was said
   unsaid :
       IsRefused words → after.input ≡ before.input → after.output ≡ before.output →
-      HasMore before.errors after.errors → EndsBadly words files before after
+      (text : List ℕ) × FailsToSay text before.errors after.errors →
+      EndsBadly words files before after

@@ -1,4 +1,4 @@
-use Rattle.std.specs.Prelude.{◌≡◌, ◌⊎◌, ℕ, List, Option, None, Some}
+use Rattle.std.specs.Prelude.{◌≡◌, ◌⊎◌, ℕ, List, ◌∷◌, ◌++◌, Option, None, Some, codes}
 use Rattle.std.specs.Io.KnownBytes.{Appends}
 use Rattle.clap.specs.Words.{IsAmong, Text, fault_of, subcommand_of}
 use Rattle.clap.specs.declared.error.kind.ErrorKind.{ErrorKind}
@@ -168,7 +168,7 @@ Does words files before after status =
     (task : Task) × IsTask (subcommand_of command_line words) task
     × Finishes task files before after status
 
--- an output had the first bytes, and has some more
+-- an output got a text behind the bytes that it had. Nothing is known of the text; it may be empty
 abbrev pub HasMore : Option (List ℕ) → Option (List ℕ) → Type 0
 HasMore before after = (text : List ℕ) × Appends before after text
 
@@ -177,8 +177,8 @@ abbrev pub IsDone : ℕ → Type 0
 IsDone status = (status ≡ 0) ⊎ (status ≡ 3) ⊎ (status ≡ 4) ⊎ (status ≡ 5)
 
 -- a command line was followed, and its task finished as `Does` says; or it asks for help or for the
--- version, which was printed, with the status 0, and nothing was read of standard input or written
--- to standard error
+-- version: clap's text, of which nothing is known, was printed, with the status 0, and nothing was read
+-- of standard input or written to standard error
 abbrev pub Follows :
     List Text → (Text → Option (List ℕ)) → Standard → Standard → ℕ → Type 0
 Follows words files before after status =
@@ -187,14 +187,34 @@ Follows words files before after status =
     ⊎ (GivesHelp words × (status ≡ 0) × (after.input ≡ before.input)
     × HasMore before.output after.output × (after.errors ≡ before.errors))
 
+-- clap takes the words, and the options can't be followed
+abbrev pub IsClashing : List Text → Type 0
+IsClashing words =
+    (clash : Clash) × IsAccepted words × ClashesIn (subcommand_of command_line words) clash
+
 -- a command line isn't followed: clap doesn't take the words, or the options can't be followed
 abbrev pub IsRefused : List Text → Type 0
-IsRefused words =
-    (¬ IsAccepted words)
-    ⊎ ((clash : Clash) × IsAccepted words × ClashesIn (subcommand_of command_line words) clash)
+IsRefused words = (¬ IsAccepted words) ⊎ IsClashing words
 
--- so standard error says why; nothing was read of standard input, nor written to standard output
+-- what is said of options that can't be followed. Nothing is known of the part that says why
+abbrev pub IsClashText : List ℕ → Type 0
+IsClashText text =
+    (why : List ℕ)
+    × (text
+    ≡ codes "error: "
+    ++ (why ++ 10 ∷ 10 ∷ with_line_end (codes "For more information, try '--help'.")))
+
+-- an output got such a text
+abbrev pub HasClashText : Option (List ℕ) → Option (List ℕ) → Type 0
+HasClashText before after = (text : List ℕ) × IsClashText text × Appends before after text
+
+-- so standard error got clap's text, of which nothing is known; or what is said of the options
+abbrev pub SaysWhy : List Text → Option (List ℕ) → Option (List ℕ) → Type 0
+SaysWhy words before after =
+    ((¬ IsAccepted words) × HasMore before after) ⊎ (IsClashing words × HasClashText before after)
+
+-- and nothing was read of standard input, nor written to standard output
 abbrev pub Rejects : List Text → Standard → Standard → Type 0
 Rejects words before after =
-    IsRefused words × (after.input ≡ before.input) × (after.output ≡ before.output)
-    × HasMore before.errors after.errors
+    SaysWhy words before.errors after.errors
+    × (after.input ≡ before.input) × (after.output ≡ before.output)

@@ -1,24 +1,30 @@
 //! Files, and what they load as in 4,096 bytes of RAM.
 
-use super::listing::Left::{Count, Entries, Memory, Pc, Register};
+use super::listing::Left::{Count, Entries, Memory, NoMemory, Pc, Register};
 use super::listing::{Left, compare, make};
 use super::same;
-use m161::Machine;
 use m161_asm::assemble;
+use m161_bus::Console;
+use m161_console::{PlainConsole, RingConsole};
 use m161_elf::{LoadError, load};
 use m161_elf_writer::write;
 use m161_machine::Event::Step;
-use m161_machine::Refusal;
+use m161_machine::{Machine, Refusal};
 use m161_ram::Ram;
 use m161_test_support::files::{
     ADDRESS, CLASS, ENTRY, FILE_SIZE, HEADER_COUNT, HEADERS, IMAGE, MEMORY_SIZE, OFFSET, PROGRAM,
     TYPE, file_of,
 };
 use m161_test_support::outcomes::{ENTRY as START, OFF, RAN, SMALLEST, Times};
+use m161_tlb::Tlb;
+use m161_tlb_index::Index;
+use m161_tlb_scan::Scan;
 use std::alloc::{AllocError, Global};
+use std::process::Abort;
 use std::test::Fail;
 
 /// A program header, and the bytes that it has in the file.
+#[derive(Drop)]
 struct Part {
     kind: u32,
     address: u32,
@@ -182,7 +188,7 @@ const SWITCHED_OFF: &[(u32, Left)] = &[
     (0, Register(8, 0xbfff_0000)),
 ];
 
-static ACCEPTED: [Accepted; 4] = [
+static ACCEPTED: [Accepted; 11] = [
     Accepted {
         name: "image-refusals: the later of two segments",
         parts: &[
@@ -240,19 +246,327 @@ static ACCEPTED: [Accepted; 4] = [
         events: &[(Step(0), 1, RAN)],
         left: &[(0, Memory(0, 0)), (0, Pc(0x8000_0204))],
     },
+    Accepted {
+        name: "two-views",
+        parts: &[
+            Part {
+                kind: SEGMENT,
+                address: START,
+                memory_size: 4,
+                bytes: &[0x11, 0x11, 0x11, 0x11],
+            },
+            Part {
+                kind: SEGMENT,
+                address: 0xa000_0200,
+                memory_size: 4,
+                bytes: &[0x22, 0x22, 0x22, 0x22],
+            },
+        ],
+        word: 0x2222_2222,
+        events: &[],
+        left: &[(0, Memory(0x204, 0)), (0, Pc(START))],
+    },
+    Accepted {
+        name: "the later segment covers the earlier one whole",
+        parts: &[
+            Part {
+                kind: SEGMENT,
+                address: 0xa000_0201,
+                memory_size: 2,
+                bytes: &[0x55, 0x66],
+            },
+            Part {
+                kind: SEGMENT,
+                address: START,
+                memory_size: 8,
+                bytes: &[0x11, 0x22, 0x33, 0x44],
+            },
+        ],
+        word: 0x1122_3344,
+        events: &[],
+        left: &[(0, Memory(0x204, 0))],
+    },
+    // Bytes 2 to 5 of the first one are the second one's, but byte 4 is the third one's.
+    Accepted {
+        name: "three segments, each over a part of the one before",
+        parts: &[
+            Part {
+                kind: SEGMENT,
+                address: START,
+                memory_size: 8,
+                bytes: &[0x11, 0x12, 0x13, 0x14, 0x15, 0x16, 0x17, 0x18],
+            },
+            Part {
+                kind: SEGMENT,
+                address: 0x8000_0202,
+                memory_size: 4,
+                bytes: &[0x55],
+            },
+            Part {
+                kind: SEGMENT,
+                address: 0xa000_0204,
+                memory_size: 1,
+                bytes: &[0x66],
+            },
+        ],
+        word: 0x1112_5500,
+        events: &[],
+        left: &[(0, Memory(0x204, 0x6600_1718))],
+    },
+    Accepted {
+        name: "one segment's end is the next one's beginning",
+        parts: &[
+            Part {
+                kind: SEGMENT,
+                address: START,
+                memory_size: 6,
+                bytes: &[0x11, 0x12, 0x13, 0x14, 0x15, 0x16],
+            },
+            Part {
+                kind: SEGMENT,
+                address: 0x8000_0206,
+                memory_size: 2,
+                bytes: &[0x55, 0x56],
+            },
+        ],
+        word: 0x1112_1314,
+        events: &[],
+        left: &[(0, Memory(0x204, 0x1516_5556)), (0, Memory(0x208, 0))],
+    },
+    Accepted {
+        name: "segments up to the end of RAM, in kseg0 and kseg1",
+        parts: &[
+            POWER_OFF,
+            Part {
+                kind: SEGMENT,
+                address: 0x8000_0ff8,
+                memory_size: 8,
+                bytes: &[0x11],
+            },
+            Part {
+                kind: SEGMENT,
+                address: 0xa000_0ffc,
+                memory_size: 4,
+                bytes: &[0x21, 0x22, 0x23, 0x24],
+            },
+        ],
+        word: 0x3c08_bfff,
+        events: TWO_STEPS,
+        left: &[
+            (0, Memory(0xff8, 0x1100_0000)),
+            (0, Memory(0xffc, 0x2122_2324)),
+            (0, NoMemory(0x1000)),
+        ],
+    },
+    Accepted {
+        name: "damaged-headers: a segment of no bytes, at an address outside RAM",
+        parts: &[
+            POWER_OFF,
+            Part {
+                kind: SEGMENT,
+                address: 0xffff_ffff,
+                memory_size: 0,
+                bytes: &[],
+            },
+        ],
+        word: 0x3c08_bfff,
+        events: TWO_STEPS,
+        left: SWITCHED_OFF,
+    },
+    Accepted {
+        name: "a segment that is zero",
+        parts: &[
+            POWER_OFF,
+            Part {
+                kind: SEGMENT,
+                address: 0x8000_0204,
+                memory_size: 4,
+                bytes: &[],
+            },
+        ],
+        word: 0x3c08_bfff,
+        events: &[(Step(0), 2, RAN)],
+        left: &[(0, Memory(0x204, 0)), (0, Pc(0x8000_0208))],
+    },
 ];
+
+/// A file boots to a machine with this word at 0x200, which makes the events.
+fn accepted_over<T: Tlb + Drop, D: Console + Drop>(
+    rt: &(impl Abort + AllocGlobal),
+    name: &str,
+    file: &[u8],
+    word: u32,
+    events: &[Times],
+    left: &[(u32, Left)],
+) -> Result<(), Fail> {
+    let mut machine: Machine<T, D> = Machine::boot(rt.alloc(), file, SMALLEST)?;
+    let found = machine.word(0x200);
+    same(rt, (name, found), (name, Some(word)));
+    make(rt, name, &mut machine, events)?;
+    compare(rt, name, &machine, left);
+    Ok(())
+}
+
+/// The same over each TLB with each console.
+fn check_accepted(
+    rt: &(impl Abort + AllocGlobal),
+    name: &str,
+    file: &[u8],
+    word: u32,
+    events: &[Times],
+    left: &[(u32, Left)],
+) -> Result<(), Fail> {
+    accepted_over::<Scan, PlainConsole>(rt, name, file, word, events, left)?;
+    accepted_over::<Scan, RingConsole>(rt, name, file, word, events, left)?;
+    accepted_over::<Index, PlainConsole>(rt, name, file, word, events, left)?;
+    accepted_over::<Index, RingConsole>(rt, name, file, word, events, left)
+}
 
 #[test]
 fn image_refusals_accepted(rt: HostRuntime) -> Result<(), Fail> {
     for row in &ACCEPTED {
         let file = file_of_parts(rt.alloc(), row.parts)?;
-        let mut machine = Machine::boot(rt.alloc(), &file, SMALLEST)?;
-        let word = machine.word(0x200);
-        same(&rt, (row.name, word), (row.name, Some(row.word)));
-        make(&rt, row.name, &mut machine, row.events)?;
-        compare(&rt, row.name, &machine, row.left);
+        check_accepted(&rt, row.name, &file, row.word, row.events, row.left)?;
     }
     Ok(())
+}
+
+/// The demo's file with other words in its headers, and how many of its bytes are there; the word
+/// at 0x200, and what its first Steps leave.
+struct Edited {
+    name: &'static str,
+    edits: &'static [(usize, u32)],
+    length: usize,
+    word: u32,
+    events: &'static [Times],
+    left: &'static [(u32, Left)],
+}
+
+/// What the demo leaves.
+const DEMO_LEFT: &[(u32, Left)] = &[
+    (0, Register(12, 0x1234_5677)),
+    (0, Memory(0x400, 0x1234_5677)),
+    (0, Pc(0x8000_021c)),
+];
+
+static EDITED: [Edited; 6] = [
+    Edited {
+        name: "the demo",
+        edits: &[],
+        length: 112,
+        word: 0x3c08_1234,
+        events: &[(Step(0), 7, RAN)],
+        left: DEMO_LEFT,
+    },
+    Edited {
+        name: "the demo by kseg1",
+        edits: &[(ADDRESS, 0xa000_0200)],
+        length: 112,
+        word: 0x3c08_1234,
+        events: &[(Step(0), 7, RAN)],
+        left: DEMO_LEFT,
+    },
+    Edited {
+        name: "the demo begins in kseg1",
+        edits: &[(ENTRY, 0xa000_0200)],
+        length: 112,
+        word: 0x3c08_1234,
+        events: &[(Step(0), 7, RAN)],
+        left: &[
+            (0, Register(12, 0x1234_5677)),
+            (0, Memory(0x400, 0x1234_5677)),
+            (0, Pc(0xa000_021c)),
+        ],
+    },
+    Edited {
+        name: "the first two words of the demo",
+        edits: &[(FILE_SIZE, 8), (MEMORY_SIZE, 8)],
+        length: 92,
+        word: 0x3c08_1234,
+        events: &[(Step(0), 3, RAN)],
+        left: &[
+            (0, Register(8, 0x1234_5678)),
+            (0, Register(9, 0)),
+            (0, Pc(0x8000_020c)),
+        ],
+    },
+    Edited {
+        name: "damaged-headers: no program header",
+        edits: &[(HEADER_COUNT, 0)],
+        length: 112,
+        word: 0,
+        events: &[(Step(0), 1, RAN)],
+        left: &[(0, Pc(0x8000_0204)), (0, Memory(0x218, 0))],
+    },
+    Edited {
+        name: "damaged-headers: no bytes, at an address outside RAM",
+        edits: &[(ADDRESS, 0xffff_ffff), (FILE_SIZE, 0), (MEMORY_SIZE, 0)],
+        length: 112,
+        word: 0,
+        events: &[(Step(0), 1, RAN)],
+        left: &[(0, Pc(0x8000_0204)), (0, Memory(0x218, 0))],
+    },
+];
+
+#[test]
+fn accepted_headers(rt: HostRuntime) -> Result<(), Fail> {
+    for row in &EDITED {
+        let mut file = file_of(rt.alloc(), row.edits, &PROGRAM)?;
+        file.truncate(row.length);
+        check_accepted(&rt, row.name, &file, row.word, row.events, row.left)?;
+    }
+    Ok(())
+}
+
+/// The bytes of the stairs.
+static STAIRS: [u8; 20] = [
+    1, 2, 3, 4, 5, 6, 7, 8, 9, 10, 11, 12, 13, 14, 15, 16, 17, 18, 19, 20,
+];
+
+/// A segment of four bytes, `k` bytes behind `START`, with one byte in the file: k + 1.
+fn stair(k: u32) -> Part {
+    let place = k as usize;
+    Part {
+        kind: SEGMENT,
+        address: START.wrapping_add(k),
+        memory_size: 4,
+        bytes: STAIRS.get(place..place.saturating_add(1)).unwrap_or(&[]),
+    }
+}
+
+/// Twenty segments, each a byte behind the one before it: of each the next one leaves the first
+/// byte, and the last one has three zeros behind it.
+#[test]
+fn twenty_segments(rt: HostRuntime) -> Result<(), Fail> {
+    let mut parts = Vec::new(rt.alloc());
+    for k in 0..20 {
+        parts.push(stair(k))?;
+    }
+    let left = [
+        (0, Memory(0x204, 0x0506_0708)),
+        (0, Memory(0x208, 0x090a_0b0c)),
+        (0, Memory(0x210, 0x1112_1314)),
+        (0, Memory(0x214, 0)),
+    ];
+    let file = file_of_parts(rt.alloc(), &parts)?;
+    check_accepted(&rt, "up", &file, 0x0102_0304, &[], &left)
+}
+
+/// The same from the last to the first: the first one is over all that follow but their last bytes,
+/// which are zeros.
+#[test]
+fn twenty_segments_back(rt: HostRuntime) -> Result<(), Fail> {
+    let mut parts = Vec::new(rt.alloc());
+    for k in 0..20 {
+        parts.push(stair(19u32.saturating_sub(k)))?;
+    }
+    let left = [
+        (0, Memory(0x204, 0)),
+        (0, Memory(0x210, 0)),
+        (0, Memory(0x214, 0)),
+    ];
+    let file = file_of_parts(rt.alloc(), &parts)?;
+    check_accepted(&rt, "down", &file, 0x0100_0000, &[], &left)
 }
 
 #[test]

@@ -249,7 +249,8 @@ fn words_of(alloc: Global, program: &[(u32, &str)]) -> Result<Vec<u32>, Fail> {
     Ok(words)
 }
 
-fn make_stages<T: Tlb + Drop, D: Console + Drop>(
+/// Makes the events of stages, and compares what each leaves.
+pub(crate) fn make_stages<T: Tlb + Drop, D: Console + Drop>(
     rt: &(impl Abort + AllocGlobal),
     name: &str,
     machine: &mut Machine<T, D>,

@@ -1,11 +1,15 @@
-use Rattle.std.proofs.Common.{◌≡◌, ◌∙◌, ap, subst, sym, inr, List, ℕ, IfSome}
+use Rattle.std.proofs.Common.{◌≡◌, ap, subst, sym, inr, List, ℕ, IfSome}
 use Rattle.std.proofs.lemmas.Result.{err_from_is_err_and}
 use Rattle.m161_machine.specs.History.{boot_fault}
 use Rattle.m161_machine.specs.State.{State}
 use Rattle.s161_base.proofs.Failing.{state_booted}
-use Rattle.s161_base.specs.Faults.{BootsIn}
+use Rattle.s161_base.proofs.Asking.{alone_unread, behind, boot_is_none}
+use Rattle.s161_base.specs.Asked.{image_files}
+use Rattle.s161_base.specs.Faults.{BootsIn, fault_of_boot}
+use Rattle.s161_base.specs.Streams.{streams}
 use Rattle.s161_base.specs.Samples.{image_file}
 use Rattle.s161_run.specs.Consoles.{BootsFor}
+use Rattle.s161_run.proofs.Asking.{serve_is_none}
 use Rattle.s161_run.proofs.console.console.Goals as goal
 
 pub serve-requires-clause-silent : goal.serve-requires-clause-silent
@@ -47,3 +51,28 @@ returns-clause-ok g c =
       serves = c.in_ok-driven.ensures.ok;
       stop_is = c.stop_of.ensures;
     }
+
+pub returns-in_err-file-clause-asks : goal.returns-in_err-file-clause-asks
+returns-in_err-file-clause-asks g c =
+    let asked = g.F.FileSource.asked in
+    let made = err_from_is_err_and c.from_residual.result c.from_residual.ensures.1 in
+    rw (made.1, made.2)
+    (alone_unread c.args.task.image (asked c.args.files.now) (asked c.read_image.new.files) c.in_err-file.field-0.0 c.in_err-file.ensures.asks
+    c.in_err-file.ensures.err)
+
+-- the file was asked for, and other faults are none of it
+pub returns-in_err-core-clause-asks : goal.returns-in_err-core-clause-asks
+returns-in_err-core-clause-asks g c =
+    let asked = g.F.FileSource.asked in
+    let made = err_from_is_err_and c.from_residual-in_err-core.result c.from_residual-in_err-core.ensures.1 in
+    rw (made.1, made.2)
+    (behind (image_files c.args.task.image.now) (asked c.args.files.now) (asked c.read_image.new.files) (fault_of_boot c.in_err-core.field-0.0) c.in_ok-file.ensures.asks
+    (boot_is_none c.in_err-core.field-0.0))
+
+pub returns-in_err-driven-clause-asks : goal.returns-in_err-driven-clause-asks
+returns-in_err-driven-clause-asks g c =
+    let asked = g.F.FileSource.asked in
+    let made = err_from_is_err_and c.from_residual-in_err-driven.result c.from_residual-in_err-driven.ensures.1 in
+    rw (made.1, made.2)
+    (behind (image_files c.args.task.image.now) (asked c.args.files.now) (asked c.read_image.new.files) c.in_err-driven.field-0.0 c.in_ok-file.ensures.asks
+    (serve_is_none c.args.task.drive c.in_ok-core.core.state (streams (g.I.Read.remaining c.args.input.now) (g.I.Read.remaining c.serve.new.input) (g.O.Write.contents c.args.output.now) (g.O.Write.contents c.serve.new.output)) c.in_err-driven.field-0.0 c.in_err-driven.ensures.err))

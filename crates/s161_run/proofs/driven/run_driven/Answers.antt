@@ -1,16 +1,20 @@
-use Rattle.std.proofs.Common.{◌≡◌, ◌∙◌, ap, subst, sym, List, ℕ, IfSome}
+use Rattle.std.proofs.Common.{◌≡◌, ◌∙◌, ap, subst, sym, List, ℕ, ◌++◌, IfSome}
+use Rattle.std.proofs.lemmas.Result.{err_from_is_err_and}
 use Rattle.m161_machine.specs.declared.conf.Conf.{Conf}
 use Rattle.m161_machine.specs.History.{boot_fault}
 use Rattle.m161_machine.specs.State.{State}
+use Rattle.s161_base.proofs.Asking.{asks_both, behind, boot_is_none, image_unread, later}
 use Rattle.s161_base.proofs.Failing.{state_booted}
-use Rattle.s161_base.specs.Faults.{BootsIn}
+use Rattle.s161_base.specs.Asked.{image_files, option_files}
+use Rattle.s161_base.specs.declared.fault.Fault.TheVariants.{Memory}
+use Rattle.s161_base.specs.Faults.{BootsIn, fault_of_boot}
 use Rattle.s161_base.specs.Samples.{image_file}
 use Rattle.s161_base.specs.Sizes.{conf_of}
 use Rattle.s161_run.specs.declared.events.Stop.{Stop}
 use Rattle.s161_run.specs.Driven.{AreKeys}
 use Rattle.s161_run.specs.Runs.{log_of_run, status_of, summary_text}
 use Rattle.s161_run.specs.helpers.Shown.{room_of}
-use Rattle.s161_run.proofs.Keeping.{keys_are}
+use Rattle.s161_run.proofs.Keeping.{keys_are, last_unread}
 use Rattle.s161_run.proofs.Logging.{kept_fit, logged, run_leads, run_shown}
 use Rattle.s161_run.proofs.driven.run_driven.Goals as goal
 
@@ -56,3 +60,66 @@ returns-clause-ok g c =
           ∙ ap (λ (stop : Stop). summary_text log state stop shown) c.stop_of-stop.ensures;
       status_is = c.in_ok-done.ensures.status ∙ ap status_of c.stop_of-stop.ensures;
     }
+
+pub returns-in_err-file-clause-asks : goal.returns-in_err-file-clause-asks
+returns-in_err-file-clause-asks g c =
+    let asked = g.F.FileSource.asked in
+    let made = err_from_is_err_and c.from_residual.result c.from_residual.ensures.1 in
+    rw (made.1, made.2)
+    (image_unread c.args.task.run.image (option_files c.args.task.drive.keys) (asked c.args.files.now) (asked c.read_image.new.files) c.in_err-file.field-0.0
+    c.in_err-file.ensures.asks c.in_err-file.ensures.err)
+
+pub returns-in_err-keys-clause-asks : goal.returns-in_err-keys-clause-asks
+returns-in_err-keys-clause-asks g c =
+    let between = g.F.FileSource.asked c.read_image.new.files in
+    let after = g.F.FileSource.asked c.read_keys.new.files in
+    let fault = c.in_err-keys.field-0.0 in
+    let made = err_from_is_err_and c.from_residual-in_err-keys.result c.from_residual-in_err-keys.ensures.1 in
+    rw (made.1, made.2)
+    (later (image_files c.args.task.run.image.now) (option_files c.args.task.drive.keys) (g.F.FileSource.asked c.args.files.now) between after fault c.in_ok-file.ensures.asks
+    (last_unread c.args.task.drive.keys between after fault c.in_err-keys.ensures.asks c.in_err-keys.ensures.err))
+
+-- all files were asked for
+pub returns-in_err-core-clause-asks : goal.returns-in_err-core-clause-asks
+returns-in_err-core-clause-asks g c =
+    let asked = g.F.FileSource.asked in
+    let image = image_files c.args.task.run.image.now in
+    let keys = option_files c.args.task.drive.keys in
+    let all = asks_both image keys (asked c.args.files.now) (asked c.read_image.new.files) (asked c.read_keys.new.files) c.in_ok-file.ensures.asks c.in_ok-keys.ensures.asks in
+    let made = err_from_is_err_and c.from_residual-in_err-core.result c.from_residual-in_err-core.ensures.1 in
+    rw (made.1, made.2) (behind (image ++ keys) (asked c.args.files.now) (asked c.read_keys.new.files) (fault_of_boot c.in_err-core.field-0.0) all (boot_is_none c.in_err-core.field-0.0))
+
+pub returns-in_err-log-clause-asks : goal.returns-in_err-log-clause-asks
+returns-in_err-log-clause-asks g c =
+    let asked = g.F.FileSource.asked in
+    let image = image_files c.args.task.run.image.now in
+    let keys = option_files c.args.task.drive.keys in
+    let all = asks_both image keys (asked c.args.files.now) (asked c.read_image.new.files) (asked c.read_keys.new.files) c.in_ok-file.ensures.asks c.in_ok-keys.ensures.asks in
+    let made = err_from_is_err_and c.from_residual-in_err-log.result c.from_residual-in_err-log.ensures.1 in
+    rw (made.1, made.2) (behind (image ++ keys) (asked c.args.files.now) (asked c.read_keys.new.files) Memory all tt)
+
+pub returns-in_err-driven-clause-asks : goal.returns-in_err-driven-clause-asks
+returns-in_err-driven-clause-asks g c =
+    let asked = g.F.FileSource.asked in
+    let image = image_files c.args.task.run.image.now in
+    let keys = option_files c.args.task.drive.keys in
+    let all = asks_both image keys (asked c.args.files.now) (asked c.read_image.new.files) (asked c.read_keys.new.files) c.in_ok-file.ensures.asks c.in_ok-keys.ensures.asks in
+    let made = err_from_is_err_and c.from_residual-in_err-driven.result c.from_residual-in_err-driven.ensures.1 in
+    rw (made.1, made.2) (behind (image ++ keys) (asked c.args.files.now) (asked c.read_keys.new.files) Memory all tt)
+
+pub returns-in_err-done-clause-asks : goal.returns-in_err-done-clause-asks
+returns-in_err-done-clause-asks g c =
+    let asked = g.F.FileSource.asked in
+    let image = image_files c.args.task.run.image.now in
+    let keys = option_files c.args.task.drive.keys in
+    let all = asks_both image keys (asked c.args.files.now) (asked c.read_image.new.files) (asked c.read_keys.new.files) c.in_ok-file.ensures.asks c.in_ok-keys.ensures.asks in
+    let made = err_from_is_err_and c.from_residual-in_err-done.result c.from_residual-in_err-done.ensures.1 in
+    rw (made.1, made.2) (behind (image ++ keys) (asked c.args.files.now) (asked c.read_keys.new.files) Memory all tt)
+
+pub returns-clause-asks : goal.returns-clause-asks
+returns-clause-asks g c =
+    let asked = g.F.FileSource.asked in
+    let image = image_files c.args.task.run.image.now in
+    let keys = option_files c.args.task.drive.keys in
+    let all = asks_both image keys (asked c.args.files.now) (asked c.read_image.new.files) (asked c.read_keys.new.files) c.in_ok-file.ensures.asks c.in_ok-keys.ensures.asks in
+    all

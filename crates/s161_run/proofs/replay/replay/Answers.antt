@@ -1,13 +1,17 @@
-use Rattle.std.proofs.Common.{◌≡◌, List, ℕ, false, Option, None, Some, IfSome, rules, subst, sym}
+use Rattle.std.proofs.Common.{◌≡◌, List, ℕ, false, Option, None, Some, IfSome, rules, subst, sym, [], ◌∷◌, ◌++◌}
 use Rattle.std.proofs.lemmas.Result.{err_from_is_err_and}
 use Rattle.m161_machine.specs.declared.conf.BootError.TheVariants.{Load}
 use Rattle.m161_machine.specs.declared.event.Entry.{Entry}
 use Rattle.m161_machine.specs.Conf.{is_within_limits}
 use Rattle.m161_machine.specs.History.{boot_fault}
+use Rattle.s161_base.proofs.Asking.{IsNoFile, asks_both, behind, boot_is_none, file_unread, image_unread, later}
+use Rattle.s161_base.specs.Asked.{image_files}
+use Rattle.s161_base.specs.Faults.{fault_of_boot}
+use Rattle.s161_base.specs.Reading.{IsOfText}
 use Rattle.s161_run.proofs.Failing.{log_failed, verify_failed}
 use Rattle.s161_run.proofs.Replaying.{refused}
 use Rattle.s161_run.specs.Replays.{IsReplayFault, OfReplay}
-use Rattle.s161_base.specs.declared.fault.Fault.TheVariants.{LogImage, LogMachine}
+use Rattle.s161_base.specs.declared.fault.Fault.TheVariants.{LogImage, LogMachine, Memory}
 use Rattle.s161_base.specs.Known.{IsText}
 use Rattle.s161_base.specs.declared.machines.LoggedMachine.{LoggedMachine}
 use Rattle.s161_base.specs.Machines.{IsLogOf, asked_conf, machine_fault}
@@ -95,3 +99,77 @@ returns-in_err-verdict-clause-fault g c =
     (λ e has. replays (λ f l. (machine_fault c.args.task.size f (Some l) ≡ None) × (boot_fault f (asked_conf c.args.task.size (Some l)) ≡ Some (Load e))) (none, has))
     tt (search rules) in
     rw (made.1, made.2) failed
+
+pub returns-in_err-file-clause-asks : goal.returns-in_err-file-clause-asks
+returns-in_err-file-clause-asks g c =
+    let asked = g.F.FileSource.asked in
+    let made = err_from_is_err_and c.from_residual.result c.from_residual.ensures.1 in
+    rw (made.1, made.2)
+    (image_unread c.args.task.image (c.args.task.text.now ∷ []) (asked c.args.files.now) (asked c.read_image.new.files) c.in_err-file.field-0.0
+    c.in_err-file.ensures.asks c.in_err-file.ensures.err)
+
+pub returns-in_err-listed-clause-asks : goal.returns-in_err-listed-clause-asks
+returns-in_err-listed-clause-asks g c =
+    let between = g.F.FileSource.asked c.read_image.new.files in
+    let after = g.F.FileSource.asked c.read_text.new.files in
+    let fault = c.in_err-listed.field-0.0 in
+    let made = err_from_is_err_and c.from_residual-in_err-listed.result c.from_residual-in_err-listed.ensures.1 in
+    rw (made.1, made.2)
+    (later (image_files c.args.task.image.now) (c.args.task.text.now ∷ []) (g.F.FileSource.asked c.args.files.now) between after fault c.in_ok-file.ensures.asks
+    (file_unread c.args.task.text (IsOfText (g.F.FileSource.known c.read_image.new.files c.args.task.text.now)) [] between after fault
+    c.in_err-listed.ensures.asks c.in_err-listed.ensures.err))
+
+-- both files were asked for
+pub returns-in_err-log-clause-asks : goal.returns-in_err-log-clause-asks
+returns-in_err-log-clause-asks g c =
+    let asked = g.F.FileSource.asked in
+    let image = image_files c.args.task.image.now in
+    let text = c.args.task.text.now ∷ [] in
+    let a = asked c.args.files.now in
+    let b = asked c.read_text.new.files in
+    let all = asks_both image text a (asked c.read_image.new.files) b c.in_ok-file.ensures.asks c.in_ok-listed.ensures.asks in
+    let made = err_from_is_err_and c.from_residual-in_err-log.result c.from_residual-in_err-log.ensures.1 in
+    rw (made.1, made.2) (behind (image ++ text) a b c.in_err-log.field-0.0 all (log_failed IsNoFile c.as_str-text.result.now c.in_err-log.field-0.0 (λ n bad. tt) tt c.in_err-log.ensures.fault))
+
+pub returns-in_err-verdict-clause-asks : goal.returns-in_err-verdict-clause-asks
+returns-in_err-verdict-clause-asks g c =
+    let asked = g.F.FileSource.asked in
+    let image = image_files c.args.task.image.now in
+    let text = c.args.task.text.now ∷ [] in
+    let a = asked c.args.files.now in
+    let b = asked c.read_text.new.files in
+    let all = asks_both image text a (asked c.read_image.new.files) b c.in_ok-file.ensures.asks c.in_ok-listed.ensures.asks in
+    let made = err_from_is_err_and c.from_residual-in_err-verdict.result c.from_residual-in_err-verdict.ensures.1 in
+    rw (made.1, made.2) (behind (image ++ text) a b (fault_of_boot c.in_err-verdict.field-0.0) all (boot_is_none c.in_err-verdict.field-0.0))
+
+pub returns-in_err-shown-clause-asks : goal.returns-in_err-shown-clause-asks
+returns-in_err-shown-clause-asks g c =
+    let asked = g.F.FileSource.asked in
+    let image = image_files c.args.task.image.now in
+    let text = c.args.task.text.now ∷ [] in
+    let a = asked c.args.files.now in
+    let b = asked c.read_text.new.files in
+    let all = asks_both image text a (asked c.read_image.new.files) b c.in_ok-file.ensures.asks c.in_ok-listed.ensures.asks in
+    let made = err_from_is_err_and c.from_residual-in_err-shown.result c.from_residual-in_err-shown.ensures.1 in
+    rw (made.1, made.2) (behind (image ++ text) a b Memory all tt)
+
+pub returns-in-Some-clause-asks : goal.returns-in-Some-clause-asks
+returns-in-Some-clause-asks g c =
+    let asked = g.F.FileSource.asked in
+    let image = image_files c.args.task.image.now in
+    let text = c.args.task.text.now ∷ [] in
+    let a = asked c.args.files.now in
+    let b = asked c.read_text.new.files in
+    let all = asks_both image text a (asked c.read_image.new.files) b c.in_ok-file.ensures.asks c.in_ok-listed.ensures.asks in
+    behind (image ++ text) a b c.in-Some.fault all
+    (refused IsNoFile c.args.task.size c.as_slice-image.result.now c.in_ok-log.log.machine c.in-Some.fault (λ other. tt) (λ other. tt) (search rules))
+
+pub returns-clause-asks : goal.returns-clause-asks
+returns-clause-asks g c =
+    let asked = g.F.FileSource.asked in
+    let image = image_files c.args.task.image.now in
+    let text = c.args.task.text.now ∷ [] in
+    let a = asked c.args.files.now in
+    let b = asked c.read_text.new.files in
+    let all = asks_both image text a (asked c.read_image.new.files) b c.in_ok-file.ensures.asks c.in_ok-listed.ensures.asks in
+    all

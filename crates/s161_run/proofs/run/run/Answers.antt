@@ -1,9 +1,12 @@
 use Rattle.std.proofs.Common.{◌≡◌, ◌∙◌, List, ℕ, Err, IfSome, ap, rules, subst, sym}
 use Rattle.std.proofs.lemmas.Result.{err_from_is_err_and}
+use Rattle.s161_base.proofs.Asking.{alone_unread, before_input, behind, boot_is_none, input_is_none, none_before, schedule_is_none}
+use Rattle.s161_base.specs.Asked.{image_files}
+use Rattle.s161_base.specs.declared.fault.Fault.TheVariants.{Memory}
 use Rattle.m161_machine.specs.History.{BootsState, boot_fault}
 use Rattle.m161_machine.specs.State.{State}
 use Rattle.m161_machine.specs.declared.conf.Conf.{Conf}
-use Rattle.s161_base.specs.Faults.{BootsIn}
+use Rattle.s161_base.specs.Faults.{BootsIn, fault_of_boot}
 use Rattle.s161_base.specs.Texts.{HasSchedule}
 use Rattle.s161_base.proofs.Failing.{schedule_failed, state_booted, state_failed}
 use Rattle.s161_base.specs.Known.{IsText}
@@ -83,3 +86,95 @@ returns-in_err-core-clause-fault g c =
     let failed = state_failed (IsFaultOf c.args.task known input) known (conf_of c.args.task.size) file e
     (subst R (sym c.as_slice-image.ensures.value) c.in_ok-file.ensures.whole) (λ outside. (schedule, outside)) (λ x has. (schedule, has)) tt answer in
     rw (made.1, made.2) failed
+
+pub returns-in_err-file-clause-asks : goal.returns-in_err-file-clause-asks
+returns-in_err-file-clause-asks g c =
+    let asked = g.F.FileSource.asked in
+    let made = err_from_is_err_and c.from_residual.result c.from_residual.ensures.1 in
+    rw (made.1, made.2)
+    (alone_unread c.args.task.image (asked c.args.files.now) (asked c.read_image.new.files) c.in_err-file.field-0.0 c.in_err-file.ensures.asks
+    c.in_err-file.ensures.err)
+
+pub returns-in_err-file-clause-unread : goal.returns-in_err-file-clause-unread
+returns-in_err-file-clause-unread g c =
+    let made = err_from_is_err_and c.from_residual.result c.from_residual.ensures.1 in
+    rw (made.1, made.2) (before_input c.in_err-file.field-0.0 (g.I.Read.remaining c.args.input.now))
+
+-- the file was asked for, and other faults are none of it
+pub returns-in_err-schedule-clause-asks : goal.returns-in_err-schedule-clause-asks
+returns-in_err-schedule-clause-asks g c =
+    let asked = g.F.FileSource.asked in
+    let made = err_from_is_err_and c.from_residual-in_err-schedule.result c.from_residual-in_err-schedule.ensures.1 in
+    rw (made.1, made.2)
+    (behind (image_files c.args.task.image.now) (asked c.args.files.now) (asked c.read_image.new.files) c.in_err-schedule.field-0.0 c.in_ok-file.ensures.asks
+    (input_is_none (g.I.Read.remaining c.args.input.now) c.in_err-schedule.field-0.0 c.in_err-schedule.ensures.err))
+
+pub returns-in_err-schedule-clause-unread : goal.returns-in_err-schedule-clause-unread
+returns-in_err-schedule-clause-unread g c =
+    let made = err_from_is_err_and c.from_residual-in_err-schedule.result c.from_residual-in_err-schedule.ensures.1 in
+    rw (made.1, made.2) (none_before c.in_err-schedule.field-0.0 (g.I.Read.remaining c.args.input.now) (g.I.Read.remaining c.read_input.new.input) (input_is_none (g.I.Read.remaining c.args.input.now) c.in_err-schedule.field-0.0 c.in_err-schedule.ensures.err))
+
+pub returns-in_err-events-clause-asks : goal.returns-in_err-events-clause-asks
+returns-in_err-events-clause-asks g c =
+    let asked = g.F.FileSource.asked in
+    let made = err_from_is_err_and c.from_residual-in_err-events.result c.from_residual-in_err-events.ensures.1 in
+    rw (made.1, made.2)
+    (behind (image_files c.args.task.image.now) (asked c.args.files.now) (asked c.read_image.new.files) c.in_err-events.field-0.0 c.in_ok-file.ensures.asks
+    (schedule_is_none c.as_str.result.now c.in_err-events.field-0.0 c.in_err-events.ensures.fault))
+
+pub returns-in_err-events-clause-unread : goal.returns-in_err-events-clause-unread
+returns-in_err-events-clause-unread g c =
+    let made = err_from_is_err_and c.from_residual-in_err-events.result c.from_residual-in_err-events.ensures.1 in
+    rw (made.1, made.2) (none_before c.in_err-events.field-0.0 (g.I.Read.remaining c.args.input.now) (g.I.Read.remaining c.read_input.new.input) (schedule_is_none c.as_str.result.now c.in_err-events.field-0.0 c.in_err-events.ensures.fault))
+
+pub returns-in_err-core-clause-asks : goal.returns-in_err-core-clause-asks
+returns-in_err-core-clause-asks g c =
+    let asked = g.F.FileSource.asked in
+    let made = err_from_is_err_and c.from_residual-in_err-core.result c.from_residual-in_err-core.ensures.1 in
+    rw (made.1, made.2)
+    (behind (image_files c.args.task.image.now) (asked c.args.files.now) (asked c.read_image.new.files) (fault_of_boot c.in_err-core.field-0.0) c.in_ok-file.ensures.asks
+    (boot_is_none c.in_err-core.field-0.0))
+
+pub returns-in_err-core-clause-unread : goal.returns-in_err-core-clause-unread
+returns-in_err-core-clause-unread g c =
+    let made = err_from_is_err_and c.from_residual-in_err-core.result c.from_residual-in_err-core.ensures.1 in
+    rw (made.1, made.2) (none_before (fault_of_boot c.in_err-core.field-0.0) (g.I.Read.remaining c.args.input.now) (g.I.Read.remaining c.read_input.new.input) (boot_is_none c.in_err-core.field-0.0))
+
+pub returns-in_err-log-clause-asks : goal.returns-in_err-log-clause-asks
+returns-in_err-log-clause-asks g c =
+    let asked = g.F.FileSource.asked in
+    let made = err_from_is_err_and c.from_residual-in_err-log.result c.from_residual-in_err-log.ensures.1 in
+    rw (made.1, made.2)
+    (behind (image_files c.args.task.image.now) (asked c.args.files.now) (asked c.read_image.new.files) Memory c.in_ok-file.ensures.asks
+    tt)
+
+pub returns-in_err-log-clause-unread : goal.returns-in_err-log-clause-unread
+returns-in_err-log-clause-unread g c =
+    let made = err_from_is_err_and c.from_residual-in_err-log.result c.from_residual-in_err-log.ensures.1 in
+    rw (made.1, made.2) (none_before Memory (g.I.Read.remaining c.args.input.now) (g.I.Read.remaining c.read_input.new.input) tt)
+
+pub returns-in_err-stop-clause-asks : goal.returns-in_err-stop-clause-asks
+returns-in_err-stop-clause-asks g c =
+    let asked = g.F.FileSource.asked in
+    let made = err_from_is_err_and c.from_residual-in_err-stop.result c.from_residual-in_err-stop.ensures.1 in
+    rw (made.1, made.2)
+    (behind (image_files c.args.task.image.now) (asked c.args.files.now) (asked c.read_image.new.files) Memory c.in_ok-file.ensures.asks
+    tt)
+
+pub returns-in_err-stop-clause-unread : goal.returns-in_err-stop-clause-unread
+returns-in_err-stop-clause-unread g c =
+    let made = err_from_is_err_and c.from_residual-in_err-stop.result c.from_residual-in_err-stop.ensures.1 in
+    rw (made.1, made.2) (none_before Memory (g.I.Read.remaining c.args.input.now) (g.I.Read.remaining c.read_input.new.input) tt)
+
+pub returns-in_err-done-clause-asks : goal.returns-in_err-done-clause-asks
+returns-in_err-done-clause-asks g c =
+    let asked = g.F.FileSource.asked in
+    let made = err_from_is_err_and c.from_residual-in_err-done.result c.from_residual-in_err-done.ensures.1 in
+    rw (made.1, made.2)
+    (behind (image_files c.args.task.image.now) (asked c.args.files.now) (asked c.read_image.new.files) Memory c.in_ok-file.ensures.asks
+    tt)
+
+pub returns-in_err-done-clause-unread : goal.returns-in_err-done-clause-unread
+returns-in_err-done-clause-unread g c =
+    let made = err_from_is_err_and c.from_residual-in_err-done.result c.from_residual-in_err-done.ensures.1 in
+    rw (made.1, made.2) (none_before Memory (g.I.Read.remaining c.args.input.now) (g.I.Read.remaining c.read_input.new.input) tt)

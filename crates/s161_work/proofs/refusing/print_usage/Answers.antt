@@ -1,10 +1,10 @@
-use Rattle.s161_work.proofs.Refusals.{more_on, some_more}
+use Rattle.std.proofs.Common.{subst}
+use Rattle.s161_work.specs.Failures.{IsTold}
 use Rattle.s161_work.proofs.refusing.print_usage.Goals as goal
 
+-- the fault is that of an output
 pub returns-in-Err-clause-unsaid : goal.returns-in-Err-clause-unsaid
 returns-in-Err-clause-unsaid g c = λ one.
-    let contents = g.E.Write.contents in
-    let before = contents c.args.errors.now in
-    let between = contents c.send.new.output in
-    let after = contents c.report.new.errors in
-    more_on before between after (some_more before between c.args.text.now c.in-Err.ensures.err.1) (some_more between after _ c.report.ensures.line)
+    let between = g.E.Write.contents c.send.new.output in
+    let after = g.E.Write.contents c.report.new.errors in
+    (between, c.in-Err.ensures.err.1, subst (λ fault. IsTold fault between after) c.in-Err.ensures.err.0 c.report.ensures.line)

@@ -1,10 +1,16 @@
 use Rattle.std.proofs.Common.{refl}
-use Rattle.s161_work.proofs.Refusals.{refused, unsaid_ends}
+use Rattle.s161_work.proofs.Refusals.{says_why, unsaid_ends}
 use Rattle.s161_work.proofs.work.work.Goals as goal
 
 pub returns-in-Err-clause-rejected : goal.returns-in-Err-clause-rejected
 returns-in-Err-clause-rejected g c = λ two.
-    let said = c.refuse.ensures.refused two in (refused _ c.in-Err.rejection c.in-Err.ensures.rejected said.0, refl, said.1, said.2)
+    let said = c.refuse.ensures.refused two in
+    let before = g.E.Write.contents c.args.errors.now in
+    let after = g.E.Write.contents c.refuse.new.errors in (
+      says_why _ c.in-Err.rejection before after c.in-Err.ensures.rejected said.0 said.2,
+      refl,
+      said.1,
+    )
 
 pub returns-in-Err-clause-failed : goal.returns-in-Err-clause-failed
 returns-in-Err-clause-failed g c = λ one.
