@@ -5,7 +5,6 @@ mod Names
 mod Parts
 mod Numerals
 mod Obeying
-mod Decimals
 mod Fetching
 mod Repeating
 mod Jumping

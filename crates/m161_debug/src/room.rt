@@ -1,73 +1,14 @@
 //! Text appended in room reserved before, so that it can't fail.
 
-ghost use Rattle.std.specs.Prelude.{◌≡◌, ◌+◌, ◌<◌, ◌≤◌, ◌++◌, ◌∷◌, [], length, decimal, string_bytes, string_capacity, string_len};
+ghost use Rattle.std.specs.Prelude.{◌≡◌, ◌+◌, ◌≤◌, ◌++◌, length, string_bytes, string_capacity, string_len};
 ghost use Rattle.m161_machine.specs.Refusal.{name_of_refusal};
 ghost use Rattle.m161_text.specs.Lines.{with_line_end};
-ghost use Rattle.m161_text.specs.Parts.{hex_text};
 ghost use Rattle.m161_steplog.specs.Text.{event_text, outcome_text};
 ghost use Rattle.m161_debug.specs.Obeys.{conflict_text, refused_text, stop_text};
 
 use crate::stop::Stop;
 use m161_machine::{Conflict, Event, Outcome, Refusal};
-use m161_text::push_hex;
-
-/// Appends a part.
-pub(crate) fn put(text: &mut String, part: &str)
-    requires { string_len text.old + length part.now ≤ string_capacity text.old }
-    ensures bytes { string_bytes text.new ≡ string_bytes text.old ++ part.now }
-    ensures len { string_len text.new ≡ string_len text.old + length part.now }
-    ensures capacity { string_capacity text.old ≤ string_capacity text.new }
-{
-    let _done = text.push_str(part);
-}
-
-// Appends an ASCII character.
-fn put_glyph(text: &mut String, glyph: u8)
-    requires room { string_len text.old < string_capacity text.old }
-    requires ascii { glyph < 128 }
-    ensures bytes { string_bytes text.new ≡ string_bytes text.old ++ glyph ∷ [] }
-    ensures len { string_len text.new ≡ string_len text.old + 1 }
-    ensures capacity { string_capacity text.old ≤ string_capacity text.new }
-{
-    let _done = text.push(glyph as char);
-}
-
-// Appends a decimal number, digit by digit.
-#[tactic(auto, using(crate::proofs::Decimals::one_long, crate::proofs::Decimals::more_long, crate::proofs::Decimals::only_digit, crate::proofs::Decimals::last_digit))]
-fn put_digits(text: &mut String, number: u64)
-    requires { string_len text.old + length (decimal number) ≤ string_capacity text.old }
-    ensures bytes { string_bytes text.new ≡ string_bytes text.old ++ decimal number }
-    ensures len { string_len text.new ≡ string_len text.old + length (decimal number) }
-    ensures capacity { string_capacity text.old ≤ string_capacity text.new }
-{
-    if number < 10 {
-        put_glyph(text, b'0' + number as u8);
-    } else {
-        put_digits(text, number / 10);
-        put_glyph(text, b'0' + (number % 10) as u8);
-    }
-}
-
-// Appends a decimal number: 20 digits at most.
-#[tactic(auto, using(crate::proofs::Decimals::long_at_most))]
-fn put_decimal(text: &mut String, number: u64)
-    requires { string_len text.old + 20 ≤ string_capacity text.old }
-    ensures bytes { string_bytes text.new ≡ string_bytes text.old ++ decimal number }
-    ensures len { string_len text.new ≤ string_len text.old + 20 }
-    ensures capacity { string_capacity text.old ≤ string_capacity text.new }
-{
-    put_digits(text, number);
-}
-
-// Appends the last `digits` hexadecimal digits of a number.
-fn put_hex(text: &mut String, digits: u32, number: u32)
-    requires { string_len text.old + digits ≤ string_capacity text.old }
-    ensures bytes { string_bytes text.new ≡ string_bytes text.old ++ hex_text digits number }
-    ensures len { string_len text.new ≡ string_len text.old + digits }
-    ensures capacity { string_capacity text.old ≤ string_capacity text.new }
-{
-    let _done = push_hex(text, digits, number);
-}
+use m161_text::{put, put_decimal, put_hex};
 
 /// Appends an event, as a log shows it: 22 bytes at most.
 pub(crate) fn put_event(text: &mut String, event: Event)

@@ -10,8 +10,9 @@ use Rattle.m161_isa.specs.declared.operand.Operand.TheVariants as operand
 use Rattle.m161_isa.specs.Table.{table, width_of, number_of}
 use Rattle.m161_isa.specs.Address.{branch_target, jump_target}
 use Rattle.m161_asm.specs.Tokens.{Name, Number, lexeme, beginning, begins_name, AName, ANumber, Beginning, continues_name, number_from, number_of_literal, numeral}
+use Rattle.m161_text.proofs.Decimal.{short_at_most}
 use Rattle.m161_dis.proofs.Pieces.{Piece, IsPiece, Sound, text_of, starts_apart, run-word, words_clean, blank, comma_piece, open_piece, close_piece, minus_piece}
-use Rattle.m161_dis.proofs.Numerals.{Decimal, decimal_is, decimal_len, below, register_piece, hex4_piece, hex8_piece}
+use Rattle.m161_dis.proofs.Numerals.{Decimal, decimal_is, below, register_piece, hex4_piece, hex8_piece}
 use Rattle.m161_dis.proofs.Operands.{operand_pieces, signed_pieces}
 use Rattle.m161_dis.proofs.Reading.{pieces_of, lead_pieces, number_small}
 use Rattle.std.proofs.lemmas.Bool.{and_parts}
@@ -97,7 +98,7 @@ decimal_by n ds d l =
     subst P (sym d.whole) (number_piece n d.first d.others d.small all read few)
 
 pub decimal_piece : (n : ℕ) → n < 2 ^ 32 → IsPiece (decimal n, Some (Number n))
-decimal_piece n h = decimal_by n (decimal n) (decimal_is n h) (decimal_len n h)
+decimal_piece n h = decimal_by n (decimal n) (decimal_is n h) (short_at_most n h)
 
 -- the pieces of operands
 signed_sound : (b : Bool) (n : ℕ) (more : List Piece) → nat_lt n 0x8000 ≡ b → n < 2 ^ 16

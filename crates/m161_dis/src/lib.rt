@@ -22,18 +22,17 @@ ghost use Rattle.m161_isa.specs.Address.{branch_target, jump_target};
 ghost use Rattle.m161_isa.specs.Table.{table, width_of};
 ghost use Rattle.m161_symbols.specs.Names.{behind_of};
 ghost use Rattle.m161_symbols.specs.Table.{read_place};
-ghost use Rattle.m161_dis.specs.Canon.{canon, canon_as, canon_by, canon_named, canon_with, canonical_row, lead_of, operand_text, operands_text, register_in, register_text, signed_text, target_among, target_of, target_of_operand, target_place};
+ghost use Rattle.m161_dis.specs.Canon.{canon, canon_as, canon_by, canon_named, canon_with, canonical_row, hex_number, lead_of, operand_text, operands_text, register_in, register_text, signed_text, target_among, target_of, target_of_operand, target_place};
 
 mod laws;
 mod naming;
-mod put;
 
-use crate::put::{put, put_decimal, put_hex_number};
 pub use laws::{has_no_places, survives_disassembling};
 use m161_asm::register_name;
 use m161_decode::{is_canonical, row_that_fits};
 use m161_isa::{Operand, Row};
 use m161_symbols::{PLACE_MARKS, Symbols, put_place_behind};
+use m161_text::{put, put_hex, put_short_decimal};
 pub use naming::{Naming, Style};
 use std::alloc::{AllocError, Global};
 
@@ -266,7 +265,7 @@ fn put_operand(
         }
         Operand::Amount => {
             put(text, lead);
-            put_decimal(text, number);
+            put_short_decimal(text, number);
         }
         Operand::Signed | Operand::Offset => {
             put(text, lead);
@@ -300,7 +299,7 @@ fn put_number(text: &mut String, number: u32)
     ensures capacity { string_capacity text.old ≤ string_capacity text.new }
 {
     put(text, "$");
-    put_decimal(text, number);
+    put_short_decimal(text, number);
 }
 
 // A register's name.
@@ -330,6 +329,18 @@ fn put_register(text: &mut String, naming: Naming, number: u32)
     }
 }
 
+// `0x` and the last digits of a number, eight at most.
+fn put_hex_number(text: &mut String, digits: u32, number: u32)
+    requires few { digits ≤ 8 }
+    requires room { string_len text.old + 10 ≤ string_capacity text.old }
+    ensures bytes { string_bytes text.new ≡ string_bytes text.old ++ hex_number digits number }
+    ensures len { string_len text.new ≤ string_len text.old + 10 }
+    ensures capacity { string_capacity text.old ≤ string_capacity text.new }
+{
+    put(text, "0x");
+    put_hex(text, digits, number);
+}
+
 // A field of 16 bits as a signed number: 11 bytes at most.
 fn put_signed(text: &mut String, number: u32)
     requires number { number < 2 ^ 16 }
@@ -339,10 +350,10 @@ fn put_signed(text: &mut String, number: u32)
     ensures capacity { string_capacity text.old ≤ string_capacity text.new }
 {
     if number < 0x8000 {
-        put_decimal(text, number);
+        put_short_decimal(text, number);
     } else {
         put(text, "-");
-        put_decimal(text, 0x1_0000 - number);
+        put_short_decimal(text, 0x1_0000 - number);
     }
 }
 

@@ -1,11 +1,10 @@
 //! Places as texts.
 
-ghost use Rattle.std.specs.Prelude.{◌≡◌, ◌+◌, ◌≤◌, ◌++◌, ◌∷◌, [], Some, if◌then◌else◌, is_ok, length, string_bytes, string_capacity, string_len};
-ghost use Rattle.m161_text.specs.Parts.{hex_text};
+ghost use Rattle.std.specs.Prelude.{◌≡◌, ◌+◌, ◌≤◌, ◌++◌, Some, if◌then◌else◌, is_ok, length, string_bytes, string_capacity, string_len};
 ghost use Rattle.m161_symbols.specs.Names.{behind_of, distance_text, hex_size, place_behind, place_of, place_text};
 
 use crate::names::Symbols;
-use m161_text::push_hex;
+use m161_text::{put, put_hex};
 use std::alloc::AllocError;
 
 /// The most bytes of a place beside its name, with a space before it.
@@ -26,26 +25,6 @@ fn hex_size(number: u32) -> u32
         0x100_0000..=0xfff_ffff => 7,
         _ => 8,
     }
-}
-
-// Appends a part where there is room.
-fn put(text: &mut String, part: &str)
-    requires { string_len text.old + length part.now ≤ string_capacity text.old }
-    ensures bytes { string_bytes text.new ≡ string_bytes text.old ++ part.now }
-    ensures len { string_len text.new ≡ string_len text.old + length part.now }
-    ensures capacity { string_capacity text.old ≤ string_capacity text.new }
-{
-    let _done = text.push_str(part);
-}
-
-// Appends the last hexadecimal digits of a number where there is room.
-fn put_hex(text: &mut String, digits: u32, number: u32)
-    requires { string_len text.old + digits ≤ string_capacity text.old }
-    ensures bytes { string_bytes text.new ≡ string_bytes text.old ++ hex_text digits number }
-    ensures len { string_len text.new ≡ string_len text.old + digits }
-    ensures capacity { string_capacity text.old ≤ string_capacity text.new }
-{
-    let _done = push_hex(text, digits, number);
 }
 
 // Appends how far a place is behind a symbol: 9 bytes at most.

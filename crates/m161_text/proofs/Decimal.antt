@@ -1,8 +1,9 @@
 -- Numbers in decimal, without leading zeros.
-use Rattle.std.proofs.Common.{◌≡◌, ℕ, zero, suc, ◌^◌, ◌<◌, ◌≤◌, ◌≢◌, List, length, get_or, None, Result, Ok, Err, decimal, sym, ap, ◌∙◌, arith}
+use Rattle.std.proofs.Common.{◌≡◌, ℕ, zero, suc, ◌+◌, ◌/◌, ◌%◌, ◌^◌, ◌<◌, ◌≤◌, ◌≢◌, List, [], ◌∷◌, ◌++◌, length, get_or, None, Result, Ok, Err, decimal, sym, ap, ◌∙◌, arith}
 use Rattle.std.specs.Str.Parse.{AllDigits, digits_value, ParsesUnsigned}
+use Rattle.std.proofs.lemmas.List.{append_assoc, length_push}
 use Rattle.std.proofs.lemmas.Str.Parse.{IsNumeralModel, numerals_by_value, tells_digits, parse_plain, digit_at}
-use Rattle.std.proofs.lemmas.Fmt.{decimal_is_IsNumeral, decimal_nonempty, first_decimal, decimal_digit, decimal-digits_value, parse-decimal}
+use Rattle.std.proofs.lemmas.Fmt.{decimal_is_IsNumeral, decimal_nonempty, first_decimal, decimal_digit, decimal_step, decimal-digits_value, length-decimal-le, parse-decimal}
 use Rattle.std.specs.Result.{result_ok}
 use Rattle.m161_text.specs.Parts.{Reads, Lacks, IsWord}
 use Rattle.m161_text.proofs.Reading.{nothing}
@@ -44,3 +45,29 @@ decimal_lacks c n low small i lt e = let digit = digit_at (decimal n) i (decimal
 
 pub decimal_lacks_space : (n : ℕ) → n < 2 ^ 64 → Lacks 32 (decimal n)
 decimal_lacks_space n small = decimal_lacks 32 n (omega arith) small
+
+-- A number digit by digit.
+
+pub one_long : (n : ℕ) → n < 10 → length (decimal n) ≡ 1
+one_long n small = ap length (decimal_digit n small)
+
+pub more_long : (n : ℕ) → 10 ≤ n → n < 2 ^ 64 → length (decimal n) ≡ length (decimal (n / 10)) + 1
+more_long n large small = ap length (decimal_step n large small) ∙ length_push (decimal (n / 10)) (48 + n % 10)
+
+-- a text with the digits of a number, from one with those before the last
+pub last_digit : (text front whole : List ℕ) (n : ℕ) → 10 ≤ n → n < 2 ^ 64
+    → front ≡ text ++ decimal (n / 10) → whole ≡ front ++ (48 + n % 10) ∷ [] → whole ≡ text ++ decimal n
+last_digit text front whole n large small is last =
+    last ∙ ap (λ bs. bs ++ (48 + n % 10) ∷ []) is ∙ append_assoc text (decimal (n / 10)) ((48 + n % 10) ∷ [])
+    ∙ ap (λ bs. text ++ bs) (sym (decimal_step n large small))
+
+pub only_digit : (text whole : List ℕ) (n : ℕ) → n < 10 → whole ≡ text ++ (48 + n) ∷ [] → whole ≡ text ++ decimal n
+only_digit text whole n small last = last ∙ ap (λ bs. text ++ bs) (sym (decimal_digit n small))
+
+-- a number of 64 bits has 20 digits at most
+pub long_at_most : (n : ℕ) → n < 2 ^ 64 → length (decimal n) ≤ 20
+long_at_most n small = length-decimal-le 20 n (omega arith) (omega arith) (omega arith)
+
+-- and one of 32 bits 10
+pub short_at_most : (n : ℕ) → n < 2 ^ 32 → length (decimal n) ≤ 10
+short_at_most n small = length-decimal-le 10 n (omega arith) (omega arith) (omega arith)

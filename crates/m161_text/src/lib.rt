@@ -9,13 +9,16 @@
 //! page     five lower case hexadecimal digits
 //! ```
 //!
-//! The form is this project's own.
+//! The form is this project's own. What begins with `put` appends where a text has room for it, so
+//! that this can't fail. `put_decimal` takes a number of 64 bits.
 #![tactic(auto)]
 
 mod cut;
 mod digits;
+mod room;
 
 pub use cut::{cut_at_space, next_line};
 pub use digits::{
     Byte, Word, parse_byte, parse_decimal, parse_hex, parse_page, parse_word, push_hex,
 };
+pub use room::{put, put_decimal, put_hex, put_short_decimal};

@@ -3,7 +3,7 @@ use Rattle.std.specs.Str.Parse.{IsNumeral, digits_value, without_leading_plus}
 use Rattle.clap.specs.Words.{App, Row, Rule, Text, first_of, new_rule, one_of, with_rule}
 use Rattle.clap.specs.declared.builder.value_parser.ValueParser.TheVariants.{Signed, Unsigned}
 use Rattle.m161_order.specs.declared.order.Order.{Order}
-use Rattle.m161_order.specs.declared.order.Order.TheVariants.{Turns, Random, Priorities}
+use Rattle.m161_order.specs.declared.order.Order.TheVariants.{Turns, Delayed, Random, Priorities}
 use Rattle.m161_order.specs.Order.{order_fault}
 use Rattle.s161_command.specs.declared.drive.Clash.{Clash}
 use Rattle.s161_command.specs.declared.drive.Clash.TheVariants.{TwoOrders, HalfPriorities, ChangesWithoutSeed, NoOrder, PaceWithoutOrder, OrderInThreads, LogTwice, FileAndOrder, NoEvents, BadOrder, BadGap, BadLink}
@@ -156,6 +156,7 @@ IsLongNumberOf default (Some text) n = HasLongNumber default text n
 -- the options ask for this order, with the seed of this option
 abbrev pub IsSeeded : Text → List Row → Order → Type 0
 IsSeeded name rows (Turns steps) = ⊥
+IsSeeded name rows (Delayed turns delays) = ⊥
 IsSeeded name rows (Random seed) =
     (is_given (codes "changes") rows ≡ false) × IsLongNumberOf 0 (one_of name rows) seed
 IsSeeded name rows (Priorities seed changes within) =
