@@ -2,3 +2,4 @@ mod Accepting
 mod Reading
 mod Linking
 mod Naming
+mod Delaying

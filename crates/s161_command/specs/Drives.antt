@@ -6,10 +6,11 @@ use Rattle.m161_order.specs.declared.order.Order.{Order}
 use Rattle.m161_order.specs.declared.order.Order.TheVariants.{Turns, Delayed, Random, Priorities}
 use Rattle.m161_order.specs.Order.{order_fault}
 use Rattle.s161_command.specs.declared.drive.Clash.{Clash}
-use Rattle.s161_command.specs.declared.drive.Clash.TheVariants.{TwoOrders, HalfPriorities, ChangesWithoutSeed, NoOrder, PaceWithoutOrder, OrderInThreads, LogTwice, FileAndOrder, NoEvents, BadOrder, BadGap, BadLink}
+use Rattle.s161_command.specs.declared.drive.Clash.TheVariants.{TwoOrders, HalfPriorities, ChangesWithoutSeed, DelayedWithoutTurns, NoOrder, PaceWithoutOrder, OrderInThreads, LogTwice, FileAndOrder, NoEvents, BadOrder, BadGap, BadDelays, BadLink}
 use Rattle.s161_command.specs.declared.drive.OrderUse.{OrderUse}
 use Rattle.s161_command.specs.declared.drive.OrderUse.TheVariants.{Optional, Needed, Assumed, Seeded, OrFile}
 use Rattle.s161_command.specs.declared.drive.Drive.{Drive}
+use Rattle.s161_command.specs.Delays.{AreDelays, IsBadDelays}
 use Rattle.s161_command.specs.Links.{IsBadLink}
 use Rattle.s161_command.specs.Numbers.{IsNumber, IsNumberOf, is_set}
 
@@ -44,8 +45,9 @@ with_priority_rules command =
 -- a command, with the options of an order added
 abbrev pub with_order_rules : App → App
 with_order_rules command =
-    with_priority_rules (with_rule (with_rule command
+    with_priority_rules (with_rule (with_rule (with_rule command
     (optional_rule (codes "turns") 1 1_000_000))
+    (text_rule (codes "delayed")))
     (long_rule (codes "random") 0 18_446_744_073_709_551_615))
 
 -- a command, with the options added that say how long a driven run is, when bytes are sent, and
@@ -93,6 +95,10 @@ abbrev pub has_seed : OrderUse → List Row → Bool
 has_seed Seeded rows = true
 has_seed _ rows = is_given (codes "random") rows
 
+-- delays without turns
+abbrev pub delayed_without_turns : List Row → Bool
+delayed_without_turns rows = is_given (codes "delayed") rows && not (is_given (codes "turns") rows)
+
 -- the run is a driven one
 abbrev pub is_driven : OrderUse → List Row → Bool
 is_driven Optional rows = has_order rows
@@ -134,6 +140,7 @@ lacks_events _ rows = false
 abbrev pub go_together : OrderUse → List Row → Bool
 go_together orders rows =
     not (two_orders rows) && not (half_priorities rows) && not (changes_without_seed orders rows)
+    && not (delayed_without_turns rows)
     && not (lacks_order orders rows) && not (pace_without_order orders rows)
     && not (order_in_threads rows) && not (shows_log_twice rows)
     && not (file_and_order orders rows) && not (lacks_events orders rows)
@@ -168,7 +175,12 @@ IsSeeded name rows (Priorities seed changes within) =
 -- the options ask for this order, by `--turns` or `--random`
 abbrev pub IsGivenOrder : List Row → Order → Type 0
 IsGivenOrder rows (Turns steps) =
-    (is_given (codes "turns") rows ≡ true) × IsNumberOf 1 (one_of (codes "turns") rows) steps
+    (is_given (codes "turns") rows ≡ true) × (is_given (codes "delayed") rows ≡ false)
+    × IsNumberOf 1 (one_of (codes "turns") rows) steps
+IsGivenOrder rows (Delayed turns delays) =
+    (is_given (codes "turns") rows ≡ true)
+    × IsNumberOf 1 (one_of (codes "turns") rows) turns
+    × AreDelays (first_of (codes "delayed") rows) delays
 IsGivenOrder rows order =
     (is_given (codes "turns") rows ≡ false) × IsSeeded (codes "random") rows order
 
@@ -227,12 +239,14 @@ abbrev pub Clashes : OrderUse → List Row → Clash → Type 0
 Clashes orders rows TwoOrders = two_orders rows ≡ true
 Clashes orders rows HalfPriorities = half_priorities rows ≡ true
 Clashes orders rows ChangesWithoutSeed = changes_without_seed orders rows ≡ true
+Clashes orders rows DelayedWithoutTurns = delayed_without_turns rows ≡ true
 Clashes orders rows NoOrder = lacks_order orders rows ≡ true
 Clashes orders rows PaceWithoutOrder = pace_without_order orders rows ≡ true
 Clashes orders rows OrderInThreads = order_in_threads rows ≡ true
 Clashes orders rows (BadOrder e) =
     (order : Order) × IsOrder orders rows order × (order_fault order ≡ Some e)
 Clashes orders rows BadGap = IsBadGap (first_of (codes "gap") rows)
+Clashes orders rows BadDelays = IsBadDelays (first_of (codes "delayed") rows)
 Clashes orders rows BadLink = IsBadLink (first_of (codes "link") rows)
 Clashes orders rows LogTwice = shows_log_twice rows ≡ true
 Clashes orders rows FileAndOrder = file_and_order orders rows ≡ true

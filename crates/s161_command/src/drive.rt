@@ -2,9 +2,11 @@
 
 ghost use Rattle.std.specs.Prelude.{◌≡◌, true, None, MatchOption, codes, option_map};
 ghost use Rattle.clap.specs.Words.{first_of, found_of, rows_of};
-ghost use Rattle.s161_command.specs.Drives.{AsksDrive, Clashes, IsBadGap, IsGap, IsGivenOrder, IsOrder, IsSeeded, changes_without_seed, events_by_default, file_and_order, gap_by_default, go_together, half_priorities, has_order, has_pace, has_seed, is_driven, is_given, lacks_events, lacks_order, order_in_threads, pace_without_order, shows_log_twice, two_orders};
+ghost use Rattle.s161_command.specs.Delays.{IsBadDelays};
+ghost use Rattle.s161_command.specs.Drives.{AsksDrive, Clashes, IsBadGap, IsGap, IsGivenOrder, IsOrder, IsSeeded, changes_without_seed, delayed_without_turns, events_by_default, file_and_order, gap_by_default, go_together, half_priorities, has_order, has_pace, has_seed, is_driven, is_given, lacks_events, lacks_order, order_in_threads, pace_without_order, shows_log_twice, two_orders};
 ghost use Rattle.s161_command.specs.helpers.Settings.{HasSettings};
 
+use crate::delays::delays_in;
 use crate::given::{is_set, long_given, number_given, text_given};
 use crate::settings::Settings;
 use clap::ArgMatches;
@@ -52,6 +54,8 @@ pub enum Clash {
     HalfPriorities,
     #[error("--changes needs --random, whose seed draws the priorities")]
     ChangesWithoutSeed,
+    #[error("--delayed needs --turns, whose processors it passes over")]
+    DelayedWithoutTurns,
     #[error("an order is wanted: --turns N or --random SEED")]
     NoOrder,
     #[error("--events, --transfer, --keys and --gap need an order: --turns N or --random SEED")]
@@ -68,6 +72,8 @@ pub enum Clash {
     BadOrder(OrderError),
     #[error("--gap is a number of events, 0 to 4294967295, or none")]
     BadGap,
+    #[error("--delayed is 1 to 64 numbers, 0 to 4294967295 and ascending, with commas between them alone")]
+    BadDelays,
     #[error("--link is word, or line, the aligned 16 bytes")]
     BadLink,
 }
@@ -138,6 +144,12 @@ fn changes_without_seed<'a>(given: &ArgMatches<'a>, orders: OrderUse) -> bool
     is_given(given, "changes") && !has_seed(given, orders)
 }
 
+fn delayed_without_turns<'a>(given: &ArgMatches<'a>) -> bool
+    ensures { result ≡ delayed_without_turns (rows_of (found_of given.now)) }
+{
+    is_given(given, "delayed") && !is_given(given, "turns")
+}
+
 fn lacks_order<'a>(given: &ArgMatches<'a>, orders: OrderUse) -> bool
     ensures { result ≡ lacks_order orders (rows_of (found_of given.now)) }
 {
@@ -200,6 +212,9 @@ pub(crate) fn clash_of<'a>(given: &ArgMatches<'a>, orders: OrderUse) -> Option<C
     if changes_without_seed(given, orders) {
         return Some(Clash::ChangesWithoutSeed);
     }
+    if delayed_without_turns(given) {
+        return Some(Clash::DelayedWithoutTurns);
+    }
     if lacks_order(given, orders) {
         return Some(Clash::NoOrder);
     }
@@ -236,28 +251,49 @@ fn seeded_order<'a>(given: &ArgMatches<'a>, name: &str) -> Order
     Order::Random(seed)
 }
 
-// The order that is given.
-fn given_order<'a>(given: &ArgMatches<'a>) -> Order
-    ensures { IsGivenOrder (rows_of (found_of given.now)) result }
+// The order by turns; nothing where its delays aren't a list.
+fn order_by_turns<'a>(given: &ArgMatches<'a>) -> Option<Order>
+    requires { is_given (codes "turns") (rows_of (found_of given.now)) ≡ true }
+    ensures { MatchOption result
+        (IsBadDelays (first_of (codes "delayed") (rows_of (found_of given.now))))
+        (IsGivenOrder (rows_of (found_of given.now))) }
 {
-    if is_given(given, "turns") {
-        return Order::Turns(number_given(given, "turns", 1));
+    let turns = number_given(given, "turns", 1);
+    match text_given(given, "delayed") {
+        None => Some(Order::Turns(turns)),
+        Some(text) => match delays_in(text) {
+            Some(delays) => Some(Order::Delayed { turns, delays }),
+            None => None,
+        },
     }
-    seeded_order(given, "random")
 }
 
-/// The order.
-pub(crate) fn order_of<'a>(given: &ArgMatches<'a>, orders: OrderUse) -> Order
-    ensures { IsOrder orders (rows_of (found_of given.now)) result }
+// The order that is given; nothing where its delays aren't a list.
+fn given_order<'a>(given: &ArgMatches<'a>) -> Option<Order>
+    ensures { MatchOption result
+        (IsBadDelays (first_of (codes "delayed") (rows_of (found_of given.now))))
+        (IsGivenOrder (rows_of (found_of given.now))) }
+{
+    if is_given(given, "turns") {
+        return order_by_turns(given);
+    }
+    Some(seeded_order(given, "random"))
+}
+
+/// The order; nothing where its delays aren't a list.
+pub(crate) fn order_of<'a>(given: &ArgMatches<'a>, orders: OrderUse) -> Option<Order>
+    ensures { MatchOption result
+        (IsBadDelays (first_of (codes "delayed") (rows_of (found_of given.now))))
+        (IsOrder orders (rows_of (found_of given.now))) }
 {
     match orders {
-        OrderUse::Seeded => seeded_order(given, "from"),
+        OrderUse::Seeded => Some(seeded_order(given, "from")),
         OrderUse::Optional | OrderUse::Needed | OrderUse::OrFile => given_order(given),
         OrderUse::Assumed => {
             if has_order(given) {
                 given_order(given)
             } else {
-                Order::Turns(1)
+                Some(Order::Turns(1))
             }
         }
     }

@@ -33,6 +33,9 @@ in one go (--burst); the host says which thread makes the next ones.
 With --turns N or --random SEED no schedule is read: the events are chosen.
 The next Step is that of a ready processor, one that isn't stopped and doesn't
 wait: N Steps of each in turn, or one at random, the same each time for a SEED.
+With --delayed J,J,.. beside --turns a processor is passed over at the choices
+of these numbers, counted from 0: the next one in turn makes the Step, and a
+turn of it begins.
 With --changes D --within K the Steps are those of the ready processor of the
 highest priority; the priorities are drawn at the start, and D of them fall in
 each stretch of K Steps. A byte is sent once --transfer events were accepted

@@ -4,6 +4,7 @@
 mod argument;
 mod asked;
 mod command;
+mod delays;
 mod drive;
 mod given;
 mod help;

@@ -227,6 +227,16 @@ const TURNS: Argument = Argument {
     required: false,
 };
 
+// At which choices of an order in turns a processor is passed over.
+const DELAYED: Argument = Argument {
+    name: "delayed",
+    kind: Kind::Text,
+    shown: "J,J,..",
+    help: "With --turns: at the choices of these numbers, from 0, a ready processor is passed over; 1 to 64, ascending",
+    default: None,
+    required: false,
+};
+
 // An order at random.
 const RANDOM: Argument = Argument {
     name: "random",
@@ -447,8 +457,8 @@ static RUN: Line = Line {
     name: "run",
     about: "Runs an image under a schedule of events, or by an order that chooses them",
     arguments: &[
-        IMAGE, RAM, CPUS, LOG, LINK, STRICT, SHOW_LOG, ONLY_LOG, THREADS, BURST, TURNS, RANDOM,
-        CHANGES, WITHIN, EVENTS, TRANSFER, KEYS, GAP,
+        IMAGE, RAM, CPUS, LOG, LINK, STRICT, SHOW_LOG, ONLY_LOG, THREADS, BURST, TURNS, DELAYED,
+        RANDOM, CHANGES, WITHIN, EVENTS, TRANSFER, KEYS, GAP,
     ],
 };
 
@@ -456,7 +466,8 @@ static CONSOLE: Line = Line {
     name: "console",
     about: "Runs a kernel at the terminal: its console is standard input and output",
     arguments: &[
-        IMAGE, RAM, CPUS, LOG, LINK, STRICT, TURNS, RANDOM, CHANGES, WITHIN, EVENTS, TRANSFER, GAP,
+        IMAGE, RAM, CPUS, LOG, LINK, STRICT, TURNS, DELAYED, RANDOM, CHANGES, WITHIN, EVENTS,
+        TRANSFER, GAP,
     ],
 };
 
@@ -471,6 +482,7 @@ static SCHEDULE: Line = Line {
         LINK,
         STRICT,
         TURNS,
+        DELAYED,
         RANDOM,
         CHANGES,
         WITHIN,
@@ -520,6 +532,7 @@ static TRACE: Line = Line {
         NAMES,
         SYMBOLS,
         TURNS,
+        DELAYED,
         RANDOM,
         CHANGES,
         WITHIN,
@@ -550,6 +563,7 @@ static DEBUG: Line = Line {
         NAMES,
         SYMBOLS,
         TURNS,
+        DELAYED,
         RANDOM,
         CHANGES,
         WITHIN,

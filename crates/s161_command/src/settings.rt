@@ -49,7 +49,9 @@ fn settings_with_order<'a>(given: &ArgMatches<'a>, orders: OrderUse) -> Result<S
     if let Some(clash) = clash_of(given, orders) {
         return Err(clash);
     }
-    let order = order_of(given, orders);
+    let Some(order) = order_of(given, orders) else {
+        return Err(Clash::BadDelays);
+    };
     if let Some(error) = order.fault() {
         return Err(Clash::BadOrder(error));
     }
