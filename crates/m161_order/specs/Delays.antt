@@ -1,4 +1,5 @@
-use Rattle.std.specs.Prelude.{ℕ, ◌-◌, nat_lt, nat_le, ◌==◌, ◌&&◌, if◌then◌else◌, List, length, filter, map, slice_index, take, Option, None, Some}
+use Rattle.std.specs.Prelude.{ℕ, ◌-◌, ◌^◌, min, nat_lt, nat_le, ◌==◌, ◌&&◌, if◌then◌else◌, List, length, filter, map, slice_index, take, Option, None, Some}
+use Rattle.std.specs.List.{fold}
 use Rattle.m161_order.specs.declared.delays.Delays.{Delays}
 use Rattle.m161_order.specs.declared.delays.DelayError.{DelayError}
 use Rattle.m161_order.specs.declared.delays.DelayError.TheVariants.{TooMany, Descending}
@@ -19,3 +20,7 @@ delay_fault numbers number =
 -- those that are left n choices further on, seen from there
 abbrev pub behind : ℕ → List ℕ → List ℕ
 behind n numbers = map (λ k. k - n) (filter (nat_le n) numbers)
+
+-- how many choices, this one the first, have no delay: the least number, or 2^32 - 1 without one
+abbrev pub until_due : List ℕ → ℕ
+until_due numbers = fold min (2 ^ 32 - 1) numbers

@@ -1,7 +1,7 @@
 //! The choices of a run at which ready processors are passed over.
 
 ghost use Rattle.std.specs.Prelude.{◌≡◌, ◌≤◌, ◌<◌, ◌==◌, ◌++◌, ◌∷◌, [], ℕ, MatchResult, Some, None, count_by, length};
-ghost use Rattle.m161_order.specs.Delays.{behind, delay_fault, delays_of};
+ghost use Rattle.m161_order.specs.Delays.{behind, delay_fault, delays_of, until_due};
 
 use thiserror::Error;
 
@@ -93,9 +93,10 @@ impl Delays {
         due
     }
 
-    /// Of how many choices, this one the first, none has a delay.
+    /// Of how many choices, this one the first, none has a delay; at most `u32::MAX`.
     pub fn until_due(&self) -> u32
-        ensures { (k : ℕ) → k < result → count_by (λ n. n == k) (delays_of self.now) ≡ 0 }
+        ensures value { result ≡ until_due (delays_of self.now) }
+        ensures none { (k : ℕ) → k < result → count_by (λ n. n == k) (delays_of self.now) ≡ 0 }
     {
         let numbers = self.as_slice();
         let mut until = u32::MAX;
@@ -105,18 +106,19 @@ impl Delays {
         until
     }
 
-    /// Those that are left so many choices further on, seen from there.
-    pub fn behind(&self, choices: u64) -> Delays
-        ensures { delays_of result ≡ behind choices (delays_of self.now) }
+    /// Goes so many choices further on: those that came before are left out.
+    pub fn pass(&mut self, choices: u64)
+        ensures { delays_of self.new ≡ behind choices (delays_of self.old) }
     {
-        let numbers = self.as_slice();
-        let mut left = Delays::none();
-        for number in numbers {
-            let until = u64::from(*number);
+        let count = self.count.min(MOST);
+        let mut left = 0;
+        for place in 0..count {
+            let until = u64::from(self.numbers[place]);
             if until >= choices {
-                left.add((until - choices) as u32);
+                self.numbers[left] = (until - choices) as u32;
+                left += 1;
             }
         }
-        left
+        self.count = left;
     }
 }
