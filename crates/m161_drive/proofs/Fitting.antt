@@ -21,10 +21,10 @@ use Rattle.m161_drive.specs.declared.turns.Turns.{Turns}
 use Rattle.m161_drive.specs.declared.orders.OrderState.{OrderState}
 use Rattle.m161_drive.specs.declared.orders.OrderState.TheVariants.{InTurns, ByDelays, AtRandom, ByPriority}
 use Rattle.m161_drive.specs.Choice.{chosen_with, gap_is_over, key_is_due, next_step, ordered, since_filled, tick, transfer_ends, type_key, wants_key}
-use Rattle.m161_drive.specs.Orders.{at_place, begun, by_order, by_ranks, by_turns, by_words, delayed, goes_on, one_of}
-use Rattle.m161_drive.specs.Delayed.{Delayed, passed, ready_from}
+use Rattle.m161_drive.specs.Orders.{at_place, begun, by_order, by_priority, by_turns, by_words, delayed, goes_on, one_of}
+use Rattle.m161_drive.specs.Delayed.{DelayState, passed, ready_from}
 use Rattle.m161_drive.specs.Policy.{Rules}
-use Rattle.m161_drive.specs.Priorities.{Ranks, highest}
+use Rattle.m161_drive.specs.Priorities.{PriorityState, highest}
 use Rattle.m161_drive.specs.Ready.{cyclic, is_ready, is_sending, is_ticking, next_behind, place_behind, ready, some_ready}
 use Rattle.m161_drive.specs.Words.{below}
 use Rattle.m161_drive.proofs.Passing.{ready_head}
@@ -122,7 +122,7 @@ words_ready g s =
     one_passes (is_ready s) (ready s) g
     (λ i p h. filter_passes (is_ready s) (range_with_len 0 (length s.processors)) i p h)
 
-place_ready : (test : ℕ → Bool) (o : Option ℕ) (r : Ranks) → Holds (λ k. test (slice_index r.processors k)) o →
+place_ready : (test : ℕ → Bool) (o : Option ℕ) (r : PriorityState) → Holds (λ k. test (slice_index r.processors k)) o →
     Holds test (at_place o r).0
 place_ready test None r ok j same = none_holds test j same
 place_ready test (Some k) r ok j same =
@@ -130,8 +130,8 @@ place_ready test (Some k) r ok j same =
     let q : slice_index r.processors k ≡ j = cc in
     subst (λ x. test x ≡ true) q (ok k refl)
 
-ranks_ready : (r : Ranks) (s : State) → Holds (is_ready s) (by_ranks r s).0
-ranks_ready r s =
+priority_ready : (r : PriorityState) (s : State) → Holds (is_ready s) (by_priority r s).0
+priority_ready r s =
     place_ready (is_ready s) (highest r s) r
     (last_holds (λ k. is_ready s (slice_index r.processors k)) (range_with_len 0 32) None
     (none_holds (λ k. is_ready s (slice_index r.processors k))))
@@ -143,7 +143,7 @@ passed_ready n p s ready =
     filter_passes (is_ready s) (cyclic p (length s.processors)) (min n (length (ready_from p s) - 1)) (passed n p s)
     (slice_get-get_or (ready_from p s) (min n (length (ready_from p s) - 1)) 0 (omega (arith, some)))
 
-delayed_ready : (o : Option ℕ) (t : Turns) (d : Delayed) (s : State) → Holds (is_ready s) o → Holds (is_ready s) (delayed o t d s).0
+delayed_ready : (o : Option ℕ) (t : Turns) (d : DelayState) (s : State) → Holds (is_ready s) o → Holds (is_ready s) (delayed o t d s).0
 delayed_ready None t d s ok = none_holds (is_ready s)
 delayed_ready (Some p) t d s ok =
     let due = count_by (λ n. n == 0) d.left in one_holds (is_ready s) (passed due p s) (passed_ready due p s (ok p refl))
@@ -153,7 +153,7 @@ order_ready (InTurns t) last s = turns_ready t last s
 order_ready (ByDelays d) last s =
     delayed_ready (by_turns d.turns last s).0 (by_turns d.turns last s).1 d s (turns_ready d.turns last s)
 order_ready (AtRandom g) last s = words_ready g s
-order_ready (ByPriority r) last s = ranks_ready r s
+order_ready (ByPriority r) last s = priority_ready r s
 
 -- an event that none but the last refusals can be of
 abbrev pub IsFit : Event → State → Type 0

@@ -4,7 +4,7 @@ mod Keeping
 pub mod Fitting
 pub mod Keys
 pub mod Sleeping
-pub mod Ranked
+pub mod Drawn
 pub mod Moved
 pub mod Stretched
 mod Rows

@@ -4,7 +4,7 @@ use Rattle.std.proofs.lemmas.List.Edits.{insert-append_left, length-insert, leng
 use Rattle.std.proofs.Math.Seq.{drop-append_seam, take-append_seam}
 use Rattle.std.specs.List.{copy_within, insert, remove}
 use Rattle.std.specs.Prelude.{nat_lt, count_by, Some}
-use Rattle.m161_drive.specs.Priorities.{Ranks, after_fall, moved}
+use Rattle.m161_drive.specs.Priorities.{PriorityState, after_fall, moved}
 
 -- A number that is taken out of an array, or put into it.
 
@@ -97,7 +97,7 @@ moved_behind from to j xs long f t a b =
     ∙ ap (λ n. get_or xs n 0) old
 
 -- a fall, by its parts
-pub fell : (r : Ranks) (k j to : ℕ) (processors fallen others : List ℕ) → others ≡ remove r.fallen k →
+pub fell : (r : PriorityState) (k j to : ℕ) (processors fallen others : List ℕ) → others ≡ remove r.fallen k →
     to ≡ count_by (λ i. nat_lt i j) others → processors ≡ moved k to r.processors → fallen ≡ insert others to j →
     record r { processors = processors; fallen = fallen } ≡ after_fall k (Some j) r
 fell r k j to processors fallen others left count move put =

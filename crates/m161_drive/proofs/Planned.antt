@@ -13,9 +13,9 @@ use Rattle.m161_order.specs.Delays.{behind}
 use Rattle.m161_drive.specs.declared.orders.OrderState.{OrderState}
 use Rattle.m161_drive.specs.declared.orders.OrderState.TheVariants.{InTurns, ByDelays, AtRandom, ByPriority}
 use Rattle.m161_drive.specs.declared.turns.Turns.{Turns}
-use Rattle.m161_drive.specs.Delayed.{Delayed, passed}
+use Rattle.m161_drive.specs.Delayed.{DelayState, passed}
 use Rattle.m161_drive.specs.Orders.{begun, by_order, by_turns, by_words, delayed, goes_on, one_of}
-use Rattle.m161_drive.specs.Priorities.{Ranks}
+use Rattle.m161_drive.specs.Priorities.{PriorityState}
 use Rattle.m161_drive.specs.Ready.{is_ready, next_behind, ready}
 use Rattle.m161_drive.specs.Words.{after_word, after_words}
 use Rattle.m161_drive.specs.helpers.Drive.{Plans, gone_on, next_in_turn, next_order}
@@ -204,9 +204,9 @@ pub words_gone : (n : ℕ) (g : Lcg) → AtRandom (after_words n g) ≡ gone_on 
 words_gone zero g = refl
 words_gone (suc n) g = words_gone n (after_word g)
 
-pub ranks_gone : (n : ℕ) (r : Ranks) → ByPriority r ≡ gone_on n (ByPriority r)
-ranks_gone zero r = refl
-ranks_gone (suc n) r = ranks_gone n r
+pub priority_gone : (n : ℕ) (r : PriorityState) → ByPriority r ≡ gone_on n (ByPriority r)
+priority_gone zero r = refl
+priority_gone (suc n) r = priority_gone n r
 
 one_next : (xs : List ℕ) (g : Lcg) (q : ℕ) → (one_of xs g).0 ≡ Some q → one_of xs g ≡ (Some q, after_word g)
 one_next [] g q h = let bad : ◌≡◌ {A = Option ℕ} None (Some q) = h in absurd cc
@@ -223,7 +223,7 @@ delays_next : (t : Turns) (left : List ℕ) (last r : ℕ) (s : State) →
     by_order (ByDelays (record { turns = t; left = left })) (Some last) s
     ≡ (Some r, next_order (ByDelays (record { turns = t; left = left })))
 delays_next t left last r s h none =
-    let d : Delayed = record { turns = t; left = left } in
+    let d : DelayState = record { turns = t; left = left } in
     let one : (by_turns t (Some last) s).0 ≡ Some r = ap (λ (x : Option ℕ × OrderState). x.0) h in
     let state : ◌≡◌ {A = OrderState} (InTurns (by_turns t (Some last) s).1) (InTurns (next_in_turn t)) =
     ap (λ (x : Option ℕ × OrderState). x.1) h in
@@ -232,7 +232,7 @@ delays_next t left last r s h none =
     let first : passed (count_by (λ n. n == 0) left) r s ≡ r =
     ap (λ n. passed n r s) none ∙ passed_none r s ready (ready_there s r ready) in
     let same = turned_same r (passed (count_by (λ n. n == 0) left) r s) (next_in_turn t) (sym first) in
-    ap (λ (x : Option ℕ × Delayed). (x.0, ByDelays x.1)) (λ i. delayed (one i) (turn i) d s)
+    ap (λ (x : Option ℕ × DelayState). (x.0, ByDelays x.1)) (λ i. delayed (one i) (turn i) d s)
     ∙ (λ i. (Some (first i), ByDelays (record { turns = same i; left = behind 1 left })))
 
 pub delays_planned : (t : Turns) (left : List ℕ) (last : ℕ) (s : State) (es : List Entry) (q : ℕ) →

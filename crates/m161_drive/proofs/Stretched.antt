@@ -20,11 +20,11 @@ use Rattle.m161_drive.specs.declared.orders.OrderState.TheVariants.{InTurns, ByD
 use Rattle.m161_drive.specs.declared.turns.Turns.{Turns}
 use Rattle.m161_drive.specs.Choice.{chosen_with, filled_after, gap_is_over, key_is_due, next_step, ordered, since_filled, taken, tick, transfer_ends, type_key, wants_key}
 use Rattle.m161_drive.specs.Drive.{Chooses, Goes}
-use Rattle.m161_drive.specs.Orders.{at_place, begun, by_delays, by_order, by_ranks, by_turns, by_words, delayed, one_of}
-use Rattle.m161_drive.specs.Delayed.{Delayed, passed, turned}
+use Rattle.m161_drive.specs.Orders.{at_place, begun, by_delays, by_order, by_priority, by_turns, by_words, delayed, one_of}
+use Rattle.m161_drive.specs.Delayed.{DelayState, passed, turned}
 use Rattle.m161_order.specs.Delays.{behind}
 use Rattle.m161_drive.specs.Policy.{Rules}
-use Rattle.m161_drive.specs.Priorities.{Ranks}
+use Rattle.m161_drive.specs.Priorities.{PriorityState}
 use Rattle.m161_drive.specs.Ready.{cyclic, is_ready, is_sending, is_ticking, next_behind, place_behind, some_ready}
 use Rattle.m161_drive.specs.helpers.Drive.{AreUnsent, IsUntyped, LeavesRoom, Plans, next_order, with_more_steps}
 use Rattle.m161_drive.proofs.Fitting.{order_ready}
@@ -177,13 +177,13 @@ passed_alike : (n p : ℕ) (s u : State) → AreAlike s u → passed n p u ≡ p
 passed_alike n p s u a = λ i.
     let ps = filter (a.tests i) (cyclic p (a.number i)) in slice_index ps (min n (length ps - 1))
 
-delayed_alike : (o : Option ℕ) (t : Turns) (d : Delayed) (s u : State) → AreAlike s u → delayed o t d u ≡ delayed o t d s
+delayed_alike : (o : Option ℕ) (t : Turns) (d : DelayState) (s u : State) → AreAlike s u → delayed o t d u ≡ delayed o t d s
 delayed_alike None t d s u a = refl
 delayed_alike (Some p) t d s u a =
     ap (λ q. (Some q, record { turns = turned p q t; left = behind 1 d.left }))
     (passed_alike (count_by (λ n. n == 0) d.left) p s u a)
 
-delays_alike : (d : Delayed) (last : ℕ) (s u : State) → AreAlike s u → by_delays d (Some last) u ≡ by_delays d (Some last) s
+delays_alike : (d : DelayState) (last : ℕ) (s u : State) → AreAlike s u → by_delays d (Some last) u ≡ by_delays d (Some last) s
 delays_alike d last s u a =
     ap (λ (x : Option ℕ × Turns). delayed x.0 x.1 d u) (turns_alike d.turns last s u a)
     ∙ delayed_alike (by_turns d.turns (Some last) s).0 (by_turns d.turns (Some last) s).1 d s u a
@@ -191,15 +191,15 @@ delays_alike d last s u a =
 words_alike : (g : Lcg) (s u : State) → AreAlike s u → by_words g u ≡ by_words g s
 words_alike g s u a = λ i. one_of (filter (a.tests i) (range_with_len 0 (a.number i))) g
 
-ranks_alike : (r : Ranks) (s u : State) → AreAlike s u → by_ranks r u ≡ by_ranks r s
-ranks_alike r s u a = λ i.
+priority_alike : (r : PriorityState) (s u : State) → AreAlike s u → by_priority r u ≡ by_priority r s
+priority_alike r s u a = λ i.
     at_place (last_or None (filter (λ k. a.tests i (slice_index r.processors k)) (range_with_len 0 32))) r
 
 order_alike : (o : OrderState) (last : ℕ) (s u : State) → AreAlike s u → by_order o (Some last) u ≡ by_order o (Some last) s
 order_alike (InTurns t) last s u a = ap (λ (x : Option ℕ × Turns). (x.0, InTurns x.1)) (turns_alike t last s u a)
-order_alike (ByDelays d) last s u a = ap (λ (x : Option ℕ × Delayed). (x.0, ByDelays x.1)) (delays_alike d last s u a)
+order_alike (ByDelays d) last s u a = ap (λ (x : Option ℕ × DelayState). (x.0, ByDelays x.1)) (delays_alike d last s u a)
 order_alike (AtRandom g) last s u a = ap (λ (x : Option ℕ × Lcg). (x.0, AtRandom x.1)) (words_alike g s u a)
-order_alike (ByPriority r) last s u a = ap (λ (x : Option ℕ × Ranks). (x.0, ByPriority x.1)) (ranks_alike r s u a)
+order_alike (ByPriority r) last s u a = ap (λ (x : Option ℕ × PriorityState). (x.0, ByPriority x.1)) (priority_alike r s u a)
 
 plans_alike : (o : OrderState) (last : ℕ) (s u : State) (es : List Entry) (q : ℕ) → AreAlike s u → Plans o last s es q → Plans o last u es q
 plans_alike o last s u [] q a h = h

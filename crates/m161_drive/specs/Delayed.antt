@@ -7,7 +7,7 @@ use Rattle.m161_drive.specs.Ready.{cyclic, is_ready}
 -- delays come at a choice, as many ready processors are passed over.
 
 -- turns with delays; each that is left says how many choices further on it comes
-pub record Delayed : Type 0 where
+pub record DelayState : Type 0 where
   pub turns : Turns
   pub left : List ℕ
 

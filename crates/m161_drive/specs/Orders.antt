@@ -7,10 +7,10 @@ use Rattle.m161_order.specs.declared.order.Order.TheVariants as order
 use Rattle.m161_drive.specs.declared.turns.Turns.{Turns}
 use Rattle.m161_drive.specs.declared.orders.OrderState.{OrderState}
 use Rattle.m161_drive.specs.declared.orders.OrderState.TheVariants.{InTurns, ByDelays, AtRandom, ByPriority}
-use Rattle.m161_drive.specs.Delayed.{Delayed, passed, turned}
+use Rattle.m161_drive.specs.Delayed.{DelayState, passed, turned}
 use Rattle.m161_drive.specs.Ready.{is_ready, next_behind, ready}
 use Rattle.m161_drive.specs.Words.{after_word, below, seeded}
-use Rattle.m161_drive.specs.Priorities.{Ranks, after_ranked, highest, ranks_at_start}
+use Rattle.m161_drive.specs.Priorities.{PriorityState, after_step_at, highest, priorities_at_start}
 
 -- The orders: which ready processor makes the next Step. A choice is that processor, or none if none
 -- is ready, and the order then.
@@ -31,13 +31,13 @@ by_turns t last s =
     else begun (next_behind (is_ready s) last s) t
 
 -- so many ready processors are passed over as delays come at this choice
-abbrev pub delayed : Option ℕ → Turns → Delayed → State → Option ℕ × Delayed
+abbrev pub delayed : Option ℕ → Turns → DelayState → State → Option ℕ × DelayState
 delayed None t d s = (None, d)
 delayed (Some p) t d s =
     let q = passed (count_by (λ n. n == 0) d.left) p s in
     (Some q, record { turns = turned p q t; left = behind 1 d.left })
 
-abbrev pub by_delays : Delayed → Option ℕ → State → Option ℕ × Delayed
+abbrev pub by_delays : DelayState → Option ℕ → State → Option ℕ × DelayState
 by_delays d last s = delayed (by_turns d.turns last s).0 (by_turns d.turns last s).1 d s
 
 -- one of these, by the next word; no word is drawn for none
@@ -48,19 +48,19 @@ one_of (p ∷ ps) g = (slice_get (p ∷ ps) (below (length (p ∷ ps)) g), after
 abbrev pub by_words : Lcg → State → Option ℕ × Lcg
 by_words g s = one_of (ready s) g
 
-abbrev pub at_place : Option ℕ → Ranks → Option ℕ × Ranks
+abbrev pub at_place : Option ℕ → PriorityState → Option ℕ × PriorityState
 at_place None r = (None, r)
-at_place (Some k) r = (Some (slice_index r.processors k), after_ranked k r)
+at_place (Some k) r = (Some (slice_index r.processors k), after_step_at k r)
 
-abbrev pub by_ranks : Ranks → State → Option ℕ × Ranks
-by_ranks r s = at_place (highest r s) r
+abbrev pub by_priority : PriorityState → State → Option ℕ × PriorityState
+by_priority r s = at_place (highest r s) r
 
 -- the choice by any order; `last` is the processor of the last Step that was chosen
 abbrev pub by_order : OrderState → Option ℕ → State → Option ℕ × OrderState
 by_order (InTurns t) last s = ((by_turns t last s).0, InTurns (by_turns t last s).1)
 by_order (ByDelays d) last s = ((by_delays d last s).0, ByDelays (by_delays d last s).1)
 by_order (AtRandom g) last s = ((by_words g s).0, AtRandom (by_words g s).1)
-by_order (ByPriority r) last s = ((by_ranks r s).0, ByPriority (by_ranks r s).1)
+by_order (ByPriority r) last s = ((by_priority r s).0, ByPriority (by_priority r s).1)
 
 -- a Step that the order didn't choose ends a turn
 abbrev pub interrupted : OrderState → OrderState
@@ -76,4 +76,4 @@ order_at_start (order.Delayed steps delays) n =
     ByDelays (record { turns = record { steps = steps; made = 0 }; left = delays_of delays })
 order_at_start (order.Random seed) n = AtRandom (seeded seed)
 order_at_start (order.Priorities seed changes within) n =
-    ByPriority (ranks_at_start seed changes within n)
+    ByPriority (priorities_at_start seed changes within n)

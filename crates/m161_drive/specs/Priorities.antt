@@ -9,7 +9,7 @@ use Rattle.m161_drive.specs.Words.{after_word, after_words, below, draws, seeded
 -- Guarantees of Finding Bugs, 2010. The ready processor of the highest priority makes the Step.
 
 -- the priorities, as a run goes on
-pub record Ranks : Type 0 where
+pub record PriorityState : Type 0 where
   pub generator : Lcg
   -- how many Steps a stretch has, and how many of them were chosen
   pub within : ℕ
@@ -29,7 +29,7 @@ shuffled zero order g = order
 shuffled (suc i) order g = shuffled i (swap order (suc i) (below (suc i + 1) g)) (after_word g)
 
 -- a new stretch, with so many points; the processors keep their order
-abbrev pub with_stretch : ℕ → Ranks → Ranks
+abbrev pub with_stretch : ℕ → PriorityState → PriorityState
 with_stretch changes r = record r {
   generator = after_words changes r.generator;
   made = 0;
@@ -38,8 +38,8 @@ with_stretch changes r = record r {
 }
 
 -- the first stretch of a machine with n processors
-abbrev pub ranks_at_start : ℕ → ℕ → ℕ → ℕ → Ranks
-ranks_at_start seed changes within n = with_stretch changes (record {
+abbrev pub priorities_at_start : ℕ → ℕ → ℕ → ℕ → PriorityState
+priorities_at_start seed changes within n = with_stretch changes (record {
   generator = after_words (n - 1) (seeded seed);
   within = within;
   made = 0;
@@ -49,7 +49,7 @@ ranks_at_start seed changes within n = with_stretch changes (record {
 })
 
 -- the place of the ready processor of the highest priority
-abbrev pub highest : Ranks → State → Option ℕ
+abbrev pub highest : PriorityState → State → Option ℕ
 highest r s = last_or None (filter (λ k. is_ready s (slice_index r.processors k)) (range_with_len 0 32))
 
 -- the number of the last point that is this Step of the stretch
@@ -64,7 +64,7 @@ moved from to numbers = insert (remove numbers from) to (slice_index numbers fro
 -- after the point of number j the processor at place k falls: below all that haven't fallen in this
 -- stretch, and above those that fell after points of lower numbers. Its own number of an earlier fall
 -- is taken out before; `remove` leaves the numbers as they are if it had none.
-abbrev pub after_fall : ℕ → Option ℕ → Ranks → Ranks
+abbrev pub after_fall : ℕ → Option ℕ → PriorityState → PriorityState
 after_fall k None r = r
 after_fall k (Some j) r =
     let others = remove r.fallen k in
@@ -75,8 +75,8 @@ after_fall k (Some j) r =
     }
 
 -- after a Step of the processor at place k
-abbrev pub after_ranked : ℕ → Ranks → Ranks
-after_ranked k r =
+abbrev pub after_step_at : ℕ → PriorityState → PriorityState
+after_step_at k r =
     let fallen = after_fall k (last_point r.made r.points) r in
     let after = record fallen { made = r.made + 1 } in
     if r.made + 1 == r.within then with_stretch (length r.points) after else after

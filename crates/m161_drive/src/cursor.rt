@@ -2,7 +2,7 @@
 
 ghost use Rattle.std.specs.Prelude.{◌≡◌, ◌⊎◌, ◌+◌, ◌-◌, ◌<◌, ◌≤◌, ◌^◌, IfSome, slice_get, length, Some};
 ghost use Rattle.m161_drive.specs.Choice.{chosen, chosen_with, cursor_at, filled_after, gap_is_over, key_is_due, next_step, since_filled, taken, transfer_ends, wants_key};
-ghost use Rattle.m161_drive.specs.helpers.Drive.{AreUnsent, IsPlan, IsUntyped, LeavesRoom, MayGoOn, with_more_steps};
+ghost use Rattle.m161_drive.specs.helpers.Drive.{AreUnsent, IsPlan, IsUntyped, LeavesRoom, MayGoOnBy, with_more_steps};
 
 use crate::orders::OrderState;
 use crate::policy::Policy;
@@ -273,7 +273,7 @@ impl Cursor {
         last: u32,
         core: &Core<T, D>,
     )
-        requires { (more ≡ 0) ⊎ MayGoOn self.old.order }
+        requires { MayGoOnBy more self.old.order }
         ensures { self.new ≡ with_more_steps more last core.now.state self.old }
     {
         self.order.go_on(more);

@@ -1,12 +1,12 @@
 //! Steps in turns, with delays.
 
-ghost use Rattle.std.specs.Prelude.{◌≡◌, ◌⊎◌, ◌<◌, ◌≤◌, true, length};
+ghost use Rattle.std.specs.Prelude.{◌≡◌, true};
 ghost use Rattle.m161_order.specs.Delays.{delays_of};
 ghost use Rattle.m161_drive.specs.declared.orders.OrderState.TheVariants.{ByDelays};
 ghost use Rattle.m161_drive.specs.Delayed.{passed};
 ghost use Rattle.m161_drive.specs.Orders.{by_delays};
 ghost use Rattle.m161_drive.specs.Ready.{is_ready};
-ghost use Rattle.m161_drive.specs.helpers.Drive.{MayGoOn, PlansBehind, gone_on};
+ghost use Rattle.m161_drive.specs.helpers.Drive.{MayGoOnBy, MayPlanBehind, PlansBehind, gone_on};
 
 use crate::ready::list_ready_from;
 use crate::turns::Turns;
@@ -26,9 +26,9 @@ pub(crate) struct DelayedTurns {
 
 impl Model for DelayedTurns {
     ghost use Rattle.m161_order.specs.Delays.{delays_of};
-    ghost use Rattle.m161_drive.specs.Delayed.{Delayed};
+    ghost use Rattle.m161_drive.specs.Delayed.{DelayState};
 
-    ghost Value = { Delayed };
+    ghost Value = { DelayState };
 
     ghost view = { λ d. record { turns = d.turns; left = delays_of d.left } };
 }
@@ -64,8 +64,7 @@ impl DelayedTurns {
         last: Option<u32>,
         core: &Core<T, D>,
     ) -> Option<u32>
-        ensures processor { result ≡ (by_delays self.old last core.now.state).0 }
-        ensures after { self.new ≡ (by_delays self.old last core.now.state).1 }
+        ensures { (result, self.new) ≡ by_delays self.old last core.now.state }
     {
         match self.turns.choose(last, core) {
             Some(p) => {
@@ -73,7 +72,7 @@ impl DelayedTurns {
                 if p != chosen {
                     self.turns.made = 1;
                 }
-                self.left = self.left.behind(1);
+                self.left.pass(1);
                 Some(chosen)
             }
             None => None,
@@ -95,11 +94,8 @@ impl DelayedTurns {
         p: u32,
         places: &mut [PackedEntry],
     ) -> usize
-        requires ready { is_ready core.now.state p ≡ true }
-        requires small { p < 32 }
-        ensures plan { PlansBehind (ByDelays self.now) p core.now.state result places.new }
-        ensures within { result ≤ length places.old }
-        ensures length { length places.new ≡ length places.old }
+        requires { MayPlanBehind p core.now.state }
+        ensures { PlansBehind (ByDelays self.now) p core.now.state places.old result places.new }
     {
         let most = (self.left.until_due() as usize).min(places.len());
         let (first, _) = places.split_at_mut(most);
@@ -108,10 +104,10 @@ impl DelayedTurns {
 
     /// Goes on by so many Steps.
     pub(crate) fn go_on(&mut self, more: usize)
-        requires { (more ≡ 0) ⊎ MayGoOn (ByDelays self.old) }
+        requires { MayGoOnBy more (ByDelays self.old) }
         ensures { ByDelays self.new ≡ gone_on more (ByDelays self.old) }
     {
         self.turns.go_on(more);
-        self.left = self.left.behind(more as u64);
+        self.left.pass(more as u64);
     }
 }

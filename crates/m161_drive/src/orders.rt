@@ -1,11 +1,10 @@
 //! The orders, as a run goes on.
 
-ghost use Rattle.std.specs.Prelude.{◌≡◌, ◌⊎◌, ◌<◌, ◌≤◌, true, length, None, Some};
+ghost use Rattle.std.specs.Prelude.{◌≡◌, ◌<◌, ◌≤◌, length, None, Some};
 ghost use Rattle.m161_drive.specs.Orders.{by_order, by_words, interrupted, one_of, order_at_start};
-ghost use Rattle.m161_drive.specs.Ready.{is_ready};
 ghost use Rattle.m161_drive.specs.Words.{after_words};
 ghost use Rattle.m161_drive.specs.declared.orders.OrderState.TheVariants.{AtRandom};
-ghost use Rattle.m161_drive.specs.helpers.Drive.{IsPlan, MayGoOn, PlansBehind, gone_on};
+ghost use Rattle.m161_drive.specs.helpers.Drive.{IsPlan, MayGoOnBy, MayPlanBehind, PlansBehind, gone_on};
 ghost use Rattle.m161_order.specs.Order.{order_fault};
 
 use crate::delayed::DelayedTurns;
@@ -44,8 +43,7 @@ fn one_of(generator: &mut Pcg32, processors: &[u8]) -> u32
 
 // A ready processor by the next word; no word is drawn if none is ready.
 fn by_words<T: Tlb, D: Console>(generator: &mut Pcg32, core: &Core<T, D>) -> Option<u32>
-    ensures processor { result ≡ (by_words generator.old core.now.state).0 }
-    ensures after { generator.new ≡ (by_words generator.old core.now.state).1 }
+    ensures { (result, generator.new) ≡ by_words generator.old core.now.state }
 {
     // For LLVM: room of this function, since bytes that were just written would be slow to copy.
     let mut processors = [0; 32];
@@ -63,9 +61,7 @@ fn plan_by_words<T: Tlb, D: Console>(
     p: u32,
     places: &mut [PackedEntry],
 ) -> usize
-    ensures plan { PlansBehind (AtRandom generator.now) p core.now.state result places.new }
-    ensures within { result ≤ length places.old }
-    ensures length { length places.new ≡ length places.old }
+    ensures { PlansBehind (AtRandom generator.now) p core.now.state places.old result places.new }
 {
     core.law();
     let mut processors = [0; 32];
@@ -121,8 +117,7 @@ impl OrderState {
         last: Option<u32>,
         core: &Core<T, D>,
     ) -> Option<u32>
-        ensures processor { result ≡ (by_order self.old last core.now.state).0 }
-        ensures after { self.new ≡ (by_order self.old last core.now.state).1 }
+        ensures { (result, self.new) ≡ by_order self.old last core.now.state }
     {
         match self {
             OrderState::InTurns(turns) => turns.choose(last, core),
@@ -175,11 +170,8 @@ impl OrderState {
         p: u32,
         places: &mut [PackedEntry],
     ) -> usize
-        requires ready { is_ready core.now.state p ≡ true }
-        requires small { p < 32 }
-        ensures plan { PlansBehind self.now p core.now.state result places.new }
-        ensures within { result ≤ length places.old }
-        ensures length { length places.new ≡ length places.old }
+        requires { MayPlanBehind p core.now.state }
+        ensures { PlansBehind self.now p core.now.state places.old result places.new }
     {
         match self {
             OrderState::InTurns(turns) => turns.plan(core, p, places),
@@ -192,7 +184,7 @@ impl OrderState {
     /// Goes on by so many Steps.
     #[inline(always)]
     pub(crate) fn go_on(&mut self, more: usize)
-        requires { (more ≡ 0) ⊎ MayGoOn self.old }
+        requires { MayGoOnBy more self.old }
         ensures { self.new ≡ gone_on more self.old }
     {
         match self {

@@ -2,8 +2,8 @@
 
 ghost use Rattle.std.specs.Prelude.{◌≡◌, ℕ, ◌+◌, ◌-◌, ◌<◌, ◌≤◌, nat_lt, length, take, count_by, slice_index, Some, IfSome};
 ghost use Rattle.std.specs.List.{insert, remove};
-ghost use Rattle.m161_drive.specs.Orders.{by_ranks};
-ghost use Rattle.m161_drive.specs.Priorities.{after_fall, after_ranked, highest, last_point, moved, ranks_at_start, shuffled, with_stretch};
+ghost use Rattle.m161_drive.specs.Orders.{by_priority};
+ghost use Rattle.m161_drive.specs.Priorities.{after_fall, after_step_at, highest, last_point, moved, priorities_at_start, shuffled, with_stretch};
 ghost use Rattle.m161_drive.specs.Words.{after_words, draws};
 ghost use Rattle.m161_drive.specs.helpers.Places.{AreFrom};
 
@@ -38,10 +38,10 @@ pub(crate) struct Ranking {
 
 impl Model for Ranking {
     ghost use Rattle.std.specs.Prelude.{◌≡◌, ◌<◌, ◌≤◌, length, take};
-    ghost use Rattle.m161_drive.specs.Priorities.{Ranks};
+    ghost use Rattle.m161_drive.specs.Priorities.{PriorityState};
     ghost use Rattle.m161_drive.specs.helpers.Places.{AreFrom};
 
-    ghost Value = { Ranks };
+    ghost Value = { PriorityState };
 
     ghost view = { λ r. record {
       generator = r.generator;
@@ -188,7 +188,7 @@ impl Ranking {
         requires changes { changes ≤ 64 }
         requires within { 1 ≤ within }
         requires processors { processors ≤ 32 }
-        ensures { result ≡ ranks_at_start seed changes within processors }
+        ensures { result ≡ priorities_at_start seed changes within processors }
     {
         let mut generator = seeded(seed);
         let mut order = IN_ORDER;
@@ -275,7 +275,7 @@ impl Ranking {
     // Counts the Step of the processor at a place, which may fall after it.
     fn count_step(&mut self, place: usize)
         requires { place < 32 }
-        ensures { self.new ≡ after_ranked place self.old }
+        ensures { self.new ≡ after_step_at place self.old }
     {
         if let Some(j) = last_point(&self.points[..self.changes], self.made) {
             self.fall(place, j as u32);
@@ -289,8 +289,7 @@ impl Ranking {
 
     /// The next processor, if one is ready.
     pub(crate) fn choose<T: Tlb, D: Console>(&mut self, core: &Core<T, D>) -> Option<u32>
-        ensures processor { result ≡ (by_ranks self.old core.now.state).0 }
-        ensures after { self.new ≡ (by_ranks self.old core.now.state).1 }
+        ensures { (result, self.new) ≡ by_priority self.old core.now.state }
     {
         match self.highest(core) {
             Some(place) => {

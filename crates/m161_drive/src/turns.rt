@@ -1,10 +1,10 @@
 //! Steps in turns.
 
-ghost use Rattle.std.specs.Prelude.{◌≡◌, ◌⊎◌, ◌<◌, ◌≤◌, true, length};
+ghost use Rattle.std.specs.Prelude.{◌≡◌, ◌≤◌, true};
 ghost use Rattle.m161_drive.specs.declared.orders.OrderState.TheVariants.{InTurns};
 ghost use Rattle.m161_drive.specs.Orders.{begun, by_turns, goes_on};
 ghost use Rattle.m161_drive.specs.Ready.{is_ready};
-ghost use Rattle.m161_drive.specs.helpers.Drive.{MayGoOn, PlansBehind, gone_on};
+ghost use Rattle.m161_drive.specs.helpers.Drive.{MayGoOnBy, MayPlanBehind, PlansBehind, gone_on};
 
 use crate::ready::{is_ready, next_ready};
 use m161_bus::Console;
@@ -43,8 +43,7 @@ impl Turns {
         last: Option<u32>,
         core: &Core<T, D>,
     ) -> Option<u32>
-        ensures processor { result ≡ (by_turns self.old last core.now.state).0 }
-        ensures after { self.new ≡ (by_turns self.old last core.now.state).1 }
+        ensures { (result, self.new) ≡ by_turns self.old last core.now.state }
     {
         if self.goes_on(last, core) {
             self.made += 1;
@@ -68,11 +67,8 @@ impl Turns {
         p: u32,
         places: &mut [PackedEntry],
     ) -> usize
-        requires ready { is_ready core.now.state p ≡ true }
-        requires small { p < 32 }
-        ensures plan { PlansBehind (InTurns self.now) p core.now.state result places.new }
-        ensures within { result ≤ length places.old }
-        ensures length { length places.new ≡ length places.old }
+        requires { MayPlanBehind p core.now.state }
+        ensures { PlansBehind (InTurns self.now) p core.now.state places.old result places.new }
     {
         if self.made == 0 || self.made > self.steps {
             return 0;
@@ -96,9 +92,7 @@ impl Turns {
     ) -> usize
         requires ready { is_ready core.now.state p ≡ true }
         requires ended { (1 ≤ self.now.made) × (self.now.made ≡ self.now.steps) }
-        ensures plan { PlansBehind (InTurns self.now) p core.now.state result places.new }
-        ensures within { result ≤ length places.old }
-        ensures length { length places.new ≡ length places.old }
+        ensures { PlansBehind (InTurns self.now) p core.now.state places.old result places.new }
     {
         core.law();
         let mut turns = *self;
@@ -121,7 +115,7 @@ impl Turns {
     /// Goes on by so many Steps.
     #[inline(always)]
     pub(crate) fn go_on(&mut self, more: usize)
-        requires { (more ≡ 0) ⊎ MayGoOn (InTurns self.old) }
+        requires { MayGoOnBy more (InTurns self.old) }
         ensures { InTurns self.new ≡ gone_on more (InTurns self.old) }
     {
         if more > 0 {

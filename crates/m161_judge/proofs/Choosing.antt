@@ -16,10 +16,10 @@ use Rattle.m161_drive.specs.declared.orders.OrderState.{OrderState}
 use Rattle.m161_drive.specs.declared.orders.OrderState.TheVariants.{InTurns, ByDelays, AtRandom, ByPriority}
 use Rattle.m161_drive.specs.Choice.{chosen, chosen_with, gap_is_over, key_is_due, next_step, ordered, since_filled, tick, transfer_ends, type_key, wants_key}
 use Rattle.m161_drive.specs.Drive.{Chooses, Goes}
-use Rattle.m161_drive.specs.Delayed.{Delayed}
-use Rattle.m161_drive.specs.Orders.{at_place, begun, by_delays, by_order, by_ranks, by_turns, by_words, delayed, goes_on, interrupted, one_of}
+use Rattle.m161_drive.specs.Delayed.{DelayState}
+use Rattle.m161_drive.specs.Orders.{at_place, begun, by_delays, by_order, by_priority, by_turns, by_words, delayed, goes_on, interrupted, one_of}
 use Rattle.m161_drive.specs.Policy.{Rules}
-use Rattle.m161_drive.specs.Priorities.{Ranks, highest}
+use Rattle.m161_drive.specs.Priorities.{PriorityState, highest}
 use Rattle.m161_drive.specs.Ready.{cyclic, is_asleep, is_ready, is_sending, is_ticking, next_behind, place_behind, some_ready, some_ticking}
 use Rattle.m161_judge.specs.Verdict.{after, going_on, is_key, is_stuck}
 use Rattle.m161_judge.proofs.Running.{none_is_not, some_is_one}
@@ -97,15 +97,15 @@ turns_none : (t : Turns) (last : Option ℕ) (s : State) → Fails (is_ready s) 
 turns_none t last s fails = if_turns (goes_on t last s) (last, record t { made = t.made + 1 }) (begun (next_behind (is_ready s) last s) t)
     (goes_fails t last s fails) (begun_none (next_behind (is_ready s) last s) t (find_none (is_ready s) fails (cyclic (place_behind last (length s.processors)) (length s.processors))))
 
-delays_none : (d : Delayed) (last : Option ℕ) (s : State) → Fails (is_ready s) → (by_delays d last s).0 ≡ None
+delays_none : (d : DelayState) (last : Option ℕ) (s : State) → Fails (is_ready s) → (by_delays d last s).0 ≡ None
 delays_none d last s fails =
     ap (λ o. (delayed o (by_turns d.turns last s).1 d s).0) (turns_none d.turns last s fails)
 
 words_none : (g : Lcg) (s : State) → Fails (is_ready s) → (by_words g s).0 ≡ None
 words_none g s fails = ap (λ ps. (one_of ps g).0) (filter_none (is_ready s) fails (range_with_len 0 (length s.processors)))
 
-ranks_none : (r : Ranks) (s : State) → Fails (is_ready s) → (by_ranks r s).0 ≡ None
-ranks_none r s fails =
+priority_none : (r : PriorityState) (s : State) → Fails (is_ready s) → (by_priority r s).0 ≡ None
+priority_none r s fails =
     let none : highest r s ≡ None =
     ap (last_or None) (filter_none (λ k. is_ready s (slice_index r.processors k)) (λ k. fails (slice_index r.processors k)) (range_with_len 0 32)) in
     ap (λ o. (at_place o r).0) none
@@ -114,7 +114,7 @@ order_none : (o : OrderState) (last : Option ℕ) (s : State) → Fails (is_read
 order_none (InTurns t) last s fails = turns_none t last s fails
 order_none (ByDelays d) last s fails = delays_none d last s fails
 order_none (AtRandom g) last s fails = words_none g s fails
-order_none (ByPriority r) last s fails = ranks_none r s fails
+order_none (ByPriority r) last s fails = priority_none r s fails
 
 -- no Step is next
 step_none : (c : Cursor) (s : State) → Fails (is_ready s) → Fails (is_ticking s) → (next_step c s).0 ≡ None

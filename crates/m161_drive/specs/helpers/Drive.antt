@@ -1,4 +1,4 @@
-use Rattle.std.specs.Prelude.{◌≡◌, ◌⊎◌, ℕ, zero, suc, ◌+◌, ◌-◌, ◌≤◌, true, nat_lt, if◌then◌else◌, List, [], ◌∷◌, length, take, Option, None, Some, Result, Ok, Err}
+use Rattle.std.specs.Prelude.{◌≡◌, ◌⊎◌, ℕ, zero, suc, ◌+◌, ◌-◌, ◌<◌, ◌≤◌, true, nat_lt, if◌then◌else◌, List, [], ◌∷◌, length, take, Option, None, Some, Result, Ok, Err}
 use Rattle.m161_machine.specs.declared.event.Entry.{Entry}
 use Rattle.m161_machine.specs.declared.event.Event.{Event}
 use Rattle.m161_machine.specs.State.{State, next}
@@ -59,6 +59,10 @@ MayGoOn (ByDelays d) = (1 ≤ d.turns.made) × (d.turns.made ≤ d.turns.steps)
 MayGoOn (AtRandom g) = Unit {0}
 MayGoOn (ByPriority r) = Unit {0}
 
+-- and by n choices
+abbrev pub MayGoOnBy : ℕ → OrderState → Type 0
+MayGoOnBy n o = (n ≡ 0) ⊎ MayGoOn o
+
 -- behind a Step of the last processor, these places name the Steps that an order chooses one after
 -- the other, as long as the same processors are ready as in a state; the last of them is of q
 abbrev pub Plans : OrderState → ℕ → State → List Entry → ℕ → Type 0
@@ -67,10 +71,20 @@ Plans o last s (e ∷ es) q =
     (p : ℕ) × (e ≡ planned p) × (by_order o (Some last) s ≡ (Some p, next_order o))
     × Plans (next_order o) p s es q
 
--- behind a Step of processor p, the first n places name Steps that an order chooses in this way
-abbrev pub PlansBehind : OrderState → ℕ → State → ℕ → List Entry → Type 0
-PlansBehind o p s n places =
-    ((n ≡ 0) ⊎ MayGoOn o) × ((q : ℕ) × Plans o p s (take n places) q)
+-- Steps behind one of processor p may be planned: it is ready, and a planned entry can name it
+abbrev pub MayPlanBehind : ℕ → State → Type 0
+MayPlanBehind p s = (is_ready s p ≡ true) × (p < 32)
+
+-- behind a Step of processor p, the first n of these places now name Steps that an order chooses in
+-- this way
+pub record PlansBehind
+    (o : OrderState) (p : ℕ) (s : State) (places : List Entry) (n : ℕ) (new : List Entry)
+    : Type 0 where
+  pub end : ℕ
+  pub plans : Plans o p s (take n new) end
+  pub may_go : MayGoOnBy n o
+  pub within : n ≤ length places
+  pub size : length new ≡ length places
 
 -- the first n places plan a Step of processor p, which was just chosen, and those that follow it
 pub record IsPlan (o : OrderState) (p : ℕ) (s : State) (n : ℕ) (places : List Entry) : Type 0 where

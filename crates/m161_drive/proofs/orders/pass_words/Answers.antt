@@ -1,6 +1,6 @@
 use Rattle.std.proofs.Common.{◌∙◌, ap, sym, ◌+◌, ◌-◌}
 use Rattle.m161_drive.specs.Words.{after_words}
-use Rattle.m161_drive.proofs.Ranked.{words_left}
+use Rattle.m161_drive.proofs.Drawn.{words_left}
 use Rattle.m161_drive.proofs.orders.pass_words.Goals as goal
 
 pub loop-word-preserved : goal.loop-word-preserved

@@ -1,7 +1,7 @@
 use Rattle.std.proofs.Common.{◌∙◌, ◌++◌, ◌-◌, ◌+◌, ◌<◌, take, set, sym, ap, arith, length}
 use Rattle.std.proofs.Math.ListN.{length-set}
 use Rattle.m161_drive.specs.Words.{after_words, draws}
-use Rattle.m161_drive.proofs.Ranked.{drawn_more, words_left}
+use Rattle.m161_drive.proofs.Drawn.{drawn_more, words_left}
 use Rattle.m161_drive.proofs.ranking.draw_points.Goals as goal
 
 pub loop-j-preserved : goal.loop-j-preserved

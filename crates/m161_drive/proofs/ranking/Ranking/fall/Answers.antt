@@ -1,13 +1,13 @@
 use Rattle.std.proofs.Common.{◌∙◌, ◌+◌, ap, arith, take, length-take-le}
 use Rattle.std.specs.Prelude.{Some}
-use Rattle.m161_drive.specs.Priorities.{Ranks, after_fall}
+use Rattle.m161_drive.specs.Priorities.{PriorityState, after_fall}
 use Rattle.m161_drive.proofs.Moved.{fell, first_more}
 use Rattle.m161_drive.proofs.ranking.Ranking.fall.Goals as goal
 
 pub returns : goal.returns
 returns c =
     let o = c.self.inside in
-    let r : Ranks = record {
+    let r : PriorityState = record {
       generator = o.generator;
       within = o.within;
       made = o.made;
