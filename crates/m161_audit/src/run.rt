@@ -257,7 +257,8 @@ fn audit_event<T: Tlb, D: Console>(
     }
 }
 
-// Audits a list of events from a state on.
+// Audits a list of events from a state on. The same as `find`, since a search has each event by itself: to
+// make runs of them would take memory, and a loop over each run's times for one event.
 fn find_in<T: Tlb, D: Console>(
     core: &mut Core<T, D>,
     events: &[Event],

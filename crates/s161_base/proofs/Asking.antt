@@ -1,8 +1,9 @@
 use Rattle.std.proofs.Common.{◌≡◌, ◌⊎◌, ◌∙◌, ℕ, List, [], ◌∷◌, ◌++◌, Bool, true, false, if◌then◌else◌, Option, None, Some, Result, Ok, Err, Bor, ap, append-nil, append_assoc, inl, inr, refl, subst, sym}
-use Rattle.std.specs.Prelude.{IfErr, bytes_eq, codes, option_map}
+use Rattle.std.specs.Prelude.{IfErr, IfSome, bytes_eq, codes, option_map}
+use Rattle.std.specs.Result.{IsErrAnd}
 use Rattle.m161_machine.specs.declared.conf.BootError.{BootError}
 use Rattle.s161_base.proofs.Failing.{schedule_failed}
-use Rattle.s161_base.specs.Asked.{Asks, AsksFor, AsksUntil, EndsAt, IsBeforeInput, image_files}
+use Rattle.s161_base.specs.Asked.{Asks, AsksFor, AsksUntil, EndsAt, EndsBy, IsBeforeInput, file_of, image_files, is_memory}
 use Rattle.s161_base.specs.Faults.{fault_of_boot}
 use Rattle.s161_base.specs.Reading.{IsFileUnread, IsInputUnread, IsOfBytes}
 use Rattle.s161_base.specs.Samples.{IsFileName}
@@ -24,22 +25,11 @@ asks_both xs ys None b c p q = q ∙ ap (λ o. option_map (λ asked. asked ++ ys
 asks_both xs ys (Some x) b c p q = q ∙ ap (λ o. option_map (λ asked. asked ++ ys) o) p ∙ ap (λ l. Some l) (append_assoc x xs ys)
 
 -- a fault behind others' files ends where it did
-ends_behind : (xs : List (List ℕ)) (fault : Fault) (first rest : List (List ℕ)) → EndsAt fault first rest → EndsAt fault (xs ++ first) rest
-ends_behind xs (File name why) first rest h = (xs ++ h.0, ap (λ l. xs ++ l) h.1 ∙ sym (append_assoc xs h.0 (name.now ∷ [])))
-ends_behind xs Memory first rest h = tt
-ends_behind xs (Schedule n) first rest h = h
-ends_behind xs (Log n) first rest h = h
-ends_behind xs LogMachine first rest h = h
-ends_behind xs LogImage first rest h = h
-ends_behind xs (Watches n) first rest h = h
-ends_behind xs (Watch k) first rest h = h
-ends_behind xs Conf first rest h = h
-ends_behind xs (Image e) first rest h = h
-ends_behind xs (Source e) first rest h = h
-ends_behind xs (Threads cause) first rest h = h
-ends_behind xs (Input why) first rest h = h
-ends_behind xs Word first rest h = h
-ends_behind xs Output first rest h = h
+ends_behind : (xs : List (List ℕ)) (file : Option (Bor (List ℕ))) (memory : Bool) (first rest : List (List ℕ)) → EndsBy file memory first rest →
+    EndsBy file memory (xs ++ first) rest
+ends_behind xs (Some name) memory first rest h = (xs ++ h.0, ap (λ l. xs ++ l) h.1 ∙ sym (append_assoc xs h.0 (name.now ∷ [])))
+ends_behind xs None true first rest h = tt
+ends_behind xs None false first rest h = h
 
 -- the fault comes behind these files
 pub later : (xs ys : List (List ℕ)) (a b c : Option (List (List ℕ))) (fault : Fault) → Asks xs a b → AsksUntil ys b c fault → AsksUntil (xs ++ ys) a c fault
@@ -48,39 +38,44 @@ later xs ys a b c fault asks until = record {
   rest = until.rest;
   are_files = ap (λ l. xs ++ l) until.are_files ∙ sym (append_assoc xs until.first until.rest);
   asks = asks_both xs until.first a b c asks until.asks;
-  ends = ends_behind xs fault until.first until.rest until.ends;
+  ends = ends_behind xs (file_of fault) (is_memory fault) until.first until.rest until.ends;
 }
 
 -- a fault that is none of a file
 abbrev pub IsNoFile : Fault → Type 0
-IsNoFile (File name why) = ⊥
-IsNoFile _ = Unit {0}
+IsNoFile fault = IfSome (file_of fault) (λ _. ⊥)
 
-no_file_ends : (files : List (List ℕ)) (fault : Fault) → IsNoFile fault → EndsAt fault files []
-no_file_ends files (File name why) h = absurd h
-no_file_ends files Memory h = tt
-no_file_ends files (Schedule n) h = refl
-no_file_ends files (Log n) h = refl
-no_file_ends files LogMachine h = refl
-no_file_ends files LogImage h = refl
-no_file_ends files (Watches n) h = refl
-no_file_ends files (Watch k) h = refl
-no_file_ends files Conf h = refl
-no_file_ends files (Image e) h = refl
-no_file_ends files (Source e) h = refl
-no_file_ends files (Threads cause) h = refl
-no_file_ends files (Input why) h = refl
-no_file_ends files Word h = refl
-no_file_ends files Output h = refl
+no_file_ends : (files : List (List ℕ)) (file : Option (Bor (List ℕ))) (memory : Bool) → IfSome file (λ _. ⊥) → EndsBy file memory files []
+no_file_ends files (Some name) memory h = absurd h
+no_file_ends files None true h = tt
+no_file_ends files None false h = refl
+
+-- a fault is none of a file where something holds of it that holds of none of a file
+pub none_by : (P : Fault → Type 0) → ((name : Bor (List ℕ)) (why : Unread) → P (File name why) → ⊥) → (fault : Fault) → P fault → IsNoFile fault
+none_by P not (File name why) h = not name why h
+none_by P not Memory h = tt
+none_by P not (Schedule n) h = tt
+none_by P not (Log n) h = tt
+none_by P not LogMachine h = tt
+none_by P not LogImage h = tt
+none_by P not (Watches n) h = tt
+none_by P not (Watch k) h = tt
+none_by P not Conf h = tt
+none_by P not (Image e) h = tt
+none_by P not (Source e) h = tt
+none_by P not (Threads cause) h = tt
+none_by P not (Input why) h = tt
+none_by P not Word h = tt
+none_by P not Output h = tt
 
 -- such a fault comes once all files were asked for
-pub behind : (files : List (List ℕ)) (a b : Option (List (List ℕ))) (fault : Fault) → Asks files a b → IsNoFile fault → AsksUntil files a b fault
-behind files a b fault asks h = record {
+pub after_all : (files : List (List ℕ)) (a b : Option (List (List ℕ))) (fault : Fault) → Asks files a b → IsNoFile fault → AsksUntil files a b fault
+after_all files a b fault asks h = record {
   first = files;
   rest = [];
   are_files = sym (append-nil files);
   asks = asks;
-  ends = no_file_ends files fault h;
+  ends = no_file_ends files (file_of fault) (is_memory fault) h;
 }
 
 -- this file isn't read, and the rest isn't asked for
@@ -156,40 +151,30 @@ alone_unread name a b fault asks h =
 pub result_asks : {A : Type 0} (files : List (List ℕ)) (a b : Option (List (List ℕ))) (result : Result A Fault) → Asks files a b → IfErr result IsNoFile →
     AsksFor files result a b
 result_asks files a b (Ok answer) asks h = asks
-result_asks files a b (Err fault) asks h = behind files a b fault asks h
+result_asks files a b (Err fault) asks h = after_all files a b fault asks h
+
+-- the way out of a `?` by a fault
+pub asks_err : {A : Type 0} {files : List (List ℕ)} {a b : Option (List (List ℕ))} {fault : Fault} (result : Result A Fault) → IsErrAnd result (λ e. e ≡ fault) →
+    AsksUntil files a b fault → AsksFor files result a b
+asks_err (Ok answer) is h = absurd is
+asks_err {files = files} {a = a} {b = b} (Err e) is h = subst (AsksUntil files a b) (sym is) h
+
+pub says_err : {A : Type 0} {fault : Fault} (P : Fault → Type 0) (result : Result A Fault) → IsErrAnd result (λ e. e ≡ fault) → P fault → IfErr result P
+says_err P (Ok answer) is h = tt
+says_err P (Err e) is h = subst P (sym is) h
 
 -- standard input is as it was
+unmoved : (file : Option (Bor (List ℕ))) (a : Option (List ℕ)) → IfSome file (λ _. a ≡ a)
+unmoved (Some name) a = refl
+unmoved None a = tt
+
 pub before_input : (fault : Fault) (a : Option (List ℕ)) → IsBeforeInput fault a a
-before_input (File name why) a = refl
-before_input Memory a = tt
-before_input (Schedule n) a = tt
-before_input (Log n) a = tt
-before_input LogMachine a = tt
-before_input LogImage a = tt
-before_input (Watches n) a = tt
-before_input (Watch k) a = tt
-before_input Conf a = tt
-before_input (Image e) a = tt
-before_input (Source e) a = tt
-before_input (Threads cause) a = tt
-before_input (Input why) a = tt
-before_input Word a = tt
-before_input Output a = tt
+before_input fault a = unmoved (file_of fault) a
 
 -- the fault is none of a file
+no_file_before : (file : Option (Bor (List ℕ))) (a b : Option (List ℕ)) → IfSome file (λ _. ⊥) → IfSome file (λ _. b ≡ a)
+no_file_before (Some name) a b h = absurd h
+no_file_before None a b h = tt
+
 pub none_before : (fault : Fault) (a b : Option (List ℕ)) → IsNoFile fault → IsBeforeInput fault a b
-none_before (File name why) a b h = absurd h
-none_before Memory a b h = tt
-none_before (Schedule n) a b h = tt
-none_before (Log n) a b h = tt
-none_before LogMachine a b h = tt
-none_before LogImage a b h = tt
-none_before (Watches n) a b h = tt
-none_before (Watch k) a b h = tt
-none_before Conf a b h = tt
-none_before (Image e) a b h = tt
-none_before (Source e) a b h = tt
-none_before (Threads cause) a b h = tt
-none_before (Input why) a b h = tt
-none_before Word a b h = tt
-none_before Output a b h = tt
+none_before fault a b h = no_file_before (file_of fault) a b h

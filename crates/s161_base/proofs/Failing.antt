@@ -7,9 +7,10 @@ use Rattle.m161_machine.specs.Conf.{is_within_limits}
 use Rattle.m161_machine.specs.History.{Boots, BootsState, IsBootState, boot_fault, load_fault}
 use Rattle.m161_machine.specs.State.{CoreValue}
 use Rattle.m161_text.specs.Lines.{FirstBad}
+use Rattle.m161_steplog.specs.Comments.{IsFirstBadOfLog}
 use Rattle.m161_steplog.specs.Schedule.{AreScheduleLines}
 use Rattle.s161_base.specs.Faults.{fault_of_boot}
-use Rattle.s161_base.specs.Texts.{IsScheduleFault}
+use Rattle.s161_base.specs.Texts.{IsLogFault, IsScheduleFault}
 use Rattle.s161_base.specs.declared.fault.Fault.{Fault}
 use Rattle.s161_base.specs.declared.fault.Fault.TheVariants.{Conf, File, Image, Input, Log, LogImage, LogMachine, Memory, Output, Schedule, Source, Threads, Watch, Watches, Word}
 
@@ -33,6 +34,25 @@ schedule_failed P text LogMachine line memory h = absurd h
 schedule_failed P text LogImage line memory h = absurd h
 schedule_failed P text Output line memory h = absurd h
 schedule_failed P text (Source e) line memory h = absurd h
+
+-- a log's fault
+pub log_failed : (P : Fault → Type 0) (text : List ℕ) (fault : Fault) → ((n : ℕ) → IsFirstBadOfLog text n → P (Log n)) → P Memory →
+    IsLogFault text fault → P fault
+log_failed P text (Log n) line memory h = line n h
+log_failed P text Memory line memory h = memory
+log_failed P text (File name why) line memory h = absurd h
+log_failed P text (Schedule n) line memory h = absurd h
+log_failed P text (Watches n) line memory h = absurd h
+log_failed P text (Watch k) line memory h = absurd h
+log_failed P text (Threads cause) line memory h = absurd h
+log_failed P text Conf line memory h = absurd h
+log_failed P text (Image e) line memory h = absurd h
+log_failed P text (Input why) line memory h = absurd h
+log_failed P text Word line memory h = absurd h
+log_failed P text LogMachine line memory h = absurd h
+log_failed P text LogImage line memory h = absurd h
+log_failed P text Output line memory h = absurd h
+log_failed P text (Source e) line memory h = absurd h
 
 -- a file's fault is none of the configuration
 not_conf : (fault : Option LoadError) → load_fault fault ≡ Some BootError.BadConf → ⊥

@@ -3,7 +3,6 @@ use Rattle.m161_machine.specs.declared.conf.BootError.{BootError}
 use Rattle.m161_machine.specs.declared.conf.BootError.TheVariants.{Load}
 use Rattle.m161_machine.specs.declared.conf.Conf.{Conf as MachineConf}
 use Rattle.m161_machine.specs.History.{Boots, boot_fault}
-use Rattle.m161_steplog.specs.Comments.{IsFirstBadOfLog}
 use Rattle.s161_command.specs.declared.task.AskedSize.{AskedSize}
 use Rattle.s161_base.specs.declared.fault.Fault.{Fault}
 use Rattle.s161_base.specs.declared.fault.Fault.TheVariants.{Conf, File, Image, Input, Log, LogImage, LogMachine, Memory, Output, Schedule, Source, Threads, Watch, Watches, Word}
@@ -11,30 +10,11 @@ use Rattle.s161_base.specs.declared.machines.LoggedMachine.{LoggedMachine}
 use Rattle.s161_base.specs.Machines.{asked_conf, is_image, is_other_machine, machine_fault}
 use Rattle.s161_base.specs.Faults.{fault_of_boot}
 use Rattle.s161_base.specs.Texts.{IsLogFault, IsScheduleFault}
-use Rattle.s161_base.proofs.Failing.{boot_failed, schedule_failed}
+use Rattle.s161_base.proofs.Failing.{boot_failed, log_failed, schedule_failed}
 use Rattle.s161_debug.specs.Debugs.{IsListFault, IsMachineFault, is_log}
 use Rattle.s161_debug.specs.helpers.Debugs.{IsBootFault}
 
 -- Why a session isn't opened.
-
--- a log's fault: `P` is what is said of it
-pub log_failed : (P : Fault → Type 0) (text : List ℕ) (fault : Fault) → ((n : ℕ) → IsFirstBadOfLog text n → P (Log n)) → P Memory →
-    IsLogFault text fault → P fault
-log_failed P text (Log n) line memory h = line n h
-log_failed P text Memory line memory h = memory
-log_failed P text (File name why) line memory h = absurd h
-log_failed P text (Schedule n) line memory h = absurd h
-log_failed P text (Watches n) line memory h = absurd h
-log_failed P text (Watch k) line memory h = absurd h
-log_failed P text (Threads cause) line memory h = absurd h
-log_failed P text Conf line memory h = absurd h
-log_failed P text (Image e) line memory h = absurd h
-log_failed P text (Input why) line memory h = absurd h
-log_failed P text Word line memory h = absurd h
-log_failed P text LogMachine line memory h = absurd h
-log_failed P text LogImage line memory h = absurd h
-log_failed P text Output line memory h = absurd h
-log_failed P text (Source e) line memory h = absurd h
 
 pub log_unlisted : (text : List ℕ) (fault : Fault) → is_log text ≡ true → IsLogFault text fault → IsListFault text fault
 log_unlisted text fault is h = log_failed (IsListFault text) text fault (λ n bad. (is, bad)) tt h

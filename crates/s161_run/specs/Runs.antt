@@ -47,8 +47,8 @@ abbrev pub IsSwitchedOff : State → State → Type 0
 IsSwitchedOff s t = (s.board.off ≡ false) × (t.board.off ≡ true)
 
 -- a conflict: its processor, the row that was to be written, and the other one
-abbrev pub conflict_text : Conflict → List ℕ
-conflict_text conflict =
+abbrev pub conflict_words : Conflict → List ℕ
+conflict_words conflict =
     codes "conflict" ␣ decimal conflict.processor ␣ decimal conflict.row ␣ decimal conflict.other
 
 -- why no more events are made of a machine that is off, by its conflict
@@ -99,7 +99,7 @@ started_texts s n = flat_map (started_text s) (range_with_len 0 n)
 
 abbrev pub stop_line : Stop → List ℕ
 stop_line Off = codes "stop: off"
-stop_line (ConflictStop conflict) = codes "stop:" ␣ conflict_text conflict
+stop_line (ConflictStop conflict) = codes "stop:" ␣ conflict_words conflict
 stop_line End = codes "stop: end"
 stop_line Stuck = codes "stop: stuck"
 stop_line (Refused k refusal) =

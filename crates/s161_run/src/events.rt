@@ -5,7 +5,7 @@ ghost use Rattle.m161_drive.specs.Drive.{IsNoted};
 ghost use Rattle.m161_machine.specs.declared.event.Entry.{Entry};
 ghost use Rattle.m161_machine.specs.History.{Refuses};
 ghost use Rattle.m161_machine.specs.State.{next};
-ghost use Rattle.s161_run.specs.Runs.{MakesEvents, conflict_text, stop_line, stop_off};
+ghost use Rattle.s161_run.specs.Runs.{MakesEvents, conflict_words, stop_line, stop_off};
 ghost use Rattle.s161_run.specs.helpers.Events.{MakesAlike, MakesOf};
 
 use m161::Core;
@@ -34,7 +34,7 @@ pub enum Stop {
 pub struct ShownConflict(pub Conflict);
 
 impl fmt::Display for ShownConflict {
-    ghost output = { λ conflict. Some (conflict_text conflict.0) };
+    ghost output = { λ conflict. Some (conflict_words conflict.0) };
 
     fn fmt<W: fmt::Write>(&self, f: &mut fmt::Formatter<W>) -> fmt::Result {
         let (processor, row, other) = (self.0.processor, self.0.row, self.0.other);

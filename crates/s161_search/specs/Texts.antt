@@ -7,7 +7,7 @@ use Rattle.m161_steplog.specs.Written.{schedule_text}
 use Rattle.m161_text.specs.Lines.{with_line_end}
 use Rattle.m161_text.specs.Parts.{◌␣◌}
 use Rattle.s161_search.specs.Audits.{finding_text}
-use Rattle.s161_run.specs.Runs.{conflict_text}
+use Rattle.s161_run.specs.Runs.{conflict_words}
 
 -- What a search prints.
 
@@ -15,7 +15,7 @@ use Rattle.s161_run.specs.Runs.{conflict_text}
 abbrev pub verdict_text : Verdict → List ℕ
 verdict_text (Stale place processor address row) =
     finding_text (finding.Stale place processor address row)
-verdict_text (Conflict conflict) = conflict_text conflict
+verdict_text (Conflict conflict) = conflict_words conflict
 verdict_text Stuck = codes "stuck"
 verdict_text Output = codes "output"
 verdict_text End = codes "end"

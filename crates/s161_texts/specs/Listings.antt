@@ -4,7 +4,7 @@ use Rattle.m161_elf.specs.Header.{e_entry}
 use Rattle.m161_elf.specs.Image.{IsImage, first_fault}
 use Rattle.m161_elf.specs.Span.{spans}
 use Rattle.m161_dis.specs.declared.naming.Style.{Style}
-use Rattle.m161_display.specs.Shows.{code_word, listing_text, numbered_lines}
+use Rattle.m161_display.specs.Shows.{code_line, numbered_lines}
 use Rattle.m161_text.specs.Lines.{text_of}
 use Rattle.s161_command.specs.declared.task.ListingTask.{ListingTask}
 use Rattle.s161_base.specs.Naming.{style_of}
@@ -21,16 +21,12 @@ aligned_up address = (address + 3) / 4 * 4
 abbrev pub whole_words : Span → ℕ
 whole_words span = (span.address + span.size - aligned_up span.address) / 4
 
--- a line has an address with its place, its word, and the word's text
-abbrev pub memory_line : Style → List ℕ → ℕ → List ℕ
-memory_line style memory at = listing_text style at (code_word memory at)
-
--- a line for each of them, as memory has it
+-- a line for each of them, as memory has it: its address with its place, its word, and the word's text
 abbrev pub span_text : Style → List ℕ → Span → List ℕ
 span_text style memory span =
     text_of
     (numbered_lines (whole_words span)
-    (λ i. memory_line style memory (aligned_up span.address + 4 * i)))
+    (λ i. code_line style memory (aligned_up span.address + 4 * i)))
 
 abbrev pub dis_text : Style → List ℕ → List Span → List ℕ
 dis_text style memory = flat_map (span_text style memory)

@@ -3,10 +3,10 @@
 ghost use Rattle.std.specs.Prelude.{◌≡◌, ◌+◌, ◌<◌, ◌≤◌, ◌^◌, ◌++◌, true, length, string_bytes, IfErr, IfOk, OnOk};
 ghost use Rattle.m161_elf.specs.Image.{is_in_ram};
 ghost use Rattle.m161_ram.specs.Word.{word_at};
-ghost use Rattle.m161_display.specs.Shows.{code_word, listing_text};
+ghost use Rattle.m161_display.specs.Shows.{code_line, code_word, listing_text};
 ghost use Rattle.m161_text.specs.Lines.{with_line_end};
 ghost use Rattle.s161_base.specs.Naming.{style_of};
-ghost use Rattle.s161_texts.specs.Listings.{aligned_up, dis_text, memory_line, span_text, IsListing, IsUnlisted};
+ghost use Rattle.s161_texts.specs.Listings.{aligned_up, dis_text, span_text, IsListing, IsUnlisted};
 ghost use Rattle.s161_texts.specs.helpers.Listings.{AreInRam};
 
 use m161_dis::{Style, push_line_with};
@@ -104,7 +104,7 @@ fn aligned_up(address: u32) -> u32
 fn write_word(text: &mut String, style: &Style, memory: &[u8], at: u32) -> Result<(), AllocError>
     requires { is_in_ram (length memory.now) at 4 ≡ true }
     ensures { OnOk result (string_bytes text.new
-        ≡ string_bytes text.old ++ with_line_end (memory_line style.now memory.now at)) }
+        ≡ string_bytes text.old ++ with_line_end (code_line style.now memory.now at)) }
 {
     write_code(text, style, code_at(memory, at), at)
 }

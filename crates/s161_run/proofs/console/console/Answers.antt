@@ -3,7 +3,7 @@ use Rattle.std.proofs.lemmas.Result.{err_from_is_err_and}
 use Rattle.m161_machine.specs.History.{boot_fault}
 use Rattle.m161_machine.specs.State.{State}
 use Rattle.s161_base.proofs.Failing.{state_booted}
-use Rattle.s161_base.proofs.Asking.{alone_unread, behind, boot_is_none}
+use Rattle.s161_base.proofs.Asking.{after_all, alone_unread, asks_err, boot_is_none}
 use Rattle.s161_base.specs.Asked.{image_files}
 use Rattle.s161_base.specs.Faults.{BootsIn, fault_of_boot}
 use Rattle.s161_base.specs.Streams.{streams}
@@ -55,8 +55,7 @@ returns-clause-ok g c =
 pub returns-in_err-file-clause-asks : goal.returns-in_err-file-clause-asks
 returns-in_err-file-clause-asks g c =
     let asked = g.F.FileSource.asked in
-    let made = err_from_is_err_and c.from_residual.result c.from_residual.ensures.1 in
-    rw (made.1, made.2)
+    asks_err c.from_residual.result c.from_residual.ensures.1
     (alone_unread c.args.task.image (asked c.args.files.now) (asked c.read_image.new.files) c.in_err-file.field-0.0 c.in_err-file.ensures.asks
     c.in_err-file.ensures.err)
 
@@ -64,15 +63,13 @@ returns-in_err-file-clause-asks g c =
 pub returns-in_err-core-clause-asks : goal.returns-in_err-core-clause-asks
 returns-in_err-core-clause-asks g c =
     let asked = g.F.FileSource.asked in
-    let made = err_from_is_err_and c.from_residual-in_err-core.result c.from_residual-in_err-core.ensures.1 in
-    rw (made.1, made.2)
-    (behind (image_files c.args.task.image.now) (asked c.args.files.now) (asked c.read_image.new.files) (fault_of_boot c.in_err-core.field-0.0) c.in_ok-file.ensures.asks
+    asks_err c.from_residual-in_err-core.result c.from_residual-in_err-core.ensures.1
+    (after_all (image_files c.args.task.image.now) (asked c.args.files.now) (asked c.read_image.new.files) (fault_of_boot c.in_err-core.field-0.0) c.in_ok-file.ensures.asks
     (boot_is_none c.in_err-core.field-0.0))
 
 pub returns-in_err-driven-clause-asks : goal.returns-in_err-driven-clause-asks
 returns-in_err-driven-clause-asks g c =
     let asked = g.F.FileSource.asked in
-    let made = err_from_is_err_and c.from_residual-in_err-driven.result c.from_residual-in_err-driven.ensures.1 in
-    rw (made.1, made.2)
-    (behind (image_files c.args.task.image.now) (asked c.args.files.now) (asked c.read_image.new.files) c.in_err-driven.field-0.0 c.in_ok-file.ensures.asks
+    asks_err c.from_residual-in_err-driven.result c.from_residual-in_err-driven.ensures.1
+    (after_all (image_files c.args.task.image.now) (asked c.args.files.now) (asked c.read_image.new.files) c.in_err-driven.field-0.0 c.in_ok-file.ensures.asks
     (serve_is_none c.args.task.drive c.in_ok-core.core.state (streams (g.I.Read.remaining c.args.input.now) (g.I.Read.remaining c.serve.new.input) (g.O.Write.contents c.args.output.now) (g.O.Write.contents c.serve.new.output)) c.in_err-driven.field-0.0 c.in_err-driven.ensures.err))

@@ -4,11 +4,12 @@ use Rattle.m161_machine.specs.declared.conf.BootError.TheVariants.{Load}
 use Rattle.m161_machine.specs.declared.event.Entry.{Entry}
 use Rattle.m161_machine.specs.Conf.{is_within_limits}
 use Rattle.m161_machine.specs.History.{boot_fault}
-use Rattle.s161_base.proofs.Asking.{IsNoFile, asks_both, behind, boot_is_none, file_unread, image_unread, later}
+use Rattle.s161_base.proofs.Asking.{IsNoFile, after_all, asks_both, asks_err, boot_is_none, file_unread, image_unread, later}
 use Rattle.s161_base.specs.Asked.{image_files}
 use Rattle.s161_base.specs.Faults.{fault_of_boot}
 use Rattle.s161_base.specs.Reading.{IsOfText}
-use Rattle.s161_run.proofs.Failing.{log_failed, verify_failed}
+use Rattle.s161_base.proofs.Failing.{log_failed}
+use Rattle.s161_run.proofs.Failing.{verify_failed}
 use Rattle.s161_run.proofs.Replaying.{refused}
 use Rattle.s161_run.specs.Replays.{IsReplayFault, OfReplay}
 use Rattle.s161_base.specs.declared.fault.Fault.TheVariants.{LogImage, LogMachine, Memory}
@@ -103,8 +104,7 @@ returns-in_err-verdict-clause-fault g c =
 pub returns-in_err-file-clause-asks : goal.returns-in_err-file-clause-asks
 returns-in_err-file-clause-asks g c =
     let asked = g.F.FileSource.asked in
-    let made = err_from_is_err_and c.from_residual.result c.from_residual.ensures.1 in
-    rw (made.1, made.2)
+    asks_err c.from_residual.result c.from_residual.ensures.1
     (image_unread c.args.task.image (c.args.task.text.now ∷ []) (asked c.args.files.now) (asked c.read_image.new.files) c.in_err-file.field-0.0
     c.in_err-file.ensures.asks c.in_err-file.ensures.err)
 
@@ -113,8 +113,7 @@ returns-in_err-listed-clause-asks g c =
     let between = g.F.FileSource.asked c.read_image.new.files in
     let after = g.F.FileSource.asked c.read_text.new.files in
     let fault = c.in_err-listed.field-0.0 in
-    let made = err_from_is_err_and c.from_residual-in_err-listed.result c.from_residual-in_err-listed.ensures.1 in
-    rw (made.1, made.2)
+    asks_err c.from_residual-in_err-listed.result c.from_residual-in_err-listed.ensures.1
     (later (image_files c.args.task.image.now) (c.args.task.text.now ∷ []) (g.F.FileSource.asked c.args.files.now) between after fault c.in_ok-file.ensures.asks
     (file_unread c.args.task.text (IsOfText (g.F.FileSource.known c.read_image.new.files c.args.task.text.now)) [] between after fault
     c.in_err-listed.ensures.asks c.in_err-listed.ensures.err))
@@ -128,8 +127,7 @@ returns-in_err-log-clause-asks g c =
     let a = asked c.args.files.now in
     let b = asked c.read_text.new.files in
     let all = asks_both image text a (asked c.read_image.new.files) b c.in_ok-file.ensures.asks c.in_ok-listed.ensures.asks in
-    let made = err_from_is_err_and c.from_residual-in_err-log.result c.from_residual-in_err-log.ensures.1 in
-    rw (made.1, made.2) (behind (image ++ text) a b c.in_err-log.field-0.0 all (log_failed IsNoFile c.as_str-text.result.now c.in_err-log.field-0.0 (λ n bad. tt) tt c.in_err-log.ensures.fault))
+    asks_err c.from_residual-in_err-log.result c.from_residual-in_err-log.ensures.1 (after_all (image ++ text) a b c.in_err-log.field-0.0 all (log_failed IsNoFile c.as_str-text.result.now c.in_err-log.field-0.0 (λ n bad. tt) tt c.in_err-log.ensures.fault))
 
 pub returns-in_err-verdict-clause-asks : goal.returns-in_err-verdict-clause-asks
 returns-in_err-verdict-clause-asks g c =
@@ -139,8 +137,7 @@ returns-in_err-verdict-clause-asks g c =
     let a = asked c.args.files.now in
     let b = asked c.read_text.new.files in
     let all = asks_both image text a (asked c.read_image.new.files) b c.in_ok-file.ensures.asks c.in_ok-listed.ensures.asks in
-    let made = err_from_is_err_and c.from_residual-in_err-verdict.result c.from_residual-in_err-verdict.ensures.1 in
-    rw (made.1, made.2) (behind (image ++ text) a b (fault_of_boot c.in_err-verdict.field-0.0) all (boot_is_none c.in_err-verdict.field-0.0))
+    asks_err c.from_residual-in_err-verdict.result c.from_residual-in_err-verdict.ensures.1 (after_all (image ++ text) a b (fault_of_boot c.in_err-verdict.field-0.0) all (boot_is_none c.in_err-verdict.field-0.0))
 
 pub returns-in_err-shown-clause-asks : goal.returns-in_err-shown-clause-asks
 returns-in_err-shown-clause-asks g c =
@@ -150,8 +147,7 @@ returns-in_err-shown-clause-asks g c =
     let a = asked c.args.files.now in
     let b = asked c.read_text.new.files in
     let all = asks_both image text a (asked c.read_image.new.files) b c.in_ok-file.ensures.asks c.in_ok-listed.ensures.asks in
-    let made = err_from_is_err_and c.from_residual-in_err-shown.result c.from_residual-in_err-shown.ensures.1 in
-    rw (made.1, made.2) (behind (image ++ text) a b Memory all tt)
+    asks_err c.from_residual-in_err-shown.result c.from_residual-in_err-shown.ensures.1 (after_all (image ++ text) a b Memory all tt)
 
 pub returns-in-Some-clause-asks : goal.returns-in-Some-clause-asks
 returns-in-Some-clause-asks g c =
@@ -161,7 +157,7 @@ returns-in-Some-clause-asks g c =
     let a = asked c.args.files.now in
     let b = asked c.read_text.new.files in
     let all = asks_both image text a (asked c.read_image.new.files) b c.in_ok-file.ensures.asks c.in_ok-listed.ensures.asks in
-    behind (image ++ text) a b c.in-Some.fault all
+    after_all (image ++ text) a b c.in-Some.fault all
     (refused IsNoFile c.args.task.size c.as_slice-image.result.now c.in_ok-log.log.machine c.in-Some.fault (λ other. tt) (λ other. tt) (search rules))
 
 pub returns-clause-asks : goal.returns-clause-asks

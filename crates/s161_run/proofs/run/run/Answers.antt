@@ -1,7 +1,7 @@
 use Rattle.std.proofs.Common.{◌≡◌, ◌∙◌, List, ℕ, Err, IfSome, ap, rules, subst, sym}
 use Rattle.std.proofs.lemmas.Result.{err_from_is_err_and}
-use Rattle.s161_base.proofs.Asking.{alone_unread, before_input, behind, boot_is_none, input_is_none, none_before, schedule_is_none}
-use Rattle.s161_base.specs.Asked.{image_files}
+use Rattle.s161_base.proofs.Asking.{after_all, alone_unread, asks_err, before_input, boot_is_none, input_is_none, none_before, says_err, schedule_is_none}
+use Rattle.s161_base.specs.Asked.{IsBeforeInput, image_files}
 use Rattle.s161_base.specs.declared.fault.Fault.TheVariants.{Memory}
 use Rattle.m161_machine.specs.History.{BootsState, boot_fault}
 use Rattle.m161_machine.specs.State.{State}
@@ -90,91 +90,77 @@ returns-in_err-core-clause-fault g c =
 pub returns-in_err-file-clause-asks : goal.returns-in_err-file-clause-asks
 returns-in_err-file-clause-asks g c =
     let asked = g.F.FileSource.asked in
-    let made = err_from_is_err_and c.from_residual.result c.from_residual.ensures.1 in
-    rw (made.1, made.2)
+    asks_err c.from_residual.result c.from_residual.ensures.1
     (alone_unread c.args.task.image (asked c.args.files.now) (asked c.read_image.new.files) c.in_err-file.field-0.0 c.in_err-file.ensures.asks
     c.in_err-file.ensures.err)
 
 pub returns-in_err-file-clause-unread : goal.returns-in_err-file-clause-unread
 returns-in_err-file-clause-unread g c =
-    let made = err_from_is_err_and c.from_residual.result c.from_residual.ensures.1 in
-    rw (made.1, made.2) (before_input c.in_err-file.field-0.0 (g.I.Read.remaining c.args.input.now))
+    says_err (λ fault. IsBeforeInput fault (g.I.Read.remaining c.args.input.now) (g.I.Read.remaining c.args.input.now)) c.from_residual.result c.from_residual.ensures.1 (before_input c.in_err-file.field-0.0 (g.I.Read.remaining c.args.input.now))
 
 -- the file was asked for, and other faults are none of it
 pub returns-in_err-schedule-clause-asks : goal.returns-in_err-schedule-clause-asks
 returns-in_err-schedule-clause-asks g c =
     let asked = g.F.FileSource.asked in
-    let made = err_from_is_err_and c.from_residual-in_err-schedule.result c.from_residual-in_err-schedule.ensures.1 in
-    rw (made.1, made.2)
-    (behind (image_files c.args.task.image.now) (asked c.args.files.now) (asked c.read_image.new.files) c.in_err-schedule.field-0.0 c.in_ok-file.ensures.asks
+    asks_err c.from_residual-in_err-schedule.result c.from_residual-in_err-schedule.ensures.1
+    (after_all (image_files c.args.task.image.now) (asked c.args.files.now) (asked c.read_image.new.files) c.in_err-schedule.field-0.0 c.in_ok-file.ensures.asks
     (input_is_none (g.I.Read.remaining c.args.input.now) c.in_err-schedule.field-0.0 c.in_err-schedule.ensures.err))
 
 pub returns-in_err-schedule-clause-unread : goal.returns-in_err-schedule-clause-unread
 returns-in_err-schedule-clause-unread g c =
-    let made = err_from_is_err_and c.from_residual-in_err-schedule.result c.from_residual-in_err-schedule.ensures.1 in
-    rw (made.1, made.2) (none_before c.in_err-schedule.field-0.0 (g.I.Read.remaining c.args.input.now) (g.I.Read.remaining c.read_input.new.input) (input_is_none (g.I.Read.remaining c.args.input.now) c.in_err-schedule.field-0.0 c.in_err-schedule.ensures.err))
+    says_err (λ fault. IsBeforeInput fault (g.I.Read.remaining c.args.input.now) (g.I.Read.remaining c.read_input.new.input)) c.from_residual-in_err-schedule.result c.from_residual-in_err-schedule.ensures.1 (none_before c.in_err-schedule.field-0.0 (g.I.Read.remaining c.args.input.now) (g.I.Read.remaining c.read_input.new.input) (input_is_none (g.I.Read.remaining c.args.input.now) c.in_err-schedule.field-0.0 c.in_err-schedule.ensures.err))
 
 pub returns-in_err-events-clause-asks : goal.returns-in_err-events-clause-asks
 returns-in_err-events-clause-asks g c =
     let asked = g.F.FileSource.asked in
-    let made = err_from_is_err_and c.from_residual-in_err-events.result c.from_residual-in_err-events.ensures.1 in
-    rw (made.1, made.2)
-    (behind (image_files c.args.task.image.now) (asked c.args.files.now) (asked c.read_image.new.files) c.in_err-events.field-0.0 c.in_ok-file.ensures.asks
+    asks_err c.from_residual-in_err-events.result c.from_residual-in_err-events.ensures.1
+    (after_all (image_files c.args.task.image.now) (asked c.args.files.now) (asked c.read_image.new.files) c.in_err-events.field-0.0 c.in_ok-file.ensures.asks
     (schedule_is_none c.as_str.result.now c.in_err-events.field-0.0 c.in_err-events.ensures.fault))
 
 pub returns-in_err-events-clause-unread : goal.returns-in_err-events-clause-unread
 returns-in_err-events-clause-unread g c =
-    let made = err_from_is_err_and c.from_residual-in_err-events.result c.from_residual-in_err-events.ensures.1 in
-    rw (made.1, made.2) (none_before c.in_err-events.field-0.0 (g.I.Read.remaining c.args.input.now) (g.I.Read.remaining c.read_input.new.input) (schedule_is_none c.as_str.result.now c.in_err-events.field-0.0 c.in_err-events.ensures.fault))
+    says_err (λ fault. IsBeforeInput fault (g.I.Read.remaining c.args.input.now) (g.I.Read.remaining c.read_input.new.input)) c.from_residual-in_err-events.result c.from_residual-in_err-events.ensures.1 (none_before c.in_err-events.field-0.0 (g.I.Read.remaining c.args.input.now) (g.I.Read.remaining c.read_input.new.input) (schedule_is_none c.as_str.result.now c.in_err-events.field-0.0 c.in_err-events.ensures.fault))
 
 pub returns-in_err-core-clause-asks : goal.returns-in_err-core-clause-asks
 returns-in_err-core-clause-asks g c =
     let asked = g.F.FileSource.asked in
-    let made = err_from_is_err_and c.from_residual-in_err-core.result c.from_residual-in_err-core.ensures.1 in
-    rw (made.1, made.2)
-    (behind (image_files c.args.task.image.now) (asked c.args.files.now) (asked c.read_image.new.files) (fault_of_boot c.in_err-core.field-0.0) c.in_ok-file.ensures.asks
+    asks_err c.from_residual-in_err-core.result c.from_residual-in_err-core.ensures.1
+    (after_all (image_files c.args.task.image.now) (asked c.args.files.now) (asked c.read_image.new.files) (fault_of_boot c.in_err-core.field-0.0) c.in_ok-file.ensures.asks
     (boot_is_none c.in_err-core.field-0.0))
 
 pub returns-in_err-core-clause-unread : goal.returns-in_err-core-clause-unread
 returns-in_err-core-clause-unread g c =
-    let made = err_from_is_err_and c.from_residual-in_err-core.result c.from_residual-in_err-core.ensures.1 in
-    rw (made.1, made.2) (none_before (fault_of_boot c.in_err-core.field-0.0) (g.I.Read.remaining c.args.input.now) (g.I.Read.remaining c.read_input.new.input) (boot_is_none c.in_err-core.field-0.0))
+    says_err (λ fault. IsBeforeInput fault (g.I.Read.remaining c.args.input.now) (g.I.Read.remaining c.read_input.new.input)) c.from_residual-in_err-core.result c.from_residual-in_err-core.ensures.1 (none_before (fault_of_boot c.in_err-core.field-0.0) (g.I.Read.remaining c.args.input.now) (g.I.Read.remaining c.read_input.new.input) (boot_is_none c.in_err-core.field-0.0))
 
 pub returns-in_err-log-clause-asks : goal.returns-in_err-log-clause-asks
 returns-in_err-log-clause-asks g c =
     let asked = g.F.FileSource.asked in
-    let made = err_from_is_err_and c.from_residual-in_err-log.result c.from_residual-in_err-log.ensures.1 in
-    rw (made.1, made.2)
-    (behind (image_files c.args.task.image.now) (asked c.args.files.now) (asked c.read_image.new.files) Memory c.in_ok-file.ensures.asks
+    asks_err c.from_residual-in_err-log.result c.from_residual-in_err-log.ensures.1
+    (after_all (image_files c.args.task.image.now) (asked c.args.files.now) (asked c.read_image.new.files) Memory c.in_ok-file.ensures.asks
     tt)
 
 pub returns-in_err-log-clause-unread : goal.returns-in_err-log-clause-unread
 returns-in_err-log-clause-unread g c =
-    let made = err_from_is_err_and c.from_residual-in_err-log.result c.from_residual-in_err-log.ensures.1 in
-    rw (made.1, made.2) (none_before Memory (g.I.Read.remaining c.args.input.now) (g.I.Read.remaining c.read_input.new.input) tt)
+    says_err (λ fault. IsBeforeInput fault (g.I.Read.remaining c.args.input.now) (g.I.Read.remaining c.read_input.new.input)) c.from_residual-in_err-log.result c.from_residual-in_err-log.ensures.1 (none_before Memory (g.I.Read.remaining c.args.input.now) (g.I.Read.remaining c.read_input.new.input) tt)
 
 pub returns-in_err-stop-clause-asks : goal.returns-in_err-stop-clause-asks
 returns-in_err-stop-clause-asks g c =
     let asked = g.F.FileSource.asked in
-    let made = err_from_is_err_and c.from_residual-in_err-stop.result c.from_residual-in_err-stop.ensures.1 in
-    rw (made.1, made.2)
-    (behind (image_files c.args.task.image.now) (asked c.args.files.now) (asked c.read_image.new.files) Memory c.in_ok-file.ensures.asks
+    asks_err c.from_residual-in_err-stop.result c.from_residual-in_err-stop.ensures.1
+    (after_all (image_files c.args.task.image.now) (asked c.args.files.now) (asked c.read_image.new.files) Memory c.in_ok-file.ensures.asks
     tt)
 
 pub returns-in_err-stop-clause-unread : goal.returns-in_err-stop-clause-unread
 returns-in_err-stop-clause-unread g c =
-    let made = err_from_is_err_and c.from_residual-in_err-stop.result c.from_residual-in_err-stop.ensures.1 in
-    rw (made.1, made.2) (none_before Memory (g.I.Read.remaining c.args.input.now) (g.I.Read.remaining c.read_input.new.input) tt)
+    says_err (λ fault. IsBeforeInput fault (g.I.Read.remaining c.args.input.now) (g.I.Read.remaining c.read_input.new.input)) c.from_residual-in_err-stop.result c.from_residual-in_err-stop.ensures.1 (none_before Memory (g.I.Read.remaining c.args.input.now) (g.I.Read.remaining c.read_input.new.input) tt)
 
 pub returns-in_err-done-clause-asks : goal.returns-in_err-done-clause-asks
 returns-in_err-done-clause-asks g c =
     let asked = g.F.FileSource.asked in
-    let made = err_from_is_err_and c.from_residual-in_err-done.result c.from_residual-in_err-done.ensures.1 in
-    rw (made.1, made.2)
-    (behind (image_files c.args.task.image.now) (asked c.args.files.now) (asked c.read_image.new.files) Memory c.in_ok-file.ensures.asks
+    asks_err c.from_residual-in_err-done.result c.from_residual-in_err-done.ensures.1
+    (after_all (image_files c.args.task.image.now) (asked c.args.files.now) (asked c.read_image.new.files) Memory c.in_ok-file.ensures.asks
     tt)
 
 pub returns-in_err-done-clause-unread : goal.returns-in_err-done-clause-unread
 returns-in_err-done-clause-unread g c =
-    let made = err_from_is_err_and c.from_residual-in_err-done.result c.from_residual-in_err-done.ensures.1 in
-    rw (made.1, made.2) (none_before Memory (g.I.Read.remaining c.args.input.now) (g.I.Read.remaining c.read_input.new.input) tt)
+    says_err (λ fault. IsBeforeInput fault (g.I.Read.remaining c.args.input.now) (g.I.Read.remaining c.read_input.new.input)) c.from_residual-in_err-done.result c.from_residual-in_err-done.ensures.1 (none_before Memory (g.I.Read.remaining c.args.input.now) (g.I.Read.remaining c.read_input.new.input) tt)

@@ -1,7 +1,7 @@
 use Rattle.std.proofs.Common.{◌≡◌, ◌∙◌, ap, subst, sym, List, ℕ, ◌++◌, IfSome}
 use Rattle.std.proofs.lemmas.Result.{err_from_is_err_and}
 use Rattle.m161_machine.specs.History.{boot_fault}
-use Rattle.s161_base.proofs.Asking.{asks_both, behind, boot_is_none, image_unread, later}
+use Rattle.s161_base.proofs.Asking.{after_all, asks_both, asks_err, boot_is_none, image_unread, later, memory_is_none}
 use Rattle.s161_base.proofs.Failing.{state_booted}
 use Rattle.s161_base.specs.Asked.{image_files, option_files}
 use Rattle.s161_base.specs.declared.fault.Fault.TheVariants.{Memory}
@@ -48,8 +48,7 @@ returns-clause-ok g c =
 pub returns-in_err-file-clause-asks : goal.returns-in_err-file-clause-asks
 returns-in_err-file-clause-asks g c =
     let asked = g.F.FileSource.asked in
-    let made = err_from_is_err_and c.from_residual.result c.from_residual.ensures.1 in
-    rw (made.1, made.2)
+    asks_err c.from_residual.result c.from_residual.ensures.1
     (image_unread c.args.task.image (option_files c.args.task.drive.keys) (asked c.args.files.now) (asked c.read_image.new.files) c.in_err-file.field-0.0
     c.in_err-file.ensures.asks c.in_err-file.ensures.err)
 
@@ -58,8 +57,7 @@ returns-in_err-keys-clause-asks g c =
     let between = g.F.FileSource.asked c.read_image.new.files in
     let after = g.F.FileSource.asked c.read_keys.new.files in
     let fault = c.in_err-keys.field-0.0 in
-    let made = err_from_is_err_and c.from_residual-in_err-keys.result c.from_residual-in_err-keys.ensures.1 in
-    rw (made.1, made.2)
+    asks_err c.from_residual-in_err-keys.result c.from_residual-in_err-keys.ensures.1
     (later (image_files c.args.task.image.now) (option_files c.args.task.drive.keys) (g.F.FileSource.asked c.args.files.now) between after fault c.in_ok-file.ensures.asks
     (last_unread c.args.task.drive.keys between after fault c.in_err-keys.ensures.asks c.in_err-keys.ensures.err))
 
@@ -70,8 +68,7 @@ returns-in_err-core-clause-asks g c =
     let image = image_files c.args.task.image.now in
     let keys = option_files c.args.task.drive.keys in
     let all = asks_both image keys (asked c.args.files.now) (asked c.read_image.new.files) (asked c.read_keys.new.files) c.in_ok-file.ensures.asks c.in_ok-keys.ensures.asks in
-    let made = err_from_is_err_and c.from_residual-in_err-core.result c.from_residual-in_err-core.ensures.1 in
-    rw (made.1, made.2) (behind (image ++ keys) (asked c.args.files.now) (asked c.read_keys.new.files) (fault_of_boot c.in_err-core.field-0.0) all (boot_is_none c.in_err-core.field-0.0))
+    asks_err c.from_residual-in_err-core.result c.from_residual-in_err-core.ensures.1 (after_all (image ++ keys) (asked c.args.files.now) (asked c.read_keys.new.files) (fault_of_boot c.in_err-core.field-0.0) all (boot_is_none c.in_err-core.field-0.0))
 
 pub returns-in_err-events-clause-asks : goal.returns-in_err-events-clause-asks
 returns-in_err-events-clause-asks g c =
@@ -79,8 +76,9 @@ returns-in_err-events-clause-asks g c =
     let image = image_files c.args.task.image.now in
     let keys = option_files c.args.task.drive.keys in
     let all = asks_both image keys (asked c.args.files.now) (asked c.read_image.new.files) (asked c.read_keys.new.files) c.in_ok-file.ensures.asks c.in_ok-keys.ensures.asks in
-    let made = err_from_is_err_and c.from_residual-in_err-events.result c.from_residual-in_err-events.ensures.1 in
-    rw (made.1, made.2, c.in_err-events.ensures.err) (behind (image ++ keys) (asked c.args.files.now) (asked c.read_keys.new.files) Memory all tt)
+    asks_err c.from_residual-in_err-events.result c.from_residual-in_err-events.ensures.1
+    (after_all (image ++ keys) (asked c.args.files.now) (asked c.read_keys.new.files) c.in_err-events.field-0.0 all
+    (memory_is_none c.in_err-events.field-0.0 c.in_err-events.ensures.err))
 
 pub returns-in_err-text-clause-asks : goal.returns-in_err-text-clause-asks
 returns-in_err-text-clause-asks g c =
@@ -88,8 +86,7 @@ returns-in_err-text-clause-asks g c =
     let image = image_files c.args.task.image.now in
     let keys = option_files c.args.task.drive.keys in
     let all = asks_both image keys (asked c.args.files.now) (asked c.read_image.new.files) (asked c.read_keys.new.files) c.in_ok-file.ensures.asks c.in_ok-keys.ensures.asks in
-    let made = err_from_is_err_and c.from_residual-in_err-text.result c.from_residual-in_err-text.ensures.1 in
-    rw (made.1, made.2) (behind (image ++ keys) (asked c.args.files.now) (asked c.read_keys.new.files) Memory all tt)
+    asks_err c.from_residual-in_err-text.result c.from_residual-in_err-text.ensures.1 (after_all (image ++ keys) (asked c.args.files.now) (asked c.read_keys.new.files) Memory all tt)
 
 pub returns-clause-asks : goal.returns-clause-asks
 returns-clause-asks g c =

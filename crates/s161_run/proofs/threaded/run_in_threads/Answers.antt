@@ -3,7 +3,7 @@ use Rattle.std.proofs.lemmas.Result.{err_from_is_err_and}
 use Rattle.m161_machine.specs.declared.conf.Conf.{Conf}
 use Rattle.m161_machine.specs.History.{Start, boot_fault}
 use Rattle.m161_threads.specs.Runs.{Interleaves, bad_call}
-use Rattle.s161_base.proofs.Asking.{IsNoFile, alone_unread, behind, boot_is_none, memory_is_none}
+use Rattle.s161_base.proofs.Asking.{IsNoFile, after_all, alone_unread, asks_err, boot_is_none, memory_is_none}
 use Rattle.s161_base.specs.Asked.{image_files}
 use Rattle.s161_base.specs.Faults.{BootsTo, fault_of_boot}
 use Rattle.s161_base.specs.Samples.{image_file}
@@ -62,8 +62,7 @@ returns-in_err-report-clause-fault g c =
 pub returns-in_err-file-clause-asks : goal.returns-in_err-file-clause-asks
 returns-in_err-file-clause-asks g c =
     let asked = g.F.FileSource.asked in
-    let made = err_from_is_err_and c.from_residual.result c.from_residual.ensures.1 in
-    rw (made.1, made.2)
+    asks_err c.from_residual.result c.from_residual.ensures.1
     (alone_unread c.args.task.run.image (asked c.args.files.now) (asked c.read_image.new.files) c.in_err-file.field-0.0 c.in_err-file.ensures.asks
     c.in_err-file.ensures.err)
 
@@ -71,23 +70,20 @@ returns-in_err-file-clause-asks g c =
 pub returns-in_err-machine-clause-asks : goal.returns-in_err-machine-clause-asks
 returns-in_err-machine-clause-asks g c =
     let asked = g.F.FileSource.asked in
-    let made = err_from_is_err_and c.from_residual-in_err-machine.result c.from_residual-in_err-machine.ensures.1 in
-    rw (made.1, made.2)
-    (behind (image_files c.args.task.run.image.now) (asked c.args.files.now) (asked c.read_image.new.files) (fault_of_boot c.in_err-machine.field-0.0) c.in_ok-file.ensures.asks
+    asks_err c.from_residual-in_err-machine.result c.from_residual-in_err-machine.ensures.1
+    (after_all (image_files c.args.task.run.image.now) (asked c.args.files.now) (asked c.read_image.new.files) (fault_of_boot c.in_err-machine.field-0.0) c.in_ok-file.ensures.asks
     (boot_is_none c.in_err-machine.field-0.0))
 
 pub returns-in_err-report-clause-asks : goal.returns-in_err-report-clause-asks
 returns-in_err-report-clause-asks g c =
     let asked = g.F.FileSource.asked in
-    let made = err_from_is_err_and c.from_residual-in_err-report.result c.from_residual-in_err-report.ensures.1 in
-    rw (made.1, made.2)
-    (behind (image_files c.args.task.run.image.now) (asked c.args.files.now) (asked c.read_image.new.files) c.in_err-report.field-0.0 c.in_ok-file.ensures.asks
+    asks_err c.from_residual-in_err-report.result c.from_residual-in_err-report.ensures.1
+    (after_all (image_files c.args.task.run.image.now) (asked c.args.files.now) (asked c.read_image.new.files) c.in_err-report.field-0.0 c.in_ok-file.ensures.asks
     (failed_booted IsNoFile c.in_ok-machine.machine (number_of c.in_ok-machine.machine) c.args.task.burst c.in_err-report.field-0.0 refl (λ cause is. tt) tt c.in_err-report.ensures.fault))
 
 pub returns-in_err-done-clause-asks : goal.returns-in_err-done-clause-asks
 returns-in_err-done-clause-asks g c =
     let asked = g.F.FileSource.asked in
-    let made = err_from_is_err_and c.from_residual-in_err-done.result c.from_residual-in_err-done.ensures.1 in
-    rw (made.1, made.2)
-    (behind (image_files c.args.task.run.image.now) (asked c.args.files.now) (asked c.read_image.new.files) c.in_err-done.field-0.0 c.in_ok-file.ensures.asks
+    asks_err c.from_residual-in_err-done.result c.from_residual-in_err-done.ensures.1
+    (after_all (image_files c.args.task.run.image.now) (asked c.args.files.now) (asked c.read_image.new.files) c.in_err-done.field-0.0 c.in_ok-file.ensures.asks
     (memory_is_none c.in_err-done.field-0.0 c.in_err-done.ensures.err))
