@@ -257,8 +257,8 @@ fn audit_event<T: Tlb, D: Console>(
     }
 }
 
-// Audits a list of events from a state on. The same as `find`, since a search has each event by itself: to
-// make runs of them would take memory, and a loop over each run's times for one event.
+// Audits a list of events from a state on. `find` does the same with runs of alike events, as a
+// schedule has them; a search has its events one by one, and runs of them would take memory.
 fn find_in<T: Tlb, D: Console>(
     core: &mut Core<T, D>,
     events: &[Event],
