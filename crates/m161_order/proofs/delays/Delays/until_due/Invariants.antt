@@ -1,6 +1,5 @@
-use Rattle.std.proofs.Common.{◌≡◌, ℕ, ◌^◌, ◌-◌, ◌<◌, take}
-use Rattle.std.specs.List.{fold}
-use Rattle.std.specs.Prelude.{◌==◌, count_by, min}
+use Rattle.std.proofs.Common.{◌≡◌, ℕ, ◌<◌, take}
+use Rattle.std.specs.Prelude.{◌==◌, count_by}
 use Rattle.m161_order.specs.Delays.{until_due}
 use Rattle.m161_order.proofs.delays.Delays.until_due.Given as goal
 
