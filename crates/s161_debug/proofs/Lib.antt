@@ -1,3 +1,4 @@
+pub mod Asking
 mod Faults
 mod Jumping
 mod Numbers

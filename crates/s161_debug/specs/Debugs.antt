@@ -1,4 +1,4 @@
-use Rattle.std.specs.Prelude.{◌≡◌, ◌⊎◌, ℕ, Bool, true, false, nat_eq, if◌then◌else◌, List, [], ◌∷◌, Option, None, Some, IfSome, codes}
+use Rattle.std.specs.Prelude.{◌≡◌, ◌⊎◌, ℕ, Bool, true, false, nat_eq, if◌then◌else◌, List, [], ◌∷◌, ◌++◌, Option, None, Some, IfSome, codes}
 use Rattle.std.specs.List.{starts_with}
 use Rattle.m161_machine.specs.declared.conf.BootError.TheVariants.{Load}
 use Rattle.m161_machine.specs.declared.event.Entry.{Entry}
@@ -14,6 +14,7 @@ use Rattle.s161_command.specs.declared.task.AskedSize.{AskedSize}
 use Rattle.s161_command.specs.declared.task.DebugTask.{DebugTask}
 use Rattle.s161_command.specs.declared.task.Source.{Source}
 use Rattle.s161_command.specs.declared.task.Source.TheVariants as source
+use Rattle.s161_base.specs.Asked.{image_files, option_files}
 use Rattle.s161_base.specs.declared.fault.Fault.{Fault}
 use Rattle.s161_base.specs.declared.fault.Fault.TheVariants.{Conf, Image, Log, LogImage, LogMachine, Memory, Schedule}
 use Rattle.s161_base.specs.Faults.{BootsTo}
@@ -29,6 +30,15 @@ use Rattle.s161_run.specs.Schedules.{Chose}
 use Rattle.s161_debug.specs.Sessions.{Breaks, Ends, session_of}
 
 -- The inputs of `debug`: its image, and its list of events.
+
+-- its files, in the order in which they are read: the image's, and that of the events, or of the keys
+-- of the driven run that chooses them, if they are given
+abbrev pub source_files : Source → List (List ℕ)
+source_files (source.File name) = name.now ∷ []
+source_files (source.Driven drive) = option_files drive.keys
+
+abbrev pub debug_files : DebugTask → List (List ℕ)
+debug_files task = image_files task.image.now ++ source_files task.source
 
 -- the first of these lines that is no comment, or the empty line
 abbrev pub first_plain : List (List ℕ) → List ℕ
@@ -128,8 +138,7 @@ IsSourceFault (source.Driven drive) size files file fault =
     IsKeysFile drive.keys fault ⊎ IsMachineFault size file None fault
 
 -- a fault before the session: memory was refused, whatever else is at fault; or the image's file
--- isn't read; or the source's fault. The order in which files are read is tested: the image's, then
--- that of the events or the keys
+-- isn't read; or the source's fault
 abbrev pub IsEarlyFault :
     DebugTask → (List ℕ → Option (List ℕ)) → Option (List ℕ) → Fault → Type 0
 IsEarlyFault task files image fault =

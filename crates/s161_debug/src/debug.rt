@@ -2,9 +2,10 @@
 
 ghost use Rattle.std.specs.Prelude.{IfErr, OnOk};
 ghost use Rattle.s161_command.specs.Commands.{HasSourceLimits};
+ghost use Rattle.s161_base.specs.Asked.{AsksFor};
 ghost use Rattle.s161_base.specs.Samples.{image_file};
 ghost use Rattle.s161_base.specs.Streams.{streams};
-ghost use Rattle.s161_debug.specs.Debugs.{IsDebug, IsDebugFault};
+ghost use Rattle.s161_debug.specs.Debugs.{IsDebug, IsDebugFault, debug_files};
 
 use crate::Session;
 use crate::left::Left;
@@ -44,6 +45,8 @@ pub fn debug<'a, F: FileSource, I: Read, O: Write>(
         (image_file (F.known files.old) task.entry.image.now)
         (streams (I.remaining input.old) (I.remaining input.new) (O.contents output.old)
         (O.contents output.new))) }
+    ensures asks { AsksFor (debug_files task.entry) result (F.asked files.old)
+        (F.asked files.new) }
 {
     let opened = open(alloc, files, task)?;
     let session = Session::with_style(opened.machine, opened.style);

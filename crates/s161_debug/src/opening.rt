@@ -1,9 +1,10 @@
 //! The machine and the events of a session.
 
-ghost use Rattle.std.specs.Prelude.{◌≡◌, ◌⊎◌, ◌≤◌, false, true, IfErr, IfOk, None};
+ghost use Rattle.std.specs.Prelude.{◌≡◌, ◌⊎◌, ◌≤◌, [], ◌∷◌, false, true, IfErr, IfOk, None};
 ghost use Rattle.m161_order.specs.Order.{order_fault};
 ghost use Rattle.m161_text.specs.Lines.{lines_of};
 ghost use Rattle.s161_command.specs.Commands.{HasSourceLimits};
+ghost use Rattle.s161_base.specs.Asked.{AsksFor, option_files};
 ghost use Rattle.s161_base.specs.Faults.{BootsTo};
 ghost use Rattle.s161_base.specs.Machines.{asked_conf, machine_fault};
 ghost use Rattle.s161_base.specs.Samples.{image_file};
@@ -11,7 +12,7 @@ ghost use Rattle.s161_base.specs.Texts.{IsLogFault, IsScheduleFault};
 ghost use Rattle.s161_command.specs.declared.task.Source.TheVariants as sources;
 ghost use Rattle.s161_run.specs.Driven.{rules_of};
 ghost use Rattle.s161_run.specs.Schedules.{Chose};
-ghost use Rattle.s161_debug.specs.Debugs.{first_plain, is_log, IsEarlyFault, IsListFault, IsMachineFault, IsOpened, IsSourceFault, Lists, ListsAs, Opens};
+ghost use Rattle.s161_debug.specs.Debugs.{debug_files, first_plain, is_log, source_files, IsEarlyFault, IsListFault, IsMachineFault, IsOpened, IsSourceFault, Lists, ListsAs, Opens};
 ghost use Rattle.s161_debug.specs.helpers.Debugs.{IsBootFault};
 
 use m161::Machine;
@@ -68,6 +69,8 @@ pub(crate) fn open<'a, F: FileSource>(
         opened.style) }
     ensures fault { IfErr result (IsEarlyFault task.entry (F.known files.old)
         (image_file (F.known files.old) task.entry.image.now)) }
+    ensures asks { AsksFor (debug_files task.entry) result (F.asked files.old)
+        (F.asked files.new) }
 {
     let file = read_image(alloc, files, task.image)?;
     let image = file.as_slice();
@@ -93,6 +96,8 @@ fn open_image<'a, F: FileSource>(
         opened.machine opened.events.items) }
     ensures fault { IfErr result (λ fault. (fault ≡ Fault.Memory)
         ⊎ IsSourceFault source.entry size (F.known files.old) image.now fault) }
+    ensures asks { AsksFor (source_files source.entry) result (F.asked files.old)
+        (F.asked files.new) }
 {
     match source {
         Source::File(name) => open_file(alloc, files, image, size, name),
@@ -112,6 +117,8 @@ fn open_file<'a, F: FileSource>(
         image.now opened.machine opened.events.items) }
     ensures fault { IfErr result (λ fault. (fault ≡ Fault.Memory)
         ⊎ IsSourceFault (sources.File name.entry) size (F.known files.old) image.now fault) }
+    ensures asks { AsksFor (name.entry.now ∷ []) result (F.asked files.old)
+        (F.asked files.new) }
 {
     let text = read_text(alloc, files, name)?;
     let listed = list_text(alloc, text.as_str())?;
@@ -131,6 +138,8 @@ fn open_driven<'a, F: FileSource>(
         (F.known files.old) image.now opened.machine opened.events.items) }
     ensures fault { IfErr result (λ fault. (fault ≡ Fault.Memory)
         ⊎ IsSourceFault (sources.Driven drive.entry) size (F.known files.old) image.now fault) }
+    ensures asks { AsksFor (option_files drive.entry.keys) result (F.asked files.old)
+        (F.asked files.new) }
 {
     let keys = read_keys(alloc, files, drive.keys)?;
     open_chosen(alloc, image, size, drive, &keys)

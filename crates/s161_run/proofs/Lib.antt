@@ -1,4 +1,4 @@
-mod Asking
+pub mod Asking
 mod Failing
 pub mod Making
 mod Replaying
@@ -9,4 +9,5 @@ pub mod Logging
 mod Sending
 mod Choosing
 mod Running
+mod Scheduling
 mod Turning

@@ -1,4 +1,4 @@
-use Rattle.std.specs.Prelude.{◌≡◌, ◌≢◌, ◌⊎◌, ℕ, false, List, ◌++◌, Option, Some, IfSome}
+use Rattle.std.specs.Prelude.{◌≡◌, ◌≢◌, ◌⊎◌, ℕ, ◌≤◌, false, if◌then◌else◌, List, ◌++◌, length, Option, Some, IfSome}
 use Rattle.m161_machine.specs.declared.conf.BootError.TheVariants.{Load}
 use Rattle.m161_machine.specs.declared.event.Entry.{Entry}
 use Rattle.m161_machine.specs.declared.event.Event.{Event}
@@ -10,7 +10,9 @@ use Rattle.m161_drive.specs.declared.run.Driven.{Driven}
 use Rattle.m161_drive.specs.declared.run.Stop.TheVariants as drive
 use Rattle.m161_drive.specs.Drive.{Drives}
 use Rattle.m161_drive.specs.Policy.{Rules}
+use Rattle.m161_steplog.specs.Schedule.{IsSchedule}
 use Rattle.m161_steplog.specs.Written.{schedule_text}
+use Rattle.m161_text.specs.Lines.{lines_of}
 use Rattle.s161_command.specs.declared.task.ScheduleTask.{ScheduleTask}
 use Rattle.s161_base.specs.Asked.{image_files, option_files}
 use Rattle.s161_base.specs.declared.fault.Fault.{Fault}
@@ -20,7 +22,10 @@ use Rattle.s161_base.specs.Known.{OfKnown}
 use Rattle.s161_base.specs.Reading.{IsOfBytes}
 use Rattle.s161_base.specs.Samples.{IsFileName}
 use Rattle.s161_base.specs.Sizes.{conf_of}
+use Rattle.s161_run.specs.declared.events.Stop.{Stop}
+use Rattle.s161_run.specs.declared.events.Stop.TheVariants.{End}
 use Rattle.s161_run.specs.Driven.{AreKeys, IsKeysFile, rules_of}
+use Rattle.s161_run.specs.Runs.{MakesEvents, stop_off}
 
 -- The output of `schedule`.
 
@@ -38,8 +43,9 @@ pub record Chose (rules : Rules) (n : ℕ) (s : State) (events : List Event) : T
   pub accepted : (refusal : Refusal) → driven.stop ≢ drive.Refused refusal
   pub events_are : events ≡ events_of entries
 
--- a finished schedule: the text of the events that the policy chooses; the files have these bytes,
--- and that of the image, as far as they are known
+-- a finished schedule: the text of the events that the policy chooses, which has these events where it
+-- is read, unless they are more than a schedule can have; the files have these bytes, and that of the
+-- image, as far as they are known
 pub record IsScheduled
     (task : ScheduleTask) (files : List ℕ → Option (List ℕ)) (known : Option (List ℕ))
     (text : List ℕ) : Type 0 where
@@ -52,6 +58,15 @@ pub record IsScheduled
   pub events : List Event
   pub chose : Chose (rules_of task.drive keys) task.drive.events booted events
   pub text_is : text ≡ schedule_text events
+  pub is_read : length events ≤ 16_777_216 → IsSchedule (lines_of text) events
+
+-- why `run` makes no more events behind the last of a schedule, which led to this state
+abbrev pub stop_behind : State → Stop
+stop_behind s = if s.board.off then stop_off s.conflict else End
+
+-- `run` makes all of these events, with these entries, and ends in this state
+abbrev pub RunsAsDriven : State → List Event → List Entry → State → Type 0
+RunsAsDriven booted events entries s = MakesEvents booted events (stop_behind s) entries s
 
 -- what a fault that ends `schedule` says of its inputs, as for a driven run
 abbrev pub IsScheduledFault : ScheduleTask → Option (List ℕ) → Fault → Type 0

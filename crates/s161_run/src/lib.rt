@@ -9,6 +9,7 @@ pub mod demo;
 pub mod driven;
 pub mod events;
 mod keys;
+pub mod laws;
 mod log;
 pub mod policy;
 pub mod replay;

@@ -1,4 +1,5 @@
 pub mod Unaudited
+pub mod Asking
 pub mod Booting
 pub mod Reading
 pub mod Failing

@@ -1,4 +1,4 @@
-use Rattle.std.specs.Prelude.{◌≡◌, ◌⊎◌, ℕ, false, List, Option, None, Some, Ok, IfSome, codes, decimal}
+use Rattle.std.specs.Prelude.{◌≡◌, ◌⊎◌, ℕ, false, List, [], ◌∷◌, ◌++◌, Option, None, Some, Ok, IfSome, codes, decimal}
 use Rattle.m161_machine.specs.declared.conf.BootError.TheVariants.{Load}
 use Rattle.m161_machine.specs.declared.event.Event.{Event}
 use Rattle.m161_machine.specs.Conf.{is_within_limits}
@@ -15,6 +15,7 @@ use Rattle.m161_text.specs.Lines.{with_line_end, FirstBad, lines_of}
 use Rattle.m161_text.specs.Parts.{◌␣◌, word_text}
 use Rattle.m161_steplog.specs.Schedule.{AreScheduleLines, IsSchedule}
 use Rattle.s161_command.specs.declared.task.FilesTask.{FilesTask}
+use Rattle.s161_base.specs.Asked.{image_files}
 use Rattle.s161_base.specs.declared.fault.Fault.{Fault}
 use Rattle.s161_base.specs.declared.fault.Fault.TheVariants.{Conf, File, Image, Input, Memory, Schedule, Watch, Watches}
 use Rattle.s161_base.specs.Known.{IsText, OfKnown, OfText}
@@ -25,6 +26,10 @@ use Rattle.s161_base.specs.Samples.{IsFileName}
 use Rattle.s161_base.specs.Sizes.{conf_of}
 
 -- The output and the exit status of `audit`.
+
+-- its files, in the order in which they are read
+abbrev pub audit_files : FilesTask → List (List ℕ)
+audit_files task = image_files task.image.now ++ task.text.now ∷ []
 
 abbrev pub finding_text : Finding → List ℕ
 finding_text Clean = codes "clean"
@@ -80,8 +85,7 @@ HasWatches watches = OfWatches watches (λ watched. Unit {0})
 -- what a fault that ends an audit says of its inputs: of a file, that it is the image's or the
 -- watches'; of the watches or the schedule, its first bad line; of the configuration, the image or a
 -- watch, that the watches and the schedule had no fault. File, Input and Memory hold whatever else is
--- at fault. The order in which inputs are read is tested: the image's file, the watches' file, then
--- standard input
+-- at fault
 abbrev pub IsAuditFault :
     FilesTask → Option (List ℕ) → Option (List ℕ) → Option (List ℕ) → Fault → Type 0
 IsAuditFault task image watches input (File name why) =

@@ -1,10 +1,11 @@
-use Rattle.std.specs.Prelude.{◌≡◌, ℕ, List, [], Option, None, Some, IfSome}
+use Rattle.std.specs.Prelude.{◌≡◌, ℕ, List, [], ◌∷◌, ◌++◌, flat_map, Option, None, Some, IfSome}
 use Rattle.std.proofs.Common.{Bor}
 use Rattle.m161_audit.specs.declared.watch.Watch.{Watch}
 use Rattle.m161_audit.specs.WatchText.{AreWatchLines}
 use Rattle.m161_judge.specs.Verdict.{Criteria}
 use Rattle.m161_text.specs.Lines.{FirstBad}
 use Rattle.s161_command.specs.declared.task.SearchTask.{SearchTask}
+use Rattle.s161_base.specs.Asked.{image_files, option_files}
 use Rattle.s161_base.specs.declared.fault.Fault.{Fault}
 use Rattle.s161_base.specs.Known.{OfKnown, OfText}
 use Rattle.s161_base.specs.Reading.{IsFileUnread, IsOfText}
@@ -12,6 +13,13 @@ use Rattle.s161_search.specs.Audits.{OfWatches}
 use Rattle.s161_run.specs.Driven.{AreKeys}
 
 -- What a search reads.
+
+-- its files, in the order in which they are read: the image's, and of the options that are given those
+-- of the keys, the watches and the output
+abbrev pub search_files : SearchTask → List (List ℕ)
+search_files task =
+    image_files task.image.now
+    ++ flat_map option_files (task.drive.keys ∷ task.watches ∷ task.output ∷ [])
 
 -- the image, the keys that are typed, and by what runs are judged
 pub record Given : Type 0 where

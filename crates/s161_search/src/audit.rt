@@ -3,7 +3,8 @@
 ghost use Rattle.std.specs.Prelude.{◌≡◌, IfErr, IfOk, Some, decimal, string_bytes};
 ghost use Rattle.m161_text.specs.Lines.{with_line_end};
 ghost use Rattle.m161_text.specs.Parts.{◌␣◌, word_text};
-ghost use Rattle.s161_search.specs.Audits.{IsAudited, IsAuditFault, fault_of_audit, finding_text, status_of_finding};
+ghost use Rattle.s161_search.specs.Audits.{IsAudited, IsAuditFault, audit_files, fault_of_audit, finding_text, status_of_finding};
+ghost use Rattle.s161_base.specs.Asked.{AsksFor, IsBeforeInput};
 ghost use Rattle.s161_base.specs.Samples.{image_file};
 
 use crate::watches::watches_of;
@@ -103,6 +104,10 @@ pub fn audit<'a, F: FileSource, I: Read>(
     ensures fault { IfErr result (IsAuditFault task.entry
         (image_file (F.known files.old) task.entry.image.now)
         (F.known files.old task.entry.text.now) (I.remaining input.old)) }
+    ensures asks { AsksFor (audit_files task.entry) result (F.asked files.old)
+        (F.asked files.new) }
+    ensures unread { IfErr result (λ fault. IsBeforeInput fault (I.remaining input.old)
+        (I.remaining input.new)) }
 {
     let file = read_image(alloc, files, task.image)?;
     let text = read_text(alloc, files, task.text)?;

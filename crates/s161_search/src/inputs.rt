@@ -2,10 +2,11 @@
 
 ghost use Rattle.std.specs.Prelude.{◌≡◌, ◌⊎◌, ℕ, [], List, IfErr, IfOk, MatchOption, None, Some, option_map, string_bytes};
 ghost use Rattle.m161_judge.specs.Judge.{bytes_of};
+ghost use Rattle.s161_base.specs.Asked.{Asks, AsksFor, option_files};
 ghost use Rattle.s161_base.specs.Known.{IsText};
 ghost use Rattle.s161_base.specs.Samples.{image_file};
 ghost use Rattle.s161_run.specs.Driven.{IsKeysFile};
-ghost use Rattle.s161_search.specs.Given.{IsGiven, IsOutputOf, IsWatchesFile};
+ghost use Rattle.s161_search.specs.Given.{IsGiven, IsOutputOf, IsWatchesFile, search_files};
 ghost use Rattle.s161_search.specs.helpers.Inputs.{given_of};
 ghost use Rattle.s161_search.specs.Searches.{IsSearchFault};
 ghost use Rattle.s161_search.specs.helpers.Watches.{AreWatchesIn, IsFaultIn, IsTextOf};
@@ -56,7 +57,7 @@ fn text_of(bytes: Vec<u8>) -> Option<String>
 }
 
 // The text of the watches, if there is one.
-#[tactic(auto, using(crate::proofs::Reading::unread_text))]
+#[tactic(auto, using(crate::proofs::Reading::unread_text, s161_base::proofs::Asking::asks_none))]
 fn read_watches<'a, F: FileSource>(
     alloc: Global,
     files: &mut F,
@@ -65,6 +66,7 @@ fn read_watches<'a, F: FileSource>(
     ensures whole { IfOk result (λ text.
         IsTextOf name.entry (F.known files.old) (option_map string_bytes text)) }
     ensures still { (other : List ℕ) → F.known files.new other ≡ F.known files.old other }
+    ensures asks { Asks (option_files name.entry) (F.asked files.old) (F.asked files.new) }
     ensures err { IfErr result (λ fault. IsWatchesFile name.entry (F.known files.old) fault
         ⊎ (fault ≡ Fault.Memory)) }
 {
@@ -77,6 +79,7 @@ fn read_watches<'a, F: FileSource>(
 }
 
 // The bytes that the console should send, if any are asked for.
+#[tactic(auto, using(s161_base::proofs::Asking::asks_none))]
 fn read_output<'a, F: FileSource>(
     alloc: Global,
     files: &mut F,
@@ -84,6 +87,7 @@ fn read_output<'a, F: FileSource>(
 ) -> Result<Option<Vec<u8>>, Fault<'a>>
     ensures whole { IfOk result (λ output. IsOutputOf name.entry (F.known files.old)
         (option_map (λ bytes. bytes.items) output)) }
+    ensures asks { Asks (option_files name.entry) (F.asked files.old) (F.asked files.new) }
     ensures err { IfErr result (λ fault. IsKeysFile name.entry fault ⊎ (fault ≡ Fault.Memory)) }
 {
     match name {
@@ -116,6 +120,8 @@ pub(crate) fn read_inputs<'a, F: FileSource>(
         (image_file (F.known files.old) task.entry.image.now) (given_of inputs)) }
     ensures fault { IfErr result (IsSearchFault task.entry (F.known files.old)
         (image_file (F.known files.old) task.entry.image.now)) }
+    ensures asks { AsksFor (search_files task.entry) result (F.asked files.old)
+        (F.asked files.new) }
 {
     let file = read_image(alloc, files, task.image)?;
     let keys = read_keys(alloc, files, task.drive.keys)?;

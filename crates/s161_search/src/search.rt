@@ -2,7 +2,9 @@
 
 ghost use Rattle.std.specs.Prelude.{◌≡◌, ◌≢◌, ◌≤◌, IfErr, IfOk, None};
 ghost use Rattle.m161_order.specs.Order.{order_fault};
+ghost use Rattle.s161_base.specs.Asked.{AsksFor};
 ghost use Rattle.s161_base.specs.Samples.{image_file};
+ghost use Rattle.s161_search.specs.Given.{search_files};
 ghost use Rattle.s161_search.specs.helpers.Begun.{BeginsAt};
 ghost use Rattle.s161_search.specs.helpers.Inputs.{given_of};
 ghost use Rattle.s161_search.specs.Searches.{IsFound, IsSearched, IsSearchFault};
@@ -37,6 +39,8 @@ pub fn search<'a, F: FileSource>(
         (image_file (F.known files.old) task.entry.image.now) done.text.items done.status) }
     ensures fault { IfErr result (IsSearchFault task.entry (F.known files.old)
         (image_file (F.known files.old) task.entry.image.now)) }
+    ensures asks { AsksFor (search_files task.entry) result (F.asked files.old)
+        (F.asked files.new) }
     ensures within { IfOk result (λ done. (done.status ≤ 5) × (done.status ≢ 2)) }
 {
     let inputs = read_inputs(alloc, files, task)?;

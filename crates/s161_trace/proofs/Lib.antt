@@ -1,3 +1,4 @@
+mod Asking
 mod Printing
 mod Scheduling
 mod Driving

@@ -14,6 +14,7 @@ use Rattle.m161_drive.specs.Drive.{Chooses, Drives}
 use Rattle.m161_steplog.specs.Schedule.{IsSchedule}
 use Rattle.m161_text.specs.Lines.{lines_of, text_of, with_line_end}
 use Rattle.m161_trace.specs.Line.{event_line}
+use Rattle.s161_base.specs.Asked.{image_files, option_files}
 use Rattle.s161_base.specs.declared.fault.Fault.{Fault}
 use Rattle.s161_base.specs.declared.fault.Fault.TheVariants.{Memory, Output}
 use Rattle.s161_base.specs.Faults.{BootsIn}
@@ -31,6 +32,15 @@ use Rattle.s161_run.specs.declared.events.Stop.{Stop}
 use Rattle.s161_run.specs.Runs.{IsFaultOf, MakesEvents, stop_line}
 
 -- A line for each event of a run, and last why the run stopped.
+
+-- its files, in the order in which they are read: the image's, and with an order that of the keys, if
+-- they are given
+abbrev pub keys_files : Option Drive → List (List ℕ)
+keys_files None = []
+keys_files (Some drive) = option_files drive.keys
+
+abbrev pub trace_files : TraceTask → List (List ℕ)
+trace_files task = image_files task.image.now ++ keys_files task.drive
 
 -- an event's line, and then those of the events after it; none where it is refused
 abbrev pub line_and :

@@ -1,15 +1,16 @@
 //! Printing a line for each event of a run.
 
-ghost use Rattle.std.specs.Prelude.{◌≡◌, ℕ, List, Option, IfErr, IfOk, IfSome, None, Some};
+ghost use Rattle.std.specs.Prelude.{◌≡◌, ℕ, ◌++◌, List, Option, IfErr, IfOk, IfSome, None, Some};
 ghost use Rattle.m161_order.specs.Order.{order_fault};
 ghost use Rattle.m161_steplog.specs.Schedule.{IsSchedule};
 ghost use Rattle.m161_text.specs.Lines.{lines_of};
+ghost use Rattle.s161_base.specs.Asked.{AsksFor, IsBeforeInput, image_files, option_files};
 ghost use Rattle.s161_base.specs.Known.{OfText};
 ghost use Rattle.s161_base.specs.Samples.{image_file};
 ghost use Rattle.s161_base.specs.Streams.{streams};
 ghost use Rattle.s161_run.specs.Driven.{AreKeys, IsDrivenFault, rules_of};
 ghost use Rattle.s161_run.specs.Runs.{IsFaultOf};
-ghost use Rattle.s161_trace.specs.Traces.{IsTraced, IsTraceFault, driven_of, run_of};
+ghost use Rattle.s161_trace.specs.Traces.{IsTraced, IsTraceFault, driven_of, run_of, trace_files};
 ghost use Rattle.s161_trace.specs.helpers.Booted.{FailsRun, PrintsRun};
 ghost use Rattle.s161_trace.specs.helpers.Driven.{DrivesAll, DrivesSome};
 ghost use Rattle.s161_trace.specs.helpers.Scheduled.{MakesAll, MakesSome};
@@ -56,6 +57,10 @@ pub fn trace<'a, F: FileSource, I: Read, O: Write>(
         (image_file (F.known files.old) task.entry.image.now)
         (streams (I.remaining input.old) (I.remaining input.new) (O.contents output.old)
         (O.contents output.new))) }
+    ensures asks { AsksFor (trace_files task.entry) result (F.asked files.old)
+        (F.asked files.new) }
+    ensures unread { IfErr result (λ fault. IsBeforeInput fault (I.remaining input.old)
+        (I.remaining input.new)) }
 {
     match task.drive {
         None => trace_schedule(alloc, files, input, output, task),
@@ -79,6 +84,10 @@ fn read_scheduled<'a, F: FileSource, I: Read>(
         (λ text. IsSchedule (lines_of text) read.1)) }
     ensures fault { IfErr result (IsFaultOf (run_of task.entry)
         (image_file (F.known files.old) task.entry.image.now) (I.remaining input.old)) }
+    ensures asks { AsksFor (image_files task.entry.image.now) result (F.asked files.old)
+        (F.asked files.new) }
+    ensures unread { IfErr result (λ fault. IsBeforeInput fault (I.remaining input.old)
+        (I.remaining input.new)) }
 {
     let file = read_image(alloc, files, task.image)?;
     let schedule = read_input(alloc, input)?;
@@ -121,6 +130,10 @@ fn trace_schedule<'a, F: FileSource, I: Read, O: Write>(
         (image_file (F.known files.old) task.entry.image.now)
         (streams (I.remaining input.old) (I.remaining input.new) (O.contents output.old)
         (O.contents output.new))) }
+    ensures asks { AsksFor (image_files task.entry.image.now) result (F.asked files.old)
+        (F.asked files.new) }
+    ensures unread { IfErr result (λ fault. IsBeforeInput fault (I.remaining input.old)
+        (I.remaining input.new)) }
 {
     let read = read_scheduled(alloc, files, input, task)?;
     run_schedule(alloc, &task, &read.0, &read.1, output)
@@ -139,6 +152,8 @@ fn read_driven<'a, F: FileSource>(
         read.1.items) }
     ensures fault { IfErr result (IsDrivenFault (driven_of task.entry options.entry)
         (image_file (F.known files.old) task.entry.image.now)) }
+    ensures asks { AsksFor (image_files task.entry.image.now ++ option_files options.entry.keys)
+        result (F.asked files.old) (F.asked files.new) }
 {
     let file = read_image(alloc, files, task.image)?;
     let keys = read_keys(alloc, files, options.keys)?;
@@ -184,6 +199,8 @@ fn trace_driven<'a, F: FileSource, O: Write>(
     ensures fault { IfErr result (λ fault. (input : Option (List ℕ)) → IsTraceFault task.entry
         (F.known files.old) (image_file (F.known files.old) task.entry.image.now)
         (streams input input (O.contents output.old) (O.contents output.new)) fault) }
+    ensures asks { AsksFor (image_files task.entry.image.now ++ option_files options.entry.keys)
+        result (F.asked files.old) (F.asked files.new) }
 {
     let read = read_driven(alloc, files, task, options)?;
     run_drive(alloc, &task, options, &read.0, &read.1, output)

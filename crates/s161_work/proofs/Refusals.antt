@@ -7,7 +7,7 @@ use Rattle.s161_command.specs.declared.task.Rejection.{Rejection}
 use Rattle.s161_command.specs.declared.task.Rejection.TheVariants.{Words, Options}
 use Rattle.s161_command.specs.Commands.{IsHelp, IsRejected}
 use Rattle.s161_work.specs.Failures.{EndsBadly, unhelped, unread, unsaid}
-use Rattle.s161_work.specs.Works.{GivesHelp, HasMore, IsRefused, SaysWhy, standard}
+use Rattle.s161_work.specs.Works.{GivesHelp, HasMore, IsRefused, SaysWhy, file_use, standard}
 use Rattle.s161_work.specs.helpers.Refusals.{IsHelped, IsSaid, IsUnsaid, Says}
 
 -- Command lines that aren't followed.
@@ -43,9 +43,9 @@ says_why words (Words error) a b h said text = inl (h.1 said, (text.0, text.2))
 says_why words (Options clash) a b h said text = inr ((clash, h.0, h.1), text)
 
 -- a command line whose task isn't known ends badly
-pub unsaid_ends : (words : List Text) (files : Text → Option (List ℕ)) (rejection : Rejection) (input a b x y : Option (List ℕ)) → IsRejected words rejection
-    → IsUnsaid rejection a b x y → EndsBadly words files (standard input a x) (standard input b y)
-unsaid_ends words files rejection input a b x y h (inl memory) = unread refl memory.0 memory.1
-unsaid_ends words files rejection input a b x y h (inr (inl help)) =
-    unhelped (asks_help words rejection a b h help.0) refl (has_more rejection a b help.0) help.1
-unsaid_ends words files rejection input a b x y h (inr (inr said)) = unsaid (refused words rejection h said.0) refl said.1 (said.2.0, said.2.2)
+pub unsaid_ends : (words : List Text) (known : Text → Option (List ℕ)) (asked : Option (List Text)) (rejection : Rejection) (input a b x y : Option (List ℕ)) →
+    IsRejected words rejection → IsUnsaid rejection a b x y → EndsBadly words (file_use known asked asked) (standard input a x) (standard input b y)
+unsaid_ends words known asked rejection input a b x y h (inl memory) = unread refl refl memory.0 memory.1
+unsaid_ends words known asked rejection input a b x y h (inr (inl help)) =
+    unhelped (asks_help words rejection a b h help.0) refl refl (has_more rejection a b help.0) help.1
+unsaid_ends words known asked rejection input a b x y h (inr (inr said)) = unsaid (refused words rejection h said.0) refl refl said.1 (said.2.0, said.2.2)

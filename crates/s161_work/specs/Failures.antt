@@ -7,6 +7,7 @@ use Rattle.s161_command.specs.declared.task.TraceTask.{TraceTask}
 use Rattle.s161_command.specs.declared.task.Task.{Task}
 use Rattle.s161_command.specs.declared.task.Task.TheVariants.{Assemble, Audit, Console, Debug, Demo, Disassemble, Replay, Run, RunDriven, RunInThreads, Schedule, Search, Trace}
 use Rattle.s161_command.specs.Commands.{GoTogether, IsAccepted, IsTask, command_line}
+use Rattle.s161_base.specs.Asked.{AsksUntil, IsBeforeInput}
 use Rattle.s161_base.specs.declared.fault.Fault.{Fault}
 use Rattle.s161_base.specs.declared.fault.Fault.TheVariants.{Memory, Output}
 use Rattle.s161_base.specs.FaultLines.{fault_line}
@@ -25,7 +26,7 @@ use Rattle.s161_run.specs.Threads.{IsThreadsFault}
 use Rattle.s161_trace.specs.Traces.{IsTraceFault}
 use Rattle.s161_work.specs.Assemblies.{IsAssemblyFault}
 use Rattle.s161_work.specs.Listings.{IsListingFault}
-use Rattle.s161_work.specs.Works.{Does, GivesHelp, Going, HasMore, IsRefused, IsResultOf, LeavesInput, Standard, debugging, going_of, serving, standard, streams_of, tracing}
+use Rattle.s161_work.specs.Works.{Does, FileUse, GivesHelp, Going, HasMore, IsRefused, IsResultOf, IsUnasked, LeavesInput, Standard, debugging, files_of, going_of, serving, standard, streams_of, tracing}
 
 -- How a command line ends with the status 1.
 
@@ -124,17 +125,21 @@ abbrev pub FailsToSay : List ℕ → Option (List ℕ) → Option (List ℕ) →
 FailsToSay text before after =
     (between : Option (List ℕ)) × AppendsSome before between text × IsTold Output between after
 
--- a command line's task was ended by a fault, over these files and streams, which was told then
-abbrev pub FailsToDo : List Text → (Text → Option (List ℕ)) → Standard → Standard → Type 0
+-- a command line's task was ended by a fault, over these files and streams, which was told then. Its
+-- files were asked for up to that fault, and one of a file came before anything was read of standard
+-- input
+abbrev pub FailsToDo : List Text → FileUse → Standard → Standard → Type 0
 FailsToDo words files before after =
     (task : Task) × IsTask (subcommand_of command_line words) task
     × ((fault : Fault) × (errors : Option (List ℕ))
-    × FailsAs (going_of task) task files before (standard after.input after.output errors) fault
+    × FailsAs (going_of task) task files.known before (standard after.input after.output errors) fault
+    × AsksUntil (files_of task) files.before files.after fault
+    × IsBeforeInput fault before.input after.input
     × IsTold fault errors after.errors)
 
 -- what a command line with the status 1 did
 pub data EndsBadly
-    (words : List Text) (files : Text → Option (List ℕ)) (before after : Standard) : Type 0 where
+    (words : List Text) (files : FileUse) (before after : Standard) : Type 0 where
   -- it was followed, and its task finished with a refused event
   finished :
       IsAccepted words → GoTogether (subcommand_of command_line words) →
@@ -145,14 +150,16 @@ pub data EndsBadly
       FailsToDo words files before after → EndsBadly words files before after
   -- it asks for help or for the version, and standard output failed
   unhelped :
-      GivesHelp words → after.input ≡ before.input → HasMore before.output after.output →
-      IsTold Output before.errors after.errors → EndsBadly words files before after
+      GivesHelp words → IsUnasked files → after.input ≡ before.input →
+      HasMore before.output after.output → IsTold Output before.errors after.errors →
+      EndsBadly words files before after
   -- memory was refused before it was known what it asks for, or before that was said
   unread :
-      after.input ≡ before.input → after.output ≡ before.output →
+      IsUnasked files → after.input ≡ before.input → after.output ≡ before.output →
       IsTold Memory before.errors after.errors → EndsBadly words files before after
   -- it isn't followed, and standard error failed while that was said
   unsaid :
-      IsRefused words → after.input ≡ before.input → after.output ≡ before.output →
+      IsRefused words → IsUnasked files → after.input ≡ before.input →
+      after.output ≡ before.output →
       (text : List ℕ) × FailsToSay text before.errors after.errors →
       EndsBadly words files before after

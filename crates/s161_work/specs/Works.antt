@@ -1,4 +1,4 @@
-use Rattle.std.specs.Prelude.{◌≡◌, ◌⊎◌, ℕ, List, ◌∷◌, ◌++◌, Option, None, Some, codes}
+use Rattle.std.specs.Prelude.{◌≡◌, ◌⊎◌, ℕ, List, [], ◌∷◌, ◌++◌, Option, None, Some, codes}
 use Rattle.std.specs.Io.KnownBytes.{Appends}
 use Rattle.clap.specs.Words.{IsAmong, Text, fault_of, subcommand_of}
 use Rattle.clap.specs.declared.error.kind.ErrorKind.{ErrorKind}
@@ -10,22 +10,24 @@ use Rattle.s161_command.specs.declared.task.Task.{Task}
 use Rattle.s161_command.specs.declared.task.Task.TheVariants.{Assemble, Audit, Console, Debug, Demo, Disassemble, Replay, Run, RunDriven, RunInThreads, Schedule, Search, Trace}
 use Rattle.m161_text.specs.Lines.{with_line_end}
 use Rattle.s161_texts.specs.Assemblies.{IsAssembled}
-use Rattle.s161_search.specs.Audits.{IsAudited}
+use Rattle.s161_search.specs.Audits.{IsAudited, audit_files}
 use Rattle.s161_command.specs.Commands.{ClashesIn, GoTogether, IsAccepted, IsHelp, IsTask, command_line}
 use Rattle.s161_run.specs.Consoles.{IsConsoleRun}
+use Rattle.s161_base.specs.Asked.{Asks, image_files}
 use Rattle.s161_base.specs.Streams.{Streams, streams}
-use Rattle.s161_debug.specs.Debugs.{IsDebug}
-use Rattle.s161_run.specs.Driven.{IsDriven}
-use Rattle.s161_run.specs.Schedules.{IsScheduled}
+use Rattle.s161_debug.specs.Debugs.{IsDebug, debug_files}
+use Rattle.s161_run.specs.Driven.{IsDriven, driven_files}
+use Rattle.s161_run.specs.Schedules.{IsScheduled, schedule_files}
 use Rattle.s161_run.specs.Demos.{IsDemo}
 use Rattle.s161_texts.specs.Listings.{IsDisassembled}
-use Rattle.s161_run.specs.Replays.{IsReplayed}
+use Rattle.s161_run.specs.Replays.{IsReplayed, replay_files}
 use Rattle.s161_run.specs.Runs.{IsRun, status_of, stop_line}
 use Rattle.s161_run.specs.declared.events.Stop.{Stop}
+use Rattle.s161_search.specs.Given.{search_files}
 use Rattle.s161_search.specs.Searches.{IsSearched}
 use Rattle.s161_base.specs.Samples.{image_file}
 use Rattle.s161_run.specs.Threads.{IsRunInThreads}
-use Rattle.s161_trace.specs.Traces.{IsTraced}
+use Rattle.s161_trace.specs.Traces.{IsTraced, trace_files}
 
 -- The effect of a command line.
 
@@ -38,6 +40,37 @@ pub record Standard : Type 0 where
 
 abbrev pub standard : Option (List ℕ) → Option (List ℕ) → Option (List ℕ) → Standard
 standard input output errors = record { input = input; output = output; errors = errors }
+
+-- a task's files, in the order in which it reads them
+abbrev pub files_of : Task → List Text
+files_of Demo = []
+files_of (Run task) = image_files task.image.now
+files_of (RunInThreads task) = image_files task.run.image.now
+files_of (RunDriven task) = driven_files task
+files_of (Schedule task) = schedule_files task
+files_of (Console task) = image_files task.image.now
+files_of (Trace task) = trace_files task
+files_of (Debug task) = debug_files task
+files_of (Search task) = search_files task
+files_of (Replay task) = replay_files task
+files_of (Audit task) = audit_files task
+files_of (Assemble task) = []
+files_of (Disassemble task) = image_files task.image.now
+
+-- how files were used: what is known of the bytes of each, and of the names that files were asked for
+-- by, in order, before and after a command
+pub record FileUse : Type 0 where
+  pub known : Text → Option (List ℕ)
+  pub before : Option (List Text)
+  pub after : Option (List Text)
+
+abbrev pub file_use :
+    (Text → Option (List ℕ)) → Option (List Text) → Option (List Text) → FileUse
+file_use known before after = record { known = known; before = before; after = after }
+
+-- no file was asked for
+abbrev pub IsUnasked : FileUse → Type 0
+IsUnasked files = files.after ≡ files.before
 
 -- there is such a text with this exit status, and it was written to an output, which had the first
 -- bytes and has the second
@@ -161,12 +194,11 @@ abbrev pub GivesHelp : List Text → Type 0
 GivesHelp words =
     (kind : ErrorKind) × IsHelp kind × IsAmong kind (fault_of command_line words)
 
--- a command line's task was finished, over these files and streams
-abbrev pub Does :
-    List Text → (Text → Option (List ℕ)) → Standard → Standard → ℕ → Type 0
+-- a command line's task was finished, over these files and streams, and asked for all of its files
+abbrev pub Does : List Text → FileUse → Standard → Standard → ℕ → Type 0
 Does words files before after status =
     (task : Task) × IsTask (subcommand_of command_line words) task
-    × Finishes task files before after status
+    × Finishes task files.known before after status × Asks (files_of task) files.before files.after
 
 -- an output got a text behind the bytes that it had. Nothing is known of the text; it may be empty
 abbrev pub HasMore : Option (List ℕ) → Option (List ℕ) → Type 0
@@ -177,14 +209,13 @@ abbrev pub IsDone : ℕ → Type 0
 IsDone status = (status ≡ 0) ⊎ (status ≡ 3) ⊎ (status ≡ 4) ⊎ (status ≡ 5)
 
 -- a command line was followed, and its task finished as `Does` says; or it asks for help or for the
--- version: clap's text, of which nothing is known, was printed, with the status 0, and nothing was read
--- of standard input or written to standard error
-abbrev pub Follows :
-    List Text → (Text → Option (List ℕ)) → Standard → Standard → ℕ → Type 0
+-- version: clap's text, of which nothing is known, was printed, with the status 0, no file was asked
+-- for, and nothing was read of standard input or written to standard error
+abbrev pub Follows : List Text → FileUse → Standard → Standard → ℕ → Type 0
 Follows words files before after status =
     (IsAccepted words × GoTogether (subcommand_of command_line words)
     × Does words files before after status)
-    ⊎ (GivesHelp words × (status ≡ 0) × (after.input ≡ before.input)
+    ⊎ (GivesHelp words × (status ≡ 0) × IsUnasked files × (after.input ≡ before.input)
     × HasMore before.output after.output × (after.errors ≡ before.errors))
 
 -- clap takes the words, and the options can't be followed
@@ -213,8 +244,8 @@ abbrev pub SaysWhy : List Text → Option (List ℕ) → Option (List ℕ) → T
 SaysWhy words before after =
     ((¬ IsAccepted words) × HasMore before after) ⊎ (IsClashing words × HasClashText before after)
 
--- and nothing was read of standard input, nor written to standard output
-abbrev pub Rejects : List Text → Standard → Standard → Type 0
-Rejects words before after =
-    SaysWhy words before.errors after.errors
+-- and no file was asked for, nothing was read of standard input, nor written to standard output
+abbrev pub Rejects : List Text → FileUse → Standard → Standard → Type 0
+Rejects words files before after =
+    SaysWhy words before.errors after.errors × IsUnasked files
     × (after.input ≡ before.input) × (after.output ≡ before.output)

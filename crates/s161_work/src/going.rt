@@ -2,7 +2,10 @@
 
 ghost use Rattle.std.specs.Prelude.{◌≡◌, ◌≢◌, ◌≤◌, ℕ, IfErr, IfOk, IfSome, List, None, Option};
 ghost use Rattle.m161_order.specs.Order.{order_fault};
+ghost use Rattle.s161_base.specs.Asked.{AsksFor, IsBeforeInput, image_files};
 ghost use Rattle.s161_command.specs.Commands.{HasSourceLimits};
+ghost use Rattle.s161_debug.specs.Debugs.{debug_files};
+ghost use Rattle.s161_trace.specs.Traces.{trace_files};
 ghost use Rattle.s161_work.specs.Failures.{FailsToDebug, FailsToServe, FailsToTrace};
 ghost use Rattle.s161_work.specs.Works.{IsDebuggedOut, IsServed, IsTracedOut, standard};
 
@@ -33,6 +36,10 @@ pub(crate) fn serve<'a, F: FileSource, I: Read, O: Write, E: Write>(
     ensures fault { IfErr result (FailsToServe task.entry (F.known files.old)
         (standard (I.remaining input.old) (O.contents output.old) (E.contents errors.old))
         (standard (I.remaining input.new) (O.contents output.new) (E.contents errors.new))) }
+    ensures asks { AsksFor (image_files task.entry.image.now) result (F.asked files.old)
+        (F.asked files.new) }
+    ensures before { IfErr result (λ fault. IsBeforeInput fault (I.remaining input.old)
+        (I.remaining input.new)) }
     ensures within { IfOk result (λ status. (status ≤ 5) × (status ≢ 2)) }
 {
     let stop = console(alloc, files, input, output, task)?;
@@ -56,6 +63,10 @@ pub(crate) fn trace_out<'a, F: FileSource, I: Read, O: Write>(
     ensures fault { (errors : Option (List ℕ)) → IfErr result (FailsToTrace task.entry (F.known files.old)
         (standard (I.remaining input.old) (O.contents output.old) errors)
         (standard (I.remaining input.new) (O.contents output.new) errors)) }
+    ensures asks { AsksFor (trace_files task.entry) result (F.asked files.old)
+        (F.asked files.new) }
+    ensures before { IfErr result (λ fault. IsBeforeInput fault (I.remaining input.old)
+        (I.remaining input.new)) }
     ensures within { IfOk result (λ status. (status ≤ 5) × (status ≢ 2)) }
 {
     let stop = trace(alloc, files, input, output, task)?;
@@ -77,6 +88,10 @@ pub(crate) fn debug_out<'a, F: FileSource, I: Read, O: Write>(
     ensures fault { (errors : Option (List ℕ)) → IfErr result (FailsToDebug task.entry (F.known files.old)
         (standard (I.remaining input.old) (O.contents output.old) errors)
         (standard (I.remaining input.new) (O.contents output.new) errors)) }
+    ensures asks { AsksFor (debug_files task.entry) result (F.asked files.old)
+        (F.asked files.new) }
+    ensures before { IfErr result (λ fault. IsBeforeInput fault (I.remaining input.old)
+        (I.remaining input.new)) }
     ensures within { IfOk result (λ status. status ≡ 0) }
 {
     debug(alloc, files, input, output, task)?;

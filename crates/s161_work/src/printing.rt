@@ -2,16 +2,17 @@
 
 ghost use Rattle.std.specs.Prelude.{◌≡◌, ◌≢◌, ◌≤◌, IfErr, IfOk, None};
 ghost use Rattle.m161_order.specs.Order.{order_fault};
+ghost use Rattle.s161_base.specs.Asked.{AsksFor, IsBeforeInput, image_files};
 ghost use Rattle.s161_base.specs.Samples.{image_file};
 ghost use Rattle.s161_command.specs.Commands.{HasLimits};
-ghost use Rattle.s161_run.specs.Schedules.{IsScheduled, IsScheduledFault};
+ghost use Rattle.s161_run.specs.Schedules.{IsScheduled, IsScheduledFault, schedule_files};
 ghost use Rattle.s161_run.specs.Demos.{IsDemo};
 ghost use Rattle.s161_texts.specs.Assemblies.{IsAssembled};
 ghost use Rattle.s161_texts.specs.Listings.{IsDisassembled};
 ghost use Rattle.s161_work.specs.Assemblies.{IsAssemblyFault};
 ghost use Rattle.s161_work.specs.Failures.{Fails, IsTaskFault};
 ghost use Rattle.s161_work.specs.Listings.{IsListingFault};
-ghost use Rattle.s161_work.specs.Works.{IsResultOf, LeavesInput, Prints, WithZero, going_of};
+ghost use Rattle.s161_work.specs.Works.{IsResultOf, LeavesInput, Prints, WithZero, files_of, going_of};
 
 use s161_base::fault::Fault;
 use s161_base::files::FileSource;
@@ -53,6 +54,10 @@ pub(crate) fn print_task<'a, R: Threads + Wait + Sync, F: FileSource, I: Read, O
         (IsTaskFault task.entry (F.known files.old) (I.remaining input.old))
         (O.contents output.old) (O.contents output.new)) }
     ensures unread { LeavesInput task.entry (I.remaining input.old) (I.remaining input.new) }
+    ensures asks { AsksFor (files_of task.entry) result (F.asked files.old)
+        (F.asked files.new) }
+    ensures before { IfErr result (λ fault. IsBeforeInput fault (I.remaining input.old)
+        (I.remaining input.new)) }
     ensures within { IfOk result (λ status. (status ≤ 5) × (status ≢ 2)) }
 {
     let finished = finish(rt, alloc, task, files, input)?;
@@ -75,6 +80,10 @@ fn finish<'a, R: Threads + Wait + Sync, F: FileSource, I: Read>(
     ensures fault { IfErr result (IsTaskFault task.entry (F.known files.old)
         (I.remaining input.old)) }
     ensures unread { LeavesInput task.entry (I.remaining input.old) (I.remaining input.new) }
+    ensures asks { AsksFor (files_of task.entry) result (F.asked files.old)
+        (F.asked files.new) }
+    ensures before { IfErr result (λ fault. IsBeforeInput fault (I.remaining input.old)
+        (I.remaining input.new)) }
     ensures within { IfOk result (λ done. (done.status ≤ 5) × (done.status ≢ 2)) }
 {
     match task {
@@ -111,6 +120,8 @@ fn finish_schedule<'a, F: FileSource>(
         (image_file (F.known files.old) task.entry.image.now)) done.text.items done.status) }
     ensures fault { IfErr result (IsScheduledFault task.entry
         (image_file (F.known files.old) task.entry.image.now)) }
+    ensures asks { AsksFor (schedule_files task.entry) result (F.asked files.old)
+        (F.asked files.new) }
 {
     Ok(Finished::done(schedule(alloc, files, task)?))
 }
@@ -139,6 +150,8 @@ fn finish_listing<'a, F: FileSource>(
         (image_file (F.known files.old) task.entry.image.now)) done.text.items done.status) }
     ensures fault { IfErr result (IsListingFault task.entry.image.now
         (image_file (F.known files.old) task.entry.image.now)) }
+    ensures asks { AsksFor (image_files task.entry.image.now) result (F.asked files.old)
+        (F.asked files.new) }
 {
     let file = read_image(alloc, files, task.image)?;
     let listing = disassembly(alloc, task.image, &file, task.registers, task.symbols)?;

@@ -1,9 +1,10 @@
 //! The work of a command line.
 
 ghost use Rattle.std.specs.Prelude.{◌≡◌, ◌≢◌, ◌≤◌, IfErr, IfOk, map, string_bytes};
+ghost use Rattle.s161_base.specs.Asked.{AsksFor, IsBeforeInput};
 ghost use Rattle.s161_command.specs.Commands.{HasLimits};
 ghost use Rattle.s161_work.specs.Failures.{EndsBadly, FailsAs, IsTold};
-ghost use Rattle.s161_work.specs.Works.{Finishes, Follows, IsDone, Rejects, going_of, standard};
+ghost use Rattle.s161_work.specs.Works.{Finishes, Follows, IsDone, Rejects, file_use, files_of, going_of, standard};
 
 use crate::going::{debug_out, serve, trace_out};
 use crate::printing::print_task;
@@ -35,18 +36,20 @@ where
     O: Write,
     E: Write,
     ensures rejected { result ≡ 2 → IfOk words.entry (λ ws. Rejects (map string_bytes ws.items)
+        (file_use (F.known files.old) (F.asked files.old) (F.asked files.new))
         (standard (I.remaining input.old) (O.contents output.old) (E.contents errors.old))
         (standard (I.remaining input.new) (O.contents output.new) (E.contents errors.new))) }
     ensures finished { IsDone result → IfOk words.entry (λ ws. Follows (map string_bytes ws.items)
-        (F.known files.old)
+        (file_use (F.known files.old) (F.asked files.old) (F.asked files.new))
         (standard (I.remaining input.old) (O.contents output.old) (E.contents errors.old))
         (standard (I.remaining input.new) (O.contents output.new) (E.contents errors.new)) result) }
     ensures failed { result ≡ 1 → IfOk words.entry (λ ws. EndsBadly (map string_bytes ws.items)
-        (F.known files.old)
+        (file_use (F.known files.old) (F.asked files.old) (F.asked files.new))
         (standard (I.remaining input.old) (O.contents output.old) (E.contents errors.old))
         (standard (I.remaining input.new) (O.contents output.new) (E.contents errors.new))) }
     ensures unread { IfErr words.entry (λ _. result ≡ 1) }
-    ensures told { IfErr words.entry (λ fault. (I.remaining input.new ≡ I.remaining input.old)
+    ensures told { IfErr words.entry (λ fault. (F.asked files.new ≡ F.asked files.old)
+        × (I.remaining input.new ≡ I.remaining input.old)
         × (O.contents output.new ≡ O.contents output.old)
         × IsTold fault (E.contents errors.old) (E.contents errors.new)) }
     ensures within { result ≤ 5 }
@@ -80,12 +83,15 @@ where
     O: Write,
     E: Write,
     ensures rejected { result ≡ 2 → Rejects (map S.text words.now)
+        (file_use (F.known files.old) (F.asked files.old) (F.asked files.new))
         (standard (I.remaining input.old) (O.contents output.old) (E.contents errors.old))
         (standard (I.remaining input.new) (O.contents output.new) (E.contents errors.new)) }
-    ensures finished { IsDone result → Follows (map S.text words.now) (F.known files.old)
+    ensures finished { IsDone result → Follows (map S.text words.now)
+        (file_use (F.known files.old) (F.asked files.old) (F.asked files.new))
         (standard (I.remaining input.old) (O.contents output.old) (E.contents errors.old))
         (standard (I.remaining input.new) (O.contents output.new) (E.contents errors.new)) result }
-    ensures failed { result ≡ 1 → EndsBadly (map S.text words.now) (F.known files.old)
+    ensures failed { result ≡ 1 → EndsBadly (map S.text words.now)
+        (file_use (F.known files.old) (F.asked files.old) (F.asked files.new))
         (standard (I.remaining input.old) (O.contents output.old) (E.contents errors.old))
         (standard (I.remaining input.new) (O.contents output.new) (E.contents errors.new)) }
     ensures within { result ≤ 5 }
@@ -118,6 +124,9 @@ fn do_task<'a, R: Threads + Wait + Sync, F: FileSource, I: Read, O: Write, E: Wr
     ensures fault { IfErr result (FailsAs (going_of task.entry) task.entry (F.known files.old)
         (standard (I.remaining input.old) (O.contents output.old) (E.contents errors.old))
         (standard (I.remaining input.new) (O.contents output.new) (E.contents errors.new))) }
+    ensures asks { AsksFor (files_of task.entry) result (F.asked files.old) (F.asked files.new) }
+    ensures before { IfErr result (λ fault. IsBeforeInput fault (I.remaining input.old)
+        (I.remaining input.new)) }
     ensures within { IfOk result (λ status. (status ≤ 5) × (status ≢ 2)) }
 {
     match task {

@@ -3,7 +3,9 @@ use Rattle.std.proofs.lemmas.Result.{err_from_is_err_and}
 use Rattle.m161_machine.specs.declared.event.Event.{Event}
 use Rattle.m161_debug.specs.Breakpoints.{SessionState}
 use Rattle.s161_base.specs.Streams.{streams}
+use Rattle.s161_debug.specs.Debugs.{debug_files}
 use Rattle.s161_debug.specs.Sessions.{Breaks, Ends}
+use Rattle.s161_debug.proofs.Asking.{session_asks}
 use Rattle.s161_debug.proofs.Results.{if_err, on_ok}
 use Rattle.s161_debug.proofs.debug.debug.Goals as goal
 
@@ -35,3 +37,15 @@ returns-clause-fault g c =
     let L : List Event → Type 0 = λ left. Breaks c.with_style-session.result left x fault in
     inr (opened.machine, opened.events.items, opened.style, c.in_ok-opened.ensures.ok, subst S c.with_style-session.ensures (subst L c.new-left.ensures breaks)))
     c.serve.ensures.err
+
+pub returns-in_err-opened-clause-asks : goal.returns-in_err-opened-clause-asks
+returns-in_err-opened-clause-asks g c =
+    let made = err_from_is_err_and c.from_residual.result c.from_residual.ensures.1 in
+    rw (made.1, made.2) c.in_err-opened.ensures.asks
+
+pub returns-clause-asks : goal.returns-clause-asks
+returns-clause-asks g c =
+    let asked = g.F.FileSource.asked in
+    let x = streams (g.I.Read.remaining c.args.input.now) (g.I.Read.remaining c.serve.new.input) (g.O.Write.contents c.args.output.now) (g.O.Write.contents c.serve.new.output) in
+    session_asks c.with_style-session.result c.new-left.result x c.serve.result c.serve.ensures.err (debug_files c.args.task) (asked c.args.files.now) (asked c.open.new.files)
+    c.in_ok-opened.ensures.asks

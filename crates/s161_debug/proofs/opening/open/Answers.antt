@@ -1,7 +1,10 @@
 use Rattle.std.proofs.Common.{◌≡◌, inl, inr, refl, subst, sym, List, ℕ, IfSome}
 use Rattle.std.proofs.lemmas.Result.{err_from_is_err_and}
+use Rattle.s161_base.proofs.Asking.{asks_both, behind, image_unread, later}
+use Rattle.s161_base.specs.Asked.{image_files}
+use Rattle.s161_base.specs.declared.fault.Fault.TheVariants.{Memory}
 use Rattle.s161_base.specs.Samples.{image_file}
-use Rattle.s161_debug.specs.Debugs.{IsOpened, IsSourceFault}
+use Rattle.s161_debug.specs.Debugs.{IsOpened, IsSourceFault, debug_files, source_files}
 use Rattle.s161_debug.proofs.opening.open.Goals as goal
 
 pub returns-in_err-file-clause-fault : goal.returns-in_err-file-clause-fault
@@ -43,3 +46,36 @@ returns-clause-ok g c =
       opened = subst (λ files. IsOpened c.args.task.source c.args.task.size files image booted.machine booted.events.items) same c.in_ok-booted.ensures.ok;
       style_is = c.in_ok-style.ensures;
     }
+
+pub returns-in_err-file-clause-asks : goal.returns-in_err-file-clause-asks
+returns-in_err-file-clause-asks g c =
+    let asked = g.F.FileSource.asked in
+    let made = err_from_is_err_and c.from_residual.result c.from_residual.ensures.1 in
+    rw (made.1, made.2)
+    (image_unread c.args.task.image (source_files c.args.task.source) (asked c.args.files.now) (asked c.read_image.new.files) c.in_err-file.field-0.0
+    c.in_err-file.ensures.asks c.in_err-file.ensures.err)
+
+pub returns-in_err-booted-clause-asks : goal.returns-in_err-booted-clause-asks
+returns-in_err-booted-clause-asks g c =
+    let asked = g.F.FileSource.asked in
+    let made = err_from_is_err_and c.from_residual-in_err-booted.result c.from_residual-in_err-booted.ensures.1 in
+    rw (made.1, made.2)
+    (later (image_files c.args.task.image.now) (source_files c.args.task.source) (asked c.args.files.now) (asked c.read_image.new.files) (asked c.open_image.new.files)
+    c.in_err-booted.field-0.0 c.in_ok-file.ensures.asks c.in_err-booted.ensures.asks)
+
+-- both files were asked for
+pub returns-in_err-style-clause-asks : goal.returns-in_err-style-clause-asks
+returns-in_err-style-clause-asks g c =
+    let asked = g.F.FileSource.asked in
+    let image = image_files c.args.task.image.now in
+    let from = source_files c.args.task.source in
+    let all = asks_both image from (asked c.args.files.now) (asked c.read_image.new.files) (asked c.open_image.new.files) c.in_ok-file.ensures.asks c.in_ok-booted.ensures.asks in
+    let made = err_from_is_err_and c.from_residual-in_err-style.result c.from_residual-in_err-style.ensures.1 in
+    rw (made.1, made.2) (behind (debug_files c.args.task) (asked c.args.files.now) (asked c.open_image.new.files) Memory all tt)
+
+pub returns-clause-asks : goal.returns-clause-asks
+returns-clause-asks g c =
+    let asked = g.F.FileSource.asked in
+    let image = image_files c.args.task.image.now in
+    let from = source_files c.args.task.source in
+    asks_both image from (asked c.args.files.now) (asked c.read_image.new.files) (asked c.open_image.new.files) c.in_ok-file.ensures.asks c.in_ok-booted.ensures.asks

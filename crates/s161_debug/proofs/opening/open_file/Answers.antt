@@ -1,8 +1,11 @@
-use Rattle.std.proofs.Common.{◌≡◌, List, ℕ, IfSome, inl, inr, subst, sym}
+use Rattle.std.proofs.Common.{◌≡◌, List, ℕ, [], ◌∷◌, IfSome, inl, inr, subst, sym}
 use Rattle.m161_machine.specs.declared.event.Event.{Event}
 use Rattle.std.proofs.lemmas.Result.{err_from_is_err_and}
+use Rattle.s161_base.proofs.Asking.{behind, file_unread}
 use Rattle.s161_base.specs.Known.{IsText}
+use Rattle.s161_base.specs.Reading.{IsOfText}
 use Rattle.s161_debug.specs.Debugs.{Lists}
+use Rattle.s161_debug.proofs.Asking.{list_is_none, machine_asks}
 use Rattle.s161_debug.proofs.Results.{if_err, if_ok}
 use Rattle.s161_debug.proofs.opening.open_file.Goals as goal
 
@@ -48,3 +51,26 @@ returns-clause-fault g c =
     if_err c.open_listed.result (λ fault h.
     inr (inr (inr (c.as_str.result.now, is, (utf8, (listed.events.items, listed.logged, c.in_ok-listed.ensures.ok, h))))))
     c.open_listed.ensures.fault
+
+pub returns-in_err-text-clause-asks : goal.returns-in_err-text-clause-asks
+returns-in_err-text-clause-asks g c =
+    let asked = g.F.FileSource.asked in
+    let made = err_from_is_err_and c.from_residual.result c.from_residual.ensures.1 in
+    rw (made.1, made.2)
+    (file_unread c.args.name (IsOfText (g.F.FileSource.known c.args.files.now c.args.name.now)) [] (asked c.args.files.now) (asked c.read_text.new.files)
+    c.in_err-text.field-0.0 c.in_err-text.ensures.asks c.in_err-text.ensures.err)
+
+-- the file was asked for
+pub returns-in_err-listed-clause-asks : goal.returns-in_err-listed-clause-asks
+returns-in_err-listed-clause-asks g c =
+    let asked = g.F.FileSource.asked in
+    let made = err_from_is_err_and c.from_residual-in_err-listed.result c.from_residual-in_err-listed.ensures.1 in
+    rw (made.1, made.2)
+    (behind (c.args.name.now ∷ []) (asked c.args.files.now) (asked c.read_text.new.files) c.in_err-listed.field-0.0 c.in_ok-text.ensures.asks
+    (list_is_none c.as_str.result.now c.in_err-listed.field-0.0 c.in_err-listed.ensures.fault))
+
+pub returns-clause-asks : goal.returns-clause-asks
+returns-clause-asks g c =
+    let asked = g.F.FileSource.asked in
+    machine_asks c.args.size c.args.image.now c.in_ok-listed.listed.logged c.open_listed.result c.open_listed.ensures.fault (c.args.name.now ∷ []) (asked c.args.files.now)
+    (asked c.read_text.new.files) c.in_ok-text.ensures.asks

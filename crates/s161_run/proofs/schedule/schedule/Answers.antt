@@ -8,6 +8,8 @@ use Rattle.s161_base.specs.declared.fault.Fault.TheVariants.{Memory}
 use Rattle.s161_base.specs.Faults.{BootsIn, fault_of_boot}
 use Rattle.s161_base.specs.Samples.{image_file}
 use Rattle.s161_run.specs.Driven.{AreKeys, rules_of}
+use Rattle.m161_steplog.specs.Schedule.{IsSchedule}
+use Rattle.m161_text.specs.Lines.{lines_of}
 use Rattle.s161_run.specs.Schedules.{Chose}
 use Rattle.s161_run.proofs.Keeping.{keys_are, last_unread}
 use Rattle.s161_run.proofs.schedule.schedule.Goals as goal
@@ -43,6 +45,8 @@ returns-clause-ok g c =
       events = c.deref-3.result.now;
       chose = subst (Chose (rules_of options keys) options.events booted) (sym c.deref-3.ensures.value) c.in_ok-events.ensures.ok;
       text_is = ap (λ v. v.items) c.into_bytes.ensures.value ∙ c.in_ok-text.ensures.text;
+      is_read = λ few.
+          subst (λ text. IsSchedule (lines_of text) c.deref-3.result.now) (sym (ap (λ v. v.items) c.into_bytes.ensures.value)) (c.in_ok-text.ensures.read few);
     }
 
 pub returns-in_err-file-clause-asks : goal.returns-in_err-file-clause-asks

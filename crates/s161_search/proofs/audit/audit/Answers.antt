@@ -1,12 +1,18 @@
-use Rattle.std.proofs.Common.{◌≡◌, List, ℕ, Ok, Err, Option, IfSome, rules, subst, sym}
+use Rattle.std.proofs.Common.{◌≡◌, List, ℕ, [], ◌∷◌, Ok, Err, Option, IfSome, rules, subst, sym}
+use Rattle.std.proofs.lemmas.Result.{err_from_is_err_and}
 use Rattle.m161_audit.specs.declared.watch.Watch.{Watch as Watched}
 use Rattle.m161_audit.specs.Audit.{Audits}
 use Rattle.m161_audit.specs.WatchText.{AreWatches}
 use Rattle.m161_machine.specs.History.{boot_fault}
 use Rattle.m161_text.specs.Lines.{lines_of}
+use Rattle.s161_base.proofs.Asking.{IsNoFile, asks_both, before_input, behind, file_unread, image_unread, input_is_none, later, none_before, schedule_is_none}
+use Rattle.s161_base.specs.Asked.{image_files}
+use Rattle.s161_base.specs.Reading.{IsOfText}
+use Rattle.s161_base.specs.declared.fault.Fault.TheVariants.{Memory}
+use Rattle.s161_search.proofs.Asking.{audit_is_none}
 use Rattle.s161_search.proofs.Unaudited.{audit_failed, watches_failed}
 use Rattle.s161_base.proofs.Failing.{schedule_failed}
-use Rattle.s161_search.specs.Audits.{HasWatches, IsAuditFault}
+use Rattle.s161_search.specs.Audits.{HasWatches, IsAuditFault, audit_files}
 use Rattle.s161_base.specs.Known.{IsText}
 use Rattle.s161_base.specs.Texts.{HasSchedule}
 use Rattle.s161_base.specs.Samples.{image_file}
@@ -109,3 +115,110 @@ returns-in-Err-clause-fault g c =
     (λ k has bad. ((c.as_str.result.now, is_watches, (utf8_watches, (watched, are_watches, bad))), schedule, has))
     answer in
     subst (IsAuditFault c.args.task image text input) (sym c.fault_of_audit.ensures) failed
+
+pub returns-in_err-file-clause-asks : goal.returns-in_err-file-clause-asks
+returns-in_err-file-clause-asks g c =
+    let asked = g.F.FileSource.asked in
+    let made = err_from_is_err_and c.from_residual.result c.from_residual.ensures.1 in
+    rw (made.1, made.2)
+    (image_unread c.args.task.image (c.args.task.text.now ∷ []) (asked c.args.files.now) (asked c.read_image.new.files) c.in_err-file.field-0.0
+    c.in_err-file.ensures.asks c.in_err-file.ensures.err)
+
+pub returns-in_err-file-clause-unread : goal.returns-in_err-file-clause-unread
+returns-in_err-file-clause-unread g c =
+    let made = err_from_is_err_and c.from_residual.result c.from_residual.ensures.1 in
+    rw (made.1, made.2) (before_input c.in_err-file.field-0.0 (g.I.Read.remaining c.args.input.now))
+
+pub returns-in_err-text-clause-asks : goal.returns-in_err-text-clause-asks
+returns-in_err-text-clause-asks g c =
+    let between = g.F.FileSource.asked c.read_image.new.files in
+    let after = g.F.FileSource.asked c.read_text.new.files in
+    let fault = c.in_err-text.field-0.0 in
+    let made = err_from_is_err_and c.from_residual-in_err-text.result c.from_residual-in_err-text.ensures.1 in
+    rw (made.1, made.2)
+    (later (image_files c.args.task.image.now) (c.args.task.text.now ∷ []) (g.F.FileSource.asked c.args.files.now) between after fault c.in_ok-file.ensures.asks
+    (file_unread c.args.task.text (IsOfText (g.F.FileSource.known c.read_image.new.files c.args.task.text.now)) [] between after fault c.in_err-text.ensures.asks
+    c.in_err-text.ensures.err))
+
+pub returns-in_err-text-clause-unread : goal.returns-in_err-text-clause-unread
+returns-in_err-text-clause-unread g c =
+    let made = err_from_is_err_and c.from_residual-in_err-text.result c.from_residual-in_err-text.ensures.1 in
+    rw (made.1, made.2) (before_input c.in_err-text.field-0.0 (g.I.Read.remaining c.args.input.now))
+
+-- both files were asked for, and other faults are none of a file
+pub returns-in_err-schedule-clause-asks : goal.returns-in_err-schedule-clause-asks
+returns-in_err-schedule-clause-asks g c =
+    let asked = g.F.FileSource.asked in
+    let all = asks_both (image_files c.args.task.image.now) (c.args.task.text.now ∷ []) (asked c.args.files.now) (asked c.read_image.new.files) (asked c.read_text.new.files) c.in_ok-file.ensures.asks c.in_ok-text.ensures.asks in
+    let made = err_from_is_err_and c.from_residual-in_err-schedule.result c.from_residual-in_err-schedule.ensures.1 in
+    rw (made.1, made.2)
+    (behind (audit_files c.args.task) (asked c.args.files.now) (asked c.read_text.new.files) c.in_err-schedule.field-0.0 all
+    (input_is_none (g.I.Read.remaining c.args.input.now) c.in_err-schedule.field-0.0 c.in_err-schedule.ensures.err))
+
+pub returns-in_err-schedule-clause-unread : goal.returns-in_err-schedule-clause-unread
+returns-in_err-schedule-clause-unread g c =
+    let made = err_from_is_err_and c.from_residual-in_err-schedule.result c.from_residual-in_err-schedule.ensures.1 in
+    rw (made.1, made.2)
+    (none_before c.in_err-schedule.field-0.0 (g.I.Read.remaining c.args.input.now) (g.I.Read.remaining c.read_input.new.input)
+    (input_is_none (g.I.Read.remaining c.args.input.now) c.in_err-schedule.field-0.0 c.in_err-schedule.ensures.err))
+
+pub returns-in_err-watches-clause-asks : goal.returns-in_err-watches-clause-asks
+returns-in_err-watches-clause-asks g c =
+    let asked = g.F.FileSource.asked in
+    let all = asks_both (image_files c.args.task.image.now) (c.args.task.text.now ∷ []) (asked c.args.files.now) (asked c.read_image.new.files) (asked c.read_text.new.files) c.in_ok-file.ensures.asks c.in_ok-text.ensures.asks in
+    let made = err_from_is_err_and c.from_residual-in_err-watches.result c.from_residual-in_err-watches.ensures.1 in
+    rw (made.1, made.2)
+    (behind (audit_files c.args.task) (asked c.args.files.now) (asked c.read_text.new.files) c.in_err-watches.field-0.0 all
+    (watches_failed IsNoFile c.as_str.result.now c.in_err-watches.field-0.0 (λ n bad. tt) tt c.in_err-watches.ensures.fault))
+
+pub returns-in_err-watches-clause-unread : goal.returns-in_err-watches-clause-unread
+returns-in_err-watches-clause-unread g c =
+    let made = err_from_is_err_and c.from_residual-in_err-watches.result c.from_residual-in_err-watches.ensures.1 in
+    rw (made.1, made.2)
+    (none_before c.in_err-watches.field-0.0 (g.I.Read.remaining c.args.input.now) (g.I.Read.remaining c.read_input.new.input)
+    (watches_failed IsNoFile c.as_str.result.now c.in_err-watches.field-0.0 (λ n bad. tt) tt c.in_err-watches.ensures.fault))
+
+pub returns-in_err-events-clause-asks : goal.returns-in_err-events-clause-asks
+returns-in_err-events-clause-asks g c =
+    let asked = g.F.FileSource.asked in
+    let all = asks_both (image_files c.args.task.image.now) (c.args.task.text.now ∷ []) (asked c.args.files.now) (asked c.read_image.new.files) (asked c.read_text.new.files) c.in_ok-file.ensures.asks c.in_ok-text.ensures.asks in
+    let made = err_from_is_err_and c.from_residual-in_err-events.result c.from_residual-in_err-events.ensures.1 in
+    rw (made.1, made.2)
+    (behind (audit_files c.args.task) (asked c.args.files.now) (asked c.read_text.new.files) c.in_err-events.field-0.0 all
+    (schedule_is_none c.as_str-2.result.now c.in_err-events.field-0.0 c.in_err-events.ensures.fault))
+
+pub returns-in_err-events-clause-unread : goal.returns-in_err-events-clause-unread
+returns-in_err-events-clause-unread g c =
+    let made = err_from_is_err_and c.from_residual-in_err-events.result c.from_residual-in_err-events.ensures.1 in
+    rw (made.1, made.2)
+    (none_before c.in_err-events.field-0.0 (g.I.Read.remaining c.args.input.now) (g.I.Read.remaining c.read_input.new.input)
+    (schedule_is_none c.as_str-2.result.now c.in_err-events.field-0.0 c.in_err-events.ensures.fault))
+
+pub returns-in-Err-clause-asks : goal.returns-in-Err-clause-asks
+returns-in-Err-clause-asks g c =
+    let asked = g.F.FileSource.asked in
+    let all = asks_both (image_files c.args.task.image.now) (c.args.task.text.now ∷ []) (asked c.args.files.now) (asked c.read_image.new.files) (asked c.read_text.new.files) c.in_ok-file.ensures.asks c.in_ok-text.ensures.asks in
+    behind (audit_files c.args.task) (asked c.args.files.now) (asked c.read_text.new.files) c.fault_of_audit.result all
+    (subst IsNoFile (sym c.fault_of_audit.ensures) (audit_is_none c.in-Err.error))
+
+pub returns-in-Err-clause-unread : goal.returns-in-Err-clause-unread
+returns-in-Err-clause-unread g c =
+    none_before c.fault_of_audit.result (g.I.Read.remaining c.args.input.now) (g.I.Read.remaining c.read_input.new.input)
+    (subst IsNoFile (sym c.fault_of_audit.ensures) (audit_is_none c.in-Err.error))
+
+pub returns-in_err-line-clause-asks : goal.returns-in_err-line-clause-asks
+returns-in_err-line-clause-asks g c =
+    let asked = g.F.FileSource.asked in
+    let all = asks_both (image_files c.args.task.image.now) (c.args.task.text.now ∷ []) (asked c.args.files.now) (asked c.read_image.new.files) (asked c.read_text.new.files) c.in_ok-file.ensures.asks c.in_ok-text.ensures.asks in
+    let made = err_from_is_err_and c.from_residual-in_err-line.result c.from_residual-in_err-line.ensures.1 in
+    rw (made.1, made.2) (behind (audit_files c.args.task) (asked c.args.files.now) (asked c.read_text.new.files) Memory all tt)
+
+pub returns-in_err-line-clause-unread : goal.returns-in_err-line-clause-unread
+returns-in_err-line-clause-unread g c =
+    let made = err_from_is_err_and c.from_residual-in_err-line.result c.from_residual-in_err-line.ensures.1 in
+    rw (made.1, made.2) tt
+
+pub returns-clause-asks : goal.returns-clause-asks
+returns-clause-asks g c =
+    let asked = g.F.FileSource.asked in
+    asks_both (image_files c.args.task.image.now) (c.args.task.text.now ∷ []) (asked c.args.files.now) (asked c.read_image.new.files) (asked c.read_text.new.files) c.in_ok-file.ensures.asks c.in_ok-text.ensures.asks

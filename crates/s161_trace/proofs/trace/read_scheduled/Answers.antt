@@ -1,5 +1,8 @@
 use Rattle.std.proofs.Common.{◌≡◌, List, ℕ, IfSome, rules, subst, sym}
+use Rattle.std.proofs.lemmas.Result.{err_from_is_err_and}
+use Rattle.s161_base.proofs.Asking.{alone_unread, before_input, behind, input_is_none, none_before, schedule_is_none}
 use Rattle.s161_base.proofs.Failing.{schedule_failed}
+use Rattle.s161_base.specs.Asked.{image_files}
 use Rattle.s161_base.specs.Known.{IsText}
 use Rattle.s161_base.specs.Samples.{image_file}
 use Rattle.s161_run.specs.Runs.{IsFaultOf}
@@ -25,3 +28,47 @@ returns-clause-events g c =
       subst P (sym c.as_str.ensures.value) c.in_ok-schedule.ensures.whole,
       (subst IsText (sym c.as_str.ensures.value) c.in_ok-schedule.schedule.ok, c.in_ok-events.ensures.found),
     )
+
+pub returns-in_err-file-clause-asks : goal.returns-in_err-file-clause-asks
+returns-in_err-file-clause-asks g c =
+    let asked = g.F.FileSource.asked in
+    let made = err_from_is_err_and c.from_residual.result c.from_residual.ensures.1 in
+    rw (made.1, made.2)
+    (alone_unread c.args.task.image (asked c.args.files.now) (asked c.read_image.new.files) c.in_err-file.field-0.0 c.in_err-file.ensures.asks
+    c.in_err-file.ensures.err)
+
+pub returns-in_err-file-clause-unread : goal.returns-in_err-file-clause-unread
+returns-in_err-file-clause-unread g c =
+    let made = err_from_is_err_and c.from_residual.result c.from_residual.ensures.1 in
+    rw (made.1, made.2) (before_input c.in_err-file.field-0.0 (g.I.Read.remaining c.args.input.now))
+
+-- the file was asked for, and other faults are none of it
+pub returns-in_err-schedule-clause-asks : goal.returns-in_err-schedule-clause-asks
+returns-in_err-schedule-clause-asks g c =
+    let asked = g.F.FileSource.asked in
+    let made = err_from_is_err_and c.from_residual-in_err-schedule.result c.from_residual-in_err-schedule.ensures.1 in
+    rw (made.1, made.2)
+    (behind (image_files c.args.task.image.now) (asked c.args.files.now) (asked c.read_image.new.files) c.in_err-schedule.field-0.0 c.in_ok-file.ensures.asks
+    (input_is_none (g.I.Read.remaining c.args.input.now) c.in_err-schedule.field-0.0 c.in_err-schedule.ensures.err))
+
+pub returns-in_err-schedule-clause-unread : goal.returns-in_err-schedule-clause-unread
+returns-in_err-schedule-clause-unread g c =
+    let made = err_from_is_err_and c.from_residual-in_err-schedule.result c.from_residual-in_err-schedule.ensures.1 in
+    rw (made.1, made.2)
+    (none_before c.in_err-schedule.field-0.0 (g.I.Read.remaining c.args.input.now) (g.I.Read.remaining c.read_input.new.input)
+    (input_is_none (g.I.Read.remaining c.args.input.now) c.in_err-schedule.field-0.0 c.in_err-schedule.ensures.err))
+
+pub returns-in_err-events-clause-asks : goal.returns-in_err-events-clause-asks
+returns-in_err-events-clause-asks g c =
+    let asked = g.F.FileSource.asked in
+    let made = err_from_is_err_and c.from_residual-in_err-events.result c.from_residual-in_err-events.ensures.1 in
+    rw (made.1, made.2)
+    (behind (image_files c.args.task.image.now) (asked c.args.files.now) (asked c.read_image.new.files) c.in_err-events.field-0.0 c.in_ok-file.ensures.asks
+    (schedule_is_none c.as_str.result.now c.in_err-events.field-0.0 c.in_err-events.ensures.fault))
+
+pub returns-in_err-events-clause-unread : goal.returns-in_err-events-clause-unread
+returns-in_err-events-clause-unread g c =
+    let made = err_from_is_err_and c.from_residual-in_err-events.result c.from_residual-in_err-events.ensures.1 in
+    rw (made.1, made.2)
+    (none_before c.in_err-events.field-0.0 (g.I.Read.remaining c.args.input.now) (g.I.Read.remaining c.read_input.new.input)
+    (schedule_is_none c.as_str.result.now c.in_err-events.field-0.0 c.in_err-events.ensures.fault))

@@ -1,8 +1,11 @@
 use Rattle.std.proofs.Common.{◌≡◌, subst, sym, List, ℕ, IfSome}
 use Rattle.std.proofs.lemmas.Result.{err_from_is_err_and}
+use Rattle.s161_base.specs.Asked.{image_files}
 use Rattle.s161_base.specs.Samples.{image_file}
 use Rattle.s161_base.specs.Streams.{streams}
 use Rattle.s161_trace.specs.Traces.{IsTraceFault}
+use Rattle.s161_trace.specs.helpers.Scheduled.{MakesAll, MakesSome}
+use Rattle.s161_trace.proofs.Asking.{run_asks, run_before}
 use Rattle.s161_trace.proofs.Finishing.{ends_so, schedule_bad, schedule_early, schedule_ok}
 use Rattle.s161_trace.proofs.trace.trace_schedule.Goals as goal
 
@@ -37,3 +40,26 @@ returns-clause-fault g c =
     (g.O.Write.contents c.args.output.now) (g.O.Write.contents c.run_schedule.new.output) c.deref.result.now
     (subst R (sym c.deref.ensures.value) c.in_ok-read.ensures.file) c.in_ok-read.read.1 c.in_ok-read.ensures.events c.run_schedule.result
     c.run_schedule.ensures.err
+
+pub returns-in_err-read-clause-asks : goal.returns-in_err-read-clause-asks
+returns-in_err-read-clause-asks g c =
+    let made = err_from_is_err_and c.from_residual.result c.from_residual.ensures.1 in
+    rw (made.1, made.2) c.in_err-read.ensures.asks
+
+pub returns-in_err-read-clause-unread : goal.returns-in_err-read-clause-unread
+returns-in_err-read-clause-unread g c =
+    let made = err_from_is_err_and c.from_residual.result c.from_residual.ensures.1 in
+    rw (made.1, made.2) c.in_err-read.ensures.unread
+
+pub returns-clause-asks : goal.returns-clause-asks
+returns-clause-asks g c =
+    let asked = g.F.FileSource.asked in
+    let events = c.in_ok-read.read.1 in
+    run_asks c.args.task c.deref.result.now (MakesSome events) (MakesAll events) (g.O.Write.contents c.args.output.now) (g.O.Write.contents c.run_schedule.new.output)
+    c.run_schedule.result c.run_schedule.ensures.err (image_files c.args.task.image.now) (asked c.args.files.now) (asked c.read_scheduled.new.files) c.in_ok-read.ensures.asks
+
+pub returns-clause-unread : goal.returns-clause-unread
+returns-clause-unread g c =
+    let events = c.in_ok-read.read.1 in
+    run_before c.args.task c.deref.result.now (MakesSome events) (MakesAll events) (g.O.Write.contents c.args.output.now) (g.O.Write.contents c.run_schedule.new.output)
+    c.run_schedule.result c.run_schedule.ensures.err (g.I.Read.remaining c.args.input.now) (g.I.Read.remaining c.read_scheduled.new.input)

@@ -12,3 +12,12 @@ returns-in-Debug-clause-finished g c = rw c.in-Debug.is (c.debug_out.ensures.deb
 
 pub returns-in-Debug-clause-fault : goal.returns-in-Debug-clause-fault
 returns-in-Debug-clause-fault g c = rw c.in-Debug.is (c.debug_out.ensures.fault (g.E.Write.contents c.args.errors.now))
+
+pub returns-in-Console-clause-asks : goal.returns-in-Console-clause-asks
+returns-in-Console-clause-asks g c = rw c.in-Console.is c.serve.ensures.asks
+
+pub returns-in-Trace-clause-asks : goal.returns-in-Trace-clause-asks
+returns-in-Trace-clause-asks g c = rw c.in-Trace.is c.trace_out.ensures.asks
+
+pub returns-in-Debug-clause-asks : goal.returns-in-Debug-clause-asks
+returns-in-Debug-clause-asks g c = rw c.in-Debug.is c.debug_out.ensures.asks

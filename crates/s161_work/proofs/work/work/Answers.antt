@@ -9,10 +9,11 @@ returns-in-Err-clause-rejected g c = λ two.
     let after = g.E.Write.contents c.refuse.new.errors in (
       says_why _ c.in-Err.rejection before after c.in-Err.ensures.rejected said.0 said.2,
       refl,
+      refl,
       said.1,
     )
 
 pub returns-in-Err-clause-failed : goal.returns-in-Err-clause-failed
 returns-in-Err-clause-failed g c = λ one.
-    unsaid_ends _ _ c.in-Err.rejection _ (g.O.Write.contents c.args.output.now) (g.O.Write.contents c.refuse.new.output) (g.E.Write.contents c.args.errors.now)
+    unsaid_ends _ _ _ c.in-Err.rejection _ (g.O.Write.contents c.args.output.now) (g.O.Write.contents c.refuse.new.output) (g.E.Write.contents c.args.errors.now)
     (g.E.Write.contents c.refuse.new.errors) c.in-Err.ensures.rejected (c.refuse.ensures.unsaid one)

@@ -1,0 +1,61 @@
+use Rattle.std.proofs.Common.{◌≡◌, ◌⊎◌, ℕ, List, [], ◌∷◌, ◌++◌, Option, None, Some, Bor, inl, inr}
+use Rattle.std.specs.Prelude.{flat_map}
+use Rattle.m161_audit.specs.declared.finding.AuditError.{AuditError}
+use Rattle.m161_audit.specs.declared.finding.AuditError.TheVariants as audit
+use Rattle.s161_base.proofs.Asking.{IsNoFile, asks_both, asks_none, boot_is_none, file_unread, refused}
+use Rattle.s161_base.specs.Asked.{Asks, AsksUntil, image_files, option_files}
+use Rattle.s161_base.specs.Reading.{IsOfText}
+use Rattle.s161_base.specs.declared.fault.Fault.{Fault}
+use Rattle.s161_base.specs.declared.fault.Fault.TheVariants.{Conf, File, Image, Input, Log, LogImage, LogMachine, Memory, Output, Schedule, Source, Threads, Watch, Watches, Word}
+use Rattle.s161_command.specs.declared.task.SearchTask.{SearchTask}
+use Rattle.s161_search.specs.Audits.{fault_of_audit}
+use Rattle.s161_search.specs.Given.{Given, IsWatchesFile, search_files}
+use Rattle.s161_search.specs.Seeds.{IsRunFault}
+use Rattle.s161_search.specs.helpers.Watches.{IsFaultIn}
+use Rattle.s161_search.proofs.Unaudited.{watches_failed}
+
+-- The files that are asked for, and the faults that are none of a file.
+
+-- all of a search's
+pub asks_all : (task : SearchTask) (a b c d e : Option (List (List ℕ))) → Asks (image_files task.image.now) a b → Asks (option_files task.drive.keys) b c →
+    Asks (option_files task.watches) c d → Asks (option_files task.output) d e → Asks (search_files task) a e
+asks_all task a b c d e image keys watches output =
+    let last = asks_both (option_files task.output) [] d e e output (asks_none e) in
+    let more = asks_both (option_files task.watches) (flat_map option_files (task.output ∷ [])) c d e watches last in
+    asks_both (image_files task.image.now) (flat_map option_files (task.drive.keys ∷ task.watches ∷ task.output ∷ [])) a b e image
+    (asks_both (option_files task.drive.keys) (flat_map option_files (task.watches ∷ task.output ∷ [])) b c e keys more)
+
+-- the file of the watches isn't read, and the rest isn't asked for
+pub watches_unread : (name : Option (Bor (List ℕ))) (files : List ℕ → Option (List ℕ)) (rest : List (List ℕ)) (a b : Option (List (List ℕ))) (fault : Fault) →
+    Asks (option_files name) a b → IsWatchesFile name files fault ⊎ (fault ≡ Memory) → AsksUntil (option_files name ++ rest) a b fault
+watches_unread None files rest a b fault asks (inl is) = absurd is
+watches_unread None files rest a b fault asks (inr is) = refused [] rest a b fault asks is
+watches_unread (Some name) files rest a b fault asks h = file_unread name (IsOfText (files name.now)) rest a b fault asks h
+
+-- a line of the watches
+pub line_is_none : (text : Option (List ℕ)) (fault : Fault) → IsFaultIn text fault → IsNoFile fault
+line_is_none None fault h = absurd h
+line_is_none (Some text) fault h = watches_failed IsNoFile text fault (λ n bad. tt) tt h
+
+-- a run that isn't audited
+pub audit_is_none : (e : AuditError) → IsNoFile (fault_of_audit e)
+audit_is_none (audit.Boot e) = boot_is_none e
+audit_is_none (audit.BadWatch k) = tt
+
+-- a run that isn't made
+pub run_is_none : (task : SearchTask) (given : Given) (fault : Fault) → IsRunFault task given fault → IsNoFile fault
+run_is_none task given (File name why) h = absurd h
+run_is_none task given Memory h = tt
+run_is_none task given (Schedule n) h = tt
+run_is_none task given (Log n) h = tt
+run_is_none task given LogMachine h = tt
+run_is_none task given LogImage h = tt
+run_is_none task given (Watches n) h = tt
+run_is_none task given (Watch k) h = tt
+run_is_none task given Conf h = tt
+run_is_none task given (Image e) h = tt
+run_is_none task given (Source e) h = tt
+run_is_none task given (Threads cause) h = tt
+run_is_none task given (Input why) h = tt
+run_is_none task given Word h = tt
+run_is_none task given Output h = tt
