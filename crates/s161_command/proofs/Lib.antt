@@ -3,3 +3,4 @@ mod Reading
 mod Linking
 mod Naming
 mod Delaying
+mod Together

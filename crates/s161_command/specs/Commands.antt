@@ -33,6 +33,7 @@ use Rattle.s161_command.specs.declared.task.ThreadsTask.{ThreadsTask}
 use Rattle.s161_command.specs.declared.task.TraceTask.{TraceTask}
 use Rattle.s161_command.specs.declared.task.Task.{Task}
 use Rattle.s161_command.specs.declared.task.Task.TheVariants.{Assemble, Audit, Console, Debug, Demo, Disassemble, Replay, Run, RunDriven, RunInThreads, Schedule, Search, Trace}
+use Rattle.s161_command.specs.Classes.{HasClassLimits, IsClassIf, IsSeeds}
 use Rattle.s161_command.specs.Drives.{AsksDrive, AsksDriveIf, Clashes, IsLongNumberOf, go_together, has_order, long_rule, optional_rule, text_rule, with_console_pace_rules, with_order_rules, with_pace_rules, with_priority_rules}
 use Rattle.s161_command.specs.Links.{IsLink, IsLinkIf, RefusesLink}
 use Rattle.s161_command.specs.Numbers.{IsNumberIf, IsNumberOf, is_set}
@@ -114,16 +115,14 @@ console_line =
     with_console_pace_rules 9_223_372_036_854_775_807 (with_order_rules
     (with_size_rules (codes "65536") (on_image (codes "console"))))
 
--- how many seeds are tried, which is required
-abbrev pub seeds_rule : Rule
-seeds_rule = record (optional_rule (codes "seeds") 1 4_294_967_295) { required = true }
-
 -- the arguments of `search`, without those of a driven run: an image and options
 abbrev pub plain_search_line : App
 plain_search_line =
-    with_rule (with_rule (with_rule (with_rule (with_rule
+    with_rule (with_rule (with_rule (with_rule (with_rule (with_rule (with_rule
     (with_size_rules (codes "65536") (on_image (codes "search")))
-    seeds_rule)
+    (optional_rule (codes "seeds") 1 4_294_967_295))
+    (optional_rule (codes "delays") 0 64))
+    (optional_rule (codes "turns") 1 4_294_967_295))
     (long_rule (codes "from") 0 18_446_744_073_709_551_615))
     (text_rule (codes "watches")))
     (text_rule (codes "output")))
@@ -291,7 +290,8 @@ pub record AsksSearch (rows : List Row) (task : SearchTask) : Type 0 where
   pub image : task.image.now ≡ given_of (codes "image") rows
   pub size : IsSize 65_536 rows task.size
   pub drive : AsksDrive Seeded rows task.drive
-  pub seeds : IsNumberOf 1 (one_of (codes "seeds") rows) task.seeds
+  pub delays : IsClassIf rows task.delays
+  pub seeds : IsSeeds task.delays rows task.seeds
   pub watches : option_map (λ name. name.now) task.watches ≡ first_of (codes "watches") rows
   pub output : option_map (λ name. name.now) task.output ≡ first_of (codes "output") rows
   pub whole : task.whole ≡ is_set (codes "whole") rows
@@ -428,12 +428,13 @@ abbrev pub HasSourceLimits : Source → Type 0
 HasSourceLimits (File name) = Unit {0}
 HasSourceLimits (Driven drive) = order_fault drive.order ≡ None
 
--- the numbers of a task's order are within their limits
+-- the numbers of a task's order and of its delays are within their limits
 abbrev pub HasLimits : Task → Type 0
 HasLimits (RunDriven task) = order_fault task.drive.order ≡ None
 HasLimits (Schedule task) = order_fault task.drive.order ≡ None
 HasLimits (Console task) = order_fault task.drive.order ≡ None
-HasLimits (Search task) = order_fault task.drive.order ≡ None
+HasLimits (Search task) =
+    (order_fault task.drive.order ≡ None) × HasClassLimits task.drive.order task.delays
 HasLimits (Trace task) = IfSome task.drive (λ drive. order_fault drive.order ≡ None)
 HasLimits (Debug task) = HasSourceLimits task.source
 HasLimits _ = Unit {0}

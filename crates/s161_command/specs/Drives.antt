@@ -6,13 +6,14 @@ use Rattle.m161_order.specs.declared.order.Order.{Order}
 use Rattle.m161_order.specs.declared.order.Order.TheVariants.{Turns, Delayed, Random, Priorities}
 use Rattle.m161_order.specs.Order.{order_fault}
 use Rattle.s161_command.specs.declared.drive.Clash.{Clash}
-use Rattle.s161_command.specs.declared.drive.Clash.TheVariants.{TwoOrders, HalfPriorities, ChangesWithoutSeed, DelayedWithoutTurns, NoOrder, PaceWithoutOrder, OrderInThreads, LogTwice, FileAndOrder, NoEvents, BadOrder, BadGap, BadDelays, BadLink}
+use Rattle.s161_command.specs.declared.drive.Clash.TheVariants.{TwoOrders, HalfPriorities, ChangesWithoutSeed, DelayedWithoutTurns, NoOrder, PaceWithoutOrder, OrderInThreads, LogTwice, FileAndOrder, NoEvents, DelaysAndSeeds, NoRuns, TurnsWithoutDelays, BadOrder, BadGap, BadDelays, BadClass, BadLink}
 use Rattle.s161_command.specs.declared.drive.OrderUse.{OrderUse}
 use Rattle.s161_command.specs.declared.drive.OrderUse.TheVariants.{Optional, Needed, Assumed, Seeded, OrFile}
 use Rattle.s161_command.specs.declared.drive.Drive.{Drive}
+use Rattle.s161_command.specs.Classes.{IsBadClass}
 use Rattle.s161_command.specs.Delays.{AreDelays, IsBadDelays}
 use Rattle.s161_command.specs.Links.{IsBadLink}
-use Rattle.s161_command.specs.Numbers.{IsNumber, IsNumberOf, is_set}
+use Rattle.s161_command.specs.Numbers.{IsNumber, IsNumberOf, is_given, is_set}
 
 -- The options of a driven run, and which options go together.
 
@@ -68,10 +69,6 @@ with_console_pace_rules most command =
     (optional_rule (codes "transfer") 0 4_294_967_295))
     (text_rule (codes "gap"))
 
--- an option without a default is given
-abbrev pub is_given : Text → List Row → Bool
-is_given name rows = is_some (first_of name rows)
-
 abbrev pub has_order : List Row → Bool
 has_order rows = is_given (codes "turns") rows || is_given (codes "random") rows
 
@@ -84,11 +81,30 @@ has_pace rows =
 abbrev pub two_orders : List Row → Bool
 two_orders rows = is_given (codes "turns") rows && is_given (codes "random") rows
 
--- one of `--changes` and `--within` without the other
+-- one of `--changes` and `--within` without the other, where `--within` isn't that of `--delays`
 abbrev pub half_priorities : List Row → Bool
 half_priorities rows =
     (is_given (codes "changes") rows && not (is_given (codes "within") rows))
-    || (is_given (codes "within") rows && not (is_given (codes "changes") rows))
+    || (is_given (codes "within") rows && not (is_given (codes "changes") rows)
+    && not (is_given (codes "delays") rows))
+
+-- runs by their delays, and runs by seeds too
+abbrev pub delays_and_seeds : List Row → Bool
+delays_and_seeds rows =
+    is_given (codes "delays") rows
+    && (is_given (codes "seeds") rows || is_given (codes "changes") rows)
+
+-- neither of them
+abbrev pub lacks_runs : OrderUse → List Row → Bool
+lacks_runs Seeded rows =
+    not (is_given (codes "delays") rows) && not (is_given (codes "seeds") rows)
+lacks_runs _ rows = false
+
+-- turns of `search` without delays
+abbrev pub turns_without_delays : OrderUse → List Row → Bool
+turns_without_delays Seeded rows =
+    is_given (codes "turns") rows && not (is_given (codes "delays") rows)
+turns_without_delays _ rows = false
 
 -- priorities have a seed
 abbrev pub has_seed : OrderUse → List Row → Bool
@@ -139,8 +155,9 @@ lacks_events _ rows = false
 -- options go together
 abbrev pub go_together : OrderUse → List Row → Bool
 go_together orders rows =
-    not (two_orders rows) && not (half_priorities rows) && not (changes_without_seed orders rows)
-    && not (delayed_without_turns rows)
+    not (two_orders rows) && not (delays_and_seeds rows) && not (lacks_runs orders rows)
+    && not (turns_without_delays orders rows) && not (half_priorities rows)
+    && not (changes_without_seed orders rows) && not (delayed_without_turns rows)
     && not (lacks_order orders rows) && not (pace_without_order orders rows)
     && not (order_in_threads rows) && not (shows_log_twice rows)
     && not (file_and_order orders rows) && not (lacks_events orders rows)
@@ -189,12 +206,20 @@ abbrev pub IsGivenOrTurns : Bool → List Row → Order → Type 0
 IsGivenOrTurns true rows order = IsGivenOrder rows order
 IsGivenOrTurns false rows order = order ≡ Turns 1
 
+-- the order of the runs of `search`: by turns with `--delays`, else by the seeds
+abbrev pub IsSearched : Bool → List Row → Order → Type 0
+IsSearched true rows (Turns steps) = IsNumberOf 50 (one_of (codes "turns") rows) steps
+IsSearched true rows (Delayed turns delays) = ⊥
+IsSearched true rows (Random seed) = ⊥
+IsSearched true rows (Priorities seed changes within) = ⊥
+IsSearched false rows order = IsSeeded (codes "from") rows order
+
 -- the order of a driven run
 abbrev pub IsOrder : OrderUse → List Row → Order → Type 0
 IsOrder Optional rows order = IsGivenOrder rows order
 IsOrder Needed rows order = IsGivenOrder rows order
 IsOrder Assumed rows order = IsGivenOrTurns (has_order rows) rows order
-IsOrder Seeded rows order = IsSeeded (codes "from") rows order
+IsOrder Seeded rows order = IsSearched (is_given (codes "delays") rows) rows order
 IsOrder OrFile rows order = IsGivenOrder rows order
 
 -- `--gap none`, or a number, or the default
@@ -237,6 +262,9 @@ pub record AsksDriveIf (orders : OrderUse) (rows : List Row) (found : Option Dri
 -- options that clap takes, and that can't be followed: why
 abbrev pub Clashes : OrderUse → List Row → Clash → Type 0
 Clashes orders rows TwoOrders = two_orders rows ≡ true
+Clashes orders rows DelaysAndSeeds = delays_and_seeds rows ≡ true
+Clashes orders rows NoRuns = lacks_runs orders rows ≡ true
+Clashes orders rows TurnsWithoutDelays = turns_without_delays orders rows ≡ true
 Clashes orders rows HalfPriorities = half_priorities rows ≡ true
 Clashes orders rows ChangesWithoutSeed = changes_without_seed orders rows ≡ true
 Clashes orders rows DelayedWithoutTurns = delayed_without_turns rows ≡ true
@@ -247,6 +275,7 @@ Clashes orders rows (BadOrder e) =
     (order : Order) × IsOrder orders rows order × (order_fault order ≡ Some e)
 Clashes orders rows BadGap = IsBadGap (first_of (codes "gap") rows)
 Clashes orders rows BadDelays = IsBadDelays (first_of (codes "delayed") rows)
+Clashes orders rows BadClass = IsBadClass rows
 Clashes orders rows BadLink = IsBadLink (first_of (codes "link") rows)
 Clashes orders rows LogTwice = shows_log_twice rows ≡ true
 Clashes orders rows FileAndOrder = file_and_order orders rows ≡ true

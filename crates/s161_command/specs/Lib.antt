@@ -1,5 +1,6 @@
 pub mod Numbers
 pub mod Links
+pub mod Classes
 pub mod Delays
 pub mod Drives
 pub mod Commands

@@ -1,4 +1,4 @@
-use Rattle.std.specs.Prelude.{◌≡◌, ℕ, ◌<◌, ◌^◌, Bool, false, List, Option, None, Some, bytes_eq, codes}
+use Rattle.std.specs.Prelude.{◌≡◌, ℕ, ◌<◌, ◌^◌, Bool, false, List, Option, None, Some, bytes_eq, codes, is_some}
 use Rattle.std.specs.Str.Parse.{IsNumeral, digits_value, without_leading_plus}
 use Rattle.clap.specs.Words.{Row, Text, first_of}
 
@@ -25,6 +25,10 @@ IsNumberIf None n = n ≡ None
 IsNumberIf (Some text) None = ¬ IsNumber text
 IsNumberIf (Some text) (Some n) =
     IsNumber text × (n ≡ digits_value 10 (without_leading_plus text))
+
+-- an option without a default is given
+abbrev pub is_given : Text → List Row → Bool
+is_given name rows = is_some (first_of name rows)
 
 -- clap gives this text for an option without a value
 abbrev pub is_true : Option Text → Bool

@@ -8,6 +8,7 @@ ghost use Rattle.s161_command.specs.Links.{IsLinkIf};
 ghost use Rattle.s161_command.specs.declared.drive.OrderUse.TheVariants.{Assumed, Needed, Optional, OrFile, Seeded};
 ghost use Rattle.s161_command.specs.helpers.Settings.{HasSettings, HasSettingsIf};
 
+use crate::class::seeds_given;
 use crate::drive::{Clash, Drive, OrderUse, drive_given, has_order};
 use crate::given::{file_given, is_set, long_given, number_given, number_if_given, text_given};
 use crate::link::link_or_word;
@@ -128,7 +129,8 @@ fn task_of_search<'a>(given: &ArgMatches<'a>, settings: Settings) -> Task<'a>
         image: file_given(given, "image"),
         size: size_given(given, 65_536, settings.link),
         drive: drive_given(given, OrderUse::Seeded, settings),
-        seeds: number_given(given, "seeds", 1),
+        delays: settings.delays,
+        seeds: seeds_given(given, settings.delays),
         watches: text_given(given, "watches"),
         output: text_given(given, "output"),
         whole: is_set(given, "whole"),

@@ -3,11 +3,12 @@
 ghost use Rattle.std.specs.Prelude.{◌≡◌, true, None, MatchOption, codes, option_map};
 ghost use Rattle.clap.specs.Words.{first_of, found_of, rows_of};
 ghost use Rattle.s161_command.specs.Delays.{IsBadDelays};
-ghost use Rattle.s161_command.specs.Drives.{AsksDrive, Clashes, IsBadGap, IsGap, IsGivenOrder, IsOrder, IsSeeded, changes_without_seed, delayed_without_turns, events_by_default, file_and_order, gap_by_default, go_together, half_priorities, has_order, has_pace, has_seed, is_driven, is_given, lacks_events, lacks_order, order_in_threads, pace_without_order, shows_log_twice, two_orders};
+ghost use Rattle.s161_command.specs.Drives.{AsksDrive, Clashes, IsBadGap, IsGap, IsGivenOrder, IsOrder, IsSearched, IsSeeded, changes_without_seed, delayed_without_turns, delays_and_seeds, events_by_default, file_and_order, gap_by_default, go_together, half_priorities, has_order, has_pace, has_seed, is_driven, lacks_events, lacks_order, lacks_runs, order_in_threads, pace_without_order, shows_log_twice, turns_without_delays, two_orders};
+ghost use Rattle.s161_command.specs.Numbers.{is_given};
 ghost use Rattle.s161_command.specs.helpers.Settings.{HasSettings};
 
 use crate::delays::delays_in;
-use crate::given::{is_set, long_given, number_given, text_given};
+use crate::given::{is_given, is_set, long_given, number_given, text_given};
 use crate::settings::Settings;
 use clap::ArgMatches;
 use m161_order::{Order, OrderError};
@@ -39,7 +40,8 @@ pub enum OrderUse {
     Needed,
     /// `console`: without one it is that of turns of one Step.
     Assumed,
-    /// `search`: it is one at random or by priorities, with each seed from `--from` on.
+    /// `search`: it is one at random or by priorities, with each seed from `--from` on, or one by
+    /// turns with `--delays`.
     Seeded,
     /// `debug`: one is wanted, or a file of events, and not both.
     OrFile,
@@ -50,6 +52,12 @@ pub enum OrderUse {
 pub enum Clash {
     #[error("--turns and --random are two orders, and a run has one")]
     TwoOrders,
+    #[error("--delays takes the place of --seeds and of --changes: give one of them")]
+    DelaysAndSeeds,
+    #[error("runs are wanted: --seeds N or --delays D")]
+    NoRuns,
+    #[error("--turns needs --delays, whose runs are by turns")]
+    TurnsWithoutDelays,
     #[error("--changes and --within need each other")]
     HalfPriorities,
     #[error("--changes needs --random, whose seed draws the priorities")]
@@ -74,15 +82,10 @@ pub enum Clash {
     BadGap,
     #[error("--delayed is 1 to 64 numbers, 0 to 4294967295 and ascending, with commas between them alone")]
     BadDelays,
+    #[error("--delays is a number, 0 to 64, and --from beside it that of a choice, 0 to 4294967295")]
+    BadClass,
     #[error("--link is word, or line, the aligned 16 bytes")]
     BadLink,
-}
-
-// Whether an option is given.
-fn is_given<'a>(given: &ArgMatches<'a>, name: &str) -> bool
-    ensures { result ≡ is_given name.now (rows_of (found_of given.now)) }
-{
-    given.get_str(name).is_some()
 }
 
 /// Whether an order is given.
@@ -113,7 +116,31 @@ fn half_priorities<'a>(given: &ArgMatches<'a>) -> bool
 {
     let changes = is_given(given, "changes");
     let within = is_given(given, "within");
-    (changes && !within) || (within && !changes)
+    (changes && !within) || (within && !changes && !is_given(given, "delays"))
+}
+
+fn delays_and_seeds<'a>(given: &ArgMatches<'a>) -> bool
+    ensures { result ≡ delays_and_seeds (rows_of (found_of given.now)) }
+{
+    is_given(given, "delays") && (is_given(given, "seeds") || is_given(given, "changes"))
+}
+
+fn lacks_runs<'a>(given: &ArgMatches<'a>, orders: OrderUse) -> bool
+    ensures { result ≡ lacks_runs orders (rows_of (found_of given.now)) }
+{
+    match orders {
+        OrderUse::Seeded => !is_given(given, "delays") && !is_given(given, "seeds"),
+        OrderUse::Optional | OrderUse::Needed | OrderUse::Assumed | OrderUse::OrFile => false,
+    }
+}
+
+fn turns_without_delays<'a>(given: &ArgMatches<'a>, orders: OrderUse) -> bool
+    ensures { result ≡ turns_without_delays orders (rows_of (found_of given.now)) }
+{
+    match orders {
+        OrderUse::Seeded => is_given(given, "turns") && !is_given(given, "delays"),
+        OrderUse::Optional | OrderUse::Needed | OrderUse::Assumed | OrderUse::OrFile => false,
+    }
 }
 
 // Whether priorities have a seed.
@@ -206,6 +233,15 @@ pub(crate) fn clash_of<'a>(given: &ArgMatches<'a>, orders: OrderUse) -> Option<C
     if two_orders(given) {
         return Some(Clash::TwoOrders);
     }
+    if delays_and_seeds(given) {
+        return Some(Clash::DelaysAndSeeds);
+    }
+    if lacks_runs(given, orders) {
+        return Some(Clash::NoRuns);
+    }
+    if turns_without_delays(given, orders) {
+        return Some(Clash::TurnsWithoutDelays);
+    }
     if half_priorities(given) {
         return Some(Clash::HalfPriorities);
     }
@@ -280,6 +316,17 @@ fn given_order<'a>(given: &ArgMatches<'a>) -> Option<Order>
     Some(seeded_order(given, "random"))
 }
 
+// The order of the runs of `search`: by turns with `--delays`, else by the seeds.
+fn searched_order<'a>(given: &ArgMatches<'a>) -> Order
+    ensures { IsSearched (is_given (codes "delays") (rows_of (found_of given.now)))
+        (rows_of (found_of given.now)) result }
+{
+    if is_given(given, "delays") {
+        return Order::Turns(number_given(given, "turns", 50));
+    }
+    seeded_order(given, "from")
+}
+
 /// The order; nothing where its delays aren't a list.
 pub(crate) fn order_of<'a>(given: &ArgMatches<'a>, orders: OrderUse) -> Option<Order>
     ensures { MatchOption result
@@ -287,7 +334,7 @@ pub(crate) fn order_of<'a>(given: &ArgMatches<'a>, orders: OrderUse) -> Option<O
         (IsOrder orders (rows_of (found_of given.now))) }
 {
     match orders {
-        OrderUse::Seeded => Some(seeded_order(given, "from")),
+        OrderUse::Seeded => Some(searched_order(given)),
         OrderUse::Optional | OrderUse::Needed | OrderUse::OrFile => given_order(given),
         OrderUse::Assumed => {
             if has_order(given) {

@@ -3,7 +3,7 @@
 ghost use Rattle.std.specs.Prelude.{◌≡◌, [], option_map, unwrap_or};
 ghost use Rattle.clap.specs.Words.{first_of, found_of, one_of, rows_of};
 ghost use Rattle.s161_command.specs.Drives.{IsLongNumberOf};
-ghost use Rattle.s161_command.specs.Numbers.{IsNumberIf, IsNumberOf, is_set};
+ghost use Rattle.s161_command.specs.Numbers.{IsNumberIf, IsNumberOf, is_given, is_set};
 
 use clap::ArgMatches;
 
@@ -43,6 +43,13 @@ pub(crate) fn number_if_given<'a>(given: &ArgMatches<'a>, name: &str) -> Option<
     ensures { IsNumberIf (one_of name.now (rows_of (found_of given.now))) result }
 {
     given.get_one::<u32>(name)
+}
+
+/// Whether an option without a default is given.
+pub(crate) fn is_given<'a>(given: &ArgMatches<'a>, name: &str) -> bool
+    ensures { result ≡ is_given name.now (rows_of (found_of given.now)) }
+{
+    given.get_str(name).is_some()
 }
 
 /// Whether an option without a value is given.

@@ -88,16 +88,18 @@ Why the run stopped goes to standard error. Exit status:
 /// The end of the help of `search`.
 pub(crate) const AFTER_SEARCH_HELP: &str = "\
 For each of N seeds, from --from on, a run is made whose order is drawn from the seed: at random, or
-by priorities with --changes and --within. The first run that goes wrong ends the search:
+by priorities with --changes and --within. With --delays D the runs are all those by turns of N Steps
+(--turns) in which a ready processor is passed over at most D times, as by --delayed of run: at
+choices from --from on, and below --within. The first run that goes wrong ends the search:
   stale PLACE PROCESSOR ADDRESS ROW   as audit says it, by the watches of --watches
   conflict PROCESSOR ROW OTHER        with --strict: as the last line of run says it
   stuck     no processor can go on, and no byte or key is left; with --output only where
             the console's bytes aren't the file's
   output    with --output: the machine is off, and the console's bytes aren't the file's
   end       with --output: the machine is neither off nor stuck after --events events
-Its schedule is printed, shortened unless --whole is given, behind two comments: its seed, and what
-is wrong. `clean N` says that no run goes wrong; `clean N cut M` that M of them weren't over after
---events events. A file has at most 402653184 bytes.
+Its schedule is printed, shortened unless --whole is given, behind two comments: its seed or its
+delays, and what is wrong. `clean N` says that no run goes wrong; `clean N cut M` that M of them
+weren't over after --events events. A file has at most 402653184 bytes.
 
 Exit status:
   0  no run goes wrong

@@ -3,6 +3,7 @@
 
 mod argument;
 mod asked;
+mod class;
 mod command;
 mod delays;
 mod drive;
@@ -13,6 +14,7 @@ mod link;
 mod settings;
 mod task;
 
+pub use class::DelayClass;
 pub use command::parse;
 pub use drive::{Clash, Drive, OrderUse};
 pub use m161_order::{Order, OrderError};

@@ -267,6 +267,16 @@ const WITHIN: Argument = Argument {
     required: false,
 };
 
+// The same of `search`, or the choice behind the last one of a delay.
+const SEARCH_WITHIN: Argument = Argument {
+    name: "within",
+    kind: Kind::Number(ValueParser::Signed(1, 16_777_216)),
+    shown: "K",
+    help: "With --changes: Steps of a stretch, 1 to 16777216; with --delays: delays before choice K alone, 16777216 where it is left out",
+    default: None,
+    required: false,
+};
+
 // How many events a driven run has at most: as many as any run.
 const EVENTS: Argument = Argument {
     name: "events",
@@ -324,15 +334,35 @@ const SEEDS: Argument = Argument {
     shown: "N",
     help: "How many seeds are tried, 1 to 4294967295",
     default: None,
-    required: true,
+    required: false,
 };
 
-// The seed that `search` tries first.
-const FIRST_SEED: Argument = Argument {
+// How many delays the runs of `search` have at most.
+const DELAYS: Argument = Argument {
+    name: "delays",
+    kind: Kind::Number(ValueParser::Signed(0, 64)),
+    shown: "D",
+    help: "Makes every run by turns with at most D delays, 0 to 64, in place of runs by seeds",
+    default: None,
+    required: false,
+};
+
+// How many Steps a turn of these runs has.
+const DELAYED_TURNS: Argument = Argument {
+    name: "turns",
+    kind: Kind::Number(ValueParser::Signed(1, 4_294_967_295)),
+    shown: "N",
+    help: "With --delays: Steps of a turn, 1 to 4294967295; 50 where it is left out",
+    default: None,
+    required: false,
+};
+
+// The seed that `search` tries first, or the first choice of a delay.
+const FIRST_RUN: Argument = Argument {
     name: "from",
     kind: ANY_LONG,
-    shown: "SEED",
-    help: "The first seed, 0 where it is left out; the others follow, modulo 2^64",
+    shown: "F",
+    help: "The first seed, 0 where it is left out; the others follow, modulo 2^64; with --delays: no delay before choice F, 0 to 4294967295",
     default: None,
     required: false,
 };
@@ -504,12 +534,14 @@ static SEARCH: Line = Line {
         LINK,
         STRICT,
         SEEDS,
-        FIRST_SEED,
+        DELAYS,
+        DELAYED_TURNS,
+        FIRST_RUN,
         WATCHES,
         OUTPUT,
         WHOLE,
         CHANGES,
-        WITHIN,
+        SEARCH_WITHIN,
         LISTED_EVENTS,
         TRANSFER,
         KEYS,

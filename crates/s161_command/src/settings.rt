@@ -9,6 +9,7 @@ ghost use Rattle.s161_command.specs.Drives.{Clashes};
 ghost use Rattle.s161_command.specs.Links.{IsLinkIf, RefusesLink};
 ghost use Rattle.s161_command.specs.helpers.Settings.{HasSettings, HasSettingsIf};
 
+use crate::class::{DelayClass, class_given};
 use crate::drive::{Clash, OrderUse, clash_of, gap_given, order_of};
 use crate::link::link_if_given;
 use clap::ArgMatches;
@@ -20,6 +21,8 @@ use m161_order::Order;
 pub(crate) struct Settings {
     /// The order; turns of one Step where the command takes none.
     pub(crate) order: Order,
+    /// Which delays the runs of `search` may have, in place of seeds.
+    pub(crate) delays: Option<DelayClass>,
     /// After how many events a key is typed, if there is a number.
     pub(crate) gap: Option<u32>,
     /// What `ll` links a processor to, if it is given.
@@ -55,11 +58,19 @@ fn settings_with_order<'a>(given: &ArgMatches<'a>, orders: OrderUse) -> Result<S
     if let Some(error) = order.fault() {
         return Err(Clash::BadOrder(error));
     }
+    let Some(delays) = class_given(given) else {
+        return Err(Clash::BadClass);
+    };
     let Some(gap) = gap_given(given, orders) else {
         return Err(Clash::BadGap);
     };
     match link_if_given(given) {
-        Some(link) => Ok(Settings { order, gap, link }),
+        Some(link) => Ok(Settings {
+            order,
+            delays,
+            gap,
+            link,
+        }),
         None => Err(Clash::BadLink),
     }
 }
@@ -73,6 +84,7 @@ fn settings_without_order<'a>(given: &ArgMatches<'a>) -> Result<Settings, Clash>
     match link_if_given(given) {
         Some(link) => Ok(Settings {
             order: Order::Turns(1),
+            delays: None,
             gap: None,
             link,
         }),

@@ -1,5 +1,6 @@
 //! The tasks that a command line can ask for.
 
+use crate::class::DelayClass;
 use crate::drive::{Clash, Drive};
 use clap::Error;
 use m161_isa::LinkUnit;
@@ -19,7 +20,7 @@ pub enum Task<'a> {
     Schedule(ScheduleTask<'a>),
     /// Run an image at the terminal.
     Console(ConsoleTask<'a>),
-    /// Look for a seed whose run goes wrong.
+    /// Look for a run that goes wrong, by seeds or by delays.
     Search(SearchTask<'a>),
     /// Print a line for each event of a run.
     Trace(TraceTask<'a>),
@@ -121,9 +122,12 @@ pub struct SearchTask<'a> {
     pub image: &'a str,
     /// The machine's size.
     pub size: Size,
-    /// What each driven run is asked for; the order's seed is that of the first one.
+    /// What each driven run is asked for; the order's seed is that of the first one. With `delays`
+    /// its order is that of turns without a delay.
     pub drive: Drive<'a>,
-    /// How many seeds are tried, at least 1.
+    /// Which delays the runs may have, in place of seeds.
+    pub delays: Option<DelayClass>,
+    /// How many seeds are tried, at least 1; 0 with `delays`.
     pub seeds: u32,
     /// The name of the watches' file, if there is one.
     pub watches: Option<&'a str>,

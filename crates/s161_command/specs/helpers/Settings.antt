@@ -3,6 +3,7 @@ use Rattle.clap.specs.Words.{Row, first_of}
 use Rattle.m161_order.specs.Order.{order_fault}
 use Rattle.s161_command.specs.declared.drive.OrderUse.{OrderUse}
 use Rattle.s161_command.specs.declared.settings.Settings.{Settings}
+use Rattle.s161_command.specs.Classes.{IsClassIf}
 use Rattle.s161_command.specs.Drives.{IsGap, IsOrder, gap_by_default, go_together}
 use Rattle.s161_command.specs.Links.{IsLinkIf}
 
@@ -13,6 +14,7 @@ pub record HasSettings (orders : OrderUse) (rows : List Row) (settings : Setting
   pub together : go_together orders rows ≡ true
   pub order : IsOrder orders rows settings.order
   pub limits : order_fault settings.order ≡ None
+  pub delays : IsClassIf rows settings.delays
   pub gap : IsGap (gap_by_default orders) (first_of (codes "gap") rows) settings.gap
   pub link : IsLinkIf (first_of (codes "link") rows) settings.link
 

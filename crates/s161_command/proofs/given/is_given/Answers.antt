@@ -3,7 +3,7 @@ use Rattle.std.specs.Prelude.{is_some}
 use Rattle.clap.specs.Words.{found_of}
 use Rattle.clap.proofs.WalkLemmas.{first_value-rows}
 use Rattle.s161_command.proofs.Reading.{given_as}
-use Rattle.s161_command.proofs.drive.is_given.Goals as goal
+use Rattle.s161_command.proofs.given.is_given.Goals as goal
 
 pub returns : goal.returns
 returns c =
