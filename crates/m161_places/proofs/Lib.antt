@@ -1,0 +1,6 @@
+mod Shifting
+mod Ranges
+mod Splitting
+pub mod Alike
+-- pub mod Effective
+-- pub mod Along

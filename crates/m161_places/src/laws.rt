@@ -1,0 +1,14 @@
+//! Laws of delays. The functions do nothing: their contracts are the laws.
+
+ghost use Rattle.std.specs.Prelude.{ℕ, List, Option};
+ghost use Rattle.m161_machine.specs.State.{State};
+ghost use Rattle.m161_drive.specs.declared.cursor.Cursor.{Cursor};
+ghost use Rattle.m161_drive.specs.declared.turns.Turns.{Turns};
+ghost use Rattle.m161_drive.specs.Policy.{Rules};
+ghost use Rattle.m161_places.specs.Laws.{ChooseAlike, IsEffective};
+
+/// Runs of lists that agree below a number are alike up to the place of that number.
+pub fn choose_alike()
+    ensures { (n : ℕ) (rules : Rules) (keys : ℕ → Option ℕ) (turns : Turns) (c : Cursor) (s : State)
+        → ChooseAlike n rules keys turns c s }
+{}

@@ -1,0 +1,7 @@
+//! The places of a driven run: its choices among ready processors, at which the order by turns with
+//! delays passes over some of them (delay-bounded scheduling; Emmi, Qadeer and Rakamarić 2011).
+#![tactic(auto)]
+
+mod laws;
+
+pub use laws::{choose_alike};
