@@ -2,5 +2,5 @@ mod Shifting
 mod Ranges
 mod Splitting
 pub mod Alike
--- pub mod Effective
+pub mod Effective
 -- pub mod Along

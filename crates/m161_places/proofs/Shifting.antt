@@ -9,7 +9,7 @@ use Rattle.m161_places.specs.Places.{times}
 -- Lists of delays, seen from one choice sooner.
 
 -- so many come at that choice
-pub sooner : ℕ → List ℕ → List ℕ
+unfoldable pub sooner : ℕ → List ℕ → List ℕ
 sooner zero ns = map suc ns
 sooner (suc m) ns = 0 ∷ sooner m ns
 

@@ -12,3 +12,8 @@ pub fn choose_alike()
     ensures { (n : ℕ) (rules : Rules) (keys : ℕ → Option ℕ) (turns : Turns) (c : Cursor) (s : State)
         → ChooseAlike n rules keys turns c s }
 {}
+/// The run of a list is that of a useful one, which is a part of it.
+pub fn have_effective_part()
+    ensures { (n : ℕ) (rules : Rules) (keys : ℕ → Option ℕ) (turns : Turns) (c : Cursor) (s : State)
+        (all : List ℕ) → (part : List ℕ) × IsEffective n rules keys turns c s all part }
+{}

@@ -4,4 +4,4 @@
 
 mod laws;
 
-pub use laws::{choose_alike};
+pub use laws::{choose_alike, have_effective_part};
