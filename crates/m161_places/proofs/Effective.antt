@@ -80,7 +80,7 @@ rest_of n rules keys has (Err refusal) e turns c all = (
 abbrev Chosen : Rules → (ℕ → Option ℕ) → Turns → List ℕ → Cursor → State → Option Event × Cursor
 Chosen rules keys turns left c s = chosen_with rules (keys c.typed) (with_delays turns left c) s
 
-offers_on : (n : ℕ) (rules : Rules) (keys : ℕ → Option ℕ) (c : Cursor) (s : State) (choice : Option Event × Cursor) → s.board.off ≡ false →
+pub offers_on : (n : ℕ) (rules : Rules) (keys : ℕ → Option ℕ) (c : Cursor) (s : State) (choice : Option Event × Cursor) → s.board.off ≡ false →
     chosen_with rules (keys c.typed) c s ≡ choice → offers (suc n) rules keys c s ≡ offered (offers n rules keys) s choice
 unfolding offers
 offers_on n rules keys c s choice on is =

@@ -3,4 +3,4 @@ mod Ranges
 mod Splitting
 pub mod Alike
 pub mod Effective
--- pub mod Along
+pub mod Along

@@ -2,6 +2,8 @@
 //! delays passes over some of them (delay-bounded scheduling; Emmi, Qadeer and Rakamarić 2011).
 #![tactic(auto)]
 
+mod counts;
 mod laws;
 
+pub use counts::offers;
 pub use laws::{choose_alike, have_effective_part};
