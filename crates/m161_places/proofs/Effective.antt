@@ -18,7 +18,7 @@ use Rattle.m161_drive.proofs.Passing.{count_behind, ready_head}
 use Rattle.m161_places.specs.Laws.{IsAscendingFrom, IsEffective, IsRunOf, with_delays}
 use Rattle.m161_places.specs.Places.{IsUseful, behind_accepted, behind_choice, is_place, offers, times, with_place}
 use Rattle.m161_places.proofs.Ranges.{as_many, passed_most}
-use Rattle.m161_places.proofs.Shifting.{behind_sooner, length_parts, length_sooner, sooner, times_later, times_now}
+use Rattle.m161_places.proofs.Shifting.{ascending_behind, behind_sooner, length_parts, length_sooner, sooner, times_later, times_now, whole}
 use Rattle.m161_places.proofs.Splitting.{Aside, Passing, Splits, passing, splits}
 use Rattle.m161_places.proofs.Alike.{offered}
 
@@ -28,12 +28,16 @@ use Rattle.m161_places.proofs.Alike.{offered}
 nothing_useful : (offered : List ℕ) → IsUseful offered []
 nothing_useful offered j some = absurd (let bad : ⊥ = omega (arith, some) in bad)
 
+none_or_some : (ns : List ℕ) → ([] ≡ ns) ⊎ (0 < length ns)
+none_or_some [] = inl refl
+none_or_some (n ∷ ns) = inr (omega arith)
+
 -- the rest of a run, from the answer to an event on
 record Rest
     (n : ℕ) (rules : Rules) (keys : ℕ → Option ℕ) (answer : Result (Outcome × State) Refusal) (e : Event) (turns : Turns) (c : Cursor)
     (all part : List ℕ) : Type 0 where
   pub is_part : (j : ℕ) → times j part ≤ times j all
-  pub is_short : length part ≤ length all
+  pub is_same_or_shorter : IsAscendingFrom 0 all → (part ≡ all) ⊎ (length part < length all)
   pub is_ascending : IsAscendingFrom 0 part
   pub is_useful : IsUseful (behind_accepted answer e (with_delays turns part c) (offers n rules keys)) part
   pub is_run : (es : List Entry) (d : Cursor) (outcome : Outcome) (u t : State) → length es ≤ n → answer ≡ Ok (outcome, u) →
@@ -52,7 +56,7 @@ rest_of n rules keys has (Ok given) e turns c all =
       inner.0,
       record {
         is_part = inner.1.is_part;
-        is_short = inner.1.is_short;
+        is_same_or_shorter = inner.1.is_same_or_shorter;
         is_ascending = inner.1.is_ascending;
         is_useful = inner.1.is_useful;
         is_run = λ es d outcome u t few is h.
@@ -68,7 +72,7 @@ rest_of n rules keys has (Err refusal) e turns c all = (
   [],
   record {
     is_part = λ j. omega arith;
-    is_short = omega arith;
+    is_same_or_shorter = λ h. none_or_some all;
     is_ascending = tt;
     is_useful = nothing_useful [];
     is_run = λ es d outcome u t few is h.
@@ -106,7 +110,7 @@ ended n rules keys turns c s all none = (
   [],
   record {
     is_part = λ j. omega arith;
-    is_short = omega arith;
+    is_same_or_shorter = λ h. none_or_some all;
     is_ascending = tt;
     is_useful = nothing_useful (offers n rules keys (with_delays turns [] c) s);
     is_run = ended_run n rules keys turns c s all none;
@@ -170,7 +174,7 @@ aside_event n rules keys has turns c s all on h (Some ev) is =
       part,
       record {
         is_part = inner.1.is_part;
-        is_short = inner.1.is_short;
+        is_same_or_shorter = inner.1.is_same_or_shorter;
         is_ascending = inner.1.is_ascending;
         is_useful = subst (λ xs. IsUseful xs part) (sym offers_are) inner.1.is_useful;
         is_run = gone n rules keys turns h.turns c h.cursor s ev all part all part (of part) (of all) inner.1.is_run;
@@ -190,6 +194,26 @@ ascending_sooner : (m : ℕ) (ns : List ℕ) → IsAscendingFrom 0 ns → IsAsce
 unfolding sooner
 ascending_sooner zero ns h = ascending_later ns h
 ascending_sooner (suc m) ns h = (omega arith, ascending_sooner m ns h)
+
+compare_less : (m most : ℕ) → m ≤ most → (m ≡ most) ⊎ (m < most)
+compare_less m most few = grind (arith, few)
+
+same_or_fewer : (m most : ℕ) (part all : List ℕ) → m ≤ most → most ≡ times 0 all → IsAscendingFrom 0 all → part ≡ behind 1 all →
+    (m ≡ most) ⊎ (m < most) → (sooner m part ≡ all) ⊎ (length (sooner m part) < length all)
+same_or_fewer m most part all few count asc same (inl all_of) = inl ((λ i. sooner ((all_of ∙ count) i) (same i)) ∙ whole all asc)
+same_or_fewer m most part all few count asc same (inr fewer) =
+    let long = length_sooner m part in
+    let parts = length_parts all in
+    let size = ap length same in
+    inr (omega (arith, long, parts, size, fewer, count))
+
+sooner_or_shorter : (m most : ℕ) (part all : List ℕ) → m ≤ most → most ≡ times 0 all → IsAscendingFrom 0 all →
+    (part ≡ behind 1 all) ⊎ (length part < length (behind 1 all)) → (sooner m part ≡ all) ⊎ (length (sooner m part) < length all)
+sooner_or_shorter m most part all few count asc (inr short) =
+    let long = length_sooner m part in
+    let parts = length_parts all in
+    inr (omega (arith, long, parts, short, few, count))
+sooner_or_shorter m most part all few count asc (inl same) = same_or_fewer m most part all few count asc same (compare_less m most few)
 
 part_sooner : (m k : ℕ) (part all : List ℕ) → m ≤ times 0 all → ((j : ℕ) → times j part ≤ times j (behind 1 all)) → (j : ℕ) →
     times j (sooner m part) ≤ times j all
@@ -236,14 +260,11 @@ passing_part n rules keys has turns c s all on h =
     let some = some_there p s h.is_ready_there h.is_there in
     let offers_are : offers (suc n) rules keys (with_delays turns part c) s ≡ r ∷ behind_accepted (next s (Step q)) (Step q) after (offers n rules keys) =
     offers_on n rules keys (with_delays turns part c) s (Some (Step q), after) on of_part
-    ∙ ap (λ here. with_place here r (behind_accepted (next s (Step q)) (Step q) after (offers n rules keys))) h.some in
-    let long = length_sooner m inner.0 in
-    let parts = length_parts all in
-    let short = inner.1.is_short in (
+    ∙ ap (λ here. with_place here r (behind_accepted (next s (Step q)) (Step q) after (offers n rules keys))) h.some in (
       part,
       record {
         is_part = part_sooner m 0 inner.0 all (omega arith) inner.1.is_part;
-        is_short = omega (arith, long, parts, short);
+        is_same_or_shorter = λ asc. sooner_or_shorter m most inner.0 all (omega arith) refl asc (inner.1.is_same_or_shorter (ascending_behind all asc));
         is_ascending = ascending_sooner m inner.0 inner.1.is_ascending;
         is_useful =
             subst (λ xs. IsUseful xs part) (sym offers_are)

@@ -1,12 +1,18 @@
-use Rattle.std.proofs.Common.{◌≡◌, ◌∙◌, refl, ap, sym, ℕ, zero, suc, ◌+◌, ◌-◌, ◌<◌, ◌≤◌, Bool, true, false, cond, List, [], ◌∷◌, length, map, arith}
+use Rattle.std.proofs.Common.{◌≡◌, ◌∙◌, refl, ap, subst, sym, ℕ, zero, suc, ◌+◌, ◌-◌, ◌<◌, ◌≤◌, Bool, true, false, cond, List, [], ◌∷◌, length, map, arith}
 use Rattle.std.proofs.lemmas.Bool.Decides.{nat_tests}
 use Rattle.std.proofs.lemmas.List.Sums.{sum_by-cons}
 use Rattle.std.specs.Prelude.{◌==◌, nat_le, count_by, filter}
 use Rattle.m161_order.specs.Delays.{behind}
 use Rattle.m161_drive.proofs.Finding.{eq_false, eq_true}
+use Rattle.m161_places.specs.Laws.{IsAscendingFrom}
 use Rattle.m161_places.specs.Places.{times}
 
 -- Lists of delays, seen from one choice sooner.
+
+-- numbers that are at least a number are at least a lesser one
+pub ascending_less : (more less : ℕ) (ns : List ℕ) → less ≤ more → IsAscendingFrom more ns → IsAscendingFrom less ns
+ascending_less more less [] h k = tt
+ascending_less more less (n ∷ ns) h k = ((let from = k.0 in omega (arith, h, from)), k.1)
 
 -- so many come at that choice
 unfoldable pub sooner : ℕ → List ℕ → List ℕ
@@ -87,3 +93,42 @@ length_parts [] = refl
 length_parts (n ∷ ns) =
     ap (λ k. k + length (behind 1 (n ∷ ns))) (times_cons 0 n ns)
     ∙ parted (nat_le 1 n) (n == 0) n ns (filter (nat_le 1) ns) (times 0 ns) refl refl (length_parts ns)
+
+-- an ascending list, seen from one choice sooner, is the list itself
+all_later : (ns : List ℕ) → IsAscendingFrom 1 ns → (map suc (behind 1 ns) ≡ ns) × (times 0 ns ≡ 0)
+all_later [] h = (refl, refl)
+all_later (n ∷ ns) h =
+    let some = h.0 in
+    let rest = all_later ns (ascending_less n 1 ns some h.1) in
+    let passes : nat_le 1 n ≡ true = grind (arith, nat_tests) in
+    let same : suc (n - 1) ≡ n = omega (arith, some) in
+    let no : (n == 0) ≡ false = eq_false n 0 (λ z. omega (arith, z, some)) in (
+      ap (λ b. map suc (map (λ k. k - 1) (cond b (n ∷ filter (nat_le 1) ns) (filter (nat_le 1) ns)))) passes
+      ∙ (λ i. same i ∷ rest.0 i),
+      times_cons 0 n ns ∙ (λ i. cond (no i) 1 0 + rest.1 i),
+    )
+
+pub whole : (ns : List ℕ) → IsAscendingFrom 0 ns → sooner (times 0 ns) (behind 1 ns) ≡ ns
+unfolding sooner
+whole [] h = refl
+whole (zero ∷ ns) h =
+    let one : cond true 1 0 + times 0 ns ≡ suc (times 0 ns) = omega arith in
+    ap (λ k. sooner k (behind 1 ns)) (times_cons 0 0 ns ∙ one) ∙ ap (λ xs. 0 ∷ xs) (whole ns h.1)
+whole (suc n ∷ ns) h =
+    let all = all_later (suc n ∷ ns) (omega arith, h.1) in
+    ap (λ k. sooner k (behind 1 (suc n ∷ ns))) all.1 ∙ all.0
+
+-- and those behind are ascending too
+ascending_later_less : (ns : List ℕ) (k : ℕ) → IsAscendingFrom (suc k) ns → IsAscendingFrom k (behind 1 ns)
+ascending_later_less [] k h = tt
+ascending_later_less (n ∷ ns) k h =
+    let some = h.0 in
+    let passes : nat_le 1 n ≡ true = grind (arith, nat_tests) in
+    let same : suc (n - 1) ≡ n = omega (arith, some) in
+    subst (λ b. IsAscendingFrom k (map (λ j. j - 1) (cond b (n ∷ filter (nat_le 1) ns) (filter (nat_le 1) ns)))) (sym passes)
+    ((omega (arith, some)), ascending_later_less ns (n - 1) (subst (λ x. IsAscendingFrom x ns) (sym same) h.1))
+
+pub ascending_behind : (ns : List ℕ) → IsAscendingFrom 0 ns → IsAscendingFrom 0 (behind 1 ns)
+ascending_behind [] h = tt
+ascending_behind (zero ∷ ns) h = ascending_behind ns h.1
+ascending_behind (suc n ∷ ns) h = ascending_later_less (suc n ∷ ns) 0 (omega arith, h.1)

@@ -1,10 +1,17 @@
-use Rattle.std.specs.Prelude.{◌≡◌, ℕ, ◌+◌, ◌≤◌, ◌<◌, List, [], ◌∷◌, length, take, Option}
+use Rattle.std.specs.Prelude.{◌≡◌, ◌≢◌, ℕ, ◌+◌, ◌≤◌, ◌<◌, ◌⊎◌, List, [], ◌∷◌, length, slice_get, take, Option}
 use Rattle.m161_machine.specs.declared.event.Entry.{Entry}
+use Rattle.m161_machine.specs.declared.event.Refusal.{Refusal}
 use Rattle.m161_machine.specs.State.{State}
+use Rattle.m161_order.specs.declared.delays.Delays.{Delays}
+use Rattle.m161_order.specs.declared.order.Order.TheVariants.{Delayed}
+use Rattle.m161_order.specs.Delays.{delays_of}
+use Rattle.m161_drive.specs.declared.run.Driven.{Driven}
+use Rattle.m161_drive.specs.declared.run.Stop.TheVariants.{Refused}
 use Rattle.m161_drive.specs.declared.cursor.Cursor.{Cursor}
 use Rattle.m161_drive.specs.declared.orders.OrderState.TheVariants.{ByDelays}
 use Rattle.m161_drive.specs.declared.turns.Turns.{Turns}
-use Rattle.m161_drive.specs.Drive.{Chooses}
+use Rattle.m161_drive.specs.Choice.{cursor_at}
+use Rattle.m161_drive.specs.Drive.{Chooses, Drives}
 use Rattle.m161_drive.specs.Policy.{Rules}
 use Rattle.m161_places.specs.Places.{IsUseful, offers, times}
 
@@ -39,9 +46,19 @@ pub record IsEffective
     (n : ℕ) (rules : Rules) (keys : ℕ → Option ℕ) (turns : Turns) (c : Cursor) (s : State) (all part : List ℕ)
     : Type 0 where
   pub is_part : (j : ℕ) → times j part ≤ times j all
-  pub is_short : length part ≤ length all
+  pub is_same_or_shorter : IsAscendingFrom 0 all → (part ≡ all) ⊎ (length part < length all)
   pub is_ascending : IsAscendingFrom 0 part
   pub is_useful : IsUseful (offers n rules keys (with_delays turns part c) s) part
   pub is_run : (es : List Entry) (d : Cursor) (t : State) → length es ≤ n →
       Chooses rules keys (with_delays turns part c) s es d t →
       IsRunOf rules keys turns all c s es d t
+
+-- so where a part has a run in which no event is refused, the whole list has this run
+abbrev pub HasRunOfPart :
+    Rules → ℕ → ℕ → Delays → Delays → State → Driven → List Entry → State → Type 0
+HasRunOfPart rules n steps all part s driven entries t =
+    IsEffective n rules (slice_get rules.keys) (record { steps = steps; made = 0 }) (cursor_at rules s) s
+    (delays_of all) (delays_of part)
+    → Drives (record rules { order = Delayed steps part }) n s driven entries t
+    → ((refusal : Refusal) → driven.stop ≢ Refused refusal)
+    → Drives (record rules { order = Delayed steps all }) n s driven entries t
