@@ -123,7 +123,7 @@ gone : (n : ℕ) (rules : Rules) (keys : ℕ → Option ℕ) (turns after : Turn
     chosen_with rules (keys c.typed) (with_delays turns part c) s ≡ (Some ev, with_delays after rest b) →
     chosen_with rules (keys c.typed) (with_delays turns all c) s ≡ (Some ev, with_delays after left b) →
     ((es : List Entry) (d : Cursor) (outcome : Outcome) (u t : State) → length es ≤ n → next s ev ≡ Ok (outcome, u) →
-      Chooses rules keys (taken ev u (with_delays after rest b)) u es d t → IsRunOf rules keys after left (taken ev u b) u es d t) →
+    Chooses rules keys (taken ev u (with_delays after rest b)) u es d t → IsRunOf rules keys after left (taken ev u b) u es d t) →
     (es : List Entry) (d : Cursor) (t : State) → length es ≤ suc n →
     Chooses rules keys (with_delays turns part c) s es d t → IsRunOf rules keys turns all c s es d t
 gone n rules keys turns after c b s ev all part left rest of_part of_all inner [] d t few h = (turns, part, all, c, h.0, (refl, h.1))

@@ -4,3 +4,4 @@ mod Splitting
 pub mod Alike
 pub mod Effective
 pub mod Along
+pub mod Moving

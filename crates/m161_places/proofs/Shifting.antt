@@ -55,7 +55,6 @@ suc_if false j n h = grind (arith, nat_tests)
 suc_same : (j n : ℕ) → (suc n == suc j) ≡ (n == j)
 suc_same j n = suc_if (n == j) j n refl
 
-
 times_suc : (j : ℕ) (ns : List ℕ) → times (suc j) (map suc ns) ≡ times j ns
 times_suc j [] = refl
 times_suc j (n ∷ ns) =
@@ -66,7 +65,7 @@ times_suc j (n ∷ ns) =
 pub times_later : (m j : ℕ) (ns : List ℕ) → times (suc j) (sooner m ns) ≡ times j ns
 unfolding sooner
 times_later zero j ns = times_suc j ns
-times_later (suc m) j ns = 
+times_later (suc m) j ns =
     let no : (0 == suc j) ≡ false = eq_false 0 (suc j) (λ h. omega (arith, h)) in
     let none : 0 + times j ns ≡ times j ns = omega arith in
     times_cons (suc j) 0 (sooner m ns) ∙ (λ i. cond (no i) 1 0 + times_later m j ns i) ∙ none
@@ -104,7 +103,7 @@ all_later (n ∷ ns) h =
     let same : suc (n - 1) ≡ n = omega (arith, some) in
     let no : (n == 0) ≡ false = eq_false n 0 (λ z. omega (arith, z, some)) in (
       ap (λ b. map suc (map (λ k. k - 1) (cond b (n ∷ filter (nat_le 1) ns) (filter (nat_le 1) ns)))) passes
-      ∙ (λ i. same i ∷ rest.0 i),
+          ∙ (λ i. same i ∷ rest.0 i),
       times_cons 0 n ns ∙ (λ i. cond (no i) 1 0 + rest.1 i),
     )
 

@@ -1,11 +1,14 @@
 //! Laws of delays. The functions do nothing: their contracts are the laws.
 
 ghost use Rattle.std.specs.Prelude.{ℕ, List, Option};
+ghost use Rattle.m161_machine.specs.declared.event.Entry.{Entry};
 ghost use Rattle.m161_machine.specs.State.{State};
+ghost use Rattle.m161_order.specs.declared.delays.Delays.{Delays as DelaysValue};
+ghost use Rattle.m161_drive.specs.declared.run.Driven.{Driven};
 ghost use Rattle.m161_drive.specs.declared.cursor.Cursor.{Cursor};
 ghost use Rattle.m161_drive.specs.declared.turns.Turns.{Turns};
 ghost use Rattle.m161_drive.specs.Policy.{Rules};
-ghost use Rattle.m161_places.specs.Laws.{ChooseAlike, IsEffective};
+ghost use Rattle.m161_places.specs.Laws.{ChooseAlike, HasRunOfPart, IsEffective};
 
 /// Runs of lists that agree below a number are alike up to the place of that number.
 pub fn choose_alike()
@@ -16,4 +19,10 @@ pub fn choose_alike()
 pub fn have_effective_part()
     ensures { (n : ℕ) (rules : Rules) (keys : ℕ → Option ℕ) (turns : Turns) (c : Cursor) (s : State)
         (all : List ℕ) → (part : List ℕ) × IsEffective n rules keys turns c s all part }
+{}
+
+/// Where a part of a list has the delays that have an effect, its run is the list's.
+pub fn has_run_of_part()
+    ensures { (rules : Rules) (n steps : ℕ) (all part : DelaysValue) (s : State) (driven : Driven)
+        (entries : List Entry) (t : State) → HasRunOfPart rules n steps all part s driven entries t }
 {}

@@ -6,4 +6,4 @@ mod counts;
 mod laws;
 
 pub use counts::offers;
-pub use laws::{choose_alike, have_effective_part};
+pub use laws::{choose_alike, has_run_of_part, have_effective_part};
