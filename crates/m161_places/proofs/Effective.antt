@@ -91,6 +91,14 @@ offers_on n rules keys c s choice on is =
     ap (λ off. if off then [] else offered (offers n rules keys) s (chosen_with rules (keys c.typed) c s)) on
     ∙ ap (offered (offers n rules keys) s) is
 
+-- and where that is an event
+pub offers_where : (n : ℕ) (rules : Rules) (keys : ℕ → Option ℕ) (c after : Cursor) (s : State) (ev : Event) (here : Bool) → s.board.off ≡ false →
+    chosen_with rules (keys c.typed) c s ≡ (Some ev, after) → is_place (Some ev) s ≡ here →
+    offers (suc n) rules keys c s ≡ with_place here (length (ready s)) (behind_accepted (next s ev) ev after (offers n rules keys))
+offers_where n rules keys c after s ev here on is place =
+    offers_on n rules keys c s (Some ev, after) on is
+    ∙ ap (λ b. with_place b (length (ready s)) (behind_accepted (next s ev) ev after (offers n rules keys))) place
+
 -- a run without events
 abbrev GoesNowhere : ℕ → Rules → (ℕ → Option ℕ) → Cursor → State → Type 0
 GoesNowhere n rules keys c s =
@@ -169,8 +177,7 @@ aside_event n rules keys has turns c s all on h (Some ev) is =
     h.chosen left ∙ ap (λ o. (o, with_delays h.turns left h.cursor)) is in
     let elsewhere : is_place (Some ev) s ≡ false = ap (λ o. is_place o s) (sym is) ∙ h.elsewhere in
     let offers_are : offers (suc n) rules keys (with_delays turns part c) s ≡ behind_accepted (next s ev) ev after (offers n rules keys) =
-    offers_on n rules keys (with_delays turns part c) s (Some ev, after) on (of part)
-    ∙ ap (λ here. with_place here (length (ready s)) (behind_accepted (next s ev) ev after (offers n rules keys))) elsewhere in (
+    offers_where n rules keys (with_delays turns part c) after s ev false on (of part) elsewhere in (
       part,
       record {
         is_part = inner.1.is_part;
@@ -232,7 +239,7 @@ useful_sooner m r part rest less h (suc j) some =
     let inner = h j (omega (arith, later, some)) in
     subst (λ k. k < slice_index rest j) (sym later) inner
 
-some_there : (p : ℕ) (s : State) → is_ready s p ≡ true → p < length s.processors → 1 ≤ length (ready s)
+pub some_there : (p : ℕ) (s : State) → is_ready s p ≡ true → p < length s.processors → 1 ≤ length (ready s)
 some_there p s passes here =
     let head = ap length (ready_head p s passes here) in
     let same = as_many p s here in
@@ -259,8 +266,7 @@ passing_part n rules keys has turns c s all on h =
     ∙ (λ i. (Some (Step (same i)), with_delays (turned p (same i) h.turns) (left i) (record c { last = Some (same i) }))) in
     let some = some_there p s h.is_ready_there h.is_there in
     let offers_are : offers (suc n) rules keys (with_delays turns part c) s ≡ r ∷ behind_accepted (next s (Step q)) (Step q) after (offers n rules keys) =
-    offers_on n rules keys (with_delays turns part c) s (Some (Step q), after) on of_part
-    ∙ ap (λ here. with_place here r (behind_accepted (next s (Step q)) (Step q) after (offers n rules keys))) h.some in (
+    offers_where n rules keys (with_delays turns part c) after s (Step q) true on of_part h.some in (
       part,
       record {
         is_part = part_sooner m 0 inner.0 all (omega arith) inner.1.is_part;

@@ -5,3 +5,5 @@ pub mod Alike
 pub mod Effective
 pub mod Along
 pub mod Moving
+mod Apart
+pub mod Differing

@@ -1,4 +1,4 @@
-use Rattle.std.specs.Prelude.{◌≡◌, ◌≢◌, ℕ, ◌+◌, ◌≤◌, ◌<◌, ◌⊎◌, List, [], ◌∷◌, length, slice_get, take, Option}
+use Rattle.std.specs.Prelude.{◌≡◌, ◌≢◌, ℕ, ◌+◌, ◌≤◌, ◌<◌, ◌⊎◌, List, [], ◌∷◌, length, slice_get, take, true, Option, None}
 use Rattle.m161_machine.specs.declared.event.Entry.{Entry}
 use Rattle.m161_machine.specs.declared.event.Refusal.{Refusal}
 use Rattle.m161_machine.specs.State.{State}
@@ -8,9 +8,10 @@ use Rattle.m161_order.specs.Delays.{delays_of}
 use Rattle.m161_drive.specs.declared.run.Driven.{Driven}
 use Rattle.m161_drive.specs.declared.run.Stop.TheVariants.{Refused}
 use Rattle.m161_drive.specs.declared.cursor.Cursor.{Cursor}
-use Rattle.m161_drive.specs.declared.orders.OrderState.TheVariants.{ByDelays}
+use Rattle.m161_drive.specs.declared.orders.OrderState.TheVariants.{ByDelays, InTurns}
 use Rattle.m161_drive.specs.declared.turns.Turns.{Turns}
-use Rattle.m161_drive.specs.Choice.{cursor_at}
+use Rattle.m161_machine.specs.History.{events_of}
+use Rattle.m161_drive.specs.Choice.{chosen_with, cursor_at}
 use Rattle.m161_drive.specs.Drive.{Chooses, Drives}
 use Rattle.m161_drive.specs.Policy.{Rules}
 use Rattle.m161_places.specs.Places.{IsUseful, offers, times}
@@ -62,3 +63,29 @@ HasRunOfPart rules n steps all part s driven entries t =
     → Drives (record rules { order = Delayed steps part }) n s driven entries t
     → ((refusal : Refusal) → driven.stop ≢ Refused refusal)
     → Drives (record rules { order = Delayed steps all }) n s driven entries t
+
+-- events after which a run of at most n events goes no further: the machine is off, there are n of them, or
+-- no event is chosen
+abbrev pub IsWhole : ℕ → Rules → (ℕ → Option ℕ) → List Entry → Cursor → State → Type 0
+IsWhole n rules keys es d t =
+    (t.board.off ≡ true) ⊎ ((length es ≡ n) ⊎ ((chosen_with rules (keys d.typed) d t).0 ≡ None))
+
+-- two runs from one state on that go no further have different events
+abbrev pub DifferInEvents : ℕ → Rules → (ℕ → Option ℕ) → Cursor → Cursor → State → Type 0
+DifferInEvents n rules keys a b s =
+    (es fs : List Entry) (d e : Cursor) (t u : State) → Chooses rules keys a s es d t → IsWhole n rules keys es d t →
+    Chooses rules keys b s fs e u → IsWhole n rules keys fs e u → events_of es ≢ events_of fs
+
+-- so do those of useful lists in which some number stands a different number of times
+abbrev pub HaveDifferentRuns : ℕ → Rules → (ℕ → Option ℕ) → Turns → Cursor → State → Type 0
+HaveDifferentRuns n rules keys turns c s =
+    (a b : List ℕ) (j : ℕ) → IsUseful (offers n rules keys (with_delays turns a c) s) a →
+    IsUseful (offers n rules keys (with_delays turns b c) s) b → times j a ≢ times j b →
+    DifferInEvents n rules keys (with_delays turns a c) (with_delays turns b c) s
+
+-- without delays the order is that of turns
+abbrev pub IsByTurns : Rules → (ℕ → Option ℕ) → Turns → Cursor → State → Type 0
+IsByTurns rules keys turns c s =
+    (es : List Entry) (d : Cursor) (t : State) → Chooses rules keys (record c { order = InTurns turns }) s es d t →
+    (end : Turns) × (b : Cursor) × (d ≡ record b { order = InTurns end })
+    × Chooses rules keys (with_delays turns [] c) s es (with_delays end [] b) t
