@@ -7,3 +7,4 @@ pub mod Along
 pub mod Moving
 mod Apart
 pub mod Differing
+pub mod Turning

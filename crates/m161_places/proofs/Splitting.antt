@@ -135,7 +135,7 @@ gap_same : (gap : Option ℕ) (t : Turns) (left : List ℕ) (c : Cursor) (s : St
 gap_same None t left c s = refl
 gap_same (Some gap) t left c s = refl
 
-wants_same : (rules : Rules) (t : Turns) (left : List ℕ) (c : Cursor) (s : State) → wants_key rules (with_delays t left c) s ≡ wants_key rules c s
+pub wants_same : (rules : Rules) (t : Turns) (left : List ℕ) (c : Cursor) (s : State) → wants_key rules (with_delays t left c) s ≡ wants_key rules c s
 wants_same rules t left c s =
     ap (λ over. not (transfer_ends rules c s) && (nat_lt (length s.board.console.waiting) 256 && (over || not (some_ready s))))
     (gap_same rules.gap t left c s)

@@ -8,7 +8,7 @@ ghost use Rattle.m161_drive.specs.declared.run.Driven.{Driven};
 ghost use Rattle.m161_drive.specs.declared.cursor.Cursor.{Cursor};
 ghost use Rattle.m161_drive.specs.declared.turns.Turns.{Turns};
 ghost use Rattle.m161_drive.specs.Policy.{Rules};
-ghost use Rattle.m161_places.specs.Laws.{ChooseAlike, HasRunOfPart, IsEffective};
+ghost use Rattle.m161_places.specs.Laws.{ChooseAlike, HasRunOfPart, HaveDifferentRuns, IsByTurns, IsEffective};
 
 /// Runs of lists that agree below a number are alike up to the place of that number.
 pub fn choose_alike()
@@ -25,4 +25,16 @@ pub fn have_effective_part()
 pub fn has_run_of_part()
     ensures { (rules : Rules) (n steps : ℕ) (all part : DelaysValue) (s : State) (driven : Driven)
         (entries : List Entry) (t : State) → HasRunOfPart rules n steps all part s driven entries t }
+{}
+
+/// Different useful lists have runs with different events.
+pub fn have_different_runs()
+    ensures { (n : ℕ) (rules : Rules) (keys : ℕ → Option ℕ) (turns : Turns) (c : Cursor) (s : State)
+        → HaveDifferentRuns n rules keys turns c s }
+{}
+
+/// Without delays the order is that of turns.
+pub fn is_by_turns()
+    ensures { (rules : Rules) (keys : ℕ → Option ℕ) (turns : Turns) (c : Cursor) (s : State)
+        → IsByTurns rules keys turns c s }
 {}

@@ -6,4 +6,6 @@ mod counts;
 mod laws;
 
 pub use counts::offers;
-pub use laws::{choose_alike, has_run_of_part, have_effective_part};
+pub use laws::{
+    choose_alike, has_run_of_part, have_different_runs, have_effective_part, is_by_turns,
+};
