@@ -1,0 +1,6 @@
+mod Ordering
+mod Useful
+pub mod Counting
+pub mod Walking
+pub mod Judging
+pub mod Longer
