@@ -1,5 +1,5 @@
-use Rattle.std.proofs.Common.{◌≡◌, ◌∙◌, refl, ap, sym, subst, ℕ, zero, suc, ◌+◌, ◌-◌, ◌%◌, ◌^◌, ◌<◌, ◌≤◌, Bool, true, false, List, [], ◌∷◌, ◌++◌, length, arith, append_assoc, ◌⊎◌, inl, inr}
-use Rattle.std.proofs.lemmas.List.{append-nil, length-append}
+use Rattle.std.proofs.Common.{◌≡◌, ◌∙◌, refl, ap, sym, subst, ℕ, ◌+◌, ◌%◌, ◌^◌, ◌<◌, Bool, true, false, List, [], ◌∷◌, ◌++◌, arith, ◌⊎◌, inl, inr}
+use Rattle.std.proofs.lemmas.List.{length-append}
 use Rattle.std.specs.Prelude.{if◌then◌else◌}
 use Rattle.std.specs.List.{AllByRecursion}
 use Rattle.m161_delays.specs.declared.walk.Sums.{Sums}
@@ -13,7 +13,7 @@ all_append : (P : List ℕ → Type 0) (xs ys : List (List ℕ)) → AllByRecurs
 all_append P [] ys h k = k
 all_append P (x ∷ xs) ys h k = (h.0, all_append P xs ys h.1 k)
 
-all_map : (P Q : List ℕ → Type 0) (xs : List (List ℕ)) → ((x : List ℕ) → P x → Q x) → AllByRecursion P xs → AllByRecursion Q xs
+pub all_map : (P Q : List ℕ → Type 0) (xs : List (List ℕ)) → ((x : List ℕ) → P x → Q x) → AllByRecursion P xs → AllByRecursion Q xs
 all_map P Q [] f h = tt
 all_map P Q (x ∷ xs) f h = (f x h.0, all_map P Q xs f h.1)
 
@@ -74,6 +74,7 @@ counted_none A right s none = record {
   are_those = record { each = tt; all = λ z h. absurd (none z h); ordered = tt };
   cut = 0;
   are_right = refl;
+  fits = λ h. h;
   runs_is = omega arith;
   cut_is = omega arith;
 }
@@ -90,6 +91,7 @@ counted_one A right s t x is_cut so only is_right runs cut = record {
   are_those = record { each = (so, tt); all = λ z h. inl (only z h); ordered = (tt, tt) };
   cut = if is_cut then 1 else 0;
   are_right = (is_cut, 0, is_right, one_cut is_cut, refl);
+  fits = λ h. (omega (arith, runs), subst (λ k. k < 2 ^ 64) (sym cut) (omega arith));
   runs_is = omega (arith, runs);
   cut_is = ap (λ k. k % 2 ^ 64) cut ∙ omega arith;
 }
@@ -102,6 +104,7 @@ counted_more A B C right s t u order of_a of_b split first second = record {
   are_those = those_more A B C first.lists second.lists order of_a of_b split first.are_those second.are_those;
   cut = first.cut + second.cut;
   are_right = right_more right first.lists second.lists first.cut second.cut first.are_right second.are_right;
+  fits = λ h. second.fits (first.fits h);
   runs_is =
       let size = length-append first.lists second.lists in let a = first.runs_is in let b = second.runs_is in omega (arith, size, a, b);
   cut_is = let a = first.cut_is in let b = second.cut_is in omega (arith, a, b);
@@ -118,6 +121,7 @@ counted_same A B right s t to back counted = record {
   };
   cut = counted.cut;
   are_right = counted.are_right;
+  fits = counted.fits;
   runs_is = counted.runs_is;
   cut_is = counted.cut_is;
 }

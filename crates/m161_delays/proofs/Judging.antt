@@ -1,4 +1,4 @@
-use Rattle.std.proofs.Common.{◌≡◌, refl, subst, sym, ap, ℕ, Bool, List, [], ◌∷◌, length, arith, ◌<◌, ◌⊎◌, inl, inr}
+use Rattle.std.proofs.Common.{◌≡◌, refl, subst, ℕ, Bool, List, [], ◌∷◌, arith, inl, inr}
 use Rattle.m161_order.specs.Delays.{delays_of}
 use Rattle.m161_delays.specs.declared.runs.Judged.{Judged}
 use Rattle.m161_delays.specs.declared.runs.Judged.TheVariants.{Right, Wrong}

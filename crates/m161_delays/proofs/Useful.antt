@@ -1,12 +1,12 @@
-use Rattle.std.proofs.Common.{◌≡◌, ◌∙◌, refl, ap, sym, subst, ℕ, zero, suc, ◌+◌, ◌-◌, ◌<◌, ◌≤◌, Bool, true, false, List, [], ◌∷◌, ◌++◌, length, take, get_or, arith, ◌⊎◌, inl, inr}
+use Rattle.std.proofs.Common.{◌≡◌, ◌∙◌, refl, ap, sym, subst, ℕ, ◌+◌, ◌<◌, ◌≤◌, Bool, true, false, List, [], ◌∷◌, ◌++◌, length, take, get_or, arith}
 use Rattle.std.proofs.lemmas.Bool.Decides.{nat_tests}
 use Rattle.std.proofs.lemmas.List.{get_or-take, length-append}
 use Rattle.std.specs.Prelude.{nat_lt, slice_index}
 use Rattle.std.specs.List.{AllByRecursion}
 use Rattle.m161_delays.specs.declared.search.Class.{Class}
-use Rattle.m161_delays.specs.Lists.{AgreeBelow, IsAscendingFrom, IsOf, IsUseful, last_from, times}
+use Rattle.m161_delays.specs.Lists.{AgreeBelow, IsAscendingFrom, IsUseful, last_from, times}
 use Rattle.m161_delays.specs.Runs.{ChooseAlike, IsUsefulOf}
-use Rattle.m161_delays.proofs.Ordering.{ascending_front, ascending_more, last_least, times_append, times_below, times_one, times_other}
+use Rattle.m161_delays.proofs.Ordering.{ascending_front, ascending_more, times_append, times_below, times_one, times_other}
 
 -- Useful lists, and those with a number more.
 

@@ -42,7 +42,11 @@ pub(crate) struct Found<W> {
 }
 
 // Makes the run of one list.
-fn judge<R: Runs>(runs: &R, delays: Delays, sums: &mut Sums) -> Result<Option<Found<R::Wrong>>, R::Error>
+fn judge<R: Runs>(
+    runs: &R,
+    delays: Delays,
+    sums: &mut Sums,
+) -> Result<Option<Found<R::Wrong>>, R::Error>
     ensures ok { IfOk result (Walks (λ numbers. numbers ≡ delays_of delays) (R.right runs.now) (R.wrong runs.now) sums.old sums.new) }
     ensures err { IfErr result (R.fails runs.now) }
 {

@@ -24,6 +24,9 @@ abbrev pub IsBehindBelow :
 IsBehindBelow class offers numbers more place all =
     IsBehind class offers numbers more all × NextIsBelow numbers place all
 
+abbrev pub FitsWords : Sums → Type 0
+FitsWords sums = (sums.runs < 2 ^ 64) × (sums.cut < 2 ^ 64)
+
 -- all lists that are so have right runs, which are counted
 pub record AreCounted
     (IsSo : List ℕ → Type 0) (right : List ℕ → Bool → Type 0) (old new : Sums) : Type 0 where
@@ -31,6 +34,7 @@ pub record AreCounted
   pub are_those : AreThose IsSo lists
   pub cut : ℕ
   pub are_right : AreRight right lists cut
+  pub fits : FitsWords old → FitsWords new
   pub runs_is : new.runs % 2 ^ 64 ≡ (old.runs + length lists) % 2 ^ 64
   pub cut_is : new.cut % 2 ^ 64 ≡ (old.cut + cut) % 2 ^ 64
 

@@ -1,8 +1,7 @@
-use Rattle.std.proofs.Common.{rules, ◌≡◌, ◌∙◌, ◌++◌, ◌∷◌, ◌+◌, ◌-◌, ◌<◌, ◌≤◌, [], suc, sym, ap, subst, length, arith}
-use Rattle.std.specs.Prelude.{MatchOption, None, slice_index}
+use Rattle.std.proofs.Common.{◌≡◌, ◌∙◌, ◌++◌, ◌+◌, ◌-◌, ◌≤◌, suc, sym, ap, subst, length, arith}
+use Rattle.std.specs.Prelude.{MatchOption, slice_index}
 use Rattle.m161_order.specs.Delays.{delays_of}
 use Rattle.m161_delays.specs.Lists.{times}
-use Rattle.m161_delays.specs.Runs.{IsUsefulOf}
 use Rattle.m161_delays.specs.helpers.Walking.{AreCounted, IsBehind, IsBehindBelow, IsFirstSo, IsLonger, Walks}
 use Rattle.m161_delays.proofs.Walking.{at_first, at_last, at_useful, at_useless, found_child, ok_map, walks_itself}
 use Rattle.m161_delays.proofs.walk.+walk.Goals as goal

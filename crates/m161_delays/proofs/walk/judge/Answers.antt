@@ -1,4 +1,4 @@
-use Rattle.std.proofs.Common.{◌≡◌, ◌∙◌, refl, sym, ap, ◌+◌, ◌%◌, ◌^◌}
+use Rattle.std.proofs.Common.{◌≡◌, refl}
 use Rattle.m161_order.specs.Delays.{delays_of}
 use Rattle.m161_delays.proofs.Counting.{counted_one}
 use Rattle.m161_delays.proofs.Judging.{first_one, right_of, wrong_of}

@@ -1,6 +1,4 @@
-use Rattle.std.proofs.Common.{◌∙◌, ◌-◌, ◌<◌, ap, sym, length, arith}
-use Rattle.std.proofs.lemmas.Bool.Decides.{nat_tests}
-use Rattle.std.specs.Prelude.{slice_index_or}
+use Rattle.std.proofs.Common.{◌∙◌, ap, sym}
 use Rattle.m161_delays.specs.Lists.{last_from}
 use Rattle.m161_delays.proofs.Longer.{last_index, some_in}
 use Rattle.m161_delays.proofs.walk.least_behind.Goals as goal

@@ -1,4 +1,4 @@
-use Rattle.std.proofs.Common.{◌≡◌, ◌∙◌, sym, ap, arith}
+use Rattle.std.proofs.Common.{◌≡◌, ap, arith}
 use Rattle.std.specs.Prelude.{slice_index}
 use Rattle.m161_order.specs.Delays.{delays_of}
 use Rattle.m161_delays.proofs.Walking.{is_longer, option_map_to}
