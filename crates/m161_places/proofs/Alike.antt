@@ -1,5 +1,5 @@
-use Rattle.std.proofs.Common.{◌≡◌, ◌∙◌, refl, ap, sym, subst, ℕ, zero, suc, ◌+◌, ◌<◌, ◌≤◌, Bool, true, false, List, [], ◌∷◌, length, take, arith, ◌⊎◌, inl, inr}
-use Rattle.std.specs.Prelude.{Option, None, Some, Result, Ok, Err, if◌then◌else◌, ◌&&◌}
+use Rattle.std.proofs.Common.{◌≡◌, ◌∙◌, refl, ap, sym, subst, ℕ, zero, suc, ◌+◌, ◌<◌, Bool, true, false, List, [], ◌∷◌, length, take, arith, inl, inr}
+use Rattle.std.specs.Prelude.{Option, None, Some, Result, Ok, Err, if◌then◌else◌}
 use Rattle.m161_cpu.specs.declared.processor.Outcome.{Outcome}
 use Rattle.m161_machine.specs.declared.event.Event.{Event}
 use Rattle.m161_machine.specs.declared.event.Event.TheVariants.{Step}
@@ -13,9 +13,11 @@ use Rattle.m161_drive.specs.Delayed.{passed, turned}
 use Rattle.m161_drive.specs.Policy.{Rules}
 use Rattle.m161_drive.specs.Ready.{ready, some_ready}
 use Rattle.m161_drive.proofs.Passing.{count_behind}
-use Rattle.m161_places.specs.Laws.{ChooseAlike, with_delays}
-use Rattle.m161_places.specs.Places.{behind_accepted, behind_choice, is_place, offers, times, with_place}
-use Rattle.m161_places.proofs.Splitting.{Aside, Passing, Splits, passing, splits}
+use Rattle.m161_delays.specs.Runs.{ChooseAlike}
+use Rattle.m161_places.specs.Laws.{offered as in_run, with_delays}
+use Rattle.m161_delays.specs.Lists.{times}
+use Rattle.m161_places.specs.Places.{behind_accepted, behind_choice, is_place, offers, with_place}
+use Rattle.m161_places.proofs.Splitting.{Splits, passing, splits}
 
 -- Lists that agree below a number choose alike up to its place.
 
@@ -99,7 +101,8 @@ alike_to (suc n) rules keys turns c s j a b h =
     off_alike s.board.off j (offered (offers n rules keys) s (choice a)) (offered (offers n rules keys) s (choice b))
     (split_alike (offers n rules keys) (alike_to n rules keys) choice c s (splits rules (keys c.typed) turns c s) j a b h)
 
-pub choose_alike : (n : ℕ) (rules : Rules) (keys : ℕ → Option ℕ) (turns : Turns) (c : Cursor) (s : State) → ChooseAlike n rules keys turns c s
+pub choose_alike : (n : ℕ) (rules : Rules) (keys : ℕ → Option ℕ) (turns : Turns) (c : Cursor) (s : State) →
+    ChooseAlike (in_run n rules keys turns c s)
 choose_alike n rules keys turns c s j a b h =
     let next : suc j ≡ j + 1 = omega arith in
     subst (λ k. take k (offers n rules keys (with_delays turns a c) s) ≡ take k (offers n rules keys (with_delays turns b c) s)) next

@@ -1,18 +1,18 @@
-use Rattle.std.proofs.Common.{◌≡◌, ◌∙◌, refl, ap, sym, subst, ℕ, zero, suc, ◌+◌, ◌-◌, ◌<◌, ◌≤◌, Bool, true, false, cond, List, [], ◌∷◌, ◌++◌, length, take, append_assoc, arith}
+use Rattle.std.proofs.Common.{◌≡◌, ◌∙◌, refl, ap, sym, subst, ℕ, zero, suc, Bool, true, false, cond, List, [], ◌∷◌, ◌++◌, length, take, append_assoc, arith}
 use Rattle.std.proofs.lemmas.Bool.Decides.{nat_tests}
 use Rattle.std.specs.List.{list_any, range_with_len}
 use Rattle.std.specs.Prelude.{Option, None, Some, Result, Ok, Err, if◌then◌else◌, ◌&&◌, ◌||◌, filter, nat_lt, slice_index_or, OnOk}
 use Rattle.m161_machine.specs.declared.event.Entry.{Entry}
 use Rattle.m161_machine.specs.declared.event.Refusal.{Refusal}
-use Rattle.m161_machine.specs.State.{State, next}
+use Rattle.m161_machine.specs.State.{State}
 use Rattle.m161_drive.specs.declared.run.Stop.{Stop}
 use Rattle.m161_drive.specs.declared.run.Stop.TheVariants.{Off, End, Stuck, Refused}
 use Rattle.m161_drive.specs.declared.cursor.Cursor.{Cursor}
-use Rattle.m161_drive.specs.Choice.{chosen_with, taken}
+use Rattle.m161_drive.specs.Choice.{chosen_with}
 use Rattle.m161_drive.specs.Drive.{Chooses, Goes, Rests}
 use Rattle.m161_drive.specs.Policy.{Rules}
-use Rattle.m161_drive.specs.Ready.{is_ready, ready, some_ready}
-use Rattle.m161_places.specs.Places.{behind_accepted, behind_choice, is_place, is_step, offers, with_place}
+use Rattle.m161_drive.specs.Ready.{is_ready, ready}
+use Rattle.m161_places.specs.Places.{behind_accepted, is_place, is_step, offers, with_place}
 use Rattle.m161_places.proofs.Alike.{offered}
 use Rattle.m161_places.proofs.Effective.{offers_on}
 

@@ -1,6 +1,6 @@
-use Rattle.std.proofs.Common.{◌≡◌, ◌≢◌, ◌∙◌, refl, ap, sym, subst, ℕ, zero, suc, ◌+◌, ◌-◌, ◌<◌, ◌≤◌, Bool, true, false, List, [], ◌∷◌, length, arith, ◌⊎◌, inl, inr}
+use Rattle.std.proofs.Common.{◌≡◌, ◌≢◌, ◌∙◌, refl, ap, sym, subst, ℕ, zero, suc, ◌+◌, ◌<◌, ◌≤◌, Bool, true, false, List, [], ◌∷◌, length, arith, inl, inr}
 use Rattle.std.proofs.lemmas.Bool.Decides.{nat_tests}
-use Rattle.std.specs.Prelude.{Option, None, Some, Result, Ok, Err, if◌then◌else◌, ◌==◌, slice_index}
+use Rattle.std.specs.Prelude.{Option, None, Some, Result, Ok, ◌==◌, slice_index}
 use Rattle.m161_cpu.specs.declared.processor.Outcome.{Outcome}
 use Rattle.m161_machine.specs.declared.event.Entry.{Entry}
 use Rattle.m161_machine.specs.declared.event.Event.{Event}
@@ -12,18 +12,19 @@ use Rattle.m161_order.specs.Delays.{behind}
 use Rattle.m161_drive.specs.declared.cursor.Cursor.{Cursor}
 use Rattle.m161_drive.specs.declared.turns.Turns.{Turns}
 use Rattle.m161_drive.specs.Choice.{chosen_with, taken}
-use Rattle.m161_drive.specs.Delayed.{passed, ready_from, turned}
-use Rattle.m161_drive.specs.Drive.{Chooses, Goes}
+use Rattle.m161_drive.specs.Delayed.{passed, turned}
+use Rattle.m161_drive.specs.Drive.{Chooses}
 use Rattle.m161_drive.specs.Policy.{Rules}
 use Rattle.m161_drive.specs.Ready.{ready}
 use Rattle.m161_drive.proofs.Passing.{count_behind}
-use Rattle.m161_places.specs.Laws.{DifferInEvents, HaveDifferentRuns, IsWhole, with_delays}
-use Rattle.m161_places.specs.Places.{IsUseful, behind_accepted, is_place, offers, times, with_place}
+use Rattle.m161_places.specs.Laws.{HaveDifferentRuns, IsWhole, with_delays}
+use Rattle.m161_delays.specs.Lists.{IsUseful, times}
+use Rattle.m161_places.specs.Places.{behind_accepted, is_place, offers}
 use Rattle.m161_places.proofs.Apart.{passed_apart}
 use Rattle.m161_places.proofs.Effective.{offers_on, offers_where, some_there}
 use Rattle.m161_places.proofs.Ranges.{as_many}
 use Rattle.m161_places.proofs.Along.{offers_none, offers_off}
-use Rattle.m161_places.proofs.Splitting.{Aside, Passing, Splits, passing, splits}
+use Rattle.m161_places.proofs.Splitting.{Aside, Passing, Splits, splits}
 
 -- Different useful lists have runs with different events.
 

@@ -1,5 +1,5 @@
-use Rattle.std.proofs.Common.{◌≡◌, ◌∙◌, refl, ap, sym, subst, ℕ, zero, suc, ◌+◌, ◌-◌, ◌<◌, ◌≤◌, Bool, true, false, not, List, [], ◌∷◌, length, min, map, arith, ◌⊎◌, inl, inr}
-use Rattle.std.specs.Prelude.{Option, None, Some, Result, Ok, Err, if◌then◌else◌, ◌&&◌, slice_index}
+use Rattle.std.proofs.Common.{◌≡◌, ◌∙◌, refl, ap, sym, subst, ℕ, zero, suc, ◌+◌, ◌-◌, ◌<◌, ◌≤◌, Bool, true, false, List, [], ◌∷◌, length, min, map, arith, ◌⊎◌, inl, inr}
+use Rattle.std.specs.Prelude.{Option, None, Some, Result, Ok, Err, if◌then◌else◌, slice_index}
 use Rattle.m161_cpu.specs.declared.processor.Outcome.{Outcome}
 use Rattle.m161_machine.specs.declared.event.Entry.{Entry}
 use Rattle.m161_machine.specs.declared.event.Event.{Event}
@@ -15,11 +15,12 @@ use Rattle.m161_drive.specs.Drive.{Chooses, Goes}
 use Rattle.m161_drive.specs.Policy.{Rules}
 use Rattle.m161_drive.specs.Ready.{is_ready, ready}
 use Rattle.m161_drive.proofs.Passing.{count_behind, ready_head}
-use Rattle.m161_places.specs.Laws.{IsAscendingFrom, IsEffective, IsRunOf, with_delays}
-use Rattle.m161_places.specs.Places.{IsUseful, behind_accepted, behind_choice, is_place, offers, times, with_place}
+use Rattle.m161_delays.specs.Lists.{IsAscendingFrom, IsUseful, times}
+use Rattle.m161_places.specs.Laws.{IsEffective, IsRunOf, with_delays}
+use Rattle.m161_places.specs.Places.{behind_accepted, is_place, offers, with_place}
 use Rattle.m161_places.proofs.Ranges.{as_many, passed_most}
 use Rattle.m161_places.proofs.Shifting.{ascending_behind, behind_sooner, length_parts, length_sooner, sooner, times_later, times_now, whole}
-use Rattle.m161_places.proofs.Splitting.{Aside, Passing, Splits, passing, splits}
+use Rattle.m161_places.proofs.Splitting.{Aside, Passing, Splits, splits}
 use Rattle.m161_places.proofs.Alike.{offered}
 
 -- The delays that have an effect.

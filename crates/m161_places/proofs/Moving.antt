@@ -1,8 +1,7 @@
-use Rattle.std.proofs.Common.{◌≡◌, ◌≢◌, ◌∙◌, refl, ap, sym, subst, ℕ, ◌+◌, ◌<◌, ◌≤◌, true, false, List, [], ◌∷◌, length, arith, ◌⊎◌, inl, inr}
+use Rattle.std.proofs.Common.{◌≡◌, ◌≢◌, ◌∙◌, refl, ap, sym, subst, ℕ, List, [], ◌∷◌, arith, inl, inr}
 use Rattle.std.specs.Prelude.{Option, None, Some, slice_get}
 use Rattle.m161_machine.specs.declared.event.Entry.{Entry}
 use Rattle.m161_machine.specs.declared.event.Event.{Event}
-use Rattle.m161_machine.specs.declared.event.Event.TheVariants.{Step}
 use Rattle.m161_machine.specs.declared.event.Refusal.{Refusal}
 use Rattle.m161_machine.specs.State.{State}
 use Rattle.m161_order.specs.declared.delays.Delays.{Delays}
@@ -15,10 +14,10 @@ use Rattle.m161_drive.specs.declared.run.Stop.{Stop}
 use Rattle.m161_drive.specs.declared.run.Stop.TheVariants.{Off, End, Stuck, Refused}
 use Rattle.m161_drive.specs.declared.turns.Turns.{Turns}
 use Rattle.m161_drive.specs.Choice.{chosen_with, cursor_at, taken}
-use Rattle.m161_drive.specs.Drive.{Chooses, Drives, Goes, Stops}
+use Rattle.m161_drive.specs.Drive.{Chooses, Stops}
 use Rattle.m161_drive.specs.Policy.{Rules}
 use Rattle.m161_places.specs.Laws.{HasRunOfPart, with_delays}
-use Rattle.m161_places.proofs.Splitting.{Aside, Passing, Splits, splits}
+use Rattle.m161_places.proofs.Splitting.{Splits, splits}
 
 -- The run of a part is the run of the whole list.
 

@@ -1,7 +1,7 @@
-use Rattle.std.proofs.Common.{◌≡◌, ◌∙◌, refl, ap, sym, ℕ, zero, suc, ◌+◌, ◌-◌, ◌<◌, ◌≤◌, Bool, true, false, cond, not, List, [], ◌∷◌, ◌++◌, length, min, arith}
+use Rattle.std.proofs.Common.{◌≡◌, ◌∙◌, refl, ap, sym, ℕ, zero, suc, ◌+◌, ◌-◌, ◌<◌, ◌≤◌, Bool, true, false, cond, List, [], ◌∷◌, ◌++◌, length, min, arith}
 use Rattle.std.proofs.lemmas.Bool.Decides.{nat_tests}
 use Rattle.std.proofs.lemmas.List.{length-append}
-use Rattle.std.specs.Prelude.{Option, None, Some, ◌||◌, nat_lt, find, filter, is_some, if◌then◌else◌, slice_index}
+use Rattle.std.specs.Prelude.{Option, None, Some, ◌||◌, nat_lt, filter, is_some, if◌then◌else◌, slice_index}
 use Rattle.std.specs.List.{list_any, range_with_len}
 use Rattle.m161_machine.specs.State.{State}
 use Rattle.m161_drive.specs.Delayed.{passed, ready_from}

@@ -1,11 +1,10 @@
-use Rattle.std.proofs.Common.{◌≡◌, ◌∙◌, refl, ap, subst, sym, ℕ, zero, suc, ◌+◌, ◌-◌, ◌<◌, ◌≤◌, Bool, true, false, cond, List, [], ◌∷◌, length, map, arith}
+use Rattle.std.proofs.Common.{◌≡◌, ◌∙◌, refl, ap, subst, sym, ℕ, zero, suc, ◌+◌, ◌-◌, ◌≤◌, Bool, true, false, cond, List, [], ◌∷◌, length, map, arith}
 use Rattle.std.proofs.lemmas.Bool.Decides.{nat_tests}
 use Rattle.std.proofs.lemmas.List.Sums.{sum_by-cons}
-use Rattle.std.specs.Prelude.{◌==◌, nat_le, count_by, filter}
+use Rattle.std.specs.Prelude.{◌==◌, nat_le, filter}
 use Rattle.m161_order.specs.Delays.{behind}
-use Rattle.m161_drive.proofs.Finding.{eq_false, eq_true}
-use Rattle.m161_places.specs.Laws.{IsAscendingFrom}
-use Rattle.m161_places.specs.Places.{times}
+use Rattle.m161_drive.proofs.Finding.{eq_false}
+use Rattle.m161_delays.specs.Lists.{IsAscendingFrom, times}
 
 -- Lists of delays, seen from one choice sooner.
 

@@ -1,4 +1,4 @@
-use Rattle.std.proofs.Common.{◌≡◌, ◌∙◌, refl, ap, sym, subst, ℕ, zero, suc, ◌+◌, ◌-◌, ◌<◌, ◌≤◌, Bool, true, false, not, List, [], ◌∷◌, length, arith, ◌⊎◌, inl, inr}
+use Rattle.std.proofs.Common.{◌≡◌, ◌∙◌, refl, ap, sym, subst, ℕ, ◌+◌, ◌<◌, Bool, true, false, not, List, length, ◌⊎◌, inl, inr}
 use Rattle.std.specs.Prelude.{Option, None, Some, ◌&&◌, ◌||◌, nat_lt, if◌then◌else◌, is_some}
 use Rattle.m161_machine.specs.Resting.{rests}
 use Rattle.m161_machine.specs.declared.event.Event.{Event}
@@ -6,7 +6,6 @@ use Rattle.m161_machine.specs.declared.event.Event.TheVariants.{Step, Key, Done}
 use Rattle.m161_machine.specs.State.{State}
 use Rattle.m161_order.specs.Delays.{behind}
 use Rattle.m161_drive.specs.declared.cursor.Cursor.{Cursor}
-use Rattle.m161_drive.specs.declared.orders.OrderState.{OrderState}
 use Rattle.m161_drive.specs.declared.orders.OrderState.TheVariants.{InTurns, ByDelays}
 use Rattle.m161_drive.specs.declared.turns.Turns.{Turns}
 use Rattle.m161_drive.specs.Choice.{chosen_with, gap_is_over, next_step, ordered, tick, transfer_ends, type_key, wants_key}
@@ -17,7 +16,8 @@ use Rattle.m161_drive.specs.Ready.{is_ready, is_ticking, next_behind, some_ready
 use Rattle.m161_drive.proofs.Fitting.{and_first, order_ready}
 use Rattle.m161_drive.proofs.Sleeping.{less_in}
 use Rattle.m161_places.specs.Laws.{with_delays}
-use Rattle.m161_places.specs.Places.{is_place, is_step, times}
+use Rattle.m161_delays.specs.Lists.{times}
+use Rattle.m161_places.specs.Places.{is_place, is_step}
 use Rattle.m161_places.proofs.Ranges.{any_here, found_ready}
 
 -- A choice by turns with delays: what it is whatever delays are left.

@@ -1,16 +1,15 @@
-use Rattle.std.proofs.Common.{◌≡◌, ◌∙◌, refl, ap, sym, subst, ℕ, ◌+◌, ◌<◌, Bool, true, false, not, List, [], ◌∷◌, length}
+use Rattle.std.proofs.Common.{◌≡◌, ◌∙◌, refl, ap, sym, subst, ℕ, ◌+◌, Bool, true, false, not, [], ◌∷◌, length}
 use Rattle.std.specs.Prelude.{Option, None, Some, if◌then◌else◌, ◌&&◌, ◌||◌, nat_lt}
 use Rattle.m161_machine.specs.Resting.{rests}
-use Rattle.m161_machine.specs.declared.event.Entry.{Entry}
 use Rattle.m161_machine.specs.declared.event.Event.{Event}
 use Rattle.m161_machine.specs.declared.event.Event.TheVariants.{Step, Key, Done}
-use Rattle.m161_machine.specs.State.{State, next}
+use Rattle.m161_machine.specs.State.{State}
 use Rattle.m161_drive.specs.declared.cursor.Cursor.{Cursor}
 use Rattle.m161_drive.specs.declared.orders.OrderState.TheVariants.{InTurns, ByDelays}
 use Rattle.m161_drive.specs.declared.turns.Turns.{Turns}
 use Rattle.m161_drive.specs.Choice.{chosen_with, gap_is_over, next_step, ordered, taken, tick, transfer_ends, type_key, wants_key}
 use Rattle.m161_drive.specs.Delayed.{passed, turned}
-use Rattle.m161_drive.specs.Drive.{Chooses, Goes}
+use Rattle.m161_drive.specs.Drive.{Chooses}
 use Rattle.m161_drive.specs.Orders.{begun, by_turns, delayed, goes_on}
 use Rattle.m161_drive.specs.Policy.{Rules}
 use Rattle.m161_drive.specs.Ready.{is_ready, is_ticking, next_behind, some_ready}

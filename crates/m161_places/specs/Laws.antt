@@ -1,4 +1,4 @@
-use Rattle.std.specs.Prelude.{◌≡◌, ◌≢◌, ℕ, ◌+◌, ◌≤◌, ◌<◌, ◌⊎◌, List, [], ◌∷◌, length, slice_get, take, true, Option, None}
+use Rattle.std.specs.Prelude.{◌≡◌, ◌≢◌, ℕ, ◌≤◌, ◌<◌, ◌⊎◌, List, [], length, slice_get, true, Option, None}
 use Rattle.m161_machine.specs.declared.event.Entry.{Entry}
 use Rattle.m161_machine.specs.declared.event.Refusal.{Refusal}
 use Rattle.m161_machine.specs.State.{State}
@@ -14,7 +14,8 @@ use Rattle.m161_machine.specs.History.{events_of}
 use Rattle.m161_drive.specs.Choice.{chosen_with, cursor_at}
 use Rattle.m161_drive.specs.Drive.{Chooses, Drives}
 use Rattle.m161_drive.specs.Policy.{Rules}
-use Rattle.m161_places.specs.Places.{IsUseful, offers, times}
+use Rattle.m161_delays.specs.Lists.{IsAscendingFrom, IsUseful, times}
+use Rattle.m161_places.specs.Places.{offers}
 
 -- Laws of delays.
 
@@ -22,12 +23,10 @@ use Rattle.m161_places.specs.Places.{IsUseful, offers, times}
 abbrev pub with_delays : Turns → List ℕ → Cursor → Cursor
 with_delays turns left c = record c { order = ByDelays (record { turns = turns; left = left }) }
 
--- lists that agree below j choose alike up to place j: as many processors are ready there
-abbrev pub ChooseAlike : ℕ → Rules → (ℕ → Option ℕ) → Turns → Cursor → State → Type 0
-ChooseAlike n rules keys turns c s =
-    (j : ℕ) (a b : List ℕ) → ((i : ℕ) → i < j → times i a ≡ times i b) →
-    take (j + 1) (offers n rules keys (with_delays turns a c) s)
-    ≡ take (j + 1) (offers n rules keys (with_delays turns b c) s)
+-- the numbers of ready processors at the places of a list's run
+abbrev pub offered :
+    ℕ → Rules → (ℕ → Option ℕ) → Turns → Cursor → State → List ℕ → List ℕ
+offered n rules keys turns c s numbers = offers n rules keys (with_delays turns numbers c) s
 
 -- these are the entries of the run of a list too, but for the delays that are left then
 abbrev pub IsRunOf :
@@ -35,11 +34,6 @@ abbrev pub IsRunOf :
 IsRunOf rules keys turns all c s es d t =
     (end : Turns) × (left rest : List ℕ) × (b : Cursor) × (d ≡ with_delays end left b)
     × Chooses rules keys (with_delays turns all c) s es (with_delays end rest b) t
-
--- each number is at least the one before it
-abbrev pub IsAscendingFrom : ℕ → List ℕ → Type 0
-IsAscendingFrom least [] = Unit {0}
-IsAscendingFrom least (n ∷ ns) = (least ≤ n) × IsAscendingFrom n ns
 
 -- of a list, the delays that have an effect along its run of at most n events: a part of it that is
 -- useful, and the run of this part is the run of the list
@@ -49,7 +43,7 @@ pub record IsEffective
   pub is_part : (j : ℕ) → times j part ≤ times j all
   pub is_same_or_shorter : IsAscendingFrom 0 all → (part ≡ all) ⊎ (length part < length all)
   pub is_ascending : IsAscendingFrom 0 part
-  pub is_useful : IsUseful (offers n rules keys (with_delays turns part c) s) part
+  pub is_useful : IsUseful (offered n rules keys turns c s part) part
   pub is_run : (es : List Entry) (d : Cursor) (t : State) → length es ≤ n →
       Chooses rules keys (with_delays turns part c) s es d t →
       IsRunOf rules keys turns all c s es d t
@@ -79,8 +73,8 @@ DifferInEvents n rules keys a b s =
 -- so do those of useful lists in which some number stands a different number of times
 abbrev pub HaveDifferentRuns : ℕ → Rules → (ℕ → Option ℕ) → Turns → Cursor → State → Type 0
 HaveDifferentRuns n rules keys turns c s =
-    (a b : List ℕ) (j : ℕ) → IsUseful (offers n rules keys (with_delays turns a c) s) a →
-    IsUseful (offers n rules keys (with_delays turns b c) s) b → times j a ≢ times j b →
+    (a b : List ℕ) (j : ℕ) → IsUseful (offered n rules keys turns c s a) a →
+    IsUseful (offered n rules keys turns c s b) b → times j a ≢ times j b →
     DifferInEvents n rules keys (with_delays turns a c) (with_delays turns b c) s
 
 -- without delays the order is that of turns

@@ -1,4 +1,4 @@
-use Rattle.std.specs.Prelude.{ℕ, zero, suc, Bool, true, false, ◌&&◌, if◌then◌else◌, List, [], ◌∷◌, length, count_by, slice_index, Option, None, Some, Result, Ok, Err, ◌==◌, ◌≤◌, ◌<◌}
+use Rattle.std.specs.Prelude.{ℕ, zero, suc, Bool, true, false, ◌&&◌, if◌then◌else◌, List, [], ◌∷◌, length, Option, None, Some, Result, Ok, Err}
 use Rattle.m161_cpu.specs.declared.processor.Outcome.{Outcome}
 use Rattle.m161_machine.specs.declared.event.Event.{Event}
 use Rattle.m161_machine.specs.declared.event.Event.TheVariants.{Step, Key, Done}
@@ -45,16 +45,6 @@ offers (suc n) rules keys c s =
     let choice = chosen_with rules (keys c.typed) c s in
     if s.board.off then []
     else with_place (is_place choice.0 s) (length (ready s)) (behind_choice choice.0 s choice.1 (offers n rules keys))
-
--- Lists of delays.
-
--- how many times a number stands in a list
-abbrev pub times : ℕ → List ℕ → ℕ
-times j numbers = count_by (λ n. n == j) numbers
-
--- a list is useful where at each place at which delays come, more processors are ready than delays come
-abbrev pub IsUseful : List ℕ → List ℕ → Type 0
-IsUseful offered numbers = (j : ℕ) → 1 ≤ times j numbers → times j numbers < slice_index offered j
 
 -- a new cursor of the order by turns of so many Steps with these delays
 abbrev pub delayed_at : Rules → ℕ → List ℕ → State → Cursor

@@ -5,15 +5,16 @@ ghost use Rattle.m161_machine.specs.declared.event.Entry.{Entry};
 ghost use Rattle.m161_machine.specs.State.{State};
 ghost use Rattle.m161_order.specs.declared.delays.Delays.{Delays as DelaysValue};
 ghost use Rattle.m161_drive.specs.declared.run.Driven.{Driven};
+ghost use Rattle.m161_delays.specs.Runs.{ChooseAlike};
 ghost use Rattle.m161_drive.specs.declared.cursor.Cursor.{Cursor};
 ghost use Rattle.m161_drive.specs.declared.turns.Turns.{Turns};
 ghost use Rattle.m161_drive.specs.Policy.{Rules};
-ghost use Rattle.m161_places.specs.Laws.{ChooseAlike, HasRunOfPart, HaveDifferentRuns, IsByTurns, IsEffective};
+ghost use Rattle.m161_places.specs.Laws.{HasRunOfPart, HaveDifferentRuns, IsByTurns, IsEffective, offered};
 
 /// Runs of lists that agree below a number are alike up to the place of that number.
 pub fn choose_alike()
     ensures { (n : ℕ) (rules : Rules) (keys : ℕ → Option ℕ) (turns : Turns) (c : Cursor) (s : State)
-        → ChooseAlike n rules keys turns c s }
+        → ChooseAlike (offered n rules keys turns c s) }
 {}
 /// The run of a list is that of a useful one, which is a part of it.
 pub fn have_effective_part()

@@ -1,6 +1,4 @@
-use Rattle.std.proofs.Common.{◌≡◌, ◌∙◌, ◌-◌, ◌+◌, ◌<◌, sym, ap, arith, length}
-use Rattle.std.specs.Prelude.{filter}
-use Rattle.std.specs.List.{range_with_len}
+use Rattle.std.proofs.Common.{◌∙◌, ◌<◌, sym, ap, arith, length}
 use Rattle.m161_drive.specs.Ready.{is_ready}
 use Rattle.m161_drive.proofs.Finding.{filter_skip, filter_take}
 use Rattle.m161_places.proofs.counts.count_ready.Goals as goal

@@ -1,9 +1,7 @@
 use Rattle.std.proofs.Common.{◌≡◌, ◌∙◌, ◌-◌, ◌+◌, ◌++◌, [], ◌∷◌, suc, sym, ap, subst, take, arith}
 use Rattle.std.specs.Prelude.{slice_get, slice_index_or}
 use Rattle.std.proofs.lemmas.List.{append-nil}
-use Rattle.m161_drive.specs.Choice.{cursor_at}
 use Rattle.m161_drive.specs.Drive.{Chooses, Rests}
-use Rattle.m161_places.specs.Places.{offers}
 use Rattle.m161_places.proofs.Along.{offers_none, on_ok, offers_rested, one_place, place_made}
 use Rattle.m161_places.proofs.counts.offers.Goals as goal
 
