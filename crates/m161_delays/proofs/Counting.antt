@@ -1,0 +1,131 @@
+use Rattle.std.proofs.Common.{◌≡◌, ◌∙◌, refl, ap, sym, subst, ℕ, ◌+◌, ◌%◌, ◌^◌, ◌<◌, Bool, true, false, List, [], ◌∷◌, ◌++◌, arith, ◌⊎◌, inl, inr}
+use Rattle.std.proofs.lemmas.List.{length-append}
+use Rattle.std.specs.Prelude.{if◌then◌else◌}
+use Rattle.std.specs.List.{AllByRecursion}
+use Rattle.m161_delays.specs.declared.walk.Sums.{Sums}
+use Rattle.m161_delays.specs.Lists.{ComesBefore}
+use Rattle.m161_delays.specs.Runs.{AreInOrder, AreRight, AreThose, IsAmong}
+use Rattle.m161_delays.specs.helpers.Walking.{AreCounted}
+
+-- Lists of lists, and how many of their runs are cut.
+
+all_append : (P : List ℕ → Type 0) (xs ys : List (List ℕ)) → AllByRecursion P xs → AllByRecursion P ys → AllByRecursion P (xs ++ ys)
+all_append P [] ys h k = k
+all_append P (x ∷ xs) ys h k = (h.0, all_append P xs ys h.1 k)
+
+pub all_map : (P Q : List ℕ → Type 0) (xs : List (List ℕ)) → ((x : List ℕ) → P x → Q x) → AllByRecursion P xs → AllByRecursion Q xs
+all_map P Q [] f h = tt
+all_map P Q (x ∷ xs) f h = (f x h.0, all_map P Q xs f h.1)
+
+among_left : (z : List ℕ) (xs ys : List (List ℕ)) → IsAmong z xs → IsAmong z (xs ++ ys)
+among_left z [] ys h = absurd h
+among_left z (x ∷ xs) ys (inl same) = inl same
+among_left z (x ∷ xs) ys (inr rest) = inr (among_left z xs ys rest)
+
+among_right : (z : List ℕ) (xs ys : List (List ℕ)) → IsAmong z ys → IsAmong z (xs ++ ys)
+among_right z [] ys h = h
+among_right z (x ∷ xs) ys h = inr (among_right z xs ys h)
+
+ordered_append : (A B : List ℕ → Type 0) (xs ys : List (List ℕ)) → ((x y : List ℕ) → A x → B y → ComesBefore x y) →
+    AllByRecursion A xs → AllByRecursion B ys → AreInOrder xs → AreInOrder ys → AreInOrder (xs ++ ys)
+ordered_append A B [] ys f h k a b = b
+ordered_append A B (x ∷ xs) ys f h k a b = (
+  all_append (ComesBefore x) xs ys a.0 (all_map B (ComesBefore x) ys (λ y of_y. f x y h.0 of_y) k),
+  ordered_append A B xs ys f h.1 k a.1 b,
+)
+
+among_split : (A B : List ℕ → Type 0) (z : List ℕ) (xs ys : List (List ℕ)) → AreThose A xs → AreThose B ys → A z ⊎ B z → IsAmong z (xs ++ ys)
+among_split A B z xs ys first second (inl a) = among_left z xs ys (first.all z a)
+among_split A B z xs ys first second (inr b) = among_right z xs ys (second.all z b)
+
+-- lists that are so, and behind them others that are so in another way
+those_more : (A B C : List ℕ → Type 0) (xs ys : List (List ℕ)) → ((x y : List ℕ) → A x → B y → ComesBefore x y) →
+    ((z : List ℕ) → A z → C z) → ((z : List ℕ) → B z → C z) → ((z : List ℕ) → C z → A z ⊎ B z) →
+    AreThose A xs → AreThose B ys → AreThose C (xs ++ ys)
+those_more A B C xs ys order of_a of_b split first second = record {
+  each = all_append C xs ys (all_map A C xs of_a first.each) (all_map B C ys of_b second.each);
+  all = λ z h. among_split A B z xs ys first second (split z h);
+  ordered = ordered_append A B xs ys order first.each second.each first.ordered second.ordered;
+}
+
+cut_more : (is_cut : Bool) (a rest b : ℕ) → a ≡ (if is_cut then rest + 1 else rest) → a + b ≡ (if is_cut then rest + b + 1 else rest + b)
+cut_more true a rest b h = omega (arith, h)
+cut_more false a rest b h = omega (arith, h)
+
+right_more : (right : List ℕ → Bool → Type 0) (xs ys : List (List ℕ)) (a b : ℕ) → AreRight right xs a → AreRight right ys b →
+    AreRight right (xs ++ ys) (a + b)
+right_more right [] ys a b h k =
+    let none = h in
+    let same : b ≡ a + b = omega (arith, none) in subst (AreRight right ys) same k
+right_more right (x ∷ xs) ys a b h k =
+    (h.0, h.1 + b, h.2, cut_more h.0 a h.1 b h.3, right_more right xs ys h.1 b h.4 k)
+
+pub right_among : (right : List ℕ → Bool → Type 0) (xs : List (List ℕ)) (a : ℕ) (z : List ℕ) → AreRight right xs a → IsAmong z xs →
+    (is_cut : Bool) × right z is_cut
+right_among right [] a z h among = absurd among
+right_among right (x ∷ xs) a z h (inl same) = (h.0, subst (λ y. right y h.0) (sym same) h.2)
+right_among right (x ∷ xs) a z h (inr rest) = right_among right xs h.1 z h.4 rest
+
+-- sums
+pub counted_none : (A : List ℕ → Type 0) (right : List ℕ → Bool → Type 0) (s : Sums) → ((z : List ℕ) → A z → ⊥) →
+    AreCounted A right s s
+counted_none A right s none = record {
+  lists = [];
+  are_those = record { each = tt; all = λ z h. absurd (none z h); ordered = tt };
+  cut = 0;
+  are_right = refl;
+  fits = λ h. h;
+  runs_is = omega arith;
+  cut_is = omega arith;
+}
+
+one_cut : (is_cut : Bool) → (if is_cut then 1 else 0) ≡ (if is_cut then 0 + 1 else 0)
+one_cut true = refl
+one_cut false = refl
+
+pub counted_one : (A : List ℕ → Type 0) (right : List ℕ → Bool → Type 0) (s t : Sums) (x : List ℕ) (is_cut : Bool) → A x →
+    ((z : List ℕ) → A z → z ≡ x) → right x is_cut → t.runs ≡ (s.runs + 1) % 2 ^ 64 → t.cut ≡ (s.cut + (if is_cut then 1 else 0)) % 2 ^ 64 →
+    AreCounted A right s t
+counted_one A right s t x is_cut so only is_right runs cut = record {
+  lists = x ∷ [];
+  are_those = record { each = (so, tt); all = λ z h. inl (only z h); ordered = (tt, tt) };
+  cut = if is_cut then 1 else 0;
+  are_right = (is_cut, 0, is_right, one_cut is_cut, refl);
+  fits = λ h. (omega (arith, runs), subst (λ k. k < 2 ^ 64) (sym cut) (omega arith));
+  runs_is = omega (arith, runs);
+  cut_is = ap (λ k. k % 2 ^ 64) cut ∙ omega arith;
+}
+
+pub counted_more : (A B C : List ℕ → Type 0) (right : List ℕ → Bool → Type 0) (s t u : Sums) → ((x y : List ℕ) → A x → B y → ComesBefore x y) →
+    ((z : List ℕ) → A z → C z) → ((z : List ℕ) → B z → C z) → ((z : List ℕ) → C z → A z ⊎ B z) →
+    AreCounted A right s t → AreCounted B right t u → AreCounted C right s u
+counted_more A B C right s t u order of_a of_b split first second = record {
+  lists = first.lists ++ second.lists;
+  are_those = those_more A B C first.lists second.lists order of_a of_b split first.are_those second.are_those;
+  cut = first.cut + second.cut;
+  are_right = right_more right first.lists second.lists first.cut second.cut first.are_right second.are_right;
+  fits = λ h. second.fits (first.fits h);
+  runs_is =
+      let size = length-append first.lists second.lists in let a = first.runs_is in let b = second.runs_is in omega (arith, size, a, b);
+  cut_is = let a = first.cut_is in let b = second.cut_is in omega (arith, a, b);
+}
+
+pub counted_same : (A B : List ℕ → Type 0) (right : List ℕ → Bool → Type 0) (s t : Sums) → ((z : List ℕ) → A z → B z) → ((z : List ℕ) → B z → A z) →
+    AreCounted A right s t → AreCounted B right s t
+counted_same A B right s t to back counted = record {
+  lists = counted.lists;
+  are_those = record {
+    each = all_map A B counted.lists to counted.are_those.each;
+    all = λ z h. counted.are_those.all z (back z h);
+    ordered = counted.are_those.ordered;
+  };
+  cut = counted.cut;
+  are_right = counted.are_right;
+  fits = counted.fits;
+  runs_is = counted.runs_is;
+  cut_is = counted.cut_is;
+}
+
+pub counted_right : (A : List ℕ → Type 0) (right : List ℕ → Bool → Type 0) (s t : Sums) (z : List ℕ) → AreCounted A right s t → A z →
+    (is_cut : Bool) × right z is_cut
+counted_right A right s t z counted so = right_among right counted.lists counted.cut z counted.are_right (counted.are_those.all z so)

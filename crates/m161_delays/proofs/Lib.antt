@@ -1,0 +1,7 @@
+mod Ordering
+mod Useful
+pub mod Counting
+pub mod Walking
+pub mod Judging
+pub mod Longer
+pub mod Lengths

@@ -1,0 +1,4 @@
+pub mod Lists
+pub mod Runs
+pub mod Search
+pub mod helpers

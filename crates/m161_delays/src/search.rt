@@ -1,0 +1,67 @@
+//! The search.
+
+ghost use Rattle.std.specs.Prelude.{◌≤◌, IfErr, IfOk};
+ghost use Rattle.m161_delays.specs.Search.{Finds};
+
+use crate::runs::Runs;
+use crate::walk::{Sums, walk};
+use m161_order::Delays;
+use std::alloc::Global;
+
+/// A class of lists.
+#[derive(Clone, Copy, Debug, PartialEq, Eq)]
+pub struct Class {
+    /// How many numbers a list has at most.
+    pub most: u32,
+    /// The least number.
+    pub from: u32,
+    /// What each number is below.
+    pub within: u32,
+}
+
+/// What a search found.
+#[derive(Drop)]
+pub enum Searched<W> {
+    /// No run goes wrong.
+    Clean {
+        /// How many useful lists there are, modulo 2^64.
+        runs: u64,
+        /// How many of their runs were cut, modulo 2^64.
+        cut: u64,
+    },
+    /// The first list whose run goes wrong.
+    Wrong {
+        /// The list.
+        delays: Delays,
+        /// How its run goes wrong.
+        wrong: W,
+    },
+}
+
+/// Looks at the useful lists of a class, in their order, up to the first whose run goes wrong.
+///
+/// # Errors
+/// A run can't be made.
+pub fn search_lists<R: Runs>(
+    alloc: Global,
+    runs: &R,
+    class: Class,
+) -> Result<Searched<R::Wrong>, R::Error>
+    requires { class.most ≤ 64 }
+    ensures ok { IfOk result (Finds class (R.offers runs.now) (R.right runs.now) (R.wrong runs.now)) }
+    ensures err { IfErr result (R.fails runs.now) }
+{
+    let mut sums = Sums { runs: 0, cut: 0 };
+    for length in 0..class.most + 1 {
+        if let Some(found) = walk(alloc, runs, class, Delays::none(), length, &mut sums)? {
+            return Ok(Searched::Wrong {
+                delays: found.delays,
+                wrong: found.wrong,
+            });
+        }
+    }
+    Ok(Searched::Clean {
+        runs: sums.runs,
+        cut: sums.cut,
+    })
+}
