@@ -45,7 +45,10 @@ impl<T: Tlb + Drop, D: Console + Drop> Booted<T, D> {
     }
 
     /// The same state again, to go on from.
-    pub(crate) fn copy_core(&self, alloc: Global) -> Result<Core<T, D>, AllocError>
+    ///
+    /// # Errors
+    /// Memory was refused.
+    pub fn copy_core(&self, alloc: Global) -> Result<Core<T, D>, AllocError>
         ensures { IfOk result (λ core. core.state ≡ self.now) }
     {
         self.core.copy(alloc)

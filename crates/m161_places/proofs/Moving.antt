@@ -1,5 +1,5 @@
-use Rattle.std.proofs.Common.{◌≡◌, ◌≢◌, ◌∙◌, refl, ap, sym, subst, ℕ, List, [], ◌∷◌, arith, inl, inr}
-use Rattle.std.specs.Prelude.{Option, None, Some, slice_get}
+use Rattle.std.proofs.Common.{◌≡◌, ◌≢◌, ◌∙◌, refl, ap, sym, subst, ℕ, zero, suc, List, [], ◌∷◌, length, arith, inl, inr}
+use Rattle.std.specs.Prelude.{Option, None, Some, slice_get, if◌then◌else◌}
 use Rattle.m161_machine.specs.declared.event.Entry.{Entry}
 use Rattle.m161_machine.specs.declared.event.Event.{Event}
 use Rattle.m161_machine.specs.declared.event.Refusal.{Refusal}
@@ -16,6 +16,8 @@ use Rattle.m161_drive.specs.declared.turns.Turns.{Turns}
 use Rattle.m161_drive.specs.Choice.{chosen_with, cursor_at, taken}
 use Rattle.m161_drive.specs.Drive.{Chooses, Stops}
 use Rattle.m161_drive.specs.Policy.{Rules}
+use Rattle.m161_drive.specs.Ready.{ready}
+use Rattle.m161_places.specs.Places.{behind_choice, is_place, offers, with_place}
 use Rattle.m161_places.specs.Laws.{HasRunOfPart, with_delays}
 use Rattle.m161_places.proofs.Splitting.{Splits, splits}
 
@@ -100,3 +102,13 @@ run_of_part rules n steps all part s driven entries t effective drives accepted 
           stops_alike rules (Delayed steps part) (Delayed steps all) n driven.made end left rest c t driven.stop accepted
           (subst (λ x. Stops (record rules { order = Delayed steps part }) n driven.made x t driven.stop) run.4 drives.stops);
     }
+
+-- nor has it in what is offered
+pub offers_apart : (rules : Rules) (order : Order) (keys : ℕ → Option ℕ) (n : ℕ) (c : Cursor) (s : State) →
+    offers n (record rules { order = order }) keys c s ≡ offers n rules keys c s
+unfolding offers
+offers_apart rules order keys zero c s = refl
+offers_apart rules order keys (suc n) c s =
+    λ i.
+    let choice = order_apart rules order (keys c.typed) c s i in
+    if s.board.off then [] else with_place (is_place choice.0 s) (length (ready s)) (behind_choice choice.0 s choice.1 (λ d t. offers_apart rules order keys n d t i))
