@@ -56,6 +56,18 @@ same_run task given k file conf rules watches output result file_is conf_is rule
     (subst (λ w. Runs file conf (boot_fault file conf) rules n (criteria w given.output rules) result) watches_is
     (subst (λ o. Runs file conf (boot_fault file conf) rules n (criteria watches o rules) result) output_is h))))
 
+-- the same by any rules
+pub as_given : (task : SearchTask) (given : Given) (rules policy : Rules) (watches : List Watch) (output : Option (List ℕ)) (result : Result Run AuditError) →
+    policy ≡ rules → watches ≡ given.watches → output ≡ given.output →
+    Runs given.file (conf_of task.size) (boot_fault given.file (conf_of task.size)) policy task.drive.events (criteria watches output policy) result →
+    Runs given.file (conf_of task.size) (boot_fault given.file (conf_of task.size)) rules task.drive.events (criteria given.watches given.output rules) result
+as_given task given rules policy watches output result rules_is watches_is output_is h =
+    let conf = conf_of task.size in
+    let n = task.drive.events in
+    subst (λ r. Runs given.file conf (boot_fault given.file conf) r n (criteria given.watches given.output r) result) rules_is
+    (subst (λ w. Runs given.file conf (boot_fault given.file conf) policy n (criteria w given.output policy) result) watches_is
+    (subst (λ o. Runs given.file conf (boot_fault given.file conf) policy n (criteria watches o policy) result) output_is h))
+
 -- a boot of what was read
 pub boots_as : (file same : List ℕ) (conf equal : Conf) (result : Result State AuditError) → file ≡ same → conf ≡ equal →
     BootsState file conf (boot_fault file conf) result → BootsState same equal (boot_fault same equal) result

@@ -3,3 +3,4 @@ pub mod Booting
 pub mod Reading
 pub mod Failing
 pub mod Judging
+pub mod Delaying

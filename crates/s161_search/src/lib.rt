@@ -3,6 +3,8 @@
 #![tactic(auto)]
 
 mod again;
+mod orders;
+mod delays;
 pub mod audit;
 mod found;
 mod inputs;
