@@ -1,9 +1,8 @@
-use Rattle.std.proofs.Common.{◌≡◌, ◌≢◌, ◌∙◌, ◌⊎◌, inl, inr, refl, ap, sym, subst, ℕ, suc, ◌+◌, ◌<◌, ◌≤◌, Bool, List, [], ◌∷◌, length, arith}
-use Rattle.std.specs.Prelude.{IfErr, IfOk, Option, None, Some, Result, Ok, Err, slice_get, ◌%◌, ◌^◌}
-use Rattle.std.specs.List.{AllByRecursion}
+use Rattle.std.proofs.Common.{◌≡◌, ◌⊎◌, inl, inr, refl, ap, sym, subst, ℕ, ◌<◌, ◌≤◌, Bool, List, [], ◌∷◌, length, arith}
+use Rattle.std.specs.Prelude.{IfErr, IfOk, Option, None, Some, Result, Ok, Err, slice_get}
 use Rattle.m161_delays.specs.declared.search.Class.{Class}
-use Rattle.m161_delays.specs.Lists.{ComesBefore, IsAscendingFrom, IsOf, IsUseful, times}
-use Rattle.m161_delays.specs.Runs.{AreRight, AreThose, IsUsefulOf}
+use Rattle.m161_delays.specs.Lists.{ComesBefore, IsAscendingFrom, IsOf}
+use Rattle.m161_delays.specs.Runs.{AreRight, IsUsefulOf}
 use Rattle.m161_delays.specs.Search.{AreClean, Finds, IsFirst}
 use Rattle.m161_delays.specs.declared.search.Searched.{Searched}
 use Rattle.m161_delays.specs.declared.search.Searched.TheVariants.{Clean, Wrong}
@@ -12,26 +11,28 @@ use Rattle.m161_machine.specs.declared.conf.BootError.{BootError}
 use Rattle.m161_delays.proofs.Counting.{right_among}
 use Rattle.m161_delays.proofs.Members.{below_part, from_part}
 use Rattle.m161_drive.specs.Choice.{cursor_at}
-use Rattle.m161_judge.specs.declared.run.Run.{Run}
-use Rattle.m161_judge.specs.Run.{IsRun}
 use Rattle.m161_machine.specs.History.{IsBootState, boot_fault}
 use Rattle.m161_machine.specs.State.{State}
 use Rattle.m161_order.specs.declared.delays.Delays.{Delays}
-use Rattle.m161_order.specs.declared.order.Order.TheVariants.{Delayed}
+use Rattle.m161_order.specs.declared.order.Order.{Order}
+use Rattle.m161_order.specs.declared.order.Order.TheVariants.{Turns, Delayed, Random, Priorities}
 use Rattle.m161_order.specs.Delays.{delays_of}
 use Rattle.m161_places.specs.Laws.{IsEffective}
 use Rattle.m161_places.proofs.Effective.{have_effective_part}
 use Rattle.m161_places.proofs.Moving.{run_of_part}
 use Rattle.s161_base.specs.Sizes.{conf_of}
+use Rattle.s161_command.specs.Classes.{HasClassLimits}
+use Rattle.s161_command.specs.declared.class.DelayClass.{DelayClass}
 use Rattle.s161_command.specs.declared.task.SearchTask.{SearchTask}
 use Rattle.s161_run.specs.Driven.{rules_of}
-use Rattle.s161_search.specs.Delays.{AreCleanBy, HasRightRun, IsFirstBy, IsRightBy, IsRunOf, offered_by}
-use Rattle.s161_search.specs.Given.{Given, criteria_of}
+use Rattle.s161_search.specs.Delays.{AreCleanBy, HasRightRun, IsFirstBy, IsRightBy, offered_by}
+use Rattle.s161_search.specs.Given.{Given}
 use Rattle.s161_base.specs.declared.fault.Fault.{Fault}
 use Rattle.s161_search.specs.declared.delays.WrongRun.{WrongRun}
 use Rattle.s161_search.specs.helpers.Begun.{BeginsAt}
 use Rattle.s161_search.specs.helpers.Delayed.{IsFaultFrom, IsRightFrom, IsWrongFrom}
-use Rattle.s161_search.specs.helpers.Tried.{IsSearchedBy}
+use Rattle.s161_search.specs.helpers.Tried.{IsListed, IsSearchedBy}
+use Rattle.s161_search.specs.Searches.{IsFoundBy}
 use Rattle.s161_search.specs.Seeds.{IsRunFault}
 use Rattle.s161_search.proofs.Booting.{booted_as_one}
 
@@ -102,7 +103,7 @@ right_of_part task given steps s all part is_cut boots h right =
 right_each : (task : SearchTask) (given : Given) (steps : ℕ) (s : State) (class : Class) (all : Delays) →
     IsBootState given.file (conf_of task.size) s → IsOf class (delays_of all) →
     ((part : List ℕ) → IsUsefulOf class (offered_by task given steps s) part → Effective task given steps s (delays_of all) part →
-      (is_cut : Bool) × HasRightRun task given steps part is_cut) → IsRightBy task given steps all
+    (is_cut : Bool) × HasRightRun task given steps part is_cut) → IsRightBy task given steps all
 right_each task given steps s class all boots of right =
     let found = effective task given steps s (delays_of all) in
     let useful = part_useful task given steps s class (delays_of all) found.0 of found.1 in
@@ -193,3 +194,26 @@ pub fails_by : (task : SearchTask) (given : Given) (s : State) (result : Result 
     IfErr result (IsFaultFrom s task given) → IfErr result (IsRunFault task given)
 fails_by task given s (Ok searched) begins h = tt
 fails_by task given s (Err fault) begins h = h begins
+
+-- the runs of a class are by turns
+pub turns_are : (order : Order) (class : DelayClass) → HasClassLimits order (Some class) → (steps : ℕ) × (order ≡ Turns steps)
+turns_are (Turns steps) class h = (steps, refl)
+turns_are (Delayed steps delays) class h = absurd h
+turns_are (Random seed) class h = absurd h
+turns_are (Priorities seed changes within) class h = absurd h
+
+-- what is printed
+pub found_listed : (task : SearchTask) (given : Given) (steps : ℕ) (class : Class) (numbers : List ℕ) (wrong : WrongRun) (text : List ℕ) →
+    IsFirstBy task given steps class numbers wrong.run wrong.judged → IsListed task given numbers wrong text → IsFoundBy task given steps class text
+found_listed task given steps class numbers wrong text first listed = record {
+  numbers = numbers;
+  run = wrong.run;
+  judged = wrong.judged;
+  first = first;
+  events = listed.events;
+  are_printed = listed.are_printed;
+  final = listed.final;
+  is_judged = listed.is_judged;
+  same_kind = listed.same_kind;
+  text_is = listed.text_is;
+}

@@ -24,6 +24,7 @@ use Rattle.m161_shorten.specs.Passes.{Shortens}
 use Rattle.m161_shorten.proofs.Alike.{shortens_by}
 use Rattle.s161_base.specs.Sizes.{conf_of}
 use Rattle.s161_command.specs.declared.task.SearchTask.{SearchTask}
+use Rattle.s161_search.specs.Delays.{IsRunOf}
 use Rattle.s161_search.specs.Given.{Given, criteria_of}
 use Rattle.s161_search.specs.Seeds.{AreClean, IsRunAt, one_if, drive_at, seed_at, with_seed}
 use Rattle.s161_search.specs.Searches.{ArePrinted, HasKind, IsJudgedAt, is_whole, kind_of}
@@ -85,6 +86,12 @@ run_made task given rules None run h = h
 pub run_judged : (task : SearchTask) (given : Given) (k : ℕ) (run : Run) (judged : Judged) → IsRunAt task given k run → run.judged ≡ Some judged →
     IsJudgedAt task given run.events.items (Some judged)
 run_judged task given k run judged is wrong =
+    (is.booted, is.is_booted, subst (λ v. IsJudged (criteria_of given) is.booted run.events.items v) wrong is.judged)
+
+-- the same by any order
+pub run_judged_by : (task : SearchTask) (given : Given) (order : Order) (run : Run) (judged : Judged) → IsRunOf task given order run → run.judged ≡ Some judged →
+    IsJudgedAt task given run.events.items (Some judged)
+run_judged_by task given order run judged is wrong =
     (is.booted, is.is_booted, subst (λ v. IsJudged (criteria_of given) is.booted run.events.items v) wrong is.judged)
 
 -- a list has one verdict

@@ -4,3 +4,4 @@ pub mod Reading
 pub mod Failing
 pub mod Judging
 pub mod Delaying
+pub mod Numbers

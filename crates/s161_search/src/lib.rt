@@ -3,11 +3,11 @@
 #![tactic(auto)]
 
 mod again;
-mod orders;
-mod delays;
 pub mod audit;
+mod delays;
 mod found;
 mod inputs;
+mod orders;
 pub mod search;
 mod seeds;
 mod texts;

@@ -101,10 +101,10 @@ fn found_text(
 }
 
 // How many Steps a turn has.
-fn turns_of(order: Order) -> u32
-    ensures { (steps : ℕ) → order ≡ order.Turns steps → result ≡ steps }
+fn turns_of(policy: Order) -> u32
+    ensures { (steps : ℕ) → policy ≡ order.Turns steps → result ≡ steps }
 {
-    match order {
+    match policy {
         Order::Turns(steps) => steps,
         Order::Delayed { .. } | Order::Random(_) | Order::Priorities { .. } => 0,
     }

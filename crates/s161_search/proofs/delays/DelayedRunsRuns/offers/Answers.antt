@@ -1,4 +1,4 @@
-use Rattle.std.proofs.Common.{◌≡◌, ◌∙◌, ◌++◌, ap}
+use Rattle.std.proofs.Common.{◌∙◌, ◌++◌, ap}
 use Rattle.std.specs.Prelude.{slice_get}
 use Rattle.m161_drive.specs.Choice.{cursor_at}
 use Rattle.m161_order.specs.declared.order.Order.TheVariants as order
