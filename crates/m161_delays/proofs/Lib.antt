@@ -5,3 +5,4 @@ pub mod Walking
 pub mod Judging
 pub mod Longer
 pub mod Lengths
+pub mod Members

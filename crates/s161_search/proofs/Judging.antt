@@ -24,6 +24,7 @@ use Rattle.m161_shorten.specs.Passes.{Shortens}
 use Rattle.m161_shorten.proofs.Alike.{shortens_by}
 use Rattle.s161_base.specs.Sizes.{conf_of}
 use Rattle.s161_command.specs.declared.task.SearchTask.{SearchTask}
+use Rattle.s161_search.specs.Delays.{IsRunOf}
 use Rattle.s161_search.specs.Given.{Given, criteria_of}
 use Rattle.s161_search.specs.Seeds.{AreClean, IsRunAt, one_if, drive_at, seed_at, with_seed}
 use Rattle.s161_search.specs.Searches.{ArePrinted, HasKind, IsJudgedAt, is_whole, kind_of}
@@ -56,6 +57,18 @@ same_run task given k file conf rules watches output result file_is conf_is rule
     (subst (λ w. Runs file conf (boot_fault file conf) rules n (criteria w given.output rules) result) watches_is
     (subst (λ o. Runs file conf (boot_fault file conf) rules n (criteria watches o rules) result) output_is h))))
 
+-- the same by any rules
+pub as_given : (task : SearchTask) (given : Given) (rules policy : Rules) (watches : List Watch) (output : Option (List ℕ)) (result : Result Run AuditError) →
+    policy ≡ rules → watches ≡ given.watches → output ≡ given.output →
+    Runs given.file (conf_of task.size) (boot_fault given.file (conf_of task.size)) policy task.drive.events (criteria watches output policy) result →
+    Runs given.file (conf_of task.size) (boot_fault given.file (conf_of task.size)) rules task.drive.events (criteria given.watches given.output rules) result
+as_given task given rules policy watches output result rules_is watches_is output_is h =
+    let conf = conf_of task.size in
+    let n = task.drive.events in
+    subst (λ r. Runs given.file conf (boot_fault given.file conf) r n (criteria given.watches given.output r) result) rules_is
+    (subst (λ w. Runs given.file conf (boot_fault given.file conf) policy n (criteria w given.output policy) result) watches_is
+    (subst (λ o. Runs given.file conf (boot_fault given.file conf) policy n (criteria watches o policy) result) output_is h))
+
 -- a boot of what was read
 pub boots_as : (file same : List ℕ) (conf equal : Conf) (result : Result State AuditError) → file ≡ same → conf ≡ equal →
     BootsState file conf (boot_fault file conf) result → BootsState same equal (boot_fault same equal) result
@@ -73,6 +86,12 @@ run_made task given rules None run h = h
 pub run_judged : (task : SearchTask) (given : Given) (k : ℕ) (run : Run) (judged : Judged) → IsRunAt task given k run → run.judged ≡ Some judged →
     IsJudgedAt task given run.events.items (Some judged)
 run_judged task given k run judged is wrong =
+    (is.booted, is.is_booted, subst (λ v. IsJudged (criteria_of given) is.booted run.events.items v) wrong is.judged)
+
+-- the same by any order
+pub run_judged_by : (task : SearchTask) (given : Given) (order : Order) (run : Run) (judged : Judged) → IsRunOf task given order run → run.judged ≡ Some judged →
+    IsJudgedAt task given run.events.items (Some judged)
+run_judged_by task given order run judged is wrong =
     (is.booted, is.is_booted, subst (λ v. IsJudged (criteria_of given) is.booted run.events.items v) wrong is.judged)
 
 -- a list has one verdict

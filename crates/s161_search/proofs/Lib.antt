@@ -4,3 +4,5 @@ pub mod Booting
 pub mod Reading
 pub mod Failing
 pub mod Judging
+pub mod Delaying
+pub mod Numbers

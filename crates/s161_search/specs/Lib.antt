@@ -1,6 +1,7 @@
 pub mod Audits
 pub mod Given
 pub mod Seeds
+pub mod Delays
 pub mod Texts
 pub mod Searches
 pub mod helpers

@@ -1,4 +1,4 @@
-use Rattle.std.specs.Prelude.{◌≡◌, ◌⊎◌, ℕ, ◌==◌, Bool, true, false, List, take, Option, Some, option_map}
+use Rattle.std.specs.Prelude.{◌≡◌, ◌⊎◌, ℕ, ◌==◌, Bool, true, false, List, take, Option, None, Some, option_map}
 use Rattle.m161_judge.specs.declared.run.Run.{Run}
 use Rattle.m161_judge.specs.declared.verdict.Judged.{Judged}
 use Rattle.m161_judge.specs.declared.verdict.Verdict.{Verdict}
@@ -19,7 +19,11 @@ use Rattle.s161_command.specs.declared.task.SearchTask.{SearchTask}
 use Rattle.s161_run.specs.Driven.{IsKeysFile}
 use Rattle.s161_search.specs.Given.{Given, IsBadLine, IsGiven, IsWatchesFile, criteria_of}
 use Rattle.s161_search.specs.Seeds.{AreClean, IsFirstWrong, IsRunFault, seed_at}
-use Rattle.s161_search.specs.Texts.{clean_text, found_text}
+use Rattle.m161_delays.specs.declared.search.Class.{Class}
+use Rattle.m161_order.specs.declared.order.Order.TheVariants.{Turns}
+use Rattle.s161_command.specs.declared.class.DelayClass.{DelayClass}
+use Rattle.s161_search.specs.Delays.{AreCleanBy, IsFirstBy, class_of}
+use Rattle.s161_search.specs.Texts.{clean_text, delays_text, found_text, seed_text}
 
 -- The output and the exit status of `search`.
 
@@ -67,7 +71,7 @@ pub record IsFound (task : SearchTask) (given : Given) (text : List ℕ) : Type 
   pub final : Judged
   pub is_judged : IsJudgedAt task given events (Some final)
   pub same_kind : rank final.verdict ≡ rank judged.verdict
-  pub text_is : text ≡ found_text (seed_at task.drive.order place) final.verdict events
+  pub text_is : text ≡ found_text (seed_text (seed_at task.drive.order place)) final.verdict events
 
 -- none of the runs goes wrong
 abbrev pub IsClean : SearchTask → Given → List ℕ → Type 0
@@ -75,13 +79,42 @@ IsClean task given text =
     (cut : ℕ) × AreClean task given task.seeds cut
     × (text ≡ with_line_end (clean_text task.seeds cut))
 
+-- the schedule of the first list of delays whose run goes wrong, in the same way, behind its numbers
+pub record IsFoundBy
+    (task : SearchTask) (given : Given) (steps : ℕ) (class : Class) (text : List ℕ) : Type 0 where
+  pub numbers : List ℕ
+  pub run : Run
+  pub judged : Judged
+  pub first : IsFirstBy task given steps class numbers run judged
+  pub events : List Event
+  pub are_printed :
+      ArePrinted (is_whole task.whole judged.verdict) task given run.events.items judged events
+  pub final : Judged
+  pub is_judged : IsJudgedAt task given events (Some final)
+  pub same_kind : rank final.verdict ≡ rank judged.verdict
+  pub text_is : text ≡ found_text (delays_text numbers) final.verdict events
+
+-- none of the runs of a class goes wrong
+abbrev pub IsCleanBy : SearchTask → Given → ℕ → Class → List ℕ → Type 0
+IsCleanBy task given steps class text =
+    (runs cut : ℕ) × AreCleanBy task given steps class runs cut
+    × (text ≡ with_line_end (clean_text runs cut))
+
+-- what is printed and the exit status: by seeds, or by the delays of a class of runs by turns
+abbrev pub Prints : SearchTask → Given → Option DelayClass → List ℕ → ℕ → Type 0
+Prints task given None text status =
+    ((status ≡ 0) × IsClean task given text) ⊎ ((status ≡ 4) × IsFound task given text)
+Prints task given (Some class) text status =
+    (steps : ℕ) × (task.drive.order ≡ Turns steps)
+    × (((status ≡ 0) × IsCleanBy task given steps (class_of class) text)
+    ⊎ ((status ≡ 4) × IsFoundBy task given steps (class_of class) text))
+
 -- a finished search: what it prints and its exit status; the files have these bytes, and that of the
 -- image, as far as they are known
 abbrev pub IsSearched :
     SearchTask → (List ℕ → Option (List ℕ)) → Option (List ℕ) → List ℕ → ℕ → Type 0
 IsSearched task files image text status =
-    (given : Given) × IsGiven task files image given
-    × (((status ≡ 0) × IsClean task given text) ⊎ ((status ≡ 4) × IsFound task given text))
+    (given : Given) × IsGiven task files image given × Prints task given task.delays text status
 
 -- a run isn't made, of what was read
 abbrev pub IsNotRun :

@@ -1,4 +1,4 @@
-use Rattle.std.specs.Prelude.{ℕ, ◌==◌, if◌then◌else◌, List, ◌++◌, codes, decimal}
+use Rattle.std.specs.Prelude.{ℕ, ◌==◌, if◌then◌else◌, List, [], ◌∷◌, ◌++◌, codes, decimal}
 use Rattle.m161_audit.specs.declared.finding.Finding.TheVariants as finding
 use Rattle.m161_judge.specs.declared.verdict.Verdict.{Verdict}
 use Rattle.m161_judge.specs.declared.verdict.Verdict.TheVariants.{Stale, Conflict, Stuck, Output, End}
@@ -26,8 +26,19 @@ clean_text n cut =
     if cut == 0 then codes "clean" ␣ decimal n
     else codes "clean" ␣ decimal n ␣ codes "cut" ␣ decimal cut
 
--- a schedule that goes wrong: its first two lines, which are comments, tell the seed and the verdict
-abbrev pub found_text : ℕ → Verdict → List Event → List ℕ
-found_text seed verdict events =
-    with_line_end (codes "# seed" ␣ decimal seed) ++ with_line_end (codes "#" ␣ verdict_text verdict)
-    ++ schedule_text events
+-- what tells the run: its seed
+abbrev pub seed_text : ℕ → List ℕ
+seed_text seed = codes "# seed" ␣ decimal seed
+
+-- or its delays, a space before each
+abbrev pub numbers_text : List ℕ → List ℕ
+numbers_text [] = []
+numbers_text (n ∷ ns) = codes " " ++ decimal n ++ numbers_text ns
+
+abbrev pub delays_text : List ℕ → List ℕ
+delays_text numbers = codes "# delays" ++ numbers_text numbers
+
+-- a schedule that goes wrong: its first two lines, which are comments, tell the run and the verdict
+abbrev pub found_text : List ℕ → Verdict → List Event → List ℕ
+found_text run verdict events =
+    with_line_end run ++ with_line_end (codes "#" ␣ verdict_text verdict) ++ schedule_text events

@@ -3,3 +3,5 @@ pub mod Watches
 pub mod Tried
 pub mod Inputs
 pub mod Begun
+pub mod Delayed
+pub mod Offers

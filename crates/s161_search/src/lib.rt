@@ -4,8 +4,10 @@
 
 mod again;
 pub mod audit;
+mod delays;
 mod found;
 mod inputs;
+mod orders;
 pub mod search;
 mod seeds;
 mod texts;

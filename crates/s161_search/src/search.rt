@@ -1,29 +1,38 @@
 //! Looking for a seed whose run goes wrong.
 
-ghost use Rattle.std.specs.Prelude.{◌≡◌, ◌≢◌, ◌≤◌, IfErr, IfOk, None};
+ghost use Rattle.std.specs.Prelude.{◌≡◌, ◌≢◌, ◌≤◌, ℕ, IfErr, IfOk, None, Some};
+ghost use Rattle.m161_order.specs.declared.order.Order.{Order as OrderValue};
+ghost use Rattle.m161_order.specs.declared.order.Order.TheVariants as order;
+ghost use Rattle.m161_order.specs.Delays.{delays_of};
+ghost use Rattle.s161_command.specs.Classes.{HasClassLimits};
+ghost use Rattle.s161_search.specs.Delays.{IsRunOf};
 ghost use Rattle.m161_order.specs.Order.{order_fault};
 ghost use Rattle.s161_base.specs.Asked.{AsksFor};
 ghost use Rattle.s161_base.specs.Samples.{image_file};
 ghost use Rattle.s161_search.specs.Given.{search_files};
 ghost use Rattle.s161_search.specs.helpers.Begun.{BeginsAt};
 ghost use Rattle.s161_search.specs.helpers.Inputs.{given_of};
-ghost use Rattle.s161_search.specs.Searches.{IsFound, IsSearched, IsSearchFault};
-ghost use Rattle.s161_search.specs.Seeds.{IsFirstWrong};
+ghost use Rattle.s161_search.specs.Searches.{IsFound, IsSearched, IsSearchFault, Prints};
+ghost use Rattle.s161_search.specs.Seeds.{IsFirstWrong, IsRunFault};
+ghost use Rattle.s161_search.specs.helpers.Tried.{IsListed};
 
+use crate::delays::{WrongRun, try_lists};
 use crate::found::print_of;
 use crate::inputs::{Inputs, read_inputs};
 use crate::seeds::{FirstWrong, Tried, boot, seed_at, try_seeds};
-use crate::texts::{clean_line, found_lines};
+use crate::texts::{clean_line, delays_line, found_lines, seed_line};
 use m161::{Console, Tlb};
+use m161_delays::{Delays, Searched};
 use m161_judge::Booted;
+use m161_order::Order;
 use s161_base::fault::Fault;
 use s161_base::files::FileSource;
 use s161_base::finished::Finished;
-use s161_command::SearchTask;
+use s161_command::{DelayClass, SearchTask};
 use std::alloc::{AllocError, Global};
 
-/// Reads the image, the keys, the watches and then the output, and makes the run of each seed up to
-/// the first that goes wrong, whose schedule it prints.
+/// Reads the image, the keys, the watches and then the output, and makes the run of each seed, or of each
+/// useful list of delays, up to the first that goes wrong, whose schedule it prints.
 ///
 /// # Errors
 /// The first fault; an event that is refused is a want of memory.
@@ -34,7 +43,8 @@ pub fn search<'a, F: FileSource>(
     files: &mut F,
     task: SearchTask<'a>,
 ) -> Result<Finished, Fault<'a>>
-    requires { order_fault task.drive.order ≡ None }
+    requires limits { order_fault task.drive.order ≡ None }
+    requires class { HasClassLimits task.drive.order task.delays }
     ensures ok { IfOk result (λ done. IsSearched task.entry (F.known files.old)
         (image_file (F.known files.old) task.entry.image.now) done.text.items done.status) }
     ensures fault { IfErr result (IsSearchFault task.entry (F.known files.old)
@@ -45,13 +55,32 @@ pub fn search<'a, F: FileSource>(
 {
     let inputs = read_inputs(alloc, files, task)?;
     let booted = boot(alloc, task, &inputs)?;
-    match try_seeds(alloc, &booted, task, &inputs)? {
+    match task.delays {
+        Some(class) => by_delays(alloc, &booted, task, &inputs, class),
+        None => by_seeds(alloc, &booted, task, &inputs),
+    }
+}
+
+// Makes the runs of the seeds.
+fn by_seeds<'a>(
+    alloc: Global,
+    booted: &Booted<Tlb, Console>,
+    task: SearchTask<'a>,
+    inputs: &Inputs,
+) -> Result<Finished, Fault<'a>>
+    requires booted { BeginsAt task (given_of inputs.now) booted.now }
+    requires limits { order_fault task.drive.order ≡ None }
+    ensures ok { IfOk result (λ done. Prints task.entry (given_of inputs.now) None done.text.items done.status) }
+    ensures fault { IfErr result (IsRunFault task.entry (given_of inputs.now)) }
+    ensures within { IfOk result (λ done. (done.status ≤ 5) × (done.status ≢ 2)) }
+{
+    match try_seeds(alloc, booted, task, inputs)? {
         Tried::Clean(cut) => Ok(Finished {
-            text: clean_line(alloc, task.seeds, cut)?.into_bytes(),
+            text: clean_line(alloc, u64::from(task.seeds), u64::from(cut))?.into_bytes(),
             status: 0,
         }),
         Tried::Wrong(wrong) => Ok(Finished {
-            text: found_text(alloc, &booted, task, &inputs, wrong)?,
+            text: found_text(alloc, booted, task, inputs, wrong)?,
             status: 4,
         }),
     }
@@ -69,8 +98,65 @@ fn found_text(
     requires first { IsFirstWrong task (given_of inputs.now) wrong.place wrong.run wrong.judged }
     ensures { IfOk result (λ text. IsFound task.entry (given_of inputs.now) text.items) }
 {
-    let seed = seed_at(task.drive.order, wrong.place);
+    let line = seed_line(alloc, seed_at(task.drive.order, wrong.place))?;
     let printed = print_of(alloc, booted, task, inputs, wrong.judged, wrong.run.events)?;
-    let text = found_lines(alloc, seed, printed.verdict, &printed.events)?;
+    let text = found_lines(alloc, line, printed.verdict, &printed.events)?;
+    Ok(text.into_bytes())
+}
+
+// How many Steps a turn has.
+fn turns_of(policy: Order) -> u32
+    ensures { (steps : ℕ) → policy ≡ order.Turns steps → result ≡ steps }
+{
+    match policy {
+        Order::Turns(steps) => steps,
+        Order::Delayed { .. } | Order::Random(_) | Order::Priorities { .. } => 0,
+    }
+}
+
+// Makes the runs of the lists of a class.
+fn by_delays<'a>(
+    alloc: Global,
+    booted: &Booted<Tlb, Console>,
+    task: SearchTask<'a>,
+    inputs: &Inputs,
+    class: DelayClass,
+) -> Result<Finished, Fault<'a>>
+    requires booted { BeginsAt task (given_of inputs.now) booted.now }
+    requires class { HasClassLimits task.drive.order (Some class) }
+    ensures ok { IfOk result (λ done. Prints task.entry (given_of inputs.now) (Some class) done.text.items done.status) }
+    ensures fault { IfErr result (IsRunFault task.entry (given_of inputs.now)) }
+    ensures within { IfOk result (λ done. (done.status ≤ 5) × (done.status ≢ 2)) }
+{
+    let turns = turns_of(task.drive.order);
+    match try_lists(alloc, booted, task, inputs, turns, class)? {
+        Searched::Clean { runs, cut } => Ok(Finished {
+            text: clean_line(alloc, runs, cut)?.into_bytes(),
+            status: 0,
+        }),
+        Searched::Wrong { delays, wrong } => Ok(Finished {
+            text: listed_text(alloc, booted, task, inputs, &delays, wrong)?,
+            status: 4,
+        }),
+    }
+}
+
+// What is printed of the first list whose run goes wrong.
+fn listed_text(
+    alloc: Global,
+    booted: &Booted<Tlb, Console>,
+    task: SearchTask<'_>,
+    inputs: &Inputs,
+    delays: &Delays,
+    wrong: WrongRun,
+) -> Result<Vec<u8>, AllocError>
+    requires booted { BeginsAt task (given_of inputs.now) booted.now }
+    requires wrong { (order : OrderValue) × IsRunOf task (given_of inputs.now) order wrong.run
+        × (wrong.run.judged ≡ Some wrong.judged) }
+    ensures { IfOk result (λ text. IsListed task.entry (given_of inputs.now) (delays_of delays.now) wrong text.items) }
+{
+    let line = delays_line(alloc, delays.as_slice())?;
+    let printed = print_of(alloc, booted, task, inputs, wrong.judged, wrong.run.events)?;
+    let text = found_lines(alloc, line, printed.verdict, &printed.events)?;
     Ok(text.into_bytes())
 }

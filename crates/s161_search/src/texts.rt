@@ -1,9 +1,9 @@
 //! What a search prints.
 
-ghost use Rattle.std.specs.Prelude.{◌≡◌, codes, decimal, IfOk, Some, string_bytes};
+ghost use Rattle.std.specs.Prelude.{◌≡◌, ◌++◌, ℕ, List, codes, decimal, IfOk, OnOk, Some, string_bytes};
 ghost use Rattle.m161_text.specs.Lines.{with_line_end};
 ghost use Rattle.m161_text.specs.Parts.{◌␣◌};
-ghost use Rattle.s161_search.specs.Texts.{clean_text, found_text, verdict_text};
+ghost use Rattle.s161_search.specs.Texts.{clean_text, delays_text, found_text, numbers_text, seed_text, verdict_text};
 
 use crate::audit::ShownFinding;
 use m161_audit::Finding;
@@ -50,7 +50,7 @@ impl fmt::Display for ShownVerdict {
 
 // How many runs are cut, as text.
 #[derive(Drop)]
-struct ShownCut(u32);
+struct ShownCut(u64);
 
 impl fmt::Display for ShownCut {
     ghost output = { λ cut. Some (codes "cut" ␣ decimal cut.0) };
@@ -64,8 +64,8 @@ impl fmt::Display for ShownCut {
 // Runs of which none goes wrong and some are cut, as text.
 #[derive(Drop)]
 struct ShownClean {
-    runs: u32,
-    cut: u32,
+    runs: u64,
+    cut: u64,
 }
 
 impl fmt::Display for ShownClean {
@@ -79,7 +79,7 @@ impl fmt::Display for ShownClean {
 }
 
 // The line where no run goes wrong, and some are cut.
-fn cut_line(alloc: Global, runs: u32, cut: u32) -> Result<String, AllocError>
+fn cut_line(alloc: Global, runs: u64, cut: u64) -> Result<String, AllocError>
     ensures { IfOk result (λ line. string_bytes line
         ≡ with_line_end (codes "clean" ␣ decimal runs ␣ codes "cut" ␣ decimal cut)) }
 {
@@ -91,7 +91,7 @@ fn cut_line(alloc: Global, runs: u32, cut: u32) -> Result<String, AllocError>
 ///
 /// # Errors
 /// Memory was refused.
-pub(crate) fn clean_line(alloc: Global, runs: u32, cut: u32) -> Result<String, AllocError>
+pub(crate) fn clean_line(alloc: Global, runs: u64, cut: u64) -> Result<String, AllocError>
     ensures { IfOk result (λ line. string_bytes line ≡ with_line_end (clean_text runs cut)) }
 {
     if cut == 0 {
@@ -100,11 +100,45 @@ pub(crate) fn clean_line(alloc: Global, runs: u32, cut: u32) -> Result<String, A
     cut_line(alloc, runs, cut)
 }
 
-// The line of a seed.
-fn seed_line(alloc: Global, seed: u64) -> Result<String, AllocError>
-    ensures { IfOk result (λ line. string_bytes line ≡ with_line_end (codes "# seed" ␣ decimal seed)) }
+/// The line of a seed.
+///
+/// # Errors
+/// Memory was refused.
+pub(crate) fn seed_line(alloc: Global, seed: u64) -> Result<String, AllocError>
+    ensures { IfOk result (λ line. string_bytes line ≡ with_line_end (seed_text seed)) }
 {
     format!(in alloc; "# seed {seed}\n")
+}
+
+// A number, behind a space.
+fn number_word(alloc: Global, number: u32) -> Result<String, AllocError>
+    ensures { IfOk result (λ word. string_bytes word ≡ codes " " ++ decimal number) }
+{
+    format!(in alloc; " {number}")
+}
+
+// Appends the numbers, a space before each.
+fn put_numbers(alloc: Global, text: &mut String, numbers: &[u32]) -> Result<(), AllocError>
+    ensures { OnOk result (string_bytes text.new ≡ string_bytes text.old ++ numbers_text numbers.now) }
+{
+    for number in numbers {
+        let word = number_word(alloc, *number)?;
+        text.push_str(word.as_str())?;
+    }
+    Ok(())
+}
+
+/// The line of a list of delays.
+///
+/// # Errors
+/// Memory was refused.
+pub(crate) fn delays_line(alloc: Global, numbers: &[u32]) -> Result<String, AllocError>
+    ensures { IfOk result (λ line. string_bytes line ≡ with_line_end (delays_text numbers.now)) }
+{
+    let mut line = format!(in alloc; "# delays")?;
+    put_numbers(alloc, &mut line, numbers)?;
+    line.push_str("\n")?;
+    Ok(line)
 }
 
 // The line of a verdict.
@@ -115,19 +149,19 @@ fn verdict_line(alloc: Global, verdict: Verdict) -> Result<String, AllocError>
     format!(in alloc; "# {shown}\n")
 }
 
-/// The schedule of a run that goes wrong, behind its seed and its verdict.
+/// The schedule of a run that goes wrong, behind the line that tells the run, and its verdict.
 ///
 /// # Errors
 /// Memory was refused.
 pub(crate) fn found_lines(
     alloc: Global,
-    seed: u64,
+    mut text: String,
     verdict: Verdict,
     events: &[Event],
 ) -> Result<String, AllocError>
-    ensures { IfOk result (λ text. string_bytes text ≡ found_text seed verdict events.now) }
+    ensures { IfOk result (λ lines. (run : List ℕ) → string_bytes text ≡ with_line_end run
+        → string_bytes lines ≡ found_text run verdict events.now) }
 {
-    let mut text = seed_line(alloc, seed)?;
     let verdict = verdict_line(alloc, verdict)?;
     let schedule = write_schedule(alloc, events)?;
     text.push_str(verdict.as_str())?;

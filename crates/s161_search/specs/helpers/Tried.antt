@@ -1,4 +1,4 @@
-use Rattle.std.specs.Prelude.{◌≡◌, List, Some}
+use Rattle.std.specs.Prelude.{◌≡◌, ℕ, List, Some}
 use Rattle.m161_judge.specs.declared.verdict.Judged.{Judged}
 use Rattle.m161_judge.specs.Verdict.{rank}
 use Rattle.m161_machine.specs.declared.event.Event.{Event}
@@ -9,12 +9,24 @@ use Rattle.s161_search.specs.declared.seeds.Tried.TheVariants.{Clean, Wrong}
 use Rattle.s161_search.specs.Given.{Given}
 use Rattle.s161_search.specs.Searches.{ArePrinted, IsJudgedAt, is_whole}
 use Rattle.s161_search.specs.Seeds.{AreClean, IsFirstWrong}
+use Rattle.m161_delays.specs.declared.search.Class.{Class}
+use Rattle.m161_delays.specs.declared.search.Searched.{Searched}
+use Rattle.m161_delays.specs.declared.search.Searched.TheVariants as searched
+use Rattle.m161_order.specs.Delays.{delays_of}
+use Rattle.s161_search.specs.declared.delays.WrongRun.{WrongRun}
+use Rattle.s161_search.specs.Delays.{AreCleanBy, IsFirstBy}
+use Rattle.s161_search.specs.Texts.{delays_text, found_text}
 
 -- What came of the seeds, and what is printed of it.
 
 abbrev pub IsTried : SearchTask → Given → Tried → Type 0
 IsTried task given (Clean cut) = AreClean task given task.seeds cut
 IsTried task given (Wrong wrong) = IsFirstWrong task given wrong.place wrong.run wrong.judged
+
+abbrev pub IsSearchedBy : SearchTask → Given → ℕ → Class → Searched WrongRun → Type 0
+IsSearchedBy task given steps class (searched.Clean runs cut) = AreCleanBy task given steps class runs cut
+IsSearchedBy task given steps class (searched.Wrong delays wrong) =
+    IsFirstBy task given steps class (delays_of delays) wrong.run wrong.judged
 
 -- the events that are printed of a run with this verdict, and the verdict that is printed
 pub record ArePrintedWith
@@ -26,3 +38,14 @@ pub record ArePrintedWith
   pub verdict_is : printed.verdict ≡ final.verdict
   pub is_judged : IsJudgedAt task given printed.events.items (Some final)
   pub same_kind : rank final.verdict ≡ rank judged.verdict
+
+-- what is printed of a run that goes wrong, behind the numbers of its list
+pub record IsListed
+    (task : SearchTask) (given : Given) (numbers : List ℕ) (wrong : WrongRun) (text : List ℕ) : Type 0 where
+  pub events : List Event
+  pub are_printed :
+      ArePrinted (is_whole task.whole wrong.judged.verdict) task given wrong.run.events.items wrong.judged events
+  pub final : Judged
+  pub is_judged : IsJudgedAt task given events (Some final)
+  pub same_kind : rank final.verdict ≡ rank wrong.judged.verdict
+  pub text_is : text ≡ found_text (delays_text numbers) final.verdict events

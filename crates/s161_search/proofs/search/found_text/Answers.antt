@@ -1,6 +1,7 @@
 use Rattle.std.proofs.Common.{◌∙◌, ap}
+use Rattle.m161_text.specs.Lines.{with_line_end}
 use Rattle.s161_search.specs.Seeds.{seed_at}
-use Rattle.s161_search.specs.Texts.{found_text}
+use Rattle.s161_search.specs.Texts.{found_text, seed_text}
 use Rattle.s161_search.proofs.search.found_text.Goals as goal
 
 pub returns : goal.returns
@@ -18,8 +19,9 @@ returns c =
       is_judged = made.is_judged;
       same_kind = made.same_kind;
       text_is =
-          ap (λ v. v.items) c.into_bytes.ensures.value ∙ c.in_ok-text.ensures
-          ∙ ap (λ n. found_text n printed.verdict c.deref.result.now) c.seed_at-seed.ensures
-          ∙ ap (λ v. found_text (seed_at c.args.task.drive.order c.args.wrong.place) v c.deref.result.now) made.verdict_is
-          ∙ ap (λ es. found_text (seed_at c.args.task.drive.order c.args.wrong.place) made.final.verdict es) c.deref.ensures.value;
+          ap (λ v. v.items) c.into_bytes.ensures.value
+          ∙ c.in_ok-text.ensures (seed_text (seed_at c.args.task.drive.order c.args.wrong.place))
+          (c.in_ok-line.ensures ∙ ap (λ n. with_line_end (seed_text n)) c.seed_at.ensures)
+          ∙ ap (λ v. found_text (seed_text (seed_at c.args.task.drive.order c.args.wrong.place)) v c.deref.result.now) made.verdict_is
+          ∙ ap (λ es. found_text (seed_text (seed_at c.args.task.drive.order c.args.wrong.place)) made.final.verdict es) c.deref.ensures.value;
     }

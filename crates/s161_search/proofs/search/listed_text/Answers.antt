@@ -1,0 +1,32 @@
+use Rattle.std.proofs.Common.{◌∙◌, ap}
+use Rattle.m161_order.specs.Delays.{delays_of}
+use Rattle.m161_text.specs.Lines.{with_line_end}
+use Rattle.s161_search.specs.helpers.Inputs.{given_of}
+use Rattle.s161_search.specs.Texts.{delays_text, found_text}
+use Rattle.s161_search.proofs.Judging.{run_judged_by}
+use Rattle.s161_search.proofs.search.listed_text.Goals as goal
+
+pub print_of-requires : goal.print_of-requires
+print_of-requires c =
+    record {
+      booted = c.requires.booted;
+      judged = run_judged_by c.args.task (given_of c.args.inputs.now) c.requires.wrong.0 c.args.wrong.run c.args.wrong.judged c.requires.wrong.1 c.requires.wrong.2;
+    }
+
+pub returns : goal.returns
+returns c =
+    let made = c.in_ok-printed.ensures in
+    let printed = c.in_ok-printed.printed in
+    let numbers = delays_of c.args.delays.now in
+    record {
+      events = printed.events.items;
+      are_printed = made.are_printed;
+      final = made.final;
+      is_judged = made.is_judged;
+      same_kind = made.same_kind;
+      text_is =
+          ap (λ v. v.items) c.into_bytes.ensures.value
+          ∙ c.in_ok-text.ensures (delays_text numbers) (c.in_ok-line.ensures ∙ ap (λ ns. with_line_end (delays_text ns)) c.as_slice.ensures.numbers)
+          ∙ ap (λ v. found_text (delays_text numbers) v c.deref.result.now) made.verdict_is
+          ∙ ap (λ es. found_text (delays_text numbers) made.final.verdict es) c.deref.ensures.value;
+    }

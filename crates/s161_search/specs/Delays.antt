@@ -1,0 +1,78 @@
+use Rattle.std.specs.Prelude.{◌≡◌, ℕ, ◌%◌, ◌^◌, Bool, List, length, slice_get, None, Some}
+use Rattle.m161_delays.specs.declared.search.Class.{Class}
+use Rattle.m161_delays.specs.Lists.{ComesBefore, IsOf}
+use Rattle.m161_delays.specs.Runs.{AreRight, AreThose, IsUsefulOf}
+use Rattle.m161_drive.specs.Choice.{cursor_at}
+use Rattle.m161_judge.specs.declared.run.Run.{Run}
+use Rattle.m161_judge.specs.declared.verdict.Judged.{Judged}
+use Rattle.m161_judge.specs.Run.{IsRun}
+use Rattle.m161_machine.specs.History.{IsBootState}
+use Rattle.m161_machine.specs.State.{State}
+use Rattle.m161_order.specs.declared.delays.Delays.{Delays}
+use Rattle.m161_order.specs.declared.order.Order.{Order}
+use Rattle.m161_order.specs.declared.order.Order.TheVariants.{Delayed}
+use Rattle.m161_order.specs.Delays.{delays_of}
+use Rattle.m161_places.specs.Laws.{offered}
+use Rattle.s161_base.specs.Sizes.{conf_of}
+use Rattle.s161_command.specs.declared.class.DelayClass.{DelayClass}
+use Rattle.s161_command.specs.declared.task.SearchTask.{SearchTask}
+use Rattle.s161_run.specs.Driven.{rules_of}
+use Rattle.s161_search.specs.Given.{Given, criteria_of}
+
+-- The runs that a search by delays makes.
+
+-- the class of lists
+abbrev pub class_of : DelayClass → Class
+class_of class = record { most = class.most; from = class.from; within = class.within }
+
+-- the run by an order, and its verdict
+abbrev pub IsRunOf : SearchTask → Given → Order → Run → Type 0
+IsRunOf task given order run =
+    IsRun given.file (conf_of task.size) (rules_of (record task.drive { order = order }) given.keys)
+    task.drive.events (criteria_of given) run
+
+-- how many processors are ready at each place of the run of a list, by turns of so many Steps, from the
+-- state at boot on
+abbrev pub offered_by : SearchTask → Given → ℕ → State → List ℕ → List ℕ
+offered_by task given steps booted =
+    offered task.drive.events (rules_of task.drive given.keys) (slice_get given.keys)
+    (record { steps = steps; made = 0 }) (cursor_at (rules_of task.drive given.keys) booted) booted
+
+-- the run of a list has no verdict, and is cut or isn't
+abbrev pub HasRightRun : SearchTask → Given → ℕ → List ℕ → Bool → Type 0
+HasRightRun task given steps numbers is_cut =
+    (delays : Delays) × (run : Run) × (delays_of delays ≡ numbers)
+    × IsRunOf task given (Delayed steps delays) run × (run.judged ≡ None) × (run.is_cut ≡ is_cut)
+
+-- the run of these delays has no verdict
+abbrev pub IsRightBy : SearchTask → Given → ℕ → Delays → Type 0
+IsRightBy task given steps delays =
+    (run : Run) × IsRunOf task given (Delayed steps delays) run × (run.judged ≡ None)
+
+-- no list of a class has a run that goes wrong; its useful lists have different runs, so many of which
+-- so many are cut, as far as 64 bits can say it
+pub record AreCleanBy
+    (task : SearchTask) (given : Given) (steps : ℕ) (class : Class) (runs cut : ℕ) : Type 0 where
+  pub each : (delays : Delays) → IsOf class (delays_of delays) → IsRightBy task given steps delays
+  pub booted : State
+  pub is_booted : IsBootState given.file (conf_of task.size) booted
+  pub lists : List (List ℕ)
+  pub are_useful : AreThose (IsUsefulOf class (offered_by task given steps booted)) lists
+  pub all_cut : ℕ
+  pub are_right : AreRight (HasRightRun task given steps) lists all_cut
+  pub runs_is : runs ≡ length lists % 2 ^ 64
+  pub cut_is : cut ≡ all_cut % 2 ^ 64
+
+-- the first list of a class whose run goes wrong, and its verdict; it is useful
+pub record IsFirstBy
+    (task : SearchTask) (given : Given) (steps : ℕ) (class : Class) (numbers : List ℕ) (run : Run)
+    (judged : Judged) : Type 0 where
+  pub booted : State
+  pub is_booted : IsBootState given.file (conf_of task.size) booted
+  pub is_useful : IsUsefulOf class (offered_by task given steps booted) numbers
+  pub delays : Delays
+  pub delays_are : delays_of delays ≡ numbers
+  pub is_run : IsRunOf task given (Delayed steps delays) run
+  pub wrong : run.judged ≡ Some judged
+  pub before : (others : Delays) → IsOf class (delays_of others) →
+      ComesBefore (delays_of others) numbers → IsRightBy task given steps others

@@ -1,0 +1,118 @@
+//! The runs of a search by delays.
+
+ghost use Rattle.std.specs.Prelude.{◌≤◌, IfErr, IfOk};
+ghost use Rattle.s161_search.specs.Delays.{class_of};
+ghost use Rattle.s161_search.specs.Seeds.{IsRunFault};
+ghost use Rattle.s161_search.specs.helpers.Begun.{BeginsAt};
+ghost use Rattle.s161_search.specs.helpers.Inputs.{given_of};
+ghost use Rattle.s161_search.specs.helpers.Tried.{IsSearchedBy};
+
+use crate::inputs::Inputs;
+use crate::orders::{policy_of, run_order};
+use m161::{Console, Tlb};
+use m161_delays::{Class, Delays, Judged, Runs, Searched, search_lists};
+use m161_judge::{Booted, Judged as Verdicted, Run};
+use m161_order::Order;
+use s161_base::fault::Fault;
+use s161_command::{DelayClass, SearchTask};
+use std::alloc::Global;
+
+/// A run that goes wrong.
+#[derive(Drop)]
+pub(crate) struct WrongRun {
+    /// The run.
+    pub run: Run,
+    /// Its verdict.
+    pub judged: Verdicted,
+}
+
+/// Makes the runs of lists of delays.
+#[derive(Drop)]
+pub(crate) struct DelayedRuns<'a, 'b> {
+    /// Where memory comes from.
+    pub alloc: Global,
+    /// The state at boot.
+    pub booted: &'b Booted<Tlb, Console>,
+    /// What is searched.
+    pub task: SearchTask<'a>,
+    /// What was read.
+    pub inputs: &'b Inputs,
+    /// How many Steps a turn has.
+    pub turns: u32,
+}
+
+impl<'a, 'b> Runs for DelayedRuns<'a, 'b> {
+    ghost use Rattle.s161_search.specs.Delays.{offered_by};
+    ghost use Rattle.s161_search.specs.helpers.Delayed.{IsFaultFrom, IsRightFrom, IsWrongFrom};
+    ghost use Rattle.s161_search.specs.helpers.Inputs.{given_of};
+    ghost use Rattle.s161_search.specs.helpers.Offers.{offers_alike};
+
+    type Wrong = WrongRun;
+
+    type Error = Fault<'a>;
+
+    ghost offers = { λ r. offered_by r.task (given_of r.inputs.now) r.turns r.booted.now };
+
+    ghost right = { λ r. IsRightFrom r.booted.now r.task (given_of r.inputs.now) r.turns };
+
+    ghost wrong = { λ r. IsWrongFrom r.booted.now r.task (given_of r.inputs.now) r.turns };
+
+    ghost fails = { λ r. IsFaultFrom r.booted.now r.task (given_of r.inputs.now) };
+
+    fn offers(&self, delays: &Delays, counts: &mut Vec<u8>) -> Result<(), Fault<'a>> {
+        let order = Order::Delayed {
+            turns: self.turns,
+            delays: *delays,
+        };
+        let policy = policy_of(self.task, self.inputs, order)?;
+        let mut core = self.booted.copy_core(self.alloc)?;
+        m161_places::offers(&mut core, &policy, self.task.drive.events, counts)?;
+        Ok(())
+    }
+
+    fn judge(&self, delays: &Delays) -> Result<Judged<WrongRun>, Fault<'a>> {
+        let order = Order::Delayed {
+            turns: self.turns,
+            delays: *delays,
+        };
+        let run = run_order(self.alloc, self.booted, self.task, self.inputs, order)?;
+        match run.judged {
+            Some(judged) => Ok(Judged::Wrong(WrongRun { run, judged })),
+            None => Ok(Judged::Right { is_cut: run.is_cut }),
+        }
+    }
+
+    ghost alike = { λ r. offers_alike r.task (given_of r.inputs.now) r.turns r.booted.now };
+}
+
+/// Makes the runs of the useful lists of a class, up to the first that goes wrong.
+///
+/// # Errors
+/// A run can't be made.
+pub(crate) fn try_lists<'a>(
+    alloc: Global,
+    booted: &Booted<Tlb, Console>,
+    task: SearchTask<'a>,
+    inputs: &Inputs,
+    turns: u32,
+    class: DelayClass,
+) -> Result<Searched<WrongRun>, Fault<'a>>
+    requires booted { BeginsAt task (given_of inputs.now) booted.now }
+    requires few { class.most ≤ 64 }
+    ensures ok { IfOk result (IsSearchedBy task.entry (given_of inputs.now) turns (class_of class)) }
+    ensures fault { IfErr result (IsRunFault task.entry (given_of inputs.now)) }
+{
+    let runs = DelayedRuns {
+        alloc,
+        booted,
+        task,
+        inputs,
+        turns,
+    };
+    let lists = Class {
+        most: class.most,
+        from: class.from,
+        within: class.within,
+    };
+    search_lists(alloc, &runs, lists)
+}

@@ -1,0 +1,64 @@
+//! A run by an order.
+
+ghost use Rattle.std.specs.Prelude.{◌≡◌, IfErr, IfOk};
+ghost use Rattle.s161_base.specs.declared.fault.Fault.TheVariants as faults;
+ghost use Rattle.s161_run.specs.Driven.{rules_of};
+ghost use Rattle.s161_search.specs.helpers.Delayed.{IsFaultFrom, IsRunFrom};
+ghost use Rattle.s161_search.specs.helpers.Inputs.{given_of};
+
+use crate::audit::fault_of_audit;
+use crate::inputs::Inputs;
+use m161::{Console, Tlb};
+use m161_drive::Policy;
+use m161_judge::{Booted, Run, judge_booted};
+use m161_order::Order;
+use s161_base::fault::Fault;
+use s161_command::SearchTask;
+use std::alloc::Global;
+
+/// The policy of a run by an order. The order of a task has no fault, so one that has is told as memory.
+///
+/// # Errors
+/// The order has a fault.
+pub(crate) fn policy_of<'a, 'b>(
+    task: SearchTask<'a>,
+    inputs: &'b Inputs,
+    order: Order,
+) -> Result<Policy<'b>, Fault<'a>>
+    ensures ok { IfOk result (λ policy. policy
+        ≡ rules_of (record task.entry.drive { order = order }) (given_of inputs.now).keys) }
+    ensures err { IfErr result (λ fault. fault ≡ faults.Memory) }
+{
+    match Policy::new(order, task.drive.transfer, task.drive.gap, &inputs.keys) {
+        Ok(policy) => Ok(policy),
+        Err(_) => Err(Fault::Memory),
+    }
+}
+
+/// Makes and judges a run by an order.
+///
+/// # Errors
+/// The run can't be made.
+pub(crate) fn run_order<'a>(
+    alloc: Global,
+    booted: &Booted<Tlb, Console>,
+    task: SearchTask<'a>,
+    inputs: &Inputs,
+    order: Order,
+) -> Result<Run, Fault<'a>>
+    ensures ok { IfOk result (IsRunFrom booted.now task.entry (given_of inputs.now) order) }
+    ensures fault { IfErr result (IsFaultFrom booted.now task.entry (given_of inputs.now)) }
+{
+    let policy = policy_of(task, inputs, order)?;
+    match judge_booted(
+        alloc,
+        booted,
+        &policy,
+        task.drive.events,
+        &inputs.watches,
+        inputs.output(),
+    ) {
+        Ok(run) => Ok(run),
+        Err(error) => Err(fault_of_audit(error)),
+    }
+}
