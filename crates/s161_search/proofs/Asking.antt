@@ -1,5 +1,5 @@
 use Rattle.std.proofs.Common.{◌≡◌, ◌⊎◌, ℕ, List, [], ◌∷◌, ◌++◌, Option, None, Some, Bor, inl, inr}
-use Rattle.std.specs.Prelude.{flat_map}
+use Rattle.std.specs.Prelude.{IfErr, Result, Ok, Err, flat_map}
 use Rattle.m161_audit.specs.declared.finding.AuditError.{AuditError}
 use Rattle.m161_audit.specs.declared.finding.AuditError.TheVariants as audit
 use Rattle.s161_base.proofs.Asking.{IsNoFile, asks_both, asks_none, boot_is_none, file_unread, refused}
@@ -59,3 +59,7 @@ run_is_none task given (Threads cause) h = tt
 run_is_none task given (Input why) h = tt
 run_is_none task given Word h = tt
 run_is_none task given Output h = tt
+
+pub if_run_is_none : {A : Type 0} (task : SearchTask) (given : Given) (result : Result A Fault) → IfErr result (IsRunFault task given) → IfErr result IsNoFile
+if_run_is_none task given (Ok x) h = tt
+if_run_is_none task given (Err fault) h = run_is_none task given fault h

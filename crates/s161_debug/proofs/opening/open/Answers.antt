@@ -1,6 +1,6 @@
 use Rattle.std.proofs.Common.{◌≡◌, inl, inr, refl, subst, sym, List, ℕ, IfSome}
 use Rattle.std.proofs.lemmas.Result.{err_from_is_err_and}
-use Rattle.s161_base.proofs.Asking.{asks_both, behind, image_unread, later}
+use Rattle.s161_base.proofs.Asking.{asks_both, after_all, image_unread, later}
 use Rattle.s161_base.specs.Asked.{image_files}
 use Rattle.s161_base.specs.declared.fault.Fault.TheVariants.{Memory}
 use Rattle.s161_base.specs.Samples.{image_file}
@@ -71,7 +71,7 @@ returns-in_err-style-clause-asks g c =
     let from = source_files c.args.task.source in
     let all = asks_both image from (asked c.args.files.now) (asked c.read_image.new.files) (asked c.open_image.new.files) c.in_ok-file.ensures.asks c.in_ok-booted.ensures.asks in
     let made = err_from_is_err_and c.from_residual-in_err-style.result c.from_residual-in_err-style.ensures.1 in
-    rw (made.1, made.2) (behind (debug_files c.args.task) (asked c.args.files.now) (asked c.open_image.new.files) Memory all tt)
+    rw (made.1, made.2) (after_all (debug_files c.args.task) (asked c.args.files.now) (asked c.open_image.new.files) Memory all tt)
 
 pub returns-clause-asks : goal.returns-clause-asks
 returns-clause-asks g c =

@@ -1,7 +1,7 @@
 use Rattle.std.proofs.Common.{◌≡◌, List, ℕ, [], ◌∷◌, IfSome, inl, inr, subst, sym}
 use Rattle.m161_machine.specs.declared.event.Event.{Event}
 use Rattle.std.proofs.lemmas.Result.{err_from_is_err_and}
-use Rattle.s161_base.proofs.Asking.{behind, file_unread}
+use Rattle.s161_base.proofs.Asking.{after_all, file_unread}
 use Rattle.s161_base.specs.Known.{IsText}
 use Rattle.s161_base.specs.Reading.{IsOfText}
 use Rattle.s161_debug.specs.Debugs.{Lists}
@@ -66,7 +66,7 @@ returns-in_err-listed-clause-asks g c =
     let asked = g.F.FileSource.asked in
     let made = err_from_is_err_and c.from_residual-in_err-listed.result c.from_residual-in_err-listed.ensures.1 in
     rw (made.1, made.2)
-    (behind (c.args.name.now ∷ []) (asked c.args.files.now) (asked c.read_text.new.files) c.in_err-listed.field-0.0 c.in_ok-text.ensures.asks
+    (after_all (c.args.name.now ∷ []) (asked c.args.files.now) (asked c.read_text.new.files) c.in_err-listed.field-0.0 c.in_ok-text.ensures.asks
     (list_is_none c.as_str.result.now c.in_err-listed.field-0.0 c.in_err-listed.ensures.fault))
 
 pub returns-clause-asks : goal.returns-clause-asks

@@ -5,7 +5,7 @@ use Rattle.m161_audit.specs.Audit.{Audits}
 use Rattle.m161_audit.specs.WatchText.{AreWatches}
 use Rattle.m161_machine.specs.History.{boot_fault}
 use Rattle.m161_text.specs.Lines.{lines_of}
-use Rattle.s161_base.proofs.Asking.{IsNoFile, asks_both, before_input, behind, file_unread, image_unread, input_is_none, later, none_before, schedule_is_none}
+use Rattle.s161_base.proofs.Asking.{IsNoFile, asks_both, before_input, after_all, file_unread, image_unread, input_is_none, later, none_before, schedule_is_none}
 use Rattle.s161_base.specs.Asked.{image_files}
 use Rattle.s161_base.specs.Reading.{IsOfText}
 use Rattle.s161_base.specs.declared.fault.Fault.TheVariants.{Memory}
@@ -152,7 +152,7 @@ returns-in_err-schedule-clause-asks g c =
     let all = asks_both (image_files c.args.task.image.now) (c.args.task.text.now ∷ []) (asked c.args.files.now) (asked c.read_image.new.files) (asked c.read_text.new.files) c.in_ok-file.ensures.asks c.in_ok-text.ensures.asks in
     let made = err_from_is_err_and c.from_residual-in_err-schedule.result c.from_residual-in_err-schedule.ensures.1 in
     rw (made.1, made.2)
-    (behind (audit_files c.args.task) (asked c.args.files.now) (asked c.read_text.new.files) c.in_err-schedule.field-0.0 all
+    (after_all (audit_files c.args.task) (asked c.args.files.now) (asked c.read_text.new.files) c.in_err-schedule.field-0.0 all
     (input_is_none (g.I.Read.remaining c.args.input.now) c.in_err-schedule.field-0.0 c.in_err-schedule.ensures.err))
 
 pub returns-in_err-schedule-clause-unread : goal.returns-in_err-schedule-clause-unread
@@ -168,7 +168,7 @@ returns-in_err-watches-clause-asks g c =
     let all = asks_both (image_files c.args.task.image.now) (c.args.task.text.now ∷ []) (asked c.args.files.now) (asked c.read_image.new.files) (asked c.read_text.new.files) c.in_ok-file.ensures.asks c.in_ok-text.ensures.asks in
     let made = err_from_is_err_and c.from_residual-in_err-watches.result c.from_residual-in_err-watches.ensures.1 in
     rw (made.1, made.2)
-    (behind (audit_files c.args.task) (asked c.args.files.now) (asked c.read_text.new.files) c.in_err-watches.field-0.0 all
+    (after_all (audit_files c.args.task) (asked c.args.files.now) (asked c.read_text.new.files) c.in_err-watches.field-0.0 all
     (watches_failed IsNoFile c.as_str.result.now c.in_err-watches.field-0.0 (λ n bad. tt) tt c.in_err-watches.ensures.fault))
 
 pub returns-in_err-watches-clause-unread : goal.returns-in_err-watches-clause-unread
@@ -184,7 +184,7 @@ returns-in_err-events-clause-asks g c =
     let all = asks_both (image_files c.args.task.image.now) (c.args.task.text.now ∷ []) (asked c.args.files.now) (asked c.read_image.new.files) (asked c.read_text.new.files) c.in_ok-file.ensures.asks c.in_ok-text.ensures.asks in
     let made = err_from_is_err_and c.from_residual-in_err-events.result c.from_residual-in_err-events.ensures.1 in
     rw (made.1, made.2)
-    (behind (audit_files c.args.task) (asked c.args.files.now) (asked c.read_text.new.files) c.in_err-events.field-0.0 all
+    (after_all (audit_files c.args.task) (asked c.args.files.now) (asked c.read_text.new.files) c.in_err-events.field-0.0 all
     (schedule_is_none c.as_str-2.result.now c.in_err-events.field-0.0 c.in_err-events.ensures.fault))
 
 pub returns-in_err-events-clause-unread : goal.returns-in_err-events-clause-unread
@@ -198,7 +198,7 @@ pub returns-in-Err-clause-asks : goal.returns-in-Err-clause-asks
 returns-in-Err-clause-asks g c =
     let asked = g.F.FileSource.asked in
     let all = asks_both (image_files c.args.task.image.now) (c.args.task.text.now ∷ []) (asked c.args.files.now) (asked c.read_image.new.files) (asked c.read_text.new.files) c.in_ok-file.ensures.asks c.in_ok-text.ensures.asks in
-    behind (audit_files c.args.task) (asked c.args.files.now) (asked c.read_text.new.files) c.fault_of_audit.result all
+    after_all (audit_files c.args.task) (asked c.args.files.now) (asked c.read_text.new.files) c.fault_of_audit.result all
     (subst IsNoFile (sym c.fault_of_audit.ensures) (audit_is_none c.in-Err.error))
 
 pub returns-in-Err-clause-unread : goal.returns-in-Err-clause-unread
@@ -211,7 +211,7 @@ returns-in_err-line-clause-asks g c =
     let asked = g.F.FileSource.asked in
     let all = asks_both (image_files c.args.task.image.now) (c.args.task.text.now ∷ []) (asked c.args.files.now) (asked c.read_image.new.files) (asked c.read_text.new.files) c.in_ok-file.ensures.asks c.in_ok-text.ensures.asks in
     let made = err_from_is_err_and c.from_residual-in_err-line.result c.from_residual-in_err-line.ensures.1 in
-    rw (made.1, made.2) (behind (audit_files c.args.task) (asked c.args.files.now) (asked c.read_text.new.files) Memory all tt)
+    rw (made.1, made.2) (after_all (audit_files c.args.task) (asked c.args.files.now) (asked c.read_text.new.files) Memory all tt)
 
 pub returns-in_err-line-clause-unread : goal.returns-in_err-line-clause-unread
 returns-in_err-line-clause-unread g c =

@@ -1,7 +1,7 @@
 use Rattle.std.proofs.Common.{◌∙◌, [], ◌∷◌, rules}
 use Rattle.std.proofs.lemmas.Result.{err_from_is_err_and}
 use Rattle.std.specs.Prelude.{flat_map, option_map, string_bytes}
-use Rattle.s161_base.proofs.Asking.{behind, image_unread, later}
+use Rattle.s161_base.proofs.Asking.{after_all, image_unread, later}
 use Rattle.s161_base.specs.Asked.{image_files, option_files}
 use Rattle.s161_base.specs.Samples.{image_file}
 use Rattle.s161_run.proofs.Keeping.{keys_unread}
@@ -84,7 +84,7 @@ returns-in_err-watches-clause-asks g c =
     let all = asks_all task a (asked c.read_image.new.files) (asked c.read_keys.new.files) (asked c.read_watches.new.files) e c.in_ok-file.ensures.asks c.in_ok-keys.ensures.asks c.in_ok-text.ensures.asks c.in_ok-output.ensures.asks in
     let made = err_from_is_err_and c.from_residual-in_err-watches.result c.from_residual-in_err-watches.ensures.1 in
     rw (made.1, made.2)
-    (behind (search_files task) a e c.in_err-watches.field-0.0 all (line_is_none (option_map string_bytes c.in_ok-text.text) c.in_err-watches.field-0.0 c.in_err-watches.ensures.fault))
+    (after_all (search_files task) a e c.in_err-watches.field-0.0 all (line_is_none (option_map string_bytes c.in_ok-text.text) c.in_err-watches.field-0.0 c.in_err-watches.ensures.fault))
 
 pub returns-clause-asks : goal.returns-clause-asks
 returns-clause-asks g c =

@@ -1,6 +1,6 @@
 use Rattle.std.proofs.Common.{◌≡◌, List, ℕ, IfSome, rules, subst, sym}
 use Rattle.std.proofs.lemmas.Result.{err_from_is_err_and}
-use Rattle.s161_base.proofs.Asking.{alone_unread, before_input, behind, input_is_none, none_before, schedule_is_none}
+use Rattle.s161_base.proofs.Asking.{alone_unread, before_input, after_all, input_is_none, none_before, schedule_is_none}
 use Rattle.s161_base.proofs.Failing.{schedule_failed}
 use Rattle.s161_base.specs.Asked.{image_files}
 use Rattle.s161_base.specs.Known.{IsText}
@@ -48,7 +48,7 @@ returns-in_err-schedule-clause-asks g c =
     let asked = g.F.FileSource.asked in
     let made = err_from_is_err_and c.from_residual-in_err-schedule.result c.from_residual-in_err-schedule.ensures.1 in
     rw (made.1, made.2)
-    (behind (image_files c.args.task.image.now) (asked c.args.files.now) (asked c.read_image.new.files) c.in_err-schedule.field-0.0 c.in_ok-file.ensures.asks
+    (after_all (image_files c.args.task.image.now) (asked c.args.files.now) (asked c.read_image.new.files) c.in_err-schedule.field-0.0 c.in_ok-file.ensures.asks
     (input_is_none (g.I.Read.remaining c.args.input.now) c.in_err-schedule.field-0.0 c.in_err-schedule.ensures.err))
 
 pub returns-in_err-schedule-clause-unread : goal.returns-in_err-schedule-clause-unread
@@ -63,7 +63,7 @@ returns-in_err-events-clause-asks g c =
     let asked = g.F.FileSource.asked in
     let made = err_from_is_err_and c.from_residual-in_err-events.result c.from_residual-in_err-events.ensures.1 in
     rw (made.1, made.2)
-    (behind (image_files c.args.task.image.now) (asked c.args.files.now) (asked c.read_image.new.files) c.in_err-events.field-0.0 c.in_ok-file.ensures.asks
+    (after_all (image_files c.args.task.image.now) (asked c.args.files.now) (asked c.read_image.new.files) c.in_err-events.field-0.0 c.in_ok-file.ensures.asks
     (schedule_is_none c.as_str.result.now c.in_err-events.field-0.0 c.in_err-events.ensures.fault))
 
 pub returns-in_err-events-clause-unread : goal.returns-in_err-events-clause-unread

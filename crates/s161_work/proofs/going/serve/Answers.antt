@@ -1,6 +1,6 @@
 use Rattle.std.proofs.Common.{subst, sym}
 use Rattle.std.proofs.lemmas.Result.{err_from_is_err_and}
-use Rattle.s161_base.proofs.Asking.{IsNoFile, behind, none_before}
+use Rattle.s161_base.proofs.Asking.{IsNoFile, after_all, none_before}
 use Rattle.s161_base.specs.Asked.{image_files}
 use Rattle.s161_base.specs.Samples.{image_file}
 use Rattle.s161_base.specs.Streams.{streams}
@@ -25,7 +25,7 @@ pub returns-in_err-line-clause-asks : goal.returns-in_err-line-clause-asks
 returns-in_err-line-clause-asks g c =
     let made = err_from_is_err_and c.from_residual-in_err-line.result c.from_residual-in_err-line.ensures.1 in
     rw (made.1, made.2)
-    (behind (image_files c.args.task.image.now) (g.F.FileSource.asked c.args.files.now) (g.F.FileSource.asked c.console.new.files) Memory c.in_ok-stop.ensures.asks tt)
+    (after_all (image_files c.args.task.image.now) (g.F.FileSource.asked c.args.files.now) (g.F.FileSource.asked c.console.new.files) Memory c.in_ok-stop.ensures.asks tt)
 
 pub returns-in_err-line-clause-before : goal.returns-in_err-line-clause-before
 returns-in_err-line-clause-before g c =
@@ -36,7 +36,7 @@ pub returns-in_err-send-clause-asks : goal.returns-in_err-send-clause-asks
 returns-in_err-send-clause-asks g c =
     let made = err_from_is_err_and c.from_residual-in_err-send.result c.from_residual-in_err-send.ensures.1 in
     rw (made.1, made.2)
-    (behind (image_files c.args.task.image.now) (g.F.FileSource.asked c.args.files.now) (g.F.FileSource.asked c.console.new.files) c.in_err-send.field-0.0 c.in_ok-stop.ensures.asks
+    (after_all (image_files c.args.task.image.now) (g.F.FileSource.asked c.args.files.now) (g.F.FileSource.asked c.console.new.files) c.in_err-send.field-0.0 c.in_ok-stop.ensures.asks
     (subst IsNoFile (sym c.in_err-send.ensures.err.0) tt))
 
 pub returns-in_err-send-clause-before : goal.returns-in_err-send-clause-before
