@@ -10,13 +10,21 @@
 //! belong to the frame whatever they are. A body above 16,384 bytes isn't kept.
 #![tactic(auto)]
 
+mod actions;
 mod body;
 mod frames;
 mod hex;
 mod laws;
+mod link;
+mod number;
 mod outgoing;
+mod packet;
+mod table;
 
 pub use body::Body;
 pub use frames::{Item, Reader};
 pub use laws::{frames_are_read, has_items, has_one_reading, items_stay};
+pub use link::{Duty, Link};
 pub use outgoing::frame;
+pub use packet::{Action, Actions, Change, Kind, Motion, Packet, Thread};
+pub use table::packet_of;
