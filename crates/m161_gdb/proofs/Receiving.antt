@@ -1,13 +1,13 @@
 -- What a link receives.
 use Rattle.std.proofs.Common.{◌≡◌, ℕ, List, [], ◌∷◌, Bool, true, false, cond, refl, sym, ap, ◌∙◌, Option, Some, None}
-use Rattle.std.specs.Prelude.{bytes_eq, not}
+use Rattle.std.specs.Prelude.{not}
 use Rattle.std.proofs.lemmas.Slice.Eq.{bytes_eq-Decides}
 use Rattle.m161_gdb.specs.declared.frames.Item.{Item}
 use Rattle.m161_gdb.specs.declared.frames.Item.TheVariants as items
 use Rattle.m161_gdb.specs.declared.link.Duty.{Duty}
 use Rattle.m161_gdb.specs.declared.link.Duty.TheVariants as duties
 use Rattle.m161_gdb.specs.declared.link.Link.{Link}
-use Rattle.m161_gdb.specs.Links.{HasReceived, HoldsBody, Receives, acknowledging, duty, duty_of_frame, is_end, is_last_word, is_same, repeats}
+use Rattle.m161_gdb.specs.Links.{HasReceived, HoldsBody, Receives, acknowledging, duty_of_frame, is_end, is_last_word, is_same}
 
 pub nothing_received : (link : Link) → link.acknowledging ≡ true → link.last ≡ None → HasReceived link []
 nothing_received link mode last = record {
@@ -81,7 +81,7 @@ repeated old new body true mode holds again same last =
       body = tt;
     }
 
-answered_mode : (t a : Bool) → a ≡ true → cond t false true ≡ cond t false a
+answered_mode : (t a : Bool) → a ≡ true → not t ≡ cond t false a
 answered_mode true a e = refl
 answered_mode false a e = sym e
 
