@@ -1,0 +1,4 @@
+pub mod Frames
+pub mod Links
+pub mod Packets
+pub mod helpers
