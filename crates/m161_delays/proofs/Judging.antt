@@ -4,7 +4,7 @@ use Rattle.m161_delays.specs.declared.runs.Judged.{Judged}
 use Rattle.m161_delays.specs.declared.runs.Judged.TheVariants.{Right, Wrong}
 use Rattle.m161_delays.specs.declared.walk.Found.{Found}
 use Rattle.m161_delays.specs.Lists.{ComesBefore, IsLess}
-use Rattle.m161_delays.specs.helpers.Judging.{IsJudged}
+use Rattle.m161_delays.specs.Runs.{IsJudged}
 use Rattle.m161_delays.specs.helpers.Walking.{IsFirstSo}
 
 -- What became of one run.

@@ -4,7 +4,7 @@ use Rattle.std.specs.Prelude.{Option, None, Some, ◌&&◌, ◌==◌, if◌then�
 use Rattle.m161_order.specs.Delays.{delay_fault}
 use Rattle.m161_order.specs.declared.delays.DelayError.{DelayError}
 use Rattle.m161_order.specs.declared.delays.DelayError.TheVariants.{TooMany, Descending}
-use Rattle.m161_delays.specs.Lists.{last_from}
+use Rattle.m161_delays.specs.helpers.Last.{last_from}
 
 -- The last number of a list.
 

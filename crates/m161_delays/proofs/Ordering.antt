@@ -2,7 +2,8 @@ use Rattle.std.proofs.Common.{◌≡◌, ◌∙◌, refl, ap, ℕ, ◌+◌, ◌<
 use Rattle.std.proofs.lemmas.Bool.Decides.{nat_tests}
 use Rattle.std.proofs.lemmas.List.Sums.{sum_by-cons}
 use Rattle.std.specs.Prelude.{◌==◌}
-use Rattle.m161_delays.specs.Lists.{IsAscendingFrom, IsLess, last_from, times}
+use Rattle.m161_delays.specs.Lists.{IsAscendingFrom, IsLess, times}
+use Rattle.m161_delays.specs.helpers.Last.{last_from}
 
 -- Ascending lists, and their order.
 

@@ -4,7 +4,8 @@ use Rattle.std.proofs.lemmas.List.{get_or-take, length-append}
 use Rattle.std.specs.Prelude.{nat_lt, slice_index}
 use Rattle.std.specs.List.{AllByRecursion}
 use Rattle.m161_delays.specs.declared.search.Class.{Class}
-use Rattle.m161_delays.specs.Lists.{AgreeBelow, IsAscendingFrom, IsUseful, last_from, times}
+use Rattle.m161_delays.specs.Lists.{AgreeBelow, IsAscendingFrom, IsUseful, times}
+use Rattle.m161_delays.specs.helpers.Last.{last_from}
 use Rattle.m161_delays.specs.Runs.{ChooseAlike, IsUsefulOf}
 use Rattle.m161_delays.proofs.Ordering.{ascending_front, ascending_more, times_append, times_below, times_one, times_other}
 

@@ -7,7 +7,8 @@ use Rattle.m161_order.specs.Delays.{delays_of}
 use Rattle.m161_delays.specs.declared.walk.Found.{Found}
 use Rattle.m161_delays.specs.declared.walk.Sums.{Sums}
 use Rattle.m161_delays.specs.declared.search.Class.{Class}
-use Rattle.m161_delays.specs.Lists.{ComesBefore, IsLess, last_from, times}
+use Rattle.m161_delays.specs.Lists.{ComesBefore, IsLess, times}
+use Rattle.m161_delays.specs.helpers.Last.{last_from}
 use Rattle.m161_delays.specs.Runs.{ChooseAlike, IsUsefulOf}
 use Rattle.m161_delays.specs.helpers.Walking.{AreCounted, IsBehind, IsBehindBelow, IsFirstSo, IsLonger, NextIsBelow, Walks}
 use Rattle.m161_delays.proofs.Counting.{counted_more, counted_none, counted_right, counted_same}

@@ -15,11 +15,6 @@ abbrev pub IsAscendingFrom : ℕ → List ℕ → Type 0
 IsAscendingFrom least [] = Unit {0}
 IsAscendingFrom least (n ∷ ns) = (least ≤ n) × IsAscendingFrom n ns
 
--- the last number, or this one where there is none
-abbrev pub last_from : ℕ → List ℕ → ℕ
-last_from least [] = least
-last_from least (n ∷ ns) = last_from n ns
-
 -- two lists have the same numbers below this one
 abbrev pub AgreeBelow : ℕ → List ℕ → List ℕ → Type 0
 AgreeBelow j a b = (i : ℕ) → i < j → times i a ≡ times i b

@@ -1,5 +1,7 @@
 use Rattle.std.specs.Prelude.{◌≡◌, ◌⊎◌, ℕ, ◌+◌, Bool, if◌then◌else◌, List, [], ◌∷◌, take}
 use Rattle.m161_delays.specs.declared.search.Class.{Class}
+use Rattle.m161_delays.specs.declared.runs.Judged.{Judged}
+use Rattle.m161_delays.specs.declared.runs.Judged.TheVariants.{Right, Wrong}
 use Rattle.m161_delays.specs.Lists.{AgreeBelow, ComesBefore, IsOf, IsUseful}
 use Rattle.std.specs.List.{AllByRecursion}
 
@@ -36,3 +38,8 @@ AreRight right [] cut = cut ≡ 0
 AreRight right (x ∷ xs) cut =
     (is_cut : Bool) × (rest : ℕ) × right x is_cut × (cut ≡ (if is_cut then rest + 1 else rest))
     × AreRight right xs rest
+
+-- what became of a run
+abbrev pub IsJudged : {W : Type 0} → (Bool → Type 0) → (W → Type 0) → Judged W → Type 0
+IsJudged right wrong (Right is_cut) = right is_cut
+IsJudged right wrong (Wrong what) = wrong what

@@ -1,3 +1,3 @@
 -- Definitions that only contracts of private functions, of the trait's methods, or proofs use.
-pub mod Judging
+pub mod Last
 pub mod Walking

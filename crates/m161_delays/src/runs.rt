@@ -18,8 +18,7 @@ pub enum Judged<W> {
 pub trait Runs {
     ghost use Rattle.std.specs.Prelude.{◌≡◌, ℕ, Bool, List, ◌++◌, IfErr, IfOk, OnOk};
     ghost use Rattle.m161_order.specs.Delays.{delays_of};
-    ghost use Rattle.m161_delays.specs.helpers.Judging.{IsJudged};
-    ghost use Rattle.m161_delays.specs.Runs.{ChooseAlike};
+    ghost use Rattle.m161_delays.specs.Runs.{ChooseAlike, IsJudged};
 
     /// How a run goes wrong.
     type Wrong: Drop;

@@ -2,7 +2,8 @@
 
 ghost use Rattle.std.specs.Prelude.{◌≡◌, ◌%◌, ◌^◌, if◌then◌else◌, ◌≤◌, ◌+◌, ◌++◌, ◌∷◌, [], ◌<◌, IfErr, IfOk, IfSome, MatchOption, Some, None, ℕ, length, slice_index};
 ghost use Rattle.m161_order.specs.Delays.{delays_of};
-ghost use Rattle.m161_delays.specs.Lists.{last_from, times};
+ghost use Rattle.m161_delays.specs.Lists.{times};
+ghost use Rattle.m161_delays.specs.helpers.Last.{last_from};
 ghost use Rattle.m161_delays.specs.Runs.{IsUsefulOf};
 ghost use Rattle.m161_delays.specs.helpers.Walking.{IsBehind, IsLonger, Walks};
 

@@ -5,8 +5,7 @@ use Rattle.m161_machine.specs.declared.event.Event.TheVariants.{Step, Key, Done}
 use Rattle.m161_machine.specs.declared.event.Refusal.{Refusal}
 use Rattle.m161_machine.specs.State.{State, next}
 use Rattle.m161_drive.specs.declared.cursor.Cursor.{Cursor}
-use Rattle.m161_drive.specs.declared.orders.OrderState.TheVariants.{ByDelays}
-use Rattle.m161_drive.specs.Choice.{chosen_with, cursor_at, taken}
+use Rattle.m161_drive.specs.Choice.{chosen_with, taken}
 use Rattle.m161_drive.specs.Policy.{Rules}
 use Rattle.m161_drive.specs.Ready.{ready, some_ready}
 
@@ -45,9 +44,3 @@ offers (suc n) rules keys c s =
     let choice = chosen_with rules (keys c.typed) c s in
     if s.board.off then []
     else with_place (is_place choice.0 s) (length (ready s)) (behind_choice choice.0 s choice.1 (offers n rules keys))
-
--- a new cursor of the order by turns of so many Steps with these delays
-abbrev pub delayed_at : Rules → ℕ → List ℕ → State → Cursor
-delayed_at rules steps numbers s = record (cursor_at rules s) {
-  order = ByDelays (record { turns = record { steps = steps; made = 0 }; left = numbers });
-}

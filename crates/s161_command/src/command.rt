@@ -18,7 +18,7 @@ use std::alloc::{AllocError, Global};
 use std::convert::AsStr;
 
 /// What `--version` tells.
-const VERSION: &str = "1.2";
+const VERSION: &str = "1.3";
 
 // A command, with these arguments added in turn.
 fn with_arguments<'a>(

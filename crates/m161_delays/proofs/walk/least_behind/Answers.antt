@@ -1,5 +1,5 @@
 use Rattle.std.proofs.Common.{◌∙◌, ap, sym}
-use Rattle.m161_delays.specs.Lists.{last_from}
+use Rattle.m161_delays.specs.helpers.Last.{last_from}
 use Rattle.m161_delays.proofs.Longer.{last_index, some_in}
 use Rattle.m161_delays.proofs.walk.least_behind.Goals as goal
 

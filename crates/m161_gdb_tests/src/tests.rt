@@ -1,0 +1,12 @@
+//! Tests of the lowest part of a server of GDB's protocol.
+
+mod frames;
+mod packets;
+
+use std::fmt::Debug;
+use std::process::Abort;
+
+/// Fails the test where a value isn't the expected one.
+pub(crate) fn same<T: PartialEq + Debug + Copy>(rt: &impl Abort, found: T, expected: T) {
+    assert_eq!(rt; found, expected);
+}
