@@ -40,22 +40,25 @@ _s161_offer() {
     commands) mapfile -t COMPREPLY < <(compgen -P "$before" -W "$_s161_commands" -- "$word") ;;
     words\ *) mapfile -t COMPREPLY < <(compgen -P "$before" -W "${kind#words }" -- "$word") ;;
     files*)
+        mapfile -t COMPREPLY < <(compgen -P "$before" -f -- "$word")
         # (where no file fits as it is written, as in a quoted word, the shell's own way is tried)
-        compopt -o filenames -o default 2>/dev/null
-        mapfile -t COMPREPLY < <(
-            compgen -P "$before" -f -- "$word"
-            compgen -P "$before" -W "${kind#files}" -- "$word"
-        )
+        compopt -o default 2>/dev/null
+        if [ ${#COMPREPLY[@]} -gt 0 ]; then compopt -o filenames 2>/dev/null; fi
+        mapfile -t -O ${#COMPREPLY[@]} COMPREPLY < <(compgen -P "$before" -W "${kind#files}" -- "$word")
         ;;
     esac
 }
 
-# The shell has words in COMP_WORDS, with `=` as one of its own unless COMP_WORDBREAKS lacks it.
+# In COMP_WORDS a `=`, and a `@` that begins a word, is a word of its own, unless COMP_WORDBREAKS lacks it.
+# Here a `@` goes with what follows it.
 _s161() {
-    local word=${COMP_WORDS[COMP_CWORD]} command='' valued='' ended='' place=0 k each kind options arguments
+    local words=() word command='' valued='' ended='' place=0 each kind options arguments
+    for each in "${COMP_WORDS[@]:1:COMP_CWORD}"; do
+        if [ ${#words[@]} -gt 0 ] && [ "${words[-1]}" = @ ]; then words[-1]+=$each; else words+=("$each"); fi
+    done
+    word=${words[-1]}
     COMPREPLY=()
-    for ((k = 1; k < COMP_CWORD; k++)); do
-        each=${COMP_WORDS[k]}
+    for each in "${words[@]:0:${#words[@]}-1}"; do
         if [ -n "$valued" ]; then
             if [ "$each" != = ]; then valued=''; fi
         elif [ -z "$ended" ] && [ "$each" = -- ]; then

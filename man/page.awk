@@ -70,12 +70,13 @@ function text_line(line) {
     if (line ~ /^ /) { block[++lines] = line; return }
     end_block()
     if (line == "") { open = 0; return }
-    if (!open) print ".PP"
+    if (!open && !headed) print ".PP"
     open = 1
+    headed = 0
     print roff(line)
 }
 function end_command() { end_block(); open = 0 }
-function heading(text) { print ".SH " text }
+function heading(text) { print ".SH " text; headed = 1 }
 
 { rows[NR] = $0 }
 $1 == "command" { order[++commands] = $3 }
@@ -123,6 +124,7 @@ END {
     heading("COMMANDS")
     for (k = 1; k <= commands; k++) {
         print ".SS " order[k]
+        headed = 0
         print roff(about[order[k]]) "."
         print ".PP"
         print usage_line(usage[order[k]])
