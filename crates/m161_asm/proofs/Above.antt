@@ -8,10 +8,10 @@ use Rattle.m161_asm.specs.declared.statement.ReadError.{ReadError}
 use Rattle.m161_asm.specs.declared.statement.ReadError.TheVariants as errors
 use Rattle.m161_asm.specs.Tokens.{Placed, tokens}
 use Rattle.m161_text.specs.Lines.{lines_of}
-use Rattle.m161_asm.specs.Lines.{◌>>=◌, Fault, Statement, SourceLine, sound, label_of, past_of, line_column, statement}
+use Rattle.m161_asm.specs.Lines.{◌>>=◌, SourceFault, Statement, SourceLine, sound, label_of, past_of, line_column, statement}
 use Rattle.m161_asm.specs.Text.{line_of, read_lines, line_in_place, new_label}
 use Rattle.m161_asm.specs.helpers.FirstPass.{label_checked, line_with}
-use Rattle.m161_asm.specs.helpers.Seen.{line_seen, above_of, fault_seen, IsTold, Yields, GoesOn}
+use Rattle.m161_asm.specs.helpers.Seen.{line_seen, above_of, fault_seen, TellsFault, Yields, GoesOn}
 use Rattle.m161_asm.specs.Answer.{Tells}
 use Rattle.m161_asm.specs.declared.first.FirstPass.{FirstPass}
 
@@ -63,14 +63,14 @@ pub gone : (above new : List SourceLine) (bytes : List ℕ) (below : List (List 
 unfolding read_lines
 gone above new bytes below l e d = rw (e, d) refl
 
-stopped : (above : List SourceLine) (bytes : List ℕ) (below : List (List ℕ)) (f : Fault)
+stopped : (above : List SourceLine) (bytes : List ℕ) (below : List (List ℕ)) (f : SourceFault)
     → line_of above (tokens bytes) ≡ Err f
     → read_lines above (bytes ∷ below) ≡ Err (1 + length above, f)
 unfolding read_lines
 stopped above bytes below f e = rw e refl
 
 pub told : (e : AsmError) (r : ReadError) (above : List SourceLine) (n : ℕ) (bytes : List ℕ)
-    (below : List (List ℕ)) (x : Result (List SourceLine) (ℕ × Fault)) → IsTold e n r
+    (below : List (List ℕ)) (x : Result (List SourceLine) (ℕ × SourceFault)) → TellsFault e n r
     → n ≡ length above + 1 → Yields {X = CodeLine} line_seen (Err r) (line_of above (tokens bytes))
     → GoesOn (Err e) (read_lines above (bytes ∷ below)) x
 told e errors.Memory above n bytes below x t d y = inl t
@@ -88,7 +88,7 @@ pub shorter : (rest : List ℕ) (n : ℕ) → 0 < length rest → n ≡ len rest
 shorter rest n h e = ap length (parted_at rest n h e) ∙ omega arith
 
 pub step_on : (above new : List SourceLine) (rest : List ℕ) (n : ℕ)
-    (whole : Result (List SourceLine) (ℕ × Fault)) → 0 < length rest → n ≡ len rest
+    (whole : Result (List SourceLine) (ℕ × SourceFault)) → 0 < length rest → n ≡ len rest
     → read_lines above (take n rest ∷ lines_of (drop (n + 1) rest))
     ≡ read_lines new (lines_of (drop (n + 1) rest)) → read_lines above (lines_of rest) ≡ whole
     → read_lines new (lines_of (drop (n + 1) rest)) ≡ whole
@@ -97,7 +97,7 @@ step_on above new rest n whole h e s k =
 
 pub step_off : (view : FirstPass → List SourceLine) (e : AsmError) (above : List SourceLine)
     (rest : List ℕ)
-    (n : ℕ) (after whole : Result (List SourceLine) (ℕ × Fault)) → 0 < length rest → n ≡ len rest
+    (n : ℕ) (after whole : Result (List SourceLine) (ℕ × SourceFault)) → 0 < length rest → n ≡ len rest
     → GoesOn (Err e) (read_lines above (take n rest ∷ lines_of (drop (n + 1) rest))) after
     → read_lines above (lines_of rest) ≡ whole → Tells view (Err e) whole
 step_off view e above rest n after whole h d (inl m) k = inl m
@@ -105,7 +105,7 @@ step_off view e above rest n after whole h d (inr f) k =
     inr (sym k ∙ ap (read_lines above) (parted_at rest n h d) ∙ f)
 
 pub at_end : (above : List SourceLine) (rest : List ℕ)
-    (whole : Result (List SourceLine) (ℕ × Fault))
+    (whole : Result (List SourceLine) (ℕ × SourceFault))
     → length rest ≤ 0 → read_lines above (lines_of rest) ≡ whole → whole ≡ Ok above
 unfolding read_lines
 at_end above [] whole h k = sym k
@@ -117,8 +117,8 @@ dropped_within [] (suc n) = omega arith
 dropped_within (b ∷ bs) zero = omega arith
 dropped_within (b ∷ bs) (suc n) = let d = dropped_within bs n in omega (arith, d)
 
-line_by : (a b : Result (Unit {0}) Fault) (c : Result Statement Fault) (f : Statement → SourceLine)
-    (g : SourceLine → Result SourceLine Fault)
+line_by : (a b : Result (Unit {0}) SourceFault) (c : Result Statement SourceFault) (f : Statement → SourceLine)
+    (g : SourceLine → Result SourceLine SourceFault)
     → (a >>= λ _. b >>= λ _. c >>= λ s. g (f s)) ≡ ((a >>= λ _. b) >>= λ _. (c >>= λ s. Ok (f s)) >>= g)
 line_by (Ok u) (Ok v) (Ok s) f g = refl
 line_by (Ok u) (Ok v) (Err e) f g = refl

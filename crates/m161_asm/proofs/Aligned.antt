@@ -1,7 +1,7 @@
 use Rattle.std.specs.Prelude.{ℕ, ◌+◌, ◌-◌, ◌*◌, ◌%◌, ◌^◌, Bool, true, false, cond, ◌&&◌, ◌==◌, List, [], ◌∷◌, ◌++◌, Option, None, Some, Result, Ok, Err}
 use Rattle.std.proofs.Common.{◌≡◌, refl, subst, arith}
 use Rattle.std.proofs.lemmas.Bool.Decides.{Decides-eqb}
-use Rattle.m161_asm.specs.Lines.{Fault, Value, Statement, Nothing, Origin, Space, Entry, Words, Code, Label, SourceLine, is_within, size_of}
+use Rattle.m161_asm.specs.Lines.{SourceFault, Value, Statement, Nothing, Origin, Space, Entry, Words, Code, Label, SourceLine, is_within, size_of}
 use Rattle.m161_asm.specs.Text.{Segment, address_below, address_from, origin_of, symbol, symbols_in, number_of_value, word_address, first_address, or_address, entry_by, entry_of}
 use Rattle.m161_asm.specs.helpers.Lawful.{IsStatement, Lawful}
 use Rattle.m161_asm.specs.Segments.{AreAligned, ArePlaced}
@@ -42,17 +42,17 @@ target_is_multiple symbols v n e =
     let a = bound (number_of_value symbols v) _ n e in
     by (is_within 0 (2 ^ 32 - 1) a.x) (a.x.0 - a.x.1) _ a.gives
   where
-    by : (t : Bool) (m : ℕ) (f : Fault)
-        → cond {A = Result ℕ Fault} (t && (m % 4 == 0)) (Ok m) (Err f) ≡ Ok n → n % 4 ≡ 0
+    by : (t : Bool) (m : ℕ) (f : SourceFault)
+        → cond {A = Result ℕ SourceFault} (t && (m % 4 == 0)) (Ok m) (Err f) ≡ Ok n → n % 4 ≡ 0
     by false m f d = cc
     by true m f d =
         elim (m % 4 == 0) as
-        (λ b. (m % 4 == 0) ≡ b → cond {A = Result ℕ Fault} b (Ok m) (Err f) ≡ Ok n → n % 4 ≡ 0) [
+        (λ b. (m % 4 == 0) ≡ b → cond {A = Result ℕ SourceFault} b (Ok m) (Err f) ≡ Ok n → n % 4 ≡ 0) [
           | true ↦ λ t g. subst (λ (k : ℕ). k % 4 ≡ 0) (same m n g) ((Decides-eqb (m % 4) 0).0 t)
           | false ↦ λ t g. cc
         ] refl d
 
-or_is_multiple : (a : ℕ) (r : Result ℕ Fault) → a % 4 ≡ 0 → ((n : ℕ) → r ≡ Ok n → n % 4 ≡ 0)
+or_is_multiple : (a : ℕ) (r : Result ℕ SourceFault) → a % 4 ≡ 0 → ((n : ℕ) → r ≡ Ok n → n % 4 ≡ 0)
     → or_address a r % 4 ≡ 0
 or_is_multiple a (Ok n) h f = f n refl
 or_is_multiple a (Err e) h f = h

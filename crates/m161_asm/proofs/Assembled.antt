@@ -5,7 +5,7 @@ use Rattle.m161_asm.specs.declared.first.FirstPass.{FirstPass}
 use Rattle.m161_asm.specs.declared.second.SecondPass.{SecondPass}
 use Rattle.m161_asm.specs.declared.program.Program.{Program as CodeProgram}
 use Rattle.m161_text.specs.Lines.{lines_of}
-use Rattle.m161_asm.specs.Lines.{◌>>=◌, Fault, SourceLine}
+use Rattle.m161_asm.specs.Lines.{◌>>=◌, SourceFault, SourceLine}
 use Rattle.m161_asm.specs.Text.{Segment, text, read_lines, symbols_in, segments_of, program_of, full, first_address, entry_of}
 use Rattle.m161_asm.specs.declared.statement.Line.{Line as CodeLine}
 use Rattle.m161_asm.specs.helpers.Seen.{above_of}
@@ -73,7 +73,7 @@ line_count ls b t q r =
     all ∙ ap (λ x. length (lines_of x)) q
 
 -- words come from a line
-abbrev first_len : Result (List Segment) (ℕ × Fault) → ℕ
+abbrev first_len : Result (List Segment) (ℕ × SourceFault) → ℕ
 first_len (Ok (s ∷ ss)) = length s.1
 first_len _ = 0
 

@@ -1,6 +1,6 @@
 use Rattle.std.specs.Prelude.{ℕ, zero, suc, ◌+◌, ◌-◌, List, [], ◌∷◌, ◌++◌, length, take, replicate, ◌*◌, Result, Ok, Err, unwrap_or, Option, Some, true, false, cond, nat_lt, reverse, filter}
 use Rattle.m161_asm.specs.declared.second.SecondPass.{SecondPass}
-use Rattle.m161_asm.specs.Lines.{Fault, SourceLine, Statement, size_of}
+use Rattle.m161_asm.specs.Lines.{SourceFault, SourceLine, Statement, size_of}
 use Rattle.m161_asm.specs.Text.{Segment, segments_of, opened_at, words_of_statement, address_below, address_from, entry_of, entry_by, origin_of, full}
 use Rattle.m161_asm.specs.helpers.Seen.{with_front, fault_seen, AddsNumbers}
 use Rattle.m161_asm.specs.declared.statement.ReadError.{ReadError}
@@ -27,12 +27,12 @@ padded xs new len n l e =
     sym (e ∙ rw (l, whole_taken xs n) (ap (λ k. xs ++ replicate k 0) (omega (arith, l))))
 
 -- the words of a line more
-record Read (front new : List ℕ) (read : Result (List ℕ) Fault) : Type 0 where
+record Read (front new : List ℕ) (read : Result (List ℕ) SourceFault) : Type 0 where
   pub words : List ℕ
   pub gives : read ≡ Ok words
   pub joined : front ++ words ≡ new
 
-read_of : (front new : List ℕ) (read : Result (List ℕ) Fault) → with_front front read ≡ Ok new
+read_of : (front new : List ℕ) (read : Result (List ℕ) SourceFault) → with_front front read ≡ Ok new
     → Read front new read
 read_of front new (Ok ws) e = record { words = ws; gives = refl; joined = cc }
 read_of front new (Err f) e = cc
@@ -73,7 +73,7 @@ filled_line symbols old mid new above l f w ca d a e v =
 
 pub stopped_line : (symbols : List (List ℕ × ℕ)) (old : SecondPass) (above : List SourceLine)
     (l : SourceLine)
-    (x : Fault) → IsFilled old symbols above
+    (x : SourceFault) → IsFilled old symbols above
     → words_of_statement symbols old.address l.statement ≡ Err x
     → segments_of symbols (l ∷ above) ≡ Err (length (l ∷ above), x)
 unfolding segments_of

@@ -2,7 +2,7 @@ use Rattle.std.specs.Prelude.{◌⊎◌, ℕ, zero, suc, ◌+◌, ◌*◌, ◌^�
 use Rattle.std.specs.List.{slice_index_or}
 use Rattle.std.proofs.Common.{◌≡◌, inl, inr, refl, ap, sym, ◌∙◌, arith}
 use Rattle.std.proofs.lemmas.Bool.Decides.{nat_tests}
-use Rattle.m161_asm.specs.declared.ground.Run.{Run}
+use Rattle.m161_asm.specs.declared.ground.AddressRun.{AddressRun}
 use Rattle.m161_asm.specs.declared.ground.Ground.{Ground}
 use Rattle.m161_asm.specs.helpers.Ground.{meet, meets, InOrder, Splits, limit_of, IsOrdered, HasFilled}
 use Rattle.m161_asm.specs.Text.{overlap}
@@ -10,13 +10,13 @@ use Rattle.m161_asm.specs.Text.{overlap}
 -- Runs of filled addresses.
 
 -- where a run begins
-pub limit_some : (runs : List Run) (d : Run) (k : ℕ) → k < length runs
+pub limit_some : (runs : List AddressRun) (d : AddressRun) (k : ℕ) → k < length runs
     → (slice_index_or runs k d).start ≡ limit_of (drop k runs)
 limit_some [] d k h = absurd (omega (arith, h))
 limit_some (r ∷ rs) d zero h = refl
 limit_some (r ∷ rs) d (suc k) h = limit_some rs d k (omega (arith, h))
 
-pub limit_none : (runs : List Run) (k : ℕ) → length runs ≤ k → 2 ^ 32 ≡ limit_of (drop k runs)
+pub limit_none : (runs : List AddressRun) (k : ℕ) → length runs ≤ k → 2 ^ 32 ≡ limit_of (drop k runs)
 limit_none [] zero h = refl
 limit_none [] (suc k) h = refl
 limit_none (r ∷ rs) zero h = absurd (omega (arith, h))
@@ -43,11 +43,11 @@ false_or : (b c : Bool) → b ≡ false → (b || c) ≡ c
 false_or true c e = cc
 false_or false c e = refl
 
-none_met : (runs : List Run) (a : ℕ) → meets runs a 0 ≡ false
+none_met : (runs : List AddressRun) (a : ℕ) → meets runs a 0 ≡ false
 none_met [] a = refl
 none_met (r ∷ rs) a = false_or _ _ (met_none r.start r.end a) ∙ none_met rs a
 
-behind_met : (runs : List Run) (low a n : ℕ) → InOrder low runs → a + 4 * n ≤ low
+behind_met : (runs : List AddressRun) (low a n : ℕ) → InOrder low runs → a + 4 * n ≤ low
     → meets runs a n ≡ false
 behind_met [] low a n o h = refl
 behind_met (r ∷ rs) low a n (p, q, o) h =
@@ -58,7 +58,7 @@ reached : (start e s a : ℕ) → start < e → s < e → (start ≡ a) ⊎ (a �
 reached start e s a h k (inl p) = omega (arith, h, p)
 reached start e s a h k (inr p) = omega (arith, k, p)
 
-first_met : (t : Bool) (rs : List Run) (s e a n : ℕ) → nat_lt s (a + 4 * n) ≡ t → s < e
+first_met : (t : Bool) (rs : List AddressRun) (s e a n : ℕ) → nat_lt s (a + 4 * n) ≡ t → s < e
     → InOrder e rs
     → ((nat_lt 0 n && nat_lt s (a + 4 * n)) || meets rs a n) ≡ (nat_lt 0 n && nat_lt s (a + 4 * n))
 first_met t rs s e a zero h k o = none_met rs a
@@ -69,7 +69,7 @@ first_met false rs s e a (suc n) h k o =
     let low : a + 4 * suc n ≤ s = grind (arith, nat_tests, h) in
     or_false _ _ (behind_met rs e a (suc n) o (omega (arith, low, k)))
 
-pub meets_at : (runs : List Run) (low k start a n : ℕ) → InOrder low runs → Splits start k runs
+pub meets_at : (runs : List AddressRun) (low k start a n : ℕ) → InOrder low runs → Splits start k runs
     → start ≤ a → (start ≡ a) ⊎ (a ≤ limit_of (drop k runs)) → a + 4 * n ≤ 2 ^ 32
     → meets runs a n ≡ (nat_lt 0 n && nat_lt (limit_of (drop k runs)) (a + 4 * n))
 meets_at [] low zero start a n o s h c w = grind (arith, nat_tests, w)
@@ -89,7 +89,7 @@ or_past true false d = refl
 or_past false true d = refl
 or_past false false d = refl
 
-pub meets-insert : (runs : List Run) (k : ℕ) (r : Run) (a n : ℕ) → k ≤ length runs
+pub meets-insert : (runs : List AddressRun) (k : ℕ) (r : AddressRun) (a n : ℕ) → k ≤ length runs
     → meets (insert runs k r) a n ≡ (meet r.start r.end a n || meets runs a n)
 meets-insert [] zero r a n h = refl
 meets-insert [] (suc k) r a n h = refl
@@ -98,13 +98,13 @@ meets-insert (q ∷ qs) (suc k) r a n h =
     ap (λ b. meet q.start q.end a n || b) (meets-insert qs k r a n (omega (arith, h)))
     ∙ or_past (meet q.start q.end a n) (meet r.start r.end a n) (meets qs a n)
 
-pub splits_within : (runs : List Run) (start k : ℕ) → Splits start k runs → k ≤ length runs
+pub splits_within : (runs : List AddressRun) (start k : ℕ) → Splits start k runs → k ≤ length runs
 splits_within [] start zero s = omega arith
 splits_within [] start (suc k) s = absurd s
 splits_within (r ∷ rs) start zero s = omega arith
 splits_within (r ∷ rs) start (suc k) (e, s) = let d = splits_within rs start k s in omega (arith, d)
 
-pub ordered-insert : (runs : List Run) (low k : ℕ) (r : Run) → InOrder low runs
+pub ordered-insert : (runs : List AddressRun) (low k : ℕ) (r : AddressRun) → InOrder low runs
     → Splits r.start k runs → low ≤ r.start → r.start < r.end → r.end ≤ limit_of (drop k runs)
     → InOrder low (insert runs k r)
 ordered-insert [] low zero r o s h k m = (h, k, tt)
@@ -114,14 +114,14 @@ ordered-insert (q ∷ qs) low (suc j) r (a, b, o) (e, s) h k m =
     (a, b, ordered-insert qs q.end j r o s e k m)
 
 -- the ends rise
-end_above : (runs : List Run) (low : ℕ) (d : Run) (i : ℕ) → InOrder low runs → i < length runs
+end_above : (runs : List AddressRun) (low : ℕ) (d : AddressRun) (i : ℕ) → InOrder low runs → i < length runs
     → low ≤ (slice_index_or runs i d).end
 end_above [] low d i o h = absurd (omega (arith, h))
 end_above (r ∷ rs) low d zero (p, q, o) h = omega (arith, p, q)
 end_above (r ∷ rs) low d (suc i) (p, q, o) h =
     let e = end_above rs r.end d i o (omega (arith, h)) in omega (arith, p, q, e)
 
-pub ends_rise : (runs : List Run) (low : ℕ) (d : Run) (i j : ℕ) → InOrder low runs → i ≤ j
+pub ends_rise : (runs : List AddressRun) (low : ℕ) (d : AddressRun) (i j : ℕ) → InOrder low runs → i ≤ j
     → j < length runs → (slice_index_or runs i d).end ≤ (slice_index_or runs j d).end
 ends_rise [] low d i j o h k = absurd (omega (arith, k))
 ends_rise (r ∷ rs) low d zero zero o h k = omega arith
@@ -130,7 +130,7 @@ ends_rise (r ∷ rs) low d (suc i) zero o h k = absurd (omega (arith, h))
 ends_rise (r ∷ rs) low d (suc i) (suc j) (p, q, o) h k =
     ends_rise rs r.end d i j o (omega (arith, h)) (omega (arith, k))
 
-pub splits_by : (runs : List Run) (start k : ℕ) (d : Run) → k ≤ length runs
+pub splits_by : (runs : List AddressRun) (start k : ℕ) (d : AddressRun) → k ≤ length runs
     → ((i : ℕ) → i < k → (slice_index_or runs i d).end ≤ start)
     → ((i : ℕ) → k ≤ i → i < length runs → start < (slice_index_or runs i d).end)
     → Splits start k runs
@@ -182,7 +182,7 @@ filled_else g address size o w h filled f =
     t ∙ sym (rw t at e)
 
 -- a run is closed, and the next line stands elsewhere
-elsewhere : (g : Ground) (end start a n : ℕ) (filled : ℕ → ℕ → Bool) (runs : List Run)
+elsewhere : (g : Ground) (end start a n : ℕ) (filled : ℕ → ℕ → Bool) (runs : List AddressRun)
     → HasFilled g end filled → meets runs a n ≡ (meet g.start end a n || meets g.runs.items a n)
     → filled a n ≡ (meet start start a n || meets runs a n)
 elsewhere g end start a n filled runs f e = f a n ∙ sym e ∙ sym (false_or _ _ (empty_met start a n))
@@ -191,19 +191,19 @@ elsewhere g end start a n filled runs f e = f a n ∙ sym e ∙ sym (false_or _ 
     empty_met s a n = grind (arith, nat_tests)
 
 -- the search by halves
-same_at : (runs : List Run) (i : ℕ) (d e : Run) → i < length runs
+same_at : (runs : List AddressRun) (i : ℕ) (d e : AddressRun) → i < length runs
     → slice_index_or runs i d ≡ slice_index_or runs i e
 same_at [] i d e h = absurd (omega (arith, h))
 same_at (r ∷ rs) zero d e h = refl
 same_at (r ∷ rs) (suc i) d e h = same_at rs i d e (omega (arith, h))
 
-pub below_middle : (runs : List Run) (start m i : ℕ) (d e : Run) → InOrder 0 runs → m < length runs
+pub below_middle : (runs : List AddressRun) (start m i : ℕ) (d e : AddressRun) → InOrder 0 runs → m < length runs
     → (slice_index_or runs m e).end ≤ start → i < m + 1 → (slice_index_or runs i d).end ≤ start
 below_middle runs start m i d e o h k l =
     let r = ends_rise runs 0 e i m o (omega (arith, l)) h in
     rw (same_at runs i d e (omega (arith, l, h))) (omega (arith, r, k))
 
-pub above_middle : (runs : List Run) (start m i : ℕ) (d e : Run) → InOrder 0 runs
+pub above_middle : (runs : List AddressRun) (start m i : ℕ) (d e : AddressRun) → InOrder 0 runs
     → start < (slice_index_or runs m e).end → m ≤ i → i < length runs
     → start < (slice_index_or runs i d).end
 above_middle runs start m i d e o k l h =

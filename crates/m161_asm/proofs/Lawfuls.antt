@@ -6,7 +6,7 @@ use Rattle.m161_isa.specs.declared.operand.Operand.{Operand}
 use Rattle.m161_isa.specs.declared.operand.Operand.TheVariants as operand
 use Rattle.m161_isa.specs.Table.{table, width_of, AreOperands}
 use Rattle.m161_asm.specs.Tokens.{Placed, Name, Directive, Register, tokens}
-use Rattle.m161_asm.specs.Lines.{◌>>=◌, Fault, Whole, Value, Part, Field, BranchTo, JumpTo, Parsed, Statement, Nothing, Origin, Space, Entry, Words, Code, SourceLine, register, wrong, whole, is_within, bits_of_whole, part, immediate, register_part, base, target, mark, value, comma, comma_and_part, end_of_line, operand_parts, plain_number, multiple, origin_statement, space_statement, entry_statement, words_statement, unknown, values, directive_statement, row_named, instruction, name_statement, statement, label_of, sound, past_of, line_column, size_of}
+use Rattle.m161_asm.specs.Lines.{◌>>=◌, SourceFault, Whole, Value, Part, Field, BranchTo, JumpTo, Parsed, Statement, Nothing, Origin, Space, Entry, Words, Code, SourceLine, register, wrong, whole, is_within, bits_of_whole, part, immediate, register_part, base, target, mark, value, comma, comma_and_part, end_of_line, operand_parts, plain_number, multiple, origin_statement, space_statement, entry_statement, words_statement, unknown, values, directive_statement, row_named, instruction, name_statement, statement, label_of, sound, past_of, line_column, size_of}
 use Rattle.m161_asm.specs.Text.{count_words, segments_in, address_below, line_in_place, is_outside, is_filled, new_label, line_of, on_line, read_lines, word_address, distance, field_of, each}
 use Rattle.m161_asm.specs.helpers.Lawful.{IsPart, AreParts, IsStatement, HasPlace, Lawful}
 
@@ -62,7 +62,7 @@ immediate_is o low high width past ts x w p e =
     let b = bound (whole past ts) _ x e in
     by (is_within low high b.x.0) b.x.0 b.x.1 _ b.gives
   where
-    by : (t : Bool) (n : Whole) (us : List Placed) (f : Fault)
+    by : (t : Bool) (n : Whole) (us : List Placed) (f : SourceFault)
         → cond {A = Parsed Part} t (Ok (Field (bits_of_whole width n), us)) (Err f) ≡ Ok x
         → IsPart o x.0
     by true n us f d =
@@ -127,7 +127,7 @@ multiple_is past ts x e =
     let a = bound (plain_number past ts) _ x e in
     by a.x _ a.gives
   where
-    by : (y : ℕ × List Placed) (f : Fault)
+    by : (y : ℕ × List Placed) (f : SourceFault)
         → cond {A = Parsed ℕ} (y.0 % 4 == 0) (Ok y) (Err f) ≡ Ok x → x.0 % 4 ≡ 0
     by y f d =
         elim (y.0 % 4 == 0) as
@@ -159,7 +159,7 @@ words_is past ts s e =
     let a = bound (values (length ts) past ts) _ s e in
     subst IsStatement (same (Words a.x) s a.gives) tt
 
-directive_by : (s : Statement) (t u v w : Bool) (a b c d : Result Statement Fault) (column : ℕ)
+directive_by : (s : Statement) (t u v w : Bool) (a b c d : Result Statement SourceFault) (column : ℕ)
     → (a ≡ Ok s → IsStatement s) → (b ≡ Ok s → IsStatement s) → (c ≡ Ok s → IsStatement s)
     → (d ≡ Ok s → IsStatement s) → cond t a (cond u b (cond v c (cond w d (unknown column)))) ≡ Ok s
     → IsStatement s
@@ -205,10 +205,10 @@ record Placement (above : List SourceLine) (l m : SourceLine) : Type 0 where
   pub outside : is_outside above l ≡ false
   pub free : is_filled above (address_below above) (size_of l.statement) ≡ false
 
-placed_by : (above : List SourceLine) (l m : SourceLine) (t u : Bool) (e f : Fault)
+placed_by : (above : List SourceLine) (l m : SourceLine) (t u : Bool) (e f : SourceFault)
     → is_outside above l ≡ t
     → is_filled above (address_below above) (size_of l.statement) ≡ u
-    → cond {A = Result SourceLine Fault} t (Err e) (cond u (Err f) (Ok l)) ≡ Ok m
+    → cond {A = Result SourceLine SourceFault} t (Err e) (cond u (Err f) (Ok l)) ≡ Ok m
     → Placement above l m
 placed_by above l m true u e f g h d = cc
 placed_by above l m false true e f g h d = cc
@@ -271,7 +271,7 @@ read_is above (t ∷ texts) all e h =
     (line_is above (tokens t) b.x
     (off (1 + length above) b.x (line_of above (tokens t)) b.read) h)
   where
-    off : (n : ℕ) (x : SourceLine) (r : Result SourceLine Fault) → on_line n r ≡ Ok x → r ≡ Ok x
+    off : (n : ℕ) (x : SourceLine) (r : Result SourceLine SourceFault) → on_line n r ≡ Ok x → r ≡ Ok x
     off n x (Ok y) d = cc
     off n x (Err f) d = cc
 
@@ -296,16 +296,16 @@ field_small symbols at o (BranchTo v) n h e =
     by (nat_lt (distance at b.x) 0x20000 || nat_le 0xfffe0000 (distance at b.x))
     (distance at b.x) _ b.gives
   where
-    by : (t : Bool) (d : ℕ) (f : Fault)
-        → cond {A = Result ℕ Fault} t (Ok (d / 4 % 2 ^ 16)) (Err f) ≡ Ok n → n < 2 ^ width_of o
+    by : (t : Bool) (d : ℕ) (f : SourceFault)
+        → cond {A = Result ℕ SourceFault} t (Ok (d / 4 % 2 ^ 16)) (Err f) ≡ Ok n → n < 2 ^ width_of o
     by true d f g = let q = same (d / 4 % 2 ^ 16) n g in omega (arith, q, h)
     by false d f g = cc
 field_small symbols at o (JumpTo v) n h e =
     let b = bound (word_address symbols v) _ n e in
     by (b.x / 2 ^ 28 == (at + 4) % 2 ^ 32 / 2 ^ 28) b.x _ b.gives
   where
-    by : (t : Bool) (d : ℕ) (f : Fault)
-        → cond {A = Result ℕ Fault} t (Ok (d / 4 % 2 ^ 26)) (Err f) ≡ Ok n → n < 2 ^ width_of o
+    by : (t : Bool) (d : ℕ) (f : SourceFault)
+        → cond {A = Result ℕ SourceFault} t (Ok (d / 4 % 2 ^ 26)) (Err f) ≡ Ok n → n < 2 ^ width_of o
     by true d f g = let q = same (d / 4 % 2 ^ 26) n g in omega (arith, q, h)
     by false d f g = cc
 

@@ -7,7 +7,7 @@ use Rattle.m161_asm.specs.declared.statement.ReadError.TheVariants as errors
 use Rattle.std.specs.Global.{Global}
 use Rattle.std.specs.Prelude.{Vec}
 use Rattle.m161_asm.specs.Tokens.{Placed}
-use Rattle.m161_asm.specs.Lines.{◌>>=◌, Fault, Parsed, Value, value, values, further, mark, wrong}
+use Rattle.m161_asm.specs.Lines.{◌>>=◌, SourceFault, Parsed, Value, value, values, further, mark, wrong}
 use Rattle.m161_asm.specs.helpers.Readers.{has_mark, joined, Joins}
 use Rattle.m161_asm.specs.helpers.Seen.{with_front, value_seen, all_seen, rest_seen, Yields}
 use Rattle.m161_asm.specs.declared.token.Placed.{Placed as CodePlaced}
@@ -17,14 +17,14 @@ use Rattle.m161_asm.proofs.Readers.{mark_is}
 -- The values of `.word`, one after the other.
 
 -- what a comma leads to
-further_next : (f : List Placed → Result (List Value) Fault) (past : ℕ) (rest : List Placed)
+further_next : (f : List Placed → Result (List Value) SourceFault) (past : ℕ) (rest : List Placed)
     → 0 < length rest → has_mark 44 rest ≡ true → further f past rest ≡ f (drop 1 rest)
 further_next f past [] h m = absurd (omega (arith, h))
 further_next f past (t ∷ ts) h m =
     let d : mark 44 past (t ∷ ts) ≡ Ok (drop 1 (t ∷ ts)) = rw m at (mark_is 44 past (t ∷ ts)) in
     ap (λ x. x >>= f) d
 
-further_none : (f : List Placed → Result (List Value) Fault) (past : ℕ) (rest : List Placed)
+further_none : (f : List Placed → Result (List Value) SourceFault) (past : ℕ) (rest : List Placed)
     → 0 < length rest → has_mark 44 rest ≡ false → further f past rest ≡ wrong past rest
 further_none f past [] h m = absurd (omega (arith, h))
 further_none f past (t ∷ ts) h m =
@@ -36,7 +36,7 @@ same_ok x y r d e = cc
 
 -- a value that is read, and those behind it
 stepped : (read : Parsed Value) (front all : List Value) (rest : List Placed)
-    (f : List Placed → Result (List Value) Fault) → joined front read ≡ Ok (all, rest)
+    (f : List Placed → Result (List Value) SourceFault) → joined front read ≡ Ok (all, rest)
     → with_front front (read >>= λ v. f v.1 >>= λ vs. Ok (v.0 ∷ vs)) ≡ with_front all (f rest)
 stepped (Ok v) front all rest f e =
     let x : List Value × List Placed = (front ++ (v.0 ∷ []), v.1) in
@@ -60,7 +60,7 @@ spared : (n i : ℕ) → i < n → n - i ≡ suc (n - (i + 1))
 spared n i h = omega (arith, h)
 
 pub one_more : (n i past : ℕ) (front all : List Value) (ts rest : List Placed)
-    (whole : Result (List Value) Fault) → i < n → joined front (value past ts) ≡ Ok (all, rest)
+    (whole : Result (List Value) SourceFault) → i < n → joined front (value past ts) ≡ Ok (all, rest)
     → 0 < length rest → has_mark 44 rest ≡ true
     → with_front front (values (n - i) past ts) ≡ whole
     → with_front all (values (n - (i + 1)) past (drop 1 rest)) ≡ whole
@@ -72,7 +72,7 @@ one_more n i past front all ts rest whole h e s m k =
     sym (a ∙ ap (with_front all) b) ∙ d
 
 pub last_one : (n i past : ℕ) (front all : List Value) (ts : List Placed)
-    (whole : Result (List Value) Fault) → i < n → joined front (value past ts) ≡ Ok (all, [])
+    (whole : Result (List Value) SourceFault) → i < n → joined front (value past ts) ≡ Ok (all, [])
     → with_front front (values (n - i) past ts) ≡ whole → whole ≡ Ok all
 last_one n i past front all ts whole h e k =
     let d : with_front front (values (suc (n - (i + 1))) past ts)
@@ -81,7 +81,7 @@ last_one n i past front all ts whole h e k =
 
 -- the reader's error is that of the values
 pub bad_value : (e : ReadError) (n i past : ℕ) (old new : List CodeValue) (ts : List Placed)
-    (whole : Result (List Value) Fault) → i < n
+    (whole : Result (List Value) SourceFault) → i < n
     → Joins value_seen rest_seen (Err e) old new (value past ts)
     → with_front (map value_seen old) (values (n - i) past ts) ≡ whole
     → Yields (λ (vs : Vec CodeValue Global). map value_seen vs.items) (Err e) whole
@@ -93,7 +93,7 @@ bad_value (errors.Fault f) n i past old new ts whole h j k =
     sym d ∙ rw j refl
 
 pub bad_comma : (n i past : ℕ) (front all : List Value) (ts rest : List Placed)
-    (whole : Result (List Value) Fault) → i < n → joined front (value past ts) ≡ Ok (all, rest)
+    (whole : Result (List Value) SourceFault) → i < n → joined front (value past ts) ≡ Ok (all, rest)
     → 0 < length rest → has_mark 44 rest ≡ false
     → with_front front (values (n - i) past ts) ≡ whole → whole ≡ wrong past rest
 bad_comma n i past front all ts rest whole h e s m k =
@@ -103,7 +103,7 @@ bad_comma n i past front all ts rest whole h e s m k =
     ∙ ap (with_front all) (further_none (λ us. values (n - (i + 1)) past us) past rest s m)
 
 pub none_left : (n i past : ℕ) (front : List Value) (ts : List Placed)
-    (whole : Result (List Value) Fault) → n ≤ i → with_front front (values (n - i) past ts) ≡ whole
+    (whole : Result (List Value) SourceFault) → n ≤ i → with_front front (values (n - i) past ts) ≡ whole
     → whole ≡ wrong past ts
 unfolding values
 none_left n i past front ts whole h k =

@@ -3,7 +3,7 @@ use Rattle.std.specs.List.{AllByRecursion}
 use Rattle.std.proofs.Common.{◌≡◌, zero, suc, refl, ap, sym, ◌∙◌, subst, arith}
 use Rattle.std.proofs.lemmas.Bool.Decides.{nat_tests}
 use Rattle.std.proofs.lemmas.List.{length-append}
-use Rattle.m161_asm.specs.Lines.{Fault, Statement, Nothing, Origin, Space, Entry, Words, Code, SourceLine, size_of}
+use Rattle.m161_asm.specs.Lines.{SourceFault, Statement, Nothing, Origin, Space, Entry, Words, Code, SourceLine, size_of}
 use Rattle.m161_asm.specs.Text.{Segment, overlap, address_below, count_words, has_words, segments_in, new_segments, is_filled, origin_of, opened_at, onto_last, on_line, each, word_of_value, field_of, word_address, words_of_statement, segments_of, full}
 use Rattle.m161_asm.specs.helpers.Lawful.{IsStatement, HasPlace, Lawful}
 use Rattle.m161_asm.specs.Segments as segments
@@ -15,7 +15,7 @@ use Rattle.m161_asm.proofs.Lawfuls.{bound, same}
 -- The segments of lawful lines keep the limits.
 
 -- a statement has as many words as it takes
-each_len : {A : Type 0} (f : A → Result ℕ Fault) (xs : List A) (ns : List ℕ) → each f xs ≡ Ok ns
+each_len : {A : Type 0} (f : A → Result ℕ SourceFault) (xs : List A) (ns : List ℕ) → each f xs ≡ Ok ns
     → length ns ≡ length xs
 each_len f [] ns e = ap length (sym (same [] ns e))
 each_len f (x ∷ xs) ns e =
@@ -102,7 +102,7 @@ full_len s older =
     ∙ ap (λ n. length (full older) + n) (full_one s)
 
 -- what the segments of lines have, the last one first
-record Kept (all : List SourceLine) (s : Segment) (older : List Segment) : Type 0 where
+record HasSegments (all : List SourceLine) (s : Segment) (older : List Segment) : Type 0 where
   pub end : s.0 + 4 * length s.1 ≡ address_below all
   pub ended : IsEnded s
   pub olds : AllByRecursion IsEnded older
@@ -112,9 +112,9 @@ record Kept (all : List SourceLine) (s : Segment) (older : List Segment) : Type 
   pub covers : (a n : ℕ) → is_filled all a n ≡ any (s ∷ older) a n
   pub apart : AreApart (s ∷ older)
 
-abbrev KeptAll : List SourceLine → List Segment → Type 0
-KeptAll all [] = ⊥
-KeptAll all (s ∷ older) = Kept all s older
+abbrev HaveSegments : List SourceLine → List Segment → Type 0
+HaveSegments all [] = ⊥
+HaveSegments all (s ∷ older) = HasSegments all s older
 
 longer : (len m : ℕ) → nat_lt 0 (len + m) ≡ (nat_lt 0 m || nat_lt 0 len)
 longer len m = grind (arith, nat_tests)
@@ -127,8 +127,8 @@ counted len m k = grind (arith, nat_tests)
 -- a line's words join the last segment
 joined : (above : List SourceLine) (l : SourceLine) (s : Segment) (older : List Segment)
     (ws : List ℕ)
-    → Kept above s older → length ws ≡ size_of l.statement → HasPlace above l
-    → Kept (record { label = l.label; statement = Space (size_of l.statement); column = l.column }
+    → HasSegments above s older → length ws ≡ size_of l.statement → HasPlace above l
+    → HasSegments (record { label = l.label; statement = Space (size_of l.statement); column = l.column }
     ∷ above) (s.0, s.1 ++ ws) older
 unfolding address_below is_filled
 joined above l s older ws k n i =
@@ -171,7 +171,7 @@ words_only l = record {
 
 -- a line that stays in the segment, and one that opens another
 stays : (above : List SourceLine) (l : SourceLine) (s : Segment) (older : List Segment)
-    → origin_of l.statement ≡ None → Kept (words_only l ∷ above) s older → Kept (l ∷ above) s older
+    → origin_of l.statement ≡ None → HasSegments (words_only l ∷ above) s older → HasSegments (l ∷ above) s older
 unfolding address_below is_filled
 stays above l s older o k =
     record {
@@ -186,8 +186,8 @@ stays above l s older o k =
     }
 
 leaves : (above : List SourceLine) (l : SourceLine) (n : ℕ) (s : Segment) (older : List Segment)
-    → origin_of l.statement ≡ Some n → n % 4 ≡ 0 → Kept (words_only l ∷ above) s older
-    → Kept (l ∷ above) (n, []) (s ∷ older)
+    → origin_of l.statement ≡ Some n → n % 4 ≡ 0 → HasSegments (words_only l ∷ above) s older
+    → HasSegments (l ∷ above) (n, []) (s ∷ older)
 unfolding address_below is_filled
 leaves above l n s older o w k =
     record {
@@ -211,32 +211,32 @@ origin_multiple (Code r ps) n h e = cc
 
 line_on : (above : List SourceLine) (l : SourceLine) (s : Segment) (older : List Segment)
     (ws : List ℕ)
-    (o : Option ℕ) → origin_of l.statement ≡ o → Kept above s older
+    (o : Option ℕ) → origin_of l.statement ≡ o → HasSegments above s older
     → length ws ≡ size_of l.statement → HasPlace above l
-    → KeptAll (l ∷ above) (opened_at o ((s.0, s.1 ++ ws) ∷ older))
+    → HaveSegments (l ∷ above) (opened_at o ((s.0, s.1 ++ ws) ∷ older))
 line_on above l s older ws None o k n i =
     stays above l (s.0, s.1 ++ ws) older o (joined above l s older ws k n i)
 line_on above l s older ws (Some x) o k n i =
     leaves above l x (s.0, s.1 ++ ws) older o (origin_multiple l.statement x i.statement o)
     (joined above l s older ws k n i)
 
-off : (n : ℕ) (x : List ℕ) (r : Result (List ℕ) Fault) → on_line n r ≡ Ok x → r ≡ Ok x
+off : (n : ℕ) (x : List ℕ) (r : Result (List ℕ) SourceFault) → on_line n r ≡ Ok x → r ≡ Ok x
 off n x (Ok y) d = cc
 off n x (Err f) d = cc
 
 line_all : (above : List SourceLine) (l : SourceLine) (ss : List Segment) (ws : List ℕ)
-    → KeptAll above ss
+    → HaveSegments above ss
     → length ws ≡ size_of l.statement → HasPlace above l
-    → KeptAll (l ∷ above) (opened_at (origin_of l.statement) (onto_last ws ss))
+    → HaveSegments (l ∷ above) (opened_at (origin_of l.statement) (onto_last ws ss))
 line_all above l [] ws k n i = absurd k
 line_all above l (s ∷ older) ws k n i =
     line_on above l s older ws (origin_of l.statement) refl k n i
 
 kept : (symbols : List (List ℕ × ℕ)) (all : List SourceLine) (ss : List Segment)
-    → segments_of symbols all ≡ Ok ss → Lawful all → KeptAll all ss
+    → segments_of symbols all ≡ Ok ss → Lawful all → HaveSegments all ss
 unfolding segments_of address_below is_filled
 kept symbols [] ss e h =
-    subst (KeptAll []) (same ((0x80000200, []) ∷ []) ss e)
+    subst (HaveSegments []) (same ((0x80000200, []) ∷ []) ss e)
     (record {
       end = refl;
       ended = (refl, λ p. absurd (omega (arith, p)));
@@ -254,7 +254,7 @@ kept symbols (l ∷ above) ss e (i, h) =
     a.gives in
     let ws = off (1 + length above) b.x
     (words_of_statement symbols (address_below above) l.statement) b.read in
-    subst (KeptAll (l ∷ above))
+    subst (HaveSegments (l ∷ above))
     (same (opened_at (origin_of l.statement) (onto_last b.x a.x)) ss b.gives)
     (line_all above l a.x b.x (kept symbols above a.x a.read h)
     (words_len symbols (address_below above) l.statement b.x ws) i)
@@ -342,7 +342,7 @@ pub are_segments : (symbols : List (List ℕ × ℕ)) (all : List SourceLine) (s
     (older : List Segment) → segments_of symbols all ≡ Ok (s ∷ older) → Lawful all
     → AreSegments (full (s ∷ older))
 are_segments symbols all s older e h =
-    let k : Kept all s older = kept symbols all (s ∷ older) e h in
+    let k : HasSegments all s older = kept symbols all (s ∷ older) e h in
     let m = limits all h in
     let t = total_full (s ∷ older) in
     record {

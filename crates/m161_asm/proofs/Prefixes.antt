@@ -8,10 +8,10 @@ use Rattle.m161_asm.specs.declared.statement.ReadError.TheVariants as errors
 use Rattle.m161_asm.specs.declared.error.AsmError.{AsmError}
 use Rattle.m161_asm.specs.declared.error.ErrorKind.TheVariants as faults
 use Rattle.m161_asm.specs.declared.second.SecondPass.{SecondPass}
-use Rattle.m161_asm.specs.Lines.{Fault, SourceLine}
+use Rattle.m161_asm.specs.Lines.{SourceFault, SourceLine}
 use Rattle.m161_asm.specs.Text.{segments_of}
 use Rattle.m161_asm.specs.helpers.Lawful.{Lawful}
-use Rattle.m161_asm.specs.helpers.Seen.{line_seen, above_of, IsTold}
+use Rattle.m161_asm.specs.helpers.Seen.{line_seen, above_of, TellsFault}
 use Rattle.m161_asm.specs.helpers.SecondPass.{FillsLine, IsFilled}
 use Rattle.m161_asm.proofs.Above.{took, above_len}
 
@@ -62,14 +62,14 @@ lawful_at ls d i h l =
     (subst Lawful (sym (above_at ls (i + 1))) l))
 
 -- a fault stays, whatever stands below
-faulty : (symbols : List (List ℕ × ℕ)) (xs ys : List SourceLine) (e : ℕ × Fault)
+faulty : (symbols : List (List ℕ × ℕ)) (xs ys : List SourceLine) (e : ℕ × SourceFault)
     → segments_of symbols ys ≡ Err e → segments_of symbols (xs ++ ys) ≡ Err e
 unfolding segments_of
 faulty symbols [] ys e h = h
 faulty symbols (x ∷ xs) ys e h = rw (faulty symbols xs ys e h) refl
 
 pub told_pass : (e : AsmError) (r : ReadError) (symbols : List (List ℕ × ℕ)) (ls : List CodeLine)
-    (d : CodeLine) (i : ℕ) (new : SecondPass) → IsTold e (i + 1) r → i < length ls
+    (d : CodeLine) (i : ℕ) (new : SecondPass) → TellsFault e (i + 1) r → i < length ls
     → FillsLine (Err r) new symbols (line_seen (slice_index_or ls i d) ∷ above_of (take i ls))
     → ((e.kind ≡ faults.NoMemory) × (e.column ≡ 1))
     ⊎ (segments_of symbols (above_of ls) ≡ Err (e.line, (e.kind, e.column)))
@@ -92,7 +92,7 @@ lawful_here ls x i e h l =
     (lawful_at ls x i h l)
 
 pub told_here : (e : AsmError) (r : ReadError) (symbols : List (List ℕ × ℕ)) (ls : List CodeLine)
-    (x : CodeLine) (i : ℕ) (new : SecondPass) → x ≡ slice_index_or ls i x → IsTold e (i + 1) r
+    (x : CodeLine) (i : ℕ) (new : SecondPass) → x ≡ slice_index_or ls i x → TellsFault e (i + 1) r
     → i < length ls → FillsLine (Err r) new symbols (line_seen x ∷ above_of (take i ls))
     → ((e.kind ≡ faults.NoMemory) × (e.column ≡ 1))
     ⊎ (segments_of symbols (above_of ls) ≡ Err (e.line, (e.kind, e.column)))

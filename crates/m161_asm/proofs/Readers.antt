@@ -4,7 +4,7 @@ use Rattle.m161_isa.specs.declared.operand.Operand.{Operand}
 use Rattle.m161_isa.specs.declared.operand.Operand.TheVariants as operand
 use Rattle.m161_asm.specs.declared.error.ErrorKind.TheVariants as faults
 use Rattle.m161_asm.specs.Tokens.{Placed, Name, Directive, Register, Number, Mark, Bad}
-use Rattle.m161_asm.specs.Lines.{◌>>=◌, Fault, Parsed, Whole, Value, wrong, next_column, is_within, bits_of_whole, Part, Field, BranchTo, JumpTo, mark, register, plain_number, whole, addend, value, with_label, immediate, base, target, part, multiple, end_of_line, origin_statement, space_statement, entry_statement, Label, label_of, statement, directive_statement, name_statement, unknown, Statement, Nothing, Origin, Space, Entry}
+use Rattle.m161_asm.specs.Lines.{◌>>=◌, SourceFault, Parsed, Whole, Value, wrong, next_column, is_within, bits_of_whole, Part, Field, BranchTo, JumpTo, mark, register, plain_number, whole, addend, value, with_label, immediate, base, target, part, multiple, end_of_line, origin_statement, space_statement, entry_statement, Label, label_of, statement, directive_statement, name_statement, unknown, Statement, Nothing, Origin, Space, Entry}
 use Rattle.m161_asm.specs.Lines as lines
 use Rattle.m161_asm.specs.helpers.Readers.{has_mark, number_at, register_at, name_at, directive_at, number_with, signed, value_number, closed, base_register, last_multiple, last_value, label_if, label_name, field_of_whole, in_field, immediate_number, field_part, out_of_range}
 
@@ -165,7 +165,7 @@ immediate_is : (low high width past : ℕ) (ts : List Placed)
     ≡ (immediate_number low high width past ts >>= as_field)
 immediate_is low high width past ts = sym (immediate_by low high width (whole past ts) past ts)
 
-base_outer : (n : ℕ × List Placed) (outer : Result (List Placed) Fault)
+base_outer : (n : ℕ × List Placed) (outer : Result (List Placed) SourceFault)
     → (outer >>= λ ts. as_field (n.0, ts)) ≡ ((outer >>= λ ts. number_before n.0 ts) >>= as_field)
 base_outer n (Ok ts) = refl
 base_outer n (Err e) = refl
@@ -176,7 +176,7 @@ base_inner : (past : ℕ) (read : Parsed ℕ)
 base_inner past (Ok n) = base_outer n (mark 41 past n.1)
 base_inner past (Err e) = refl
 
-base_by : (past : ℕ) (inner : Result (List Placed) Fault)
+base_by : (past : ℕ) (inner : Result (List Placed) SourceFault)
     → (inner >>= λ ts. register past ts >>= λ n. mark 41 past n.1
     >>= λ outer. as_field (n.0, outer))
     ≡ ((inner >>= closed past) >>= as_field)
@@ -203,7 +203,7 @@ part_is operand.Branch past ts = refl
 part_is operand.Jump past ts = refl
 
 -- statements
-abbrev pub multiple_at : Option ℕ → Bool → ℕ → List Placed → Result ℕ Fault
+abbrev pub multiple_at : Option ℕ → Bool → ℕ → List Placed → Result ℕ SourceFault
 multiple_at None b past ts = wrong past ts
 multiple_at (Some n) true past ts = end_of_line n past (drop 1 ts)
 multiple_at (Some n) false past ts = out_of_range past ts
@@ -256,7 +256,7 @@ pub entry_is : (past : ℕ) (ts : List Placed)
 entry_is past ts = ended_by (λ v. Entry v) (value past ts) past
 
 abbrev pub statement_by : Option (List ℕ) → Option (List ℕ) → ℕ → ℕ → List Placed
-    → Result Statement Fault
+    → Result Statement SourceFault
 statement_by (Some d) name column past ts = directive_statement d column past ts
 statement_by None (Some x) column past ts =
     name_statement (bytes_eq x (codes "nop")) x column past ts

@@ -2,7 +2,7 @@ use Rattle.std.specs.Prelude.{◌≡◌, ◌⊎◌, ℕ, ◌≤◌, Result, Ok, 
 use Rattle.m161_asm.specs.declared.error.AsmError.{AsmError}
 use Rattle.m161_asm.specs.declared.error.ErrorKind.TheVariants as faults
 use Rattle.m161_asm.specs.declared.program.Program.{Program as CodeProgram}
-use Rattle.m161_asm.specs.Lines.{Fault}
+use Rattle.m161_asm.specs.Lines.{SourceFault}
 use Rattle.m161_asm.specs.Text.{Program}
 use Rattle.m161_asm.specs.Seen.{symbols_seen}
 use Rattle.m161_asm.specs.Segments.{segments_seen}
@@ -19,7 +19,7 @@ program_seen p = record {
 
 -- a result, seen by `view`, is the defined one; an error is that memory was refused, or the defined
 -- fault
-abbrev pub Tells : {X Y : Type 0} → (X → Y) → Result X AsmError → Result Y (ℕ × Fault) → Type 0
+abbrev pub Tells : {X Y : Type 0} → (X → Y) → Result X AsmError → Result Y (ℕ × SourceFault) → Type 0
 Tells view (Ok x) defined = defined ≡ Ok (view x)
 Tells view (Err e) defined =
     ((e.kind ≡ faults.NoMemory) × (e.column ≡ 1)) ⊎ (defined ≡ Err (e.line, (e.kind, e.column)))

@@ -10,8 +10,8 @@ use Rattle.m161_asm.specs.Tokens.{Name, Directive, Register, Number, Mark, Bad, 
 -- A line's parse: a label and a statement, or the leftmost fault.
 
 -- a fault and its column
-abbrev pub Fault : Type 0
-Fault = ErrorKind × ℕ
+abbrev pub SourceFault : Type 0
+SourceFault = ErrorKind × ℕ
 
 infixl 10 ◌>>=◌
 abbrev pub ◌>>=◌ : {A B F : Type 0} → Result A F → (A → Result B F) → Result B F
@@ -20,7 +20,7 @@ abbrev pub ◌>>=◌ : {A B F : Type 0} → Result A F → (A → Result B F) �
 
 -- a value that is read from tokens, and the tokens after it
 abbrev pub Parsed : Type 0 → Type 0
-Parsed A = Result (A × List Placed) Fault
+Parsed A = Result (A × List Placed) SourceFault
 
 -- a whole number, as the difference of two
 abbrev pub Whole : Type 0
@@ -60,10 +60,10 @@ next_column past [] = past
 next_column past (t ∷ ts) = t.1
 
 -- the fault that the expected token is missing
-abbrev pub wrong : {A : Type 0} → ℕ → List Placed → Result A Fault
+abbrev pub wrong : {A : Type 0} → ℕ → List Placed → Result A SourceFault
 wrong past ts = Err (faults.BadOperand, next_column past ts)
 
-abbrev pub mark : ℕ → ℕ → List Placed → Result (List Placed) Fault
+abbrev pub mark : ℕ → ℕ → List Placed → Result (List Placed) SourceFault
 mark byte past ((Mark b, c, e) ∷ ts) = if b == byte then Ok ts else wrong past ((Mark b, c, e) ∷ ts)
 mark byte past ts = wrong past ts
 
@@ -148,7 +148,7 @@ part operand.Branch past ts = target BranchTo past ts
 part operand.Jump past ts = target JumpTo past ts
 
 -- a comma (44) before each operand except the first and a base
-abbrev pub comma : Bool → Operand → ℕ → List Placed → Result (List Placed) Fault
+abbrev pub comma : Bool → Operand → ℕ → List Placed → Result (List Placed) SourceFault
 comma true o past ts = Ok ts
 comma false operand.Base past ts = Ok ts
 comma false _ past ts = mark 44 past ts
@@ -159,12 +159,12 @@ comma_and_part first o past ts = do
   part o past inner
 
 -- the line ends here
-abbrev pub end_of_line : {A : Type 0} → A → ℕ → List Placed → Result A Fault
+abbrev pub end_of_line : {A : Type 0} → A → ℕ → List Placed → Result A SourceFault
 end_of_line x past [] = Ok x
 end_of_line x past (t ∷ ts) = wrong past (t ∷ ts)
 
 -- the operands of a row
-unfoldable pub operand_parts : Bool → List Operand → ℕ → List Placed → Result (List Part) Fault
+unfoldable pub operand_parts : Bool → List Operand → ℕ → List Placed → Result (List Part) SourceFault
 operand_parts first [] past ts = end_of_line [] past ts
 operand_parts first (o ∷ os) past ts = do
   x ← comma_and_part first o past ts
@@ -172,12 +172,12 @@ operand_parts first (o ∷ os) past ts = do
   Ok (x.0 ∷ xs)
 
 -- the values of `.word`, with commas between; there are no more of them than `spare`
-abbrev pub further : (List Placed → Result (List Value) Fault) → ℕ → List Placed
-    → Result (List Value) Fault
+abbrev pub further : (List Placed → Result (List Value) SourceFault) → ℕ → List Placed
+    → Result (List Value) SourceFault
 further others past [] = Ok []
 further others past (t ∷ ts) = mark 44 past (t ∷ ts) >>= others
 
-unfoldable pub values : ℕ → ℕ → List Placed → Result (List Value) Fault
+unfoldable pub values : ℕ → ℕ → List Placed → Result (List Value) SourceFault
 values zero past ts = wrong past ts
 values (suc spare) past ts = do
   v ← value past ts
@@ -190,30 +190,30 @@ multiple past ts = do
   n ← plain_number past ts
   if n.0 % 4 == 0 then Ok n else Err (faults.OutOfRange, next_column past ts)
 
-abbrev pub origin_statement : ℕ → List Placed → Result Statement Fault
+abbrev pub origin_statement : ℕ → List Placed → Result Statement SourceFault
 origin_statement past ts = do
   n ← multiple past ts
   end_of_line (Origin n.0) past n.1
 
-abbrev pub space_statement : ℕ → List Placed → Result Statement Fault
+abbrev pub space_statement : ℕ → List Placed → Result Statement SourceFault
 space_statement past ts = do
   n ← multiple past ts
   end_of_line (Space (n.0 / 4)) past n.1
 
-abbrev pub entry_statement : ℕ → List Placed → Result Statement Fault
+abbrev pub entry_statement : ℕ → List Placed → Result Statement SourceFault
 entry_statement past ts = do
   v ← value past ts
   end_of_line (Entry v.0) past v.1
 
-abbrev pub words_statement : ℕ → List Placed → Result Statement Fault
+abbrev pub words_statement : ℕ → List Placed → Result Statement SourceFault
 words_statement past ts = do
   vs ← values (length ts) past ts
   Ok (Words vs)
 
-abbrev pub unknown : ℕ → Result Statement Fault
+abbrev pub unknown : ℕ → Result Statement SourceFault
 unknown column = Err (faults.UnknownWord, column)
 
-unfoldable pub directive_statement : List ℕ → ℕ → ℕ → List Placed → Result Statement Fault
+unfoldable pub directive_statement : List ℕ → ℕ → ℕ → List Placed → Result Statement SourceFault
 directive_statement d column past ts =
     if bytes_eq d (codes "org") then origin_statement past ts
     else if bytes_eq d (codes "space") then space_statement past ts
@@ -225,18 +225,18 @@ directive_statement d column past ts =
 unfoldable pub row_named : List ℕ → Option Row
 row_named x = find (λ r. bytes_eq x (table r).name) all_rows
 
-abbrev pub instruction : Option Row → ℕ → ℕ → List Placed → Result Statement Fault
+abbrev pub instruction : Option Row → ℕ → ℕ → List Placed → Result Statement SourceFault
 instruction None column past ts = unknown column
 instruction (Some r) column past ts = do
   xs ← operand_parts true (table r).operands past ts
   Ok (Code r xs)
 
 -- `nop` is a word of zeros
-abbrev pub name_statement : Bool → List ℕ → ℕ → ℕ → List Placed → Result Statement Fault
+abbrev pub name_statement : Bool → List ℕ → ℕ → ℕ → List Placed → Result Statement SourceFault
 name_statement true x column past ts = end_of_line (Space 1) past ts
 name_statement false x column past ts = instruction (row_named x) column past ts
 
-unfoldable pub statement : ℕ → List Placed → Result Statement Fault
+unfoldable pub statement : ℕ → List Placed → Result Statement SourceFault
 statement past [] = Ok Nothing
 statement past ((Directive d, c, e) ∷ ts) = directive_statement d c past ts
 statement past ((Name x, c, e) ∷ ts) = name_statement (bytes_eq x (codes "nop")) x c past ts
@@ -256,7 +256,7 @@ label_of ((Name x, c, e) ∷ (Mark b, d, f) ∷ ts) =
 label_of ts = (None, ts)
 
 -- the leftmost bad token is a fault
-abbrev pub sound : List Placed → Result (Unit {0}) Fault
+abbrev pub sound : List Placed → Result (Unit {0}) SourceFault
 sound [] = Ok tt
 sound ((Bad, c, e) ∷ ts) = Err (faults.BadToken, c)
 sound (t ∷ ts) = sound ts

@@ -9,7 +9,7 @@ ghost use Rattle.m161_asm.specs.Lines as lines;
 ghost use Rattle.m161_asm.specs.Lines.{size_of, line_column, label_of};
 ghost use Rattle.m161_asm.specs.Text.{line_of, origin_of, read_lines, symbol, symbols_in};
 ghost use Rattle.m161_asm.specs.Seen.{symbols_seen};
-ghost use Rattle.m161_asm.specs.helpers.Seen.{Gives, Yields, IsTold, GoesOn, statement_seen, label_seen, line_seen, above_of, all_seen};
+ghost use Rattle.m161_asm.specs.helpers.Seen.{Gives, Yields, TellsFault, GoesOn, statement_seen, label_seen, line_seen, above_of, all_seen};
 ghost use Rattle.m161_asm.specs.Answer.{Tells, IsWithinLines};
 ghost use Rattle.m161_asm.specs.helpers.Passes.{Advances, HasRoom, IsNew, IsPosition};
 ghost use Rattle.m161_asm.specs.helpers.FirstPass.{IsPass, label_checked, line_with};
@@ -20,7 +20,7 @@ use crate::parse::next_column;
 use crate::place::{Position, origin_of, size_of};
 use crate::program::SymbolTable;
 use crate::scan::{after, len_before, tokens};
-use crate::statement::{Fault, Line, ReadError};
+use crate::statement::{Line, ReadError, SourceFault};
 use crate::symbols::{define, new_label};
 use crate::token::Placed;
 use indexmap::IndexMap;
@@ -48,7 +48,7 @@ fn line_column(all: &[Placed<'_>], rest: &[Placed<'_>]) -> usize
 
 /// The error of a fault on the line of this number.
 pub(crate) fn at_line(line: usize, error: ReadError) -> AsmError
-    ensures told { IsTold result line error }
+    ensures told { TellsFault result line error }
     ensures line { result.line ≡ line }
 {
     match error {
@@ -66,7 +66,7 @@ pub(crate) fn at_line(line: usize, error: ReadError) -> AsmError
 }
 
 // The faults before a line's statement: a bad token, or a label that an earlier line has.
-fn check_label(symbols: &SymbolTable, ts: &[Placed<'_>]) -> Result<(), Fault>
+fn check_label(symbols: &SymbolTable, ts: &[Placed<'_>]) -> Result<(), SourceFault>
     ensures value { (above : List lines.SourceLine) → symbols_seen symbols.now ≡ symbols_in above →
         Gives (λ _. tt) result (label_checked above (all_seen ts.now)) }
     ensures new { OnOk result (IsNew (symbols_seen symbols.now) (label_of (all_seen ts.now)).0) }

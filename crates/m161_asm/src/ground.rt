@@ -10,7 +10,7 @@ use std::alloc::Global;
 
 /// A run of addresses: from `start` up to, but not including, `end`.
 #[derive(Clone, Copy)]
-pub struct Run {
+pub struct AddressRun {
     pub start: u64,
     pub end: u64,
 }
@@ -19,14 +19,14 @@ pub struct Run {
 /// the run at the place `next`, and would meet that at `limit`.
 #[derive(Drop)]
 pub struct Ground {
-    pub runs: Vec<Run>,
+    pub runs: Vec<AddressRun>,
     pub next: usize,
     pub start: u64,
     pub limit: u64,
 }
 
 // The place of the first run that ends above an address, by binary search.
-fn first_above(runs: &[Run], start: u64) -> usize
+fn first_above(runs: &[AddressRun], start: u64) -> usize
     requires { InOrder 0 runs.now }
     ensures { Splits start result runs.now }
 {
@@ -45,7 +45,7 @@ fn first_above(runs: &[Run], start: u64) -> usize
 
 // Where the run at a place begins, or the end of all addresses.
 #[tactic(auto, using(crate::proofs::Grounds::limit_some, crate::proofs::Grounds::limit_none))]
-fn limit_at(runs: &[Run], place: usize) -> u64
+fn limit_at(runs: &[AddressRun], place: usize) -> u64
     requires { place ≤ length runs.now }
     ensures { result ≡ limit_of (drop place runs.now) }
 {
@@ -91,7 +91,7 @@ impl Ground {
             (meet self.old.start end a n || meets self.old.runs.items a n)) }
     {
         if self.start < end {
-            let run = Run {
+            let run = AddressRun {
                 start: self.start,
                 end,
             };

@@ -15,13 +15,13 @@ use crate::parse::{
     after_next, directive_at, has_mark, name_at, named_row, next_column, number_at, operand_parts,
     out_of_range, value, wrong,
 };
-use crate::statement::{Directive, Fault, Label, ReadError, Statement, Value};
+use crate::statement::{Directive, Label, ReadError, SourceFault, Statement, Value};
 use crate::token::{Placed, Token};
 use m161_isa::Row;
 use std::alloc::Global;
 
 // The number, if the line ends here.
-fn last_number(n: u32, past: usize, ts: &[Placed<'_>]) -> Result<u32, Fault>
+fn last_number(n: u32, past: usize, ts: &[Placed<'_>]) -> Result<u32, SourceFault>
     ensures { Gives (λ n. n) result (end_of_line n past (all_seen ts.now)) }
 {
     if ts.len() == 0 {
@@ -33,7 +33,7 @@ fn last_number(n: u32, past: usize, ts: &[Placed<'_>]) -> Result<u32, Fault>
 
 // The number of `.org` and `.space`, and the line ends behind it.
 #[tactic(auto, using(crate::proofs::Readers::last_multiple_is))]
-fn last_multiple(past: usize, ts: &[Placed<'_>]) -> Result<u32, Fault>
+fn last_multiple(past: usize, ts: &[Placed<'_>]) -> Result<u32, SourceFault>
     ensures { Gives (λ n. n) result (last_multiple past (all_seen ts.now)) }
 {
     match number_at(ts) {
@@ -69,7 +69,7 @@ fn space_statement<'a>(past: usize, ts: &[Placed<'a>]) -> Result<Statement<'a>, 
 }
 
 // The value of `.entry`, and the line ends behind it.
-fn last_value<'a>(past: usize, ts: &[Placed<'a>]) -> Result<Value<'a>, Fault>
+fn last_value<'a>(past: usize, ts: &[Placed<'a>]) -> Result<Value<'a>, SourceFault>
     ensures { Gives value_seen result (last_value past (all_seen ts.now)) }
 {
     match value(past, ts) {
@@ -181,11 +181,11 @@ fn instruction<'a>(
     }
 }
 
-fn unknown(column: usize) -> Fault
+fn unknown(column: usize) -> SourceFault
     ensures kind { result.kind ≡ faults.UnknownWord }
     ensures column { result.column ≡ column }
 {
-    Fault {
+    SourceFault {
         kind: ErrorKind::UnknownWord,
         column,
     }
@@ -307,12 +307,12 @@ pub(crate) fn label_of<'a, 'b>(ts: &'b [Placed<'a>]) -> (Option<Label<'a>>, &'b 
 }
 
 // The leftmost bad token is a fault.
-pub(crate) fn sound(ts: &[Placed<'_>]) -> Result<(), Fault>
+pub(crate) fn sound(ts: &[Placed<'_>]) -> Result<(), SourceFault>
     ensures { Gives (λ _. tt) result (sound (all_seen ts.now)) }
 {
     for t in ts {
         if let Token::Bad = t.token {
-            return Err(Fault {
+            return Err(SourceFault {
                 kind: ErrorKind::BadToken,
                 column: t.column,
             });

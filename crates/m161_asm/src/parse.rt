@@ -10,7 +10,7 @@ ghost use Rattle.m161_asm.specs.helpers.Readers.{has_mark, number_at, register_a
 ghost use Rattle.m161_asm.specs.helpers.Seen.{placed_seen, all_seen, Gives, rest_seen, number_seen, whole_seen, whole_read, value_read, value_seen, part_read, part_seen, Adds};
 
 use crate::error::ErrorKind;
-use crate::statement::{Fault, Part, Reach, ReadError, Value, Whole};
+use crate::statement::{Part, Reach, ReadError, SourceFault, Value, Whole};
 use crate::token::{Placed, Token};
 use m161_isa::{Operand, ROWS, Row, rows_in_order};
 
@@ -94,22 +94,22 @@ pub(crate) fn next_column(past: usize, ts: &[Placed<'_>]) -> usize
 }
 
 // The fault that the expected token is missing.
-pub(crate) fn wrong(past: usize, ts: &[Placed<'_>]) -> Fault
+pub(crate) fn wrong(past: usize, ts: &[Placed<'_>]) -> SourceFault
     ensures kind { result.kind ≡ faults.BadOperand }
     ensures column { result.column ≡ next_column past (all_seen ts.now) }
 {
-    Fault {
+    SourceFault {
         kind: ErrorKind::BadOperand,
         column: next_column(past, ts),
     }
 }
 
 // The fault that the next number is outside its range.
-pub(crate) fn out_of_range(past: usize, ts: &[Placed<'_>]) -> Fault
+pub(crate) fn out_of_range(past: usize, ts: &[Placed<'_>]) -> SourceFault
     ensures kind { result.kind ≡ faults.OutOfRange }
     ensures column { result.column ≡ next_column past (all_seen ts.now) }
 {
-    Fault {
+    SourceFault {
         kind: ErrorKind::OutOfRange,
         column: next_column(past, ts),
     }
@@ -120,7 +120,7 @@ pub(crate) fn mark<'a, 'b>(
     byte: u8,
     past: usize,
     ts: &'b [Placed<'a>],
-) -> Result<&'b [Placed<'a>], Fault>
+) -> Result<&'b [Placed<'a>], SourceFault>
     ensures { Gives rest_seen result (mark byte past (all_seen ts.now)) }
 {
     if has_mark(byte, ts) {
@@ -131,7 +131,10 @@ pub(crate) fn mark<'a, 'b>(
 }
 
 #[tactic(auto, using(crate::proofs::Readers::register_is))]
-fn register<'a, 'b>(past: usize, ts: &'b [Placed<'a>]) -> Result<(u32, &'b [Placed<'a>]), Fault>
+fn register<'a, 'b>(
+    past: usize,
+    ts: &'b [Placed<'a>],
+) -> Result<(u32, &'b [Placed<'a>]), SourceFault>
     ensures { Gives number_seen result (register past (all_seen ts.now)) }
 {
     match register_at(ts) {
@@ -156,7 +159,7 @@ fn number_with<'a, 'b>(
     is_negative: bool,
     past: usize,
     ts: &'b [Placed<'a>],
-) -> Result<(Whole, &'b [Placed<'a>]), Fault>
+) -> Result<(Whole, &'b [Placed<'a>]), SourceFault>
     ensures { Gives whole_read result (number_with is_negative past (all_seen ts.now)) }
 {
     match number_at(ts) {
@@ -167,7 +170,10 @@ fn number_with<'a, 'b>(
 
 // `[-] number`.
 #[tactic(auto, using(crate::proofs::Readers::whole_is))]
-fn whole<'a, 'b>(past: usize, ts: &'b [Placed<'a>]) -> Result<(Whole, &'b [Placed<'a>]), Fault>
+fn whole<'a, 'b>(
+    past: usize,
+    ts: &'b [Placed<'a>],
+) -> Result<(Whole, &'b [Placed<'a>]), SourceFault>
     ensures { Gives whole_read result (whole past (all_seen ts.now)) }
 {
     if has_mark(b'-', ts) {
@@ -179,7 +185,10 @@ fn whole<'a, 'b>(past: usize, ts: &'b [Placed<'a>]) -> Result<(Whole, &'b [Place
 
 // `[+ number | - number]`.
 #[tactic(auto, using(crate::proofs::Readers::addend_is))]
-fn addend<'a, 'b>(past: usize, ts: &'b [Placed<'a>]) -> Result<(Whole, &'b [Placed<'a>]), Fault>
+fn addend<'a, 'b>(
+    past: usize,
+    ts: &'b [Placed<'a>],
+) -> Result<(Whole, &'b [Placed<'a>]), SourceFault>
     ensures { Gives whole_read result (addend past (all_seen ts.now)) }
 {
     if has_mark(b'+', ts) {
@@ -196,7 +205,7 @@ fn value_number<'a, 'b>(
     has_label: bool,
     past: usize,
     ts: &'b [Placed<'a>],
-) -> Result<(Whole, &'b [Placed<'a>]), Fault>
+) -> Result<(Whole, &'b [Placed<'a>]), SourceFault>
     ensures { Gives whole_read result (value_number has_label past (all_seen ts.now)) }
 {
     if has_label {
@@ -211,7 +220,7 @@ fn value_number<'a, 'b>(
 pub(crate) fn value<'a, 'b>(
     past: usize,
     ts: &'b [Placed<'a>],
-) -> Result<(Value<'a>, &'b [Placed<'a>]), Fault>
+) -> Result<(Value<'a>, &'b [Placed<'a>]), SourceFault>
     ensures { Gives value_read result (value past (all_seen ts.now)) }
 {
     let label = name_at(ts);
@@ -266,7 +275,7 @@ fn immediate<'a, 'b>(
     width: u32,
     past: usize,
     ts: &'b [Placed<'a>],
-) -> Result<(u32, &'b [Placed<'a>]), Fault>
+) -> Result<(u32, &'b [Placed<'a>]), SourceFault>
     requires { width ≤ 32 }
     ensures { Gives number_seen result (immediate_number low high width past (all_seen ts.now)) }
 {
@@ -281,7 +290,7 @@ fn immediate<'a, 'b>(
 
 // `register)`.
 #[tactic(auto, using(crate::proofs::Readers::closed_is))]
-fn closed<'a, 'b>(past: usize, ts: &'b [Placed<'a>]) -> Result<(u32, &'b [Placed<'a>]), Fault>
+fn closed<'a, 'b>(past: usize, ts: &'b [Placed<'a>]) -> Result<(u32, &'b [Placed<'a>]), SourceFault>
     ensures { Gives number_seen result (closed past (all_seen ts.now)) }
 {
     let rest = after_next(ts);
@@ -299,7 +308,7 @@ fn closed<'a, 'b>(past: usize, ts: &'b [Placed<'a>]) -> Result<(u32, &'b [Placed
 
 // `(register)`.
 #[tactic(auto, using(crate::proofs::Readers::base_is))]
-fn base<'a, 'b>(past: usize, ts: &'b [Placed<'a>]) -> Result<(u32, &'b [Placed<'a>]), Fault>
+fn base<'a, 'b>(past: usize, ts: &'b [Placed<'a>]) -> Result<(u32, &'b [Placed<'a>]), SourceFault>
     ensures { Gives number_seen result (base_register past (all_seen ts.now)) }
 {
     if has_mark(b'(', ts) {
@@ -314,7 +323,7 @@ fn field<'a, 'b>(
     operand: Operand,
     past: usize,
     ts: &'b [Placed<'a>],
-) -> Result<(u32, &'b [Placed<'a>]), Fault>
+) -> Result<(u32, &'b [Placed<'a>]), SourceFault>
     ensures { Gives number_seen result (field operand past (all_seen ts.now)) }
 {
     match operand {
@@ -332,7 +341,7 @@ fn field_part<'a, 'b>(
     operand: Operand,
     past: usize,
     ts: &'b [Placed<'a>],
-) -> Result<(Part<'a>, &'b [Placed<'a>]), Fault>
+) -> Result<(Part<'a>, &'b [Placed<'a>]), SourceFault>
     ensures { Gives part_read result (field_part operand past (all_seen ts.now)) }
 {
     match field(operand, past, ts) {
@@ -346,7 +355,7 @@ fn target<'a, 'b>(
     reach: Reach,
     past: usize,
     ts: &'b [Placed<'a>],
-) -> Result<(Part<'a>, &'b [Placed<'a>]), Fault>
+) -> Result<(Part<'a>, &'b [Placed<'a>]), SourceFault>
     ensures { Gives part_read result (target_of reach past (all_seen ts.now)) }
 {
     match value(past, ts) {
@@ -361,7 +370,7 @@ fn part<'a, 'b>(
     operand: Operand,
     past: usize,
     ts: &'b [Placed<'a>],
-) -> Result<(Part<'a>, &'b [Placed<'a>]), Fault>
+) -> Result<(Part<'a>, &'b [Placed<'a>]), SourceFault>
     ensures { Gives part_read result (part operand past (all_seen ts.now)) }
 {
     match operand {
@@ -385,7 +394,7 @@ fn comma<'a, 'b>(
     operand: Operand,
     past: usize,
     ts: &'b [Placed<'a>],
-) -> Result<&'b [Placed<'a>], Fault>
+) -> Result<&'b [Placed<'a>], SourceFault>
     ensures { Gives rest_seen result (comma first operand past (all_seen ts.now)) }
 {
     if first {
@@ -403,7 +412,7 @@ fn separated_part<'a, 'b>(
     operand: Operand,
     past: usize,
     ts: &'b [Placed<'a>],
-) -> Result<(Part<'a>, &'b [Placed<'a>]), Fault>
+) -> Result<(Part<'a>, &'b [Placed<'a>]), SourceFault>
     ensures { Gives part_read result (comma_and_part first operand past (all_seen ts.now)) }
 {
     match comma(first, operand, past, ts) {

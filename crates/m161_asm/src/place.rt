@@ -9,7 +9,7 @@ ghost use Rattle.m161_asm.specs.helpers.Passes.{IsPosition, IsBehind, HasRoom, A
 
 use crate::error::ErrorKind;
 use crate::ground::Ground;
-use crate::statement::{Fault, Line, ReadError, Statement};
+use crate::statement::{Line, ReadError, SourceFault, Statement};
 use std::alloc::Global;
 
 /// The first address.
@@ -101,7 +101,7 @@ impl Position {
 
     /// Whether a line may be here.
     #[tactic(auto, unfolding(crate::specs::Text::line_in_place))]
-    pub(crate) fn place(&self, line: &Line<'_>) -> Result<(), Fault>
+    pub(crate) fn place(&self, line: &Line<'_>) -> Result<(), SourceFault>
         requires { IsPosition self.now }
         ensures value { (above : List lines.SourceLine) → IsBehind self.now above →
             Gives (λ _. line_seen line.now) result (line_in_place above (line_seen line.now)) }
@@ -111,13 +111,13 @@ impl Position {
     {
         let size = size_of(&line.statement);
         if self.exceeds(line.label.is_some(), size) {
-            return Err(Fault {
+            return Err(SourceFault {
                 kind: ErrorKind::OutOfRange,
                 column: line.column,
             });
         }
         if self.ground.is_filled(self.address, size) {
-            return Err(Fault {
+            return Err(SourceFault {
                 kind: ErrorKind::Overlap,
                 column: line.column,
             });

@@ -9,7 +9,7 @@ ghost use Rattle.m161_asm.specs.helpers.Passes.{IsNew};
 
 use crate::error::ErrorKind;
 use crate::program::SymbolTable;
-use crate::statement::{Fault, Label, ReadError};
+use crate::statement::{Label, ReadError, SourceFault};
 use std::alloc::Global;
 
 /// The address of a label.
@@ -23,7 +23,7 @@ pub(crate) fn label_address(symbols: &SymbolTable, name: &str) -> Option<u32>
 }
 
 /// A label that already exists is a fault.
-pub(crate) fn new_label(symbols: &SymbolTable, label: Option<Label<'_>>) -> Result<(), Fault>
+pub(crate) fn new_label(symbols: &SymbolTable, label: Option<Label<'_>>) -> Result<(), SourceFault>
     ensures value { (above : List lines.SourceLine) → symbols_seen symbols.now ≡ symbols_in above →
         Gives (λ _. tt) result (new_label above (label_seen label.entry)) }
     ensures new { OnOk result (IsNew (symbols_seen symbols.now) (label_seen label.entry)) }
@@ -33,7 +33,7 @@ pub(crate) fn new_label(symbols: &SymbolTable, label: Option<Label<'_>>) -> Resu
     };
     match label_address(symbols, label.name) {
         None => Ok(()),
-        Some(_) => Err(Fault {
+        Some(_) => Err(SourceFault {
             kind: ErrorKind::DoubleLabel,
             column: label.column,
         }),

@@ -9,13 +9,13 @@ ghost use Rattle.m161_asm.specs.helpers.Seen.{Gives, Yields, value_seen, part_se
 
 use crate::error::ErrorKind;
 use crate::program::SymbolTable;
-use crate::statement::{Fault, Part, Reach, ReadError, Statement, Value};
+use crate::statement::{Part, Reach, ReadError, SourceFault, Statement, Value};
 use crate::symbols::label_address;
 use std::alloc::Global;
 
 // A value's whole number, as the difference of two.
 #[tactic(auto, unfolding(crate::specs::Text::number_by))]
-fn number_of_value(symbols: &SymbolTable, v: Value<'_>) -> Result<(u64, u64), Fault>
+fn number_of_value(symbols: &SymbolTable, v: Value<'_>) -> Result<(u64, u64), SourceFault>
     ensures value { Gives (λ n. n) result (number_of_value (symbols_seen symbols.now)
         (value_seen v.entry)) }
     ensures small { IfOk result (λ n. (n.0 < 2 ^ 33) × (n.1 < 2 ^ 32)) }
@@ -27,18 +27,18 @@ fn number_of_value(symbols: &SymbolTable, v: Value<'_>) -> Result<(u64, u64), Fa
     };
     match label_address(symbols, name) {
         Some(address) => Ok((u64::from(address) + up, down)),
-        None => Err(Fault {
+        None => Err(SourceFault {
             kind: ErrorKind::UnknownLabel,
             column: v.column,
         }),
     }
 }
 
-fn out_of_range(column: usize) -> Fault
+fn out_of_range(column: usize) -> SourceFault
     ensures kind { result.kind ≡ faults.OutOfRange }
     ensures column { result.column ≡ column }
 {
-    Fault {
+    SourceFault {
         kind: ErrorKind::OutOfRange,
         column,
     }
@@ -46,7 +46,7 @@ fn out_of_range(column: usize) -> Fault
 
 /// The word of a value of `.word`.
 #[tactic(auto, unfolding(crate::specs::Text::word_of_value))]
-pub(crate) fn word_of_value(symbols: &SymbolTable, v: Value<'_>) -> Result<u32, Fault>
+pub(crate) fn word_of_value(symbols: &SymbolTable, v: Value<'_>) -> Result<u32, SourceFault>
     ensures { Gives (λ n. n) result (word_of_value (symbols_seen symbols.now)
         (value_seen v.entry)) }
 {
@@ -60,7 +60,7 @@ pub(crate) fn word_of_value(symbols: &SymbolTable, v: Value<'_>) -> Result<u32, 
 
 /// The address of a value: a multiple of 4.
 #[tactic(auto, unfolding(crate::specs::Text::word_address))]
-pub(crate) fn word_address(symbols: &SymbolTable, v: Value<'_>) -> Result<u32, Fault>
+pub(crate) fn word_address(symbols: &SymbolTable, v: Value<'_>) -> Result<u32, SourceFault>
     ensures { Gives (λ n. n) result (word_address (symbols_seen symbols.now) (value_seen v.entry)) }
 {
     let (up, down) = number_of_value(symbols, v)?;
@@ -71,18 +71,18 @@ pub(crate) fn word_address(symbols: &SymbolTable, v: Value<'_>) -> Result<u32, F
     }
 }
 
-fn too_far(column: usize) -> Fault
+fn too_far(column: usize) -> SourceFault
     ensures kind { result.kind ≡ faults.BranchTooFar }
     ensures column { result.column ≡ column }
 {
-    Fault {
+    SourceFault {
         kind: ErrorKind::BranchTooFar,
         column,
     }
 }
 
 // The field of a branch at an address.
-fn branch_field(at: u64, column: usize, target: u32) -> Result<u32, Fault>
+fn branch_field(at: u64, column: usize, target: u32) -> Result<u32, SourceFault>
     requires { at ≤ 2 ^ 32 }
     ensures { Gives (λ n. n) result (branch_field at column target) }
 {
@@ -95,7 +95,7 @@ fn branch_field(at: u64, column: usize, target: u32) -> Result<u32, Fault>
 }
 
 // The field of a jump at an address.
-fn jump_field(at: u64, column: usize, target: u32) -> Result<u32, Fault>
+fn jump_field(at: u64, column: usize, target: u32) -> Result<u32, SourceFault>
     requires { at ≤ 2 ^ 32 }
     ensures { Gives (λ n. n) result (jump_field at column target) }
 {
@@ -107,7 +107,7 @@ fn jump_field(at: u64, column: usize, target: u32) -> Result<u32, Fault>
 }
 
 // The field of a branch or a jump at an address.
-fn target_field(reach: Reach, at: u64, column: usize, target: u32) -> Result<u32, Fault>
+fn target_field(reach: Reach, at: u64, column: usize, target: u32) -> Result<u32, SourceFault>
     requires { at ≤ 2 ^ 32 }
     ensures { Gives (λ n. n) result (target_field reach at column target) }
 {
@@ -119,7 +119,7 @@ fn target_field(reach: Reach, at: u64, column: usize, target: u32) -> Result<u32
 
 // The number of an instruction's operand.
 #[tactic(auto, unfolding(crate::specs::Text::field_of))]
-fn field_of(symbols: &SymbolTable, at: u64, part: Part<'_>) -> Result<u32, Fault>
+fn field_of(symbols: &SymbolTable, at: u64, part: Part<'_>) -> Result<u32, SourceFault>
     requires { at ≤ 2 ^ 32 }
     ensures { Gives (λ n. n) result (field_of (symbols_seen symbols.now) at
         (part_seen part.entry)) }

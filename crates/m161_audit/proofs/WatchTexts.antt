@@ -2,8 +2,8 @@ use Rattle.std.proofs.Common.{◌≡◌, ℕ, zero, suc, ◌+◌, ◌≤◌, Lis
 use Rattle.std.proofs.lemmas.List.{map_push, length_push, flat_map_more, take-append-le, take-map, length-map}
 use Rattle.std.proofs.lemmas.Option.{none-some, same_Some}
 use Rattle.std.specs.List.{AllByRecursion}
-use Rattle.m161_steplog.specs.declared.fault.Fault.{Fault}
-use Rattle.m161_steplog.specs.declared.fault.Fault.TheVariants as faults
+use Rattle.m161_steplog.specs.declared.fault.TextFault.{TextFault}
+use Rattle.m161_steplog.specs.declared.fault.TextFault.TheVariants as faults
 use Rattle.m161_text.specs.Lines.{lines_of, FirstBad}
 use Rattle.m161_audit.specs.declared.text.Item.{Item}
 use Rattle.m161_audit.specs.declared.watch.Watch.{Watch}
@@ -120,5 +120,5 @@ bad_line text rest line after ws n so lines read =
     }
 
 -- an error that is want of memory is no line
-pub not_line : (f : Fault) (n : ℕ) → f ≡ faults.NoMemory → f ≡ faults.Line n → ⊥
+pub not_line : (f : TextFault) (n : ℕ) → f ≡ faults.NoMemory → f ≡ faults.Line n → ⊥
 not_line f n e h = let bad : faults.NoMemory ≡ faults.Line n = sym e ∙ h in cc

@@ -24,7 +24,7 @@ mod watch;
 
 pub use finding::{AuditError, Finding};
 pub use m161_machine::{BootError, Conf, Event, Events, LinkUnit};
-pub use m161_steplog::Fault;
+pub use m161_steplog::TextFault;
 pub use run::{audit, audit_core, audit_events};
 pub use text::read_watches;
 pub use watch::Watch;

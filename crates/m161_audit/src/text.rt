@@ -1,7 +1,7 @@
 //! The text of watches.
 
 ghost use Rattle.std.specs.Prelude.{◌≡◌, ℕ, ◌++◌, List, Err, decimal, IfOk, OnOk, OnErr, IsErrOf};
-ghost use Rattle.m161_steplog.specs.declared.fault.Fault.TheVariants as faults;
+ghost use Rattle.m161_steplog.specs.declared.fault.TextFault.TheVariants as faults;
 ghost use Rattle.m161_steplog.specs.Read.{IsRead};
 ghost use Rattle.m161_text.specs.Lines.{lines_of, FirstBad};
 ghost use Rattle.m161_text.specs.Parts.{◌␣◌, IsPage, IsWord, Lacks, Reads, hex_text};
@@ -11,7 +11,7 @@ ghost use Rattle.m161_audit.specs.WatchText.{AreWatchLines, AreWatches, HasText,
 ghost use Rattle.m161_audit.specs.helpers.WatchText.{AreWords, IsPlace, ReadsLine, item_watches, place_text, words_text};
 
 use crate::watch::Watch;
-use m161_steplog::Fault;
+use m161_steplog::TextFault;
 use m161_text::{cut_at_space, next_line, parse_decimal, parse_page, parse_word};
 use std::alloc::Global;
 
@@ -89,7 +89,7 @@ fn parse_item(line: &str) -> Option<Item>
 }
 
 // Appends the watch of a line, if it has one.
-fn push_item(watches: &mut Vec<Watch>, item: Item) -> Result<(), Fault>
+fn push_item(watches: &mut Vec<Watch>, item: Item) -> Result<(), TextFault>
     ensures ok { OnOk result (watches.new.items ≡ watches.old.items ++ item_watches item) }
     ensures err { OnErr result (result ≡ Err faults.NoMemory) }
 {
@@ -105,7 +105,7 @@ fn push_item(watches: &mut Vec<Watch>, item: Item) -> Result<(), Fault>
 ///
 /// # Errors
 /// The first bad line; or memory was refused.
-pub fn read_watches(alloc: Global, text: &str) -> Result<Vec<Watch>, Fault>
+pub fn read_watches(alloc: Global, text: &str) -> Result<Vec<Watch>, TextFault>
     // The result is the watches of this text.
     ensures found { IfOk result (λ watches. AreWatches (lines_of text.now) watches.items) }
     // If the text is one of watches, it is read, unless memory is refused.
@@ -118,7 +118,7 @@ pub fn read_watches(alloc: Global, text: &str) -> Result<Vec<Watch>, Fault>
     while let Some((line, more)) = next_line(rest) {
         number += 1;
         let Some(item) = parse_item(line) else {
-            return Err(Fault::Line(number));
+            return Err(TextFault::Line(number));
         };
         push_item(&mut watches, item)?;
         rest = more;

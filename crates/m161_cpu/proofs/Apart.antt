@@ -4,7 +4,7 @@ use Rattle.m161_tlb.specs.declared.row.Row.{Row}
 use Rattle.m161_tlb.specs.Rows.{AreApart, find_overlap}
 use Rattle.m161_tlb.proofs.Apart.{apart_set, overlap_places}
 use Rattle.m161_cop0.specs.Control.{is_pending}
-use Rattle.m161_cpu.specs.declared.fault.Fault.{Fault}
+use Rattle.m161_cpu.specs.declared.fault.StepFault.{StepFault}
 use Rattle.m161_cpu.specs.declared.processor.Outcome.{Outcome}
 use Rattle.m161_cpu.specs.declared.processor.ProcessorState.{ProcessorState}
 use Rattle.m161_cpu.specs.declared.processor.ProcessorState.TheVariants.{Stopped, Running, Waiting}
@@ -73,7 +73,7 @@ apart_by_conflict : (s : Scene) (c : Change) (conflict : Option (ℕ × ℕ)) �
 apart_by_conflict s c conflict apart =
     subst AreApart (sym (rows_after (without_row conflict c) s.processor ∙ (λ i. rows_with (row_left conflict c i) s.processor.rows))) apart
 
-apart_after : (s : Scene) (r : Result Change Fault) → s.around.strict ≡ true → StaysApart s (step_of_result s r)
+apart_after : (s : Scene) (r : Result Change StepFault) → s.around.strict ≡ true → StaysApart s (step_of_result s r)
 apart_after s (Ok c) strict apart =
     apart_by_conflict s c (conflict_of s c)
     (subst (λ t. AreApart (rows_with (left (conflict_in t s.processor.rows c.row) c.row) s.processor.rows)) (sym strict) (apart_by_row s.processor.rows c.row apart))

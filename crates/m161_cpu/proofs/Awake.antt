@@ -7,7 +7,7 @@ use Rattle.m161_isa.specs.declared.effect.Effect.TheVariants as effect
 use Rattle.m161_isa.specs.declared.table.Row.{Row}
 use Rattle.m161_isa.specs.Table.{table, row_that_fits, numbers_of}
 use Rattle.m161_cop0.specs.Control.{is_pending, is_interrupted}
-use Rattle.m161_cpu.specs.declared.fault.Fault.{Fault}
+use Rattle.m161_cpu.specs.declared.fault.StepFault.{StepFault}
 use Rattle.m161_cpu.specs.declared.fault.FaultKind.TheVariants as kind
 use Rattle.m161_cpu.specs.declared.processor.Outcome.TheVariants.{Idle}
 use Rattle.m161_cpu.specs.declared.processor.ProcessorState.{ProcessorState}
@@ -121,10 +121,10 @@ unfolding physical_at is_misaddressed
 same_word s = refl
 
 -- what a Step that fetches changes
-abbrev pub fetched_change : Scene → Result Change Fault
+abbrev pub fetched_change : Scene → Result Change StepFault
 fetched_change s = and_then (executable_word s.around.memory s.processor) (change_in s)
 
-same_then : (s : Scene) (w : Result ℕ Fault) → and_then w (change_in (awake s)) ≡ and_then w (change_in s)
+same_then : (s : Scene) (w : Result ℕ StepFault) → and_then w (change_in (awake s)) ≡ and_then w (change_in s)
 same_then s (Ok word) = same_row s word (row_that_fits word)
 same_then s (Err f) = refl
 
@@ -195,7 +195,7 @@ step_doesnt_fetch s h = subst (λ t. By s t (step_of s)) h (by_fetches s)
 
 -- what a Step stores to
 
-pub of_result : (s : Scene) (r : Result Change Fault) → (step_of_result s r).stored ≡ stored_of r
+pub of_result : (s : Scene) (r : Result Change StepFault) → (step_of_result s r).stored ≡ stored_of r
 of_result s (Ok change) = refl
 of_result s (Err f) = refl
 

@@ -12,7 +12,7 @@ use Rattle.m161_tlb.specs.Row.{matches}
 use Rattle.m161_tlb.specs.Rows.{blank_row, find_row}
 use Rattle.m161_cop0.specs.Control.{identifier_of, is_user}
 use Rattle.m161_cpu.specs.declared.fault.Access.{Access}
-use Rattle.m161_cpu.specs.declared.fault.Fault.{Fault}
+use Rattle.m161_cpu.specs.declared.fault.StepFault.{StepFault}
 use Rattle.m161_cpu.specs.declared.fault.FaultKind.TheVariants as kind
 use Rattle.m161_cpu.specs.Fault.{fault_at}
 use Rattle.m161_cpu.specs.declared.translation.Physical.{Physical}
@@ -59,23 +59,23 @@ given access address at rows (Some i) g = given_by_row access address at i (slic
 
 -- and the other way
 
-abbrev at_of : Result Physical Fault → ℕ
+abbrev at_of : Result Physical StepFault → ℕ
 at_of (Ok to) = to.at
 at_of (Err f) = 0
 
-chosen : (e f : Fault) (v d s : Bool) (at i : ℕ) (to : Physical)
+chosen : (e f : StepFault) (v d s : Bool) (at i : ℕ) (to : Physical)
     → (if not v then Err e else if s && not d then Err f else Ok (physical at (Some i))) ≡ Ok to
     → (v ≡ true) × (s ≡ true → d ≡ true) × (to.at ≡ at)
-chosen e f false d s at i to h = absurd (let bad : ◌≡◌ {A = Result Physical Fault} (Err e) (Ok to) = h in cc)
+chosen e f false d s at i to h = absurd (let bad : ◌≡◌ {A = Result Physical StepFault} (Err e) (Ok to) = h in cc)
 chosen e f true true true at i to h = (refl, λ w. refl, sym (ap at_of h))
 chosen e f true true false at i to h = (refl, λ w. refl, sym (ap at_of h))
 chosen e f true false false at i to h = (refl, λ w. absurd (let bad : false ≡ true = w in cc), sym (ap at_of h))
-chosen e f true false true at i to h = absurd (let bad : ◌≡◌ {A = Result Physical Fault} (Err f) (Ok to) = h in cc)
+chosen e f true false true at i to h = absurd (let bad : ◌≡◌ {A = Result Physical StepFault} (Err f) (Ok to) = h in cc)
 
 row_gives : (access : Access) (address i : ℕ) (o : Option Row) (to : Physical)
     → through_row access address i o ≡ Ok to → GivesByRow access address to.at o
 row_gives access address i None to h =
-    absurd (let bad : ◌≡◌ {A = Result Physical Fault} (Err (miss access address)) (Ok to) = h in cc)
+    absurd (let bad : ◌≡◌ {A = Result Physical StepFault} (Err (miss access address)) (Ok to) = h in cc)
 row_gives access address i (Some row) to h =
     chosen (invalid access address) (fault_at kind.TlbModified address) row.v row.d (is_store access)
     (row.frame * 2 ^ 12 + address % 2 ^ 12) i to h
@@ -83,14 +83,14 @@ row_gives access address i (Some row) to h =
 rows_give : (access : Access) (address : ℕ) (rows : List Row) (o : Option ℕ) (to : Physical)
     → by_row access address rows o ≡ Ok to → Gives rows access address to.at o
 rows_give access address rows None to h =
-    absurd (let bad : ◌≡◌ {A = Result Physical Fault} (Err (miss access address)) (Ok to) = h in cc)
+    absurd (let bad : ◌≡◌ {A = Result Physical StepFault} (Err (miss access address)) (Ok to) = h in cc)
 rows_give access address rows (Some i) to h = row_gives access address i (slice_get rows i) to h
 
 by_rows : (access : Access) (width address : ℕ) (p : Processor) (wrong : Bool) (to : Physical)
     → (if wrong then Err (address_error access address) else by_segment access address p None) ≡ Ok to
     → Gives p.rows access address to.at (find_row p.rows (address / 2 ^ 12) (identifier_of p.control))
 by_rows access width address p true to h =
-    absurd (let bad : ◌≡◌ {A = Result Physical Fault} (Err (address_error access address)) (Ok to) = h in cc)
+    absurd (let bad : ◌≡◌ {A = Result Physical StepFault} (Err (address_error access address)) (Ok to) = h in cc)
 by_rows access width address p false to h =
     rows_give access address p.rows (find_row p.rows (address / 2 ^ 12) (identifier_of p.control)) to h
 

@@ -7,7 +7,7 @@ use Rattle.m161_cpu.specs.declared.processor.Outcome.TheVariants.{Ran, PoweredOf
 use Rattle.m161_cpu.specs.Processor.{with_state}
 use Rattle.m161_cpu.specs.Links.{links_after}
 use Rattle.m161_cpu.specs.Scene.{Around, Scene, Change, around_after}
-use Rattle.m161_cpu.specs.declared.fault.Fault.{Fault}
+use Rattle.m161_cpu.specs.declared.fault.StepFault.{StepFault}
 use Rattle.m161_cpu.specs.Step.{Stepped, conflict_of, step_by_conflict, step_of_result, change_of_step, idle, lines_in, running_step, step_by_state, step_of, tick, with_processor}
 
 -- What a Step leaves of the links is told by what it does to its own, and by its store.
@@ -15,7 +15,7 @@ use Rattle.m161_cpu.specs.Step.{Stepped, conflict_of, step_by_conflict, step_of_
 abbrev pub Links : Around → Stepped → Type 0
 Links a x = x.after.around.links ≡ links_after a.number x.link x.stored a.links
 
-links_ended : (s : Scene) (r : Result Change Fault) → Links s.around (step_of_result s r)
+links_ended : (s : Scene) (r : Result Change StepFault) → Links s.around (step_of_result s r)
 links_ended s (Ok change) = refl
 links_ended s (Err f) = refl
 
@@ -50,7 +50,7 @@ on_changed : (conflict : Option (ℕ × ℕ)) (s : Scene) (change : Change) → 
 on_changed None s change on = on_by s.around.board.off (around_after change s.around).board.off on
 on_changed (Some conflict) s change on = λ h. absurd (cc)
 
-on_ended : (s : Scene) (r : Result Change Fault) → s.around.board.off ≡ false → IsOn (step_of_result s r)
+on_ended : (s : Scene) (r : Result Change StepFault) → s.around.board.off ≡ false → IsOn (step_of_result s r)
 on_ended s (Ok change) on = on_changed (conflict_of s change) s change on
 on_ended s (Err f) on = λ h. absurd (cc)
 

@@ -7,7 +7,7 @@ use Rattle.m161_isa.specs.Table.{table, row_that_fits, numbers_of}
 use Rattle.m161_alu.specs.Word.{signed, word_of_signed}
 use Rattle.m161_cop0.specs.Control.{read_of}
 use Rattle.m161_cpu.specs.declared.fault.Access.TheVariants.{Fetch, Load, Store}
-use Rattle.m161_cpu.specs.declared.fault.Fault.{Fault}
+use Rattle.m161_cpu.specs.declared.fault.StepFault.{StepFault}
 use Rattle.m161_cpu.specs.declared.fault.FaultKind.TheVariants as kind
 use Rattle.m161_cpu.specs.declared.translation.Physical.{Physical}
 use Rattle.m161_cpu.specs.declared.uses.Via.{Via}
@@ -35,7 +35,7 @@ nothing_of_sum : (d : ℕ) (o : Option ℕ) → RefersToNothing (result_map (wri
 nothing_of_sum d None = refl
 nothing_of_sum d (Some sum) = (refl, refl)
 
-faults : (s : Scene) (r : Reference) (f : Fault) → translated s.processor r ≡ Err f → address_of s.processor r ≡ Err f
+faults : (s : Scene) (r : Reference) (f : StepFault) → translated s.processor r ≡ Err f → address_of s.processor r ≡ Err f
 faults s r f h = not_located r.access r.width r.address s.processor f h
 
 pub refers : (e : Effect) (a b c : Argument) → Refers e a b c (reference_of e a b c)
@@ -142,25 +142,25 @@ refers effect.WaitForInterrupt a b c = λ s. (λ other lines. refl, (refl, refl)
 
 -- an instruction faults where the translation of its reference does
 
-effect_faults : (s : Scene) (e : Effect) (a b c : Argument) (r : Reference) (f : Fault) → reference_of e a b c ≡ Some r → translated s.processor r ≡ Err f → effect_of s e a b c ≡ Err f
+effect_faults : (s : Scene) (e : Effect) (a b c : Argument) (r : Reference) (f : StepFault) → reference_of e a b c ≡ Some r → translated s.processor r ≡ Err f → effect_of s e a b c ≡ Err f
 effect_faults s e a b c r f is h =
     let law : Refers e a b c (Some r) = subst (Refers e a b c) is (refers e a b c) in
     (law s).0 f h
 
-three_fault : (s : Scene) (e : Effect) (l : List Argument) (r : Reference) (f : Fault) → with_three (reference_of e) l ≡ Some r → translated s.processor r ≡ Err f → with_three (effect_of s e) l ≡ Err f
+three_fault : (s : Scene) (e : Effect) (l : List Argument) (r : Reference) (f : StepFault) → with_three (reference_of e) l ≡ Some r → translated s.processor r ≡ Err f → with_three (effect_of s e) l ≡ Err f
 three_fault s e [] r f is h = effect_faults s e _ _ _ r f is h
 three_fault s e (a ∷ []) r f is h = effect_faults s e a _ _ r f is h
 three_fault s e (a ∷ b ∷ []) r f is h = effect_faults s e a b _ r f is h
 three_fault s e (a ∷ b ∷ c ∷ l) r f is h = effect_faults s e a b c r f is h
 
-row_faults : (s : Scene) (word : ℕ) (o : Option Row) (r : Reference) (f : Fault) → reference_by_row s.processor word o ≡ Some r → translated s.processor r ≡ Err f → change_by_row s word o ≡ Err f
+row_faults : (s : Scene) (word : ℕ) (o : Option Row) (r : Reference) (f : StepFault) → reference_by_row s.processor word o ≡ Some r → translated s.processor r ≡ Err f → change_by_row s word o ≡ Err f
 row_faults s word None r f is h = absurd (let bad : ◌≡◌ {A = Option Reference} None (Some r) = is in cc)
 row_faults s word (Some row) r f is h =
     three_fault s (table row).effect (arguments s.processor (table row).operands (numbers_of word (Some row))) r f is h
 
 -- what is used, by the word that was fetched
 
-same_step : (s : Scene) (w : Result ℕ Fault) → fetches s ≡ true → executable_word s.around.memory s.processor ≡ w → step_of s ≡ step_of_result (awake s) (and_then w (change_in s))
+same_step : (s : Scene) (w : Result ℕ StepFault) → fetches s ≡ true → executable_word s.around.memory s.processor ≡ w → step_of s ≡ step_of_result (awake s) (and_then w (change_in s))
 same_step s w h is = step_fetches s h ∙ ap (λ x. step_of_result (awake s) (and_then x (change_in s))) is
 
 executed : (s : Scene) (fetch : Option Via) (word : ℕ) → fetches s ≡ true → fetch ≡ via_of s.processor (fetch_of s.processor) → executable_word s.around.memory s.processor ≡ Ok word →
@@ -175,11 +175,11 @@ does s fetch access word h v is a =
     let stored : stored_of (change_in s word) ≡ (step_of s).stored = sym (ap (λ (x : Stepped). x.stored) (same_step s (Ok word) h is) ∙ of_result (awake s) (change_in s word)) in
     executed s fetch word h v is ∙ (λ i. record { fetch = fetch; access = a i; stored = stored i })
 
-via_is : (p : Processor) (r : Reference) (x : Result Physical Fault) → translated p r ≡ x → via_of p r ≡ via_in p r.address x
+via_is : (p : Processor) (r : Reference) (x : Result Physical StepFault) → translated p r ≡ x → via_of p r ≡ via_in p r.address x
 unfolding via_of
 via_is p r x h = ap (via_in p r.address) h
 
-by_translation : (s : Scene) (fetch : Option Via) (word : ℕ) (r : Reference) (x : Result Physical Fault) → fetches s ≡ true → fetch ≡ via_of s.processor (fetch_of s.processor) → executable_word s.around.memory s.processor ≡ Ok word →
+by_translation : (s : Scene) (fetch : Option Via) (word : ℕ) (r : Reference) (x : Result Physical StepFault) → fetches s ≡ true → fetch ≡ via_of s.processor (fetch_of s.processor) → executable_word s.around.memory s.processor ≡ Ok word →
     reference_in s.processor word ≡ Some r → translated s.processor r ≡ x → AccessesBy s fetch word r x
 by_translation s fetch word r (Err f) h v is at t =
     let change : change_in s word ≡ Err f = row_faults s word (row_that_fits word) r f at t in
@@ -196,7 +196,7 @@ by_reference : (s : Scene) (fetch : Option Via) (word : ℕ) (o : Option Referen
 by_reference s fetch word None h v is at = (same_step s (Ok word) h is, does s fetch None word h v is (ap (via_reference s.processor) at))
 by_reference s fetch word (Some r) h v is at = by_translation s fetch word r (translated s.processor r) h v is at refl
 
-by_word : (s : Scene) (fetch : Option Via) (w : Result ℕ Fault) → fetches s ≡ true → fetch ≡ via_of s.processor (fetch_of s.processor) → executable_word s.around.memory s.processor ≡ w → ExecutesBy s fetch w
+by_word : (s : Scene) (fetch : Option Via) (w : Result ℕ StepFault) → fetches s ≡ true → fetch ≡ via_of s.processor (fetch_of s.processor) → executable_word s.around.memory s.processor ≡ w → ExecutesBy s fetch w
 by_word s fetch (Err f) h v is = (same_step s (Err f) h is, uses_if s true h ∙ sym (not_fetched_uses s f fetch v is))
 by_word s fetch (Ok word) h v is = by_reference s fetch word (reference_in s.processor word) h v is refl
 
@@ -204,7 +204,7 @@ by_word s fetch (Ok word) h v is = by_reference s fetch word (reference_in s.pro
 word_there : (memory : List ℕ) (p : Processor) (to : Physical) → translated p (fetch_of p) ≡ Ok to → executable_word memory p ≡ word_from memory to.at p
 word_there memory p to t = rw (located Fetch 4 p.pc p to t) refl
 
-by_fetch : (s : Scene) (x : Result Physical Fault) → fetches s ≡ true → translated s.processor (fetch_of s.processor) ≡ x → FetchesBy s x
+by_fetch : (s : Scene) (x : Result Physical StepFault) → fetches s ≡ true → translated s.processor (fetch_of s.processor) ≡ x → FetchesBy s x
 by_fetch s (Err f) h t =
     by_word s None (Err f) h (sym (via_is s.processor (fetch_of s.processor) (Err f) t))
     (no_word_at_pc s.around.memory s.processor f (not_located Fetch 4 s.processor.pc s.processor f t))

@@ -1,7 +1,7 @@
 use Rattle.std.proofs.Common.{◌≡◌, ◌∙◌, ap, refl, ℕ, Bool, true, false, Option, None, Some, Result, Ok, Err}
 use Rattle.std.specs.Prelude.{if◌then◌else◌}
 use Rattle.m161_cop0.specs.Control.{is_pending}
-use Rattle.m161_cpu.specs.declared.fault.Fault.{Fault}
+use Rattle.m161_cpu.specs.declared.fault.StepFault.{StepFault}
 use Rattle.m161_cpu.specs.declared.processor.Outcome.{Outcome}
 use Rattle.m161_cpu.specs.declared.processor.ProcessorState.{ProcessorState}
 use Rattle.m161_cpu.specs.declared.processor.ProcessorState.TheVariants.{Stopped, Running, Waiting}
@@ -27,7 +27,7 @@ links_keep c act stored links = act_keeps c act (after_store stored links) ∙ s
 abbrev KeepsUnit : Scene → Stepped → Type 0
 KeepsUnit s x = x.after.around.links.unit ≡ s.around.links.unit
 
-result_keeps : (s : Scene) (r : Result Change Fault) → KeepsUnit s (step_of_result s r)
+result_keeps : (s : Scene) (r : Result Change StepFault) → KeepsUnit s (step_of_result s r)
 result_keeps s (Ok c) = links_keep s.around.number c.link (stored_by c.store) s.around.links
 result_keeps s (Err f) = links_keep s.around.number End None s.around.links
 

@@ -37,7 +37,7 @@ use Rattle.m161_cpu.specs.declared.uses.Via.{Via}
 use Rattle.m161_cpu.specs.declared.uses.Uses.{Uses}
 use Rattle.m161_cpu.specs.Processor.{Processor}
 use Rattle.m161_cpu.specs.Scene.{Scene, Change, and_then, result_map, stored_by}
-use Rattle.m161_cpu.specs.declared.fault.Fault.{Fault}
+use Rattle.m161_cpu.specs.declared.fault.StepFault.{StepFault}
 use Rattle.m161_cpu.specs.Fault.{fault}
 use Rattle.m161_cpu.specs.Translation.{bus_error, is_misaddressed, physical, physical_at, reach, reach_word_of, read_word, translate}
 use Rattle.m161_cpu.specs.Effect.{is_linked, load_linked, store_conditional, unless_overflow, write, write_board, write_read}
@@ -73,7 +73,7 @@ store_refers p store.WordRight rt o b = refl
 store_refers p store.Conditional rt o b = refl
 
 -- a load stores nothing
-nothing_stored : {V : Type 0} (r : Result V Fault) (f : V → Change) → ((x : V) → stored_by (f x).store ≡ None) → stored_of (result_map f r) ≡ None
+nothing_stored : {V : Type 0} (r : Result V StepFault) (f : V → Change) → ((x : V) → stored_by (f x).store ≡ None) → stored_of (result_map f r) ≡ None
 nothing_stored (Ok x) f none = none x
 nothing_stored (Err e) f none = refl
 
@@ -113,7 +113,7 @@ load_uses s fetch op rt o b via is = λ i. record {
 }
 
 -- a store whose translation faults
-store_faults : (s : Scene) (op : StoreOp) (rt o b : ℕ) (f : Fault) →
+store_faults : (s : Scene) (op : StoreOp) (rt o b : ℕ) (f : StepFault) →
     translate Store (width_of_store op) (address_by s.processor o b) s.processor ≡ Err f →
     stored_of (change_by s (instrs.Store op rt o b)) ≡ None
 unfolding change_by
@@ -125,21 +125,21 @@ store_faults s store.WordRight rt o b f h = rw (not_located Store 1 (address_by 
 store_faults s store.Conditional rt o b f h = rw (not_located Store 4 (address_by s.processor o b) s.processor f h) refl
 
 -- a store to RAM, or to no word of it
-in_test : (t : Bool) (r e : Result Change Fault) (w : ℕ) → stored_of r ≡ Some w → stored_of e ≡ None → stored_of (if t then r else e) ≡ (if t then Some w else None)
+in_test : (t : Bool) (r e : Result Change StepFault) (w : ℕ) → stored_of r ≡ Some w → stored_of e ≡ None → stored_of (if t then r else e) ≡ (if t then Some w else None)
 in_test true r e w here elsewhere = here
 in_test false r e w here elsewhere = elsewhere
 
-in_ram_test : (t : Bool) (f : ℕ → Change) (at : ℕ) (e : Fault) (w : ℕ) → stored_by (f at).store ≡ Some w → stored_of (result_map f (if t then Ok at else Err e)) ≡ (if t then Some w else None)
+in_ram_test : (t : Bool) (f : ℕ → Change) (at : ℕ) (e : StepFault) (w : ℕ) → stored_by (f at).store ≡ Some w → stored_of (result_map f (if t then Ok at else Err e)) ≡ (if t then Some w else None)
 in_ram_test true f at e w here = here
 in_ram_test false f at e w here = refl
 
-in_linked : (t linked : Bool) (s : Scene) (r word at : ℕ) (e : Fault) → is_linked s at ≡ linked →
+in_linked : (t linked : Bool) (s : Scene) (r word at : ℕ) (e : StepFault) → is_linked s at ≡ linked →
     stored_of (result_map (store_conditional s r word) (if t then Ok at else Err e)) ≡ (if t && linked then Some at else None)
 in_linked true true s r word at e h = rw h refl
 in_linked true false s r word at e h = rw h refl
 in_linked false linked s r word at e h = refl
 
-no_word : (r : Result BoardState Fault) → stored_of (result_map write_board r) ≡ None
+no_word : (r : Result BoardState StepFault) → stored_of (result_map write_board r) ≡ None
 no_word (Ok board) = refl
 no_word (Err f) = refl
 
@@ -154,7 +154,7 @@ store_place s store.WordLeft rt o b at h = rw h (in_ram_test (nat_le (at / 4 * 4
 store_place s store.WordRight rt o b at h = rw h (in_ram_test (nat_le (at / 4 * 4 + 4) (length s.around.memory)) _ (at / 4 * 4) _ _ refl)
 store_place s store.Conditional rt o b at h = rw h (in_linked (nat_le (at + 4) (length s.around.memory)) (is_linked s at) s rt (slice_index s.processor.registers rt) at _ refl)
 
-pub store_not_located : (s : Scene) (fetch : Option Via) (op : StoreOp) (rt o b address width : ℕ) (f : Fault) →
+pub store_not_located : (s : Scene) (fetch : Option Via) (op : StoreOp) (rt o b address width : ℕ) (f : StepFault) →
     address_by s.processor o b ≡ address → width ≡ width_of_store op → translate Store width address s.processor ≡ Err f →
     ◌≡◌ {A = Uses} (record { fetch = fetch; access = None; stored = None }) (uses_by s fetch (instrs.Store op rt o b))
 unfolding via_of
@@ -181,7 +181,7 @@ store_located s fetch op rt o b address width to via stored is w h v at =
     }
 
 -- no other instruction has an access, or stores
-in_slot : (t : Bool) (c : Change) (f : Fault) → stored_by c.store ≡ None → stored_of (if t then Err f else Ok c) ≡ None
+in_slot : (t : Bool) (c : Change) (f : StepFault) → stored_by c.store ≡ None → stored_of (if t then Err f else Ok c) ≡ None
 in_slot true c f none = refl
 in_slot false c f none = none
 
@@ -313,14 +313,14 @@ pub fetched_uses : (s : Scene) (word : ℕ) (fetch : Option Via) → fetch ≡ v
 unfolding uses_fetched
 fetched_uses s word fetch via is = ap (λ v. uses_of_word s v word) via ∙ ap (uses_after s (via_of s.processor (fetch_of s.processor))) (sym is)
 
-pub not_fetched_uses : (s : Scene) (f : Fault) (fetch : Option Via) → fetch ≡ via_of s.processor (fetch_of s.processor) → executable_word s.around.memory s.processor ≡ Err f →
+pub not_fetched_uses : (s : Scene) (f : StepFault) (fetch : Option Via) → fetch ≡ via_of s.processor (fetch_of s.processor) → executable_word s.around.memory s.processor ≡ Err f →
     ◌≡◌ {A = Uses} (record { fetch = fetch; access = None; stored = None }) (uses_fetched s)
 unfolding uses_fetched
 not_fetched_uses s f fetch via is =
     (λ i. record { fetch = via i; access = None; stored = None }) ∙ ap (uses_after s (via_of s.processor (fetch_of s.processor))) (sym is)
 
 -- an address in kseg0 or kseg1 has no row
-by_test : (t : Bool) (access : Access) (address at : ℕ) (p : Processor) (f : Fault) →
+by_test : (t : Bool) (access : Access) (address at : ℕ) (p : Processor) (f : StepFault) →
     ◌≡◌ {A = Option Via} (via_in p address (if t then Err f else Ok (physical at None))) None
 by_test true access address at p f = refl
 by_test false access address at p f = refl
@@ -346,7 +346,7 @@ store_direct s fetch op rt o b address at stored is h segment place =
 
 -- a Step that fetches, and one that doesn't
 
-stored_is : (s : Scene) (w : Result ℕ Fault) (fetch : Option Via) → ◌≡◌ {A = Uses} (record { fetch = fetch; access = via_reference s.processor (reference_after s.processor w); stored = stored_of (and_then w (change_in s)) }) (uses_after s fetch w)
+stored_is : (s : Scene) (w : Result ℕ StepFault) (fetch : Option Via) → ◌≡◌ {A = Uses} (record { fetch = fetch; access = via_reference s.processor (reference_after s.processor w); stored = stored_of (and_then w (change_in s)) }) (uses_after s fetch w)
 unfolding uses_of_word
 stored_is s (Ok word) fetch = refl
 stored_is s (Err f) fetch = refl
@@ -362,7 +362,7 @@ uses_if = by_fetches
 
 -- a fetch, by its translation
 
-via_none : (access : Access) (width address : ℕ) (p : Processor) (f : Fault) → translate access width address p ≡ Err f → ◌≡◌ {A = Option Via} None (via_of p (reference access width address))
+via_none : (access : Access) (width address : ℕ) (p : Processor) (f : StepFault) → translate access width address p ≡ Err f → ◌≡◌ {A = Option Via} None (via_of p (reference access width address))
 unfolding via_of
 via_none access width address p f h = rw h refl
 
@@ -370,7 +370,7 @@ pub via_some : (access : Access) (width address : ℕ) (p : Processor) (to : Phy
 unfolding via_of
 via_some access width address p to h = rw h refl
 
-pub no_word_at_pc : (memory : List ℕ) (p : Processor) (f : Fault) → physical_at Fetch 4 p.pc p ≡ Err f → executable_word memory p ≡ Err f
+pub no_word_at_pc : (memory : List ℕ) (p : Processor) (f : StepFault) → physical_at Fetch 4 p.pc p ≡ Err f → executable_word memory p ≡ Err f
 no_word_at_pc memory p f h = rw h refl
 
 outside_ram : (memory : List ℕ) (p : Processor) (at : ℕ) → physical_at Fetch 4 p.pc p ≡ Ok at → nat_le (at + 4) (length memory) ≡ false → executable_word memory p ≡ Err (bus_error Fetch)
@@ -382,12 +382,12 @@ unusable_word memory p at h in_ram is = rw (h, in_ram, is) refl
 usable_word : (memory : List ℕ) (p : Processor) (at : ℕ) → physical_at Fetch 4 p.pc p ≡ Ok at → nat_le (at + 4) (length memory) ≡ true → is_unusable p.control (word_at memory at) ≡ false → executable_word memory p ≡ Ok (word_at memory at)
 usable_word memory p at h in_ram is = rw (h, in_ram, is) refl
 
-pub elsewhere_not_located : (memory : List ℕ) (p : Processor) (a : ℕ) (f : Fault) → a ≡ p.pc → translate Fetch 4 a p ≡ Err f → IsFetched memory p (None, None)
+pub elsewhere_not_located : (memory : List ℕ) (p : Processor) (a : ℕ) (f : StepFault) → a ≡ p.pc → translate Fetch 4 a p ≡ Err f → IsFetched memory p (None, None)
 elsewhere_not_located memory p a f is h =
     let here : translate Fetch 4 p.pc p ≡ Err f = ap (λ x. translate Fetch 4 x p) (sym is) ∙ h in
     (via_none Fetch 4 p.pc p f here, (f, no_word_at_pc memory p f (not_located Fetch 4 p.pc p f here)))
 
-at_pc : (p : Processor) (a : ℕ) (r : Result Physical Fault) → a ≡ p.pc → translate Fetch 4 a p ≡ r → translate Fetch 4 p.pc p ≡ r
+at_pc : (p : Processor) (a : ℕ) (r : Result Physical StepFault) → a ≡ p.pc → translate Fetch 4 a p ≡ r → translate Fetch 4 p.pc p ≡ r
 at_pc p a r is h = ap (λ x. translate Fetch 4 x p) (sym is) ∙ h
 
 fetch_via : (p : Processor) (a : ℕ) (to : Physical) (via : Option Via) → a ≡ p.pc → translate Fetch 4 a p ≡ Ok to → via ≡ via_row p a to.row → via ≡ via_of p (fetch_of p)
@@ -427,7 +427,7 @@ fetched_by s x word u f w is =
 pub not_fetched_by : (s : Scene) (x : Option Via × Option ℕ) → IsFetched s.around.memory s.processor x → x.1 ≡ None →
     ◌≡◌ {A = Uses} (record { fetch = x.0; access = None; stored = None }) (uses_fetched s)
 not_fetched_by s x f w =
-    let here : (g : Fault) × (executable_word s.around.memory s.processor ≡ Err g) = subst (IsWord (executable_word s.around.memory s.processor)) w f.1 in
+    let here : (g : StepFault) × (executable_word s.around.memory s.processor ≡ Err g) = subst (IsWord (executable_word s.around.memory s.processor)) w f.1 in
     not_fetched_uses s here.0 x.0 f.0 here.1
 
 pub fetching : (s : Scene) (u : Uses) → fetches s ≡ true → u ≡ uses_fetched s → u ≡ uses_of s

@@ -26,7 +26,7 @@ use Rattle.m161_cpu.specs.declared.processor.ProcessorState.TheVariants.{Waiting
 use Rattle.m161_cpu.specs.Processor.{Processor}
 use Rattle.m161_cpu.specs.Links.{LinkTo, End, is_to}
 use Rattle.m161_cpu.specs.Scene.{Scene, Change, byte_to, half_to, word_to, nothing, result_map, and_then}
-use Rattle.m161_cpu.specs.declared.fault.Fault.{Fault}
+use Rattle.m161_cpu.specs.declared.fault.StepFault.{StepFault}
 use Rattle.m161_cpu.specs.Fault.{fault}
 use Rattle.m161_cpu.specs.Translation.{physical_at, reach, reach_word_of, read_word, or_bus_error}
 
@@ -108,11 +108,11 @@ branch_and_link p r taken target =
     record (branch taken target) { register = Some (r, return_address p) }
 
 -- a branch; in a delay slot it is a reserved instruction
-abbrev pub outside_slot : Processor → Change → Result Change Fault
+abbrev pub outside_slot : Processor → Change → Result Change StepFault
 outside_slot p change = if p.slot then Err (fault kind.ReservedInstruction) else Ok change
 
 -- a sum, if it is a signed word, or the trap
-abbrev pub unless_overflow : Option ℕ → Result ℕ Fault
+abbrev pub unless_overflow : Option ℕ → Result ℕ StepFault
 unless_overflow (Some sum) = Ok sum
 unless_overflow None = Err (fault kind.Overflow)
 
@@ -127,23 +127,23 @@ abbrev pub place_in_word : Argument → Argument → ℕ
 place_in_word offset base = effective_address offset base % 4
 
 -- a load and a store, as a function of the place in RAM of the address
-abbrev pub load : Scene → ℕ → Argument → Argument → (ℕ → Change) → Result Change Fault
+abbrev pub load : Scene → ℕ → Argument → Argument → (ℕ → Change) → Result Change StepFault
 load s width o b change =
     result_map change
     (reach Load width (effective_address o b) (length s.around.memory) s.processor)
 
-abbrev pub store : Scene → ℕ → Argument → Argument → (ℕ → Change) → Result Change Fault
+abbrev pub store : Scene → ℕ → Argument → Argument → (ℕ → Change) → Result Change StepFault
 store s width o b change =
     result_map change
     (reach Store width (effective_address o b) (length s.around.memory) s.processor)
 
 -- the same, of the word that contains the address
-abbrev pub load_within : Scene → Argument → Argument → (ℕ → Change) → Result Change Fault
+abbrev pub load_within : Scene → Argument → Argument → (ℕ → Change) → Result Change StepFault
 load_within s o b change =
     result_map change
     (reach_word_of Load (effective_address o b) (length s.around.memory) s.processor)
 
-abbrev pub store_within : Scene → Argument → Argument → (ℕ → Change) → Result Change Fault
+abbrev pub store_within : Scene → Argument → Argument → (ℕ → Change) → Result Change StepFault
 store_within s o b change =
     result_map change
     (reach_word_of Store (effective_address o b) (length s.around.memory) s.processor)
@@ -155,13 +155,13 @@ write_read r read = record (write r read.0) { board = Some read.1 }
 abbrev pub write_board : BoardState → Change
 write_board board = record nothing { board = Some board }
 
-abbrev pub store_physical_word : Scene → ℕ → ℕ → Result Change Fault
+abbrev pub store_physical_word : Scene → ℕ → ℕ → Result Change StepFault
 store_physical_word s word at =
     if nat_le (at + 4) (length s.around.memory) then Ok (store_word word at)
     else result_map write_board
     (or_bus_error Store (board_written s.around.number at word s.around.board))
 
-abbrev pub store_word_at : ℕ → ℕ → Scene → Result Change Fault
+abbrev pub store_word_at : ℕ → ℕ → Scene → Result Change StepFault
 store_word_at address word s =
     and_then (physical_at Store 4 address s.processor) (store_physical_word s word)
 
@@ -202,7 +202,7 @@ after_probe p =
     with_probe (find_row p.rows (p.control.entry_hi / 2 ^ 12) (identifier_of p.control)) p.control
 
 -- each effect, from its operands and the scene
-abbrev pub effect_of : Scene → Effect → Argument → Argument → Argument → Result Change Fault
+abbrev pub effect_of : Scene → Effect → Argument → Argument → Argument → Result Change StepFault
 -- shifts
 effect_of s effect.ShiftLeft d a n =
     Ok (write d.number (shifted_word shift.Left a.value (n.value % 32)))

@@ -3,7 +3,7 @@ use Rattle.m161_cop0.specs.declared.exception.Exception.{Exception}
 use Rattle.m161_cop0.specs.declared.exception.Exception.TheVariants as exception
 use Rattle.m161_cop0.specs.declared.trap.Trap.{Trap}
 use Rattle.m161_cop0.specs.Trap.{after_trap, vector_of}
-use Rattle.m161_cpu.specs.declared.fault.Fault.{Fault}
+use Rattle.m161_cpu.specs.declared.fault.StepFault.{StepFault}
 use Rattle.m161_cpu.specs.declared.fault.FaultKind.{FaultKind}
 use Rattle.m161_cpu.specs.declared.fault.FaultKind.TheVariants as kind
 use Rattle.m161_cpu.specs.Processor.{Processor}
@@ -14,10 +14,10 @@ use Rattle.m161_cpu.specs.Processor.{Processor}
 -- a fault has a kind and an address at fault; one without an address has 0 there, and its trap uses
 -- none
 
-abbrev pub fault : FaultKind → Fault
+abbrev pub fault : FaultKind → StepFault
 fault kind = record { kind = kind; address = 0 }
 
-abbrev pub fault_at : FaultKind → ℕ → Fault
+abbrev pub fault_at : FaultKind → ℕ → StepFault
 fault_at kind address = record { kind = kind; address = address }
 
 -- the exception of a kind
@@ -55,7 +55,7 @@ is_user_miss_kind kind.UserMissStore = true
 is_user_miss_kind _ = false
 
 -- the trap of a fault at the current instruction
-abbrev pub trap_of : Fault → Processor → Trap
+abbrev pub trap_of : StepFault → Processor → Trap
 trap_of f p = record {
   code = exception_of f.kind;
   unit = unit_of_kind f.kind;
@@ -66,11 +66,11 @@ trap_of f p = record {
 }
 
 -- the address at which the processor continues
-abbrev pub vector : Fault → Processor → ℕ
+abbrev pub vector : StepFault → Processor → ℕ
 vector f p = vector_of (trap_of f p) p.control
 
 -- a processor that has entered the trap
-abbrev pub with_trap : Fault → Processor → Processor
+abbrev pub with_trap : StepFault → Processor → Processor
 with_trap f p = record p {
   control = after_trap (trap_of f p) p.control;
   pc = vector f p;

@@ -1,7 +1,7 @@
 use Rattle.std.specs.Prelude.{ℕ, List, length, Option, None, Some, Result, Ok, Err}
 use Rattle.m161_ram.specs.Word.{word_at}
 use Rattle.m161_cpu.specs.declared.fault.Access.TheVariants.{Fetch}
-use Rattle.m161_cpu.specs.declared.fault.Fault.{Fault}
+use Rattle.m161_cpu.specs.declared.fault.StepFault.{StepFault}
 use Rattle.m161_cpu.specs.Processor.{Processor}
 use Rattle.m161_cpu.specs.Scene.{result_map}
 use Rattle.m161_cpu.specs.Translation.{reach}
@@ -9,7 +9,7 @@ use Rattle.m161_cpu.specs.Translation.{reach}
 -- What a processor would fetch.
 
 -- a word that was found
-abbrev pub word_found : Result ℕ Fault → Option ℕ
+abbrev pub word_found : Result ℕ StepFault → Option ℕ
 word_found (Ok word) = Some word
 word_found (Err f) = None
 

@@ -21,7 +21,7 @@ use Rattle.m161_cpu.specs.declared.processor.Outcome.TheVariants.{Ran, Trapped, 
 use Rattle.m161_cpu.specs.Processor.{Processor, with_state}
 use Rattle.m161_cpu.specs.Links.{LinkAct, Keep, End, links_after}
 use Rattle.m161_cpu.specs.Scene.{Around, Scene, Change, scene, result_map, and_then, stored_by, processor_after, around_after}
-use Rattle.m161_cpu.specs.declared.fault.Fault.{Fault}
+use Rattle.m161_cpu.specs.declared.fault.StepFault.{StepFault}
 use Rattle.m161_cpu.specs.Fault.{fault, exception_of, vector, with_trap}
 use Rattle.m161_cpu.specs.Translation.{reach}
 use Rattle.m161_cpu.specs.Effect.{arguments, with_three, effect_of}
@@ -107,7 +107,7 @@ without_link a = record a { links = links_after a.number End None a.links }
 
 -- what a trap leaves: the registers of its entry; general registers, HI, LO, memory and the board
 -- are as they were
-abbrev pub step_of_fault : Scene → Fault → Stepped
+abbrev pub step_of_fault : Scene → StepFault → Stepped
 step_of_fault s f = record {
   outcome = Trapped (exception_of f.kind) (vector f s.processor);
   after = scene (tick (with_trap f s.processor)) (without_link s.around);
@@ -115,16 +115,16 @@ step_of_fault s f = record {
   stored = None;
 }
 
-abbrev pub step_of_result : Scene → Result Change Fault → Stepped
+abbrev pub step_of_result : Scene → Result Change StepFault → Stepped
 step_of_result s (Ok change) = step_of_change s change
 step_of_result s (Err f) = step_of_fault s f
 
 -- the word at pc, in this memory
-abbrev pub word_at_pc : List ℕ → Processor → Result ℕ Fault
+abbrev pub word_at_pc : List ℕ → Processor → Result ℕ StepFault
 word_at_pc memory p = result_map (word_at memory) (reach Fetch 4 p.pc (length memory) p)
 
 -- what a row does with the numbers of its operands
-abbrev pub change_of_row : Scene → Row → List ℕ → Result Change Fault
+abbrev pub change_of_row : Scene → Row → List ℕ → Result Change StepFault
 change_of_row s r numbers =
     with_three (effect_of s (table r).effect) (arguments s.processor (table r).operands numbers)
 
@@ -135,7 +135,7 @@ misfit_kind (Some coprocessor.One) = kind.Coprocessor1Unusable
 misfit_kind (Some coprocessor.Two) = kind.Coprocessor2Unusable
 misfit_kind (Some coprocessor.Three) = kind.Coprocessor3Unusable
 
-abbrev pub change_by_row : Scene → ℕ → Option Row → Result Change Fault
+abbrev pub change_by_row : Scene → ℕ → Option Row → Result Change StepFault
 change_by_row s word (Some r) = change_of_row s r (numbers_of word (Some r))
 change_by_row s word None = Err (fault (misfit_kind (absent_in word)))
 
@@ -144,15 +144,15 @@ abbrev pub is_unusable : Control → ℕ → Bool
 is_unusable c word = (bits_of word 26 6 == 16) && not (may_use_cop0 c)
 
 -- what the instruction of a word changes
-abbrev pub change_in : Scene → ℕ → Result Change Fault
+abbrev pub change_in : Scene → ℕ → Result Change StepFault
 change_in s word = change_by_row s word (row_that_fits word)
 
 -- a word, if it may be executed
-abbrev pub usable : Control → ℕ → Result ℕ Fault
+abbrev pub usable : Control → ℕ → Result ℕ StepFault
 usable c word = if is_unusable c word then Err (fault kind.Coprocessor0Unusable) else Ok word
 
 -- the word at pc, if it may be executed
-abbrev pub executable_word : List ℕ → Processor → Result ℕ Fault
+abbrev pub executable_word : List ℕ → Processor → Result ℕ StepFault
 executable_word memory p = and_then (word_at_pc memory p) (usable p.control)
 
 -- the lines of the board that the processor sees
@@ -160,7 +160,7 @@ abbrev pub lines_in : Scene → ℕ
 lines_in s = interrupt_lines s.around.number s.around.board
 
 -- interrupt, fetch, coprocessor 0 unusable, decode, effect or trap, in this order
-unfoldable pub change_of_step : Scene → Result Change Fault
+unfoldable pub change_of_step : Scene → Result Change StepFault
 change_of_step s =
     if is_interrupted (lines_in s) s.processor.control then Err (fault kind.Interrupt)
     else and_then (executable_word s.around.memory s.processor) (change_in s)

@@ -6,7 +6,7 @@ use Rattle.m161_isa.specs.Table.{table, row_that_fits, numbers_of}
 use Rattle.m161_cop0.specs.Control.{identifier_of, is_pending, is_interrupted}
 use Rattle.m161_cpu.specs.declared.fault.Access.{Access}
 use Rattle.m161_cpu.specs.declared.fault.Access.TheVariants.{Fetch, Load, Store}
-use Rattle.m161_cpu.specs.declared.fault.Fault.{Fault}
+use Rattle.m161_cpu.specs.declared.fault.StepFault.{StepFault}
 use Rattle.m161_cpu.specs.declared.translation.Physical.{Physical}
 use Rattle.m161_cpu.specs.declared.processor.ProcessorState.{ProcessorState}
 use Rattle.m161_cpu.specs.declared.processor.ProcessorState.TheVariants.{Stopped, Running, Waiting}
@@ -31,7 +31,7 @@ abbrev pub reference : Access → ℕ → ℕ → Reference
 reference access width address = record { access = access; width = width; address = address }
 
 -- the physical address of a reference, and the row that gives it; or why it traps
-abbrev pub translated : Processor → Reference → Result Physical Fault
+abbrev pub translated : Processor → Reference → Result Physical StepFault
 translated p r = translate r.access r.width r.address p
 
 -- the row that gave a physical address, with the identifier in EntryHi
@@ -44,7 +44,7 @@ via_row p address (Some row) = Some (record {
   address = address;
 })
 
-abbrev pub via_in : Processor → ℕ → Result Physical Fault → Option Via
+abbrev pub via_in : Processor → ℕ → Result Physical StepFault → Option Via
 via_in p address (Ok to) = via_row p address to.row
 via_in p address (Err f) = None
 
@@ -96,7 +96,7 @@ abbrev pub reference_in : Processor → ℕ → Option Reference
 reference_in p word = reference_by_row p word (row_that_fits word)
 
 -- the reference after the fetch: none if there is no word that may be executed
-abbrev pub reference_after : Processor → Result ℕ Fault → Option Reference
+abbrev pub reference_after : Processor → Result ℕ StepFault → Option Reference
 reference_after p (Ok word) = reference_in p word
 reference_after p (Err f) = None
 

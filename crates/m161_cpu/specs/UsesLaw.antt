@@ -2,7 +2,7 @@ use Rattle.std.specs.Prelude.{◌≡◌, ◌⊎◌, ℕ, Bool, true, false, List
 use Rattle.m161_isa.specs.declared.effect.Effect.{Effect}
 use Rattle.m161_ram.specs.Word.{word_at}
 use Rattle.m161_cpu.specs.declared.fault.Access.TheVariants.{Fetch}
-use Rattle.m161_cpu.specs.declared.fault.Fault.{Fault}
+use Rattle.m161_cpu.specs.declared.fault.StepFault.{StepFault}
 use Rattle.m161_cpu.specs.declared.fault.FaultKind.{FaultKind}
 use Rattle.m161_cpu.specs.declared.fault.FaultKind.TheVariants as kind
 use Rattle.m161_cpu.specs.declared.processor.Outcome.TheVariants.{Idle}
@@ -43,12 +43,12 @@ is_of_reference kind.Coprocessor3Unusable = false
 is_of_reference kind.Overflow = false
 
 -- it stores nothing and writes to no device, and its fault isn't one of an address or of the bus
-abbrev pub RefersToNothing : Result Change Fault → Type 0
+abbrev pub RefersToNothing : Result Change StepFault → Type 0
 RefersToNothing (Ok change) = (change.store ≡ None) × (change.board ≡ None)
 RefersToNothing (Err f) = is_of_reference f.kind ≡ false
 
 -- the physical address of a reference, or why it traps
-abbrev pub address_of : Processor → Reference → Result ℕ Fault
+abbrev pub address_of : Processor → Reference → Result ℕ StepFault
 address_of p r = physical_at r.access r.width r.address p
 
 -- An effect with a reference faults where its translation faults; beside its operands it depends on
@@ -58,7 +58,7 @@ address_of p r = physical_at r.access r.width r.address p
 abbrev pub Refers : Effect → Argument → Argument → Argument → Option Reference → Type 0
 Refers e a b c (Some r) =
     (s : Scene)
-    → ((f : Fault) → translated s.processor r ≡ Err f → effect_of s e a b c ≡ Err f)
+    → ((f : StepFault) → translated s.processor r ≡ Err f → effect_of s e a b c ≡ Err f)
     × ((p : Processor) → address_of p r ≡ address_of s.processor r
     → effect_of (scene p s.around) e a b c ≡ effect_of s e a b c)
 Refers e a b c None =
@@ -79,7 +79,7 @@ abbrev pub uses : Option Via → Option Via → Option ℕ → Uses
 uses fetch access stored = record { fetch = fetch; access = access; stored = stored }
 
 -- the Step traps, with these uses; it stores nothing
-abbrev pub TrapsWith : Scene → Option Via → Fault → Type 0
+abbrev pub TrapsWith : Scene → Option Via → StepFault → Type 0
 TrapsWith s fetch f = (step_of s ≡ step_of_fault (awake s) f) × (uses_of s ≡ uses fetch None None)
 
 -- the Step does what the effect of this word does, with these uses
@@ -89,7 +89,7 @@ DoesWith s fetch access word =
     × (uses_of s ≡ uses fetch access (step_of s).stored)
 
 -- by the translation of the reference: it traps, or the effect is made, and may still trap
-abbrev pub AccessesBy : Scene → Option Via → ℕ → Reference → Result Physical Fault → Type 0
+abbrev pub AccessesBy : Scene → Option Via → ℕ → Reference → Result Physical StepFault → Type 0
 AccessesBy s fetch word r (Err f) = TrapsWith s fetch f
 AccessesBy s fetch word r (Ok to) = DoesWith s fetch (via_row s.processor r.address to.row) word
 
@@ -99,16 +99,16 @@ RefersBy s fetch word None = DoesWith s fetch None word
 RefersBy s fetch word (Some r) = AccessesBy s fetch word r (translated s.processor r)
 
 -- by the word at the fetch's physical address, if it is in RAM and the word may be executed
-abbrev pub ExecutesBy : Scene → Option Via → Result ℕ Fault → Type 0
+abbrev pub ExecutesBy : Scene → Option Via → Result ℕ StepFault → Type 0
 ExecutesBy s fetch (Err f) = TrapsWith s fetch f
 ExecutesBy s fetch (Ok word) = RefersBy s fetch word (reference_in s.processor word)
 
-abbrev pub word_from : List ℕ → ℕ → Processor → Result ℕ Fault
+abbrev pub word_from : List ℕ → ℕ → Processor → Result ℕ StepFault
 word_from memory at p =
     and_then (result_map (word_at memory) (in_ram Fetch 4 (length memory) at)) (usable p.control)
 
 -- by the translation of the fetch
-abbrev pub FetchesBy : Scene → Result Physical Fault → Type 0
+abbrev pub FetchesBy : Scene → Result Physical StepFault → Type 0
 FetchesBy s (Err f) = TrapsWith s None f
 FetchesBy s (Ok to) =
     ExecutesBy s (via_row s.processor s.processor.pc to.row)

@@ -6,7 +6,7 @@ ghost use Rattle.m161_cpu.specs.Effect.{write};
 ghost use Rattle.m161_cpu.specs.Scene.{Around, result_map, scene};
 ghost use Rattle.m161_cpu.specs.helpers.Execute.{change_by, ExecutesInProcessor, Executes, Writes, WritesFrom};
 
-use crate::fault::{Fault, FaultKind};
+use crate::fault::{FaultKind, StepFault};
 use crate::processor::Cpu;
 use m161_alu::{Signedness, add_checked, set_on_less, shift, sign_extend_half, sub_checked};
 use m161_isa::{Amount, ArithOp, Immediate, ImmediateOp, Reg, ShiftOp};
@@ -15,13 +15,13 @@ use m161_tlb::Tlb;
 // What a row on two registers writes to a third.
 #[inline(always)]
 #[tactic(auto, unfolding(crate::specs::helpers::Execute::change_by))]
-fn arithmetic(op: ArithOp, s: u32, t: u32) -> Result<u32, Fault>
+fn arithmetic(op: ArithOp, s: u32, t: u32) -> Result<u32, StepFault>
     ensures { Writes (Arith op) s t result }
 {
     match op {
-        ArithOp::Add => add_checked(s, t).ok_or(Fault::of(FaultKind::Overflow)),
+        ArithOp::Add => add_checked(s, t).ok_or(StepFault::of(FaultKind::Overflow)),
         ArithOp::Addu => Ok(s.wrapping_add(t)),
-        ArithOp::Sub => sub_checked(s, t).ok_or(Fault::of(FaultKind::Overflow)),
+        ArithOp::Sub => sub_checked(s, t).ok_or(StepFault::of(FaultKind::Overflow)),
         ArithOp::Subu => Ok(s.wrapping_sub(t)),
         ArithOp::And => Ok(s & t),
         ArithOp::Or => Ok(s | t),
@@ -35,13 +35,13 @@ fn arithmetic(op: ArithOp, s: u32, t: u32) -> Result<u32, Fault>
 // What a row on a register and an immediate writes.
 #[inline(always)]
 #[tactic(auto, unfolding(crate::specs::helpers::Execute::change_by))]
-fn with_immediate(op: ImmediateOp, s: u32, immediate: Immediate) -> Result<u32, Fault>
+fn with_immediate(op: ImmediateOp, s: u32, immediate: Immediate) -> Result<u32, StepFault>
     ensures { WritesFrom (λ d a. ByImmediate op d a immediate) s result }
 {
     let signed = sign_extend_half(immediate.half());
     let unsigned = u32::from(immediate.half());
     match op {
-        ImmediateOp::Addi => add_checked(s, signed).ok_or(Fault::of(FaultKind::Overflow)),
+        ImmediateOp::Addi => add_checked(s, signed).ok_or(StepFault::of(FaultKind::Overflow)),
         ImmediateOp::Addiu => Ok(s.wrapping_add(signed)),
         ImmediateOp::Slti => Ok(u32::from(set_on_less(Signedness::Signed, s, signed))),
         ImmediateOp::Sltiu => Ok(u32::from(set_on_less(Signedness::Unsigned, s, signed))),
@@ -61,7 +61,7 @@ impl<T: Tlb> Cpu<T> {
         rd: Reg,
         rt: Reg,
         amount: Amount,
-    ) -> Result<(), Fault>
+    ) -> Result<(), StepFault>
         ensures { ExecutesInProcessor (Shift op rd rt amount) self.old result self.new }
     {
         let word = shift(op, self.reg(rt), amount);
@@ -78,7 +78,7 @@ impl<T: Tlb> Cpu<T> {
         rd: Reg,
         rt: Reg,
         rs: Reg,
-    ) -> Result<(), Fault>
+    ) -> Result<(), StepFault>
         ensures { ExecutesInProcessor (ShiftVariable op rd rt rs) self.old result self.new }
     {
         let amount = Amount::new((self.reg(rs) % 32) as u8);
@@ -89,7 +89,7 @@ impl<T: Tlb> Cpu<T> {
 
     /// A row on two registers.
     #[inline(always)]
-    pub(crate) fn arith(&mut self, op: ArithOp, rd: Reg, rs: Reg, rt: Reg) -> Result<(), Fault>
+    pub(crate) fn arith(&mut self, op: ArithOp, rd: Reg, rs: Reg, rt: Reg) -> Result<(), StepFault>
         ensures { ExecutesInProcessor (Arith op rd rs rt) self.old result self.new }
     {
         self.set_if(rd, arithmetic(op, self.reg(rs), self.reg(rt)))
@@ -103,7 +103,7 @@ impl<T: Tlb> Cpu<T> {
         rt: Reg,
         rs: Reg,
         immediate: Immediate,
-    ) -> Result<(), Fault>
+    ) -> Result<(), StepFault>
         ensures { ExecutesInProcessor (ByImmediate op rt rs immediate) self.old result self.new }
     {
         self.set_if(rt, with_immediate(op, self.reg(rs), immediate))
@@ -112,7 +112,7 @@ impl<T: Tlb> Cpu<T> {
     /// `lui`.
     #[inline(always)]
     #[tactic(auto, unfolding(crate::specs::helpers::Execute::change_by))]
-    pub(crate) fn load_upper(&mut self, rt: Reg, immediate: Immediate) -> Result<(), Fault>
+    pub(crate) fn load_upper(&mut self, rt: Reg, immediate: Immediate) -> Result<(), StepFault>
         ensures { ExecutesInProcessor (LoadUpper rt immediate) self.old result self.new }
     {
         self.set(rt, u32::from(immediate.half()) << 16);
@@ -121,7 +121,7 @@ impl<T: Tlb> Cpu<T> {
 
     // Writes a register, if there is something to write.
     #[inline(always)]
-    fn set_if(&mut self, register: Reg, value: Result<u32, Fault>) -> Result<(), Fault>
+    fn set_if(&mut self, register: Reg, value: Result<u32, StepFault>) -> Result<(), StepFault>
         ensures { (a : Around) → Executes (result_map (write register) value)
             (scene self.old a) result
             (scene self.new a) }

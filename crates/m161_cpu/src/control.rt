@@ -10,7 +10,7 @@ ghost use Rattle.m161_cpu.specs.Scene.{Around, scene_of, scene};
 ghost use Rattle.m161_cpu.specs.Step.{conflict_in};
 ghost use Rattle.m161_tlb.specs.Rows.{find_overlap};
 
-use crate::fault::{Fault, FaultKind, Stop};
+use crate::fault::{FaultKind, StepEnd, StepFault};
 use crate::links::Links;
 use crate::processor::{Cpu, Flow};
 use m161_isa::{PlainOp, Reg};
@@ -52,7 +52,7 @@ impl<T: Tlb> Cpu<T> {
         c: u32,
         links: &mut Links,
         strict: bool,
-    ) -> Result<(), Stop>
+    ) -> Result<(), StepEnd>
         requires { c < 32 }
         ensures { (m : List ℕ) (b : BoardState)
             → Settles (change_by (scene_of self.old c m b links.old strict) (Plain op))
@@ -61,8 +61,8 @@ impl<T: Tlb> Cpu<T> {
     {
         let executed = match op {
             PlainOp::Sync => Ok(()),
-            PlainOp::Syscall => return Err(Stop::Fault(Fault::of(FaultKind::SystemCall))),
-            PlainOp::Break => return Err(Stop::Fault(Fault::of(FaultKind::Breakpoint))),
+            PlainOp::Syscall => return Err(StepEnd::Fault(StepFault::of(FaultKind::SystemCall))),
+            PlainOp::Break => return Err(StepEnd::Fault(StepFault::of(FaultKind::Breakpoint))),
             PlainOp::Tlbr => {
                 self.read_row();
                 Ok(())
@@ -107,7 +107,7 @@ impl<T: Tlb> Cpu<T> {
     // would overlap is a conflict.
     #[cold]
     #[inline(never)]
-    fn write_row(&mut self, i: u8, strict: bool) -> Result<(), Stop>
+    fn write_row(&mut self, i: u8, strict: bool) -> Result<(), StepEnd>
         requires { i < 64 }
         ensures { WritesRow (conflict_in strict self.old.rows
             (Some (i, entry_row self.old.control)))
@@ -115,7 +115,7 @@ impl<T: Tlb> Cpu<T> {
     {
         if strict {
             if let Some(other) = self.overlapped(i) {
-                return Err(Stop::Conflict { row: i, other });
+                return Err(StepEnd::Conflict { row: i, other });
             }
         }
         self.replace_row(i);

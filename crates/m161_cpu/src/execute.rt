@@ -6,7 +6,7 @@ ghost use Rattle.m161_cpu.specs.Scene.{scene_of};
 ghost use Rattle.m161_cpu.specs.Step.{change_in, misfit_kind};
 ghost use Rattle.m161_cpu.specs.helpers.Execute.{change_by, Performs};
 
-use crate::fault::{Fault, FaultKind, Stop, settled, stopped};
+use crate::fault::{FaultKind, StepEnd, StepFault, settled, stopped};
 use crate::links::Links;
 use crate::processor::Cpu;
 use m161_bus::{Board, Console};
@@ -38,7 +38,7 @@ impl<T: Tlb> Cpu<T> {
         board: &mut Board<D>,
         links: &mut Links,
         strict: bool,
-    ) -> Result<(), Stop>
+    ) -> Result<(), StepEnd>
         requires processor { (c < board.old.state.processors) × (board.old.state.processors ≤ 32) }
         requires ram { length ram.old ≤ 2 ^ 29 }
         ensures change { Performs
@@ -62,7 +62,7 @@ impl<T: Tlb> Cpu<T> {
         board: &mut Board<D>,
         links: &mut Links,
         strict: bool,
-    ) -> Result<(), Stop>
+    ) -> Result<(), StepEnd>
         requires processor { (c < board.old.state.processors) × (board.old.state.processors ≤ 32) }
         requires ram { length ram.old ≤ 2 ^ 29 }
         ensures change { Performs (change_by
@@ -117,8 +117,10 @@ impl<T: Tlb> Cpu<T> {
                 self.write_cop0(rt, register);
                 Ok(())
             }
-            Instr::Absent(unit) => Err(Stop::Fault(Fault::of(misfit_kind(unit)))),
-            Instr::Reserved(_) => Err(Stop::Fault(Fault::of(FaultKind::ReservedInstruction))),
+            Instr::Absent(unit) => Err(StepEnd::Fault(StepFault::of(misfit_kind(unit)))),
+            Instr::Reserved(_) => Err(StepEnd::Fault(StepFault::of(
+                FaultKind::ReservedInstruction,
+            ))),
         }
     }
 }

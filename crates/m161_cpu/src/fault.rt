@@ -1,8 +1,8 @@
 //! Why an instruction isn't executed, or why none comes after it.
 
 ghost use Rattle.std.specs.Prelude.{◌≡◌, ◌<◌, Result};
-ghost use Rattle.m161_cpu.specs.declared.fault.Fault.{Fault};
-ghost use Rattle.m161_cpu.specs.declared.fault.Stop.TheVariants as stops;
+ghost use Rattle.m161_cpu.specs.declared.fault.StepFault.{StepFault};
+ghost use Rattle.m161_cpu.specs.declared.fault.StepEnd.TheVariants as stops;
 ghost use Rattle.m161_cpu.specs.Fault.{exception_of, fault, fault_at, unit_of_kind, is_user_miss_kind};
 ghost use Rattle.m161_cpu.specs.Scene.{Change, Scene};
 ghost use Rattle.m161_cpu.specs.helpers.Execute.{Executes, Performs, Settles};
@@ -93,68 +93,68 @@ impl FaultKind {
 
 /// A fault, of which only the entry of its trap changes the processor.
 #[derive(Clone, Copy, Debug, PartialEq, Eq)]
-pub(crate) struct Fault {
+pub(crate) struct StepFault {
     pub(crate) kind: FaultKind,
     /// The address that was to be fetched, loaded or stored; 0 for a kind without an address, whose
     /// trap uses none.
     pub(crate) address: u32,
 }
 
-impl Fault {
+impl StepFault {
     /// A fault without an address.
     #[inline(always)]
-    pub(crate) fn of(kind: FaultKind) -> Fault
+    pub(crate) fn of(kind: FaultKind) -> StepFault
         ensures { result ≡ fault kind }
     {
-        Fault { kind, address: 0 }
+        StepFault { kind, address: 0 }
     }
 
     /// A fault of an address.
     #[inline(always)]
-    pub(crate) fn at(kind: FaultKind, address: u32) -> Fault
+    pub(crate) fn at(kind: FaultKind, address: u32) -> StepFault
         ensures { result ≡ fault_at kind address }
     {
-        Fault { kind, address }
+        StepFault { kind, address }
     }
 }
 
 /// Why a Step ends otherwise than by an instruction after which the machine goes on.
 #[derive(Clone, Copy, Debug, PartialEq, Eq)]
-pub(crate) enum Stop {
+pub(crate) enum StepEnd {
     /// The instruction isn't executed.
-    Fault(Fault),
+    Fault(StepFault),
     /// It is executed, and switches the machine off.
     PoweredOff,
     /// It is executed but for the row of the TLB that it writes, which would overlap another one.
     Conflict { row: u8, other: u8 },
 }
 
-impl From<Fault> for Stop {
+impl From<StepFault> for StepEnd {
     ghost from_gives = { λ fault stop. stop ≡ stops.Fault fault };
 
-    fn from(fault: Fault) -> Stop {
-        Stop::Fault(fault)
+    fn from(fault: StepFault) -> StepEnd {
+        StepEnd::Fault(fault)
     }
 }
 
 /// An instruction that leaves the machine on if it was.
 #[inline(always)]
-pub(crate) fn stopped(executed: Result<(), Fault>) -> Result<(), Stop>
-    ensures { (r : Result Change Fault) (before after : Scene)
+pub(crate) fn stopped(executed: Result<(), StepFault>) -> Result<(), StepEnd>
+    ensures { (r : Result Change StepFault) (before after : Scene)
         → after.around.board.off ≡ before.around.board.off
         → Executes r before executed after
         → Performs r before result after }
 {
     match executed {
         Ok(()) => Ok(()),
-        Err(fault) => Err(Stop::Fault(fault)),
+        Err(fault) => Err(StepEnd::Fault(fault)),
     }
 }
 
 /// The same of an instruction that may write a row of the TLB.
 #[inline(always)]
-pub(crate) fn settled(executed: Result<(), Stop>) -> Result<(), Stop>
-    ensures { (r : Result Change Fault) (before after : Scene)
+pub(crate) fn settled(executed: Result<(), StepEnd>) -> Result<(), StepEnd>
+    ensures { (r : Result Change StepFault) (before after : Scene)
         → after.around.board.off ≡ before.around.board.off
         → Settles r before executed after
         → Performs r before result after }

@@ -7,7 +7,7 @@ ghost use Rattle.m161_cpu.specs.Effect.{branch_flow, return_address};
 ghost use Rattle.m161_cpu.specs.Processor.{with_register};
 ghost use Rattle.m161_cpu.specs.helpers.Execute.{ExecutesInProcessor};
 
-use crate::fault::{Fault, FaultKind};
+use crate::fault::{FaultKind, StepFault};
 use crate::processor::{Cpu, Flow};
 use m161_alu::{branch_taken, sign_extend_half};
 use m161_isa::{EqualTest, Immediate, JumpOp, Reg, Target, ZeroTest};
@@ -56,11 +56,11 @@ impl<T: Tlb> Cpu<T> {
     /// `jr`.
     #[inline(always)]
     #[tactic(auto, unfolding(crate::specs::helpers::Execute::change_by))]
-    pub(crate) fn jump_register(&mut self, rs: Reg) -> Result<(), Fault>
+    pub(crate) fn jump_register(&mut self, rs: Reg) -> Result<(), StepFault>
         ensures { ExecutesInProcessor (JumpRegister rs) self.old result self.new }
     {
         if self.in_slot() {
-            return Err(Fault::of(FaultKind::ReservedInstruction));
+            return Err(StepFault::of(FaultKind::ReservedInstruction));
         }
         let target = self.reg(rs);
         self.advance(Flow::Taken(target));
@@ -70,11 +70,11 @@ impl<T: Tlb> Cpu<T> {
     /// `jalr`: the target is read before the return address is written.
     #[inline(always)]
     #[tactic(auto, unfolding(crate::specs::helpers::Execute::change_by))]
-    pub(crate) fn jump_and_link_register(&mut self, rd: Reg, rs: Reg) -> Result<(), Fault>
+    pub(crate) fn jump_and_link_register(&mut self, rd: Reg, rs: Reg) -> Result<(), StepFault>
         ensures { ExecutesInProcessor (JumpAndLinkRegister rd rs) self.old result self.new }
     {
         if self.in_slot() {
-            return Err(Fault::of(FaultKind::ReservedInstruction));
+            return Err(StepFault::of(FaultKind::ReservedInstruction));
         }
         let target = self.reg(rs);
         self.set_return_address(rd);
@@ -85,11 +85,11 @@ impl<T: Tlb> Cpu<T> {
     /// `j` and `jal`.
     #[inline(always)]
     #[tactic(auto, unfolding(crate::specs::helpers::Execute::change_by))]
-    pub(crate) fn jump(&mut self, op: JumpOp, target: Target) -> Result<(), Fault>
+    pub(crate) fn jump(&mut self, op: JumpOp, target: Target) -> Result<(), StepFault>
         ensures { ExecutesInProcessor (Jump op target) self.old result self.new }
     {
         if self.in_slot() {
-            return Err(Fault::of(FaultKind::ReservedInstruction));
+            return Err(StepFault::of(FaultKind::ReservedInstruction));
         }
         let address = self.jump_target(target);
         match op {
@@ -109,11 +109,11 @@ impl<T: Tlb> Cpu<T> {
         rs: Reg,
         rt: Reg,
         offset: Immediate,
-    ) -> Result<(), Fault>
+    ) -> Result<(), StepFault>
         ensures { ExecutesInProcessor (BranchEqual test rs rt offset) self.old result self.new }
     {
         if self.in_slot() {
-            return Err(Fault::of(FaultKind::ReservedInstruction));
+            return Err(StepFault::of(FaultKind::ReservedInstruction));
         }
         let taken = match test {
             EqualTest::Equal => self.reg(rs) == self.reg(rt),
@@ -132,11 +132,11 @@ impl<T: Tlb> Cpu<T> {
         test: ZeroTest,
         rs: Reg,
         offset: Immediate,
-    ) -> Result<(), Fault>
+    ) -> Result<(), StepFault>
         ensures { ExecutesInProcessor (BranchZero test rs offset) self.old result self.new }
     {
         if self.in_slot() {
-            return Err(Fault::of(FaultKind::ReservedInstruction));
+            return Err(StepFault::of(FaultKind::ReservedInstruction));
         }
         let flow = branch_flow(branch_taken(test, self.reg(rs)), self.branch_target(offset));
         match test {

@@ -11,7 +11,7 @@ ghost use Rattle.m161_cpu.specs.Processor.{with_flow};
 ghost use Rattle.m161_cpu.specs.Scene.{scene_of};
 ghost use Rattle.m161_cpu.specs.Translation.{read_word};
 
-use crate::fault::{Access, Fault, Stop};
+use crate::fault::{Access, StepEnd, StepFault};
 use crate::links::Links;
 use crate::processor::{Cpu, Flow};
 use crate::translation::bus_error;
@@ -46,7 +46,7 @@ impl<T: Tlb> Cpu<T> {
         ram: &Ram,
         board: &mut Board<D>,
         links: &mut Links,
-    ) -> Result<(), Fault>
+    ) -> Result<(), StepFault>
         requires processor { (c < board.old.state.processors) × (board.old.state.processors ≤ 32) }
         requires ram { length ram.now ≤ 2 ^ 29 }
         ensures load { (strict : Bool) → Executes (change_by (scene_of self.old c ram.now board.old.state links.old strict)
@@ -104,7 +104,7 @@ impl<T: Tlb> Cpu<T> {
         c: u32,
         ram: &Ram,
         board: &mut Board<D>,
-    ) -> Result<u32, Fault>
+    ) -> Result<u32, StepFault>
         requires processor { c < board.old.state.processors }
         requires ram { length ram.now ≤ 2 ^ 29 }
         ensures same { self.new ≡ self.old }
@@ -128,7 +128,7 @@ impl<T: Tlb> Cpu<T> {
         c: u32,
         ram: &Ram,
         board: &mut Board<D>,
-    ) -> Result<u32, Fault>
+    ) -> Result<u32, StepFault>
         requires processor { c < board.old.state.processors }
         ensures same { self.new ≡ self.old }
         ensures word { FindsWord (read_word address self.old c ram.now board.old.state)
@@ -148,7 +148,7 @@ impl<T: Tlb> Cpu<T> {
         c: u32,
         ram: &Ram,
         board: &mut Board<D>,
-    ) -> Result<u32, Fault>
+    ) -> Result<u32, StepFault>
         requires processor { c < board.old.state.processors }
         ensures same { self.new ≡ self.old }
         ensures word { FindsWord (read_word address self.old c ram.now board.old.state)
@@ -179,7 +179,7 @@ impl<T: Tlb> Cpu<T> {
         ram: &mut Ram,
         board: &mut Board<D>,
         links: &mut Links,
-    ) -> Result<(), Stop>
+    ) -> Result<(), StepEnd>
         requires processor { (c < board.old.state.processors) × (board.old.state.processors ≤ 32) }
         requires ram { length ram.old ≤ 2 ^ 29 }
         ensures store { (strict : Bool) → Performs (change_by (scene_of self.old c ram.old board.old.state links.old strict)
@@ -264,7 +264,7 @@ impl<T: Tlb> Cpu<T> {
         ram: &mut Ram,
         board: &mut Board<D>,
         links: &mut Links,
-    ) -> Result<(), Stop>
+    ) -> Result<(), StepEnd>
         requires processor { c < board.old.state.processors }
         requires ram { length ram.old ≤ 2 ^ 29 }
         ensures store { (strict : Bool) → Performs
@@ -294,7 +294,7 @@ impl<T: Tlb> Cpu<T> {
         ram: &mut Ram,
         board: &mut Board<D>,
         links: &mut Links,
-    ) -> Result<(), Stop>
+    ) -> Result<(), StepEnd>
         requires processor { c < board.old.state.processors }
         ensures store { (strict : Bool) → Performs
             (store_word_at address word (scene_of self.old c ram.old board.old.state links.old strict))
@@ -311,11 +311,11 @@ impl<T: Tlb> Cpu<T> {
         }
         let was_on = !board.is_off();
         if board.write(c, at, word).is_err() {
-            return Err(Stop::Fault(bus_error(Access::Store)));
+            return Err(StepEnd::Fault(bus_error(Access::Store)));
         }
         self.advance(Flow::Next);
         if was_on && board.is_off() {
-            return Err(Stop::PoweredOff);
+            return Err(StepEnd::PoweredOff);
         }
         Ok(())
     }

@@ -274,7 +274,7 @@ impl<T: Tlb> Cpu<T> {
     /// Enters a trap. Returns the address at which it continues.
     #[cold]
     #[inline(never)]
-    pub(crate) fn enter(&mut self, fault: Fault) -> u32
+    pub(crate) fn enter(&mut self, fault: StepFault) -> u32
         ensures processor { self.new ≡ with_trap fault self.old }
         ensures vector { result ≡ vector fault self.old }
         ensures place { IsVector result }

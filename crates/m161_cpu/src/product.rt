@@ -14,7 +14,7 @@ impl<T: Tlb> Cpu<T> {
     /// `mult`, `multu`, `div`, `divu`.
     #[inline(always)]
     #[tactic(auto, unfolding(crate::specs::helpers::Execute::change_by))]
-    pub(crate) fn multiply(&mut self, op: MultiplyOp, rs: Reg, rt: Reg) -> Result<(), Fault>
+    pub(crate) fn multiply(&mut self, op: MultiplyOp, rs: Reg, rt: Reg) -> Result<(), StepFault>
         ensures { ExecutesInProcessor (Multiply op rs rt) self.old result self.new }
     {
         let s = self.reg(rs);
@@ -33,7 +33,7 @@ impl<T: Tlb> Cpu<T> {
     /// `mfhi` and `mflo`.
     #[inline(always)]
     #[tactic(auto, unfolding(crate::specs::helpers::Execute::change_by))]
-    pub(crate) fn move_from(&mut self, from: HiLo, rd: Reg) -> Result<(), Fault>
+    pub(crate) fn move_from(&mut self, from: HiLo, rd: Reg) -> Result<(), StepFault>
         ensures { ExecutesInProcessor (MoveFrom from rd) self.old result self.new }
     {
         let word = match from {
@@ -47,7 +47,7 @@ impl<T: Tlb> Cpu<T> {
     /// `mthi` and `mtlo`.
     #[inline(always)]
     #[tactic(auto, unfolding(crate::specs::helpers::Execute::change_by))]
-    pub(crate) fn move_to(&mut self, to: HiLo, rs: Reg) -> Result<(), Fault>
+    pub(crate) fn move_to(&mut self, to: HiLo, rs: Reg) -> Result<(), StepFault>
         ensures { ExecutesInProcessor (MoveTo to rs) self.old result self.new }
     {
         let word = self.reg(rs);

@@ -11,7 +11,7 @@ ghost use Rattle.m161_cpu.specs.declared.processor.Outcome.TheVariants.{Trapped}
 ghost use Rattle.m161_cpu.specs.helpers.Execute.{Performs};
 ghost use Rattle.m161_cpu.specs.Step.{change_of_step, executable_word, is_unusable, running_step, step_of, tick, IsOfStep, Leaves};
 
-use crate::fault::{Access, Fault, FaultKind, Stop};
+use crate::fault::{Access, FaultKind, StepEnd, StepFault};
 use crate::links::Links;
 use crate::processor::{Cpu, Outcome};
 use m161_bus::{Board, Console};
@@ -100,22 +100,22 @@ impl<T: Tlb> Cpu<T> {
                 self.tick();
                 Outcome::Ran
             }
-            Err(Stop::PoweredOff) => {
+            Err(StepEnd::PoweredOff) => {
                 self.tick();
                 Outcome::PoweredOff
             }
-            Err(Stop::Conflict { row, other }) => {
+            Err(StepEnd::Conflict { row, other }) => {
                 board.switch_off();
                 self.tick();
                 Outcome::Conflict { row, other }
             }
-            Err(Stop::Fault(fault)) => self.trap_aside(fault, c, links),
+            Err(StepEnd::Fault(fault)) => self.trap_aside(fault, c, links),
         }
     }
 
     // For LLVM: a call of `trap`, so that only this function has a stack slot for the fault.
     #[inline(always)]
-    fn trap_aside(&mut self, fault: Fault, c: u32, links: &mut Links) -> Outcome
+    fn trap_aside(&mut self, fault: StepFault, c: u32, links: &mut Links) -> Outcome
         requires processor { c < 32 }
         requires room { self.old.count < 2 ^ 64 - 1 }
         ensures outcome { result ≡ Trapped (exception_of fault.kind) (vector fault self.old) }
@@ -124,8 +124,8 @@ impl<T: Tlb> Cpu<T> {
         ensures counted { self.new.count ≡ self.old.count + 1 }
         ensures proper { IsOfStep result }
     {
-        let Fault { kind, address } = fault;
-        let vector = self.trap(Fault { kind, address }, c, links);
+        let StepFault { kind, address } = fault;
+        let vector = self.trap(StepFault { kind, address }, c, links);
         Outcome::Trapped {
             code: kind.exception(),
             vector,
@@ -135,7 +135,7 @@ impl<T: Tlb> Cpu<T> {
     // Ends a Step that traps. Returns the address at which the processor continues.
     #[cold]
     #[inline(never)]
-    fn trap(&mut self, fault: Fault, c: u32, links: &mut Links) -> u32
+    fn trap(&mut self, fault: StepFault, c: u32, links: &mut Links) -> u32
         requires processor { c < 32 }
         requires room { self.old.count < 2 ^ 64 - 1 }
         ensures vector { result ≡ vector fault self.old }
@@ -161,7 +161,7 @@ impl<T: Tlb> Cpu<T> {
         board: &mut Board<D>,
         links: &mut Links,
         strict: bool,
-    ) -> Result<(), Stop>
+    ) -> Result<(), StepEnd>
         requires processor { (c < board.old.state.processors) × (board.old.state.processors ≤ 32) }
         requires lines { lines ≡ interrupt_lines c board.old.state }
         requires ram { length ram.old ≤ 2 ^ 29 }
@@ -173,7 +173,7 @@ impl<T: Tlb> Cpu<T> {
         ensures size { length ram.new ≡ length ram.old }
     {
         if self.control.interrupts(lines) {
-            return Err(Stop::Fault(Fault::of(FaultKind::Interrupt)));
+            return Err(StepEnd::Fault(StepFault::of(FaultKind::Interrupt)));
         }
         let word = self.fetch(ram)?;
         self.perform(word, c, ram, board, links, strict)
@@ -182,7 +182,7 @@ impl<T: Tlb> Cpu<T> {
     // The word at pc, if the processor may execute it. By kseg0 in kernel mode it may execute any.
     #[inline(always)]
     #[tactic(auto, using(crate::proofs::Fetched::in_kernel_mode))]
-    fn fetch(&mut self, ram: &Ram) -> Result<u32, Fault>
+    fn fetch(&mut self, ram: &Ram) -> Result<u32, StepFault>
         requires ram { length ram.now ≤ 2 ^ 29 }
         ensures same { self.new ≡ self.old }
         ensures word { result ≡ executable_word ram.now self.old }
@@ -195,7 +195,7 @@ impl<T: Tlb> Cpu<T> {
 
     // The same by a translation that is kept.
     #[inline(always)]
-    fn fetch_mapped(&mut self, ram: &Ram) -> Result<u32, Fault>
+    fn fetch_mapped(&mut self, ram: &Ram) -> Result<u32, StepFault>
         ensures same { self.new ≡ self.old }
         ensures word { result ≡ executable_word ram.now self.old }
     {
@@ -211,7 +211,7 @@ impl<T: Tlb> Cpu<T> {
     // For LLVM: a call of `fetch_elsewhere`, so that only this function has a stack slot for the
     // result.
     #[inline(always)]
-    fn fetch_aside(&mut self, ram: &Ram) -> Result<u32, Fault>
+    fn fetch_aside(&mut self, ram: &Ram) -> Result<u32, StepFault>
         ensures same { self.new ≡ self.old }
         ensures word { result ≡ executable_word ram.now self.old }
     {
@@ -221,14 +221,14 @@ impl<T: Tlb> Cpu<T> {
 
     #[cold]
     #[inline(never)]
-    fn fetch_elsewhere(&mut self, ram: &Ram) -> Result<u32, Fault>
+    fn fetch_elsewhere(&mut self, ram: &Ram) -> Result<u32, StepFault>
         ensures same { self.new ≡ self.old }
         ensures word { result ≡ executable_word ram.now self.old }
     {
         let at = self.reach_elsewhere(Access::Fetch, 4, self.pc(), ram.size())?;
         let word = ram.word(at);
         if self.is_unusable(word) {
-            return Err(Fault::of(FaultKind::Coprocessor0Unusable));
+            return Err(StepFault::of(FaultKind::Coprocessor0Unusable));
         }
         Ok(word)
     }

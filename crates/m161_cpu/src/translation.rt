@@ -8,7 +8,7 @@ ghost use Rattle.m161_cpu.specs.helpers.Translation.{IsWidth};
 ghost use Rattle.m161_tlb.specs.Rows.{find_row};
 ghost use Rattle.m161_cop0.specs.Control.{identifier_of, is_user};
 
-use crate::fault::{Access, Fault, FaultKind};
+use crate::fault::{Access, FaultKind, StepFault};
 use crate::processor::Cpu;
 use crate::row_number::RowNumber;
 use m161_isa::unmapped;
@@ -22,12 +22,12 @@ pub(crate) struct Physical {
 }
 
 /// The fault of an address where nothing is on the bus.
-pub(crate) fn bus_error(access: Access) -> Fault
+pub(crate) fn bus_error(access: Access) -> StepFault
     ensures { result ≡ bus_error access }
 {
     match access {
-        Access::Fetch => Fault::of(FaultKind::BusErrorFetch),
-        Access::Load | Access::Store => Fault::of(FaultKind::BusErrorData),
+        Access::Fetch => StepFault::of(FaultKind::BusErrorFetch),
+        Access::Load | Access::Store => StepFault::of(FaultKind::BusErrorData),
     }
 }
 
@@ -107,7 +107,7 @@ impl<T: Tlb> Cpu<T> {
         width: u32,
         address: u32,
         size: u32,
-    ) -> Result<u32, Fault>
+    ) -> Result<u32, StepFault>
         requires width { IsWidth width }
         requires size { size ≤ 2 ^ 29 }
         ensures same { self.new ≡ self.old }
@@ -129,7 +129,7 @@ impl<T: Tlb> Cpu<T> {
         width: u32,
         address: u32,
         size: u32,
-    ) -> Result<u32, Fault>
+    ) -> Result<u32, StepFault>
         requires width { 0 < width }
         ensures same { self.new ≡ self.old }
         ensures found { result ≡ reach access width address size self.old }
@@ -148,7 +148,7 @@ impl<T: Tlb> Cpu<T> {
         width: u32,
         address: u32,
         size: u32,
-    ) -> Result<u32, Fault>
+    ) -> Result<u32, StepFault>
         requires width { 0 < width }
         ensures same { self.new ≡ self.old }
         ensures found { result ≡ reach access width address size self.old }
@@ -168,7 +168,7 @@ impl<T: Tlb> Cpu<T> {
         access: Access,
         address: u32,
         size: u32,
-    ) -> Result<u32, Fault>
+    ) -> Result<u32, StepFault>
         ensures same { self.new ≡ self.old }
         ensures found { result ≡ reach_word_of access address size self.old }
         ensures within { IfOk result (λ at. at + 4 ≤ size) }
@@ -190,7 +190,7 @@ impl<T: Tlb> Cpu<T> {
         access: Access,
         width: u32,
         address: u32,
-    ) -> Result<u32, Fault>
+    ) -> Result<u32, StepFault>
         requires { 0 < width }
         ensures same { self.new ≡ self.old }
         ensures value { result ≡ physical_at access width address self.old }
@@ -219,7 +219,12 @@ impl<T: Tlb> Cpu<T> {
 
     /// The same, with the row that gives it. The Step and `uses` both translate by this.
     #[inline(always)]
-    pub(crate) fn locate(&self, access: Access, width: u32, address: u32) -> Result<Physical, Fault>
+    pub(crate) fn locate(
+        &self,
+        access: Access,
+        width: u32,
+        address: u32,
+    ) -> Result<Physical, StepFault>
         requires { 0 < width }
         ensures { result ≡ translate access width address self.now }
     {
@@ -243,7 +248,7 @@ impl<T: Tlb> Cpu<T> {
 
     // The physical address of an address in kuseg or kseg2, by the lowest row that matches.
     #[inline(always)]
-    fn locate_by_page(&self, access: Access, address: u32) -> Result<Physical, Fault>
+    fn locate_by_page(&self, access: Access, address: u32) -> Result<Physical, StepFault>
         ensures { result ≡ by_page access address self.now }
     {
         let Some(i) = self.matching_row(address) else {
@@ -254,7 +259,7 @@ impl<T: Tlb> Cpu<T> {
             return Err(invalid(access, address));
         }
         if access == Access::Store && !row.d {
-            return Err(Fault::at(FaultKind::TlbModified, address));
+            return Err(StepFault::at(FaultKind::TlbModified, address));
         }
         Ok(Physical {
             at: (row.frame.number() << 12) + address % (1 << 12),
@@ -273,34 +278,34 @@ impl<T: Tlb> Cpu<T> {
 }
 
 // A misaligned address, or a kernel address in user mode.
-fn address_error(access: Access, address: u32) -> Fault
+fn address_error(access: Access, address: u32) -> StepFault
     ensures { result ≡ address_error access address }
 {
     match access {
-        Access::Fetch | Access::Load => Fault::at(FaultKind::AddressErrorLoad, address),
-        Access::Store => Fault::at(FaultKind::AddressErrorStore, address),
+        Access::Fetch | Access::Load => StepFault::at(FaultKind::AddressErrorLoad, address),
+        Access::Store => StepFault::at(FaultKind::AddressErrorStore, address),
     }
 }
 
 // The row that matches isn't valid.
-fn invalid(access: Access, address: u32) -> Fault
+fn invalid(access: Access, address: u32) -> StepFault
     ensures { result ≡ invalid access address }
 {
     match access {
-        Access::Fetch | Access::Load => Fault::at(FaultKind::TlbLoad, address),
-        Access::Store => Fault::at(FaultKind::TlbStore, address),
+        Access::Fetch | Access::Load => StepFault::at(FaultKind::TlbLoad, address),
+        Access::Store => StepFault::at(FaultKind::TlbStore, address),
     }
 }
 
 // No row matches.
-fn miss(access: Access, address: u32) -> Fault
+fn miss(access: Access, address: u32) -> StepFault
     ensures { result ≡ miss access address }
 {
     if address >= 0x8000_0000 {
         return invalid(access, address);
     }
     match access {
-        Access::Fetch | Access::Load => Fault::at(FaultKind::UserMissLoad, address),
-        Access::Store => Fault::at(FaultKind::UserMissStore, address),
+        Access::Fetch | Access::Load => StepFault::at(FaultKind::UserMissLoad, address),
+        Access::Store => StepFault::at(FaultKind::UserMissStore, address),
     }
 }

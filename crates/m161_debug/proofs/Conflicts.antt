@@ -12,7 +12,7 @@ use Rattle.m161_machine.specs.declared.event.Event.TheVariants as events
 use Rattle.m161_machine.specs.declared.event.Refusal.{Refusal}
 use Rattle.m161_machine.specs.declared.event.Refusal.TheVariants as refusals
 use Rattle.m161_machine.specs.State.{State, answer, answered_done, answered_key, conflict_after, next, refusal, refusal_of_done, step_result, unless, with_board, with_step}
-use Rattle.m161_debug.specs.declared.stop.Stop.TheVariants.{Conflict, Off}
+use Rattle.m161_debug.specs.declared.stop.StopReason.TheVariants.{Conflict, Off}
 use Rattle.m161_debug.specs.Stops.{off_stop, TellsConflict}
 use Rattle.m161_debug.proofs.Going.{none_some}
 

@@ -12,8 +12,8 @@ use Rattle.m161_machine.specs.State.{State, next}
 use Rattle.m161_machine.specs.History.{History, Answers, Continues, Leads, Refuses, events_of}
 use Rattle.m161_machine.proofs.Continuing.{continues_more}
 use Rattle.m161_debug.specs.declared.breakpoints.Breakpoint.{Breakpoint}
-use Rattle.m161_debug.specs.declared.stop.Stop.{Stop}
-use Rattle.m161_debug.specs.declared.stop.Stop.TheVariants.{Break, Conflict, End, Off, Refused, Until}
+use Rattle.m161_debug.specs.declared.stop.StopReason.{StopReason}
+use Rattle.m161_debug.specs.declared.stop.StopReason.TheVariants.{Break, Conflict, End, Off, Refused, Until}
 use Rattle.m161_debug.specs.Stops.{breaks, off_stop, place_of, Awaited, HasOneStop, HasReason, IsBefore, NoneBefore, StopsBy, StopsIn}
 
 -- event k is this one
@@ -59,9 +59,9 @@ before m n es k made = (made.entries, made.events_are, made.run_is)
 -- the reason to stop at a place, in the state before it, and the state that it leaves
 
 abbrev Reason : Type 0
-Reason = Option (Stop × State)
+Reason = Option (StopReason × State)
 
-abbrev reason_on : Option Stop → Bool → ℕ → State → Reason
+abbrev reason_on : Option StopReason → Bool → ℕ → State → Reason
 reason_on (Some stop) met k t = Some (stop, t)
 reason_on None true k t = Some (Until k, t)
 reason_on None false k t = None
@@ -84,7 +84,7 @@ passed : (aw : Awaited) (bs : List Breakpoint) (es : List Event) (k : ℕ) (s : 
 passed aw bs es k s e x tried =
     ap (reason_at aw bs k s) tried.0 ∙ ap (λ b. reason_of b k s (reason_after aw k s e (next s e))) tried.1 ∙ ap (reason_after aw k s e) tried.2
 
-is_reason : (aw : Awaited) (bs : List Breakpoint) (es : List Event) (s : State) (stop : Stop) (t : State)
+is_reason : (aw : Awaited) (bs : List Breakpoint) (es : List Event) (s : State) (stop : StopReason) (t : State)
     → StopsIn aw bs es s stop t → reason_at aw bs (place_of stop) s (slice_get es (place_of stop)) ≡ Some (stop, t)
 is_reason aw bs es s (Break k) t h =
     ap (reason_at aw bs k s) h.1 ∙ ap (λ b. reason_of b k s (reason_after aw k s h.0 (next s h.0))) h.2 ∙ ap (λ u. Some (Break k, u)) (sym h.3)
@@ -160,7 +160,7 @@ stops_at_break aw bs m n es k e at made none here = record {
 }
 
 -- event k switches the machine off
-pub switches_off : (aw : Awaited) (bs : List Breakpoint) (m n t : History) (es : List Event) (k : ℕ) (e : Event) (o : Outcome) (stop : Stop) → IsAt es k e
+pub switches_off : (aw : Awaited) (bs : List Breakpoint) (m n t : History) (es : List Event) (k : ℕ) (e : Event) (o : Outcome) (stop : StopReason) → IsAt es k e
     → Continues m (take k es) n → NoneBefore aw bs m.state es k → Passes bs k n.state e
     → Answers n e (Ok o) t → off_stop k o ≡ Some stop → StopsBy aw bs m es stop t
 switches_off aw bs m n t es k e o stop at made none passes answer off = by o answer off
@@ -208,11 +208,11 @@ ends aw bs m n es k last all same made none =
 
 -- a run has one stop
 
-one_reason : (x : Reason) (y z : Stop × State) → x ≡ Some y → x ≡ Some z → y ≡ z
+one_reason : (x : Reason) (y z : StopReason × State) → x ≡ Some y → x ≡ Some z → y ≡ z
 one_reason x y z h k = let both : ◌≡◌ {A = Reason} (Some y) (Some z) = sym h ∙ k in cc
 
-at_one_place : (aw : Awaited) (bs : List Breakpoint) (s : State) (es : List Event) (stop other : Stop) (t u : State)
-    → place_of stop ≡ place_of other → HasReason aw bs s es stop t → HasReason aw bs s es other u → ◌≡◌ {A = Stop × State} (stop, t) (other, u)
+at_one_place : (aw : Awaited) (bs : List Breakpoint) (s : State) (es : List Event) (stop other : StopReason) (t u : State)
+    → place_of stop ≡ place_of other → HasReason aw bs s es stop t → HasReason aw bs s es other u → ◌≡◌ {A = StopReason × State} (stop, t) (other, u)
 at_one_place aw bs s es stop other t u same a b =
     let state : a.0 ≡ b.0 = before_is_one s es (place_of other) a.0 b.0 (subst (λ i. IsBefore s es i a.0) same a.1) b.1 in
     one_reason (reason_at aw bs (place_of other) b.0 (slice_get es (place_of other))) (stop, t) (other, u)
@@ -222,7 +222,7 @@ at_one_place aw bs s es stop other t u same a b =
 pub has_one_stop : HasOneStop
 has_one_stop aw bs s es stop other t u none_a a none_b b = elim (cases_order (place_of stop) (place_of other)) [
   | inl same ↦ let both = at_one_place aw bs s es stop other t u same a b in
-      (ap (λ (x : Stop × State). x.0) both, ap (λ (x : Stop × State). x.1) both)
+      (ap (λ (x : StopReason × State). x.0) both, ap (λ (x : StopReason × State). x.1) both)
   | inr (inl less) ↦ absurd (none_b stop t less a)
   | inr (inr less) ↦ absurd (none_a other u less b)
 ]

@@ -10,7 +10,7 @@ use Rattle.m161_debug.specs.declared.command.Change.TheVariants.{Set}
 use Rattle.m161_debug.specs.declared.command.Command.TheVariants.{Breakpoint, Go, GoFirst, Steps}
 use Rattle.m161_debug.specs.declared.command.CommandError.{CommandError}
 use Rattle.m161_debug.specs.declared.command.CommandError.TheVariants.{BadArgument}
-use Rattle.m161_debug.specs.declared.stop.Stop.{Stop}
+use Rattle.m161_debug.specs.declared.stop.StopReason.{StopReason}
 use Rattle.m161_debug.specs.Stops.{Stops}
 use Rattle.m161_debug.specs.Breakpoints.{SessionState, breakpoint, break_leaves}
 use Rattle.m161_text.specs.Lines.{with_line_end}
@@ -39,7 +39,7 @@ pub no_fault_if : (b : Bool) → b ≡ true → ◌≡◌ {A = Option CommandErr
 no_fault_if true h = refl
 no_fault_if false h = absurd (cc)
 
-pub steps_done : (s t : SessionState) (p n : ℕ) (rest : List Event) (stop : Stop) (before after : List ℕ) (fault : Option CommandError) → fault ≡ None
+pub steps_done : (s t : SessionState) (p n : ℕ) (rest : List Event) (stop : StopReason) (before after : List ℕ) (fault : Option CommandError) → fault ≡ None
     → Stops s.breakpoints s.machine (replicate n (Step p)) stop t.machine → t.breakpoints ≡ s.breakpoints
     → t.style ≡ s.style → after ≡ before ++ with_line_end (stop_text stop t.machine.state.conflict)
     → HasEffectUnless fault (Steps p n) s rest (Ok 0) t before after

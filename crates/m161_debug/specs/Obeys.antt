@@ -26,8 +26,8 @@ use Rattle.m161_debug.specs.declared.command.CommandError.TheVariants.{BadArgume
 use Rattle.m161_debug.specs.declared.command.Display.{Display}
 use Rattle.m161_debug.specs.declared.command.Display.TheVariants.{Regs, Cop0, Tlb}
 use Rattle.m161_debug.specs.declared.condition.Condition.{Condition}
-use Rattle.m161_debug.specs.declared.stop.Stop.{Stop}
-use Rattle.m161_debug.specs.declared.stop.Stop.TheVariants.{Break, Refused, Off, Conflict as ConflictAt, Until as UntilAt, End}
+use Rattle.m161_debug.specs.declared.stop.StopReason.{StopReason}
+use Rattle.m161_debug.specs.declared.stop.StopReason.TheVariants.{Break, Refused, Off, Conflict as ConflictAt, Until as UntilAt, End}
 use Rattle.m161_debug.specs.Breakpoints.{SessionState, breakpoint, break_fault, has, with_breakpoint, without_breakpoint}
 use Rattle.m161_debug.specs.Conditions.{has_processor, is_of_kind, physical_of}
 use Rattle.m161_debug.specs.Stops.{Stops, StopsUntil}
@@ -109,7 +109,7 @@ conflict_text None = []
 conflict_text (Some c) = 32 ∷ (decimal c.processor ␣ decimal c.row ␣ decimal c.other)
 
 -- a stop, with the conflict that the machine tells then
-abbrev pub stop_text : Stop → Option Conflict → List ℕ
+abbrev pub stop_text : StopReason → Option Conflict → List ℕ
 stop_text (Break k) told = codes "break" ␣ decimal k
 stop_text (Refused k refusal) told = codes "refused" ␣ decimal k ␣ refused_text refusal
 stop_text (Off k) told = codes "off" ␣ decimal k
@@ -118,7 +118,7 @@ stop_text (UntilAt k) told = codes "until" ␣ decimal k
 stop_text (End n) told = codes "end" ␣ decimal n
 
 -- how many events a stop uses up, including a refused event, and the last one that was made
-abbrev pub used_by : Stop → ℕ
+abbrev pub used_by : StopReason → ℕ
 used_by (Break k) = k
 used_by (Refused k refusal) = k + 1
 used_by (Off k) = k + 1
@@ -139,7 +139,7 @@ area_text style Code address n s = show_code_text style address n s
 pub record Goes
     (s : SessionState) (events : List Event) (used : ℕ) (t : SessionState) (printed : List ℕ)
     : Type 0 where
-  pub stop : Stop
+  pub stop : StopReason
   pub stops : Stops s.breakpoints s.machine events stop t.machine
   pub breakpoints : t.breakpoints ≡ s.breakpoints
   pub style : t.style ≡ s.style
@@ -151,7 +151,7 @@ pub record Awaits
     (condition : Condition) (s : SessionState) (events : List Event) (used : ℕ) (t : SessionState)
     (printed : List ℕ)
     : Type 0 where
-  pub stop : Stop
+  pub stop : StopReason
   pub stops : StopsUntil condition s.breakpoints s.machine events stop t.machine
   pub breakpoints : t.breakpoints ≡ s.breakpoints
   pub style : t.style ≡ s.style

@@ -61,4 +61,4 @@ pub use jump::JumpError;
 pub use laws::{has_one_stop, tells_conflict};
 pub use m161_machine::{Event, Machine, Outcome, Refusal};
 pub use session::Session;
-pub use stop::Stop;
+pub use stop::StopReason;

@@ -6,7 +6,7 @@ ghost use Rattle.m161_text.specs.Lines.{with_line_end};
 ghost use Rattle.m161_steplog.specs.Text.{event_text, outcome_text};
 ghost use Rattle.m161_debug.specs.Obeys.{conflict_text, refused_text, stop_text};
 
-use crate::stop::Stop;
+use crate::stop::StopReason;
 use m161_machine::{Conflict, Event, Outcome, Refusal};
 use m161_text::{put, put_decimal, put_hex};
 
@@ -95,37 +95,37 @@ fn put_conflict(text: &mut String, told: Option<Conflict>)
 }
 
 // Appends a stop, with the conflict that the machine tells then: 92 bytes at most.
-fn put_stop(text: &mut String, stop: Stop, told: Option<Conflict>)
+fn put_stop(text: &mut String, stop: StopReason, told: Option<Conflict>)
     requires { string_len text.old + 92 ≤ string_capacity text.old }
     ensures bytes { string_bytes text.new ≡ string_bytes text.old ++ stop_text stop told }
     ensures len { string_len text.new ≤ string_len text.old + 92 }
     ensures capacity { string_capacity text.old ≤ string_capacity text.new }
 {
     match stop {
-        Stop::Break(k) => {
+        StopReason::Break(k) => {
             put(text, "break ");
             put_decimal(text, k as u64);
         }
-        Stop::Refused(k, refusal) => {
+        StopReason::Refused(k, refusal) => {
             put(text, "refused ");
             put_decimal(text, k as u64);
             put(text, " ");
             put_refusal(text, refusal);
         }
-        Stop::Off(k) => {
+        StopReason::Off(k) => {
             put(text, "off ");
             put_decimal(text, k as u64);
         }
-        Stop::Conflict(k) => {
+        StopReason::Conflict(k) => {
             put(text, "conflict ");
             put_decimal(text, k as u64);
             put_conflict(text, told);
         }
-        Stop::Until(k) => {
+        StopReason::Until(k) => {
             put(text, "until ");
             put_decimal(text, k as u64);
         }
-        Stop::End(n) => {
+        StopReason::End(n) => {
             put(text, "end ");
             put_decimal(text, n as u64);
         }
@@ -133,7 +133,7 @@ fn put_stop(text: &mut String, stop: Stop, told: Option<Conflict>)
 }
 
 /// Appends the line of a stop, with the conflict that the machine tells then: 93 bytes at most.
-pub(crate) fn put_stop_line(text: &mut String, stop: Stop, told: Option<Conflict>)
+pub(crate) fn put_stop_line(text: &mut String, stop: StopReason, told: Option<Conflict>)
     requires { string_len text.old + 93 ≤ string_capacity text.old }
     ensures { string_bytes text.new
         ≡ string_bytes text.old ++ with_line_end (stop_text stop told) }

@@ -23,7 +23,7 @@ use crate::condition::Condition;
 use crate::jump::{JumpError, events_from, jump_fault, repeat};
 use crate::log::show_log;
 use crate::mark::{is_met, mark_of};
-use crate::stop::{Stop, off_stop};
+use crate::stop::{StopReason, off_stop};
 use m161_bus::Console;
 use m161_dis::Style;
 use m161_display::{show_code, show_cop0, show_fetched, show_mem, show_regs, show_tlb, show_where};
@@ -282,7 +282,7 @@ impl<T: Tlb + Drop, D: Console + Drop> Session<T, D> {
     /// Makes events in order, up to the first stop: before a Step at a breakpoint, unless it is the
     /// first event; at an event that is refused; after one that switches the machine off, by a
     /// conflict or not; or after the last. Allocates only for an event `Done`.
-    pub fn go(&mut self, events: &[Event]) -> Stop
+    pub fn go(&mut self, events: &[Event]) -> StopReason
         ensures stop { Stops self.old.breakpoints self.old.machine events.now result
             self.new.machine }
         ensures breakpoints { self.new.breakpoints ≡ self.old.breakpoints }
@@ -293,7 +293,7 @@ impl<T: Tlb + Drop, D: Console + Drop> Session<T, D> {
     }
 
     /// The same over `n` Steps of processor `p`.
-    pub fn go_steps(&mut self, p: u32, n: u32) -> Stop
+    pub fn go_steps(&mut self, p: u32, n: u32) -> StopReason
         ensures stop { Stops self.old.breakpoints self.old.machine (replicate n (events.Step p))
             result self.new.machine }
         ensures breakpoints { self.new.breakpoints ≡ self.old.breakpoints }
@@ -306,7 +306,7 @@ impl<T: Tlb + Drop, D: Console + Drop> Session<T, D> {
     /// Makes events in order, up to the first stop: those of `go`, and after the first event after
     /// which the condition holds. An event that switches the machine off stops the run as `Off` or
     /// `Conflict`, also where the condition holds after it.
-    pub fn until(&mut self, condition: Condition, events: &[Event]) -> Stop
+    pub fn until(&mut self, condition: Condition, events: &[Event]) -> StopReason
         requires { is_watchable condition self.old.machine.state ≡ true }
         ensures stop { StopsUntil condition self.old.breakpoints self.old.machine events.now result
             self.new.machine }
@@ -318,7 +318,7 @@ impl<T: Tlb + Drop, D: Console + Drop> Session<T, D> {
     }
 
     // Makes events in order, up to the first stop, or after what the run waits for, if it does.
-    fn run(&mut self, condition: Option<Condition>, events: Batch<'_>) -> Stop
+    fn run(&mut self, condition: Option<Condition>, events: Batch<'_>) -> StopReason
         requires { IfSome condition (λ c. is_watchable c self.old.machine.state ≡ true) }
         ensures stop { StopsBy (holds_if condition self.old.machine.state) self.old.breakpoints
             self.old.machine (events_in events.entry) result self.new.machine }
@@ -331,21 +331,21 @@ impl<T: Tlb + Drop, D: Console + Drop> Session<T, D> {
         for k in 0..events.len() {
             let event = &events.at(k);
             if k > 0 && self.is_at_break(*event) {
-                return Stop::Break(k);
+                return StopReason::Break(k);
             }
             match self.step(*event) {
-                Err(refusal) => return Stop::Refused(k, refusal),
+                Err(refusal) => return StopReason::Refused(k, refusal),
                 Ok(outcome) => {
                     if let Some(stop) = off_stop(k, outcome) {
                         return stop;
                     }
                     if is_met(&self.machine, mark, *event, outcome) {
-                        return Stop::Until(k);
+                        return StopReason::Until(k);
                     }
                 }
             }
         }
-        Stop::End(events.len())
+        StopReason::End(events.len())
     }
 
     /// Goes back to the state before event `k`, counted from 0 since the boot: the machine is booted

@@ -1,7 +1,7 @@
 use Rattle.std.proofs.Common.{◌≡◌, refl, subst, ℕ, Bool, List, [], ◌∷◌, arith, inl, inr}
 use Rattle.m161_order.specs.Delays.{delays_of}
-use Rattle.m161_delays.specs.declared.runs.Judged.{Judged}
-use Rattle.m161_delays.specs.declared.runs.Judged.TheVariants.{Right, Wrong}
+use Rattle.m161_delays.specs.declared.runs.Tested.{Tested}
+use Rattle.m161_delays.specs.declared.runs.Tested.TheVariants.{Right, Wrong}
 use Rattle.m161_delays.specs.declared.walk.Found.{Found}
 use Rattle.m161_delays.specs.Lists.{ComesBefore, IsLess}
 use Rattle.m161_delays.specs.Runs.{IsJudged}
@@ -9,11 +9,11 @@ use Rattle.m161_delays.specs.helpers.Walking.{IsFirstSo}
 
 -- What became of one run.
 
-pub right_of : {W : Type 0} (right : Bool → Type 0) (wrong : W → Type 0) (judged : Judged W) (is_cut : Bool) → judged ≡ Right is_cut →
+pub right_of : {W : Type 0} (right : Bool → Type 0) (wrong : W → Type 0) (judged : Tested W) (is_cut : Bool) → judged ≡ Right is_cut →
     IsJudged right wrong judged → right is_cut
 right_of right wrong judged is_cut is h = subst (IsJudged right wrong) is h
 
-pub wrong_of : {W : Type 0} (right : Bool → Type 0) (wrong : W → Type 0) (judged : Judged W) (what : W) → judged ≡ Wrong what →
+pub wrong_of : {W : Type 0} (right : Bool → Type 0) (wrong : W → Type 0) (judged : Tested W) (what : W) → judged ≡ Wrong what →
     IsJudged right wrong judged → wrong what
 wrong_of right wrong judged what is h = subst (IsJudged right wrong) is h
 

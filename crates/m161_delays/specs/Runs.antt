@@ -1,7 +1,7 @@
 use Rattle.std.specs.Prelude.{◌≡◌, ◌⊎◌, ℕ, ◌+◌, Bool, if◌then◌else◌, List, [], ◌∷◌, take}
 use Rattle.m161_delays.specs.declared.search.Class.{Class}
-use Rattle.m161_delays.specs.declared.runs.Judged.{Judged}
-use Rattle.m161_delays.specs.declared.runs.Judged.TheVariants.{Right, Wrong}
+use Rattle.m161_delays.specs.declared.runs.Tested.{Tested}
+use Rattle.m161_delays.specs.declared.runs.Tested.TheVariants.{Right, Wrong}
 use Rattle.m161_delays.specs.Lists.{AgreeBelow, ComesBefore, IsOf, IsUseful}
 use Rattle.std.specs.List.{AllByRecursion}
 
@@ -40,6 +40,6 @@ AreRight right (x ∷ xs) cut =
     × AreRight right xs rest
 
 -- what became of a run
-abbrev pub IsJudged : {W : Type 0} → (Bool → Type 0) → (W → Type 0) → Judged W → Type 0
+abbrev pub IsJudged : {W : Type 0} → (Bool → Type 0) → (W → Type 0) → Tested W → Type 0
 IsJudged right wrong (Right is_cut) = right is_cut
 IsJudged right wrong (Wrong what) = wrong what

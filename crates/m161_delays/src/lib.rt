@@ -17,5 +17,5 @@ mod search;
 mod walk;
 
 pub use m161_order::Delays;
-pub use runs::{Judged, Runs};
+pub use runs::{Runs, Tested};
 pub use search::{Class, Searched, search_lists};

@@ -4,7 +4,7 @@ use m161_order::Delays;
 
 /// What became of a run.
 #[derive(Clone, Copy, Debug, Drop, PartialEq, Eq)]
-pub enum Judged<W> {
+pub enum Tested<W> {
     /// It is right.
     Right {
         /// Whether it ended only because no more events were asked for.
@@ -50,7 +50,7 @@ pub trait Runs {
     ///
     /// # Errors
     /// The run can't be made.
-    fn judge(&self, delays: &Delays) -> Result<Judged<Self::Wrong>, Self::Error>
+    fn judge(&self, delays: &Delays) -> Result<Tested<Self::Wrong>, Self::Error>
         ensures ok { IfOk result (IsJudged (right self.now (delays_of delays.now)) (wrong self.now (delays_of delays.now))) }
         ensures err { IfErr result (fails self.now) };
 

@@ -7,7 +7,7 @@ ghost use Rattle.m161_delays.specs.helpers.Last.{last_from};
 ghost use Rattle.m161_delays.specs.Runs.{IsUsefulOf};
 ghost use Rattle.m161_delays.specs.helpers.Walking.{IsBehind, IsLonger, Walks};
 
-use crate::runs::{Judged, Runs};
+use crate::runs::{Runs, Tested};
 use crate::search::Class;
 use m161_order::Delays;
 use std::alloc::Global;
@@ -52,11 +52,11 @@ fn judge<R: Runs>(
     ensures err { IfErr result (R.fails runs.now) }
 {
     match runs.judge(&delays)? {
-        Judged::Right { is_cut } => {
+        Tested::Right { is_cut } => {
             sums.add(is_cut);
             Ok(None)
         }
-        Judged::Wrong(wrong) => Ok(Some(Found { delays, wrong })),
+        Tested::Wrong(wrong) => Ok(Some(Found { delays, wrong })),
     }
 }
 

@@ -2,7 +2,7 @@
 
 ghost use Rattle.std.specs.Prelude.{◌≡◌};
 
-use m161_delays::{Delays, Judged, Runs};
+use m161_delays::{Delays, Runs, Tested};
 use std::alloc::AllocError;
 
 /// Runs of four places. Those of lists with `wrong` numbers go wrong, and those of lists with more than
@@ -37,12 +37,12 @@ impl Runs for Table {
         counts.extend_from_slice(&self.counts)
     }
 
-    fn judge(&self, delays: &Delays) -> Result<Judged<usize>, AllocError> {
+    fn judge(&self, delays: &Delays) -> Result<Tested<usize>, AllocError> {
         let count = delays.as_slice().len();
         if count == self.wrong {
-            return Ok(Judged::Wrong(count));
+            return Ok(Tested::Wrong(count));
         }
-        Ok(Judged::Right {
+        Ok(Tested::Right {
             is_cut: count > self.whole,
         })
     }

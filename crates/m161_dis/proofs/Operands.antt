@@ -7,7 +7,7 @@ use Rattle.m161_isa.specs.Table.{width_of}
 use Rattle.m161_isa.specs.Address.{branch_target, jump_target}
 use Rattle.m161_dis.specs.Canon.{register_text, hex_number}
 use Rattle.m161_asm.specs.Tokens.{Register, Number, Mark, Placed}
-use Rattle.m161_asm.specs.Lines.{Fault, Whole, Part, Field, BranchTo, JumpTo, Parsed, part, immediate, is_within, bits_of_whole}
+use Rattle.m161_asm.specs.Lines.{SourceFault, Whole, Part, Field, BranchTo, JumpTo, Parsed, part, immediate, is_within, bits_of_whole}
 use Rattle.m161_asm.specs.Text.{field_of, word_address, number_by}
 use Rattle.m161_dis.proofs.Pieces.{Piece, laid}
 use Rattle.m161_dis.proofs.Fields.{branch_field-branch_target, jump_field-jump_target, branch_target-word, jump_target-word}
@@ -50,7 +50,7 @@ pub record IsRead (at n : ℕ) (read : Parsed Part) (more : List Piece) : Type 0
   pub field : field_of [] at part ≡ Ok n
 
 -- a number that is within its range
-within : (low high width n v : ℕ) (w : Whole) (x : List Placed) (e : Fault)
+within : (low high width n v : ℕ) (w : Whole) (x : List Placed) (e : SourceFault)
     → is_within low high w ≡ true → bits_of_whole width w ≡ v
     → cond {A = Parsed Part} (is_within low high w) (Ok (Field (bits_of_whole width w), x)) (Err e)
     ≡ Ok (Field v, x)

@@ -9,7 +9,7 @@ use Rattle.m161_isa.specs.Table.{table, width_of, number_of}
 use Rattle.m161_dis.specs.declared.naming.Naming.TheVariants.{Numbers}
 use Rattle.m161_dis.specs.Canon.{lead_of, operand_text, operands_text}
 use Rattle.m161_asm.specs.Tokens.{Mark}
-use Rattle.m161_asm.specs.Lines.{◌>>=◌, Fault, Part, operand_parts, comma_and_part, row_named}
+use Rattle.m161_asm.specs.Lines.{◌>>=◌, SourceFault, Part, operand_parts, comma_and_part, row_named}
 use Rattle.m161_asm.specs.Text.{field_of, each}
 use Rattle.m161_dis.proofs.Pieces.{Piece, laid, text_of}
 use Rattle.m161_dis.proofs.Operands.{IsRead, operand_pieces, signed_pieces, part_read}
@@ -43,7 +43,7 @@ pub number_small : (word : ℕ) (o : Operand) → number_of word o < 2 ^ width_o
 number_small word operand.Rd = omega arith
 number_small word _ = omega arith
 
-each_cons : (f : Part → Result ℕ Fault) (read : Result (List Part) Fault) (p : Part) (n : ℕ)
+each_cons : (f : Part → Result ℕ SourceFault) (read : Result (List Part) SourceFault) (p : Part) (n : ℕ)
     (ns : List ℕ) → f p ≡ Ok n → (read >>= each f) ≡ Ok ns
     → ((read >>= λ xs. Ok (p ∷ xs)) >>= each f) ≡ Ok (n ∷ ns)
 each_cons f (Ok xs) p n ns e d = rw (e, d) refl

@@ -11,7 +11,7 @@ use Rattle.m161_dis.specs.Canon.{canon_by, canonical_row, canonical_by, data_tex
 use Rattle.m161_asm.specs.Tokens.{Name, Directive, Number, Placed, tokens, tokens_from, lexeme, beginning, is_letter}
 use Rattle.std.specs.Char.{is_ascii_digit}
 use Rattle.std.specs.List.{prefix_len}
-use Rattle.m161_asm.specs.Lines.{◌>>=◌, Fault, is_within, bits_of_whole, Part, Statement, Words, Code, label_of, sound, past_of, SourceLine, line_column, size_of, statement, directive_statement, values, operand_parts, row_named}
+use Rattle.m161_asm.specs.Lines.{◌>>=◌, SourceFault, is_within, bits_of_whole, Part, Statement, Words, Code, label_of, sound, past_of, SourceLine, line_column, size_of, statement, directive_statement, values, operand_parts, row_named}
 use Rattle.m161_asm.specs.Text.{line_of, line_in_place, is_filled, address_below, symbols_in, words_of_statement, word_of_value, number_by, field_of, each}
 use Rattle.m161_dis.specs.Law.{origin, stands_for, SurvivesDisassembling}
 use Rattle.m161_dis.proofs.Pieces.{Piece, IsPiece, Sound, starts_apart, laid, text_of, tokens-pieces, sound-laid, blank}
@@ -68,7 +68,7 @@ not_nop rows.Sll = refl
 not_nop _ = refl
 
 -- the operands that were read, as the word
-coded : (r : Row) (at : ℕ) (ns : List ℕ) (read : Result (List Part) Fault)
+coded : (r : Row) (at : ℕ) (ns : List ℕ) (read : Result (List Part) SourceFault)
     → (read >>= each (field_of [] at)) ≡ Ok ns
     → (xs : List Part) × (read ≡ Ok xs)
     × (words_of_statement [] at (Code r xs) ≡ Ok (word_with r ns ∷ []))

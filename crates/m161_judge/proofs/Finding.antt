@@ -14,7 +14,7 @@ use Rattle.m161_audit.specs.declared.watch.Watch.{Watch}
 use Rattle.m161_audit.specs.Audit.{AuditsState}
 use Rattle.m161_audit.specs.Watch.{AreGood, IsBad}
 use Rattle.m161_drive.specs.Policy.{Rules}
-use Rattle.m161_judge.specs.declared.run.Run.{Run}
+use Rattle.m161_judge.specs.declared.run.JudgedRun.{JudgedRun}
 use Rattle.m161_judge.specs.declared.verdict.Judged.{Judged}
 use Rattle.m161_judge.specs.declared.walk.Walk.{Walk}
 use Rattle.m161_judge.specs.declared.walk.Walk.TheVariants as walk
@@ -117,7 +117,7 @@ run_unfound file conf (Some first) s rules n events watches output error boots h
 run_unfound file conf None s rules n events watches output error boots h = unaudited file conf s events watches error boots h
 
 pub run_judged : (file : List ℕ) (conf : Conf) (fault : Option BootError) (s : State) (rules : Rules) (n : ℕ) (watches : List Watch) (output : Option (List ℕ))
-    (run : Run) (found : Finding) (judged : Option Judged) →
+    (run : JudgedRun) (found : Finding) (judged : Option Judged) →
     BootsState file conf fault (Ok s) → DrivesRun rules n output s (Ok run) → AuditsState s run.events.items watches (Ok found) →
     ((goal : Criteria) (t : State) (events : List Event) → Joins goal t events found run.judged judged) →
     Runs file conf fault rules n (criteria watches output rules) (Ok (record { events = run.events; judged = judged; is_cut = run.is_cut }))

@@ -14,7 +14,7 @@ use Rattle.m161_drive.specs.declared.run.Stop.{Stop}
 use Rattle.m161_drive.specs.declared.run.Stop.TheVariants.{Off, End, Stuck, Refused}
 use Rattle.m161_drive.specs.Drive.{Drives}
 use Rattle.m161_drive.specs.Policy.{Rules}
-use Rattle.m161_judge.specs.declared.run.Run.{Run}
+use Rattle.m161_judge.specs.declared.run.JudgedRun.{JudgedRun}
 use Rattle.m161_judge.specs.Judge.{IsUnjudged}
 use Rattle.m161_judge.specs.Verdict.{Criteria, IsJudged, has_keys, is_stuck}
 
@@ -35,7 +35,7 @@ is_cut (Refused refusal) keys_left s = false
 -- the run of at most n events that a policy chooses, from the state at boot on, and its verdict; no
 -- watch is bad, and no event is refused
 pub record IsRun
-    (file : List ℕ) (conf : Conf) (rules : Rules) (n : ℕ) (goal : Criteria) (run : Run)
+    (file : List ℕ) (conf : Conf) (rules : Rules) (n : ℕ) (goal : Criteria) (run : JudgedRun)
     : Type 0 where
   pub good : (k : ℕ) → AreGood conf.ram goal.watches k
   pub booted : State
@@ -51,12 +51,12 @@ pub record IsRun
 
 -- without a reason not to boot
 abbrev pub RunsBooted :
-    List ℕ → Conf → Rules → ℕ → Criteria → Result Run AuditError → Type 0
+    List ℕ → Conf → Rules → ℕ → Criteria → Result JudgedRun AuditError → Type 0
 RunsBooted file conf rules n goal (Ok run) = IsRun file conf rules n goal run
 RunsBooted file conf rules n goal (Err error) = IsUnjudged conf goal.watches error
 
 -- by the first reason not to boot
 abbrev pub Runs :
-    List ℕ → Conf → Option BootError → Rules → ℕ → Criteria → Result Run AuditError → Type 0
+    List ℕ → Conf → Option BootError → Rules → ℕ → Criteria → Result JudgedRun AuditError → Type 0
 Runs file conf (Some first) rules n goal result = result ≡ Err (Boot first)
 Runs file conf None rules n goal result = RunsBooted file conf rules n goal result

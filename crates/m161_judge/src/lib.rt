@@ -33,5 +33,5 @@ pub use list::{judge, judge_events};
 pub use m161_audit::{AuditError, Watch};
 pub use m161_drive::Policy;
 pub use m161_machine::{BootError, Conf, Event, LinkUnit};
-pub use run::{Run, judge_booted, judge_run};
+pub use run::{JudgedRun, judge_booted, judge_run};
 pub use verdict::{Judged, Verdict};

@@ -22,7 +22,7 @@ use std::alloc::Global;
 
 /// A driven run, and its verdict.
 #[derive(Drop)]
-pub struct Run {
+pub struct JudgedRun {
     /// The events that the policy chose.
     pub events: Vec<Event>,
     /// Their verdict, if they have one.
@@ -48,7 +48,7 @@ fn drive_run<T: Tlb, D: Console>(
     policy: &Policy,
     n: u64,
     output: Option<&[u8]>,
-) -> Result<Run, AuditError>
+) -> Result<JudgedRun, AuditError>
     ensures { DrivesRun policy.now n (bytes_of output.entry) core.old.state result }
 {
     let mut events = Vec::new(alloc);
@@ -59,7 +59,7 @@ fn drive_run<T: Tlb, D: Console>(
     let keys_left = policy.key(count_keys(&events)).is_some();
     let made = events.len();
     let seen = nothing_seen().look(core, made, keys_left, output);
-    Ok(Run {
+    Ok(JudgedRun {
         events,
         judged: seen.verdict(core, made, output),
         is_cut: is_cut(core, driven.stop, keys_left),
@@ -73,7 +73,7 @@ fn drive_copy<T: Tlb + Drop, D: Console + Drop>(
     policy: &Policy,
     n: u64,
     output: Option<&[u8]>,
-) -> Result<Run, AuditError>
+) -> Result<JudgedRun, AuditError>
     ensures { DrivesRun policy.now n (bytes_of output.entry) booted.now result }
 {
     let mut core = booted.copy_core(alloc)?;
@@ -93,7 +93,7 @@ pub fn judge_booted<T: Tlb + Drop, D: Console + Drop>(
     n: u64,
     watches: &[Watch],
     output: Option<&[u8]>,
-) -> Result<Run, AuditError>
+) -> Result<JudgedRun, AuditError>
     ensures { (file : List ℕ) (conf : ConfValue)
         → BootsState file conf (boot_fault file conf) (Ok booted.now)
         → Runs file conf (boot_fault file conf) policy.now n
@@ -101,7 +101,7 @@ pub fn judge_booted<T: Tlb + Drop, D: Console + Drop>(
 {
     let run = drive_copy(alloc, booted, policy, n, output)?;
     let finding = find_stale(alloc, booted.core(), &run.events, watches)?;
-    Ok(Run {
+    Ok(JudgedRun {
         events: run.events,
         judged: first_verdict(finding, run.judged),
         is_cut: run.is_cut,
@@ -122,7 +122,7 @@ pub fn judge_run<T: Tlb + Drop, D: Console + Drop>(
     n: u64,
     watches: &[Watch],
     output: Option<&[u8]>,
-) -> Result<Run, AuditError>
+) -> Result<JudgedRun, AuditError>
     ensures { Runs file.now conf (boot_fault file.now conf) policy.now n
         (criteria watches.now (bytes_of output.entry) policy.now) result }
 {

@@ -4,7 +4,7 @@ use Rattle.std.proofs.lemmas.List.{drop_all, drop-append-le, length-append, map-
 use Rattle.std.proofs.lemmas.List.Elements.{All-set, All-weaker, All-head, All-tail}
 use Rattle.m161_isa.specs.declared.link.LinkUnit.{LinkUnit}
 use Rattle.m161_cpu.specs.Links.{LinkAct, Keep, LinkTo, End, unit_of, unless_to, after_store, after_act, links_after}
-use Rattle.m161_machine.specs.StoreHistory.{Link, live, live_links, touches, with_link_act, stores_after}
+use Rattle.m161_machine.specs.StoreHistory.{Link, live, live_links, touches_unit, with_link_act, stores_after}
 use Rattle.std.proofs.Math.Bool.{or-false}
 
 -- A machine's state has the units of the live links. They are those of the links with all stores.
@@ -18,11 +18,11 @@ or_assoc : (a b c : Bool) → (a || b) || c ≡ a || (b || c)
 or_assoc true b c = refl
 or_assoc false b c = refl
 
-touches_more : (u : LinkUnit) (at w : ℕ) (ws : List ℕ) → touches u at (ws ++ w ∷ []) ≡ touches u at ws || (at == unit_of u w)
+touches_more : (u : LinkUnit) (at w : ℕ) (ws : List ℕ) → touches_unit u at (ws ++ w ∷ []) ≡ touches_unit u at ws || (at == unit_of u w)
 touches_more u at w [] = or-false (at == unit_of u w)
 touches_more u at w (x ∷ ws) =
     ap (λ t. (at == unit_of u x) || t) (touches_more u at w ws)
-    ∙ sym (or_assoc (at == unit_of u x) (touches u at ws) (at == unit_of u w))
+    ∙ sym (or_assoc (at == unit_of u x) (touches_unit u at ws) (at == unit_of u w))
 
 -- a store ends a live link to its unit
 ended_or_live : (u : LinkUnit) (at w : ℕ) (before : Bool) →
@@ -34,9 +34,9 @@ live_more : (u : LinkUnit) (stores : List ℕ) (w : ℕ) (link : Option Link) �
 live_more u stores w None made = refl
 live_more u stores w (Some link) made =
     let later : drop link.made (stores ++ w ∷ []) ≡ drop link.made stores ++ w ∷ [] = drop-append-le link.made stores (w ∷ []) made in
-    ap (λ ws. if touches u link.at ws then None else Some link.at) later
+    ap (λ ws. if touches_unit u link.at ws then None else Some link.at) later
     ∙ ap (λ (t : Bool). if t then None else Some link.at) (touches_more u link.at w (drop link.made stores))
-    ∙ ended_or_live u link.at w (touches u link.at (drop link.made stores))
+    ∙ ended_or_live u link.at w (touches_unit u link.at (drop link.made stores))
 
 all_more : (u : LinkUnit) (stores : List ℕ) (w : ℕ) (links : List (Option Link)) → All (IsMade stores) links →
     map (unless_to u w) (map (live u stores) links) ≡ map (live u (stores ++ w ∷ [])) links
@@ -56,7 +56,7 @@ after_its_store u (Some w) stores links made =
 live_now : (u : LinkUnit) (stores : List ℕ) (at : ℕ) → live u stores (Some (record { at = at; made = length stores })) ≡ Some at
 live_now u stores at =
     let none : drop (length stores) stores ≡ [] = drop_all (length stores) stores (omega arith) in
-    ap (λ ws. if touches u at ws then None else Some at) none
+    ap (λ ws. if touches_unit u at ws then None else Some at) none
 
 -- one link set
 set_live : (u : LinkUnit) (p : ℕ) (to : Option ℕ) (link : Option Link) (stores : List ℕ) (links : List (Option Link)) →

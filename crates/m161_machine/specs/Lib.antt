@@ -3,6 +3,7 @@ pub mod Conf
 pub mod State
 pub mod Resting
 pub mod Uses
+pub mod Fetched
 pub mod History
 pub mod StoreHistory
 pub mod Sound

@@ -37,15 +37,15 @@ pub record StoreState : Type 0 where
   pub conflict : Option Conflict
 
 -- one of these words is in the unit that begins at this byte
-abbrev pub touches : LinkUnit → ℕ → List ℕ → Bool
-touches unit at [] = false
-touches unit at (word ∷ words) = (at == unit_of unit word) || touches unit at words
+abbrev pub touches_unit : LinkUnit → ℕ → List ℕ → Bool
+touches_unit unit at [] = false
+touches_unit unit at (word ∷ words) = (at == unit_of unit word) || touches_unit unit at words
 
 -- the unit of a link that is live: no store since it was made has touched a word of the unit
 abbrev pub live : LinkUnit → List ℕ → Option Link → Option ℕ
 live unit stores None = None
 live unit stores (Some link) =
-    if touches unit link.at (drop link.made stores) then None else Some link.at
+    if touches_unit unit link.at (drop link.made stores) then None else Some link.at
 
 abbrev pub live_links : LinkUnit → List ℕ → List (Option Link) → LinkState
 live_links unit stores links = record { unit = unit; live = map (live unit stores) links }

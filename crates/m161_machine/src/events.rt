@@ -25,14 +25,14 @@ const MOST_RUNS: usize = 5;
 
 /// An event, and how many times it stands there. Contracts see it as the pair of them.
 #[derive(Drop)]
-struct Run {
+struct EventRun {
     // the processor or the byte
     number: u32,
     // the kind, and four for each time
     code: u32,
 }
 
-impl Model for Run {
+impl Model for EventRun {
     ghost use Rattle.std.specs.Prelude.{◌≡◌, ℕ, ◌/◌, ◌%◌, ◌<◌, ◌≤◌};
     ghost use Rattle.m161_machine.specs.declared.event.Event.{Event};
     ghost use Rattle.m161_machine.specs.helpers.Events.{event_of};
@@ -45,8 +45,8 @@ impl Model for Run {
     ghost invariant = { λ run. (run.code % 4 ≡ 1 → run.number < 256) × (4 ≤ run.code) };
 }
 
-impl Run {
-    fn new(event: Event, times: u32) -> Run
+impl EventRun {
+    fn new(event: Event, times: u32) -> EventRun
         requires some { 1 ≤ times }
         requires small { times < 2 ^ 30 }
         ensures { result ≡ (event, times) }
@@ -56,7 +56,7 @@ impl Run {
             Event::Key(byte) => (KEY, u32::from(byte)),
             Event::Done => (DONE, 0),
         };
-        Run {
+        EventRun {
             number,
             code: times * 4 + kind,
         }
@@ -82,7 +82,7 @@ impl Run {
 
     // Adds the times of another run, if it is of the same event and there is room for them. Returns
     // whether they were added.
-    fn lengthen(&mut self, more: &Run) -> bool
+    fn lengthen(&mut self, more: &EventRun) -> bool
         ensures added { result ≡ true
             → (self.old.0 ≡ more.now.0) × (self.new ≡ (self.old.0, self.old.1 + more.now.1)) }
         ensures not_added { result ≡ false → self.new ≡ self.old }
@@ -100,7 +100,7 @@ impl Run {
 
 // Adds these times to the last run, if it is of this event and has room for them. Returns whether
 // they were added.
-fn lengthen_last(runs: &mut Vec<Run>, more: &Run) -> bool
+fn lengthen_last(runs: &mut Vec<EventRun>, more: &EventRun) -> bool
     ensures added { result ≡ true
         → unfolded runs.new.items ≡ unfolded runs.old.items ++ replicate more.now.1 more.now.0 }
     ensures not_added { result ≡ false → runs.new.items ≡ runs.old.items }
@@ -112,7 +112,7 @@ fn lengthen_last(runs: &mut Vec<Run>, more: &Run) -> bool
 }
 
 // Appends an event some times.
-fn append_run(runs: &mut Vec<Run>, run: Run) -> Result<(), AllocError>
+fn append_run(runs: &mut Vec<EventRun>, run: EventRun) -> Result<(), AllocError>
     ensures appended { OnOk result
         (unfolded runs.new.items ≡ unfolded runs.old.items ++ replicate run.1 run.0) }
     ensures refused { OnErr result (runs.new.items ≡ runs.old.items) }
@@ -125,26 +125,26 @@ fn append_run(runs: &mut Vec<Run>, run: Run) -> Result<(), AllocError>
 }
 
 // Appends an event some times, into the room of the runs.
-fn append(runs: &mut Vec<Run>, event: Event, times: u32)
+fn append(runs: &mut Vec<EventRun>, event: Event, times: u32)
     requires room { vec_len runs.old + 5 ≤ vec_capacity runs.old }
     ensures { unfolded runs.new.items ≡ unfolded runs.old.items ++ replicate times event }
 {
     let mut done = 0;
     while done < times {
         let more = (times - done).min(MOST_TIMES);
-        runs.push_reserved(Run::new(event, more));
+        runs.push_reserved(EventRun::new(event, more));
         done += more;
     }
 }
 
 // Appends an event any number of times.
-fn append_times(runs: &mut Vec<Run>, event: Event, times: u32) -> Result<(), AllocError>
+fn append_times(runs: &mut Vec<EventRun>, event: Event, times: u32) -> Result<(), AllocError>
     ensures appended { OnOk result
         (unfolded runs.new.items ≡ unfolded runs.old.items ++ replicate times event) }
     ensures refused { OnErr result (runs.new.items ≡ runs.old.items) }
 {
     if 0 < times && times <= MOST_TIMES {
-        return append_run(runs, Run::new(event, times));
+        return append_run(runs, EventRun::new(event, times));
     }
     runs.reserve(MOST_RUNS)?;
     append(runs, event, times);
@@ -155,7 +155,7 @@ fn append_times(runs: &mut Vec<Run>, event: Event, times: u32) -> Result<(), All
 /// of which takes eight bytes.
 #[derive(Drop)]
 pub struct Events {
-    runs: Vec<Run>,
+    runs: Vec<EventRun>,
     number: usize,
 }
 
@@ -280,7 +280,7 @@ fn push_copies(events: &mut Vec<Event>, event: Event, times: u32)
 /// Contracts see them as the list of the remaining events.
 #[derive(Drop)]
 pub struct Runs<'a> {
-    runs: &'a [Run],
+    runs: &'a [EventRun],
 }
 
 impl<'a> Model for Runs<'a> {

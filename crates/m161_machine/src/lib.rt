@@ -25,6 +25,7 @@
 mod conf;
 mod event;
 mod events;
+mod fetched;
 mod laws;
 mod machine;
 mod packed;
@@ -36,6 +37,7 @@ mod window;
 pub use conf::{BootError, Conf};
 pub use event::{Conflict, Entry, Event, Refusal};
 pub use events::{Events, Runs};
+pub use fetched::fetches_none;
 pub use laws::stores_agree;
 pub use m161_bus::{BoardWord, Console};
 pub use m161_cop0::{Exception, Register};

@@ -4,7 +4,7 @@ use Rattle.std.proofs.lemmas.List.{length-take}
 use Rattle.std.specs.Prelude.{Option, None, Some}
 use Rattle.std.specs.List.{AllByRecursion}
 use Rattle.m161_machine.specs.declared.event.Event.{Event}
-use Rattle.m161_shorten.specs.declared.judged.Judged.{Judged}
+use Rattle.m161_shorten.specs.declared.judged.Judgement.{Judgement}
 use Rattle.m161_shorten.specs.Blocks.{blocks}
 use Rattle.m161_shorten.specs.Trials.{trials}
 use Rattle.m161_shorten.specs.Passes.{GoesOn, GoesTo, IsEnd, Place, Shortens, Takes, after_trials, first_place}
@@ -28,7 +28,7 @@ pub record Took (NeedsOf : List Event → ℕ → Type 0) (whole most : ℕ) (fs
   pub cut : fs ≡ take needed trial
   pub like : IsLike whole most trial
 
-found_trial : {K : Type 0} (is_kind : K → Bool) (judges : List Event → Option (Judged K) → Type 0) (whole most : ℕ) (ts : List (List Event)) → AllByRecursion (IsLike whole most) ts →
+found_trial : {K : Type 0} (is_kind : K → Bool) (judges : List Event → Option (Judgement K) → Type 0) (whole most : ℕ) (ts : List (List Event)) → AllByRecursion (IsLike whole most) ts →
     (fs : List Event) (judged : ℕ) → Takes is_kind judges ts (Some fs) judged → Took (Needs is_kind judges) whole most fs × (1 ≤ judged)
 found_trial is_kind judges whole most [] all fs judged (found, none) = absurd cc
 found_trial is_kind judges whole most (t ∷ ts) all fs judged (inl (n, needs, found, one)) =
@@ -44,7 +44,7 @@ pub record Turns (NeedsOf : List Event → ℕ → Type 0) (s t : Place) : Type 
       ⊎ (((s.block < length (blocks s.events)) × ((j : ℕ) × (t ≡ after_trials None j s)))
       ⊎ ((s.taken ≡ true) × (t ≡ record s { block = 0; taken = false })))
 
-at_trials : {K : Type 0} (is_kind : K → Bool) (judges : List Event → Option (Judged K) → Type 0) (s t : Place) (taken : Option (List Event)) (j : ℕ) → s.block < length (blocks s.events) →
+at_trials : {K : Type 0} (is_kind : K → Bool) (judges : List Event → Option (Judgement K) → Type 0) (s t : Place) (taken : Option (List Event)) (j : ℕ) → s.block < length (blocks s.events) →
     0 < s.left → Takes is_kind judges (take s.left (trials s.block s.events)) taken j → t ≡ after_trials taken j s → Turns (Needs is_kind judges) s t
 at_trials is_kind judges s t None j block some takes is = record { some = some; how = inr (inl (block, (j, is))) }
 at_trials is_kind judges s t (Some fs) j block some takes is =
@@ -52,7 +52,7 @@ at_trials is_kind judges s t (Some fs) j block some takes is =
     let took = found_trial is_kind judges (length s.events) (length (blocks s.events)) (take s.left (trials s.block s.events)) like fs j takes in
     record { some = some; how = inl (block, (fs, j, took.0, took.1, is)) }
 
-pub turns : {K : Type 0} (is_kind : K → Bool) (judges : List Event → Option (Judged K) → Type 0) (s t : Place) → GoesTo is_kind judges s t → Turns (Needs is_kind judges) s t
+pub turns : {K : Type 0} (is_kind : K → Bool) (judges : List Event → Option (Judgement K) → Type 0) (s t : Place) → GoesTo is_kind judges s t → Turns (Needs is_kind judges) s t
 unfolding GoesTo
 turns is_kind judges s t (some, inl (block, (taken, j, takes, is))) = at_trials is_kind judges s t taken j block some takes is
 turns is_kind judges s t (some, inr (behind, was, is)) = record { some = some; how = inr (inr (was, is)) }
@@ -129,7 +129,7 @@ no_longer NeedsOf s t turn =
       ]
     ]
 
-pub still_needed : {K : Type 0} (is_kind : K → Bool) (judges : List Event → Option (Judged K) → Type 0) (s t : Place) → KeepsCut is_kind judges → NeedsAll is_kind judges s.events →
+pub still_needed : {K : Type 0} (is_kind : K → Bool) (judges : List Event → Option (Judgement K) → Type 0) (s t : Place) → KeepsCut is_kind judges → NeedsAll is_kind judges s.events →
     Turns (Needs is_kind judges) s t → NeedsAll is_kind judges t.events
 still_needed is_kind judges s t keeps all turn =
     let Goal : Place → Type 0 = λ u. NeedsAll is_kind judges u.events in
@@ -144,17 +144,17 @@ still_needed is_kind judges s t keeps all turn =
     ]
 
 -- one place more
-pub goes_more : {K : Type 0} (is_kind : K → Bool) (judges : List Event → Option (Judged K) → Type 0) (n : ℕ) (s t u : Place) → GoesOn is_kind judges n s t → GoesTo is_kind judges t u → GoesOn is_kind judges (suc n) s u
+pub goes_more : {K : Type 0} (is_kind : K → Bool) (judges : List Event → Option (Judgement K) → Type 0) (n : ℕ) (s t u : Place) → GoesOn is_kind judges n s t → GoesTo is_kind judges t u → GoesOn is_kind judges (suc n) s u
 goes_more is_kind judges zero s t u so_far next = (u, subst (λ x. GoesTo is_kind judges x u) so_far next, refl)
 goes_more is_kind judges (suc n) s t u so_far next = (so_far.0, so_far.1, goes_more is_kind judges n so_far.0 t u so_far.2 next)
 
 -- along all places
-all_needed : {K : Type 0} (is_kind : K → Bool) (judges : List Event → Option (Judged K) → Type 0) (n : ℕ) (s t : Place) → KeepsCut is_kind judges → NeedsAll is_kind judges s.events → GoesOn is_kind judges n s t → NeedsAll is_kind judges t.events
+all_needed : {K : Type 0} (is_kind : K → Bool) (judges : List Event → Option (Judgement K) → Type 0) (n : ℕ) (s t : Place) → KeepsCut is_kind judges → NeedsAll is_kind judges s.events → GoesOn is_kind judges n s t → NeedsAll is_kind judges t.events
 all_needed is_kind judges zero s t keeps all goes = subst (λ (u : Place). NeedsAll is_kind judges u.events) (sym goes) all
 all_needed is_kind judges (suc n) s t keeps all goes =
     all_needed is_kind judges n goes.0 t keeps (still_needed is_kind judges s goes.0 keeps all (turns is_kind judges s goes.0 goes.1)) goes.2
 
-pub end_needed : {K : Type 0} (is_kind : K → Bool) (judges : List Event → Option (Judged K) → Type 0) (es fs : List Event) → KeepsCut is_kind judges → NeedsAll is_kind judges es → Shortens is_kind judges es fs → NeedsAll is_kind judges fs
+pub end_needed : {K : Type 0} (is_kind : K → Bool) (judges : List Event → Option (Judgement K) → Type 0) (es fs : List Event) → KeepsCut is_kind judges → NeedsAll is_kind judges es → Shortens is_kind judges es fs → NeedsAll is_kind judges fs
 end_needed is_kind judges es fs keeps all short =
     subst (NeedsAll is_kind judges) (sym short.events_are) (all_needed is_kind judges short.places (first_place es) short.last keeps all short.goes_on)
 
@@ -176,14 +176,14 @@ still_from NeedsOf es s t was turn =
     ]
 
 -- where the passes go on
-pub moved_on : {K : Type 0} (is_kind : K → Bool) (judges : List Event → Option (Judged K) → Type 0) (s t : Place) (more : Bool) → more ≡ true → Moves is_kind judges s more t → GoesTo is_kind judges s t
+pub moved_on : {K : Type 0} (is_kind : K → Bool) (judges : List Event → Option (Judgement K) → Type 0) (s t : Place) (more : Bool) → more ≡ true → Moves is_kind judges s more t → GoesTo is_kind judges s t
 moved_on is_kind judges s t more on moves = subst (λ b. Moves is_kind judges s b t) on moves
 
 -- where they end
-pub moved_not : {K : Type 0} (is_kind : K → Bool) (judges : List Event → Option (Judged K) → Type 0) (s t : Place) (more : Bool) → more ≡ false → Moves is_kind judges s more t → IsEnd s × (t ≡ s)
+pub moved_not : {K : Type 0} (is_kind : K → Bool) (judges : List Event → Option (Judgement K) → Type 0) (s t : Place) (more : Bool) → more ≡ false → Moves is_kind judges s more t → IsEnd s × (t ≡ s)
 moved_not is_kind judges s t more on moves = subst (λ b. Moves is_kind judges s b t) on moves
 
-pub ended : {K : Type 0} (is_kind : K → Bool) (judges : List Event → Option (Judged K) → Type 0) (n : ℕ) (es fs : List Event) (s t : Place) → GoesOn is_kind judges n (first_place es) s →
+pub ended : {K : Type 0} (is_kind : K → Bool) (judges : List Event → Option (Judgement K) → Type 0) (n : ℕ) (es fs : List Event) (s t : Place) → GoesOn is_kind judges n (first_place es) s →
     IsEnd s × (t ≡ s) → fs ≡ t.events → Shortens is_kind judges es fs
 ended is_kind judges n es fs s t goes (end, stays) events =
     record { places = n; last = s; goes_on = goes; ends = end; events_are = events ∙ ap (λ (x : Place). x.events) stays }

@@ -1,7 +1,7 @@
 use Rattle.std.proofs.Common.{◌≡◌, ◌≤◌, ◌⊎◌, inl, inr, refl, sym, subst, ℕ, zero, suc, ◌<◌, Bool, true, false, List, [], ◌∷◌, take, arith}
 use Rattle.std.specs.Prelude.{Option, None, Some}
 use Rattle.m161_machine.specs.declared.event.Event.{Event}
-use Rattle.m161_shorten.specs.declared.judged.Judged.{Judged}
+use Rattle.m161_shorten.specs.declared.judged.Judgement.{Judgement}
 use Rattle.m161_shorten.specs.declared.trial.Tried.{Tried}
 use Rattle.m161_shorten.specs.Passes.{Takes}
 use Rattle.m161_shorten.specs.Verdicts.{NeedsNone}
@@ -10,12 +10,12 @@ use Rattle.m161_shorten.specs.helpers.Tries.{Tries, if_taken}
 -- Trials, one after the other.
 
 -- a trial that isn't taken
-pub not_taken : {K : Type 0} (is_kind : K → Bool) (judges : List Event → Option (Judged K) → Type 0) (trial es fs : List Event) → NeedsNone is_kind judges trial → fs ≡ es →
+pub not_taken : {K : Type 0} (is_kind : K → Bool) (judges : List Event → Option (Judgement K) → Type 0) (trial es fs : List Event) → NeedsNone is_kind judges trial → fs ≡ es →
     Tries is_kind judges (trial ∷ []) es (record { taken = false; judged = 1 }) fs
 not_taken is_kind judges trial es fs none stays = record { takes = inr (0, none, (refl, refl), refl); stays = λ not. stays }
 
 -- the first of two trials is taken, or no other may be made
-pub first_enough : {K : Type 0} (is_kind : K → Bool) (judges : List Event → Option (Judged K) → Type 0) (t u es fs : List Event) (tried : Tried) (left : ℕ) →
+pub first_enough : {K : Type 0} (is_kind : K → Bool) (judges : List Event → Option (Judgement K) → Type 0) (t u es fs : List Event) (tried : Tried) (left : ℕ) →
     Tries is_kind judges (t ∷ []) es tried fs → 0 < left → (tried.taken ≡ true) ⊎ (left ≡ 1) → Tries is_kind judges (take left (t ∷ u ∷ [])) es tried fs
 first_enough is_kind judges t u es fs tried zero tries some enough = absurd (omega arith)
 first_enough is_kind judges t u es fs tried (suc left) tries some (inr one) =
@@ -30,7 +30,7 @@ first_enough is_kind judges t u es fs tried (suc left) tries some (inl was) = re
         absurd cc
 
 -- the one trial wasn't taken
-pub has_none : {K : Type 0} (is_kind : K → Bool) (judges : List Event → Option (Judged K) → Type 0) (t es fs : List Event) (tried : Tried) →
+pub has_none : {K : Type 0} (is_kind : K → Bool) (judges : List Event → Option (Judgement K) → Type 0) (t es fs : List Event) (tried : Tried) →
     Tries is_kind judges (t ∷ []) es tried fs → tried.taken ≡ false → NeedsNone is_kind judges t
 has_none is_kind judges t es fs tried tries not = by tries.takes
   where
@@ -41,7 +41,7 @@ has_none is_kind judges t es fs tried tries not = by tries.takes
     by (inr (more, none, later, judged)) = none
 
 -- the second of two trials was made, after the first one wasn't taken
-pub second_tries : {K : Type 0} (is_kind : K → Bool) (judges : List Event → Option (Judged K) → Type 0) (t u es fs : List Event) (tried : Tried) (left : ℕ) →
+pub second_tries : {K : Type 0} (is_kind : K → Bool) (judges : List Event → Option (Judgement K) → Type 0) (t u es fs : List Event) (tried : Tried) (left : ℕ) →
     NeedsNone is_kind judges t → Tries is_kind judges (u ∷ []) es tried fs → tried.judged ≡ 1 → 2 ≤ left →
     Tries is_kind judges (take left (t ∷ u ∷ [])) es (record { taken = tried.taken; judged = 2 }) fs
 second_tries is_kind judges t u es fs tried zero none tries one some = absurd (omega arith)

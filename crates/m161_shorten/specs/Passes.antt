@@ -1,6 +1,6 @@
 use Rattle.std.specs.Prelude.{◌≡◌, ◌⊎◌, ℕ, zero, suc, ◌+◌, ◌-◌, ◌<◌, ◌≤◌, Bool, true, false, List, [], ◌∷◌, length, take, Option, None, Some}
 use Rattle.m161_machine.specs.declared.event.Event.{Event}
-use Rattle.m161_shorten.specs.declared.judged.Judged.{Judged}
+use Rattle.m161_shorten.specs.declared.judged.Judgement.{Judgement}
 use Rattle.m161_shorten.specs.Blocks.{blocks}
 use Rattle.m161_shorten.specs.Trials.{trials}
 use Rattle.m161_shorten.specs.Verdicts.{Needs, NeedsNone}
@@ -23,7 +23,7 @@ first_place es = record { events = es; block = 0; taken = false; left = 2_000 }
 -- lists are judged from the first on, until one has a verdict of the kind: that one is taken, cut
 -- behind its verdict; the number is how many were judged
 abbrev pub Takes :
-    {K : Type 0} → (K → Bool) → (List Event → Option (Judged K) → Type 0)
+    {K : Type 0} → (K → Bool) → (List Event → Option (Judgement K) → Type 0)
     → List (List Event) → Option (List Event) → ℕ → Type 0
 Takes is_kind judges [] taken judged = (taken ≡ None) × (judged ≡ 0)
 Takes is_kind judges (es ∷ others) taken judged =
@@ -39,7 +39,7 @@ after_trials None judged s = record s { block = s.block + 1; left = s.left - jud
 
 -- from s to t, the trials at the block are made, as many as may be judged
 abbrev pub MakesTrials :
-    {K : Type 0} → (K → Bool) → (List Event → Option (Judged K) → Type 0) → Place → Place → Type 0
+    {K : Type 0} → (K → Bool) → (List Event → Option (Judgement K) → Type 0) → Place → Place → Type 0
 MakesTrials is_kind judges s t =
     (taken : Option (List Event)) × (judged : ℕ)
     × Takes is_kind judges (take s.left (trials s.block s.events)) taken judged
@@ -48,7 +48,7 @@ MakesTrials is_kind judges s t =
 -- from s to the next place t, trials are made; or s is behind the last block, something was taken, and
 -- another pass begins
 unfoldable pub GoesTo :
-    {K : Type 0} → (K → Bool) → (List Event → Option (Judged K) → Type 0) → Place → Place → Type 0
+    {K : Type 0} → (K → Bool) → (List Event → Option (Judgement K) → Type 0) → Place → Place → Type 0
 GoesTo is_kind judges s t =
     (0 < s.left)
     × (((s.block < length (blocks s.events)) × MakesTrials is_kind judges s t)
@@ -62,7 +62,7 @@ IsEnd s =
 
 -- the place t is n places behind s
 abbrev pub GoesOn :
-    {K : Type 0} → (K → Bool) → (List Event → Option (Judged K) → Type 0)
+    {K : Type 0} → (K → Bool) → (List Event → Option (Judgement K) → Type 0)
     → ℕ → Place → Place → Type 0
 GoesOn is_kind judges zero s t = t ≡ s
 GoesOn is_kind judges (suc n) s t =
@@ -70,7 +70,7 @@ GoesOn is_kind judges (suc n) s t =
 
 -- the passes over the events es end, and leave the events fs
 pub record Shortens
-    {K : Type 0} (is_kind : K → Bool) (judges : List Event → Option (Judged K) → Type 0)
+    {K : Type 0} (is_kind : K → Bool) (judges : List Event → Option (Judgement K) → Type 0)
     (es fs : List Event)
     : Type 0 where
   pub places : ℕ

@@ -2,7 +2,7 @@
 
 /// A verdict on a list of events.
 #[derive(Clone, Copy, Debug, PartialEq, Eq)]
-pub struct Judged<K> {
+pub struct Judgement<K> {
     /// Of which kind it is.
     pub kind: K,
     /// How many of the events it needs, from the first on.

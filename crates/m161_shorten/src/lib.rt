@@ -24,7 +24,7 @@ mod ranges;
 mod trial;
 
 pub use judge::Judge;
-pub use judged::Judged;
+pub use judged::Judgement;
 pub use laws::ends_with_one;
 pub use m161_machine::Event;
 pub use passes::shorten;

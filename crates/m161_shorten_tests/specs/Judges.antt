@@ -1,7 +1,7 @@
 use Rattle.std.specs.Prelude.{ℕ, ◌+◌, Bool, true, false, not, nat_lt, ◌==◌, ◌&&◌, ◌||◌, if◌then◌else◌, List, [], ◌∷◌, length, Option, None, Some}
 use Rattle.m161_machine.specs.declared.event.Event.{Event}
 use Rattle.m161_machine.specs.declared.event.Event.TheVariants as events
-use Rattle.m161_shorten.specs.declared.judged.Judged.{Judged}
+use Rattle.m161_shorten.specs.declared.judged.Judgement.{Judgement}
 use Rattle.m161_shorten_tests.specs.declared.wrong.Wrong.{Wrong}
 use Rattle.m161_shorten_tests.specs.declared.wrong.Wrong.TheVariants.{Plain, Racy}
 
@@ -23,7 +23,7 @@ goes_wrong seen events.Done = false
 abbrev pub kind_of : ℕ → Wrong
 kind_of seen = if seen == 2 then Racy else Plain
 
-abbrev pub in_order : ℕ → ℕ → List Event → Option (Judged Wrong)
+abbrev pub in_order : ℕ → ℕ → List Event → Option (Judgement Wrong)
 in_order seen place [] = None
 in_order seen place (e ∷ es) =
     if goes_wrong seen e then Some (record { kind = kind_of seen; needs = place + 1 })
@@ -45,7 +45,7 @@ beside p q [] = false
 beside p q (e ∷ es) = (is_step p e && begins q es) || beside p q es
 
 -- all of a list is needed, unless two Steps of 0 are side by side and none of 0 before one of 1
-abbrev pub unless_alone : List Event → Option (Judged Wrong)
+abbrev pub unless_alone : List Event → Option (Judgement Wrong)
 unless_alone es =
     if beside 0 0 es && not (beside 0 1 es) then None
     else Some (record { kind = Plain; needs = length es })

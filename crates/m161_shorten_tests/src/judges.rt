@@ -4,7 +4,7 @@ ghost use Rattle.std.specs.Prelude.{◌≡◌, ◌+◌, ◌<◌, ◌^◌, length
 ghost use Rattle.m161_shorten_tests.specs.Judges.{begins, beside, goes_wrong, in_order, is_step, kind_of, seen_after};
 
 use crate::wrong::{Tired, Wrong};
-use m161_shorten::{Event, Judge, Judged};
+use m161_shorten::{Event, Judge, Judgement};
 
 fn seen_after(seen: u8, event: Event) -> u8
     ensures { result ≡ seen_after seen event }
@@ -38,14 +38,14 @@ fn kind_of(seen: u8) -> Wrong
     if seen == 2 { Wrong::Racy } else { Wrong::Plain }
 }
 
-fn in_order(seen: u8, place: usize, events: &[Event]) -> Option<Judged<Wrong>>
+fn in_order(seen: u8, place: usize, events: &[Event]) -> Option<Judgement<Wrong>>
     requires { place + length events.now < 2 ^ 64 }
     ensures { result ≡ in_order seen place events.now }
 {
     match events.split_first() {
         Some((first, rest)) => {
             if goes_wrong(seen, *first) {
-                Some(Judged {
+                Some(Judgement {
                     kind: kind_of(seen),
                     needs: place + 1,
                 })
@@ -77,7 +77,7 @@ impl Judge for InOrder {
 
     ghost judges = { λ judge es verdict. verdict ≡ in_order 0 0 es };
 
-    fn judge(&mut self, events: &[Event]) -> Result<Option<Judged<Wrong>>, Tired> {
+    fn judge(&mut self, events: &[Event]) -> Result<Option<Judgement<Wrong>>, Tired> {
         if self.judged >= self.most {
             return Err(Tired);
         }
@@ -136,7 +136,7 @@ impl Judge for UnlessAlone {
 
     ghost judges = { λ judge es verdict. verdict ≡ unless_alone es };
 
-    fn judge(&mut self, events: &[Event]) -> Result<Option<Judged<Wrong>>, Tired> {
+    fn judge(&mut self, events: &[Event]) -> Result<Option<Judgement<Wrong>>, Tired> {
         if self.judged >= self.most {
             return Err(Tired);
         }
@@ -145,7 +145,7 @@ impl Judge for UnlessAlone {
         if alone {
             return Ok(None);
         }
-        Ok(Some(Judged {
+        Ok(Some(Judgement {
             kind: Wrong::Plain,
             needs: events.len(),
         }))

@@ -4,8 +4,8 @@ use Rattle.std.proofs.lemmas.List.{take-append-le, take-map, length-map, map_pus
 use Rattle.std.proofs.lemmas.Option.{none-some, same_Some}
 use Rattle.std.specs.List.{AllByRecursion}
 use Rattle.m161_machine.specs.declared.event.Entry.{Entry}
-use Rattle.m161_steplog.specs.declared.fault.Fault.{Fault}
-use Rattle.m161_steplog.specs.declared.fault.Fault.TheVariants as faults
+use Rattle.m161_steplog.specs.declared.fault.TextFault.{TextFault}
+use Rattle.m161_steplog.specs.declared.fault.TextFault.TheVariants as faults
 use Rattle.m161_text.specs.Parts.{Reads, Lacks}
 use Rattle.m161_steplog.specs.Text.{entry_text}
 use Rattle.m161_text.specs.Lines.{lines_of, FirstBad}
@@ -180,20 +180,20 @@ file_no_bad : (text rest : List ℕ) (mode : Mode) (fs : List Entry) (n : ℕ) �
 file_no_bad text rest mode fs n is bad log = log_no_bad rest mode fs n (subst (λ t. IsLog t mode fs) (sym is) log) bad
 
 -- a fault behind lines
-abbrev Faults : List ℕ → Fault → Type 0
-Faults rest f = (n : ℕ) → IsErrOf {T = LogText} {E = Fault} (Err f) (faults.Line n) → FirstBad AreLogLines rest n
+abbrev Faults : List ℕ → TextFault → Type 0
+Faults rest f = (n : ℕ) → IsErrOf {T = LogText} {E = TextFault} (Err f) (faults.Line n) → FirstBad AreLogLines rest n
 
-pub fault_fits : (rest : List ℕ) (count total : ℕ) (f : Fault) → Faults rest f → count + length rest ≤ total → total < 2 ^ 63 → (n : ℕ) → f ≡ faults.Line n → count + n < 2 ^ 64
+pub fault_fits : (rest : List ℕ) (count total : ℕ) (f : TextFault) → Faults rest f → count + length rest ≤ total → total < 2 ^ 63 → (n : ℕ) → f ≡ faults.Line n → count + n < 2 ^ 64
 fault_fits rest count total f line room small n is = omega (arith, bad_within AreLogLines rest n (line n (ap (λ x. Err x) is)))
 
-pub file_line : (text rest : List ℕ) (count : ℕ) (f : Fault) → rest ≡ behind_comments text → count ≡ comment_count text → Faults rest f
-    → (n : ℕ) → IsErrOf {T = LogText} {E = Fault} (Err (fault_behind count f)) (faults.Line n) → IsFirstBadOfLog text n
+pub file_line : (text rest : List ℕ) (count : ℕ) (f : TextFault) → rest ≡ behind_comments text → count ≡ comment_count text → Faults rest f
+    → (n : ℕ) → IsErrOf {T = LogText} {E = TextFault} (Err (fault_behind count f)) (faults.Line n) → IsFirstBadOfLog text n
 file_line text rest count faults.NoMemory is number line n fault = absurd (cc)
 file_line text rest count (faults.Line k) is number line n fault =
     let sum : n ≡ count + k = cc in
     file_bad text rest count k n is number (line k refl) sum
 
-pub file_err : (text rest : List ℕ) (count : ℕ) (f : Fault) → rest ≡ behind_comments text → Faults rest f
+pub file_err : (text rest : List ℕ) (count : ℕ) (f : TextFault) → rest ≡ behind_comments text → Faults rest f
     → (mode : Mode) (es : List Entry) → IsLogFile text mode es → fault_behind count f ≡ faults.NoMemory
 file_err text rest count faults.NoMemory is line mode es log = refl
 file_err text rest count (faults.Line k) is line mode es log = absurd (file_no_bad text rest mode es k is (line k refl) log)

@@ -5,8 +5,8 @@ use Rattle.std.proofs.lemmas.Option.{none-some, same_Some}
 use Rattle.std.specs.List.{AllByRecursion}
 use Rattle.m161_machine.specs.declared.event.Event.{Event}
 use Rattle.m161_steplog.specs.declared.schedule.Item.{Item}
-use Rattle.m161_steplog.specs.declared.fault.Fault.{Fault}
-use Rattle.m161_steplog.specs.declared.fault.Fault.TheVariants as faults
+use Rattle.m161_steplog.specs.declared.fault.TextFault.{TextFault}
+use Rattle.m161_steplog.specs.declared.fault.TextFault.TheVariants as faults
 use Rattle.m161_text.specs.Lines.{lines_of, FirstBad}
 use Rattle.m161_steplog.specs.Schedule.{ScheduleLine, line_text, line_events, IsLine, IsSchedule, AreScheduleLines}
 use Rattle.m161_steplog.specs.helpers.Schedule.{item_events, ReadsLine}
@@ -142,19 +142,19 @@ full text rest line after es n item so lines read over = bad_next text rest line
     let added : es ++ item_events item ≡ flat_map line_events (so.content ++ here ∷ []) = ap₂ (λ (s t : List Event). s ++ t) so.events (sym read.found.3) ∙ flat_map_more line_events [] so.content here in
     omega (arith, ap length (added ∙ same_events), length-append es (item_events item)))
 
-pub only_read : (text : List ℕ) (r : Result (List Event) Fault) → ((fs : List Event) → IsSchedule (lines_of text) fs → IfOk r (λ v. v ≡ fs)) → ((n : ℕ) → IsErrOf r (faults.Line n) → FirstBad AreScheduleLines text n)
+pub only_read : (text : List ℕ) (r : Result (List Event) TextFault) → ((fs : List Event) → IsSchedule (lines_of text) fs → IfOk r (λ v. v ≡ fs)) → ((n : ℕ) → IsErrOf r (faults.Line n) → FirstBad AreScheduleLines text n)
     → (fs : List Event) → IsSchedule (lines_of text) fs → MatchResult r (λ v. v ≡ fs) (λ f. f ≡ faults.NoMemory)
 only_read text (Ok v) same line fs other = same fs other
 only_read text (Err faults.NoMemory) same line fs other = refl
 only_read text (Err (faults.Line n)) same line fs other = absurd (no_bad text fs n other (line n refl))
 
-pub err_only : (text : List ℕ) (r : Result (List Event) Fault) (f : Fault) → r ≡ Err f → ((n : ℕ) → IsErrOf r (faults.Line n) → FirstBad AreScheduleLines text n)
+pub err_only : (text : List ℕ) (r : Result (List Event) TextFault) (f : TextFault) → r ≡ Err f → ((n : ℕ) → IsErrOf r (faults.Line n) → FirstBad AreScheduleLines text n)
     → (fs : List Event) → IsSchedule (lines_of text) fs → MatchResult r (λ v. v ≡ fs) (λ g. g ≡ faults.NoMemory)
 err_only text r f e line fs other = only_read text r (λ gs same. rw e tt) line fs other
 
-pub overfull : (text rest line after : List ℕ) (es : List Event) (n : ℕ) (item : Item) (r : Result (List Event) Fault) (f g : Fault) → SoFar text rest es n → lines_of rest ≡ line ∷ lines_of after → ReadsLine line (Some item) → r ≡ Err g → g ≡ f
-    → ((m : ℕ) → IsErrOf {T = Unit {0}} {E = Fault} (Err f) (faults.Line m) → (m ≡ n + 1) × (16_777_216 < length es + length (item_events item))) → (m : ℕ) → IsErrOf r (faults.Line m) → FirstBad AreScheduleLines text m
+pub overfull : (text rest line after : List ℕ) (es : List Event) (n : ℕ) (item : Item) (r : Result (List Event) TextFault) (f g : TextFault) → SoFar text rest es n → lines_of rest ≡ line ∷ lines_of after → ReadsLine line (Some item) → r ≡ Err g → g ≡ f
+    → ((m : ℕ) → IsErrOf {T = Unit {0}} {E = TextFault} (Err f) (faults.Line m) → (m ≡ n + 1) × (16_777_216 < length es + length (item_events item))) → (m : ℕ) → IsErrOf r (faults.Line m) → FirstBad AreScheduleLines text m
 overfull text rest line after es n item r f g so lines read e same over m is =
     let line_m : f ≡ faults.Line m = cc in
-    let it = over m (ap (λ (x : Fault). Err x) line_m) in
+    let it = over m (ap (λ (x : TextFault). Err x) line_m) in
     subst (FirstBad AreScheduleLines text) (sym it.0) (full text rest line after es n item so lines read it.1)

@@ -7,7 +7,7 @@ use Rattle.m161_machine.specs.declared.event.Entry.{Entry}
 use Rattle.m161_machine.specs.State.{State, next}
 use Rattle.m161_machine.specs.History.{History, Leads, Boots}
 use Rattle.m161_machine.proofs.Leading.{leads_more, leads_rest}
-use Rattle.m161_steplog.specs.declared.verdict.Verdict.{Verdict}
+use Rattle.m161_steplog.specs.declared.verdict.Comparison.{Comparison}
 use Rattle.m161_steplog.specs.Verdict.{Follows, IsVerdict, Verifies}
 use Rattle.m161_steplog.specs.helpers.Verdict.{Repeats}
 
@@ -25,7 +25,7 @@ repeated s m n log k d false lt made here is = absurd (cc)
 repeated s m n log k d true lt made here is = rw (made_next log k d lt) (leads_more (take k log) (get_or log k d) s m n made here)
 
 -- one that it doesn't repeat
-pub differs : (s m n : State) (log : List Entry) (k : ℕ) (d : Entry) (b : Bool) → k < length log → Leads s (take k log) m → Repeats m (get_or log k d) n (Ok b) → b ≡ false → IsVerdict s log (Verdict.Differs k)
+pub differs : (s m n : State) (log : List Entry) (k : ℕ) (d : Entry) (b : Bool) → k < length log → Leads s (take k log) m → Repeats m (get_or log k d) n (Ok b) → b ≡ false → IsVerdict s log (Comparison.Differs k)
 differs s m n log k d true lt made here is = absurd (cc)
 differs s m n log k d false lt made here is = (lt, (m, made), rw (made_next log k d lt) (made_no_more s m (take k log) (get_or log k d) made here))
 
@@ -34,7 +34,7 @@ pub not_booted : (file : List ℕ) (conf : Conf) (fault : Option BootError) (log
 not_booted file conf (Some first) log e h = h
 not_booted file conf None log e h = h
 
-pub judged : (file : List ℕ) (conf : Conf) (fault : Option BootError) (log : List Entry) (m : History) (v : Verdict) → Boots file conf fault (Ok m) → IsVerdict m.state log v → Verifies file conf fault log (Ok v)
+pub judged : (file : List ℕ) (conf : Conf) (fault : Option BootError) (log : List Entry) (m : History) (v : Comparison) → Boots file conf fault (Ok m) → IsVerdict m.state log v → Verifies file conf fault log (Ok v)
 judged file conf (Some first) log m v h is = absurd h
 judged file conf None log m v h is = (m, h, is)
 

@@ -6,8 +6,8 @@ use Rattle.m161_machine.specs.declared.event.Entry.{Entry}
 use Rattle.m161_machine.specs.History.{FitsMode}
 use Rattle.m161_text.specs.Lines.{lines_of, text_of}
 use Rattle.m161_text.specs.Parts.{◌␣◌}
-use Rattle.m161_steplog.specs.declared.fault.Fault.{Fault}
-use Rattle.m161_steplog.specs.declared.fault.Fault.TheVariants as faults
+use Rattle.m161_steplog.specs.declared.fault.TextFault.{TextFault}
+use Rattle.m161_steplog.specs.declared.fault.TextFault.TheVariants as faults
 use Rattle.m161_steplog.specs.declared.log.LogText.{LogText}
 use Rattle.m161_steplog.specs.declared.mode.Mode.{Mode}
 use Rattle.m161_steplog.specs.Text.{entry_text, IsProper}
@@ -74,6 +74,6 @@ abbrev pub IsLog : List ℕ → Mode → List Entry → Type 0
 IsLog text mode es = AreLinesOf mode es (lines_of text)
 
 -- a log was read, with this mode and these entries; or memory was refused
-abbrev pub IsReadLog : Mode → List Entry → Result LogText Fault → Type 0
+abbrev pub IsReadLog : Mode → List Entry → Result LogText TextFault → Type 0
 IsReadLog mode es result = MatchResult result
     (λ log. (log.mode ≡ mode) × (log.entries.items ≡ es)) (λ f. f ≡ faults.NoMemory)

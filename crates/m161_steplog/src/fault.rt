@@ -5,7 +5,7 @@ use thiserror::Error;
 
 /// Why a text can't be read.
 #[derive(Clone, Copy, Debug, PartialEq, Eq, Error)]
-pub enum Fault {
+pub enum TextFault {
     /// The first bad line, from 1.
     #[error("line {0}")]
     Line(u64),
@@ -14,24 +14,24 @@ pub enum Fault {
     NoMemory,
 }
 
-impl From<AllocError> for Fault {
+impl From<AllocError> for TextFault {
     ghost use Rattle.std.specs.Prelude.{◌≡◌};
-    ghost use Rattle.m161_steplog.specs.declared.fault.Fault.TheVariants as faults;
+    ghost use Rattle.m161_steplog.specs.declared.fault.TextFault.TheVariants as faults;
 
     ghost from_gives = { λ _ fault. fault ≡ faults.NoMemory };
 
-    fn from(_error: AllocError) -> Fault {
-        Fault::NoMemory
+    fn from(_error: AllocError) -> TextFault {
+        TextFault::NoMemory
     }
 }
 
-impl<T: Drop> From<AllocFailed<T>> for Fault {
+impl<T: Drop> From<AllocFailed<T>> for TextFault {
     ghost use Rattle.std.specs.Prelude.{◌≡◌};
-    ghost use Rattle.m161_steplog.specs.declared.fault.Fault.TheVariants as faults;
+    ghost use Rattle.m161_steplog.specs.declared.fault.TextFault.TheVariants as faults;
 
     ghost from_gives = { λ _ fault. fault ≡ faults.NoMemory };
 
-    fn from(_error: AllocFailed<T>) -> Fault {
-        Fault::NoMemory
+    fn from(_error: AllocFailed<T>) -> TextFault {
+        TextFault::NoMemory
     }
 }

@@ -61,5 +61,5 @@ pub use m161_machine::{BootError, Conf, Entry, Event, Events, Exception, Outcome
 pub use machine::{MachineLine, machine_line, read_machine};
 pub use mode::Mode;
 pub use schedule::read_schedule;
-pub use verdict::{Verdict, verify};
+pub use verdict::{Comparison, verify};
 pub use written::write_schedule;

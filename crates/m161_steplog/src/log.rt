@@ -3,7 +3,7 @@
 ghost use Rattle.std.specs.Prelude.{◌≡◌, ◌++◌, All, ◌+◌, ◌<◌, ◌^◌, ℕ, List, [], map, IfOk, OnOk, IsErrOf, string_bytes};
 ghost use Rattle.m161_machine.specs.declared.event.Entry.{Entry};
 ghost use Rattle.m161_machine.specs.History.{FitsMode};
-ghost use Rattle.m161_steplog.specs.declared.fault.Fault.TheVariants as faults;
+ghost use Rattle.m161_steplog.specs.declared.fault.TextFault.TheVariants as faults;
 ghost use Rattle.m161_steplog.specs.Text.{entry_text};
 ghost use Rattle.m161_text.specs.Lines.{text_of, FirstBad};
 ghost use Rattle.m161_steplog.specs.declared.mode.Mode.{Mode};
@@ -86,15 +86,15 @@ fn push_entries(alloc: Global, text: &mut String, entries: &[Entry]) -> Result<(
 }
 
 // The mode and the entries of a log's text, line by line.
-fn parse_log(alloc: Global, text: &str) -> Result<LogText, Fault>
+fn parse_log(alloc: Global, text: &str) -> Result<LogText, TextFault>
     ensures found { IfOk result (λ log. ReadsLines text.now log.mode log.entries.items []) }
     ensures line { (n : ℕ) → IsErrOf result (faults.Line n) → FirstBad AreLogLines text.now n }
 {
     let Some((header, after)) = next_line(text) else {
-        return Err(Fault::Line(1));
+        return Err(TextFault::Line(1));
     };
     let Some(mode) = parse_header(header) else {
-        return Err(Fault::Line(1));
+        return Err(TextFault::Line(1));
     };
     let mut entries = Vec::new(alloc);
     let mut number = 1u64;
@@ -102,7 +102,7 @@ fn parse_log(alloc: Global, text: &str) -> Result<LogText, Fault>
     while let Some((line, more)) = next_line(rest) {
         number += 1;
         let Some(entry) = parse_entry(line, mode) else {
-            return Err(Fault::Line(number));
+            return Err(TextFault::Line(number));
         };
         entries.push(entry)?;
         rest = more;
@@ -111,13 +111,13 @@ fn parse_log(alloc: Global, text: &str) -> Result<LogText, Fault>
 }
 
 // A fault of a text behind so many lines, as one of the whole text.
-fn fault_behind(fault: Fault, lines: u64) -> Fault
+fn fault_behind(fault: TextFault, lines: u64) -> TextFault
     requires { (n : ℕ) → fault ≡ faults.Line n → lines + n < 2 ^ 64 }
     ensures { result ≡ fault_behind lines fault }
 {
     match fault {
-        Fault::Line(n) => Fault::Line(lines + n),
-        Fault::NoMemory => Fault::NoMemory,
+        TextFault::Line(n) => TextFault::Line(lines + n),
+        TextFault::NoMemory => TextFault::NoMemory,
     }
 }
 
@@ -126,7 +126,7 @@ fn fault_behind(fault: Fault, lines: u64) -> Fault
 ///
 /// # Errors
 /// The first bad line, counted from the beginning of the whole text; or memory was refused.
-pub fn read_log(alloc: Global, text: &str) -> Result<LogText, Fault>
+pub fn read_log(alloc: Global, text: &str) -> Result<LogText, TextFault>
     // Behind its comments the text is the log of the result.
     ensures found { IfOk result (λ log. IsLogFile text.now log.mode log.entries.items) }
     // If the text is a log behind comments, it is read, unless memory is refused.

@@ -3,7 +3,7 @@
 ghost use Rattle.std.specs.Prelude.{◌≡◌, ℕ, ◌+◌, ◌<◌, ◌≤◌, List, length, decimal, IfOk, OnOk, IsErrOf};
 ghost use Rattle.m161_machine.specs.declared.event.Event.{Event};
 ghost use Rattle.m161_machine.specs.declared.event.Event.TheVariants as events;
-ghost use Rattle.m161_steplog.specs.declared.fault.Fault.TheVariants as faults;
+ghost use Rattle.m161_steplog.specs.declared.fault.TextFault.TheVariants as faults;
 ghost use Rattle.m161_text.specs.Lines.{lines_of, FirstBad};
 ghost use Rattle.m161_steplog.specs.Read.{IsReadAs};
 ghost use Rattle.m161_text.specs.Parts.{◌␣◌, Reads, IsWord, Lacks};
@@ -108,7 +108,7 @@ fn parse_item(line: &str) -> Option<Item>
 }
 
 // Appends the events of line `number`, unless they exceed the limit.
-fn push_item(events: &mut Events, item: Item, number: u64) -> Result<(), Fault>
+fn push_item(events: &mut Events, item: Item, number: u64) -> Result<(), TextFault>
     requires { length events.old ≤ 16_777_216 }
     ensures ok { OnOk result (AddsEvents events.old (item_events item) events.new) }
     ensures full { (n : ℕ) → IsErrOf result (faults.Line n)
@@ -118,7 +118,7 @@ fn push_item(events: &mut Events, item: Item, number: u64) -> Result<(), Fault>
         Item::Nothing => Ok(()),
         Item::Repeated(event, count) => {
             if events.len() + count as usize > MOST_EVENTS {
-                return Err(Fault::Line(number));
+                return Err(TextFault::Line(number));
             }
             events.push_times(event, count)?;
             Ok(())
@@ -130,7 +130,7 @@ fn push_item(events: &mut Events, item: Item, number: u64) -> Result<(), Fault>
 ///
 /// # Errors
 /// The first bad line; or memory was refused.
-pub fn read_schedule(alloc: Global, text: &str) -> Result<Events, Fault>
+pub fn read_schedule(alloc: Global, text: &str) -> Result<Events, TextFault>
     // The result is the schedule of this text.
     ensures found { IfOk result (λ events. IsSchedule (lines_of text.now) events) }
     // If the text is a schedule, it is read, unless memory is refused.
@@ -143,7 +143,7 @@ pub fn read_schedule(alloc: Global, text: &str) -> Result<Events, Fault>
     while let Some((line, more)) = next_line(rest) {
         number += 1;
         let Some(item) = parse_item(line) else {
-            return Err(Fault::Line(number));
+            return Err(TextFault::Line(number));
         };
         push_item(&mut events, item, number)?;
         rest = more;

@@ -11,7 +11,7 @@ use std::alloc::Global;
 
 /// Whether the replay of a log has its outcomes.
 #[derive(Clone, Copy, Debug, PartialEq, Eq)]
-pub enum Verdict {
+pub enum Comparison {
     /// Each entry's event is accepted, with the entry's outcome.
     Agrees,
     /// The first entry, counted from 0, whose event is refused or has another outcome.
@@ -39,15 +39,15 @@ pub fn verify<T: Tlb + Drop, D: Console + Drop>(
     file: &[u8],
     conf: Conf,
     log: &[Entry],
-) -> Result<Verdict, BootError>
+) -> Result<Comparison, BootError>
     ensures { Verifies file.now conf (boot_fault file.now conf) log.now result }
 {
     let machine: Machine<T, D> = Machine::boot(alloc, file, conf)?;
     let mut core = machine.into_core();
     for (k, entry) in log.iter().enumerate() {
         if !repeats(&mut core, *entry)? {
-            return Ok(Verdict::Differs(k));
+            return Ok(Comparison::Differs(k));
         }
     }
-    Ok(Verdict::Agrees)
+    Ok(Comparison::Agrees)
 }

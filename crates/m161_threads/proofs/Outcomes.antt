@@ -12,7 +12,7 @@ use Rattle.m161_machine.proofs.Counted.{count_through, counts_run, counts_throug
 use Rattle.m161_cause.specs.declared.cause.Cause.{Cause}
 use Rattle.m161_cause.specs.declared.cause.Cause.TheVariants.{Swapped}
 use Rattle.m161_threads.specs.Runs.{FailsRun, Interleaves, IsOfRun, MakesSteps, ShowsInterleaving, ShowsSteps, is_step_below}
-use Rattle.m161_threads.specs.helpers.Runs.{FailsLater, IsChecked, IsLater, IsTold, Past, past_of}
+use Rattle.m161_threads.specs.helpers.Runs.{FailsLater, IsChecked, IsLater, HasLog, Past, past_of}
 use Rattle.m161_threads.specs.Shares.{SeatState, new_seat, seats_from}
 use Rattle.m161_threads.proofs.Events.{steps_alone}
 use Rattle.m161_threads.specs.helpers.Work.{HasWorked}
@@ -45,11 +45,11 @@ not_noted false off h on = refl
 
 -- what a machine says of its log, of its parts
 pub told : {h : History} → IsReplay h → (h.base.made ≡ 0 → h.base ≡ boot_state h.start) → h.state.made ≡ h.base.made + length h.log →
-    length h.log ≡ min h.start.conf.log h.state.made → IsTold h
+    length h.log ≡ min h.start.conf.log h.state.made → HasLog h
 told replay boot number last = record { replay = replay; boot = boot; number = number; last = last }
 
 -- of two machines with one start, of which the later one dropped no entry, neither did the other
-none_dropped : (before after : History) (made : ℕ) → IsTold before → IsTold after → IsLater (past_of before) made after →
+none_dropped : (before after : History) (made : ℕ) → HasLog before → HasLog after → IsLater (past_of before) made after →
     after.base.made ≡ 0 → (before.base.made ≡ 0) × (length after.log ≡ min before.start.conf.log (length after.log))
 none_dropped before after made first second later none =
     let conf_is = ap (λ (s : Start). s.conf.log) later.start_is in
@@ -63,7 +63,7 @@ none_dropped before after made first second later none =
     )
 
 -- so the later one's log goes on from the other's
-resumes : (before after : History) (made : ℕ) → IsTold before → IsTold after → IsLater (past_of before) made after →
+resumes : (before after : History) (made : ℕ) → HasLog before → HasLog after → IsLater (past_of before) made after →
     after.base.made ≡ 0 → Continues before (events_of (drop (length before.log) after.log)) after
 resumes before after made first second later none =
     let entries = drop (length before.log) after.log in
@@ -90,7 +90,7 @@ resumes before after made first second later none =
     }
 
 -- a machine that may be the one of a copy after so many Steps, is it, as far as its log shows
-shows_steps : (before after : History) (made : ℕ) → IsTold before → IsTold after → IsLater (past_of before) made after →
+shows_steps : (before after : History) (made : ℕ) → HasLog before → HasLog after → IsLater (past_of before) made after →
     after.base.made ≡ 0 → ShowsSteps before after
 shows_steps before after made first second later none =
     let events = events_of (drop (length before.log) after.log) in
@@ -104,7 +104,7 @@ shows_steps before after made first second later none =
       continues = goes_on;
     }
 
-pub makes_steps : (before after : History) (made : ℕ) → IsTold before → IsTold after → IsLater (past_of before) made after →
+pub makes_steps : (before after : History) (made : ℕ) → HasLog before → HasLog after → IsLater (past_of before) made after →
     MakesSteps before made after
 makes_steps before after made first second later = record {
   start_is = later.start_is;
@@ -114,7 +114,7 @@ makes_steps before after made first second later = record {
 }
 
 -- no Step was made
-pub makes_none : (before : History) → IsTold before → MakesSteps before 0 before
+pub makes_none : (before : History) → HasLog before → MakesSteps before 0 before
 makes_none before told =
     let last = told.last in
     record {
@@ -140,7 +140,7 @@ makes_none before told =
     }
 
 -- a run that fails before any Step
-pub fails_at_once : (before : History) (cause : Cause) → IsTold before → IsOfRun cause → FailsRun None before cause before
+pub fails_at_once : (before : History) (cause : Cause) → HasLog before → IsOfRun cause → FailsRun None before cause before
 fails_at_once before cause told of_run = (of_run, told.replay, λ _. (0, makes_none before told))
 
 -- a machine that can't be the one of the copy was swapped
@@ -148,7 +148,7 @@ pub is_swapped : (past : Past) (after : History) → IsReplay after → FailsLat
 is_swapped past after replays = ((λ h. absurd (cc), λ h. absurd (cc)), replays, λ other. absurd (other refl))
 
 -- a run that fails later
-pub fails_run : (before after : History) (past : Past) (cause : Cause) → IsTold before →
+pub fails_run : (before after : History) (past : Past) (cause : Cause) → HasLog before →
     past ≡ past_of before → FailsLater past cause after → FailsRun None before cause after
 fails_run before after past cause told past_is fails = (
   fails.0,
@@ -183,7 +183,7 @@ shows before after quotas made number made_number counted all =
     }
 
 pub interleaves : (before after : History) (quotas : List ℕ) (seats : List SeatState) (made : List ℕ) (off : Bool) →
-    IsTold before → length quotas ≡ length before.state.processors →
+    HasLog before → length quotas ≡ length before.state.processors →
     HasWorked (seats_from 0 (counts before.state)) quotas seats made →
     IsChecked (past_of before) seats made off after → Interleaves before quotas made off after
 interleaves before after quotas seats made off told number worked checked =

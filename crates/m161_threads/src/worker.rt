@@ -32,7 +32,7 @@ const LONGEST_PAUSE: u32 = 6;
 pub(crate) struct Worked<L: Ledger, M: Ledger> {
     pub(crate) seat: Seat<L, M>,
     pub(crate) made: u32,
-    pub(crate) stop: Option<Stop>,
+    pub(crate) stop: Option<WorkerStop>,
 }
 
 /// The task of a worker: its seat's processor, how many Steps the seat had, and how many more are
@@ -52,7 +52,7 @@ impl<L: Ledger, M: Ledger> Promise<Worked<L, M>> for Task {
 
 /// Why a worker stops early.
 #[derive(Clone, Copy)]
-pub(crate) enum Stop {
+pub(crate) enum WorkerStop {
     /// The gate returned `false`.
     Held {
         /// The processor.
@@ -65,14 +65,14 @@ pub(crate) enum Stop {
     Worn,
 }
 
-impl Stop {
+impl WorkerStop {
     /// The cause that a run reports.
     pub(crate) fn cause(self) -> Cause
         ensures { IsOfRun result }
     {
         match self {
-            Stop::Held { p, k } => Cause::Held { p, k },
-            Stop::Worn => Cause::Worn,
+            WorkerStop::Held { p, k } => Cause::Held { p, k },
+            WorkerStop::Worn => Cause::Worn,
         }
     }
 }
@@ -163,7 +163,7 @@ fn work<L: Ledger, M: Ledger, T: Tlb, D: Console, R: Wait, G: Gate>(
     let mut made = 0;
     while made < quota {
         if !gate.pass(p, made) {
-            let stop = Some(Stop::Held { p, k: made });
+            let stop = Some(WorkerStop::Held { p, k: made });
             return Worked { seat, made, stop };
         }
         let burst = take_turn(rt, book, &mut seat, longest.min(quota - made));
@@ -175,7 +175,7 @@ fn work<L: Ledger, M: Ledger, T: Tlb, D: Console, R: Wait, G: Gate>(
                 return Worked { seat, made, stop };
             }
             Some(_) => {
-                let stop = Some(Stop::Worn);
+                let stop = Some(WorkerStop::Worn);
                 return Worked { seat, made, stop };
             }
         }

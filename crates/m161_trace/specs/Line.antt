@@ -10,9 +10,9 @@ use Rattle.m161_cpu.specs.declared.processor.Outcome.{Outcome}
 use Rattle.m161_cpu.specs.declared.processor.Outcome.TheVariants as outcomes
 use Rattle.m161_cpu.specs.declared.processor.ProcessorState.{ProcessorState}
 use Rattle.m161_cpu.specs.declared.processor.ProcessorState.TheVariants as states
-use Rattle.m161_cpu.specs.Fetch.{fetched_word}
 use Rattle.m161_machine.specs.declared.event.Event.{Event}
 use Rattle.m161_machine.specs.declared.event.Event.TheVariants as events
+use Rattle.m161_machine.specs.Fetched.{fetched}
 use Rattle.m161_machine.specs.State.{State, processor_at}
 use Rattle.m161_trace.specs.Items.{Item, doing, register, hi, lo, control, row, stored, linked, unlinked, latched, waiting, board, trapped, idle, off, conflict, starts, items}
 
@@ -63,21 +63,6 @@ spaced is = flat_map (λ i. 32 ∷ item_text i) is
 abbrev pub behind : List Item → List ℕ
 behind [] = []
 behind (i ∷ is) = 32 ∷ spaced (i ∷ is)
-
--- a Step with this outcome fetched nothing: it was idle, or took an interrupt, whose code is 0
-abbrev pub fetches_none : Outcome → Bool
-fetches_none outcomes.Ran = false
-fetches_none (outcomes.Trapped code vector) = number_of_exception code == 0
-fetches_none outcomes.Idle = true
-fetches_none outcomes.PoweredOff = false
-fetches_none (outcomes.Conflict i j) = false
-fetches_none outcomes.Taken = false
-
--- the word that the Step of processor p fetched, if it could
-abbrev pub fetched : ℕ → State → Outcome → Option ℕ
-fetched p s o =
-    if fetches_none o then None
-    else fetched_word s.memory (processor_at p s.processors).pc (processor_at p s.processors)
 
 -- the address of an instruction with its place behind it
 abbrev pub address_text : Style → ℕ → List ℕ

@@ -3,11 +3,12 @@
 ghost use Rattle.std.specs.Prelude.{◌≡◌, ◌⊎◌, ◌<◌, ◌++◌, List, None, Ok, OnOk, codes, decimal, false, if◌then◌else◌, is_some, length, string_bytes, true};
 ghost use Rattle.m161_cpu.specs.Fetch.{fetched_word};
 ghost use Rattle.m161_machine.specs.declared.event.Event.TheVariants as events;
+ghost use Rattle.m161_machine.specs.Fetched.{fetches_none};
 ghost use Rattle.m161_machine.specs.State.{next, processor_at};
 ghost use Rattle.m161_machine.specs.Uses.{uses_in};
 ghost use Rattle.m161_text.specs.Parts.{◌␣◌, hex_text};
 ghost use Rattle.m161_trace.specs.Items.{Item, items, shared_items};
-ghost use Rattle.m161_trace.specs.Line.{address_text, behind, event_line, fetches_none, instruction_text, spaced, step_head, step_line};
+ghost use Rattle.m161_trace.specs.Line.{address_text, behind, event_line, instruction_text, spaced, step_head, step_line};
 ghost use Rattle.m161_text.specs.Lines.{with_line_end};
 ghost use Rattle.m161_trace.specs.helpers.Far.{is_far, is_far_found, is_far_word};
 ghost use Rattle.m161_trace.specs.helpers.Near.{IsNear};
@@ -22,7 +23,7 @@ use m161_bus::Console;
 use m161_decode::row_that_fits;
 use m161_dis::{Style, push_line_with};
 use m161_isa::Effect;
-use m161_machine::{Core, Event, Outcome};
+use m161_machine::{Core, Event, Outcome, fetches_none};
 use m161_symbols::push_place_behind;
 use m161_text::push_hex;
 use m161_tlb::Tlb;
@@ -114,22 +115,11 @@ pub(crate) fn add_items<T: Tlb, D: Console>(
     add_starts_of(text, before, after)
 }
 
-// Whether a Step with this outcome fetched nothing: it was idle, or took an interrupt.
-fn took_none(outcome: Outcome) -> bool
-    ensures { result ≡ fetches_none outcome }
-{
-    match outcome {
-        Outcome::Idle => true,
-        Outcome::Trapped { code, vector: _ } => code.number() == 0,
-        Outcome::Ran | Outcome::PoweredOff | Outcome::Conflict { .. } | Outcome::Taken => false,
-    }
-}
-
 // The word that a Step fetched, if that is this one where it fetched any.
 fn fetched(fetch: Option<u32>, outcome: Outcome) -> Option<u32>
     ensures { result ≡ (if fetches_none outcome then None else fetch) }
 {
-    if took_none(outcome) { None } else { fetch }
+    if fetches_none(outcome) { None } else { fetch }
 }
 
 // Appends the address of an instruction with its place behind it.

@@ -4,7 +4,7 @@ use Rattle.std.specs.List.{AllByRecursion}
 use Rattle.m161_asm.specs.declared.error.AsmError.{AsmError}
 use Rattle.m161_asm.specs.declared.program.Program.{Program as CodeProgram}
 use Rattle.m161_asm.specs.Answer.{Tells, program_seen}
-use Rattle.m161_asm.specs.Lines.{Fault}
+use Rattle.m161_asm.specs.Lines.{SourceFault}
 use Rattle.m161_asm.specs.Seen.{symbols_seen}
 use Rattle.m161_asm.specs.Segments.{segments_seen}
 use Rattle.m161_asm.specs.Text.{Program, Segment}
@@ -22,11 +22,11 @@ abbrev pub sample : Program
 sample = record { segments = sample_segments; symbols = sample_labels; entry = sample_entry }
 
 -- a program, or else another
-abbrev program_or : Program → Result Program (ℕ × Fault) → Program
+abbrev program_or : Program → Result Program (ℕ × SourceFault) → Program
 program_or other (Ok p) = p
 program_or other (Err e) = other
 
-no_error : (p : Program) (e : ℕ × Fault) → Ok p ≡ Err e → ⊥
+no_error : (p : Program) (e : ℕ × SourceFault) → Ok p ≡ Err e → ⊥
 no_error p e h = (cc)
 
 pub told : (r : Result CodeProgram AsmError) (p : Program) → Tells program_seen r (Ok p) → p.entry ≡ sample_entry → p.segments ≡ sample_segments → p.symbols ≡ sample_labels → IsSample r

@@ -7,8 +7,8 @@ use Rattle.m161_elf.specs.declared.image.LoadError.TheVariants as fault
 use Rattle.m161_machine.specs.declared.conf.Conf.{Conf as Size}
 use Rattle.m161_machine.specs.declared.conf.BootError.{BootError}
 use Rattle.m161_machine.specs.declared.conf.BootError.TheVariants.{BadConf, Load, NoMemory}
-use Rattle.m161_steplog.specs.declared.fault.Fault.{Fault as TextFault}
-use Rattle.m161_steplog.specs.declared.fault.Fault.TheVariants as text
+use Rattle.m161_steplog.specs.declared.fault.TextFault.{TextFault}
+use Rattle.m161_steplog.specs.declared.fault.TextFault.TheVariants as text
 use Rattle.m161_machine.specs.History.{History, Boots, IsBootState, boot_fault}
 use Rattle.m161_machine.specs.State.{State}
 use Rattle.s161_base.specs.declared.fault.Fault.{Fault}

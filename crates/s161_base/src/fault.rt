@@ -102,31 +102,31 @@ impl<'a> From<BootError> for Fault<'a> {
 }
 
 /// The fault of watches that can't be read.
-pub fn fault_of_watches<'a>(error: m161_steplog::Fault) -> Fault<'a>
+pub fn fault_of_watches<'a>(error: m161_steplog::TextFault) -> Fault<'a>
     ensures { result ≡ fault_of_watches error }
 {
     match error {
-        m161_steplog::Fault::Line(line) => Fault::Watches(line),
-        m161_steplog::Fault::NoMemory => Fault::Memory,
+        m161_steplog::TextFault::Line(line) => Fault::Watches(line),
+        m161_steplog::TextFault::NoMemory => Fault::Memory,
     }
 }
 
 /// The fault of a schedule that can't be read.
-pub fn fault_of_schedule<'a>(error: m161_steplog::Fault) -> Fault<'a>
+pub fn fault_of_schedule<'a>(error: m161_steplog::TextFault) -> Fault<'a>
     ensures { result ≡ fault_of_schedule error }
 {
     match error {
-        m161_steplog::Fault::Line(line) => Fault::Schedule(line),
-        m161_steplog::Fault::NoMemory => Fault::Memory,
+        m161_steplog::TextFault::Line(line) => Fault::Schedule(line),
+        m161_steplog::TextFault::NoMemory => Fault::Memory,
     }
 }
 
 /// The fault of a log that can't be read.
-pub fn fault_of_log<'a>(error: m161_steplog::Fault) -> Fault<'a>
+pub fn fault_of_log<'a>(error: m161_steplog::TextFault) -> Fault<'a>
     ensures { result ≡ fault_of_log error }
 {
     match error {
-        m161_steplog::Fault::Line(line) => Fault::Log(line),
-        m161_steplog::Fault::NoMemory => Fault::Memory,
+        m161_steplog::TextFault::Line(line) => Fault::Log(line),
+        m161_steplog::TextFault::NoMemory => Fault::Memory,
     }
 }

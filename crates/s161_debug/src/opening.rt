@@ -41,7 +41,7 @@ pub(crate) struct Opened {
 
 // The machine of a session, and its events.
 #[derive(Drop)]
-struct Booted {
+struct Prepared {
     machine: Machine,
     events: Vec<Event>,
 }
@@ -90,7 +90,7 @@ fn open_image<'a, F: FileSource>(
     image: &[u8],
     size: AskedSize,
     source: Source<'a>,
-) -> Result<Booted, Fault<'a>>
+) -> Result<Prepared, Fault<'a>>
     requires { HasSourceLimits source }
     ensures ok { IfOk result (λ opened. IsOpened source.entry size (F.known files.old) image.now
         opened.machine opened.events.items) }
@@ -112,7 +112,7 @@ fn open_file<'a, F: FileSource>(
     image: &[u8],
     size: AskedSize,
     name: &'a str,
-) -> Result<Booted, Fault<'a>>
+) -> Result<Prepared, Fault<'a>>
     ensures ok { IfOk result (λ opened. IsOpened (sources.File name.entry) size (F.known files.old)
         image.now opened.machine opened.events.items) }
     ensures fault { IfErr result (λ fault. (fault ≡ Fault.Memory)
@@ -132,7 +132,7 @@ fn open_driven<'a, F: FileSource>(
     image: &[u8],
     size: AskedSize,
     drive: Drive<'a>,
-) -> Result<Booted, Fault<'a>>
+) -> Result<Prepared, Fault<'a>>
     requires { order_fault drive.order ≡ None }
     ensures ok { IfOk result (λ opened. IsOpened (sources.Driven drive.entry) size
         (F.known files.old) image.now opened.machine opened.events.items) }
@@ -151,7 +151,7 @@ fn open_listed<'a>(
     image: &[u8],
     size: AskedSize,
     listed: Listed,
-) -> Result<Booted, Fault<'a>>
+) -> Result<Prepared, Fault<'a>>
     ensures ok { IfOk result (λ opened. (machine_fault size image.now listed.logged ≡ None)
         × BootsTo image.now (asked_conf size listed.logged) opened.machine
         × (opened.events.items ≡ listed.events.items)) }
@@ -161,7 +161,7 @@ fn open_listed<'a>(
         return Err(fault);
     }
     let machine = boot(alloc, image, asked_conf(size, listed.logged))?;
-    Ok(Booted {
+    Ok(Prepared {
         machine,
         events: listed.events,
     })
@@ -174,7 +174,7 @@ fn open_chosen<'a>(
     size: AskedSize,
     drive: Drive<'_>,
     keys: &[u8],
-) -> Result<Booted, Fault<'a>>
+) -> Result<Prepared, Fault<'a>>
     requires { order_fault drive.order ≡ None }
     ensures ok { IfOk result (λ opened. BootsTo image.now (asked_conf size None) opened.machine
         × Chose (rules_of drive.entry keys.now) drive.entry.events opened.machine.state
@@ -184,7 +184,7 @@ fn open_chosen<'a>(
     let machine = boot(alloc, image, asked_conf(size, None))?;
     let mut core = machine.core().copy(alloc)?;
     let events = chosen_events(alloc, &mut core, drive, keys)?;
-    Ok(Booted { machine, events })
+    Ok(Prepared { machine, events })
 }
 
 // Boots an image.

@@ -16,7 +16,7 @@ use Rattle.m161_machine.proofs.Made.{conf_stays, counted}
 use Rattle.m161_machine.proofs.Modes.{run_fits}
 use Rattle.s161_command.specs.declared.task.Shown.{Shown}
 use Rattle.s161_command.specs.declared.task.Shown.TheVariants.{Summary, SummaryAndLog, Log}
-use Rattle.s161_run.specs.declared.events.Stop.{Stop}
+use Rattle.s161_run.specs.declared.events.RunStop.{RunStop}
 use Rattle.s161_run.specs.Runs.{log_of_run, shown_log, summary_text}
 use Rattle.s161_run.specs.helpers.Shown.{IsShown, room_of}
 
@@ -28,7 +28,7 @@ dropped_are log entries items made count is =
     let kept = ap length is ∙ length-drop (length entries - log) entries in omega (arith, count, kept)
 
 -- what is shown of the entries that were kept
-pub shown_kept : (shown : Shown) (conf : Conf) (file : List ℕ) (entries items : List Entry) (made : ℕ) (s : State) (stop : Stop) → made ≡ length entries →
+pub shown_kept : (shown : Shown) (conf : Conf) (file : List ℕ) (entries items : List Entry) (made : ℕ) (s : State) (stop : RunStop) → made ≡ length entries →
     items ≡ keep_last (room_of shown conf.log) entries →
     summary_text (shown_log conf file (made - length items) items) s stop shown ≡ summary_text (log_of_run conf file entries) s stop shown
 shown_kept Summary conf file entries items made s stop count is = refl
@@ -40,7 +40,7 @@ shown_kept Log conf file entries items made s stop count is =
     λ i. summary_text (shown_log conf file (d i) (is i)) s stop Log
 
 -- a text that is shown stands for the log
-pub shown_text : (shown : Shown) (text log : List ℕ) (s : State) (stop : Stop) → IsShown shown text log →
+pub shown_text : (shown : Shown) (text log : List ℕ) (s : State) (stop : RunStop) → IsShown shown text log →
     summary_text text s stop shown ≡ summary_text log s stop shown
 shown_text Summary text log s stop h = refl
 shown_text SummaryAndLog text log s stop h = ap (λ l. summary_text l s stop SummaryAndLog) h
@@ -60,7 +60,7 @@ pub made_is : (entries : List Entry) (s t : State) → s.made ≡ 0 → Leads s 
 made_is entries s t none leads = let count = counted entries s t leads in omega (arith, none, count)
 
 -- what is printed of a run from boot
-pub run_shown : (shown : Shown) (conf : Conf) (file : List ℕ) (entries items : List Entry) (s t : State) (stop : Stop) → s.made ≡ 0 → s.conf ≡ conf →
+pub run_shown : (shown : Shown) (conf : Conf) (file : List ℕ) (entries items : List Entry) (s t : State) (stop : RunStop) → s.made ≡ 0 → s.conf ≡ conf →
     Leads s entries t → items ≡ keep_last (room_of shown conf.log) entries →
     summary_text (shown_log t.conf file (t.made - length items) items) t stop shown ≡ summary_text (log_of_run conf file entries) t stop shown
 run_shown shown conf file entries items s t stop none is leads kept =

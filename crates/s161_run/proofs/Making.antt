@@ -13,7 +13,7 @@ use Rattle.m161_machine.specs.History.{events_of, Leads, Refuses}
 use Rattle.m161_machine.proofs.Continuing.{refused_as}
 use Rattle.m161_machine.proofs.Leading.{leads_more, leads_on}
 use Rattle.m161_drive.specs.Drive.{IsNoted}
-use Rattle.s161_run.specs.declared.events.Stop.{Stop}
+use Rattle.s161_run.specs.declared.events.RunStop.{RunStop}
 use Rattle.s161_run.specs.Runs.{IsRefusedAt, IsSwitchedOff, MakesEvents, StopsAfter, stop_off}
 use Rattle.s161_run.specs.helpers.Events.{EndsAfter, MakesAlike, MakesOf}
 
@@ -205,7 +205,7 @@ making_more has s t u old mid new events rest after made times e given is run so
     }
 
 -- and no more are
-pub makes_so : {A : Type 0} (has : ℕ → A → List Entry → Type 0) (s t : State) (old new : A) (events : List Event) (made : ℕ) (stop : Stop) →
+pub makes_so : {A : Type 0} (has : ℕ → A → List Entry → Type 0) (s t : State) (old new : A) (events : List Event) (made : ℕ) (stop : RunStop) →
     Making has s old events made t new → StopsAfter s events made stop t →
     (entries : List Entry) × MakesEvents s events stop entries t × IsNoted has old entries new
 makes_so has s t old new events made stop h why = (

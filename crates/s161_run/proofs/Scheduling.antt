@@ -7,7 +7,7 @@ use Rattle.m161_machine.specs.declared.event.Event.{Event}
 use Rattle.m161_machine.specs.History.{events_of}
 use Rattle.m161_machine.specs.State.{State}
 use Rattle.m161_drive.specs.Policy.{Rules}
-use Rattle.s161_run.specs.declared.events.Stop.TheVariants.{End}
+use Rattle.s161_run.specs.declared.events.RunStop.TheVariants.{End}
 use Rattle.s161_run.specs.Runs.{StopsAfter, stop_off}
 use Rattle.s161_run.specs.Schedules.{Chose, RunsAsDriven}
 use Rattle.s161_run.proofs.Logging.{run_leads}

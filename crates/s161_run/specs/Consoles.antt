@@ -14,7 +14,7 @@ use Rattle.m161_drive.specs.Drive.{Drives}
 use Rattle.m161_drive.specs.Policy.{Rules}
 use Rattle.s161_command.specs.declared.drive.Drive.{Drive}
 use Rattle.s161_command.specs.declared.task.ConsoleTask.{ConsoleTask}
-use Rattle.s161_run.specs.declared.events.Stop.{Stop}
+use Rattle.s161_run.specs.declared.events.RunStop.{RunStop}
 use Rattle.s161_base.specs.declared.fault.Fault.{Fault}
 use Rattle.s161_base.specs.declared.fault.Fault.TheVariants.{Conf, File, Image, Input, Memory, Output}
 use Rattle.s161_base.specs.declared.fault.Unread.TheVariants.{Failed}
@@ -86,7 +86,7 @@ pub record BootsFor
 
 -- a finished run, and why it stopped
 pub record IsConsoleRun
-    (task : ConsoleTask) (known : Option (List ℕ)) (x : Streams) (stop : Stop) : Type 0 where
+    (task : ConsoleTask) (known : Option (List ℕ)) (x : Streams) (stop : RunStop) : Type 0 where
   pub booted : State
   pub boots : BootsFor task known booted
   pub driven : Driven

@@ -13,8 +13,8 @@ use Rattle.m161_drive.specs.Drive.{Drives}
 use Rattle.m161_drive.specs.Policy.{Rules}
 use Rattle.s161_command.specs.declared.drive.Drive.{Drive}
 use Rattle.s161_command.specs.declared.task.DrivenTask.{DrivenTask}
-use Rattle.s161_run.specs.declared.events.Stop.{Stop}
-use Rattle.s161_run.specs.declared.events.Stop.TheVariants.{End, Stuck, Refused}
+use Rattle.s161_run.specs.declared.events.RunStop.{RunStop}
+use Rattle.s161_run.specs.declared.events.RunStop.TheVariants.{End, Stuck, Refused}
 use Rattle.s161_run.specs.Runs.{log_of_run, status_of, stop_off, summary_text}
 use Rattle.s161_base.specs.Asked.{image_files, option_files}
 use Rattle.s161_base.specs.declared.fault.Fault.{Fault}
@@ -46,14 +46,14 @@ AreKeys None files keys = keys ≡ []
 AreKeys (Some name) files keys = IfSome (files name.now) (λ bytes. keys ≡ bytes)
 
 -- how a driven run stopped that made so many events and has this conflict, as a command tells it
-abbrev pub told : ℕ → Option Conflict → DriveStop → Stop
+abbrev pub told : ℕ → Option Conflict → DriveStop → RunStop
 told made conflict drive.Off = stop_off conflict
 told made conflict drive.End = End
 told made conflict drive.Stuck = Stuck
 told made conflict (drive.Refused refusal) = Refused made refusal
 
 -- how a driven run stopped that ended in this state
-abbrev pub stop_of : Driven → State → Stop
+abbrev pub stop_of : Driven → State → RunStop
 stop_of driven s = told driven.made s.conflict driven.stop
 
 -- a finished driven run: what it prints and its exit status; the files have these bytes, and that of

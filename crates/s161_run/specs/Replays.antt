@@ -3,8 +3,8 @@ use Rattle.m161_machine.specs.declared.conf.BootError.TheVariants.{Load}
 use Rattle.m161_machine.specs.declared.event.Entry.{Entry}
 use Rattle.m161_machine.specs.Conf.{is_within_limits}
 use Rattle.m161_machine.specs.History.{boot_fault}
-use Rattle.m161_steplog.specs.declared.verdict.Verdict.{Verdict}
-use Rattle.m161_steplog.specs.declared.verdict.Verdict.TheVariants.{Agrees, Differs}
+use Rattle.m161_steplog.specs.declared.verdict.Comparison.{Comparison}
+use Rattle.m161_steplog.specs.declared.verdict.Comparison.TheVariants.{Agrees, Differs}
 use Rattle.m161_text.specs.Lines.{with_line_end}
 use Rattle.m161_steplog.specs.Comments.{IsFirstBadOfLog}
 use Rattle.m161_text.specs.Parts.{◌␣◌}
@@ -21,11 +21,11 @@ use Rattle.s161_base.specs.Samples.{IsFileName}
 
 -- The output and the exit status of `replay`.
 
-abbrev pub verdict_text : Verdict → List ℕ
+abbrev pub verdict_text : Comparison → List ℕ
 verdict_text Agrees = codes "agrees"
 verdict_text (Differs k) = codes "differs" ␣ decimal k
 
-abbrev pub status_of_verdict : Verdict → ℕ
+abbrev pub status_of_verdict : Comparison → ℕ
 status_of_verdict Agrees = 0
 status_of_verdict (Differs k) = 4
 
@@ -47,7 +47,7 @@ pub record IsReplayed
   pub entries : List Entry
   pub is_log : IsLogOf entries_text logged entries
   pub is_that : machine_fault task.size file (Some logged) ≡ None
-  pub verdict : Verdict
+  pub verdict : Comparison
   pub verifies :
       Verifies file (asked_conf task.size (Some logged))
       (boot_fault file (asked_conf task.size (Some logged))) entries (Ok verdict)

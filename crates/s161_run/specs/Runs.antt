@@ -25,8 +25,8 @@ use Rattle.m161_steplog.specs.Schedule.{AreScheduleLines, IsSchedule}
 use Rattle.s161_command.specs.declared.task.RunTask.{RunTask}
 use Rattle.s161_command.specs.declared.task.Shown.{Shown}
 use Rattle.s161_command.specs.declared.task.Shown.TheVariants as shown
-use Rattle.s161_run.specs.declared.events.Stop.{Stop}
-use Rattle.s161_run.specs.declared.events.Stop.TheVariants.{Off, Conflict as ConflictStop, End, Stuck, Refused}
+use Rattle.s161_run.specs.declared.events.RunStop.{RunStop}
+use Rattle.s161_run.specs.declared.events.RunStop.TheVariants.{Off, Conflict as ConflictStop, End, Stuck, Refused}
 use Rattle.s161_base.specs.declared.fault.Fault.{Fault}
 use Rattle.s161_base.specs.declared.fault.Fault.TheVariants.{Conf, File, Image, Input, Memory, Schedule}
 use Rattle.s161_base.specs.Faults.{BootsIn}
@@ -52,14 +52,14 @@ conflict_words conflict =
     codes "conflict" ␣ decimal conflict.processor ␣ decimal conflict.row ␣ decimal conflict.other
 
 -- why no more events are made of a machine that is off, by its conflict
-abbrev pub stop_off : Option Conflict → Stop
+abbrev pub stop_off : Option Conflict → RunStop
 stop_off None = Off
 stop_off (Some conflict) = ConflictStop conflict
 
 -- why this many of these events, which led from s to t, were made and no more: they switched the
 -- machine off, by a conflict or not; or they didn't, and there are no more, or the next is refused.
 -- Only a policy is stuck
-abbrev pub StopsAfter : State → List Event → ℕ → Stop → State → Type 0
+abbrev pub StopsAfter : State → List Event → ℕ → RunStop → State → Type 0
 StopsAfter s events made Off t = IsSwitchedOff s t × (t.conflict ≡ None)
 StopsAfter s events made (ConflictStop conflict) t = IsSwitchedOff s t × (t.conflict ≡ Some conflict)
 StopsAfter s events made End t = (t.board.off ≡ s.board.off) × (made ≡ length events)
@@ -70,7 +70,7 @@ StopsAfter s events made (Refused k refusal) t =
 -- from a state the first of these events are made, with these entries, until one switches the machine
 -- off or is refused
 pub record MakesEvents
-    (s : State) (events : List Event) (stop : Stop) (entries : List Entry) (t : State) : Type 0 where
+    (s : State) (events : List Event) (stop : RunStop) (entries : List Entry) (t : State) : Type 0 where
   pub leads : Leads s entries t
   pub are_first : events_of entries ≡ take (length entries) events
   pub why : StopsAfter s events (length entries) stop t
@@ -97,7 +97,7 @@ started_text s p = if_started (processor_at p s.processors).state (show_regs_tex
 abbrev pub started_texts : State → ℕ → List ℕ
 started_texts s n = flat_map (started_text s) (range_with_len 0 n)
 
-abbrev pub stop_line : Stop → List ℕ
+abbrev pub stop_line : RunStop → List ℕ
 stop_line Off = codes "stop: off"
 stop_line (ConflictStop conflict) = codes "stop:" ␣ conflict_words conflict
 stop_line End = codes "stop: end"
@@ -131,7 +131,7 @@ log_of_run conf file entries =
     shown_log conf file (length entries - conf.log) (keep_last conf.log entries)
 
 -- what a machine shows, with the text of a log before the last line
-abbrev pub summary_with : List ℕ → State → Stop → List ℕ
+abbrev pub summary_with : List ℕ → State → RunStop → List ℕ
 summary_with log s stop =
     output_text s.board.console.output
     ++ started_texts s (length s.processors)
@@ -139,12 +139,12 @@ summary_with log s stop =
     ++ with_line_end (stop_line stop)
 
 -- what `run` prints of a run that ended in a state, with the text of its log
-abbrev pub summary_text : List ℕ → State → Stop → Shown → List ℕ
+abbrev pub summary_text : List ℕ → State → RunStop → Shown → List ℕ
 summary_text log s stop shown.Summary = summary_with [] s stop
 summary_text log s stop shown.SummaryAndLog = summary_with log s stop
 summary_text log s stop shown.Log = log
 
-abbrev pub status_of : Stop → ℕ
+abbrev pub status_of : RunStop → ℕ
 status_of Off = 0
 status_of (Refused k refusal) = 1
 status_of End = 3
@@ -165,7 +165,7 @@ pub record IsRun
   pub is_text : IsText schedule
   pub events : List Event
   pub is_schedule : IsSchedule (lines_of schedule) events
-  pub stop : Stop
+  pub stop : RunStop
   pub entries : List Entry
   pub state : State
   pub makes : MakesEvents booted events stop entries state

@@ -22,8 +22,8 @@ use Rattle.s161_base.specs.Known.{OfKnown}
 use Rattle.s161_base.specs.Reading.{IsOfBytes}
 use Rattle.s161_base.specs.Samples.{IsFileName}
 use Rattle.s161_base.specs.Sizes.{conf_of}
-use Rattle.s161_run.specs.declared.events.Stop.{Stop}
-use Rattle.s161_run.specs.declared.events.Stop.TheVariants.{End}
+use Rattle.s161_run.specs.declared.events.RunStop.{RunStop}
+use Rattle.s161_run.specs.declared.events.RunStop.TheVariants.{End}
 use Rattle.s161_run.specs.Driven.{AreKeys, IsKeysFile, rules_of}
 use Rattle.s161_run.specs.Runs.{MakesEvents, stop_off}
 
@@ -61,7 +61,7 @@ pub record IsScheduled
   pub is_read : length events ≤ 16_777_216 → IsSchedule (lines_of text) events
 
 -- why `run` makes no more events behind the last of a schedule, which led to this state
-abbrev pub stop_behind : State → Stop
+abbrev pub stop_behind : State → RunStop
 stop_behind s = if s.board.off then stop_off s.conflict else End
 
 -- `run` makes all of these events, with these entries, and ends in this state

@@ -6,8 +6,8 @@ use Rattle.m161_machine.specs.History.{History, boot_fault}
 use Rattle.m161_cause.specs.declared.cause.Cause.{Cause}
 use Rattle.m161_threads.specs.Runs.{Interleaves, IsOfRun, bad_call}
 use Rattle.s161_command.specs.declared.task.ThreadsTask.{ThreadsTask}
-use Rattle.s161_run.specs.declared.events.Stop.{Stop}
-use Rattle.s161_run.specs.declared.events.Stop.TheVariants.{End}
+use Rattle.s161_run.specs.declared.events.RunStop.{RunStop}
+use Rattle.s161_run.specs.declared.events.RunStop.TheVariants.{End}
 use Rattle.s161_base.specs.declared.fault.Fault.{Fault}
 use Rattle.s161_base.specs.declared.fault.Fault.TheVariants.{Conf, File, Image, Memory, Threads}
 use Rattle.s161_run.specs.Runs.{shown_log, status_of, stop_off, summary_text}
@@ -20,7 +20,7 @@ use Rattle.s161_base.specs.Sizes.{conf_of}
 -- The Steps, the output and the exit status of `run --threads`.
 
 -- how a run in threads stopped, by whether the machine is off, and its conflict
-abbrev pub stop_of : Bool → Option Conflict → Stop
+abbrev pub stop_of : Bool → Option Conflict → RunStop
 stop_of off conflict = if off then stop_off conflict else End
 
 -- a finished run in threads: what it prints and its exit status; the image's file has these bytes,

@@ -8,7 +8,7 @@ ghost use Rattle.s161_base.specs.Streams.{streams};
 ghost use Rattle.s161_run.specs.Consoles.{IsConsoleRun, IsConsoleFault};
 
 use crate::driven::stop_of;
-use crate::events::Stop;
+use crate::events::RunStop;
 use crate::serving::serve;
 use m161::Core;
 use s161_base::fault::Fault;
@@ -33,7 +33,7 @@ pub fn console<'a, F: FileSource, I: Read, O: Write>(
     input: &mut I,
     output: &mut O,
     task: ConsoleTask<'a>,
-) -> Result<Stop, Fault<'a>>
+) -> Result<RunStop, Fault<'a>>
     requires { order_fault task.drive.order ≡ None }
     ensures ok { IfOk result (IsConsoleRun task.entry
         (image_file (F.known files.old) task.entry.image.now)

@@ -6,7 +6,7 @@ ghost use Rattle.s161_base.specs.Asked.{AsksFor};
 ghost use Rattle.s161_base.specs.Samples.{image_file};
 ghost use Rattle.s161_run.specs.Driven.{IsDriven, IsDrivenFault, driven_files, stop_of};
 
-use crate::events::{Stop, stop_off};
+use crate::events::{RunStop, stop_off};
 use crate::log::new_log;
 use crate::policy::{make_driven, read_keys};
 use crate::summary::finish_run;
@@ -53,13 +53,13 @@ pub fn run_driven<'a, F: FileSource>(
 }
 
 /// How a driven run stopped that ended in this state, as a command tells it.
-pub fn stop_of(driven: Driven, core: &Core) -> Stop
+pub fn stop_of(driven: Driven, core: &Core) -> RunStop
     ensures { result ≡ stop_of driven core.now.state }
 {
     match driven.stop {
         m161_drive::Stop::Off => stop_off(core.conflict()),
-        m161_drive::Stop::End => Stop::End,
-        m161_drive::Stop::Stuck => Stop::Stuck,
-        m161_drive::Stop::Refused(refusal) => Stop::Refused(driven.made as usize, refusal),
+        m161_drive::Stop::End => RunStop::End,
+        m161_drive::Stop::Stuck => RunStop::Stuck,
+        m161_drive::Stop::Refused(refusal) => RunStop::Refused(driven.made as usize, refusal),
     }
 }

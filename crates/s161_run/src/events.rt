@@ -16,7 +16,7 @@ use std::fmt;
 
 /// Why no more events were made.
 #[derive(Clone, Copy, Debug, PartialEq, Eq, Drop)]
-pub enum Stop {
+pub enum RunStop {
     /// The last one switched the machine off, and wasn't a conflict.
     Off,
     /// The last one was this conflict, which switched the strict machine off.
@@ -42,19 +42,19 @@ impl fmt::Display for ShownConflict {
     }
 }
 
-impl fmt::Display for Stop {
+impl fmt::Display for RunStop {
     ghost output = { λ stop. Some (stop_line stop) };
 
     fn fmt<W: fmt::Write>(&self, f: &mut fmt::Formatter<W>) -> fmt::Result {
         match self {
-            Stop::Off => write!(f, "stop: off"),
-            Stop::Conflict(conflict) => {
+            RunStop::Off => write!(f, "stop: off"),
+            RunStop::Conflict(conflict) => {
                 let shown = ShownConflict(*conflict);
                 write!(f, "stop: {shown}")
             }
-            Stop::End => write!(f, "stop: end"),
-            Stop::Stuck => write!(f, "stop: stuck"),
-            Stop::Refused(k, refusal) => {
+            RunStop::End => write!(f, "stop: end"),
+            RunStop::Stuck => write!(f, "stop: stuck"),
+            RunStop::Refused(k, refusal) => {
                 let (k, number, name) = (*k, refusal.number(), refusal.name());
                 write!(f, "stop: refused {k} {number} {name}")
             }
@@ -63,12 +63,12 @@ impl fmt::Display for Stop {
 }
 
 /// Why no more events were made of a machine that is off, by its conflict.
-pub fn stop_off(conflict: Option<Conflict>) -> Stop
+pub fn stop_off(conflict: Option<Conflict>) -> RunStop
     ensures { result ≡ stop_off conflict }
 {
     match conflict {
-        Some(conflict) => Stop::Conflict(conflict),
-        None => Stop::Off,
+        Some(conflict) => RunStop::Conflict(conflict),
+        None => RunStop::Off,
     }
 }
 
@@ -80,7 +80,7 @@ pub fn make_events<N: Notes>(
     core: &mut Core,
     events: &Events,
     notes: &mut N,
-) -> Result<Stop, AllocError>
+) -> Result<RunStop, AllocError>
     ensures { IfOk result (λ stop. (entries : List Entry)
         × MakesEvents core.old.state events.now stop entries core.new.state
         × IsNoted N.has notes.old entries notes.new) }
@@ -95,10 +95,10 @@ pub fn make_events<N: Notes>(
             return Ok(stop_off(core.conflict()));
         }
         if let Some(refusal) = refusal {
-            return Ok(Stop::Refused(made, refusal));
+            return Ok(RunStop::Refused(made, refusal));
         }
     }
-    Ok(Stop::End)
+    Ok(RunStop::End)
 }
 
 // So many events are made at once, at most: their entries are in the processor's nearest cache.

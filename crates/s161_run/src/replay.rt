@@ -7,7 +7,7 @@ ghost use Rattle.s161_run.specs.Replays.{IsReplayed, IsReplayFault, replay_files
 ghost use Rattle.s161_base.specs.Samples.{image_file};
 
 use m161::{Console, Tlb};
-use m161_steplog::{Verdict, verify};
+use m161_steplog::{Comparison, verify};
 use s161_base::fault::Fault;
 use s161_base::files::FileSource;
 use s161_base::finished::Finished;
@@ -59,21 +59,21 @@ pub fn replay<'a, F: FileSource>(
 }
 
 // The text of a verdict.
-fn verdict_line(alloc: Global, verdict: Verdict) -> Result<String, AllocError>
+fn verdict_line(alloc: Global, verdict: Comparison) -> Result<String, AllocError>
     ensures { IfOk result (λ line. string_bytes line ≡ with_line_end (verdict_text verdict)) }
 {
     match verdict {
-        Verdict::Agrees => String::from_str(alloc, "agrees\n"),
-        Verdict::Differs(k) => format!(in alloc; "differs {k}\n"),
+        Comparison::Agrees => String::from_str(alloc, "agrees\n"),
+        Comparison::Differs(k) => format!(in alloc; "differs {k}\n"),
     }
 }
 
 // The exit status of a verdict.
-fn status(verdict: Verdict) -> u8
+fn status(verdict: Comparison) -> u8
     ensures { result ≡ status_of_verdict verdict }
 {
     match verdict {
-        Verdict::Agrees => 0,
-        Verdict::Differs(_) => 4,
+        Comparison::Agrees => 0,
+        Comparison::Differs(_) => 4,
     }
 }

@@ -6,7 +6,7 @@ ghost use Rattle.m161_machine.specs.History.{FitsMode};
 ghost use Rattle.m161_machine.specs.declared.event.Entry.{Entry};
 ghost use Rattle.s161_run.specs.Runs.{output_text, shown_log, started_text, status_of, summary_text, summary_with};
 
-use crate::events::Stop;
+use crate::events::RunStop;
 use crate::log::log_of_run;
 use circular_buffer::HeapCircularBuffer;
 use m161::Core;
@@ -23,7 +23,7 @@ pub(crate) fn summary(
     alloc: Global,
     core: &Core,
     log: &[u8],
-    stop: Stop,
+    stop: RunStop,
     shown: Shown,
 ) -> Result<Vec<u8>, AllocError>
     ensures { IfOk result (λ text. text.items ≡ summary_text log.now core.now.state stop shown) }
@@ -44,7 +44,7 @@ pub(crate) fn finish_run(
     core: &Core,
     log: &HeapCircularBuffer<PackedEntry>,
     file: &[u8],
-    stop: Stop,
+    stop: RunStop,
     shown: Shown,
 ) -> Result<Finished, AllocError>
     requires { All (λ (e : Entry). FitsMode core.now.state.conf.strict e.outcome) log.now.items }
@@ -61,20 +61,25 @@ pub(crate) fn finish_run(
 }
 
 /// The exit status of a run.
-pub fn status(stop: Stop) -> u8
+pub fn status(stop: RunStop) -> u8
     ensures { result ≡ status_of stop }
 {
     match stop {
-        Stop::Off => 0,
-        Stop::Refused(_, _) => 1,
-        Stop::End => 3,
-        Stop::Conflict(_) => 4,
-        Stop::Stuck => 5,
+        RunStop::Off => 0,
+        RunStop::Refused(_, _) => 1,
+        RunStop::End => 3,
+        RunStop::Conflict(_) => 4,
+        RunStop::Stuck => 5,
     }
 }
 
 // What a machine shows, with the text of a log before the last line.
-fn summary_with(alloc: Global, log: &[u8], core: &Core, stop: Stop) -> Result<Vec<u8>, AllocError>
+fn summary_with(
+    alloc: Global,
+    log: &[u8],
+    core: &Core,
+    stop: RunStop,
+) -> Result<Vec<u8>, AllocError>
     ensures { IfOk result (λ text. text.items ≡ summary_with log.now core.now.state stop) }
 {
     let mut text = Vec::new(alloc);

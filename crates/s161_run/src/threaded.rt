@@ -7,7 +7,7 @@ ghost use Rattle.s161_base.specs.Samples.{image_file};
 ghost use Rattle.s161_run.specs.Threads.{IsRunInThreads, IsThreadsFault, stop_of};
 ghost use Rattle.s161_run.specs.helpers.Threads.{FailsBooted, RunsBooted};
 
-use crate::events::{Stop, stop_off};
+use crate::events::{RunStop, stop_off};
 use crate::log::log_of_machine;
 use crate::summary::{status, summary};
 use m161::{Console, Machine, Tlb};
@@ -90,10 +90,14 @@ fn quotas_of(alloc: Global, quota: u32, processors: u32) -> Result<Vec<u32>, All
 }
 
 // How a run in threads stopped, by whether the machine is off, and its conflict.
-fn stop_of(off: bool, conflict: Option<Conflict>) -> Stop
+fn stop_of(off: bool, conflict: Option<Conflict>) -> RunStop
     ensures { result ≡ stop_of off conflict }
 {
-    if off { stop_off(conflict) } else { Stop::End }
+    if off {
+        stop_off(conflict)
+    } else {
+        RunStop::End
+    }
 }
 
 // The text that a report prints, and its exit status.

@@ -1,7 +1,7 @@
 use Rattle.std.proofs.Common.{◌≡◌, ◌⊎◌, ◌∙◌, ℕ, suc, ◌+◌, ◌≤◌, arith, Bool, true, false, List, take, Option, None, Some, Ok, ap, inl, inr, refl, sym, subst}
 use Rattle.std.specs.Prelude.{◌==◌, Result, option_map}
 use Rattle.std.proofs.lemmas.Bool.{eqb-true}
-use Rattle.m161_judge.specs.declared.run.Run.{Run}
+use Rattle.m161_judge.specs.declared.run.JudgedRun.{JudgedRun}
 use Rattle.m161_judge.specs.declared.verdict.Judged.{Judged}
 use Rattle.m161_judge.specs.Judge.{BootsState}
 use Rattle.m161_judge.specs.Laws.{CutKeepsVerdict, IsOneVerdict}
@@ -18,7 +18,7 @@ use Rattle.m161_machine.specs.declared.conf.BootError.{BootError}
 use Rattle.m161_machine.specs.declared.event.Event.{Event}
 use Rattle.m161_machine.specs.History.{boot_fault}
 use Rattle.m161_machine.specs.State.{State}
-use Rattle.m161_shorten.specs.declared.judged.Judged.{Judged as KindJudged}
+use Rattle.m161_shorten.specs.declared.judged.Judgement.{Judgement}
 use Rattle.m161_shorten.specs.Verdicts.{AreNeeded}
 use Rattle.m161_shorten.specs.Passes.{Shortens}
 use Rattle.m161_shorten.proofs.Alike.{shortens_by}
@@ -44,7 +44,7 @@ rules_are drive k seed order policy bytes keys is order_is seed_is keys_are =
     is ∙ ap by_order (order_is ∙ ap (λ s. with_seed s drive.order) seed_is) ∙ ap (λ b. rules_of (drive_at drive k) b) keys_are
 
 -- a run of what was read
-pub same_run : (task : SearchTask) (given : Given) (k : ℕ) (file : List ℕ) (conf : Conf) (rules : Rules) (watches : List Watch) (output : Option (List ℕ)) (result : Result Run AuditError) →
+pub same_run : (task : SearchTask) (given : Given) (k : ℕ) (file : List ℕ) (conf : Conf) (rules : Rules) (watches : List Watch) (output : Option (List ℕ)) (result : Result JudgedRun AuditError) →
     file ≡ given.file → conf ≡ conf_of task.size → rules ≡ rules_of (drive_at task.drive k) given.keys → watches ≡ given.watches → output ≡ given.output →
     Runs file conf (boot_fault file conf) rules task.drive.events (criteria watches output rules) result →
     Runs given.file (conf_of task.size) (boot_fault given.file (conf_of task.size)) (rules_of (drive_at task.drive k) given.keys) task.drive.events (criteria_of given) result
@@ -58,7 +58,7 @@ same_run task given k file conf rules watches output result file_is conf_is rule
     (subst (λ o. Runs file conf (boot_fault file conf) rules n (criteria watches o rules) result) output_is h))))
 
 -- the same by any rules
-pub as_given : (task : SearchTask) (given : Given) (rules policy : Rules) (watches : List Watch) (output : Option (List ℕ)) (result : Result Run AuditError) →
+pub as_given : (task : SearchTask) (given : Given) (rules policy : Rules) (watches : List Watch) (output : Option (List ℕ)) (result : Result JudgedRun AuditError) →
     policy ≡ rules → watches ≡ given.watches → output ≡ given.output →
     Runs given.file (conf_of task.size) (boot_fault given.file (conf_of task.size)) policy task.drive.events (criteria watches output policy) result →
     Runs given.file (conf_of task.size) (boot_fault given.file (conf_of task.size)) rules task.drive.events (criteria given.watches given.output rules) result
@@ -76,20 +76,20 @@ boots_as file same conf equal result file_is conf_is h =
     subst (λ f. BootsState f equal (boot_fault f equal) result) file_is (subst (λ x. BootsState file x (boot_fault file x) result) conf_is h)
 
 -- a run that was made
-pub run_made : (task : SearchTask) (given : Given) (rules : Rules) (fault : Option BootError) (run : Run) →
+pub run_made : (task : SearchTask) (given : Given) (rules : Rules) (fault : Option BootError) (run : JudgedRun) →
     Runs given.file (conf_of task.size) fault rules task.drive.events (criteria_of given) (Ok run) →
     IsRun given.file (conf_of task.size) rules task.drive.events (criteria_of given) run
 run_made task given rules (Some first) run h = absurd cc
 run_made task given rules None run h = h
 
 -- the verdict of a run
-pub run_judged : (task : SearchTask) (given : Given) (k : ℕ) (run : Run) (judged : Judged) → IsRunAt task given k run → run.judged ≡ Some judged →
+pub run_judged : (task : SearchTask) (given : Given) (k : ℕ) (run : JudgedRun) (judged : Judged) → IsRunAt task given k run → run.judged ≡ Some judged →
     IsJudgedAt task given run.events.items (Some judged)
 run_judged task given k run judged is wrong =
     (is.booted, is.is_booted, subst (λ v. IsJudged (criteria_of given) is.booted run.events.items v) wrong is.judged)
 
 -- the same by any order
-pub run_judged_by : (task : SearchTask) (given : Given) (order : Order) (run : Run) (judged : Judged) → IsRunOf task given order run → run.judged ≡ Some judged →
+pub run_judged_by : (task : SearchTask) (given : Given) (order : Order) (run : JudgedRun) (judged : Judged) → IsRunOf task given order run → run.judged ≡ Some judged →
     IsJudgedAt task given run.events.items (Some judged)
 run_judged_by task given order run judged is wrong =
     (is.booted, is.is_booted, subst (λ v. IsJudged (criteria_of given) is.booted run.events.items v) wrong is.judged)
@@ -119,8 +119,8 @@ such : (task : SearchTask) (given : Given) (es : List Event) (kind needs : ℕ) 
 such task given es kind needs None cut h is = absurd cc
 such task given es kind needs (Some judged) cut h is =
     let same : kind_of judged ≡ record { kind = kind; needs = needs } = cc in
-    let as_many : judged.events ≡ needs = ap (λ (k : KindJudged ℕ). k.needs) same in
-    (judged, subst (λ n. IsJudgedAt task given (take n es) (Some judged)) as_many (cut_judged task given es judged cut h), ap (λ (k : KindJudged ℕ). k.kind) same)
+    let as_many : judged.events ≡ needs = ap (λ (k : Judgement ℕ). k.needs) same in
+    (judged, subst (λ n. IsJudgedAt task given (take n es) (Some judged)) as_many (cut_judged task given es judged cut h), ap (λ (k : Judgement ℕ). k.kind) same)
 
 -- what the passes leave has a verdict of the kind
 pub left_judged : (task : SearchTask) (given : Given) (events fs : List Event) (judged : Judged) →
@@ -201,7 +201,7 @@ pub one_small : (b : Bool) → one_if b ≤ 1
 one_small true = omega arith
 one_small false = omega arith
 
-pub clean_more : (task : SearchTask) (given : Given) (n before cut : ℕ) (run : Run) → AreClean task given n before → IsRunAt task given n run → run.judged ≡ None →
+pub clean_more : (task : SearchTask) (given : Given) (n before cut : ℕ) (run : JudgedRun) → AreClean task given n before → IsRunAt task given n run → run.judged ≡ None →
     cut ≡ before + one_if run.is_cut → AreClean task given (n + 1) cut
 clean_more task given n before cut run clean is none cut_is =
     let next : suc n ≡ n + 1 = omega arith in

@@ -3,7 +3,7 @@ use Rattle.m161_delays.specs.declared.search.Class.{Class}
 use Rattle.m161_delays.specs.Lists.{ComesBefore, IsOf}
 use Rattle.m161_delays.specs.Runs.{AreRight, AreThose, IsUsefulOf}
 use Rattle.m161_drive.specs.Choice.{cursor_at}
-use Rattle.m161_judge.specs.declared.run.Run.{Run}
+use Rattle.m161_judge.specs.declared.run.JudgedRun.{JudgedRun}
 use Rattle.m161_judge.specs.declared.verdict.Judged.{Judged}
 use Rattle.m161_judge.specs.Run.{IsRun}
 use Rattle.m161_machine.specs.History.{IsBootState}
@@ -26,7 +26,7 @@ abbrev pub class_of : DelayClass → Class
 class_of class = record { most = class.most; from = class.from; within = class.within }
 
 -- the run by an order, and its verdict
-abbrev pub IsRunOf : SearchTask → Given → Order → Run → Type 0
+abbrev pub IsRunOf : SearchTask → Given → Order → JudgedRun → Type 0
 IsRunOf task given order run =
     IsRun given.file (conf_of task.size) (rules_of (record task.drive { order = order }) given.keys)
     task.drive.events (criteria_of given) run
@@ -41,13 +41,13 @@ offered_by task given steps booted =
 -- the run of a list has no verdict, and is cut or isn't
 abbrev pub HasRightRun : SearchTask → Given → ℕ → List ℕ → Bool → Type 0
 HasRightRun task given steps numbers is_cut =
-    (delays : Delays) × (run : Run) × (delays_of delays ≡ numbers)
+    (delays : Delays) × (run : JudgedRun) × (delays_of delays ≡ numbers)
     × IsRunOf task given (Delayed steps delays) run × (run.judged ≡ None) × (run.is_cut ≡ is_cut)
 
 -- the run of these delays has no verdict
 abbrev pub IsRightBy : SearchTask → Given → ℕ → Delays → Type 0
 IsRightBy task given steps delays =
-    (run : Run) × IsRunOf task given (Delayed steps delays) run × (run.judged ≡ None)
+    (run : JudgedRun) × IsRunOf task given (Delayed steps delays) run × (run.judged ≡ None)
 
 -- no list of a class has a run that goes wrong; its useful lists have different runs, so many of which
 -- so many are cut, as far as 64 bits can say it
@@ -65,7 +65,7 @@ pub record AreCleanBy
 
 -- the first list of a class whose run goes wrong, and its verdict; it is useful
 pub record IsFirstBy
-    (task : SearchTask) (given : Given) (steps : ℕ) (class : Class) (numbers : List ℕ) (run : Run)
+    (task : SearchTask) (given : Given) (steps : ℕ) (class : Class) (numbers : List ℕ) (run : JudgedRun)
     (judged : Judged) : Type 0 where
   pub booted : State
   pub is_booted : IsBootState given.file (conf_of task.size) booted

@@ -1,5 +1,5 @@
 use Rattle.std.specs.Prelude.{◌≡◌, ◌⊎◌, ℕ, ◌==◌, Bool, true, false, List, take, Option, None, Some, option_map}
-use Rattle.m161_judge.specs.declared.run.Run.{Run}
+use Rattle.m161_judge.specs.declared.run.JudgedRun.{JudgedRun}
 use Rattle.m161_judge.specs.declared.verdict.Judged.{Judged}
 use Rattle.m161_judge.specs.declared.verdict.Verdict.{Verdict}
 use Rattle.m161_judge.specs.declared.verdict.Verdict.TheVariants.{Stale, Conflict, Stuck, Output as OutputVerdict, End}
@@ -7,7 +7,7 @@ use Rattle.m161_judge.specs.Verdict.{IsJudged, rank}
 use Rattle.m161_machine.specs.declared.event.Event.{Event}
 use Rattle.m161_machine.specs.History.{IsBootState}
 use Rattle.m161_machine.specs.State.{State}
-use Rattle.m161_shorten.specs.declared.judged.Judged.{Judged as KindJudged}
+use Rattle.m161_shorten.specs.declared.judged.Judgement.{Judgement}
 use Rattle.m161_shorten.specs.Passes.{Shortens}
 use Rattle.m161_text.specs.Lines.{with_line_end}
 use Rattle.s161_base.specs.declared.fault.Fault.{Fault}
@@ -34,10 +34,10 @@ IsJudgedAt task given events judged =
     × IsJudged (criteria_of given) booted events judged
 
 -- a verdict, of which only the kind matters
-abbrev pub kind_of : Judged → KindJudged ℕ
+abbrev pub kind_of : Judged → Judgement ℕ
 kind_of judged = record { kind = rank judged.verdict; needs = judged.events }
 
-abbrev pub HasKind : SearchTask → Given → List Event → Option (KindJudged ℕ) → Type 0
+abbrev pub HasKind : SearchTask → Given → List Event → Option (Judgement ℕ) → Type 0
 HasKind task given events verdict =
     (judged : Option Judged) × IsJudgedAt task given events judged
     × (verdict ≡ option_map kind_of judged)
@@ -62,7 +62,7 @@ ArePrinted false task given events judged printed =
 -- is that of the printed events, and is of the run's kind
 pub record IsFound (task : SearchTask) (given : Given) (text : List ℕ) : Type 0 where
   pub place : ℕ
-  pub run : Run
+  pub run : JudgedRun
   pub judged : Judged
   pub first : IsFirstWrong task given place run judged
   pub events : List Event
@@ -83,7 +83,7 @@ IsClean task given text =
 pub record IsFoundBy
     (task : SearchTask) (given : Given) (steps : ℕ) (class : Class) (text : List ℕ) : Type 0 where
   pub numbers : List ℕ
-  pub run : Run
+  pub run : JudgedRun
   pub judged : Judged
   pub first : IsFirstBy task given steps class numbers run judged
   pub events : List Event

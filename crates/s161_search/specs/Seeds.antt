@@ -1,6 +1,6 @@
 use Rattle.std.specs.Prelude.{◌≡◌, ℕ, zero, suc, ◌+◌, ◌%◌, ◌^◌, ◌<◌, Bool, if◌then◌else◌, false, None, Some}
 use Rattle.m161_audit.specs.Watch.{AreGood, IsBad}
-use Rattle.m161_judge.specs.declared.run.Run.{Run}
+use Rattle.m161_judge.specs.declared.run.JudgedRun.{JudgedRun}
 use Rattle.m161_judge.specs.declared.verdict.Judged.{Judged}
 use Rattle.m161_judge.specs.Run.{IsRun}
 use Rattle.m161_machine.specs.declared.conf.BootError.TheVariants.{Load}
@@ -41,7 +41,7 @@ abbrev pub drive_at : Drive → ℕ → Drive
 drive_at drive k = record drive { order = with_seed (seed_at drive.order k) drive.order }
 
 -- run k, and its verdict
-abbrev pub IsRunAt : SearchTask → Given → ℕ → Run → Type 0
+abbrev pub IsRunAt : SearchTask → Given → ℕ → JudgedRun → Type 0
 IsRunAt task given k run =
     IsRun given.file (conf_of task.size) (rules_of (drive_at task.drive k) given.keys)
     task.drive.events (criteria_of given) run
@@ -63,12 +63,12 @@ one_if b = if b then 1 else 0
 abbrev pub AreClean : SearchTask → Given → ℕ → ℕ → Type 0
 AreClean task given zero cut = cut ≡ 0
 AreClean task given (suc n) cut =
-    (before : ℕ) × (run : Run) × AreClean task given n before × IsRunAt task given n run
+    (before : ℕ) × (run : JudgedRun) × AreClean task given n before × IsRunAt task given n run
     × (run.judged ≡ None) × (cut ≡ before + one_if run.is_cut)
 
 -- the first run that goes wrong, and its verdict
 pub record IsFirstWrong
-    (task : SearchTask) (given : Given) (place : ℕ) (run : Run) (judged : Judged) : Type 0 where
+    (task : SearchTask) (given : Given) (place : ℕ) (run : JudgedRun) (judged : Judged) : Type 0 where
   pub within : place < task.seeds
   pub cut : ℕ
   pub before : AreClean task given place cut

@@ -69,9 +69,12 @@ impl<'a> Judge for KindJudge<'a> {
 
     ghost judges = { λ judge. HasKindFrom judge.booted.now (given_of judge.inputs.now) };
 
-    fn judge(&mut self, events: &[Event]) -> Result<Option<m161_shorten::Judged<u8>>, AllocError> {
+    fn judge(
+        &mut self,
+        events: &[Event],
+    ) -> Result<Option<m161_shorten::Judgement<u8>>, AllocError> {
         match judge_again(self.alloc, self.booted, self.inputs, events)? {
-            Some(judged) => Ok(Some(m161_shorten::Judged {
+            Some(judged) => Ok(Some(m161_shorten::Judgement {
                 kind: rank(judged.verdict),
                 needs: judged.events,
             })),

@@ -10,8 +10,8 @@ ghost use Rattle.s161_search.specs.helpers.Tried.{IsSearchedBy};
 use crate::inputs::Inputs;
 use crate::orders::{policy_of, run_order};
 use m161::{Console, Tlb};
-use m161_delays::{Class, Delays, Judged, Runs, Searched, search_lists};
-use m161_judge::{Booted, Judged as Verdicted, Run};
+use m161_delays::{Class, Delays, Runs, Searched, Tested, search_lists};
+use m161_judge::{Booted, Judged, JudgedRun};
 use m161_order::Order;
 use s161_base::fault::Fault;
 use s161_command::{DelayClass, SearchTask};
@@ -21,9 +21,9 @@ use std::alloc::Global;
 #[derive(Drop)]
 pub(crate) struct WrongRun {
     /// The run.
-    pub run: Run,
+    pub run: JudgedRun,
     /// Its verdict.
-    pub judged: Verdicted,
+    pub judged: Judged,
 }
 
 /// Makes the runs of lists of delays.
@@ -70,15 +70,15 @@ impl<'a, 'b> Runs for DelayedRuns<'a, 'b> {
         Ok(())
     }
 
-    fn judge(&self, delays: &Delays) -> Result<Judged<WrongRun>, Fault<'a>> {
+    fn judge(&self, delays: &Delays) -> Result<Tested<WrongRun>, Fault<'a>> {
         let order = Order::Delayed {
             turns: self.turns,
             delays: *delays,
         };
         let run = run_order(self.alloc, self.booted, self.task, self.inputs, order)?;
         match run.judged {
-            Some(judged) => Ok(Judged::Wrong(WrongRun { run, judged })),
-            None => Ok(Judged::Right { is_cut: run.is_cut }),
+            Some(judged) => Ok(Tested::Wrong(WrongRun { run, judged })),
+            None => Ok(Tested::Right { is_cut: run.is_cut }),
         }
     }
 

@@ -10,7 +10,7 @@ use crate::audit::fault_of_audit;
 use crate::inputs::Inputs;
 use m161::{Console, Tlb};
 use m161_drive::Policy;
-use m161_judge::{Booted, Run, judge_booted};
+use m161_judge::{Booted, JudgedRun, judge_booted};
 use m161_order::Order;
 use s161_base::fault::Fault;
 use s161_command::SearchTask;
@@ -45,7 +45,7 @@ pub(crate) fn run_order<'a>(
     task: SearchTask<'a>,
     inputs: &Inputs,
     order: Order,
-) -> Result<Run, Fault<'a>>
+) -> Result<JudgedRun, Fault<'a>>
     ensures ok { IfOk result (IsRunFrom booted.now task.entry (given_of inputs.now) order) }
     ensures fault { IfErr result (IsFaultFrom booted.now task.entry (given_of inputs.now)) }
 {

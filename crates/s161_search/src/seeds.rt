@@ -11,7 +11,7 @@ use crate::audit::fault_of_audit;
 use crate::inputs::Inputs;
 use m161::{Console, Tlb};
 use m161_drive::Policy;
-use m161_judge::{Booted, Judged, Run, judge_booted};
+use m161_judge::{Booted, Judged, JudgedRun, judge_booted};
 use m161_order::Order;
 use s161_base::fault::Fault;
 use s161_base::sizes::conf_of;
@@ -24,7 +24,7 @@ pub(crate) struct FirstWrong {
     /// Its number, from 0.
     pub place: u32,
     /// The run.
-    pub run: Run,
+    pub run: JudgedRun,
     /// Its verdict.
     pub judged: Judged,
 }
@@ -101,7 +101,7 @@ fn run_seed<'a>(
     task: SearchTask<'a>,
     inputs: &Inputs,
     k: u32,
-) -> Result<Run, Fault<'a>>
+) -> Result<JudgedRun, Fault<'a>>
     requires booted { BeginsAt task (given_of inputs.now) booted.now }
     requires limits { order_fault task.drive.order ≡ None }
     ensures ok { IfOk result (IsRunAt task.entry (given_of inputs.now) k) }

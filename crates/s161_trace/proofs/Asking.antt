@@ -9,11 +9,11 @@ use Rattle.s161_base.specs.declared.fault.Fault.{Fault}
 use Rattle.s161_base.specs.declared.fault.Fault.TheVariants.{Memory, Output}
 use Rattle.s161_command.specs.declared.drive.Drive.{Drive}
 use Rattle.s161_command.specs.declared.task.TraceTask.{TraceTask}
-use Rattle.s161_run.specs.declared.events.Stop.{Stop}
+use Rattle.s161_run.specs.declared.events.RunStop.{RunStop}
 use Rattle.s161_trace.specs.Traces.{keys_files}
-use Rattle.s161_trace.specs.declared.window.Window.{Window}
+use Rattle.s161_trace.specs.declared.filter.LineFilter.{LineFilter}
 use Rattle.s161_trace.specs.helpers.Booted.{FailsRun}
-use Rattle.s161_trace.specs.helpers.Printing.{FailsToPrintAll, window_of}
+use Rattle.s161_trace.specs.helpers.Printing.{FailsToPrintAll, filter_of}
 
 -- The faults of a run whose lines are printed are none of a file.
 
@@ -21,18 +21,18 @@ stream_is_none : (fault : Fault) → (fault ≡ Output) ⊎ (fault ≡ Memory) �
 stream_is_none fault (inl is) = subst IsNoFile (sym is) tt
 stream_is_none fault (inr is) = memory_is_none fault is
 
-printing_is_none : (w : Window) (s : State) (IsSome : State → List Entry → State → Type 0) (IsAll : State → List Entry → Stop → State → Type 0) (t : State)
+printing_is_none : (w : LineFilter) (s : State) (IsSome : State → List Entry → State → Type 0) (IsAll : State → List Entry → RunStop → State → Type 0) (t : State)
     (a c : Option (List ℕ)) (fault : Fault) → FailsToPrintAll w s IsSome IsAll t a c fault → IsNoFile fault
 printing_is_none w s IsSome IsAll t a c fault (inl h) = memory_is_none fault h.0
 printing_is_none w s IsSome IsAll t a c fault (inr h) = stream_is_none fault h.0
 
-module _ (task : TraceTask) (file : List ℕ) (IsSome : State → List Entry → State → Type 0) (IsAll : State → List Entry → Stop → State → Type 0)
+module _ (task : TraceTask) (file : List ℕ) (IsSome : State → List Entry → State → Type 0) (IsAll : State → List Entry → RunStop → State → Type 0)
     (a c : Option (List ℕ)) where
   run_is_none : (fault : Fault) → FailsRun task file IsSome IsAll a c fault → IsNoFile fault
   run_is_none fault (inl h) = subst IsNoFile (sym h.fault_is) (boot_is_none h.error)
-  run_is_none fault (inr h) = printing_is_none (window_of task file) h.booted IsSome IsAll h.state a c fault h.fails
+  run_is_none fault (inr h) = printing_is_none (filter_of task file) h.booted IsSome IsAll h.state a c fault h.fails
 
-  module _ (r : Result Stop Fault) (fails : IfErr r (FailsRun task file IsSome IsAll a c)) where
+  module _ (r : Result RunStop Fault) (fails : IfErr r (FailsRun task file IsSome IsAll a c)) where
     -- so all files were asked for
     pub run_asks : (names : List (List ℕ)) (x y : Option (List (List ℕ))) → Asks names x y → AsksFor names r x y
     run_asks names x y asks = result_asks names x y r asks (IfErr-weaker r (FailsRun task file IsSome IsAll a c) IsNoFile run_is_none fails)
@@ -44,7 +44,7 @@ module _ (task : TraceTask) (file : List ℕ) (IsSome : State → List Entry →
         (λ fault h. none_before fault x y (run_is_none fault h)) fails
 
 -- a task without an order has no other file than the image's
-pub without_keys : (task : TraceTask) (drive : Option Drive) (r : Result Stop Fault) (x y : Option (List (List ℕ))) → drive ≡ None →
+pub without_keys : (task : TraceTask) (drive : Option Drive) (r : Result RunStop Fault) (x y : Option (List (List ℕ))) → drive ≡ None →
     AsksFor (image_files task.image.now) r x y → AsksFor (image_files task.image.now ++ keys_files drive) r x y
 without_keys task drive r x y is asks =
     let image = image_files task.image.now in

@@ -22,27 +22,27 @@ use Rattle.s161_base.specs.declared.fault.Fault.TheVariants.{Memory}
 use Rattle.s161_command.specs.declared.drive.Drive.{Drive}
 use Rattle.s161_command.specs.declared.task.TraceTask.{TraceTask}
 use Rattle.s161_run.specs.Driven.{AreKeys, IsDrivenFault, rules_of}
-use Rattle.s161_run.specs.declared.events.Stop.{Stop}
+use Rattle.s161_run.specs.declared.events.RunStop.{RunStop}
 use Rattle.s161_run.specs.Runs.{IsFaultOf, stop_line}
 use Rattle.s161_trace.specs.declared.lines.Lines.{Lines}
-use Rattle.s161_trace.specs.declared.window.Window.{Window}
+use Rattle.s161_trace.specs.declared.filter.LineFilter.{LineFilter}
 use Rattle.s161_trace.specs.Traces.{Begins, BootsFor, IsEarlyFault, IsTraceFault, IsTraced, IsUnread, Runs, driven_of, lines_text, run_of, trace_text, traced}
 use Rattle.s161_trace.specs.helpers.Booted.{FailsRun, PrintsRun}
 use Rattle.s161_trace.specs.helpers.Driven.{DrivesAll, DrivesSome}
-use Rattle.s161_trace.specs.helpers.Printing.{FailsToPrint, FailsToPrintAll, FailsToPut, IsNew, Prints, PrintsAll, lines_from, run_text, window_of}
+use Rattle.s161_trace.specs.helpers.Printing.{FailsToPrint, FailsToPrintAll, FailsToPut, IsNew, Prints, PrintsAll, lines_from, run_text, filter_of}
 use Rattle.s161_trace.specs.helpers.Scheduled.{MakesAll, MakesSome}
 use Rattle.s161_trace.proofs.Printing.{puts_some}
 
 -- Whole runs whose lines are printed.
 
-module _ (w : Window) (s : State) (l : Lines) (fresh : IsNew w s l) (IsSome : State → List Entry → State → Type 0)
-    (IsAll : State → List Entry → Stop → State → Type 0) (entries : List Entry) (t : State) (a : Option (List ℕ)) where
+module _ (w : LineFilter) (s : State) (l : Lines) (fresh : IsNew w s l) (IsSome : State → List Entry → State → Type 0)
+    (IsAll : State → List Entry → RunStop → State → Type 0) (entries : List Entry) (t : State) (a : Option (List ℕ)) where
   text : List ℕ
-  text = text_of (lines_from l.window l.number l.tracer entries)
+  text = text_of (lines_from l.filter l.number l.tracer entries)
 
   -- nothing was kept back before
-  whole : string_bytes l.piece ++ text_of (lines_from l.window l.number l.tracer entries) ≡ text_of (lines_from w 0 s entries)
-  whole = ap (λ kept. kept ++ text_of (lines_from l.window l.number l.tracer entries)) fresh.3
+  whole : string_bytes l.piece ++ text_of (lines_from l.filter l.number l.tracer entries) ≡ text_of (lines_from w 0 s entries)
+  whole = ap (λ kept. kept ++ text_of (lines_from l.filter l.number l.tracer entries)) fresh.3
       ∙ (λ i. text_of (lines_from (fresh.0 i) (fresh.1 i) (fresh.2 i) entries))
 
   -- before the last line
@@ -50,7 +50,7 @@ module _ (w : Window) (s : State) (l : Lines) (fresh : IsNew w s l) (IsSome : St
       FailsToPrintAll w s IsSome IsAll t a c fault
   some_fail c fault is h = inr (h.1.0, (entries, inl (is, subst (AppendsSome a c) whole h.1.1)))
 
-  module _ (b c : Option (List ℕ)) (k : Lines) (prints : Prints l a entries t k b) (stop : Stop) (is : IsAll s entries stop t) where
+  module _ (b c : Option (List ℕ)) (k : Lines) (prints : Prints l a entries t k b) (stop : RunStop) (is : IsAll s entries stop t) where
     abbrev last : List ℕ
     last = with_line_end (stop_line stop)
 
@@ -67,7 +67,7 @@ module _ (w : Window) (s : State) (l : Lines) (fresh : IsNew w s l) (IsSome : St
     pub all_fail : (fault : Fault) → FailsToPut b (string_bytes k.piece) (with_line_end (stop_line stop)) c fault →
         FailsToPrintAll w s IsSome IsAll t a c fault
     all_fail fault h =
-        let text = text_of (lines_from l.window l.number l.tracer entries) in
+        let text = text_of (lines_from l.filter l.number l.tracer entries) in
         inr (
           h.0,
           (
@@ -83,7 +83,7 @@ module _ (w : Window) (s : State) (l : Lines) (fresh : IsNew w s l) (IsSome : St
         )
 
 -- a call that ends with this fault
-pub ends_so : (P : Fault → Type 0) (r : Result Stop Fault) (fault : Fault) → r ≡ Err fault → P fault → IfErr r P
+pub ends_so : (P : Fault → Type 0) (r : Result RunStop Fault) (fault : Fault) → r ≡ Err fault → P fault → IfErr r P
 ends_so P r fault is h = subst (λ x. IfErr x P) (sym is) h
 
 -- what was booted
@@ -103,7 +103,7 @@ fails_as file conf (Some first) e h = h
 fails_as file conf None e h = h
 
 -- runs from the boot on
-module _ (task : TraceTask) (file : List ℕ) (IsSome : State → List Entry → State → Type 0) (IsAll : State → List Entry → Stop → State → Type 0)
+module _ (task : TraceTask) (file : List ℕ) (IsSome : State → List Entry → State → Type 0) (IsAll : State → List Entry → RunStop → State → Type 0)
     (a : Option (List ℕ)) where
   pub not_booted : (conf : Conf) (e : BootError) (fault : Fault) → conf ≡ conf_of task.size → Boots file conf (boot_fault file conf) (Err e) →
       fault ≡ fault_of_boot e → FailsRun task file IsSome IsAll a a fault
@@ -112,10 +112,10 @@ module _ (task : TraceTask) (file : List ℕ) (IsSome : State → List Entry →
       inl (record { error = e; answer = here; fault_is = fault_is; same = refl })
 
   module _ (s : State) (boots : BootsIn file (conf_of task.size) s) where
-    pub without_window : FailsRun task file IsSome IsAll a a Memory
-    without_window = inr (record { booted = s; boots = boots; state = s; fails = inl (refl, refl) })
+    pub without_filter : FailsRun task file IsSome IsAll a a Memory
+    without_filter = inr (record { booted = s; boots = boots; state = s; fails = inl (refl, refl) })
 
-    module _ (w : Window) (is : w ≡ window_of task file) (t : State) (c : Option (List ℕ)) (r : Result Stop Fault) where
+    module _ (w : LineFilter) (is : w ≡ filter_of task file) (t : State) (c : Option (List ℕ)) (r : Result RunStop Fault) where
       pub run_prints : IfOk r (PrintsAll w s IsAll t a c) → IfOk r (PrintsRun task file IsAll a c)
       run_prints = IfOk-weaker r (PrintsAll w s IsAll t a c) (PrintsRun task file IsAll a c) (λ stop h. record {
         booted = s;
@@ -135,15 +135,15 @@ module _ (task : TraceTask) (file : List ℕ) (IsSome : State → List Entry →
 -- A task's. The lines that are asked for are those from the first event on.
 
 shown : (task : TraceTask) (file : List ℕ) (s : State) (entries : List Entry) →
-    text_of (lines_from (window_of task file) 0 s entries) ≡ lines_text task file s entries
+    text_of (lines_from (filter_of task file) 0 s entries) ≡ lines_text task file s entries
 shown task file s entries =
-    let w = window_of task file in
+    let w = filter_of task file in
     let all : task.count - (0 - task.from) ≡ task.count = omega arith in
     let first : task.from - 0 ≡ task.from = omega arith in
     λ i. text_of (take (all i) (drop (first i) (traced w.style 0 s entries)))
 
-shown_whole : (task : TraceTask) (file : List ℕ) (s : State) (entries : List Entry) (stop : Stop) →
-    run_text (window_of task file) s entries stop ≡ trace_text task file s entries stop
+shown_whole : (task : TraceTask) (file : List ℕ) (s : State) (entries : List Entry) (stop : RunStop) →
+    run_text (filter_of task file) s entries stop ≡ trace_text task file s entries stop
 shown_whole task file s entries stop = ap (λ text. text ++ with_line_end (stop_line stop)) (shown task file s entries)
 
 -- a want of memory can always be
@@ -163,15 +163,15 @@ module _ (task : TraceTask) (drive : Option Drive) (drive_is : task.drive ≡ dr
     why = inl (subst (λ d. IsEarlyFault d task known input fault) (sym drive_is) h, same);
   }
 
-  module _ (file : List ℕ) (is_file : IfSome known (λ bytes. file ≡ bytes)) (IsAll : State → List Entry → Stop → State → Type 0)
-      (runs : (s t : State) (entries : List Entry) (stop : Stop) → IsAll s entries stop t → Runs drive files input s entries stop t) where
+  module _ (file : List ℕ) (is_file : IfSome known (λ bytes. file ≡ bytes)) (IsAll : State → List Entry → RunStop → State → Type 0)
+      (runs : (s t : State) (entries : List Entry) (stop : RunStop) → IsAll s entries stop t → Runs drive files input s entries stop t) where
     abbrev boots_so : (s : State) → BootsIn file (conf_of task.size) s → BootsFor task known s
     boots_so s h = record { file = file; is_file = is_file; boots = h }
 
-    runs_so : (s t : State) (entries : List Entry) (stop : Stop) → IsAll s entries stop t → Runs task.drive files input s entries stop t
+    runs_so : (s t : State) (entries : List Entry) (stop : RunStop) → IsAll s entries stop t → Runs task.drive files input s entries stop t
     runs_so s t entries stop h = subst (λ d. Runs d files input s entries stop t) (sym drive_is) (runs s t entries stop h)
 
-    task_traced : (stop : Stop) → PrintsRun task file IsAll a c stop → IsTraced task files known (streams input left a c) stop
+    task_traced : (stop : RunStop) → PrintsRun task file IsAll a c stop → IsTraced task files known (streams input left a c) stop
     task_traced stop h =
         let entries = h.prints.0 in
         record {
@@ -189,10 +189,10 @@ module _ (task : TraceTask) (drive : Option Drive) (drive_is : task.drive ≡ dr
         (unbooted : (e : BootError) → BootsState file (conf_of task.size) (boot_fault file (conf_of task.size)) (Err e) →
         IsEarlyFault drive task known input (fault_of_boot e)) where
       some_written : (s t : State) (entries : List Entry) →
-          (IsSome s entries t × AppendsSome a c (text_of (lines_from (window_of task file) 0 s entries)))
-          ⊎ ((stop : Stop) × IsAll s entries stop t × AppendsSome a c (run_text (window_of task file) s entries stop)) →
+          (IsSome s entries t × AppendsSome a c (text_of (lines_from (filter_of task file) 0 s entries)))
+          ⊎ ((stop : RunStop) × IsAll s entries stop t × AppendsSome a c (run_text (filter_of task file) s entries stop)) →
           (Begins task.drive files input s entries t × AppendsSome a c (lines_text task file s entries))
-          ⊎ ((stop : Stop) × Runs task.drive files input s entries stop t × AppendsSome a c (trace_text task file s entries stop))
+          ⊎ ((stop : RunStop) × Runs task.drive files input s entries stop t × AppendsSome a c (trace_text task file s entries stop))
       some_written s t entries (inl x) =
           inl (
             subst (λ d. Begins d files input s entries t) (sym drive_is) (begins s t entries x.0),
@@ -202,7 +202,7 @@ module _ (task : TraceTask) (drive : Option Drive) (drive_is : task.drive ≡ dr
           inr (x.0, runs_so s t entries x.0 x.1, subst (AppendsSome a c) (shown_whole task file s entries x.0) x.2)
 
       in_run : (s t : State) → BootsIn file (conf_of task.size) s → (fault : Fault) →
-          FailsToPrintAll (window_of task file) s IsSome IsAll t a c fault → IsTraceFault task files known (streams input left a c) fault
+          FailsToPrintAll (filter_of task file) s IsSome IsAll t a c fault → IsTraceFault task files known (streams input left a c) fault
       in_run s t boots fault (inl h) = early fault (subst (IsEarlyFault drive task known input) (sym h.0) (no_memory drive task known input)) h.1
       in_run s t boots fault (inr h) = record {
         is_unread = is_unread;
@@ -229,11 +229,11 @@ module _ (task : TraceTask) (files : List ℕ → Option (List ℕ)) (known inpu
 
   -- that was read
   module _ (a c : Option (List ℕ)) (file : List ℕ) (is_file : IfSome known (λ bytes. file ≡ bytes)) (scheduled : List Event)
-      (is : OfText input (λ text. IsSchedule (lines_of text) scheduled)) (r : Result Stop Fault) where
+      (is : OfText input (λ text. IsSchedule (lines_of text) scheduled)) (r : Result RunStop Fault) where
     has_schedule : HasSchedule input
     has_schedule = (is.0, is.1, (is.2.0, (scheduled, is.2.1)))
 
-    runs_none : (s t : State) (entries : List Entry) (stop : Stop) → MakesAll scheduled s entries stop t → Runs None files input s entries stop t
+    runs_none : (s t : State) (entries : List Entry) (stop : RunStop) → MakesAll scheduled s entries stop t → Runs None files input s entries stop t
     runs_none s t entries stop h = record { scheduled = scheduled; is_schedule = is; makes = h }
 
     begins_none : (s t : State) (entries : List Entry) → MakesSome scheduled s entries t → Begins None files input s entries t
@@ -265,14 +265,14 @@ module _ (task : TraceTask) (options : Drive) (files : List ℕ → Option (List
 
   -- with the keys that were read
   module _ (a c : Option (List ℕ)) (file : List ℕ) (is_file : IfSome known (λ bytes. file ≡ bytes)) (keys : List ℕ)
-      (are : AreKeys options.keys files keys) (r : Result Stop Fault) where
-    abbrev IsAll : State → List Entry → Stop → State → Type 0
+      (are : AreKeys options.keys files keys) (r : Result RunStop Fault) where
+    abbrev IsAll : State → List Entry → RunStop → State → Type 0
     IsAll = DrivesAll (rules_of options keys) options.events
 
     abbrev IsSome : State → List Entry → State → Type 0
     IsSome = DrivesSome (rules_of options keys) options.events
 
-    runs_some : (input : Option (List ℕ)) (s t : State) (entries : List Entry) (stop : Stop) → IsAll s entries stop t →
+    runs_some : (input : Option (List ℕ)) (s t : State) (entries : List Entry) (stop : RunStop) → IsAll s entries stop t →
         Runs (Some options) files input s entries stop t
     runs_some input s t entries stop h = record { keys = keys; are_keys = are; driven = h.0; drives = h.1; stop_is = h.2 }
 

@@ -18,7 +18,7 @@ use Rattle.s161_base.specs.declared.fault.Fault.{Fault}
 use Rattle.s161_base.specs.declared.fault.Fault.TheVariants.{Memory}
 use Rattle.s161_base.specs.Streams.{AppendsSome}
 use Rattle.s161_trace.specs.declared.lines.Lines.{Lines}
-use Rattle.s161_trace.specs.declared.window.Window.{Window}
+use Rattle.s161_trace.specs.declared.filter.LineFilter.{LineFilter}
 use Rattle.s161_trace.specs.Traces.{line_and, traced}
 use Rattle.s161_trace.specs.helpers.Printing.{FailsToPrint, FailsToPut, Prints, PutsOut, has_line, lines_from}
 
@@ -68,10 +68,10 @@ part : {A : Type 0} (from count k : ℕ) (x : A) (xs : List A) →
 part from count k x xs = part_by (nat_le from k) from count k x xs refl
 
 -- the line of an event, if it has one
-abbrev pub line_of : Window → ℕ → State → Entry → State → List (List ℕ)
+abbrev pub line_of : LineFilter → ℕ → State → Entry → State → List (List ℕ)
 line_of w number s e t = if has_line w number then event_line w.style number e.event s e.outcome t ∷ [] else []
 
-module _ (w : Window) where
+module _ (w : LineFilter) where
   pub no_lines : (number : ℕ) (s : State) → lines_from w number s [] ≡ []
   no_lines number s = take_none (w.count - (number - w.from)) (w.from - number)
 
@@ -209,13 +209,13 @@ fails_end a b c kept left more x h =
 
 pub prints_none : (l : Lines) (a : Option (List ℕ)) (s : State) → l.tracer ≡ s → Prints l a [] s l a
 prints_none l a s same = record {
-  window_is = refl;
+  filter_is = refl;
   number_is = omega arith;
   tracer_is = same;
   leads = sym same;
   puts =
       subst (λ lines. PutsOut a (string_bytes l.piece) (text_of lines) a (string_bytes l.piece))
-      (sym (no_lines l.window l.number l.tracer)) (puts_none a (string_bytes l.piece));
+      (sym (no_lines l.filter l.number l.tracer)) (puts_none a (string_bytes l.piece));
 }
 
 -- one event
@@ -225,24 +225,24 @@ one_leads s e o t h = (t, h, refl)
 pub one_fails : (l : Lines) (a : Option (List ℕ)) (e : Event) (o : Outcome) (t : State) → next l.tracer e ≡ Ok (o, t) →
     FailsToPrint l a (entry e o ∷ []) t a Memory
 one_fails l a e o t h =
-    let text = text_of (lines_from l.window l.number l.tracer (entry e o ∷ [])) in
+    let text = text_of (lines_from l.filter l.number l.tracer (entry e o ∷ [])) in
     (one_leads l.tracer e o t h, (inr refl, some_none a (string_bytes l.piece ++ text)))
 
 module _ (l k : Lines) (a b c : Option (List ℕ)) (es fs : List Entry) (t : State) (x : Prints l a es t k b) where
   -- those of the later events, in the words of the first
-  later : text_of (lines_from l.window l.number l.tracer es) ++ text_of (lines_from k.window k.number k.tracer fs)
-      ≡ text_of (lines_from l.window l.number l.tracer (es ++ fs))
+  later : text_of (lines_from l.filter l.number l.tracer es) ++ text_of (lines_from k.filter k.number k.tracer fs)
+      ≡ text_of (lines_from l.filter l.number l.tracer (es ++ fs))
   later =
-      ap (λ text. text_of (lines_from l.window l.number l.tracer es) ++ text)
-      (λ i. text_of (lines_from (x.window_is i) (x.number_is i) (x.tracer_is i) fs))
-      ∙ sym (text_on l.window l.number l.tracer t es fs x.leads)
+      ap (λ text. text_of (lines_from l.filter l.number l.tracer es) ++ text)
+      (λ i. text_of (lines_from (x.filter_is i) (x.number_is i) (x.tracer_is i) fs))
+      ∙ sym (text_on l.filter l.number l.tracer t es fs x.leads)
 
   leads_then : (u : State) → Leads k.tracer fs u → Leads l.tracer (es ++ fs) u
   leads_then u h = leads_on es fs l.tracer t u x.leads (subst (λ v. Leads v fs u) x.tracer_is h)
 
   pub prints_on : (j : Lines) (u : State) → Prints k b fs u j c → Prints l a (es ++ fs) u j c
   prints_on j u y = record {
-    window_is = y.window_is ∙ x.window_is;
+    filter_is = y.filter_is ∙ x.filter_is;
     number_is =
         let first = x.number_is in let second = y.number_is in omega (arith, first, second, length-append es fs);
     tracer_is = y.tracer_is;

@@ -7,8 +7,8 @@ use Rattle.m161_machine.specs.declared.event.Refusal.{Refusal}
 use Rattle.m161_machine.specs.State.{State}
 use Rattle.m161_machine.specs.History.{Leads, entry, events_of}
 use Rattle.s161_base.specs.declared.fault.Fault.{Fault}
-use Rattle.s161_run.specs.declared.events.Stop.{Stop}
-use Rattle.s161_run.specs.declared.events.Stop.TheVariants.{End, Refused}
+use Rattle.s161_run.specs.declared.events.RunStop.{RunStop}
+use Rattle.s161_run.specs.declared.events.RunStop.TheVariants.{End, Refused}
 use Rattle.s161_run.specs.Runs.{StopsAfter, stop_off}
 use Rattle.s161_run.specs.helpers.Events.{EndsAfter}
 use Rattle.s161_run.proofs.Making.{at_most_all, run_passed, run_refused, run_within, stopped_off, switched}
@@ -111,7 +111,7 @@ module _ (s : State) (l : Lines) (a : Option (List ℕ)) (step : l.tracer ≡ s)
   first_of es made long are = are ∙ ap (λ n. take n events) (sym long)
 
   -- no event more
-  stops_here : (made : ℕ) (t : State) (k : Lines) (b : Option (List ℕ)) (so_far : Made l a events made t k b) (stop : Stop) →
+  stops_here : (made : ℕ) (t : State) (k : Lines) (b : Option (List ℕ)) (so_far : Made l a events made t k b) (stop : RunStop) →
       StopsAfter s events (length so_far.entries) stop t → PrintsSchedule s l a events stop t k b
   stops_here made t k b so_far stop why = record {
     entries = so_far.entries;

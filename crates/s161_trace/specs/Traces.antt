@@ -28,7 +28,7 @@ use Rattle.s161_command.specs.declared.task.RunTask.{RunTask}
 use Rattle.s161_command.specs.declared.task.Shown.TheVariants.{Summary}
 use Rattle.s161_command.specs.declared.task.TraceTask.{TraceTask}
 use Rattle.s161_run.specs.Driven.{AreKeys, IsDrivenFault, rules_of, stop_of}
-use Rattle.s161_run.specs.declared.events.Stop.{Stop}
+use Rattle.s161_run.specs.declared.events.RunStop.{RunStop}
 use Rattle.s161_run.specs.Runs.{IsFaultOf, MakesEvents, stop_line}
 
 -- A line for each event of a run, and last why the run stopped.
@@ -67,7 +67,7 @@ abbrev pub lines_text : TraceTask → List ℕ → State → List Entry → List
 lines_text task file s entries = text_of (shown_lines task file s entries)
 
 -- all that is printed of a run that stopped
-abbrev pub trace_text : TraceTask → List ℕ → State → List Entry → Stop → List ℕ
+abbrev pub trace_text : TraceTask → List ℕ → State → List Entry → RunStop → List ℕ
 trace_text task file s entries stop =
     lines_text task file s entries ++ with_line_end (stop_line stop)
 
@@ -75,7 +75,7 @@ trace_text task file s entries stop =
 -- made before the machine is off or one is refused. These are their entries, and they lead to
 -- another state
 pub record RunsSchedule
-    (input : Option (List ℕ)) (s : State) (entries : List Entry) (stop : Stop) (t : State)
+    (input : Option (List ℕ)) (s : State) (entries : List Entry) (stop : RunStop) (t : State)
     : Type 0 where
   pub scheduled : List Event
   pub is_schedule : OfText input (λ text. IsSchedule (lines_of text) scheduled)
@@ -84,7 +84,7 @@ pub record RunsSchedule
 -- from a state the events that a policy chooses, with the keys of a file, are made
 pub record RunsDriven
     (options : Drive) (files : List ℕ → Option (List ℕ)) (s : State) (entries : List Entry)
-    (stop : Stop) (t : State) : Type 0 where
+    (stop : RunStop) (t : State) : Type 0 where
   pub keys : List ℕ
   pub are_keys : AreKeys options.keys files keys
   pub driven : Driven
@@ -93,7 +93,7 @@ pub record RunsDriven
 
 -- a whole run: without a drive by the schedule that the input holds
 abbrev pub Runs :
-    Option Drive → (List ℕ → Option (List ℕ)) → Option (List ℕ) → State → List Entry → Stop →
+    Option Drive → (List ℕ → Option (List ℕ)) → Option (List ℕ) → State → List Entry → RunStop →
     State → Type 0
 Runs None files input s entries stop t = RunsSchedule input s entries stop t
 Runs (Some drive) files input s entries stop t = RunsDriven drive files s entries stop t
@@ -139,7 +139,7 @@ IsUnread (Some drive) x = x.left ≡ x.input
 -- a finished task, and why its run stopped
 pub record IsTraced
     (task : TraceTask) (files : List ℕ → Option (List ℕ)) (known : Option (List ℕ)) (x : Streams)
-    (stop : Stop) : Type 0 where
+    (stop : RunStop) : Type 0 where
   pub booted : State
   pub boots : BootsFor task known booted
   pub entries : List Entry
@@ -174,7 +174,7 @@ pub record FailsInRun
   pub some_written :
       (Begins task.drive files x.input booted entries state
       × AppendsSome x.before x.after (lines_text task boots.file booted entries))
-      ⊎ ((stop : Stop) × Runs task.drive files x.input booted entries stop state
+      ⊎ ((stop : RunStop) × Runs task.drive files x.input booted entries stop state
       × AppendsSome x.before x.after (trace_text task boots.file booted entries stop))
 
 -- a fault that ends the task: before the run, and nothing was written; or in the run

@@ -6,14 +6,14 @@ ghost use Rattle.s161_run.specs.Driven.{rules_of};
 ghost use Rattle.s161_trace.specs.helpers.Driven.{DrivesAll, DrivesSome, FailsInDrive, FailsOnce, PrintsDrive, Turn};
 ghost use Rattle.s161_trace.specs.helpers.Printing.{FailsToPrintAll, PrintsAll};
 
+use crate::filter::LineFilter;
 use crate::lines::Lines;
-use crate::window::Window;
 use m161::Machine;
 use m161_drive::{Cursor, Driven, Policy, Stop};
 use s161_base::fault::Fault;
 use s161_command::Drive;
 use s161_run::driven::stop_of;
-use s161_run::events::Stop as Told;
+use s161_run::events::RunStop as Told;
 use std::alloc::Global;
 use std::io::Write;
 
@@ -113,19 +113,19 @@ pub(crate) fn print_drive<'a, O: Write>(
     machine: &mut Machine,
     options: Drive<'_>,
     keys: &[u8],
-    window: Window,
+    filter: LineFilter,
     output: &mut O,
 ) -> Result<Told, Fault<'a>>
     requires { order_fault options.order ≡ None }
-    ensures ok { IfOk result (PrintsAll window machine.old.state
+    ensures ok { IfOk result (PrintsAll filter machine.old.state
         (DrivesAll (rules_of options.entry keys.now) options.entry.events) machine.new.state
         (O.contents output.old) (O.contents output.new)) }
-    ensures err { IfErr result (FailsToPrintAll window machine.old.state
+    ensures err { IfErr result (FailsToPrintAll filter machine.old.state
         (DrivesSome (rules_of options.entry keys.now) options.entry.events)
         (DrivesAll (rules_of options.entry keys.now) options.entry.events) machine.new.state
         (O.contents output.old) (O.contents output.new)) }
 {
-    let mut lines = Lines::new(alloc, machine, window)?;
+    let mut lines = Lines::new(alloc, machine, filter)?;
     let driven = trace_drive(machine, options, keys, &mut lines, output)?;
     let stop = stop_of(driven, machine.core());
     lines.finish(alloc, stop, output)?;

@@ -3,7 +3,7 @@
 #![tactic(auto)]
 
 mod driven;
+mod filter;
 mod lines;
 mod scheduled;
 pub mod trace;
-mod window;

@@ -10,13 +10,13 @@ ghost use Rattle.s161_run.specs.Runs.{stop_line};
 ghost use Rattle.m161_cpu.specs.declared.processor.Outcome.{Outcome};
 ghost use Rattle.s161_trace.specs.helpers.Printing.{FailsToPrint, FailsToPut, IsNew, Prints, PutsOut, has_line};
 
-use crate::window::Window;
+use crate::filter::LineFilter;
 use m161::{Console, Machine, Tlb};
 use m161_machine::{Event, Outcome};
 use m161_trace::Tracer;
 use s161_base::fault::Fault;
 use s161_base::streams::send;
-use s161_run::events::Stop;
+use s161_run::events::RunStop;
 use std::alloc::{AllocError, Global};
 use std::io::Write;
 
@@ -26,7 +26,7 @@ const MOST: usize = 65_536;
 /// The lines of a run so far, and the state in which its next event is made.
 #[derive(Drop)]
 pub(crate) struct Lines {
-    window: Window,
+    filter: LineFilter,
     // The number of the next event.
     number: u64,
     tracer: Tracer<Tlb, Console>,
@@ -77,7 +77,7 @@ fn keep<'a, O: Write>(piece: &mut String, line: &str, output: &mut O) -> Result<
 }
 
 // The last line: why a run stopped.
-fn stop_text(alloc: Global, stop: Stop) -> Result<String, AllocError>
+fn stop_text(alloc: Global, stop: RunStop) -> Result<String, AllocError>
     ensures { IfOk result (λ text. string_bytes text ≡ with_line_end (stop_line stop)) }
 {
     format!(in alloc; "{stop}\n")
@@ -86,11 +86,15 @@ fn stop_text(alloc: Global, stop: Stop) -> Result<String, AllocError>
 impl Lines {
     /// No lines yet, of a run from the machine's state on.
     #[inline(never)]
-    pub(crate) fn new(alloc: Global, machine: &Machine, window: Window) -> Result<Lines, AllocError>
-        ensures { IfOk result (IsNew window machine.now.state) }
+    pub(crate) fn new(
+        alloc: Global,
+        machine: &Machine,
+        filter: LineFilter,
+    ) -> Result<Lines, AllocError>
+        ensures { IfOk result (IsNew filter machine.now.state) }
     {
         Ok(Lines {
-            window,
+            filter,
             number: 0,
             tracer: Tracer::new(alloc, machine.core().copy(alloc)?),
             line: String::new(alloc),
@@ -104,7 +108,7 @@ impl Lines {
         ensures made { OnOk result ((o : Outcome) (t : State)
             → next self.old.tracer event ≡ Ok (o, t) → self.new.tracer ≡ t) }
         ensures number { OnOk result (self.new.number ≡ self.old.number + 1) }
-        ensures window { self.new.window ≡ self.old.window }
+        ensures filter { self.new.filter ≡ self.old.filter }
         ensures piece { string_bytes self.new.piece ≡ string_bytes self.old.piece }
     {
         match self.tracer.pass(event) {
@@ -121,16 +125,16 @@ impl Lines {
         requires accepted { next self.old.tracer event ≡ Ok (outcome, machine.now.state) }
         requires few { self.old.number < 2 ^ 64 - 1 }
         ensures line { OnOk result (string_bytes self.new.line ≡ with_line_end
-            (event_line self.old.window.style self.old.number event self.old.tracer outcome
+            (event_line self.old.filter.style self.old.number event self.old.tracer outcome
             machine.now.state)) }
         ensures tracer { OnOk result (self.new.tracer ≡ machine.now.state) }
         ensures number { OnOk result (self.new.number ≡ self.old.number + 1) }
-        ensures window { self.new.window ≡ self.old.window }
+        ensures filter { self.new.filter ≡ self.old.filter }
         ensures piece { string_bytes self.new.piece ≡ string_bytes self.old.piece }
     {
         self.line.clear();
         let number = self.number;
-        let style = &self.window.style;
+        let style = &self.filter.style;
         self.tracer
             .line(machine, event, outcome, number, style, &mut self.line)?;
         self.number += 1;
@@ -145,7 +149,7 @@ impl Lines {
             (string_bytes self.old.piece) (string_bytes self.old.line) (O.contents output.new)) }
         ensures tracer { self.new.tracer ≡ self.old.tracer }
         ensures number { self.new.number ≡ self.old.number }
-        ensures window { self.new.window ≡ self.old.window }
+        ensures filter { self.new.filter ≡ self.old.filter }
     {
         keep(&mut self.piece, self.line.as_str(), output)
     }
@@ -158,7 +162,7 @@ impl Lines {
         outcome: Outcome,
         output: &mut O,
     ) -> Result<(), Fault<'a>>
-        requires has { has_line self.old.window self.old.number ≡ true }
+        requires has { has_line self.old.filter self.old.number ≡ true }
         requires accepted { next self.old.tracer event ≡ Ok (outcome, machine.now.state) }
         requires few { self.old.number < 2 ^ 64 - 1 }
         ensures ok { OnOk result (Prints self.old (O.contents output.old)
@@ -186,7 +190,7 @@ impl Lines {
         ensures err { IfErr result (FailsToPrint self.old (O.contents output.old)
             (entry event outcome ∷ []) machine.now.state (O.contents output.new)) }
     {
-        if self.window.has(self.number) {
+        if self.filter.has(self.number) {
             return self.add_line(machine, event, outcome, output);
         }
         self.pass(event)?;
@@ -197,7 +201,7 @@ impl Lines {
     pub(crate) fn finish<'a, O: Write>(
         &mut self,
         alloc: Global,
-        stop: Stop,
+        stop: RunStop,
         output: &mut O,
     ) -> Result<(), Fault<'a>>
         ensures ok { OnOk result (Appends (O.contents output.old) (O.contents output.new)

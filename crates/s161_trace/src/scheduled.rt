@@ -4,12 +4,12 @@ ghost use Rattle.std.specs.Prelude.{◌≡◌, ◌<◌, ◌+◌, ◌-◌, ◌^�
 ghost use Rattle.s161_trace.specs.helpers.Printing.{FailsToPrintAll, PrintsAll};
 ghost use Rattle.s161_trace.specs.helpers.Scheduled.{FailsAlike, FailsInSchedule, FailsOnce, MakesAll, MakesSome, PrintsSchedule, Turn, TurnsAlike};
 
+use crate::filter::LineFilter;
 use crate::lines::Lines;
-use crate::window::Window;
 use m161::Machine;
 use m161_machine::{Event, Events, Refusal};
 use s161_base::fault::Fault;
-use s161_run::events::{Stop, stop_off};
+use s161_run::events::{RunStop, stop_off};
 use std::alloc::Global;
 use std::io::Write;
 
@@ -67,7 +67,7 @@ fn trace_events<'a, O: Write>(
     events: &Events,
     lines: &mut Lines,
     output: &mut O,
-) -> Result<Stop, Fault<'a>>
+) -> Result<RunStop, Fault<'a>>
     requires step { lines.old.tracer ≡ machine.old.state }
     requires first { lines.old.number ≡ 0 }
     ensures ok { IfOk result (λ stop. PrintsSchedule machine.old.state lines.old
@@ -86,10 +86,10 @@ fn trace_events<'a, O: Write>(
             return Ok(stop_off(machine.conflict()));
         }
         if let Some(refusal) = alike.1 {
-            return Ok(Stop::Refused(made, refusal));
+            return Ok(RunStop::Refused(made, refusal));
         }
     }
-    Ok(Stop::End)
+    Ok(RunStop::End)
 }
 
 /// Makes events in order, until one switches the machine off or is refused, and prints the lines
@@ -101,15 +101,15 @@ pub(crate) fn print_schedule<'a, O: Write>(
     alloc: Global,
     machine: &mut Machine,
     events: &Events,
-    window: Window,
+    filter: LineFilter,
     output: &mut O,
-) -> Result<Stop, Fault<'a>>
-    ensures ok { IfOk result (PrintsAll window machine.old.state (MakesAll events.now)
+) -> Result<RunStop, Fault<'a>>
+    ensures ok { IfOk result (PrintsAll filter machine.old.state (MakesAll events.now)
         machine.new.state (O.contents output.old) (O.contents output.new)) }
-    ensures err { IfErr result (FailsToPrintAll window machine.old.state (MakesSome events.now)
+    ensures err { IfErr result (FailsToPrintAll filter machine.old.state (MakesSome events.now)
         (MakesAll events.now) machine.new.state (O.contents output.old) (O.contents output.new)) }
 {
-    let mut lines = Lines::new(alloc, machine, window)?;
+    let mut lines = Lines::new(alloc, machine, filter)?;
     let stop = trace_events(machine, events, &mut lines, output)?;
     lines.finish(alloc, stop, output)?;
     Ok(stop)

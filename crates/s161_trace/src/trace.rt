@@ -16,8 +16,8 @@ ghost use Rattle.s161_trace.specs.helpers.Driven.{DrivesAll, DrivesSome};
 ghost use Rattle.s161_trace.specs.helpers.Scheduled.{MakesAll, MakesSome};
 
 use crate::driven::print_drive;
+use crate::filter::LineFilter;
 use crate::scheduled::print_schedule;
-use crate::window::Window;
 use m161::Machine;
 use m161_machine::Events;
 use s161_base::fault::Fault;
@@ -27,7 +27,7 @@ use s161_base::sample::read_image;
 use s161_base::sizes::conf_of;
 use s161_base::texts::events_of;
 use s161_command::{Drive, TraceTask};
-use s161_run::events::Stop;
+use s161_run::events::RunStop;
 use s161_run::policy::read_keys;
 use std::alloc::Global;
 use std::io::{Read, Write};
@@ -47,7 +47,7 @@ pub fn trace<'a, F: FileSource, I: Read, O: Write>(
     input: &mut I,
     output: &mut O,
     task: TraceTask<'a>,
-) -> Result<Stop, Fault<'a>>
+) -> Result<RunStop, Fault<'a>>
     requires { IfSome task.drive (λ drive. order_fault drive.order ≡ None) }
     ensures ok { IfOk result (IsTraced task.entry (F.known files.old)
         (image_file (F.known files.old) task.entry.image.now)
@@ -102,15 +102,15 @@ fn run_schedule<'a, O: Write>(
     file: &[u8],
     events: &Events,
     output: &mut O,
-) -> Result<Stop, Fault<'a>>
+) -> Result<RunStop, Fault<'a>>
     ensures ok { IfOk result (PrintsRun task.now file.now (MakesAll events.now)
         (O.contents output.old) (O.contents output.new)) }
     ensures err { IfErr result (FailsRun task.now file.now (MakesSome events.now)
         (MakesAll events.now) (O.contents output.old) (O.contents output.new)) }
 {
     let mut machine = Machine::boot(alloc, file, conf_of(task.size))?;
-    let window = Window::of(alloc, task, file)?;
-    print_schedule(alloc, &mut machine, events, window, output)
+    let filter = LineFilter::of(alloc, task, file)?;
+    print_schedule(alloc, &mut machine, events, filter, output)
 }
 
 // Prints the lines of a run by a schedule.
@@ -120,7 +120,7 @@ fn trace_schedule<'a, F: FileSource, I: Read, O: Write>(
     input: &mut I,
     output: &mut O,
     task: TraceTask<'a>,
-) -> Result<Stop, Fault<'a>>
+) -> Result<RunStop, Fault<'a>>
     requires { task.drive ≡ None }
     ensures ok { IfOk result (IsTraced task.entry (F.known files.old)
         (image_file (F.known files.old) task.entry.image.now)
@@ -168,7 +168,7 @@ fn run_drive<'a, O: Write>(
     file: &[u8],
     keys: &[u8],
     output: &mut O,
-) -> Result<Stop, Fault<'a>>
+) -> Result<RunStop, Fault<'a>>
     requires { order_fault options.order ≡ None }
     ensures ok { IfOk result (PrintsRun task.now file.now
         (DrivesAll (rules_of options.entry keys.now) options.entry.events)
@@ -179,8 +179,8 @@ fn run_drive<'a, O: Write>(
         (O.contents output.old) (O.contents output.new)) }
 {
     let mut machine = Machine::boot(alloc, file, conf_of(task.size))?;
-    let window = Window::of(alloc, task, file)?;
-    print_drive(alloc, &mut machine, options, keys, window, output)
+    let filter = LineFilter::of(alloc, task, file)?;
+    print_drive(alloc, &mut machine, options, keys, filter, output)
 }
 
 // Prints the lines of a driven run.
@@ -190,7 +190,7 @@ fn trace_driven<'a, F: FileSource, O: Write>(
     output: &mut O,
     task: TraceTask<'a>,
     options: Drive<'a>,
-) -> Result<Stop, Fault<'a>>
+) -> Result<RunStop, Fault<'a>>
     requires drive { task.drive ≡ Some options }
     requires limits { order_fault options.order ≡ None }
     ensures ok { IfOk result (λ stop. (input : Option (List ℕ)) → IsTraced task.entry

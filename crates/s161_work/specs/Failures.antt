@@ -20,7 +20,7 @@ use Rattle.s161_run.specs.Driven.{IsDrivenFault}
 use Rattle.s161_run.specs.Schedules.{IsScheduledFault}
 use Rattle.s161_run.specs.Replays.{IsReplayFault}
 use Rattle.s161_run.specs.Runs.{IsFaultOf, stop_line}
-use Rattle.s161_run.specs.declared.events.Stop.{Stop}
+use Rattle.s161_run.specs.declared.events.RunStop.{RunStop}
 use Rattle.s161_search.specs.Searches.{IsSearchFault}
 use Rattle.s161_run.specs.Threads.{IsThreadsFault}
 use Rattle.s161_trace.specs.Traces.{IsTraceFault}
@@ -70,7 +70,7 @@ Fails IsResult IsFault before after fault =
 
 -- why a kernel at the terminal stopped wasn't told: memory was refused; or standard error failed, which
 -- has some of it
-abbrev pub IsUntold : Stop → Option (List ℕ) → Option (List ℕ) → Fault → Type 0
+abbrev pub IsUntold : RunStop → Option (List ℕ) → Option (List ℕ) → Fault → Type 0
 IsUntold stop before after fault =
     ((fault ≡ Memory) × (after ≡ before))
     ⊎ ((fault ≡ Output) × AppendsSome before after (with_line_end (stop_line stop)))
@@ -83,7 +83,7 @@ FailsToServe task files before after fault =
     let known = image_file files task.image.now in
     let x = streams_of before after in
     (IsConsoleFault task known x fault × (after.errors ≡ before.errors))
-    ⊎ ((stop : Stop) × IsConsoleRun task known x stop
+    ⊎ ((stop : RunStop) × IsConsoleRun task known x stop
     × IsUntold stop before.errors after.errors fault)
 
 -- a traced run is ended by this fault, and nothing was written to standard error

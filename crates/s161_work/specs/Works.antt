@@ -22,7 +22,7 @@ use Rattle.s161_run.specs.Demos.{IsDemo}
 use Rattle.s161_texts.specs.Listings.{IsDisassembled}
 use Rattle.s161_run.specs.Replays.{IsReplayed, replay_files}
 use Rattle.s161_run.specs.Runs.{IsRun, status_of, stop_line}
-use Rattle.s161_run.specs.declared.events.Stop.{Stop}
+use Rattle.s161_run.specs.declared.events.RunStop.{RunStop}
 use Rattle.s161_search.specs.Given.{search_files}
 use Rattle.s161_search.specs.Searches.{IsSearched}
 use Rattle.s161_base.specs.Samples.{image_file}
@@ -111,7 +111,7 @@ IsResultOf (Disassemble task) files input =
 pub record IsServed
     (task : ConsoleTask) (files : Text → Option (List ℕ)) (before after : Standard) (status : ℕ)
     : Type 0 where
-  pub stop : Stop
+  pub stop : RunStop
   pub ran : IsConsoleRun task (image_file files task.image.now)
       (streams before.input after.input before.output after.output) stop
   pub is_told : Appends before.errors after.errors (with_line_end (stop_line stop))
@@ -125,7 +125,7 @@ streams_of before after = streams before.input after.input before.output after.o
 pub record IsTracedOut
     (task : TraceTask) (files : Text → Option (List ℕ)) (before after : Standard) (status : ℕ)
     : Type 0 where
-  pub stop : Stop
+  pub stop : RunStop
   pub traced :
       IsTraced task files (image_file files task.image.now) (streams_of before after) stop
   pub is_silent : after.errors ≡ before.errors

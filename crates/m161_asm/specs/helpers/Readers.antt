@@ -10,7 +10,7 @@ use Rattle.m161_asm.specs.declared.statement.ReadError.TheVariants as errors
 use Rattle.m161_asm.specs.declared.statement.Directive.{Directive as CodeDirective}
 use Rattle.m161_asm.specs.declared.statement.Directive.TheVariants as directive
 use Rattle.m161_asm.specs.Tokens.{Placed, Name, Directive, Register, Number, Mark}
-use Rattle.m161_asm.specs.Lines.{◌>>=◌, Fault, Parsed, Whole, Value, Part, Field, BranchTo, JumpTo, target, is_within, bits_of_whole, Statement, wrong, next_column, mark, register, negative_number, positive_number, whole, addend, multiple, value, end_of_line, origin_statement, space_statement, entry_statement, words_statement, unknown, instruction}
+use Rattle.m161_asm.specs.Lines.{◌>>=◌, SourceFault, Parsed, Whole, Value, Part, Field, BranchTo, JumpTo, target, is_within, bits_of_whole, Statement, wrong, next_column, mark, register, negative_number, positive_number, whole, addend, multiple, value, end_of_line, origin_statement, space_statement, entry_statement, words_statement, unknown, instruction}
 use Rattle.m161_asm.specs.helpers.Seen.{fault_seen}
 
 -- The token at the front, by its kind.
@@ -39,7 +39,7 @@ directive_at ts = None
 -- Readers.
 
 -- the fault that the next number is outside its range
-abbrev pub out_of_range : {A : Type 0} → ℕ → List Placed → Result A Fault
+abbrev pub out_of_range : {A : Type 0} → ℕ → List Placed → Result A SourceFault
 out_of_range past ts = Err (faults.OutOfRange, next_column past ts)
 
 -- the whole number of a number behind a minus, or behind none
@@ -105,19 +105,19 @@ target_of reach.Branch past ts = target BranchTo past ts
 target_of reach.Jump past ts = target JumpTo past ts
 
 -- the last number of a line, a multiple of 4
-abbrev pub last_multiple : ℕ → List Placed → Result ℕ Fault
+abbrev pub last_multiple : ℕ → List Placed → Result ℕ SourceFault
 last_multiple past ts = do
   n ← multiple past ts
   end_of_line n.0 past n.1
 
 -- the last value of a line
-abbrev pub last_value : ℕ → List Placed → Result Value Fault
+abbrev pub last_value : ℕ → List Placed → Result Value SourceFault
 last_value past ts = do
   v ← value past ts
   end_of_line v.0 past v.1
 
 -- the statement of a directive, by the directive
-abbrev pub by_directive : CodeDirective → ℕ → ℕ → List Placed → Result Statement Fault
+abbrev pub by_directive : CodeDirective → ℕ → ℕ → List Placed → Result Statement SourceFault
 by_directive directive.Origin column past ts = origin_statement past ts
 by_directive directive.Space column past ts = space_statement past ts
 by_directive directive.Entry column past ts = entry_statement past ts
@@ -125,7 +125,7 @@ by_directive directive.Words column past ts = words_statement past ts
 by_directive directive.Unknown column past ts = unknown column
 
 -- the operands of a row
-abbrev pub code_statement : Row → ℕ → List Placed → Result Statement Fault
+abbrev pub code_statement : Row → ℕ → List Placed → Result Statement SourceFault
 code_statement r past ts = instruction (Some r) 0 past ts
 
 -- the name of a line's label, before a colon (58)

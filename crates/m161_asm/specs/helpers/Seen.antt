@@ -2,7 +2,7 @@ use Rattle.m161_asm.specs.declared.error.AsmError.{AsmError}
 use Rattle.m161_asm.specs.declared.error.ErrorKind.TheVariants as faults
 use Rattle.std.specs.Prelude.{◌≡◌, ◌⊎◌, ℕ, List, map, Option, option_map, ◌++◌, Result, Ok, Err, reverse}
 use Rattle.std.proofs.Common.{Bor}
-use Rattle.m161_asm.specs.declared.statement.Fault.{Fault as CodeFault}
+use Rattle.m161_asm.specs.declared.statement.SourceFault.{SourceFault as CodeFault}
 use Rattle.m161_asm.specs.declared.statement.Whole.{Whole as CodeWhole}
 use Rattle.m161_asm.specs.declared.statement.Value.{Value as CodeValue}
 use Rattle.m161_asm.specs.declared.statement.Part.{Part as CodePart}
@@ -14,7 +14,7 @@ use Rattle.m161_asm.specs.declared.statement.Statement.{Statement as CodeStateme
 use Rattle.m161_asm.specs.declared.statement.Statement.TheVariants as statement
 use Rattle.m161_asm.specs.declared.statement.Label.{Label as CodeLabel}
 use Rattle.m161_asm.specs.declared.statement.Line.{Line as CodeLine}
-use Rattle.m161_asm.specs.Lines.{◌>>=◌, Fault, Whole, Value, Part, Field, BranchTo, JumpTo, Statement, Origin, Space, Entry, Words, Code, Label, SourceLine}
+use Rattle.m161_asm.specs.Lines.{◌>>=◌, SourceFault, Whole, Value, Part, Field, BranchTo, JumpTo, Statement, Origin, Space, Entry, Words, Code, Label, SourceLine}
 use Rattle.m161_asm.specs.Lines as lines
 use Rattle.m161_asm.specs.declared.token.Token.{Token as CodeToken}
 use Rattle.m161_asm.specs.declared.token.Token.TheVariants as code
@@ -53,11 +53,11 @@ beginning_seen begin.NoToken = NoToken
 
 -- A value that was read, and the tokens after it.
 
-abbrev pub fault_seen : CodeFault → Fault
+abbrev pub fault_seen : CodeFault → SourceFault
 fault_seen f = (f.kind, f.column)
 
 -- a reader's result, seen by `view`, is that of the definition
-abbrev pub Gives : {X Y : Type 0} → (X → Y) → Result X CodeFault → Result Y Fault → Type 0
+abbrev pub Gives : {X Y : Type 0} → (X → Y) → Result X CodeFault → Result Y SourceFault → Type 0
 Gives view (Ok x) read = read ≡ Ok (view x)
 Gives view (Err f) read = read ≡ Err (fault_seen f)
 
@@ -92,18 +92,18 @@ abbrev pub part_read : CodePart × Bor (List CodePlaced) → Part × List Placed
 part_read x = (part_seen x.0, all_seen x.1.now)
 
 -- the values that are read, after those that exist already
-abbrev pub with_front : {Y : Type 0} → List Y → Result (List Y) Fault → Result (List Y) Fault
+abbrev pub with_front : {Y : Type 0} → List Y → Result (List Y) SourceFault → Result (List Y) SourceFault
 with_front front read = read >>= λ ys. Ok (front ++ ys)
 
 -- a reader that adds its values to a list, unless memory is refused
 abbrev pub Adds : {X Y : Type 0} → (X → Y) → Result (Unit {0}) ReadError → List X → List X
-    → Result (List Y) Fault → Type 0
+    → Result (List Y) SourceFault → Type 0
 Adds view (Ok u) old new read = with_front (map view old) read ≡ Ok (map view new)
 Adds view (Err errors.Memory) old new read = Unit {0}
 Adds view (Err (errors.Fault f)) old new read = with_front (map view old) read ≡ Err (fault_seen f)
 
 -- the same of a reader that makes a new list
-abbrev pub Yields : {X Y : Type 0} → (X → Y) → Result X ReadError → Result Y Fault → Type 0
+abbrev pub Yields : {X Y : Type 0} → (X → Y) → Result X ReadError → Result Y SourceFault → Type 0
 Yields view (Ok x) read = read ≡ Ok (view x)
 Yields view (Err errors.Memory) read = Unit {0}
 Yields view (Err (errors.Fault f)) read = read ≡ Err (fault_seen f)
@@ -138,20 +138,20 @@ above_of ls = reverse (map line_seen ls)
 -- Errors.
 
 -- an error of a line: memory was refused, or the line's fault
-abbrev pub IsTold : AsmError → ℕ → ReadError → Type 0
-IsTold e line errors.Memory = (e.kind ≡ faults.NoMemory) × (e.column ≡ 1)
-IsTold e line (errors.Fault f) = (e.line ≡ line) × (e.column ≡ f.column) × (e.kind ≡ f.kind)
+abbrev pub TellsFault : AsmError → ℕ → ReadError → Type 0
+TellsFault e line errors.Memory = (e.kind ≡ faults.NoMemory) × (e.column ≡ 1)
+TellsFault e line (errors.Fault f) = (e.line ≡ line) × (e.column ≡ f.column) × (e.kind ≡ f.kind)
 
 -- one line further the definition is the same, or the error is reported
-abbrev pub GoesOn : {Y : Type 0} → Result (Unit {0}) AsmError → Result Y (ℕ × Fault)
-    → Result Y (ℕ × Fault) → Type 0
+abbrev pub GoesOn : {Y : Type 0} → Result (Unit {0}) AsmError → Result Y (ℕ × SourceFault)
+    → Result Y (ℕ × SourceFault) → Type 0
 GoesOn (Ok u) before after = before ≡ after
 GoesOn (Err e) before after =
     ((e.kind ≡ faults.NoMemory) × (e.column ≡ 1)) ⊎ (before ≡ Err (e.line, (e.kind, e.column)))
 
 -- a reader of numbers that adds them to a list
 abbrev pub AddsNumbers :
-    Result (Unit {0}) ReadError → List ℕ → List ℕ → Result (List ℕ) Fault → Type 0
+    Result (Unit {0}) ReadError → List ℕ → List ℕ → Result (List ℕ) SourceFault → Type 0
 AddsNumbers (Ok u) old new read = with_front old read ≡ Ok new
 AddsNumbers (Err errors.Memory) old new read = Unit {0}
 AddsNumbers (Err (errors.Fault f)) old new read = read ≡ Err (fault_seen f)

@@ -10,9 +10,9 @@ use Rattle.m161_tlb.specs.declared.row.Row.{Row as TlbRow}
 use Rattle.m161_cpu.specs.Processor.{Processor, with_row}
 use Rattle.m161_cpu.specs.Links.{Keep}
 use Rattle.m161_cpu.specs.Scene.{Around, Scene, Change, scene, result_map, processor_after, around_after}
-use Rattle.m161_cpu.specs.declared.fault.Fault.{Fault}
-use Rattle.m161_cpu.specs.declared.fault.Stop.{Stop}
-use Rattle.m161_cpu.specs.declared.fault.Stop.TheVariants as stop
+use Rattle.m161_cpu.specs.declared.fault.StepFault.{StepFault}
+use Rattle.m161_cpu.specs.declared.fault.StepEnd.{StepEnd}
+use Rattle.m161_cpu.specs.declared.fault.StepEnd.TheVariants as stop
 use Rattle.m161_cpu.specs.Fault.{fault}
 use Rattle.m161_cpu.specs.Effect.{write}
 use Rattle.m161_cpu.specs.Step.{Stepped, AreTwoRows, change_of_row, conflict_of, misfit_kind, running_step, switches_off}
@@ -30,16 +30,16 @@ abbrev pub unit_in : Instr → Option Coprocessor
 unit_in (Absent unit) = Some unit
 unit_in _ = None
 
-abbrev pub change_by_some : Scene → Instr → Option Row → Result Change Fault
+abbrev pub change_by_some : Scene → Instr → Option Row → Result Change StepFault
 change_by_some s i (Some r) = change_of_row s r (numbers_of_instr i)
 change_by_some s i None = Err (fault (misfit_kind (unit_in i)))
 
 -- what an instruction changes: what its row does with the numbers of its operands
-unfoldable pub change_by : Scene → Instr → Result Change Fault
+unfoldable pub change_by : Scene → Instr → Result Change StepFault
 change_by s i = change_by_some s i (row_of_instr i)
 
 -- a word was read, of RAM or of the slots, which leaves a board; or this is why not
-abbrev pub FindsWord : Result (ℕ × BoardState) Fault → BoardState → Result ℕ Fault → BoardState
+abbrev pub FindsWord : Result (ℕ × BoardState) StepFault → BoardState → Result ℕ StepFault → BoardState
     → Type 0
 FindsWord r board (Ok word) left = r ≡ Ok (word, left)
 FindsWord r board (Err f) left = (r ≡ Err f) × (left ≡ board)
@@ -52,7 +52,7 @@ pub record IsAfter (p : Processor) (a : Around) (after : Scene) : Type 0 where
   pub links_are : after.around.links ≡ a.links
 
 -- a change was made, without a conflict; or this is why not, and nothing is changed
-abbrev pub Executes : Result Change Fault → Scene → Result Unit Fault → Scene → Type 0
+abbrev pub Executes : Result Change StepFault → Scene → Result Unit StepFault → Scene → Type 0
 Executes (Ok c) before (Ok done) after =
     (conflict_of before c ≡ None)
     × IsAfter (processor_after c before.processor) (around_after c before.around) after
@@ -62,7 +62,7 @@ Executes (Err f) before (Err g) after =
     (g ≡ f) × IsAfter before.processor before.around after
 
 -- the same of a change that may be of a row, which may be a conflict: then the row stays
-abbrev pub Settles : Result Change Fault → Scene → Result Unit Stop → Scene → Type 0
+abbrev pub Settles : Result Change StepFault → Scene → Result Unit StepEnd → Scene → Type 0
 Settles (Ok c) before (Ok done) after =
     (conflict_of before c ≡ None)
     × IsAfter (processor_after c before.processor) (around_after c before.around) after
@@ -79,7 +79,7 @@ Settles (Err f) before (Err (stop.Fault g)) after =
     (g ≡ f) × IsAfter before.processor before.around after
 
 -- the same of a change that may switch the board off, which is told
-abbrev pub Performs : Result Change Fault → Scene → Result Unit Stop → Scene → Type 0
+abbrev pub Performs : Result Change StepFault → Scene → Result Unit StepEnd → Scene → Type 0
 Performs (Ok c) before (Ok done) after =
     (conflict_of before c ≡ None)
     × IsAfter (processor_after c before.processor) (around_after c before.around) after
@@ -100,7 +100,7 @@ Performs (Err f) before (Err (stop.Fault g)) after =
     (g ≡ f) × IsAfter before.processor before.around after
 
 -- a row is written; or it isn't, where that is a conflict
-abbrev pub WritesRow : Option (ℕ × ℕ) → ℕ → TlbRow → Processor → Result Unit Stop → Processor
+abbrev pub WritesRow : Option (ℕ × ℕ) → ℕ → TlbRow → Processor → Result Unit StepEnd → Processor
     → Type 0
 WritesRow None i row before result after = (result ≡ Ok tt) × (after ≡ with_row i row before)
 WritesRow (Some conflict) i row before result after =
@@ -108,19 +108,19 @@ WritesRow (Some conflict) i row before result after =
     × (after ≡ before)
 
 -- an instruction was executed that changes only the processor
-abbrev pub ExecutesInProcessor : Instr → Processor → Result Unit Fault → Processor → Type 0
+abbrev pub ExecutesInProcessor : Instr → Processor → Result Unit StepFault → Processor → Type 0
 ExecutesInProcessor i before result after =
     (a : Around) → Executes (change_by (scene before a) i) (scene before a) result (scene after a)
 
 -- a row on the words s and t of two registers writes this value, if any, to a third
-abbrev pub Writes : (ℕ → ℕ → ℕ → Instr) → ℕ → ℕ → Result ℕ Fault → Type 0
+abbrev pub Writes : (ℕ → ℕ → ℕ → Instr) → ℕ → ℕ → Result ℕ StepFault → Type 0
 Writes instr s t value =
     (here : Scene) (d a b : ℕ) →
     slice_index here.processor.registers a ≡ s → slice_index here.processor.registers b ≡ t →
     change_by here (instr d a b) ≡ result_map (write d) value
 
 -- a row on the word s of one register writes this value, if any, to another
-abbrev pub WritesFrom : (ℕ → ℕ → Instr) → ℕ → Result ℕ Fault → Type 0
+abbrev pub WritesFrom : (ℕ → ℕ → Instr) → ℕ → Result ℕ StepFault → Type 0
 WritesFrom instr s value =
     (here : Scene) (d a : ℕ) →
     slice_index here.processor.registers a ≡ s →

@@ -7,7 +7,7 @@ use Rattle.m161_isa.specs.declared.instr.StoreOp.{StoreOp}
 use Rattle.m161_isa.specs.declared.instr.StoreOp.TheVariants as store
 use Rattle.m161_isa.specs.Instr.{row_of_instr, numbers_of_instr}
 use Rattle.m161_alu.specs.Word.{sign_extended_half}
-use Rattle.m161_cpu.specs.declared.fault.Fault.{Fault}
+use Rattle.m161_cpu.specs.declared.fault.StepFault.{StepFault}
 use Rattle.m161_cpu.specs.declared.uses.Via.{Via}
 use Rattle.m161_cpu.specs.declared.uses.Uses.{Uses}
 use Rattle.m161_cpu.specs.Processor.{Processor}
@@ -25,7 +25,7 @@ no_uses = record { fetch = None; access = None; stored = None }
 abbrev pub stores_only : Option ℕ → Uses
 stores_only stored = record { fetch = None; access = None; stored = stored }
 
-abbrev pub stored_of : Result Change Fault → Option ℕ
+abbrev pub stored_of : Result Change StepFault → Option ℕ
 stored_of (Ok change) = stored_by change.store
 stored_of (Err f) = None
 
@@ -37,7 +37,7 @@ uses_of_word s fetch word = record {
   stored = stored_of (change_in s word);
 }
 
-abbrev pub uses_after : Scene → Option Via → Result ℕ Fault → Uses
+abbrev pub uses_after : Scene → Option Via → Result ℕ StepFault → Uses
 uses_after s fetch (Ok word) = uses_of_word s fetch word
 uses_after s fetch (Err f) = record { fetch = fetch; access = None; stored = None }
 
@@ -48,9 +48,9 @@ uses_fetched s =
     (executable_word s.around.memory s.processor)
 
 -- a word that may be executed, or not
-abbrev pub IsWord : Result ℕ Fault → Option ℕ → Type 0
+abbrev pub IsWord : Result ℕ StepFault → Option ℕ → Type 0
 IsWord r (Some word) = r ≡ Ok word
-IsWord r None = (f : Fault) × (r ≡ Err f)
+IsWord r None = (f : StepFault) × (r ≡ Err f)
 
 -- the row of the fetch, and the word that it gives
 abbrev pub IsFetched : List ℕ → Processor → Option Via × Option ℕ → Type 0

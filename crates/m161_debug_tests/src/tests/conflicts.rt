@@ -3,7 +3,7 @@
 use super::same;
 use super::sessions::Act::Does;
 use super::sessions::{Act, Session, check, strict_session};
-use m161_debug::Stop;
+use m161_debug::StopReason;
 use m161_machine::Conflict;
 use m161_machine::Event::Step;
 use std::process::Abort;
@@ -63,7 +63,7 @@ fn check_conflict(rt: &impl Abort, session: &Session) {
 #[test]
 fn conflict_ends_a_run(rt: HostRuntime) -> Result<(), Fail> {
     let mut session = strict_session(rt.alloc(), CONFLICT)?;
-    same(&rt, session.go(&[Step(0); 20]), Stop::Conflict(14));
+    same(&rt, session.go(&[Step(0); 20]), StopReason::Conflict(14));
     check_conflict(&rt, &session);
     Ok(())
 }

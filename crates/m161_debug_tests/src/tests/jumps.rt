@@ -5,7 +5,7 @@ use super::sessions::Act::Does;
 use super::sessions::{
     Act, INPUTS, LOOP, SEND, Session, check, kernel_events, kernel_session, left_of, session,
 };
-use m161_debug::{Event, JumpError, Stop};
+use m161_debug::{Event, JumpError, StopReason};
 use m161_isa::Reg;
 use m161_machine::Event::{Done, Key, Step};
 use std::alloc::AllocGlobal;
@@ -15,9 +15,9 @@ use std::test::Fail;
 /// What is done to a session of `LOOP`.
 enum Move {
     /// Steps of processor 0, up to a stop.
-    Steps(u32, Stop),
+    Steps(u32, StopReason),
     /// Events, up to a stop.
-    Go(&'static [Event], Stop),
+    Go(&'static [Event], StopReason),
     /// It goes back to the state before this event; these events are undone.
     Jump(u64, &'static [Event]),
     /// It doesn't go there.
@@ -31,9 +31,9 @@ use Move::{Go, Jump, Place, Stays, Steps};
 /// To the end, the middle and the beginning of seven Steps, with a breakpoint of processor 0 at
 /// 80000208.
 static MOVES: [Move; 18] = [
-    Steps(2, Stop::End(2)),
-    Steps(5, Stop::Break(3)),
-    Steps(2, Stop::End(2)),
+    Steps(2, StopReason::End(2)),
+    Steps(5, StopReason::Break(3)),
+    Steps(2, StopReason::End(2)),
     Place(3, 0x8000_0204),
     // the end
     Jump(7, &[]),
@@ -46,7 +46,7 @@ static MOVES: [Move; 18] = [
     Place(2, 0x8000_0204),
     Stays(5, JumpError::BadArgument),
     // the breakpoint is still there
-    Go(&[Step(0); 7], Stop::Break(1)),
+    Go(&[Step(0); 7], StopReason::Break(1)),
     // the beginning
     Jump(0, &[Step(0); 5]),
     Place(0, 0x8000_0200),
@@ -57,9 +57,9 @@ static MOVES: [Move; 18] = [
 
 /// With a log of five entries.
 static DROPPED: [Move; 6] = [
-    Steps(5, Stop::End(5)),
+    Steps(5, StopReason::End(5)),
     Jump(5, &[]),
-    Steps(1, Stop::End(1)),
+    Steps(1, StopReason::End(1)),
     Stays(7, JumpError::BadArgument),
     Stays(6, JumpError::Dropped),
     Stays(0, JumpError::Dropped),
@@ -147,7 +147,7 @@ fn jumps_with_a_dropped_log(rt: HostRuntime) -> Result<(), Fail> {
 #[test]
 fn jumps_over_inputs(rt: HostRuntime) -> Result<(), Fail> {
     let mut session = session(rt.alloc(), SEND, 1, 100)?;
-    same(&rt, session.go(INPUTS), Stop::End(8));
+    same(&rt, session.go(INPUTS), StopReason::End(8));
     check_console(&rt, &session, 1, 2, Some(0));
     check_jump(&rt, &mut session, 5, left_of(INPUTS, 5));
     check_console(&rt, &session, 1, 2, None);
@@ -160,7 +160,7 @@ fn jumps_over_inputs(rt: HostRuntime) -> Result<(), Fail> {
 fn jumps_of_the_kernel(rt: HostRuntime) -> Result<(), Fail> {
     let mut session = kernel_session(rt.alloc())?;
     let events = kernel_events(rt.alloc())?;
-    same(&rt, session.go(events.as_slice()), Stop::Off(80));
+    same(&rt, session.go(events.as_slice()), StopReason::Off(80));
     same(&rt, session.machine().is_off(), true);
     check_jump(&rt, &mut session, 60, left_of(events.as_slice(), 60));
     same(&rt, session.machine().is_off(), false);

@@ -4,7 +4,7 @@ use super::same;
 use super::sessions::Act::{Does, Fails};
 use super::sessions::{Act, INPUTS, LOOP, SEND, Scene, check_kernel, check_scenes, session};
 use m161_debug::CommandError::{BadArgument, BadProcessor, Unknown};
-use m161_debug::{Condition, Stop};
+use m161_debug::{Condition, StopReason};
 use m161_machine::Event::{Done, Step};
 use std::test::Fail;
 
@@ -154,6 +154,6 @@ fn conditions(rt: HostRuntime) -> Result<(), Fail> {
 fn until_by_its_call(rt: HostRuntime) -> Result<(), Fail> {
     let mut session = session(rt.alloc(), LOOP, 1, 100)?;
     let stop = session.until(Condition::Output, &[Step(0); 3]);
-    same(&rt, stop, Stop::End(3));
+    same(&rt, stop, StopReason::End(3));
     Ok(())
 }

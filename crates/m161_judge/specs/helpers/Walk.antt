@@ -19,7 +19,7 @@ use Rattle.m161_drive.specs.declared.run.Driven.{Driven}
 use Rattle.m161_drive.specs.declared.run.Stop.TheVariants as drive
 use Rattle.m161_drive.specs.Drive.{Drives}
 use Rattle.m161_drive.specs.Policy.{Rules}
-use Rattle.m161_judge.specs.declared.run.Run.{Run}
+use Rattle.m161_judge.specs.declared.run.JudgedRun.{JudgedRun}
 use Rattle.m161_judge.specs.declared.seen.Seen.{Seen}
 use Rattle.m161_judge.specs.declared.verdict.Judged.{Judged}
 use Rattle.m161_judge.specs.declared.verdict.Verdict.{Verdict}
@@ -107,7 +107,7 @@ Joins goal s events finding beside judged =
     → IsJudgedBeside goal s events beside → IsJudged goal s events judged
 
 -- a driven run from a state, judged but for a stale use
-pub record IsDrivenRun (rules : Rules) (n : ℕ) (output : Option (List ℕ)) (s : State) (run : Run)
+pub record IsDrivenRun (rules : Rules) (n : ℕ) (output : Option (List ℕ)) (s : State) (run : JudgedRun)
     : Type 0 where
   pub driven : Driven
   pub entries : List Entry
@@ -123,6 +123,6 @@ pub record IsDrivenRun (rules : Rules) (n : ℕ) (output : Option (List ℕ)) (s
 
 -- or memory was refused
 abbrev pub DrivesRun :
-    Rules → ℕ → Option (List ℕ) → State → Result Run AuditError → Type 0
+    Rules → ℕ → Option (List ℕ) → State → Result JudgedRun AuditError → Type 0
 DrivesRun rules n output s (Ok run) = IsDrivenRun rules n output s run
 DrivesRun rules n output s (Err error) = error ≡ Boot NoMemory

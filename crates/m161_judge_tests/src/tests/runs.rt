@@ -4,7 +4,7 @@ use super::kernels::{HELLO, LETTER, LOOP, ONE, WAIT, file_with};
 use super::same;
 use m161::{Console, Tlb};
 use m161_drive::Order;
-use m161_judge::{Conf, Judged, LinkUnit, Policy, Run, Verdict, Watch, judge_run};
+use m161_judge::{Conf, Judged, JudgedRun, LinkUnit, Policy, Verdict, Watch, judge_run};
 use m161_test_support::kernel::kernel_with;
 use std::alloc::{AllocGlobal, Global};
 use std::process::Abort;
@@ -17,7 +17,7 @@ fn driven(
     keys: &[u8],
     n: u64,
     output: Option<&[u8]>,
-) -> Result<Run, Fail> {
+) -> Result<JudgedRun, Fail> {
     let file = file_with(alloc, words)?;
     let policy = Policy::new(Order::Turns(1), 100, Some(1000), keys)?;
     Ok(judge_run::<Tlb, Console>(alloc, &file, ONE, &policy, n, &[], output)?)
@@ -96,7 +96,7 @@ const WATCH: Watch = Watch {
 };
 
 // The verdict of the sample kernel, or a variant of it, under an order.
-fn sample(alloc: Global, changes: &[(u32, u32)], order: Order) -> Result<Run, Fail> {
+fn sample(alloc: Global, changes: &[(u32, u32)], order: Order) -> Result<JudgedRun, Fail> {
     let file = kernel_with(alloc, changes)?;
     let conf = Conf {
         ram: 1_048_576,
@@ -110,7 +110,7 @@ fn sample(alloc: Global, changes: &[(u32, u32)], order: Order) -> Result<Run, Fa
 }
 
 // Checks that a run is stale where one is expected, and that the verdict needs the events up to it.
-fn check_stale(rt: &impl Abort, run: &Run, expected: bool) {
+fn check_stale(rt: &impl Abort, run: &JudgedRun, expected: bool) {
     match run.judged {
         Some(
             Judged {

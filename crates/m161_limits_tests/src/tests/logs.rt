@@ -1,7 +1,7 @@
 //! Logs: one that ends early, and lines that are none of a log.
 
 use super::same;
-use m161_steplog::{Fault, read_log};
+use m161_steplog::{TextFault, read_log};
 use std::alloc::Global;
 use std::test::Fail;
 
@@ -15,7 +15,7 @@ const LOG_2: &str = "m161 log 2 word\ns 0 ran\ns 0 off\n";
 const LOG_3: &str = "m161 log 3 word strict\ns 0 ran\ns 0 off\n";
 
 /// How many entries a text has, or its first bad line.
-fn entries(alloc: Global, text: &str) -> Result<usize, Fault> {
+fn entries(alloc: Global, text: &str) -> Result<usize, TextFault> {
     Ok(read_log(alloc, text)?.entries.len())
 }
 
@@ -26,9 +26,9 @@ fn truncated_log(rt: HostRuntime) {
             10 | 11 => Ok(0),
             18 | 19 => Ok(1),
             26 | 27 => Ok(2),
-            0..=9 => Err(Fault::Line(1)),
-            12..=17 => Err(Fault::Line(2)),
-            _ => Err(Fault::Line(3)),
+            0..=9 => Err(TextFault::Line(1)),
+            12..=17 => Err(TextFault::Line(2)),
+            _ => Err(TextFault::Line(3)),
         };
         let found = entries(rt.alloc(), LOG.get(..length).unwrap_or(""));
         same(&rt, (length, found), (length, expected));
@@ -63,7 +63,7 @@ fn lines_of_no_log(rt: HostRuntime) -> Result<(), Fail> {
         ] {
             let text = format!(in rt.alloc(); "{first}\n{line}\n")?;
             let found = entries(rt.alloc(), text.as_str());
-            same(&rt, (line, found), (line, Err(Fault::Line(2))));
+            same(&rt, (line, found), (line, Err(TextFault::Line(2))));
         }
     }
     Ok(())
@@ -72,12 +72,12 @@ fn lines_of_no_log(rt: HostRuntime) -> Result<(), Fail> {
 #[test]
 fn conflict_by_mode(rt: HostRuntime) -> Result<(), Fail> {
     for (first, expected) in [
-        ("m161 log 1", Err(Fault::Line(2))),
-        ("m161 log 2 word", Err(Fault::Line(2))),
-        ("m161 log 2 line", Err(Fault::Line(2))),
-        ("m161 log 2 word strict", Err(Fault::Line(1))),
-        ("m161 log 3 word", Err(Fault::Line(1))),
-        ("m161 tail 3 word strict 1", Err(Fault::Line(1))),
+        ("m161 log 1", Err(TextFault::Line(2))),
+        ("m161 log 2 word", Err(TextFault::Line(2))),
+        ("m161 log 2 line", Err(TextFault::Line(2))),
+        ("m161 log 2 word strict", Err(TextFault::Line(1))),
+        ("m161 log 3 word", Err(TextFault::Line(1))),
+        ("m161 tail 3 word strict 1", Err(TextFault::Line(1))),
         ("m161 log 3 word strict", Ok(1)),
         ("m161 log 3 line strict", Ok(1)),
     ] {

@@ -6,7 +6,7 @@ use m161_console::{PlainConsole, RingConsole};
 use m161_machine::{
     BootError, Conf, Entry, Event, LinkUnit, LoadError, Machine, Outcome, Refusal, Tlb,
 };
-use m161_steplog::{Verdict, verify};
+use m161_steplog::{Comparison, verify};
 use m161_test_support::DEMO_CONF;
 use m161_test_support::files::{PROGRAM, file_at, file_of};
 use m161_test_support::outcomes::{Answer, ENTRY, OFF, RAN, SMALLEST};
@@ -233,11 +233,11 @@ const LAST: Entry = Entry {
 };
 
 /// Logs of `POWER_OFF`, each with its verdict.
-static LOGS: [(&[Entry], Verdict); 4] = [
-    (&[], Verdict::Agrees),
-    (&[STEP, LAST], Verdict::Agrees),
-    (&[STEP, STEP], Verdict::Differs(1)),
-    (&[STEP, LAST, STEP], Verdict::Differs(2)),
+static LOGS: [(&[Entry], Comparison); 4] = [
+    (&[], Comparison::Agrees),
+    (&[STEP, LAST], Comparison::Agrees),
+    (&[STEP, STEP], Comparison::Differs(1)),
+    (&[STEP, LAST, STEP], Comparison::Differs(2)),
 ];
 
 fn verify_over<T: Tlb + Drop, D: Console + Drop>(

@@ -3,7 +3,7 @@
 use super::same;
 use m161_bus::Console;
 use m161_console::{PlainConsole, RingConsole};
-use m161_debug::{BreakError, Session, Stop};
+use m161_debug::{BreakError, Session, StopReason};
 use m161_isa::Reg;
 use m161_machine::Event::Step;
 use m161_machine::{Conf, Event, LinkUnit, Machine, Tlb};
@@ -23,10 +23,10 @@ static STEPS: [Event; 7] = [Step(0); 7];
 
 /// Runs of so many Steps with a breakpoint at `ENTRY`, one after the other: the stop, and register 8
 /// there.
-static RUNS: [(usize, Stop, u32); 3] = [
-    (7, Stop::Break(3), 1),
-    (4, Stop::Break(3), 2),
-    (1, Stop::End(1), 3),
+static RUNS: [(usize, StopReason, u32); 3] = [
+    (7, StopReason::Break(3), 1),
+    (4, StopReason::Break(3), 2),
+    (1, StopReason::End(1), 3),
 ];
 
 /// A session of `LOOP` on two processors, of which the second is never started.
@@ -54,7 +54,7 @@ fn breakpoints_over<T: Tlb + Drop, D: Console + Drop>(
         same(rt, session.machine().reg(0, Reg::new(8)), *value);
     }
     same(rt, session.delete(0, ENTRY), true);
-    same(rt, session.go(&STEPS), Stop::End(7));
+    same(rt, session.go(&STEPS), StopReason::End(7));
     Ok(())
 }
 
@@ -71,7 +71,7 @@ fn pairs_breakpoints(rt: HostRuntime) -> Result<(), Fail> {
 struct Alone {
     processor: u32,
     address: u32,
-    stop: Stop,
+    stop: StopReason,
     value: u32,
     line: &'static str,
 }
@@ -81,7 +81,7 @@ static ALONE: [Alone; 4] = [
     Alone {
         processor: 1,
         address: ENTRY,
-        stop: Stop::End(7),
+        stop: StopReason::End(7),
         value: 3,
         line: "cpu 0 running pc 80000204\n",
     },
@@ -89,7 +89,7 @@ static ALONE: [Alone; 4] = [
     Alone {
         processor: 0,
         address: 0x8000_0208,
-        stop: Stop::Break(2),
+        stop: StopReason::Break(2),
         value: 1,
         line: "cpu 0 running pc 80000208 slot\n",
     },
@@ -97,7 +97,7 @@ static ALONE: [Alone; 4] = [
     Alone {
         processor: 0,
         address: 0x8000_0204,
-        stop: Stop::Break(1),
+        stop: StopReason::Break(1),
         value: 1,
         line: "cpu 0 running pc 80000204\n",
     },
@@ -105,7 +105,7 @@ static ALONE: [Alone; 4] = [
     Alone {
         processor: 0,
         address: 0x8000_020c,
-        stop: Stop::End(7),
+        stop: StopReason::End(7),
         value: 3,
         line: "cpu 0 running pc 80000204\n",
     },
@@ -164,13 +164,13 @@ fn many_over<T: Tlb + Drop, D: Console + Drop>(
     }
     // The refused ones aren't set.
     same(rt, session.delete(0, 0x8000_1080), false);
-    same(rt, session.go(&STEPS), Stop::End(7));
+    same(rt, session.go(&STEPS), StopReason::End(7));
     // One is deleted, and there is room for one.
     same(rt, session.delete(1, 0x8000_1000), true);
     same(rt, session.breakpoint(0, ENTRY), Ok(()));
     same(rt, session.breakpoint(1, ENTRY), Err(BreakError::TooMany));
     // Step 7, from 0, is at 80000204, and Step 9 at ENTRY.
-    same(rt, session.go(&STEPS), Stop::Break(2));
+    same(rt, session.go(&STEPS), StopReason::Break(2));
     Ok(())
 }
 

@@ -3,7 +3,7 @@
 use super::same;
 use m161_bus::Console;
 use m161_console::{PlainConsole, RingConsole};
-use m161_debug::{Session, Stop};
+use m161_debug::{Session, StopReason};
 use m161_machine::Event::Step;
 use m161_machine::{Conf, Conflict, Entry, Event, Machine, Outcome, Refusal, Register, Tlb};
 use m161_test_support::files::file_at;
@@ -114,7 +114,7 @@ fn stop_over<T: Tlb + Drop, D: Console + Drop>(
     };
     let machine: Machine<T, D> = Machine::boot(rt.alloc(), &file, conf)?;
     let mut session = Session::new(machine);
-    same(rt, session.go(&STEPS), Stop::Conflict(14));
+    same(rt, session.go(&STEPS), StopReason::Conflict(14));
     let log = session.machine().copy_log(rt.alloc())?;
     let last = Entry {
         event: Step(0),

@@ -7,7 +7,7 @@ use m161_bus::Console;
 use m161_console::{PlainConsole, RingConsole};
 use m161_machine::Event::{Done, Key, Step};
 use m161_machine::{Conf, Event, LinkUnit, Machine, Refusal, Tlb};
-use m161_steplog::{Verdict, verify};
+use m161_steplog::{Comparison, verify};
 use m161_test_support::files::file_at;
 use m161_test_support::outcomes::{Answer, ENTRY, IDLE, RAN, TAKEN};
 use m161_threads::{Gate, Locked, Seat, run};
@@ -72,7 +72,7 @@ fn check_log<T: Tlb + Drop, D: Console + Drop>(
     let log = machine.copy_log(rt.alloc())?;
     same(rt, log.len(), 200);
     let verdict = verify::<T, D>(rt.alloc(), file, machine.conf(), &log)?;
-    same(rt, verdict, Verdict::Agrees);
+    same(rt, verdict, Comparison::Agrees);
     Ok(())
 }
 

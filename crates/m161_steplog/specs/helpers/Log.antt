@@ -2,8 +2,8 @@ use Rattle.std.specs.Prelude.{◌≡◌, ℕ, ◌+◌, List, ◌++◌, Option, S
 use Rattle.std.specs.List.{AllByRecursion}
 use Rattle.m161_machine.specs.declared.event.Entry.{Entry}
 use Rattle.m161_text.specs.Lines.{lines_of}
-use Rattle.m161_steplog.specs.declared.fault.Fault.{Fault}
-use Rattle.m161_steplog.specs.declared.fault.Fault.TheVariants as faults
+use Rattle.m161_steplog.specs.declared.fault.TextFault.{TextFault}
+use Rattle.m161_steplog.specs.declared.fault.TextFault.TheVariants as faults
 use Rattle.m161_steplog.specs.declared.mode.Mode.{Mode}
 use Rattle.m161_steplog.specs.Text.{entry_text}
 use Rattle.m161_steplog.specs.Log.{log_lines, IsEntryOf, IsHeader}
@@ -28,6 +28,6 @@ pub record ReadsLines (text : List ℕ) (mode : Mode) (es : List Entry) (left : 
   pub lines : lines_of text ≡ log_lines header es ++ left
 
 -- a fault of a text behind so many lines, as one of the whole text
-abbrev pub fault_behind : ℕ → Fault → Fault
+abbrev pub fault_behind : ℕ → TextFault → TextFault
 fault_behind count (faults.Line n) = faults.Line (count + n)
 fault_behind count faults.NoMemory = faults.NoMemory

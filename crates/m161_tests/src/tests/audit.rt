@@ -4,7 +4,7 @@ use super::same;
 use m161::{Console, Tlb};
 use m161_asm::assemble;
 use m161_audit::{
-    AuditError, BootError, Conf, Event, Fault, Finding, LinkUnit, Watch, audit, audit_events,
+    AuditError, BootError, Conf, Event, Finding, LinkUnit, TextFault, Watch, audit, audit_events,
     read_watches,
 };
 use m161_elf_writer::write;
@@ -316,7 +316,7 @@ fn check_text(
     rt: &impl Abort,
     alloc: Global,
     text: &str,
-    expected: Result<&[Watch], Fault>,
+    expected: Result<&[Watch], TextFault>,
 ) -> Result<(), Fail> {
     match read_watches(alloc, text) {
         Ok(watches) => same(rt, Ok(watches.as_slice()), expected),
@@ -348,7 +348,7 @@ fn watch_texts(rt: HostRuntime) -> Result<(), Fail> {
         "v 5 00400 00003000 00003004",
         " ",
     ] {
-        check_text(&rt, alloc, text, Err(Fault::Line(1)))?;
+        check_text(&rt, alloc, text, Err(TextFault::Line(1)))?;
     }
-    check_text(&rt, alloc, "\n#\nw 5\n", Err(Fault::Line(3)))
+    check_text(&rt, alloc, "\n#\nw 5\n", Err(TextFault::Line(3)))
 }

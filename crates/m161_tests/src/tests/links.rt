@@ -7,7 +7,7 @@ use super::same;
 use m161::{Console, Machine, Tlb};
 use m161_machine::Event::Step;
 use m161_machine::{Conf, Entry, Event, LinkUnit, Outcome};
-use m161_steplog::{Verdict, verify};
+use m161_steplog::{Comparison, verify};
 use m161_test_support::files::file_at;
 use m161_test_support::outcomes::{BREAKPOINT, ENTRY, RAN};
 use std::test::Fail;
@@ -126,8 +126,8 @@ fn line_replay(rt: HostRuntime) -> Result<(), Fail> {
         outcome: Outcome::Ran,
     }; 7];
     for (link, seventh, verdict) in [
-        (LinkUnit::Word, RAN, Verdict::Agrees),
-        (LinkUnit::Line, BREAKPOINT, Verdict::Differs(6)),
+        (LinkUnit::Word, RAN, Comparison::Agrees),
+        (LinkUnit::Line, BREAKPOINT, Comparison::Differs(6)),
     ] {
         let conf = Conf {
             ram: 8_192,
@@ -145,7 +145,7 @@ fn line_replay(rt: HostRuntime) -> Result<(), Fail> {
         same(&rt, (link, found), (link, verdict));
         let own = machine.copy_log(alloc)?;
         let found = verify::<Tlb, Console>(alloc, &file, conf, &own)?;
-        same(&rt, (link, found), (link, Verdict::Agrees));
+        same(&rt, (link, found), (link, Comparison::Agrees));
     }
     Ok(())
 }

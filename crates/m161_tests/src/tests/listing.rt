@@ -22,7 +22,7 @@ use m161_machine::{
     Conf, Event, Exception, LinkUnit, Machine, Outcome, ProcessorState, Refusal,
     Register as CopRegister,
 };
-use m161_steplog::{Verdict, verify};
+use m161_steplog::{Comparison, verify};
 use m161_test_support::files::{file_at, file_from};
 use m161_test_support::outcomes::{Answer, ENTRY, RAN, SMALLEST, Times};
 use m161_tlb::Tlb;
@@ -219,7 +219,7 @@ pub(crate) fn check_log<T: Tlb + Drop, D: Console + Drop>(
 ) -> Result<(), Fail> {
     let log = machine.copy_log(rt.alloc())?;
     let found = verify::<T, D>(rt.alloc(), file, machine.conf(), &log)?;
-    same(rt, (name, found), (name, Verdict::Agrees));
+    same(rt, (name, found), (name, Comparison::Agrees));
     Ok(())
 }
 

@@ -4,7 +4,7 @@ use super::same;
 use m161::{Console, Tlb};
 use m161_machine::{Conf, Entry, Event, LinkUnit, Outcome};
 use m161_steplog::{
-    Fault, Mode, Verdict, entry_line, read_log, read_schedule, verify, write_log, write_tail,
+    Comparison, Mode, TextFault, entry_line, read_log, read_schedule, verify, write_log, write_tail,
 };
 use m161_test_support::files::file_at;
 use m161_test_support::outcomes::ENTRY;
@@ -61,7 +61,7 @@ fn check_read(
     text: &str,
     link: LinkUnit,
     entries: &[Entry],
-) -> Result<(), Fault> {
+) -> Result<(), TextFault> {
     let log = read_log(alloc, text)?;
     same(
         rt,
@@ -106,7 +106,7 @@ fn first_lines(rt: HostRuntime) -> Result<(), Fail> {
         ("m161 log 2 word\nm161 log 2 word\n", 2),
     ] {
         let found = read_log(alloc, text).err();
-        same(&rt, (text, found), (text, Some(Fault::Line(line))));
+        same(&rt, (text, found), (text, Some(TextFault::Line(line))));
     }
     Ok(())
 }
@@ -134,7 +134,7 @@ fn tails(rt: HostRuntime) -> Result<(), Fail> {
         )?;
         same(&rt, text.as_str(), expected);
         let found = read_log(alloc, text.as_str()).err();
-        same(&rt, found, Some(Fault::Line(1)));
+        same(&rt, found, Some(TextFault::Line(1)));
     }
     Ok(())
 }
@@ -192,7 +192,7 @@ fn numbers(rt: HostRuntime) -> Result<(), Fail> {
 }
 
 /// Why a text is no schedule, or how many events it has.
-fn count_of(alloc: Global, text: &str) -> Result<usize, Fault> {
+fn count_of(alloc: Global, text: &str) -> Result<usize, TextFault> {
     Ok(read_schedule(alloc, text)?.len())
 }
 
@@ -226,7 +226,7 @@ fn bad_lines(rt: HostRuntime) {
         same(
             &rt,
             (*text, count_of(rt.alloc(), text)),
-            (*text, Err(Fault::Line(1))),
+            (*text, Err(TextFault::Line(1))),
         );
     }
 }
@@ -238,8 +238,8 @@ fn good_lines(rt: HostRuntime) {
         ("\n\n# s x\n#", Ok(0)),
         ("s 4294967295\ns 0 1000000", Ok(1_000_001)),
         ("s 0\nk ff\no\n", Ok(3)),
-        ("s 0\n\nk FF\no\n", Err(Fault::Line(3))),
-        ("s 0\n\n# \no\nq", Err(Fault::Line(5))),
+        ("s 0\n\nk FF\no\n", Err(TextFault::Line(3))),
+        ("s 0\n\n# \no\nq", Err(TextFault::Line(5))),
     ] {
         same(&rt, (text, count_of(rt.alloc(), text)), (text, events));
     }
@@ -256,10 +256,10 @@ fn verify_of_logs(rt: HostRuntime) -> Result<(), Fail> {
         link: LinkUnit::Word,
         strict: false,
     };
-    let logs: [(&[Entry], Verdict); 3] = [
-        (&[RAN, OFF], Verdict::Agrees),
-        (&[RAN, RAN], Verdict::Differs(1)),
-        (&[RAN, OFF, RAN], Verdict::Differs(2)),
+    let logs: [(&[Entry], Comparison); 3] = [
+        (&[RAN, OFF], Comparison::Agrees),
+        (&[RAN, RAN], Comparison::Differs(1)),
+        (&[RAN, OFF, RAN], Comparison::Differs(2)),
     ];
     for (log, verdict) in logs {
         let found = verify::<Tlb, Console>(alloc, &file, conf, log)?;

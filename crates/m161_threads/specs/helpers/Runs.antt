@@ -23,7 +23,7 @@ past_of h = record {
 }
 
 -- what each machine says of its log
-pub record IsTold (h : History) : Type 0 where
+pub record HasLog (h : History) : Type 0 where
   pub replay : IsReplay h
   pub boot : h.base.made ≡ 0 → h.base ≡ boot_state h.start
   pub number : h.state.made ≡ h.base.made + length h.log
@@ -40,13 +40,13 @@ pub record IsLater (past : Past) (made : ℕ) (after : History) : Type 0 where
 -- how a run that began fails, by the comparison with what was kept before it
 abbrev pub FailsLater : Past → Cause → History → Type 0
 FailsLater past cause after =
-    IsOfRun cause × IsReplay after × (cause ≢ Swapped → IsTold after × ((made : ℕ) × IsLater past made after))
+    IsOfRun cause × IsReplay after × (cause ≢ Swapped → HasLog after × ((made : ℕ) × IsLater past made after))
 
 -- the comparison after a run with what was kept before it
 pub record IsChecked
     (past : Past) (seats : List SeatState) (made : List ℕ) (off : Bool)
     (after : History) : Type 0 where
-  pub told : IsTold after
+  pub told : HasLog after
   pub later : IsLater past (sum made) after
   pub seats_are : All (HasCount after.state) seats
   pub noted : NotedOnlyOff after.state seats

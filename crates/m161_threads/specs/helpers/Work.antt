@@ -2,7 +2,7 @@ use Rattle.std.specs.Prelude.{◌≡◌, ℕ, ◌+◌, ◌<◌, ◌≤◌, Bool,
 use Rattle.m161_machine.specs.declared.event.Refusal.{Refusal}
 use Rattle.m161_machine.specs.declared.event.Refusal.TheVariants.{BadProcessor, Off, Worn, KeyFull, NothingSent, NoMemory}
 use Rattle.m161_threads.specs.declared.book.Burst.{Burst}
-use Rattle.m161_threads.specs.declared.worker.Stop.{Stop}
+use Rattle.m161_threads.specs.declared.worker.WorkerStop.{WorkerStop}
 use Rattle.m161_threads.specs.declared.worker.Task.{Task}
 use Rattle.m161_threads.specs.Shares.{SeatState}
 
@@ -11,7 +11,7 @@ use Rattle.m161_threads.specs.Shares.{SeatState}
 -- a worker with a processor's seat, which has this many Steps, and a quota: the seat that it
 -- returns, how many Steps it made, and why it stopped early, if it did
 pub record Works
-    (processor before quota : ℕ) (new : SeatState) (made : ℕ) (stop : Option Stop) : Type 0 where
+    (processor before quota : ℕ) (new : SeatState) (made : ℕ) (stop : Option WorkerStop) : Type 0 where
   pub processor_is : new.processor ≡ processor
   pub counted : new.count ≡ before + made
   pub within : made ≤ quota
@@ -22,7 +22,7 @@ abbrev pub task_of : SeatState → ℕ → Task
 task_of seat quota = record { processor = seat.processor; before = seat.count; quota = quota }
 
 -- the result of a worker with a task
-abbrev pub KeepsTask : Task → SeatState → ℕ → Option Stop → Type 0
+abbrev pub KeepsTask : Task → SeatState → ℕ → Option WorkerStop → Type 0
 KeepsTask t new made stop = Works t.processor t.before t.quota new made stop
 
 -- whether a burst ended because the machine is off

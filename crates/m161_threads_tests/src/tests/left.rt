@@ -2,7 +2,7 @@
 
 use super::same;
 use m161::{Console, Machine, Tlb};
-use m161_steplog::{Verdict, verify};
+use m161_steplog::{Comparison, verify};
 use m161_test_support::outcomes::Times;
 use std::process::Abort;
 use std::test::Fail;
@@ -51,7 +51,7 @@ pub(crate) fn check_log(
 ) -> Result<(), Fail> {
     let log = machine.copy_log(rt.alloc())?;
     let found = verify::<Tlb, Console>(rt.alloc(), file, machine.conf(), &log)?;
-    same(rt, (name, found), (name, Verdict::Agrees));
+    same(rt, (name, found), (name, Comparison::Agrees));
     Ok(())
 }
 

@@ -5,7 +5,7 @@ use m161::{Core, Machine};
 use m161_cop0::REGISTERS;
 use m161_isa::Reg;
 use m161_machine::{Conf, Entry, Event, LinkUnit, Outcome, Refusal, worn};
-use m161_steplog::{Fault, Mode, read_log, write_tail};
+use m161_steplog::{Mode, TextFault, read_log, write_tail};
 use m161_test_support::files::file_at;
 use m161_test_support::kernel::{SCHEDULE, kernel_file};
 use m161_test_support::outcomes::ENTRY;
@@ -126,7 +126,7 @@ fn dropped_entry(rt: HostRuntime) -> Result<(), Fail> {
     same(
         &rt,
         read_log(rt.alloc(), tail.as_str()).err(),
-        Some(Fault::Line(1)),
+        Some(TextFault::Line(1)),
     );
     let base = machine.into_base();
     same(&rt, (base.made(), base.is_off()), (1, false));

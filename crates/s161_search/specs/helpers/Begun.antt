@@ -4,7 +4,7 @@ use Rattle.m161_judge.specs.Judge.{BootsState}
 use Rattle.m161_machine.specs.declared.event.Event.{Event}
 use Rattle.m161_machine.specs.History.{boot_fault}
 use Rattle.m161_machine.specs.State.{State}
-use Rattle.m161_shorten.specs.declared.judged.Judged.{Judged as KindJudged}
+use Rattle.m161_shorten.specs.declared.judged.Judgement.{Judgement}
 use Rattle.s161_base.specs.Sizes.{conf_of}
 use Rattle.s161_command.specs.declared.task.SearchTask.{SearchTask}
 use Rattle.s161_search.specs.Given.{Given}
@@ -23,6 +23,6 @@ IsJudgedFrom s given events judged =
     (task : SearchTask) → BeginsAt task given s → IsJudgedAt task given events judged
 
 -- the same, where only the kind matters
-abbrev pub HasKindFrom : State → Given → List Event → Option (KindJudged ℕ) → Type 0
+abbrev pub HasKindFrom : State → Given → List Event → Option (Judgement ℕ) → Type 0
 HasKindFrom s given events verdict =
     (task : SearchTask) → BeginsAt task given s → HasKind task given events verdict

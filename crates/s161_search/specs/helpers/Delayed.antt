@@ -1,5 +1,5 @@
 use Rattle.std.specs.Prelude.{◌≡◌, ℕ, Bool, List, Some}
-use Rattle.m161_judge.specs.declared.run.Run.{Run}
+use Rattle.m161_judge.specs.declared.run.JudgedRun.{JudgedRun}
 use Rattle.m161_machine.specs.State.{State}
 use Rattle.m161_order.specs.declared.delays.Delays.{Delays}
 use Rattle.m161_order.specs.declared.order.Order.{Order}
@@ -15,7 +15,7 @@ use Rattle.s161_search.specs.helpers.Begun.{BeginsAt}
 
 -- What is known of runs from a state that may be the one at boot.
 
-abbrev pub IsRunFrom : State → SearchTask → Given → Order → Run → Type 0
+abbrev pub IsRunFrom : State → SearchTask → Given → Order → JudgedRun → Type 0
 IsRunFrom s task given order run = BeginsAt task given s → IsRunOf task given order run
 
 abbrev pub IsFaultFrom : State → SearchTask → Given → Fault → Type 0

@@ -3,7 +3,7 @@
 
 use super::same;
 use m161::{Console, Machine, Tlb};
-use m161_debug::{BreakError, CommandError, Stop};
+use m161_debug::{BreakError, CommandError, StopReason};
 use m161_elf::is_in_ram;
 use m161_isa::{LinkUnit, Reg};
 use m161_machine::Event::{Done, Key, Step};
@@ -36,7 +36,7 @@ enum Act {
     /// An event is made.
     Make(Event, Answer),
     /// Events are run over.
-    Go(&'static [Event], Stop),
+    Go(&'static [Event], StopReason),
     /// A command is done on the events that are left, and prints this.
     Line(&'static str, &'static [Event], usize, &'static str),
     /// A line is no command, or one with a fault.
@@ -92,12 +92,12 @@ static SCENES: [Scene; 16] = [
         words: LOOP,
         acts: &[
             Set(0, ENTRY, Ok(())),
-            Go(SEVEN, Stop::Break(3)),
+            Go(SEVEN, StopReason::Break(3)),
             Register(8, 1),
             Shows("r 0", "cpu 0 running pc 80000200\n", " lo 00000000\n"),
-            Go(FOUR, Stop::Break(3)),
+            Go(FOUR, StopReason::Break(3)),
             Register(8, 2),
-            Go(ONE, Stop::End(1)),
+            Go(ONE, StopReason::End(1)),
             Register(8, 3),
         ],
     },
@@ -106,7 +106,7 @@ static SCENES: [Scene; 16] = [
         processors: 2,
         entry: ENTRY,
         words: LOOP,
-        acts: &[Set(1, ENTRY, Ok(())), Go(SEVEN, Stop::End(7))],
+        acts: &[Set(1, ENTRY, Ok(())), Go(SEVEN, StopReason::End(7))],
     },
     Scene {
         name: "breakpoints: in a delay slot alone",
@@ -115,7 +115,7 @@ static SCENES: [Scene; 16] = [
         words: LOOP,
         acts: &[
             Set(0, 0x8000_0208, Ok(())),
-            Go(SEVEN, Stop::Break(2)),
+            Go(SEVEN, StopReason::Break(2)),
             Displays(
                 Display::Regs,
                 "cpu 0 running pc 80000208 slot\nr0 00000000 ",
@@ -130,11 +130,11 @@ static SCENES: [Scene; 16] = [
         words: LOOP,
         acts: &[
             Set(1, ENTRY, Ok(())),
-            Go(SEVEN, Stop::End(7)),
+            Go(SEVEN, StopReason::End(7)),
             Delete(1, ENTRY, true),
             Delete(1, ENTRY, false),
             Set(0, 0x8000_0208, Ok(())),
-            Go(SEVEN, Stop::Break(1)),
+            Go(SEVEN, StopReason::Break(1)),
             Shows("r 0", "cpu 0 running pc 80000208 slot\nr0 00000000 ", "\n"),
         ],
     },
@@ -146,9 +146,12 @@ static SCENES: [Scene; 16] = [
         acts: &[
             Set(1, 0, Ok(())),
             Set(2, 0, Err(BreakError::BadProcessor)),
-            Go(&[Step(1), Step(0), Step(1)], Stop::Break(2)),
+            Go(&[Step(1), Step(0), Step(1)], StopReason::Break(2)),
             Delete(1, 0, true),
-            Go(&[Step(1), Step(2)], Stop::Refused(1, Refusal::BadProcessor)),
+            Go(
+                &[Step(1), Step(2)],
+                StopReason::Refused(1, Refusal::BadProcessor),
+            ),
         ],
     },
     Scene {
@@ -195,7 +198,7 @@ static SCENES: [Scene; 16] = [
         acts: &[
             Make(Step(0), RAN),
             Make(Step(0), RAN),
-            Go(&[Done], Stop::End(1)),
+            Go(&[Done], StopReason::End(1)),
         ],
     },
     Scene {
@@ -215,9 +218,9 @@ static SCENES: [Scene; 16] = [
         entry: ENTRY,
         words: POWER_OFF,
         acts: &[
-            Go(SEVEN, Stop::Off(1)),
-            Go(SEVEN, Stop::Refused(0, Refusal::Off)),
-            Go(&[], Stop::End(0)),
+            Go(SEVEN, StopReason::Off(1)),
+            Go(SEVEN, StopReason::Refused(0, Refusal::Off)),
+            Go(&[], StopReason::End(0)),
             Line("g", SEVEN, 1, "refused 0 2 Off\n"),
         ],
     },
@@ -243,7 +246,10 @@ static SCENES: [Scene; 16] = [
             Line("o", &[], 0, "o taken\n"),
             Line("o", &[], 0, "refused 5 NothingSent\n"),
             Make(Done, Err(Refusal::NothingSent)),
-            Go(&[Key(2), Done], Stop::Refused(1, Refusal::NothingSent)),
+            Go(
+                &[Key(2), Done],
+                StopReason::Refused(1, Refusal::NothingSent),
+            ),
             Line("g", &[Done], 1, "refused 0 5 NothingSent\n"),
             Line("k 4a", &[], 0, "k 4a taken\n"),
             Make(Key(1), TAKEN),
@@ -537,7 +543,10 @@ fn kept_entries(rt: HostRuntime) -> Result<(), Fail> {
     let file = file_from(rt.alloc(), ENTRY, ENTRY, LOOP)?;
     let mut session = session_of(rt.alloc(), file, 4_096, 1, 3)?;
     for done in &[
-        Go(&[Key(1), Step(0), Key(2), Step(0), Key(3)], Stop::End(5)),
+        Go(
+            &[Key(1), Step(0), Key(2), Step(0), Key(3)],
+            StopReason::End(5),
+        ),
         Line("l 2", SEVEN, 0, "s 0 ran\nk 03 taken\n"),
         Line("l 3", SEVEN, 0, "k 02 taken\ns 0 ran\nk 03 taken\n"),
         Line("l 4", SEVEN, 0, "k 02 taken\ns 0 ran\nk 03 taken\n"),

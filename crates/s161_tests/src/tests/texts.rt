@@ -14,7 +14,7 @@ use s161_base::files::FileSource;
 use s161_base::sample::{read_image, sample_image};
 use s161_command::Registers;
 use s161_run::demo::IMAGE;
-use s161_run::events::{Stop, make_events};
+use s161_run::events::{RunStop, make_events};
 use s161_texts::disassembly::disassembly;
 use std::alloc::{AllocError, Global};
 use std::test::Fail;
@@ -128,7 +128,7 @@ fn image_without_listing(rt: HostRuntime) -> Result<(), Fail> {
 struct Ran {
     core: Core,
     events: Vec<Event>,
-    stop: Stop,
+    stop: RunStop,
 }
 
 /// The sample's run, once a schedule is made; `None` where there is no sample.
@@ -163,7 +163,7 @@ fn run_sample_counts(rt: HostRuntime) -> Result<(), Fail> {
     let schedule = "s 0 11\ns 1 16\ns 0 6\ns 1 23\ns 0 4\ns 1 17\ns 0 4\n";
     match run_sample(rt.alloc(), schedule)? {
         Some(Ran { core, events, stop }) => {
-            same(&rt, stop, Stop::Off);
+            same(&rt, stop, RunStop::Off);
             same(&rt, counts(&core), Some((25, 56)));
             same(&rt, events.len(), 81);
         }

@@ -9,7 +9,7 @@ use Rattle.m161_drive.specs.Drive.{Chooses, Drives, Goes, Rests}
 use Rattle.m161_drive.specs.Policy.{Rules}
 use Rattle.s161_base.specs.declared.fault.Fault.{Fault}
 use Rattle.s161_run.specs.Driven.{stop_of}
-use Rattle.s161_run.specs.declared.events.Stop.{Stop as Told}
+use Rattle.s161_run.specs.declared.events.RunStop.{RunStop as Told}
 use Rattle.s161_trace.specs.declared.lines.Lines.{Lines}
 use Rattle.s161_trace.specs.helpers.Printing.{FailsToPrint, Prints}
 

@@ -9,28 +9,28 @@ use Rattle.s161_base.specs.declared.fault.Fault.TheVariants.{Memory, Output}
 use Rattle.s161_base.specs.Naming.{style_of}
 use Rattle.s161_base.specs.Streams.{AppendsSome}
 use Rattle.s161_command.specs.declared.task.TraceTask.{TraceTask}
-use Rattle.s161_run.specs.declared.events.Stop.{Stop}
+use Rattle.s161_run.specs.declared.events.RunStop.{RunStop}
 use Rattle.s161_run.specs.Runs.{stop_line}
 use Rattle.s161_trace.specs.declared.lines.Lines.{Lines}
-use Rattle.s161_trace.specs.declared.window.Window.{Window}
+use Rattle.s161_trace.specs.declared.filter.LineFilter.{LineFilter}
 use Rattle.s161_trace.specs.Traces.{traced}
 
 -- How lines are printed as a run goes on.
 
 -- which events have lines, and how these show registers and addresses, for an image's file
-abbrev pub window_of : TraceTask → List ℕ → Window
-window_of task file = record {
+abbrev pub filter_of : TraceTask → List ℕ → LineFilter
+filter_of task file = record {
   style = style_of task.registers task.symbols task.image.now file;
   from = task.from;
   count = task.count;
 }
 
 -- whether the event of a number has a line
-abbrev pub has_line : Window → ℕ → Bool
+abbrev pub has_line : LineFilter → ℕ → Bool
 has_line w number = nat_le w.from number && nat_lt (number - w.from) w.count
 
 -- the lines that are asked for, of events from a state on, the first of which has this number
-abbrev pub lines_from : Window → ℕ → State → List Entry → List (List ℕ)
+abbrev pub lines_from : LineFilter → ℕ → State → List Entry → List (List ℕ)
 lines_from w number s entries =
     take (w.count - (number - w.from)) (drop (w.from - number) (traced w.style number s entries))
 
@@ -47,19 +47,19 @@ FailsToPut before kept more after fault =
     ((fault ≡ Output) ⊎ (fault ≡ Memory)) × AppendsSome before after (kept ++ more)
 
 -- no line is kept back yet, and the first event is made in this state
-abbrev pub IsNew : Window → State → Lines → Type 0
-IsNew w s l = (l.window ≡ w) × (l.number ≡ 0) × (l.tracer ≡ s) × (string_bytes l.piece ≡ [])
+abbrev pub IsNew : LineFilter → State → Lines → Type 0
+IsNew w s l = (l.filter ≡ w) × (l.number ≡ 0) × (l.tracer ≡ s) × (string_bytes l.piece ≡ [])
 
 -- the events of these entries led to a state, and their lines are put out
 pub record Prints
     (l : Lines) (before : Option (List ℕ)) (entries : List Entry) (t : State)
     (k : Lines) (after : Option (List ℕ)) : Type 0 where
-  pub window_is : k.window ≡ l.window
+  pub filter_is : k.filter ≡ l.filter
   pub number_is : k.number ≡ l.number + length entries
   pub tracer_is : k.tracer ≡ t
   pub leads : Leads l.tracer entries t
   pub puts :
-      PutsOut before (string_bytes l.piece) (text_of (lines_from l.window l.number l.tracer entries))
+      PutsOut before (string_bytes l.piece) (text_of (lines_from l.filter l.number l.tracer entries))
       after (string_bytes k.piece)
 
 -- they led to a state, and the output or memory fails as their lines are put out
@@ -68,17 +68,17 @@ abbrev pub FailsToPrint :
 FailsToPrint l before entries t after fault =
     Leads l.tracer entries t
     × FailsToPut before (string_bytes l.piece)
-    (text_of (lines_from l.window l.number l.tracer entries)) after fault
+    (text_of (lines_from l.filter l.number l.tracer entries)) after fault
 
 -- all that is printed of a run from a state on, which has these entries and stopped
-abbrev pub run_text : Window → State → List Entry → Stop → List ℕ
+abbrev pub run_text : LineFilter → State → List Entry → RunStop → List ℕ
 run_text w s entries stop = text_of (lines_from w 0 s entries) ++ with_line_end (stop_line stop)
 
 -- all events of a run from one state to another are made, and what is asked for is printed: `IsAll`
 -- is what is said of their entries
 abbrev pub PrintsAll :
-    Window → State → (State → List Entry → Stop → State → Type 0) → State → Option (List ℕ) →
-    Option (List ℕ) → Stop → Type 0
+    LineFilter → State → (State → List Entry → RunStop → State → Type 0) → State → Option (List ℕ) →
+    Option (List ℕ) → RunStop → Type 0
 PrintsAll w s IsAll t before after stop =
     (entries : List Entry) × IsAll s entries stop t
     × Appends before after (run_text w s entries stop)
@@ -86,13 +86,13 @@ PrintsAll w s IsAll t before after stop =
 -- the output or memory fails: before the first event; or once some events were made, whose lines are
 -- written in part; or once all were made. `IsSome` is what is said of the entries of some
 abbrev pub FailsToPrintAll :
-    Window → State → (State → List Entry → State → Type 0) →
-    (State → List Entry → Stop → State → Type 0) → State → Option (List ℕ) → Option (List ℕ) →
+    LineFilter → State → (State → List Entry → State → Type 0) →
+    (State → List Entry → RunStop → State → Type 0) → State → Option (List ℕ) → Option (List ℕ) →
     Fault → Type 0
 FailsToPrintAll w s IsSome IsAll t before after fault =
     ((fault ≡ Memory) × (after ≡ before))
     ⊎ (((fault ≡ Output) ⊎ (fault ≡ Memory))
     × ((entries : List Entry)
     × ((IsSome s entries t × AppendsSome before after (text_of (lines_from w 0 s entries)))
-    ⊎ ((stop : Stop) × IsAll s entries stop t
+    ⊎ ((stop : RunStop) × IsAll s entries stop t
     × AppendsSome before after (run_text w s entries stop)))))

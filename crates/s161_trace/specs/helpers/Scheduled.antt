@@ -6,7 +6,7 @@ use Rattle.m161_machine.specs.declared.event.Refusal.{Refusal}
 use Rattle.m161_machine.specs.State.{State, next}
 use Rattle.m161_machine.specs.History.{Leads, Refuses, entry, events_of}
 use Rattle.s161_base.specs.declared.fault.Fault.{Fault}
-use Rattle.s161_run.specs.declared.events.Stop.{Stop}
+use Rattle.s161_run.specs.declared.events.RunStop.{RunStop}
 use Rattle.s161_run.specs.Runs.{MakesEvents}
 use Rattle.s161_run.specs.helpers.Events.{EndsAfter}
 use Rattle.s161_trace.specs.declared.lines.Lines.{Lines}
@@ -54,13 +54,13 @@ MakesSome events s entries t =
     (events_of entries ≡ take (length entries) events) × Leads s entries t
 
 -- these are all that are made, for this reason
-abbrev pub MakesAll : List Event → State → List Entry → Stop → State → Type 0
+abbrev pub MakesAll : List Event → State → List Entry → RunStop → State → Type 0
 MakesAll events s entries stop t = MakesEvents s events stop entries t
 
 -- the first of these events are made and their lines put out, until one switches the machine off or
 -- is refused
 pub record PrintsSchedule
-    (s : State) (l : Lines) (before : Option (List ℕ)) (events : List Event) (stop : Stop)
+    (s : State) (l : Lines) (before : Option (List ℕ)) (events : List Event) (stop : RunStop)
     (t : State) (k : Lines) (after : Option (List ℕ)) : Type 0 where
   pub entries : List Entry
   pub makes : MakesEvents s events stop entries t

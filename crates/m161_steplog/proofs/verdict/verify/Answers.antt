@@ -1,7 +1,7 @@
 use Rattle.std.proofs.Common.{◌∙◌, subst, arith, rules, take_all}
 use Rattle.std.proofs.lemmas.Result.{err_from_is_err_and}
 use Rattle.m161_machine.specs.History.{boot_fault}
-use Rattle.m161_steplog.specs.declared.verdict.Verdict.TheVariants as verdicts
+use Rattle.m161_steplog.specs.declared.verdict.Comparison.TheVariants as verdicts
 use Rattle.m161_steplog.specs.Verdict.{IsVerdict}
 use Rattle.m161_steplog.proofs.Verdicts.{repeated, differs, judged, no_memory}
 use Rattle.m161_steplog.proofs.verdict.verify.Goals as goal

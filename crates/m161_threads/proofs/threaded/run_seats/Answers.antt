@@ -1,6 +1,6 @@
 use Rattle.std.proofs.Common.{◌≡◌, ◌∙◌, ap, sym, subst, ℕ, ◌<◌, Option, None, length, get_or, arith}
 use Rattle.std.proofs.lemmas.List.{get_or-map, length-map}
-use Rattle.m161_threads.specs.declared.worker.Stop.{Stop}
+use Rattle.m161_threads.specs.declared.worker.WorkerStop.{WorkerStop}
 use Rattle.m161_threads.specs.Shares.{SeatState}
 use Rattle.m161_threads.specs.helpers.Work.{Works}
 use Rattle.m161_threads.proofs.Working.{with_some}
@@ -31,6 +31,6 @@ returns-clause-worked g c =
           let none = c.in_ok-tally.ensures.none k x (omega (arith, there, ok)) in
           subst (λ (s : SeatState). Works p b q s (get_or made k 0) None) (sym seat_is)
           (subst (λ (m : ℕ). Works p b q (get_or all k x).seat m None) (sym made_is)
-          (subst (λ (o : Option Stop). Works p b q (get_or all k x).seat (get_or all k x).made o) none
+          (subst (λ (o : Option WorkerStop). Works p b q (get_or all k x).seat (get_or all k x).made o) none
           (c.in_ok-worked.ensures.each k x e inside))));
     }

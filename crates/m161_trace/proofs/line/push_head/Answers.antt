@@ -1,8 +1,9 @@
 use Rattle.std.proofs.Common.{◌≡◌, ◌∙◌, ◌++◌, ℕ, List, Option, None, ap, subst, decimal, string_bytes}
 use Rattle.std.specs.Prelude.{OnOk, if◌then◌else◌}
 use Rattle.m161_text.specs.Parts.{◌␣◌}
+use Rattle.m161_machine.specs.Fetched.{fetched, fetches_none}
 use Rattle.m161_machine.specs.State.{processor_at}
-use Rattle.m161_trace.specs.Line.{address_text, fetched, fetches_none, instruction_text}
+use Rattle.m161_trace.specs.Line.{address_text, instruction_text}
 use Rattle.m161_trace.proofs.line.push_head.Goals as goal
 
 pub returns : goal.returns

@@ -4,8 +4,8 @@ use Rattle.m161_drive.specs.Drive.{IsNoted}
 use Rattle.m161_machine.specs.declared.event.Entry.{Entry}
 use Rattle.m161_machine.specs.declared.event.Refusal.{Refusal}
 use Rattle.s161_run.specs.Runs.{MakesEvents, stop_off}
-use Rattle.s161_run.specs.declared.events.Stop.{Stop}
-use Rattle.s161_run.specs.declared.events.Stop.TheVariants.{End, Refused}
+use Rattle.s161_run.specs.declared.events.RunStop.{RunStop}
+use Rattle.s161_run.specs.declared.events.RunStop.TheVariants.{End, Refused}
 use Rattle.s161_run.specs.helpers.Events.{EndsAfter}
 use Rattle.s161_run.proofs.Making.{makes_so, making_more, making_none, run_passed, run_refused, run_within, stopped_off, switched}
 use Rattle.s161_run.proofs.events.make_events.Goals as goal
@@ -22,7 +22,7 @@ returns-then-is_off-was_off g c =
     making_more g.N.Notes.has s c.loop-event.core.state t c.args.notes.now c.loop-event.notes c.make_alike.new.notes events c.loop-event.left c.next.new.self
     c.loop-event.made c.in-Some.times c.in-Some.event (c.in_ok-more.more, c.in_ok-more.refusal) before.3 c.in-Some.ensures.steps.0 before.0 alike in
     let off = switched s.board.off c.loop-event.core.state t alike.entries before.1 (search rules) alike.makes.0 in
-    subst (λ (stop : Stop). (entries : List Entry) × MakesEvents s events stop entries t × IsNoted g.N.Notes.has c.args.notes.now entries c.make_alike.new.notes)
+    subst (λ (stop : RunStop). (entries : List Entry) × MakesEvents s events stop entries t × IsNoted g.N.Notes.has c.args.notes.now entries c.make_alike.new.notes)
     (sym (c.stop_off.ensures ∙ ap stop_off c.conflict.ensures))
     (makes_so g.N.Notes.has s t c.args.notes.now c.make_alike.new.notes events made (stop_off t.conflict) so_far (stopped_off s t events made t.conflict refl off))
 

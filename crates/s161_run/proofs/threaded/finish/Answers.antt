@@ -2,7 +2,7 @@ use Rattle.std.proofs.Common.{◌≡◌, ◌∙◌, ap, subst, sym, ℕ, List}
 use Rattle.std.specs.Prelude.{Option}
 use Rattle.m161_machine.specs.declared.event.Conflict.{Conflict}
 use Rattle.m161_machine.specs.State.{State}
-use Rattle.s161_run.specs.declared.events.Stop.{Stop}
+use Rattle.s161_run.specs.declared.events.RunStop.{RunStop}
 use Rattle.s161_run.specs.Runs.{shown_log, summary_text}
 use Rattle.s161_run.specs.Threads.{stop_of}
 use Rattle.s161_run.specs.helpers.Shown.{IsShown}
@@ -18,5 +18,5 @@ returns-clause-text c =
     c.in_ok-summary.ensures
     ∙ ap (λ (s : State). summary_text c.as_bytes.result.now s c.stop_of-stop.result shown) c.core.ensures
     ∙ shown_text shown c.as_bytes.result.now log m.state c.stop_of-stop.result is
-    ∙ ap (λ (stop : Stop). summary_text log m.state stop shown) c.stop_of-stop.ensures
+    ∙ ap (λ (stop : RunStop). summary_text log m.state stop shown) c.stop_of-stop.ensures
     ∙ ap (λ (conflict : Option Conflict). summary_text log m.state (stop_of c.args.report.off conflict) shown) c.conflict.ensures

@@ -1,6 +1,6 @@
 use Rattle.std.proofs.Common.{◌≡◌, ◌∙◌, ap, arith, refl, rules, subst, sym}
 use Rattle.std.proofs.lemmas.Result.{err_from_is_err_and}
-use Rattle.s161_run.specs.declared.events.Stop.{Stop}
+use Rattle.s161_run.specs.declared.events.RunStop.{RunStop}
 use Rattle.s161_run.specs.Runs.{stop_off}
 use Rattle.s161_trace.specs.helpers.Scheduled.{PrintsSchedule}
 use Rattle.s161_trace.proofs.Scheduling.{ended_then, fails_then, made_none, made_then, off_then, passed_then, refused_at, within_then}
@@ -27,7 +27,7 @@ returns-then-is_off-was_off-clause-ok g c =
     let j = c.trace_alike.new.lines in
     let x = g.O.Write.contents c.trace_alike.new.output in
     let is = c.stop_off.ensures ∙ ap stop_off c.conflict.ensures in
-    subst (λ (stop : Stop). PrintsSchedule s l a c.args.events.now stop u j x) (sym is)
+    subst (λ (stop : RunStop). PrintsSchedule s l a c.args.events.now stop u j x) (sym is)
     (off_then s l a c.requires.step c.args.events.now c.loop-event.made c.loop-event.machine.state c.loop-event.lines (g.O.Write.contents c.loop-event.output)
     before.0 c.loop-event.left c.next.new.self c.in-Some.times c.in-Some.event before.3 c.in-Some.ensures.steps.0 u x c.in_ok-alike.alike j
     c.in_ok-alike.ensures.ok (search rules))

@@ -1,7 +1,7 @@
 use Rattle.std.proofs.lemmas.Result.{err_from_is_err_and}
 use Rattle.s161_trace.specs.helpers.Scheduled.{MakesAll, MakesSome}
 use Rattle.s161_trace.specs.helpers.Booted.{FailsRun}
-use Rattle.s161_trace.proofs.Finishing.{booted_so, ends_so, not_booted, run_fails, run_prints, without_window}
+use Rattle.s161_trace.proofs.Finishing.{booted_so, ends_so, not_booted, run_fails, run_prints, without_filter}
 use Rattle.s161_trace.proofs.trace.run_schedule.Goals as goal
 
 pub returns-in_err-machine-clause-err : goal.returns-in_err-machine-clause-err
@@ -14,15 +14,15 @@ returns-in_err-machine-clause-err g c =
     (not_booted task file (MakesSome c.args.events.now) (MakesAll c.args.events.now) a c.conf_of.result c.in_err-machine.field-0.0 made.0 c.conf_of.ensures
     c.in_err-machine.ensures.answer made.2)
 
-pub returns-in_err-window-clause-err : goal.returns-in_err-window-clause-err
-returns-in_err-window-clause-err g c =
-    let made = err_from_is_err_and c.from_residual-in_err-window.result c.from_residual-in_err-window.ensures.1 in
+pub returns-in_err-filter-clause-err : goal.returns-in_err-filter-clause-err
+returns-in_err-filter-clause-err g c =
+    let made = err_from_is_err_and c.from_residual-in_err-filter.result c.from_residual-in_err-filter.ensures.1 in
     let task = c.args.task.now in
     let file = c.args.file.now in
     let m = c.in_ok-machine.machine in
     let boots = booted_so task file c.conf_of.result m c.conf_of.ensures c.in_ok-machine.ensures.answer in
     rw (made.1, made.2)
-    (without_window task file (MakesSome c.args.events.now) (MakesAll c.args.events.now) (g.O.Write.contents c.args.output.now) m.state boots)
+    (without_filter task file (MakesSome c.args.events.now) (MakesAll c.args.events.now) (g.O.Write.contents c.args.output.now) m.state boots)
 
 pub returns-clause-ok : goal.returns-clause-ok
 returns-clause-ok g c =
@@ -31,7 +31,7 @@ returns-clause-ok g c =
     let m = c.in_ok-machine.machine in
     let boots = booted_so task file c.conf_of.result m c.conf_of.ensures c.in_ok-machine.ensures.answer in
     run_prints task file (MakesSome c.args.events.now) (MakesAll c.args.events.now) (g.O.Write.contents c.args.output.now) m.state boots
-    c.in_ok-window.window c.in_ok-window.ensures c.print_schedule.new.machine.state (g.O.Write.contents c.print_schedule.new.output) c.print_schedule.result c.print_schedule.ensures.ok
+    c.in_ok-filter.filter c.in_ok-filter.ensures c.print_schedule.new.machine.state (g.O.Write.contents c.print_schedule.new.output) c.print_schedule.result c.print_schedule.ensures.ok
 
 pub returns-clause-err : goal.returns-clause-err
 returns-clause-err g c =
@@ -40,4 +40,4 @@ returns-clause-err g c =
     let m = c.in_ok-machine.machine in
     let boots = booted_so task file c.conf_of.result m c.conf_of.ensures c.in_ok-machine.ensures.answer in
     run_fails task file (MakesSome c.args.events.now) (MakesAll c.args.events.now) (g.O.Write.contents c.args.output.now) m.state boots
-    c.in_ok-window.window c.in_ok-window.ensures c.print_schedule.new.machine.state (g.O.Write.contents c.print_schedule.new.output) c.print_schedule.result c.print_schedule.ensures.err
+    c.in_ok-filter.filter c.in_ok-filter.ensures c.print_schedule.new.machine.state (g.O.Write.contents c.print_schedule.new.output) c.print_schedule.result c.print_schedule.ensures.err

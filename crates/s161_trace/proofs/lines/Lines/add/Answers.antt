@@ -19,10 +19,10 @@ returns-clause-ok g c =
     let l = c.args.self.now in
     let a = g.O.Write.contents c.args.output.now in
     let kept = string_bytes l.piece in
-    let none : text_of (lines_from l.window l.number l.tracer (entry c.args.event c.args.outcome ∷ [])) ≡ [] =
-    without_line l.window l.number l.tracer c.args.event c.args.outcome c.args.machine.now.state (sym c.has.ensures ∙ c.if-has.false) c.requires.accepted in
+    let none : text_of (lines_from l.filter l.number l.tracer (entry c.args.event c.args.outcome ∷ [])) ≡ [] =
+    without_line l.filter l.number l.tracer c.args.event c.args.outcome c.args.machine.now.state (sym c.has.ensures ∙ c.if-has.false) c.requires.accepted in
     record {
-      window_is = c.in_ok-pass.ensures.window;
+      filter_is = c.in_ok-pass.ensures.filter;
       number_is = c.in_ok-pass.ensures.number;
       tracer_is = c.in_ok-pass.ensures.made c.args.outcome c.args.machine.now.state c.requires.accepted;
       leads = one_leads l.tracer c.args.event c.args.outcome c.args.machine.now.state c.requires.accepted;

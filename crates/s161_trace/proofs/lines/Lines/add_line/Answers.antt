@@ -20,7 +20,7 @@ returns-in_err-put-clause-err g c =
     let b = g.O.Write.contents c.put.new.output in
     let fault = c.in_err-put.field-0.0 in
     let line = string_bytes c.write.new.self.line in
-    let text = with_line l.window l.number l.tracer c.args.event c.args.outcome c.args.machine.now.state c.requires.has c.requires.accepted in
+    let text = with_line l.filter l.number l.tracer c.args.event c.args.outcome c.args.machine.now.state c.requires.has c.requires.accepted in
     rw (made.1, made.2) (
       one_leads l.tracer c.args.event c.args.outcome c.args.machine.now.state c.requires.accepted,
       subst (λ more. FailsToPut a (string_bytes l.piece) more b fault) (sym text)
@@ -35,9 +35,9 @@ returns-clause-ok g c =
     let b = g.O.Write.contents c.put.new.output in
     let left = string_bytes c.put.new.self.piece in
     let line = string_bytes c.write.new.self.line in
-    let text = with_line l.window l.number l.tracer c.args.event c.args.outcome c.args.machine.now.state c.requires.has c.requires.accepted in
+    let text = with_line l.filter l.number l.tracer c.args.event c.args.outcome c.args.machine.now.state c.requires.has c.requires.accepted in
     record {
-      window_is = c.in_ok-put.ensures.window ∙ c.in_ok-write.ensures.window;
+      filter_is = c.in_ok-put.ensures.filter ∙ c.in_ok-write.ensures.filter;
       number_is = c.in_ok-put.ensures.number ∙ c.in_ok-write.ensures.number;
       tracer_is = c.in_ok-put.ensures.tracer ∙ c.in_ok-write.ensures.tracer;
       leads = one_leads l.tracer c.args.event c.args.outcome c.args.machine.now.state c.requires.accepted;

@@ -1,7 +1,7 @@
 //! Which events have lines.
 
 ghost use Rattle.std.specs.Prelude.{◌≡◌, IfOk};
-ghost use Rattle.s161_trace.specs.helpers.Printing.{has_line, window_of};
+ghost use Rattle.s161_trace.specs.helpers.Printing.{has_line, filter_of};
 
 use m161_dis::Style;
 use s161_base::naming::style_of;
@@ -10,7 +10,7 @@ use std::alloc::{AllocError, Global};
 
 /// Which events have lines, and how these show registers and addresses.
 #[derive(Drop)]
-pub(crate) struct Window {
+pub(crate) struct LineFilter {
     /// How registers and addresses are shown.
     pub style: Style,
     /// The number of the first event that has a line.
@@ -19,12 +19,16 @@ pub(crate) struct Window {
     pub count: u64,
 }
 
-impl Window {
+impl LineFilter {
     /// The events that a task over an image's file asks for.
-    pub(crate) fn of(alloc: Global, task: &TraceTask<'_>, file: &[u8]) -> Result<Window, AllocError>
-        ensures { IfOk result (λ window. window ≡ window_of task.now file.now) }
+    pub(crate) fn of(
+        alloc: Global,
+        task: &TraceTask<'_>,
+        file: &[u8],
+    ) -> Result<LineFilter, AllocError>
+        ensures { IfOk result (λ filter. filter ≡ filter_of task.now file.now) }
     {
-        Ok(Window {
+        Ok(LineFilter {
             style: style_of(alloc, task.registers, task.symbols, task.image, file)?,
             from: task.from,
             count: task.count,
