@@ -11,7 +11,7 @@ ghost use Rattle.m161_cpu.specs.helpers.Execute.{idle_or_running};
 
 mod views;
 
-use crate::fault::Fault;
+use crate::fault::StepFault;
 use crate::kept::Kept;
 use m161_alu::HiLoPair;
 use m161_cop0::{Cop0, Exception, Trap};

@@ -4,7 +4,7 @@ ghost use Rattle.std.specs.Prelude.{◌≡◌, ℕ, List};
 ghost use Rattle.m161_isa.specs.declared.instr.Instr.TheVariants.{MoveFrom, MoveTo, Multiply};
 ghost use Rattle.m161_cpu.specs.helpers.Execute.{ExecutesInProcessor};
 
-use crate::fault::Fault;
+use crate::fault::StepFault;
 use crate::processor::{Cpu, Flow};
 use m161_alu::{HiLoPair, Signedness, div, mult};
 use m161_isa::{HiLo, MultiplyOp, Reg};

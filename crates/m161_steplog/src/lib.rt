@@ -51,7 +51,7 @@ mod shown;
 mod verdict;
 mod written;
 
-pub use fault::Fault;
+pub use fault::TextFault;
 pub use laws::{
     log_behind_machine_line, log_without_comments, written_log_is_read, written_schedule_is_read,
 };

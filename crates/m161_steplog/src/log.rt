@@ -12,7 +12,7 @@ ghost use Rattle.m161_steplog.specs.Comments.{IsLogFile, IsFirstBadOfLog};
 ghost use Rattle.m161_steplog.specs.helpers.Log.{ReadsLines, fault_behind};
 
 use crate::comments::pass_comments;
-use crate::fault::Fault;
+use crate::fault::TextFault;
 use crate::line::parse_entry;
 use crate::mode::{Mode, parse_header};
 use crate::shown::{ShownEntry, ShownMode};

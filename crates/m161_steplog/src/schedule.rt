@@ -12,7 +12,7 @@ ghost use Rattle.m161_steplog.specs.Text.{event_text, IsEvent};
 ghost use Rattle.m161_steplog.specs.Schedule.{IsCount, IsSchedule, AreScheduleLines};
 ghost use Rattle.m161_steplog.specs.helpers.Schedule.{item_events, AddsEvents, ReadsLine};
 
-use crate::fault::Fault;
+use crate::fault::TextFault;
 use m161_machine::{Event, Events};
 use m161_text::{cut_at_space, next_line, parse_byte, parse_decimal};
 use std::alloc::Global;
