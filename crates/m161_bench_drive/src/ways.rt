@@ -3,7 +3,7 @@
 use circular_buffer::HeapCircularBuffer;
 use m161::{Conf, Console, Core, LinkUnit, Machine, Tlb};
 use m161_drive::{Order, PackedEntry, Policy, drive};
-use m161_judge::{Booted, Watch, judge_booted};
+use m161_judge::{Booted, Goal, Watch, judge_booted};
 use std::alloc::Global;
 use std::time::{Clock, Instant};
 
@@ -72,12 +72,18 @@ fn judge_seeds(alloc: Global, image: &[u8], seeds: u32, watches: &[Watch]) -> Op
     let Ok(booted) = Booted::<Tlb, Console>::new(alloc, image, conf(EVENTS)) else {
         return None;
     };
+    let goal = Goal {
+        watches,
+        never: &[],
+        output: None,
+        keys: &[],
+    };
     let mut made = 0u64;
     for seed in 0..seeds {
         let order = Order::Random(u64::from(seed));
         let policy = Policy::new(order, 100, Some(1_000), &[]).ok()?;
         let events = u64::from(EVENTS);
-        let run = judge_booted(alloc, &booted, &policy, events, watches, None).ok()?;
+        let run = judge_booted(alloc, &booted, &policy, events, &goal).ok()?;
         made = made.checked_add(run.events.len() as u64)?;
     }
     Some(made)

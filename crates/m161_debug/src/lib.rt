@@ -60,5 +60,6 @@ pub use condition::Condition;
 pub use jump::JumpError;
 pub use laws::{has_one_stop, tells_conflict};
 pub use m161_machine::{Event, Machine, Outcome, Refusal};
+pub use reading::address_of_word;
 pub use session::Session;
 pub use stop::StopReason;

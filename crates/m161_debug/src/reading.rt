@@ -1,6 +1,6 @@
 //! Reading the parts of a command.
 
-ghost use Rattle.std.specs.Prelude.{◌<◌, ◌≤◌, ◌≡◌, ◌↔◌, ℕ, None, length, true, false, get_or};
+ghost use Rattle.std.specs.Prelude.{◌<◌, ◌≤◌, ◌≡◌, ◌↔◌, ℕ, IfNone, IfSome, None, length, true, false, get_or};
 ghost use Rattle.std.specs.Str.Parse.{AllDigits};
 ghost use Rattle.m161_text.specs.Parts.{hex_text};
 ghost use Rattle.m161_debug.specs.Commands.{AreNumbers, AreParts, IsAddress, IsByteText, IsCount, IsBehind, IsDecimal, IsHex, IsNamed, IsNumber, IsPlace};
@@ -99,6 +99,15 @@ pub(crate) fn place(symbols: &Symbols, text: &str) -> Option<u32>
         Some(at) => Some(at),
         None => name(symbols, text),
     }
+}
+
+/// The address that a word of a command stands for: 1 to 8 lower case hexadecimal digits, behind 0x or
+/// not; or else a symbol's name; or a name, `+`, and a distance in bytes that is written as an address.
+pub fn address_of_word(symbols: &Symbols, word: &str) -> Option<u32>
+    ensures some { IfSome result (λ address. IsPlace symbols.now address word.now) }
+    ensures none { IfNone result ((address : ℕ) → IsPlace symbols.now address word.now → ⊥) }
+{
+    place(symbols, word)
 }
 
 /// Two numbers.

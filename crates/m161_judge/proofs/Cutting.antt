@@ -5,15 +5,16 @@ use Rattle.std.proofs.lemmas.Option.{slice_get_within}
 use Rattle.circular_buffer.proofs.Places.{slice_get-take}
 use Rattle.m161_cpu.specs.declared.uses.Via.{Via}
 use Rattle.m161_machine.specs.declared.event.Event.{Event}
+use Rattle.m161_machine.specs.declared.event.Event.TheVariants.{Step}
 use Rattle.m161_machine.specs.State.{State}
 use Rattle.m161_machine.specs.StoreHistory.{StoreState, without_stores}
 use Rattle.m161_audit.specs.declared.watch.Watch.{Watch}
 use Rattle.m161_audit.specs.Stale.{IsStale, IsStaleAt, after_events}
 use Rattle.m161_judge.specs.declared.verdict.Judged.{Judged}
 use Rattle.m161_judge.specs.declared.verdict.Verdict.{Verdict}
-use Rattle.m161_judge.specs.declared.verdict.Verdict.TheVariants.{Stale, Conflict, Stuck, Output, End}
+use Rattle.m161_judge.specs.declared.verdict.Verdict.TheVariants.{Stale, Reached, Conflict, Stuck, Output, End}
 use Rattle.m161_judge.specs.Laws.{CutKeepsVerdict}
-use Rattle.m161_judge.specs.Verdict.{Criteria, Holds, IsRefused, IsStuckAfter, IsStuckBadly, LeadsTo, after, has_keys, is_stuck, rank}
+use Rattle.m161_judge.specs.Verdict.{Criteria, Holds, IsReachAt, IsRefused, IsStuckAfter, IsStuckBadly, LeadsTo, after, has_keys, is_stuck, rank}
 
 -- A list that is cut behind its verdict.
 
@@ -67,6 +68,37 @@ stale_down s events watches n k p v less h =
     let most : k ≤ n = omega (arith, less) in
     (h.0, slice_get-take n events k less ∙ h.1, subst (λ es. IsStale (after_events s es) watches h.0 p v) (sym (take-take k n events most)) h.2)
 
+reach_up : (never : List ℕ) (s : State) (events : List Event) (n k p address : ℕ) → n ≤ length events →
+    IsReachAt never s (take n events) k p address → (k < n) × IsReachAt never s events k p address
+reach_up never s events n k p address few h =
+    let within = slice_get_within (take n events) k (Step p) h.event_is in
+    let less : k < n = let all = cut_length events n few in omega (arith, all, within) in (
+      less,
+      record {
+        event_is = sym (slice_get-take n events k less) ∙ h.event_is;
+        state = h.state;
+        leads = (leads_up s events n k h.state few h.leads).1;
+        given = h.given;
+        accepted = h.accepted;
+        fetches = h.fetches;
+        address_is = h.address_is;
+        is_among = h.is_among;
+      },
+    )
+
+reach_down : (never : List ℕ) (s : State) (events : List Event) (n k p address : ℕ) → n ≤ length events → k < n →
+    IsReachAt never s events k p address → IsReachAt never s (take n events) k p address
+reach_down never s events n k p address few less h = record {
+  event_is = slice_get-take n events k less ∙ h.event_is;
+  state = h.state;
+  leads = leads_down s events n k h.state few (omega (arith, less)) h.leads;
+  given = h.given;
+  accepted = h.accepted;
+  fetches = h.fetches;
+  address_is = h.address_is;
+  is_among = h.is_among;
+}
+
 refused_up : (s : State) (events : List Event) (n : ℕ) → n ≤ length events → IsRefused s (take n events) → IsRefused s events
 refused_up s events n few r =
     let within = slice_get_within (take n events) r.place r.event r.event_is in
@@ -83,7 +115,7 @@ refused_up s events n few r =
     }
 
 -- what holds of the cut list holds of the whole, but for End
-up : (goal : Criteria) (s : State) (events : List Event) (n : ℕ) (v : Verdict) (k : ℕ) → n ≤ length events → rank v < 4 →
+up : (goal : Criteria) (s : State) (events : List Event) (n : ℕ) (v : Verdict) (k : ℕ) → n ≤ length events → rank v < 5 →
     Holds goal s (take n events) v k → Holds goal s events v k
 up goal s events n (Stale place p address row) k few low h =
     let use_is = h.0.1 in
@@ -94,6 +126,9 @@ up goal s events n (Stale place p address row) k few low h =
       ),
       h.1,
     )
+up goal s events n (Reached place p address) k few low h =
+    let at = reach_up goal.never s events n place p address few h.0 in
+    (at.1, h.1, λ j q b less reach. h.2 j q b less (reach_down goal.never s events n j q b few (omega (arith, less, at.0)) reach))
 up goal s events n (Conflict conflict) k few low h =
     (h.0, (leads_up s events n k h.0 few h.1).1, h.2, h.3)
 up goal s events n Stuck k few low h =
@@ -114,6 +149,9 @@ down goal s events n (Stale place p address row) few h =
       ),
       h.1,
     )
+down goal s events n (Reached place p address) few h =
+    let less : place < n = let all = h.1 in omega (arith, all) in
+    (reach_down goal.never s events n place p address few less h.0, h.1, λ j q b before reach. h.2 j q b before (reach_up goal.never s events n j q b few reach).1)
 down goal s events n (Conflict conflict) few h =
     (h.0, leads_down s events n n h.0 few (omega arith) h.1, h.2, h.3)
 down goal s events n Stuck few h =
@@ -132,13 +170,17 @@ few_enough : (goal : Criteria) (s : State) (events : List Event) (v : Verdict) (
 few_enough goal s events (Stale place p address row) n h =
     let at = h.0.1.3 in
     let within = slice_get_within events place at.0 at.1 in omega (arith, h.1, within)
+few_enough goal s events (Reached place p address) n h =
+    let within = slice_get_within events place (Step p) h.0.event_is in
+    let all = h.1 in omega (arith, all, within)
 few_enough goal s events (Conflict conflict) n h = h.1.0
 few_enough goal s events Stuck n h = h.0.1.0.0
 few_enough goal s events Output n h = h.1.1.0
 few_enough goal s events End n h = omega (arith, h.1)
 
-rank_few : (v : Verdict) → rank v ≤ 4
+rank_few : (v : Verdict) → rank v ≤ 5
 rank_few (Stale place p address row) = omega arith
+rank_few (Reached place p address) = omega arith
 rank_few (Conflict conflict) = omega arith
 rank_few Stuck = omega arith
 rank_few Output = omega arith

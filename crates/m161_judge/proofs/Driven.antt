@@ -2,7 +2,6 @@ use Rattle.std.proofs.Common.{◌≡◌, ◌∙◌, refl, sym, ap, subst, ℕ, z
 use Rattle.std.specs.Prelude.{Option, None, count_by, is_some, nat_lt, slice_get}
 use Rattle.std.proofs.lemmas.Bool.Decides.{nat_tests}
 use Rattle.std.proofs.lemmas.List.{take_all}
-use Rattle.m161_audit.specs.declared.watch.Watch.{Watch}
 use Rattle.m161_machine.specs.declared.event.Entry.{Entry}
 use Rattle.m161_machine.specs.declared.event.Event.{Event}
 use Rattle.m161_machine.specs.History.{events_of}
@@ -13,8 +12,7 @@ use Rattle.m161_drive.specs.declared.run.Driven.{Driven}
 use Rattle.m161_drive.specs.Drive.{Chooses, Drives}
 use Rattle.m161_drive.specs.Policy.{Rules}
 use Rattle.m161_judge.specs.declared.seen.Seen.{Seen}
-use Rattle.m161_judge.specs.Run.{criteria}
-use Rattle.m161_judge.specs.Verdict.{LeadsTo, after, has_keys, is_key, is_stuck}
+use Rattle.m161_judge.specs.Verdict.{Criteria, LeadsTo, after, has_keys, is_key, is_stuck}
 use Rattle.m161_judge.specs.helpers.Walk.{Ends, HasSeen}
 use Rattle.m161_judge.proofs.Choosing.{chooses_leads, not_stuck_on_the_way}
 
@@ -41,13 +39,15 @@ stuck_on_the_way rules es d s t k u h less at stuck =
     not_stuck_on_the_way rules es (cursor_at rules s) d s t k u h less at.1
     (subst (λ n. is_stuck (nat_lt n (length rules.keys)) u ≡ true) typed stuck)
 
-pub driven_seen : (rules : Rules) (watches : List Watch) (output : Option (List ℕ)) (es : List Entry) (d : Cursor) (s t : State) →
+pub driven_seen : (rules : Rules) (goal : Criteria) (es : List Entry) (d : Cursor) (s t : State) → goal.keys ≡ rules.keys →
     Chooses rules (slice_get rules.keys) (cursor_at rules s) s es d t →
-    HasSeen (criteria watches output rules) s (events_of es) (length (events_of es)) (record { stuck = None; was_stuck = false })
-driven_seen rules watches output es d s t h = (
-  λ k less bad. stuck_on_the_way rules es d s t k bad.0 h less bad.1.0 bad.1.1,
-  λ k u less at. stuck_on_the_way rules es d s t k u h less at.0 at.1,
-)
+    HasSeen goal s (events_of es) (length (events_of es)) (record { stuck = None; was_stuck = false })
+driven_seen rules goal es d s t keys h =
+    let by_rules : (k : ℕ) (u : State) → is_stuck (has_keys goal.keys (take k (events_of es))) u ≡ true → is_stuck (has_keys rules.keys (take k (events_of es))) u ≡ true =
+    λ k u stuck. subst (λ ks. is_stuck (has_keys ks (take k (events_of es))) u ≡ true) keys stuck in (
+      λ k less bad. stuck_on_the_way rules es d s t k bad.0 h less bad.1.0 (by_rules k bad.0 bad.1.1),
+      λ k u less at. stuck_on_the_way rules es d s t k u h less at.0 (by_rules k u at.1),
+    )
 
 -- a key is left exactly where there is a next one
 none_left : (n : ℕ) → false ≡ nat_lt n 0
@@ -73,14 +73,13 @@ run_ends rules n s t driven entries events made drives same all =
     (driven_ends rules entries (cursor_at rules s) drives.cursor s t drives.chosen_are))
 
 pub run_seen : (rules : Rules) (n : ℕ) (s t : State) (driven : Driven) (entries : List Entry) (events : List Event) (made : ℕ)
-    (watches : List Watch) (output : Option (List ℕ)) → Drives rules n s driven entries t → events ≡ events_of entries →
-    made ≡ length events → HasSeen (criteria watches output rules) s events made (record { stuck = None; was_stuck = false })
-run_seen rules n s t driven entries events made watches output drives same all =
-    let goal = criteria watches output rules in
+    (goal : Criteria) → goal.keys ≡ rules.keys → Drives rules n s driven entries t → events ≡ events_of entries →
+    made ≡ length events → HasSeen goal s events made (record { stuck = None; was_stuck = false })
+run_seen rules n s t driven entries events made goal keys drives same all =
     let none : Seen = record { stuck = None; was_stuck = false } in
     subst (λ j. HasSeen goal s events j none) (sym all)
     (subst (λ es. HasSeen goal s es (length es) none) (sym same)
-    (driven_seen rules watches output entries drives.cursor s t drives.chosen_are))
+    (driven_seen rules goal entries drives.cursor s t keys drives.chosen_are))
 
 -- all of the events
 pub all_keys : (keys : List ℕ) (events : List Event) (made : ℕ) → made ≡ length events → has_keys keys events ≡ has_keys keys (take made events)

@@ -1,6 +1,7 @@
 use Rattle.std.proofs.Common.{◌≡◌, ◌≢◌, ◌∙◌, refl, sym, subst, ℕ, ◌+◌, ◌-◌, ◌<◌, ◌⊎◌, inl, inr, Bool, true, false, not, List, length, arith}
 use Rattle.std.proofs.Common.{Bor}
-use Rattle.std.specs.Prelude.{Option, None, Some, Result, Ok, Err, is_some, slice_get}
+use Rattle.std.specs.Prelude.{Option, None, Some, Result, Ok, Err, is_some, option_map, slice_get}
+use Rattle.std.specs.Option.{option_or}
 use Rattle.std.proofs.lemmas.Bool.Decides.{eqb_tells}
 use Rattle.std.proofs.lemmas.Option.{slice_get_within}
 use Rattle.m161_cpu.specs.declared.processor.Outcome.{Outcome}
@@ -15,10 +16,12 @@ use Rattle.m161_audit.specs.Stale.{IsFinding}
 use Rattle.m161_judge.specs.declared.seen.Seen.{Seen}
 use Rattle.m161_judge.specs.declared.verdict.Judged.{Judged}
 use Rattle.m161_judge.specs.declared.verdict.Verdict.{Verdict}
-use Rattle.m161_judge.specs.declared.verdict.Verdict.TheVariants.{Stale, Conflict, Stuck, Output, End}
+use Rattle.m161_judge.specs.declared.verdict.Verdict.TheVariants.{Stale, Reached, Conflict, Stuck, Output, End}
 use Rattle.m161_judge.specs.Judge.{bytes_of}
 use Rattle.m161_judge.specs.Verdict.{Criteria, HasSent, Holds, IsRefused, IsStuckAfter, IsStuckBadly, LeadsTo, rank}
-use Rattle.m161_judge.specs.helpers.Walk.{Ends, HasSeen, IsBelow, IsConflictOff, IsFirstBad, IsJudgedBehind, IsJudgedBeside, Joins, WasStuck}
+use Rattle.m161_judge.specs.declared.reach.Reach.{Reach}
+use Rattle.m161_judge.specs.helpers.Reach.{IsFirstReach}
+use Rattle.m161_judge.specs.helpers.Walk.{Ends, HasSeen, IsBelow, IsConflictOff, IsFirstBad, IsJudgedBehind, IsJudgedBeside, Joins, JoinsSteps, WasStuck, judged_reach}
 use Rattle.m161_judge.proofs.Running.{leads_to_one, made_within, none_past_off}
 
 -- Verdicts of runs that have ended.
@@ -101,7 +104,7 @@ none_stuck goal s events n t seen e none k u h =
 
 -- each kind
 
-none_between : (v : Verdict) → 1 < rank v → rank v < 2 → ⊥
+none_between : (v : Verdict) → 2 < rank v → rank v < 3 → ⊥
 none_between v a b = omega (arith, a, b)
 
 pub judged_stuck : (goal : Criteria) (s : State) (events : List Event) (n first : ℕ) (t : State) (seen : Seen) → Ended goal s events n t seen →
@@ -110,10 +113,11 @@ judged_stuck goal s events n first t seen e some =
     let at : IsFirstBad goal s events (n + 1) (Some first) = subst (IsFirstBad goal s events (n + 1)) some e.looked.0 in
     (omega arith, (at.1, at.2), λ v k a b h. none_between v a b)
 
--- of those behind Stale and Conflict
+-- of those behind Conflict
 behind : (goal : Criteria) (s : State) (events : List Event) → ((n : ℕ) → Holds goal s events Stuck n → ⊥) → ((n : ℕ) → Holds goal s events Output n → ⊥) →
-    ((n : ℕ) → Holds goal s events End n → ⊥) → (v : Verdict) (n : ℕ) → 1 < rank v → Holds goal s events v n → ⊥
+    ((n : ℕ) → Holds goal s events End n → ⊥) → (v : Verdict) (n : ℕ) → 2 < rank v → Holds goal s events v n → ⊥
 behind goal s events stuck output end (Stale place p address row) n a h = omega (arith, a)
+behind goal s events stuck output end (Reached place p address) n a h = omega (arith, a)
 behind goal s events stuck output end (Conflict conflict) n a h = omega (arith, a)
 behind goal s events stuck output end Stuck n a h = stuck n h
 behind goal s events stuck output end Output n a h = output n h
@@ -130,8 +134,9 @@ true_is_not false h k = let bad : false ≡ true = h in cc
 
 -- the verdicts between
 only_stuck : (goal : Criteria) (s : State) (events : List Event) → ((n : ℕ) → Holds goal s events Stuck n → ⊥) →
-    (v : Verdict) (n : ℕ) → 1 < rank v → rank v < 3 → Holds goal s events v n → ⊥
+    (v : Verdict) (n : ℕ) → 2 < rank v → rank v < 4 → Holds goal s events v n → ⊥
 only_stuck goal s events stuck (Stale place p address row) n a b h = omega (arith, a)
+only_stuck goal s events stuck (Reached place p address) n a b h = omega (arith, a)
 only_stuck goal s events stuck (Conflict conflict) n a b h = omega (arith, a)
 only_stuck goal s events stuck Stuck n a b h = stuck n h
 only_stuck goal s events stuck Output n a b h = omega (arith, b)
@@ -157,7 +162,7 @@ pub judged_output : (goal : Criteria) (s : State) (events : List Event) (n : ℕ
     seen.stuck ≡ None → (goal.output ≢ None) → t.board.off ≡ true → (HasSent goal t → ⊥) →
     IsJudgedBehind goal s events (Some (record { verdict = Output; events = n }))
 judged_output goal s events n t seen e none asked off not =
-    let lower : (v : Verdict) (k : ℕ) → 1 < rank v → rank v < 3 → Holds goal s events v k → ⊥ = only_stuck goal s events (λ k h. none_bad goal s events n t seen e none k h.0) in
+    let lower : (v : Verdict) (k : ℕ) → 2 < rank v → rank v < 4 → Holds goal s events v k → ⊥ = only_stuck goal s events (λ k h. none_bad goal s events n t seen e none k h.0) in
     (omega arith, (asked, (t, e.ends.leads, off, not)), lower)
 
 -- it isn't off
@@ -175,8 +180,9 @@ judged_waiting goal s events n t seen e none on was =
     (λ k h. h.3 at.0 at.1 at.2)
 
 not_behind : (goal : Criteria) (s : State) (events : List Event) → ((n : ℕ) → Holds goal s events Stuck n → ⊥) → ((n : ℕ) → Holds goal s events Output n → ⊥) →
-    (v : Verdict) (n : ℕ) → 1 < rank v → rank v < 4 → Holds goal s events v n → ⊥
+    (v : Verdict) (n : ℕ) → 2 < rank v → rank v < 5 → Holds goal s events v n → ⊥
 not_behind goal s events stuck output (Stale place p address row) n a b h = omega (arith, a)
+not_behind goal s events stuck output (Reached place p address) n a b h = omega (arith, a)
 not_behind goal s events stuck output (Conflict conflict) n a b h = omega (arith, a)
 not_behind goal s events stuck output Stuck n a b h = stuck n h
 not_behind goal s events stuck output Output n a b h = output n h
@@ -209,16 +215,18 @@ unconflicted goal s events n t ends none conflict k h =
     no_conflict conflict t.conflict (none (subst (λ v. v.board.off ≡ true) same h.2)) (subst (λ v. v.conflict ≡ Some conflict) same h.3)
 
 beside_by : (goal : Criteria) (s : State) (events : List Event) → ((conflict : ConflictOf) (k : ℕ) → Holds goal s events (Conflict conflict) k → ⊥) →
-    (high : (v : Verdict) (n : ℕ) → 1 < rank v → Holds goal s events v n → ⊥) → (v : Verdict) (n : ℕ) → 0 < rank v → Holds goal s events v n → ⊥
+    (high : (v : Verdict) (n : ℕ) → 2 < rank v → Holds goal s events v n → ⊥) → (v : Verdict) (n : ℕ) → 1 < rank v → Holds goal s events v n → ⊥
 beside_by goal s events none high (Stale place p address row) n a h = omega (arith, a)
+beside_by goal s events none high (Reached place p address) n a h = omega (arith, a)
 beside_by goal s events none high (Conflict conflict) n a h = none conflict n h
 beside_by goal s events none high Stuck n a h = high Stuck n (omega arith) h
 beside_by goal s events none high Output n a h = high Output n (omega arith) h
 beside_by goal s events none high End n a h = high End n (omega arith) h
 
 before_by : (goal : Criteria) (s : State) (events : List Event) (r : ℕ) → ((conflict : ConflictOf) (k : ℕ) → Holds goal s events (Conflict conflict) k → ⊥) →
-    (high : (v : Verdict) (n : ℕ) → 1 < rank v → rank v < r → Holds goal s events v n → ⊥) → (v : Verdict) (n : ℕ) → 0 < rank v → rank v < r → Holds goal s events v n → ⊥
+    (high : (v : Verdict) (n : ℕ) → 2 < rank v → rank v < r → Holds goal s events v n → ⊥) → (v : Verdict) (n : ℕ) → 1 < rank v → rank v < r → Holds goal s events v n → ⊥
 before_by goal s events r none high (Stale place p address row) n a b h = omega (arith, a)
+before_by goal s events r none high (Reached place p address) n a b h = omega (arith, a)
 before_by goal s events r none high (Conflict conflict) n a b h = none conflict n h
 before_by goal s events r none high Stuck n a b h = high Stuck n (omega arith) b h
 before_by goal s events r none high Output n a b h = high Output n (omega arith) b h
@@ -238,32 +246,60 @@ is_place goal s events clean (Stale place p address row) n less h =
     let use_is = h.0.1 in
     let at = use_is.3 in
     clean place (slice_get_within events place at.0 at.1) p use_is.0 at
+is_place goal s events clean (Reached place p address) n less h = omega (arith, less)
 is_place goal s events clean (Conflict conflict) n less h = omega (arith, less)
 is_place goal s events clean Stuck n less h = omega (arith, less)
 is_place goal s events clean Output n less h = omega (arith, less)
 is_place goal s events clean End n less h = omega (arith, less)
 
-no_stale : (P : Verdict → Type 0) → ((v : Verdict) → rank v < 1 → P v → ⊥) → ((v : Verdict) → 0 < rank v → P v → ⊥) → (v : Verdict) → P v → ⊥
-no_stale P low high (Stale place p address row) h = low (Stale place p address row) (omega arith) h
-no_stale P low high (Conflict conflict) h = high (Conflict conflict) (omega arith) h
-no_stale P low high Stuck h = high Stuck (omega arith) h
-no_stale P low high Output h = high Output (omega arith) h
-no_stale P low high End h = high End (omega arith) h
+-- without a stale use, and without a reach
+no_step : (goal : Criteria) (s : State) (events : List Event) → IsFinding (without_stores s) events goal.watches finding.Clean →
+    IsFirstReach goal.never s events None → (v : Verdict) (n : ℕ) → rank v < 2 → Holds goal s events v n → ⊥
+no_step goal s events clean none (Stale place p address row) n less h = is_place goal s events clean (Stale place p address row) n (omega arith) h
+no_step goal s events clean none (Reached place p address) n less h = none place p address h.0
+no_step goal s events clean none (Conflict conflict) n less h = omega (arith, less)
+no_step goal s events clean none Stuck n less h = omega (arith, less)
+no_step goal s events clean none Output n less h = omega (arith, less)
+no_step goal s events clean none End n less h = omega (arith, less)
 
-pub joins_clean : (goal : Criteria) (s : State) (events : List Event) (beside : Option Judged) → Joins goal s events finding.Clean beside beside
-joins_clean goal s events None made clean b =
-    inr (λ v n. no_stale (λ x. Holds goal s events x n) (λ x less. is_place goal s events clean x n less) (λ x more. b x n more) v)
-joins_clean goal s events (Some judged) made clean b = (
+pub steps_clean : (goal : Criteria) (s : State) (events : List Event) (reach : Option Reach) →
+    JoinsSteps goal s events finding.Clean reach (option_map judged_reach reach)
+steps_clean goal s events None clean none = no_step goal s events clean none
+steps_clean goal s events (Some reach) clean first =
+    (omega arith, (first.0, refl, first.1), λ v n less h. is_place goal s events clean v n less h)
+
+pub steps_stale : (goal : Criteria) (s : State) (events : List Event) (place p address row : ℕ) (reach : Option Reach) →
+    JoinsSteps goal s events (finding.Stale place p address row) reach (Some (record { verdict = Stale place p address row; events = place + 1 }))
+steps_stale goal s events place p address row reach found first =
+    (omega arith, (found, refl), λ v n less h. omega (arith, less))
+
+-- a verdict of Steps comes first
+
+low_or_high : (v : Verdict) → (rank v < 2) ⊎ (1 < rank v)
+low_or_high (Stale place p address row) = inl (omega arith)
+low_or_high (Reached place p address) = inl (omega arith)
+low_or_high (Conflict conflict) = inr (omega arith)
+low_or_high Stuck = inr (omega arith)
+low_or_high Output = inr (omega arith)
+low_or_high End = inr (omega arith)
+
+either : (P : Verdict → Type 0) → ((v : Verdict) → rank v < 2 → P v → ⊥) → ((v : Verdict) → 1 < rank v → P v → ⊥) → (v : Verdict) → P v → ⊥
+either P low high v h = elim (low_or_high v) as (λ _. ⊥) [
+  | inl less ↦ low v less h
+  | inr more ↦ high v more h
+]
+
+pub joins_or : (goal : Criteria) (s : State) (events : List Event) (of_steps beside : Option Judged) →
+    Joins goal s events of_steps beside (option_or of_steps beside)
+joins_or goal s events (Some judged) beside made of_steps b = (made, of_steps.1, of_steps.2)
+joins_or goal s events None None made none b =
+    inr (λ v n. either (λ x. Holds goal s events x n) (λ x less. none x n less) (λ x more. b x n more) v)
+joins_or goal s events None (Some judged) made none b = (
   made,
   b.1,
-  λ v n less h. no_stale (λ x. (rank x < rank judged.verdict) × Holds goal s events x n)
-      (λ x low k. is_place goal s events clean x n low k.1) (λ x more k. b.2 x n more k.0 k.1) v (less, h),
+  λ v n less h. either (λ x. (rank x < rank judged.verdict) × Holds goal s events x n)
+      (λ x low k. none x n low k.1) (λ x more k. b.2 x n more k.0 k.1) v (less, h),
 )
-
-pub joins_stale : (goal : Criteria) (s : State) (events : List Event) (place p address row : ℕ) (beside : Option Judged) →
-    Joins goal s events (finding.Stale place p address row) beside (Some (record { verdict = Stale place p address row; events = place + 1 }))
-joins_stale goal s events place p address row beside made found b =
-    (made, (found, refl), λ v n less h. omega (arith, less))
 
 pub place_is_below : (goal : Criteria) (s : State) (events : List Event) (found : Finding) → IsFinding (without_stores s) events goal.watches found → IsBelow (length events) found
 place_is_below goal s events finding.Clean h = tt

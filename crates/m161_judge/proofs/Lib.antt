@@ -8,3 +8,4 @@ mod Walking
 mod Unique
 mod Cutting
 mod Exact
+mod Reaching

@@ -5,14 +5,14 @@ use Rattle.m161_cpu.specs.declared.uses.Via.{Via}
 use Rattle.m161_machine.specs.declared.event.Conflict.{Conflict as ConflictOf}
 use Rattle.m161_machine.specs.declared.event.Event.{Event}
 use Rattle.m161_machine.specs.declared.event.Event.TheVariants.{Step}
-use Rattle.m161_machine.specs.State.{State}
+use Rattle.m161_machine.specs.State.{State, processor_at}
 use Rattle.m161_machine.specs.StoreHistory.{StoreState, without_stores}
 use Rattle.m161_audit.specs.declared.watch.Watch.{Watch}
 use Rattle.m161_audit.specs.Stale.{IsStaleAt, UsesStale, after_events}
 use Rattle.m161_judge.specs.declared.verdict.Judged.{Judged}
 use Rattle.m161_judge.specs.declared.verdict.Verdict.{Verdict}
-use Rattle.m161_judge.specs.declared.verdict.Verdict.TheVariants.{Stale, Conflict, Stuck, Output, End}
-use Rattle.m161_judge.specs.Verdict.{Criteria, Holds, IsJudged, IsStuckBadly, LeadsTo, rank}
+use Rattle.m161_judge.specs.declared.verdict.Verdict.TheVariants.{Stale, Reached, Conflict, Stuck, Output, End}
+use Rattle.m161_judge.specs.Verdict.{Criteria, Holds, IsJudged, IsReachAt, IsStuckBadly, LeadsTo, rank}
 use Rattle.m161_judge.specs.Laws.{IsOneVerdict}
 use Rattle.m161_judge.proofs.Running.{leads_to_one, none_past_off, some_is_one}
 
@@ -66,6 +66,27 @@ stale_verdict goal s events k p a r j q b l n m h i =
     let all : n ≡ m = h.1 ∙ ap (λ x. x + 1) place ∙ sym i.1 in
     λ i. record { verdict = Stale (place i) (one.0 i) (address i) (row i); events = all i }
 
+-- a reach is one Step
+abbrev IsReachIn : List ℕ → State → List Event → ℕ → Type 0
+IsReachIn never s events k = (p : ℕ) × (address : ℕ) × IsReachAt never s events k p address
+
+reach_at_one : (never : List ℕ) (s : State) (events : List Event) (k p a q b : ℕ) → IsReachAt never s events k p a → IsReachAt never s events k q b → (p ≡ q) × (a ≡ b)
+reach_at_one never s events k p a q b h i =
+    let same : p ≡ q = step_is_one p q (some_is_one (Step p) (Step q) (sym h.event_is ∙ i.event_is)) in
+    let state = leads_to_one s events k h.state i.state h.leads i.leads in
+    (same, h.address_is ∙ (λ j. (processor_at (same j) (state j).processors).pc) ∙ sym i.address_is)
+
+reached_verdict : (goal : Criteria) (s : State) (events : List Event) (k p a j q b n m : ℕ) →
+    Holds goal s events (Reached k p a) n → Holds goal s events (Reached j q b) m →
+    ◌≡◌ {A = Judged} (record { verdict = Reached k p a; events = n }) (record { verdict = Reached j q b; events = m })
+reached_verdict goal s events k p a j q b n m h i =
+    let place : k ≡ j =
+    least_is_one (IsReachIn goal.never s events) k j (p, a, h.0)
+    (λ x less at. h.2 x at.0 at.1 less at.2) (q, b, i.0) (λ x less at. i.2 x at.0 at.1 less at.2) in
+    let one = reach_at_one goal.never s events j p a q b (subst (λ x. IsReachAt goal.never s events x p a) place h.0) i.0 in
+    let all : n ≡ m = h.1 ∙ ap (λ x. x + 1) place ∙ sym i.1 in
+    λ i. record { verdict = Reached (place i) (one.0 i) (one.1 i); events = all i }
+
 off_once : (s : State) (events : List Event) (n m : ℕ) (t u : State) → LeadsTo s events n t → LeadsTo s events m u → t.board.off ≡ true → n < m → ⊥
 off_once s events n m t u at on off less = none_past_off events n m s t u less (omega (arith, less, on.0)) off at.1 on.1
 
@@ -101,26 +122,37 @@ with_events v n m h = λ i. record { verdict = v; events = h i }
 same_kind : (goal : Criteria) (s : State) (events : List Event) (v w : Verdict) (n m : ℕ) → rank v ≡ rank w → Holds goal s events v n → Holds goal s events w m →
     ◌≡◌ {A = Judged} (record { verdict = v; events = n }) (record { verdict = w; events = m })
 same_kind goal s events (Stale k p a r) (Stale j q b l) n m e h i = stale_verdict goal s events k p a r j q b l n m h i
+same_kind goal s events (Stale k p a r) (Reached j q b) n m e h i = absurd (omega (arith, e))
 same_kind goal s events (Stale k p a r) (Conflict d) n m e h i = absurd (omega (arith, e))
 same_kind goal s events (Stale k p a r) Stuck n m e h i = absurd (omega (arith, e))
 same_kind goal s events (Stale k p a r) Output n m e h i = absurd (omega (arith, e))
 same_kind goal s events (Stale k p a r) End n m e h i = absurd (omega (arith, e))
+same_kind goal s events (Reached k p a) (Stale j q b l) n m e h i = absurd (omega (arith, e))
+same_kind goal s events (Reached k p a) (Reached j q b) n m e h i = reached_verdict goal s events k p a j q b n m h i
+same_kind goal s events (Reached k p a) (Conflict d) n m e h i = absurd (omega (arith, e))
+same_kind goal s events (Reached k p a) Stuck n m e h i = absurd (omega (arith, e))
+same_kind goal s events (Reached k p a) Output n m e h i = absurd (omega (arith, e))
+same_kind goal s events (Reached k p a) End n m e h i = absurd (omega (arith, e))
 same_kind goal s events (Conflict c) (Stale j q b l) n m e h i = absurd (omega (arith, e))
+same_kind goal s events (Conflict c) (Reached j q b) n m e h i = absurd (omega (arith, e))
 same_kind goal s events (Conflict c) (Conflict d) n m e h i = conflict_is_one goal s events c d n m h i
 same_kind goal s events (Conflict c) Stuck n m e h i = absurd (omega (arith, e))
 same_kind goal s events (Conflict c) Output n m e h i = absurd (omega (arith, e))
 same_kind goal s events (Conflict c) End n m e h i = absurd (omega (arith, e))
 same_kind goal s events Stuck (Stale j q b l) n m e h i = absurd (omega (arith, e))
+same_kind goal s events Stuck (Reached j q b) n m e h i = absurd (omega (arith, e))
 same_kind goal s events Stuck (Conflict d) n m e h i = absurd (omega (arith, e))
 same_kind goal s events Stuck Stuck n m e h i = with_events Stuck n m (least_is_one (IsStuckBadly goal s events) n m h.0 h.1 i.0 i.1)
 same_kind goal s events Stuck Output n m e h i = absurd (omega (arith, e))
 same_kind goal s events Stuck End n m e h i = absurd (omega (arith, e))
 same_kind goal s events Output (Stale j q b l) n m e h i = absurd (omega (arith, e))
+same_kind goal s events Output (Reached j q b) n m e h i = absurd (omega (arith, e))
 same_kind goal s events Output (Conflict d) n m e h i = absurd (omega (arith, e))
 same_kind goal s events Output Stuck n m e h i = absurd (omega (arith, e))
 same_kind goal s events Output Output n m e h i = with_events Output n m (output_is_one goal s events n m h i)
 same_kind goal s events Output End n m e h i = absurd (omega (arith, e))
 same_kind goal s events End (Stale j q b l) n m e h i = absurd (omega (arith, e))
+same_kind goal s events End (Reached j q b) n m e h i = absurd (omega (arith, e))
 same_kind goal s events End (Conflict d) n m e h i = absurd (omega (arith, e))
 same_kind goal s events End Stuck n m e h i = absurd (omega (arith, e))
 same_kind goal s events End Output n m e h i = absurd (omega (arith, e))

@@ -7,7 +7,6 @@ use Rattle.m161_machine.specs.History.{IsBootState, events_of}
 use Rattle.m161_machine.specs.State.{State}
 use Rattle.m161_audit.specs.declared.finding.AuditError.{AuditError}
 use Rattle.m161_audit.specs.declared.finding.AuditError.TheVariants.{Boot}
-use Rattle.m161_audit.specs.declared.watch.Watch.{Watch}
 use Rattle.m161_audit.specs.Watch.{AreGood}
 use Rattle.m161_drive.specs.declared.run.Driven.{Driven}
 use Rattle.m161_drive.specs.declared.run.Stop.{Stop}
@@ -20,9 +19,9 @@ use Rattle.m161_judge.specs.Verdict.{Criteria, IsJudged, has_keys, is_stuck}
 
 -- The result of judging a driven run.
 
--- by what a run is judged that a policy chooses
-abbrev pub criteria : List Watch → Option (List ℕ) → Rules → Criteria
-criteria watches output rules = record { watches = watches; output = output; keys = rules.keys }
+-- by what a run is judged that a policy chooses: the keys are the policy's
+abbrev pub with_keys_of : Rules → Criteria → Criteria
+with_keys_of rules goal = record goal { keys = rules.keys }
 
 -- a run ended only because no more events were asked for, though a policy with the keys that are left
 -- would go on

@@ -1,9 +1,11 @@
-use Rattle.std.specs.Prelude.{◌≡◌, ◌≢◌, ◌⊎◌, ℕ, ◌+◌, ◌<◌, ◌≤◌, Bool, true, false, not, nat_lt, nat_le, ◌&&◌, ◌||◌, List, [], ◌∷◌, length, take, slice_get, count_by, Option, None, Some, Result, Ok, Err}
+use Rattle.std.specs.Prelude.{◌≡◌, ◌≢◌, ◌⊎◌, ℕ, ◌+◌, ◌<◌, ◌≤◌, ◌==◌, Bool, true, false, not, nat_lt, nat_le, ◌&&◌, ◌||◌, List, [], ◌∷◌, length, take, slice_get, count_by, is_some, Option, None, Some, Result, Ok, Err}
+use Rattle.std.specs.List.{list_any}
 use Rattle.m161_cpu.specs.declared.processor.Outcome.{Outcome}
 use Rattle.m161_machine.specs.declared.event.Event.{Event}
 use Rattle.m161_machine.specs.declared.event.Event.TheVariants.{Step, Key, Done}
 use Rattle.m161_machine.specs.declared.event.Refusal.{Refusal}
-use Rattle.m161_machine.specs.State.{State, next}
+use Rattle.m161_machine.specs.Fetched.{fetched}
+use Rattle.m161_machine.specs.State.{State, next, processor_at}
 use Rattle.m161_machine.specs.StoreHistory.{without_stores}
 use Rattle.m161_audit.specs.declared.finding.Finding.TheVariants as finding
 use Rattle.m161_audit.specs.declared.watch.Watch.{Watch}
@@ -11,7 +13,7 @@ use Rattle.m161_audit.specs.Stale.{IsFinding}
 use Rattle.m161_drive.specs.Ready.{is_asleep, is_sending}
 use Rattle.m161_judge.specs.declared.verdict.Judged.{Judged}
 use Rattle.m161_judge.specs.declared.verdict.Verdict.{Verdict}
-use Rattle.m161_judge.specs.declared.verdict.Verdict.TheVariants.{Stale, Conflict, Stuck, Output, End}
+use Rattle.m161_judge.specs.declared.verdict.Verdict.TheVariants.{Stale, Reached, Conflict, Stuck, Output, End}
 
 -- Whether a run goes wrong. The kinds of verdicts and their order are this project's own.
 
@@ -19,6 +21,8 @@ use Rattle.m161_judge.specs.declared.verdict.Verdict.TheVariants.{Stale, Conflic
 pub record Criteria : Type 0 where
   -- the pages whose shootdowns are watched
   pub watches : List Watch
+  -- the virtual addresses that no Step is to reach
+  pub never : List ℕ
   -- the bytes that the console should have sent at the end, if any are asked for
   pub output : Option (List ℕ)
   -- all bytes that a policy could type
@@ -79,13 +83,33 @@ abbrev pub IsStuckBadly : Criteria → State → List Event → ℕ → Type 0
 IsStuckBadly goal s events n =
     (t : State) × IsStuckAfter goal s events n t × (HasSent goal t → ⊥)
 
+-- event k is an accepted Step of processor p that fetches a word at one of these addresses
+pub record IsReachAt (never : List ℕ) (s : State) (events : List Event) (k p address : ℕ)
+    : Type 0 where
+  pub event_is : slice_get events k ≡ Some (Step p)
+  pub state : State
+  pub leads : LeadsTo s events k state
+  pub given : Outcome × State
+  pub accepted : next state (Step p) ≡ Ok given
+  pub fetches : is_some (fetched p state given.0) ≡ true
+  pub address_is : address ≡ (processor_at p state.processors).pc
+  pub is_among : list_any (λ a. a == address) never ≡ true
+
+-- no event before the place k is one
+abbrev pub NoneReachBefore : List ℕ → State → List Event → ℕ → Type 0
+NoneReachBefore never s events k =
+    (j p address : ℕ) → j < k → IsReachAt never s events j p address → ⊥
+
 -- the verdict holds of a run from s, and needs its first n events: up to the first stale use; up to
--- the conflict that switches the machine off; up to where it is stuck badly for the first time; up to
+-- the first Step that reaches one of the addresses; up to the conflict that switches the machine off; up to where it is stuck badly for the first time; up to
 -- the event that switches the machine off, which is the last one to be accepted; or all
 abbrev pub Holds : Criteria → State → List Event → Verdict → ℕ → Type 0
 Holds goal s events (Stale place p address row) n =
     IsFinding (without_stores s) events goal.watches (finding.Stale place p address row)
     × (n ≡ place + 1)
+Holds goal s events (Reached place p address) n =
+    IsReachAt goal.never s events place p address × (n ≡ place + 1)
+    × NoneReachBefore goal.never s events place
 Holds goal s events (Conflict conflict) n =
     (t : State) × LeadsTo s events n t × (t.board.off ≡ true) × (t.conflict ≡ Some conflict)
 Holds goal s events Stuck n =
@@ -101,10 +125,11 @@ Holds goal s events End n =
 -- the order of the kinds
 abbrev pub rank : Verdict → ℕ
 rank (Stale place p address row) = 0
-rank (Conflict conflict) = 1
-rank Stuck = 2
-rank Output = 3
-rank End = 4
+rank (Reached place p address) = 1
+rank (Conflict conflict) = 2
+rank Stuck = 3
+rank Output = 4
+rank End = 5
 
 -- the verdict of a run from s is the first one, in this order, that holds; there is none where an
 -- event is refused before the machine is off, or where none holds

@@ -8,6 +8,8 @@ use std::marker::Model;
 pub struct Goal<'a> {
     /// The pages whose shootdowns are watched.
     pub watches: &'a [Watch],
+    /// The virtual addresses that no Step is to reach.
+    pub never: &'a [u32],
     /// The bytes that the console should have sent at the end, if any are asked for.
     pub output: Option<&'a [u8]>,
     /// All bytes that a policy could type.
@@ -22,6 +24,7 @@ impl<'a> Model for Goal<'a> {
 
     ghost view = { λ g. record {
       watches = g.watches.now;
+      never = g.never.now;
       output = bytes_of g.output;
       keys = g.keys.now;
     } };

@@ -2,6 +2,7 @@
 //!
 //! ```text
 //! stale     a Step uses an old row of the TLB, as the audit finds it
+//! reached   a Step fetches a word at an address that is never to be reached
 //! conflict  a strict machine is off, by two rows of a TLB that would overlap
 //! stuck     after some events no policy has an event to choose, and the console hasn't sent what is
 //!           asked for, if anything is
@@ -19,9 +20,10 @@ mod events;
 mod goal;
 mod laws;
 mod list;
+mod reach;
 mod run;
 mod seen;
-mod stale;
+mod steps;
 mod stuck;
 mod verdict;
 mod walk;

@@ -8,7 +8,7 @@ ghost use Rattle.m161_judge.specs.helpers.Walk.{Walks};
 
 use crate::booted::Booted;
 use crate::goal::Goal;
-use crate::stale::{find_stale, first_verdict};
+use crate::steps::{first_verdict, judge_steps};
 use crate::verdict::Judged;
 use crate::walk::{Walk, walk_along};
 use m161_audit::AuditError;
@@ -45,10 +45,10 @@ pub fn judge_events<T: Tlb + Drop, D: Console + Drop>(
         → BootsState file conf (boot_fault file conf) (Ok booted.now)
         → Judges file conf (boot_fault file conf) events.now goal.now result }
 {
-    let finding = find_stale(alloc, booted.core(), events, goal.watches)?;
+    let of_steps = judge_steps(alloc, booted.core(), events, goal)?;
     match walk_copy(alloc, booted, events, goal)? {
         Walk::Refused => Ok(None),
-        Walk::Made(beside) => Ok(first_verdict(finding, beside)),
+        Walk::Made(beside) => Ok(first_verdict(of_steps, beside)),
     }
 }
 

@@ -4,16 +4,17 @@ ghost use Rattle.std.specs.Prelude.{◌≡◌, ℕ, List, Ok};
 ghost use Rattle.m161_machine.specs.declared.conf.Conf.{Conf as ConfValue};
 ghost use Rattle.m161_machine.specs.History.{boot_fault};
 ghost use Rattle.m161_judge.specs.Judge.{BootsState, bytes_of};
-ghost use Rattle.m161_judge.specs.Run.{Runs, criteria, is_cut};
+ghost use Rattle.m161_judge.specs.Run.{Runs, is_cut, with_keys_of};
 ghost use Rattle.m161_judge.specs.helpers.Walk.{DrivesRun};
 
 use crate::booted::Booted;
 use crate::events::count_keys;
+use crate::goal::Goal;
 use crate::seen::nothing_seen;
-use crate::stale::{find_stale, first_verdict};
+use crate::steps::{first_verdict, judge_steps};
 use crate::stuck::is_stuck;
 use crate::verdict::Judged;
-use m161_audit::{AuditError, Watch};
+use m161_audit::AuditError;
 use m161_bus::Console;
 use m161_drive::{Policy, Stop, drive};
 use m161_machine::{BootError, Conf, Core, Event};
@@ -41,7 +42,7 @@ fn is_cut<T: Tlb, D: Console>(core: &Core<T, D>, stop: Stop, keys_left: bool) ->
     }
 }
 
-// Drives a state, and judges the run, but for a stale use.
+// Drives a state, and judges the run, but for its Steps.
 fn drive_run<T: Tlb, D: Console>(
     alloc: Global,
     core: &mut Core<T, D>,
@@ -81,8 +82,8 @@ fn drive_copy<T: Tlb + Drop, D: Console + Drop>(
 }
 
 /// Drives a machine that was just booted, over any TLB and any console, for at most `n` events that a
-/// policy chooses, and judges the run. The same as `judge_run` of the file from which it was booted;
-/// but nothing is booted again.
+/// policy chooses, and judges the run by a goal, but by the policy's keys and not the goal's own. The
+/// same as `judge_run` of the file from which it was booted; but nothing is booted again.
 ///
 /// # Errors
 /// The first bad watch; or memory was refused, also at an event `Done`.
@@ -91,25 +92,23 @@ pub fn judge_booted<T: Tlb + Drop, D: Console + Drop>(
     booted: &Booted<T, D>,
     policy: &Policy,
     n: u64,
-    watches: &[Watch],
-    output: Option<&[u8]>,
+    goal: &Goal,
 ) -> Result<JudgedRun, AuditError>
     ensures { (file : List ℕ) (conf : ConfValue)
         → BootsState file conf (boot_fault file conf) (Ok booted.now)
-        → Runs file conf (boot_fault file conf) policy.now n
-        (criteria watches.now (bytes_of output.entry) policy.now) result }
+        → Runs file conf (boot_fault file conf) policy.now n (with_keys_of policy.now goal.now) result }
 {
-    let run = drive_copy(alloc, booted, policy, n, output)?;
-    let finding = find_stale(alloc, booted.core(), &run.events, watches)?;
+    let run = drive_copy(alloc, booted, policy, n, goal.output)?;
+    let of_steps = judge_steps(alloc, booted.core(), &run.events, goal)?;
     Ok(JudgedRun {
         events: run.events,
-        judged: first_verdict(finding, run.judged),
+        judged: first_verdict(of_steps, run.judged),
         is_cut: run.is_cut,
     })
 }
 
 /// Drives a machine that is booted from a file, over any TLB and any console, for at most `n` events
-/// that a policy chooses, and judges the run.
+/// that a policy chooses, and judges the run by a goal, but by the policy's keys and not the goal's own.
 ///
 /// # Errors
 /// The machine can't be booted; or the first bad watch; or memory was refused, also at an event
@@ -120,12 +119,10 @@ pub fn judge_run<T: Tlb + Drop, D: Console + Drop>(
     conf: Conf,
     policy: &Policy,
     n: u64,
-    watches: &[Watch],
-    output: Option<&[u8]>,
+    goal: &Goal,
 ) -> Result<JudgedRun, AuditError>
-    ensures { Runs file.now conf (boot_fault file.now conf) policy.now n
-        (criteria watches.now (bytes_of output.entry) policy.now) result }
+    ensures { Runs file.now conf (boot_fault file.now conf) policy.now n (with_keys_of policy.now goal.now) result }
 {
     let booted = Booted::<T, D>::new(alloc, file, conf)?;
-    judge_booted(alloc, &booted, policy, n, watches, output)
+    judge_booted(alloc, &booted, policy, n, goal)
 }

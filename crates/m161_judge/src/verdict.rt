@@ -18,6 +18,15 @@ pub enum Verdict {
         /// The number of the row.
         row: u8,
     },
+    /// A Step fetched a word at an address that is never to be reached.
+    Reached {
+        /// The event's place in the list, from 0.
+        place: usize,
+        /// The processor.
+        processor: u32,
+        /// The virtual address.
+        address: u32,
+    },
     /// A `tlbwi` or `tlbwr` of a strict machine would have written a row that overlaps another one.
     Conflict(Conflict),
     /// No policy with the keys that were left had an event to choose, and the console hadn't sent

@@ -1,37 +1,50 @@
 //! The walk along a list of events.
 
 ghost use Rattle.std.specs.Prelude.{◌≡◌};
-ghost use Rattle.m161_judge.specs.helpers.Walk.{MakesEvent, Walks, left_after};
+ghost use Rattle.m161_judge.specs.helpers.Walk.{MakesEvent, MakesWith, Walks, left_after};
 
 use crate::goal::Goal;
 use crate::seen::nothing_seen;
 use crate::verdict::Judged;
 use m161_audit::AuditError;
 use m161_bus::Console;
-use m161_machine::{BootError, Core, Event, Refusal};
+use m161_machine::{BootError, Core, Event, Outcome, Refusal};
 use m161_tlb::Tlb;
 
 /// How a walk along a list of events ends.
 pub(crate) enum Walk {
     /// An event is refused before the machine is off.
     Refused,
-    /// None is. The first verdict but Stale.
+    /// None is. The first verdict behind those of Steps.
     Made(Option<Judged>),
 }
 
-// Makes an event. Returns whether it was accepted.
-fn make<T: Tlb, D: Console>(core: &mut Core<T, D>, event: Event) -> Result<bool, AuditError>
-    ensures { MakesEvent core.old.state event result core.new.state }
+/// Makes an event. Returns its outcome, if it was accepted.
+pub(crate) fn make_event<T: Tlb, D: Console>(
+    core: &mut Core<T, D>,
+    event: Event,
+) -> Result<Option<Outcome>, AuditError>
+    ensures { MakesWith core.old.state event result core.new.state }
 {
     match core.event(event) {
-        Ok(_) => Ok(true),
+        Ok(outcome) => Ok(Some(outcome)),
         Err(refusal) => {
             if refusal == Refusal::NoMemory {
                 Err(AuditError::Boot(BootError::NoMemory))
             } else {
-                Ok(false)
+                Ok(None)
             }
         }
+    }
+}
+
+// The same, where only that it was accepted counts.
+fn make<T: Tlb, D: Console>(core: &mut Core<T, D>, event: Event) -> Result<bool, AuditError>
+    ensures { MakesEvent core.old.state event result core.new.state }
+{
+    match make_event(core, event)? {
+        Some(_outcome) => Ok(true),
+        None => Ok(false),
     }
 }
 

@@ -4,3 +4,4 @@ mod Linking
 mod Naming
 mod Delaying
 mod Together
+mod Repeating

@@ -1,4 +1,4 @@
-use Rattle.std.specs.Prelude.{◌≡◌, ◌≢◌, ◌⊎◌, ℕ, ◌<◌, true, false, if◌then◌else◌, List, [], ◌∷◌, Option, None, Some, IfSome, IsSomeAnd, bytes_eq, codes, option_map, pos, unwrap_or}
+use Rattle.std.specs.Prelude.{◌≡◌, ◌≢◌, ◌⊎◌, ℕ, ◌<◌, ◌≤◌, true, false, if◌then◌else◌, List, [], ◌∷◌, Option, None, Some, IfSome, IsSomeAnd, bytes_eq, codes, length, option_map, pos, unwrap_or}
 use Rattle.clap.specs.Words.{App, HasKind, Row, Rule, Text, fault_of, first_of, kind_of, new_app, new_rule, one_of, subcommand_of, with_rule, with_subcommand}
 use Rattle.clap.specs.Simple.{new_shape, on_top}
 use Rattle.clap.specs.declared.builder.action.ArgAction.TheVariants.{SetTrue}
@@ -34,8 +34,9 @@ use Rattle.s161_command.specs.declared.task.TraceTask.{TraceTask}
 use Rattle.s161_command.specs.declared.task.Task.{Task}
 use Rattle.s161_command.specs.declared.task.Task.TheVariants.{Assemble, Audit, Console, Debug, Demo, Disassemble, Replay, Run, RunDriven, RunInThreads, Schedule, Search, Trace}
 use Rattle.s161_command.specs.Classes.{HasClassLimits, IsClassIf, IsSeeds}
-use Rattle.s161_command.specs.Drives.{AsksDrive, AsksDriveIf, Clashes, IsLongNumberOf, go_together, has_order, long_rule, optional_rule, text_rule, with_console_pace_rules, with_order_rules, with_pace_rules, with_priority_rules}
+use Rattle.s161_command.specs.Drives.{AsksDrive, AsksDriveIf, Clashes, IsLongNumberOf, go_together, has_order, long_rule, optional_rule, text_rule, texts_rule, with_console_pace_rules, with_order_rules, with_pace_rules, with_priority_rules}
 use Rattle.s161_command.specs.Links.{IsLink, IsLinkIf, RefusesLink}
+use Rattle.s161_command.specs.Repeated.{texts_of}
 use Rattle.s161_command.specs.Numbers.{IsNumberIf, IsNumberOf, is_set}
 
 -- The command line, in clap's own words.
@@ -118,13 +119,15 @@ console_line =
 -- the arguments of `search`, without those of a driven run: an image and options
 abbrev pub plain_search_line : App
 plain_search_line =
-    with_rule (with_rule (with_rule (with_rule (with_rule (with_rule (with_rule
+    with_rule (with_rule (with_rule (with_rule (with_rule (with_rule (with_rule (with_rule (with_rule
     (with_size_rules (codes "65536") (on_image (codes "search")))
     (optional_rule (codes "seeds") 1 4_294_967_295))
     (optional_rule (codes "delays") 0 64))
     (optional_rule (codes "turns") 1 4_294_967_295))
     (long_rule (codes "from") 0 18_446_744_073_709_551_615))
+    (optional_rule (codes "jobs") 1 64))
     (text_rule (codes "watches")))
+    (texts_rule (codes "never")))
     (text_rule (codes "output")))
     (flag_rule (codes "whole"))
 
@@ -292,7 +295,9 @@ pub record AsksSearch (rows : List Row) (task : SearchTask) : Type 0 where
   pub drive : AsksDrive Seeded rows task.drive
   pub delays : IsClassIf rows task.delays
   pub seeds : IsSeeds task.delays rows task.seeds
+  pub jobs : IsNumberOf 1 (one_of (codes "jobs") rows) task.jobs
   pub watches : option_map (λ name. name.now) task.watches ≡ first_of (codes "watches") rows
+  pub few : length (texts_of (codes "never") rows) ≤ 64
   pub output : option_map (λ name. name.now) task.output ≡ first_of (codes "output") rows
   pub whole : task.whole ≡ is_set (codes "whole") rows
 
@@ -438,6 +443,14 @@ HasLimits (Search task) =
 HasLimits (Trace task) = IfSome task.drive (λ drive. order_fault drive.order ≡ None)
 HasLimits (Debug task) = HasSourceLimits task.source
 HasLimits _ = Unit {0}
+
+-- the words that stand for the addresses of `--never`, in their order
+abbrev pub never_in : Option (Text × List Row) → List Text
+never_in None = []
+never_in (Some given) = texts_of (codes "never") given.1
+
+abbrev pub never_of : List Text → List Text
+never_of words = never_in (subcommand_of command_line words)
 
 -- a command line isn't followed: clap finds a fault of this kind; or it finds none, and the options
 -- can't be followed

@@ -1,18 +1,20 @@
 use Rattle.std.specs.Prelude.{◌≡◌, ◌≢◌, ℕ, ◌<◌, ◌^◌, Bool, true, false, not, ◌&&◌, ◌||◌, List, Option, None, Some, IfSome, codes, is_some, option_map, pos}
 use Rattle.std.specs.Str.Parse.{IsNumeral, digits_value, without_leading_plus}
 use Rattle.clap.specs.Words.{App, Row, Rule, Text, first_of, new_rule, one_of, with_rule}
+use Rattle.clap.specs.declared.builder.action.ArgAction.TheVariants.{Append}
 use Rattle.clap.specs.declared.builder.value_parser.ValueParser.TheVariants.{Signed, Unsigned}
 use Rattle.m161_order.specs.declared.order.Order.{Order}
 use Rattle.m161_order.specs.declared.order.Order.TheVariants.{Turns, Delayed, Random, Priorities}
 use Rattle.m161_order.specs.Order.{order_fault}
 use Rattle.s161_command.specs.declared.drive.Clash.{Clash}
-use Rattle.s161_command.specs.declared.drive.Clash.TheVariants.{TwoOrders, HalfPriorities, ChangesWithoutSeed, DelayedWithoutTurns, NoOrder, PaceWithoutOrder, OrderInThreads, LogTwice, FileAndOrder, NoEvents, DelaysAndSeeds, NoRuns, TurnsWithoutDelays, BadOrder, BadGap, BadDelays, BadClass, BadLink}
+use Rattle.s161_command.specs.declared.drive.Clash.TheVariants.{TwoOrders, HalfPriorities, ChangesWithoutSeed, DelayedWithoutTurns, NoOrder, PaceWithoutOrder, OrderInThreads, LogTwice, FileAndOrder, NoEvents, DelaysAndSeeds, NoRuns, TurnsWithoutDelays, BadOrder, BadGap, BadDelays, BadClass, BadLink, ManyNever}
 use Rattle.s161_command.specs.declared.drive.OrderUse.{OrderUse}
 use Rattle.s161_command.specs.declared.drive.OrderUse.TheVariants.{Optional, Needed, Assumed, Seeded, OrFile}
 use Rattle.s161_command.specs.declared.drive.Drive.{Drive}
 use Rattle.s161_command.specs.Classes.{IsBadClass}
 use Rattle.s161_command.specs.Delays.{AreDelays, IsBadDelays}
 use Rattle.s161_command.specs.Links.{IsBadLink}
+use Rattle.s161_command.specs.Repeated.{AreTooMany, texts_of}
 use Rattle.s161_command.specs.Numbers.{IsNumber, IsNumberOf, is_given, is_set}
 
 -- The options of a driven run, and which options go together.
@@ -35,6 +37,10 @@ long_rule name low high =
 -- an option `--name TEXT`
 abbrev pub text_rule : Text → Rule
 text_rule name = record (new_rule name) { long = Some name; value_names = 1 }
+
+-- the same, where it may be given more than once
+abbrev pub texts_rule : Text → Rule
+texts_rule name = record (text_rule name) { action = Some Append }
 
 -- a command, with the options of an order by priorities added
 abbrev pub with_priority_rules : App → App
@@ -276,6 +282,7 @@ Clashes orders rows (BadOrder e) =
 Clashes orders rows BadGap = IsBadGap (first_of (codes "gap") rows)
 Clashes orders rows BadDelays = IsBadDelays (first_of (codes "delayed") rows)
 Clashes orders rows BadClass = IsBadClass rows
+Clashes orders rows ManyNever = AreTooMany (texts_of (codes "never") rows)
 Clashes orders rows BadLink = IsBadLink (first_of (codes "link") rows)
 Clashes orders rows LogTwice = shows_log_twice rows ≡ true
 Clashes orders rows FileAndOrder = file_and_order orders rows ≡ true

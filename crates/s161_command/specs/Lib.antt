@@ -1,4 +1,5 @@
 pub mod Numbers
+pub mod Repeated
 pub mod Links
 pub mod Classes
 pub mod Delays

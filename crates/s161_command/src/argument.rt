@@ -17,6 +17,8 @@ pub(crate) enum Kind {
     Flag,
     /// An option with a text.
     Text,
+    /// An option with a text, which may be given more than once.
+    Texts,
     /// An option with a number that this parser takes.
     Number(ValueParser<'static>),
 }
@@ -48,6 +50,10 @@ fn kind_arg<'a>(alloc: Global, argument: &Argument) -> Arg<'a>
         Kind::File => Arg::new(alloc, name).value_name(argument.shown),
         Kind::Flag => Arg::new(alloc, name).long(name).action(ArgAction::SetTrue),
         Kind::Text => Arg::new(alloc, name).long(name).value_name(argument.shown),
+        Kind::Texts => Arg::new(alloc, name)
+            .long(name)
+            .value_name(argument.shown)
+            .action(ArgAction::Append),
         Kind::Number(parser) => Arg::new(alloc, name)
             .long(name)
             .value_name(argument.shown)

@@ -131,6 +131,7 @@ fn task_of_search<'a>(given: &ArgMatches<'a>, settings: Settings) -> Task<'a>
         drive: drive_given(given, OrderUse::Seeded, settings),
         delays: settings.delays,
         seeds: seeds_given(given, settings.delays),
+        jobs: number_given(given, "jobs", 1),
         watches: text_given(given, "watches"),
         output: text_given(given, "output"),
         whole: is_set(given, "whole"),

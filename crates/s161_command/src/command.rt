@@ -4,7 +4,7 @@ ghost use Rattle.std.specs.Prelude.{◌≡◌, ◌≢◌, IfErr, IfOk, map};
 ghost use Rattle.std.specs.List.{fold};
 ghost use Rattle.clap.specs.Words.{HasKind, app_of, fault_of, kind_of, new_app, subcommand_of, subcommand_rows_of};
 ghost use Rattle.clap.specs.declared.error.kind.ErrorKind.TheVariants.{OutOfMemory};
-ghost use Rattle.s161_command.specs.Commands.{GoTogether, HasLimits, IsAccepted, IsRejected, IsTask, command_line};
+ghost use Rattle.s161_command.specs.Commands.{GoTogether, HasLimits, IsAccepted, IsRejected, IsTask, command_line, never_in, never_of};
 ghost use Rattle.s161_command.specs.helpers.Commands.{IsLocal};
 ghost use Rattle.s161_command.specs.helpers.Lines.{bare_program, line_app, with_arguments, with_named};
 
@@ -12,13 +12,14 @@ use crate::argument::{Argument, arg_of};
 use crate::asked::task_of;
 use crate::help::AFTER_HELP;
 use crate::lines::{COMMANDS, CommandName, Line, after_help_of, line_of};
+use crate::repeated::texts_given;
 use crate::task::{Rejection, Task};
 use clap::{ArgMatches, Command, Error};
 use std::alloc::{AllocError, Global};
 use std::convert::AsStr;
 
 /// What `--version` tells.
-const VERSION: &str = "1.3";
+const VERSION: &str = "1.4";
 
 // A command, with these arguments added in turn.
 fn with_arguments<'a>(
@@ -131,4 +132,30 @@ fn matches_of<'a, S: AsStr>(alloc: Global, words: &'a [S]) -> Result<ArgMatches<
     let command = definition(alloc)?;
     let matches = command.try_get_matches_from(words)?;
     Ok(matches)
+}
+
+// The texts of `--never` that clap gives.
+fn never_given<'a>(alloc: Global, matches: &ArgMatches<'a>) -> Result<Vec<&'a str>, AllocError>
+    ensures { IfOk result (λ texts. map (λ text. text.now) texts.items
+        ≡ never_in (subcommand_rows_of matches.now)) }
+{
+    match matches.subcommand() {
+        Some((_name, given)) => texts_given(alloc, given, "never"),
+        None => Ok(Vec::new(alloc)),
+    }
+}
+
+/// The words that stand for the addresses of `--never` of a command line that is accepted, in their
+/// order. They are read apart from its task, which is a value of one size.
+///
+/// # Errors
+/// Memory was refused.
+pub fn never_words<'a, S: AsStr>(alloc: Global, words: &'a [S]) -> Result<Vec<&'a str>, AllocError>
+    ensures { IfOk result (λ never. map (λ text. text.now) never.items
+        ≡ never_of (map S.text words.now)) }
+{
+    let Ok(matches) = matches_of(alloc, words) else {
+        return Err(AllocError);
+    };
+    never_given(alloc, &matches)
 }

@@ -84,6 +84,8 @@ pub enum Clash {
     BadDelays,
     #[error("--delays is a number, 0 to 64, and --from beside it that of a choice, 0 to 4294967295")]
     BadClass,
+    #[error("--never is given at most 64 times")]
+    ManyNever,
     #[error("--link is word, or line, the aligned 16 bytes")]
     BadLink,
 }

@@ -92,6 +92,9 @@ by priorities with --changes and --within. With --delays D the runs are all thos
 (--turns) in which a ready processor is passed over at most D times, as by --delayed of run: at
 choices from --from on, and below --within. The first run that goes wrong ends the search:
   stale PLACE PROCESSOR ADDRESS ROW   as audit says it, by the watches of --watches
+  reached PLACE PROCESSOR ADDRESS     event PLACE is a Step of the processor that fetches a word
+            at an address of --never: a number in hexadecimal, or a name of the image's symbols,
+            or name+NUMBER
   conflict PROCESSOR ROW OTHER        with --strict: as the last line of run says it
   stuck     no processor can go on, and no byte or key is left; with --output only where
             the console's bytes aren't the file's
@@ -99,7 +102,8 @@ choices from --from on, and below --within. The first run that goes wrong ends t
   end       with --output: the machine is neither off nor stuck after --events events
 Its schedule is printed, shortened unless --whole is given, behind two comments: its seed or its
 delays, and what is wrong. `clean N` says that no run goes wrong; `clean N cut M` that M of them
-weren't over after --events events. A file has at most 402653184 bytes.
+weren't over after --events events. With --jobs N so many threads make the runs, as far as the
+host has them; what is printed is the same. A file has at most 402653184 bytes.
 
 Exit status:
   0  no run goes wrong

@@ -11,11 +11,12 @@ mod given;
 mod help;
 mod lines;
 mod link;
+mod repeated;
 mod settings;
 mod task;
 
 pub use class::DelayClass;
-pub use command::parse;
+pub use command::{never_words, parse};
 pub use drive::{Clash, Drive, OrderUse};
 pub use m161_order::{Order, OrderError};
 pub use task::{

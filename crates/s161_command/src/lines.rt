@@ -377,6 +377,26 @@ const WATCHES: Argument = Argument {
     required: false,
 };
 
+// Among how many threads the runs of `search` are parted.
+const JOBS: Argument = Argument {
+    name: "jobs",
+    kind: Kind::Number(ValueParser::Signed(1, 64)),
+    shown: "N",
+    help: "Threads that make the runs, 1 to 64; 1 where it is left out",
+    default: None,
+    required: false,
+};
+
+// The addresses that no Step is to reach in `search`.
+const NEVER: Argument = Argument {
+    name: "never",
+    kind: Kind::Texts,
+    shown: "ADDRESS",
+    help: "Looks for a Step that fetches a word at this address, or at that of this name; can be given 64 times",
+    default: None,
+    required: false,
+};
+
 // What the console should send in `search`.
 const OUTPUT: Argument = Argument {
     name: "output",
@@ -537,7 +557,9 @@ static SEARCH: Line = Line {
         DELAYS,
         DELAYED_TURNS,
         FIRST_RUN,
+        JOBS,
         WATCHES,
+        NEVER,
         OUTPUT,
         WHOLE,
         CHANGES,

@@ -12,6 +12,7 @@ ghost use Rattle.s161_command.specs.helpers.Settings.{HasSettings, HasSettingsIf
 use crate::class::{DelayClass, class_given};
 use crate::drive::{Clash, OrderUse, clash_of, gap_given, order_of};
 use crate::link::link_if_given;
+use crate::repeated::has_too_many;
 use clap::ArgMatches;
 use m161_isa::LinkUnit;
 use m161_order::Order;
@@ -61,6 +62,9 @@ fn settings_with_order<'a>(given: &ArgMatches<'a>, orders: OrderUse) -> Result<S
     let Some(delays) = class_given(given) else {
         return Err(Clash::BadClass);
     };
+    if has_too_many(given, "never") {
+        return Err(Clash::ManyNever);
+    }
     let Some(gap) = gap_given(given, orders) else {
         return Err(Clash::BadGap);
     };

@@ -129,6 +129,8 @@ pub struct SearchTask<'a> {
     pub delays: Option<DelayClass>,
     /// How many seeds are tried, at least 1; 0 with `delays`.
     pub seeds: u32,
+    /// Among how many threads the runs are parted, 1 to 64.
+    pub jobs: u32,
     /// The name of the watches' file, if there is one.
     pub watches: Option<&'a str>,
     /// The name of the file whose bytes the console should send, if there is one.

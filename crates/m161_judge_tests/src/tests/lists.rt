@@ -31,6 +31,7 @@ const WATCH: Watch = Watch {
 fn sends<'a>(output: Option<&'a [u8]>, keys: &'a [u8]) -> Goal<'a> {
     Goal {
         watches: &[],
+        never: &[],
         output,
         keys,
     }
@@ -115,6 +116,7 @@ fn lists_of_one_boot(rt: HostRuntime) -> Result<(), Fail> {
     // the watch is outside RAM
     let bad = Goal {
         watches: &[WATCH],
+        never: &[],
         output: None,
         keys: &[],
     };
@@ -204,6 +206,7 @@ fn errors(rt: HostRuntime) -> Result<(), Fail> {
     let file = file_with(alloc, &WAIT)?;
     let bad = Goal {
         watches: &[WATCH, Watch { id: 64, ..WATCH }],
+        never: &[],
         output: None,
         keys: &[],
     };

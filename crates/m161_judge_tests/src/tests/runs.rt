@@ -4,7 +4,7 @@ use super::kernels::{HELLO, LETTER, LOOP, ONE, WAIT, file_with};
 use super::same;
 use m161::{Console, Tlb};
 use m161_drive::Order;
-use m161_judge::{Conf, Judged, JudgedRun, LinkUnit, Policy, Verdict, Watch, judge_run};
+use m161_judge::{Conf, Goal, Judged, JudgedRun, LinkUnit, Policy, Verdict, Watch, judge_run};
 use m161_test_support::kernel::kernel_with;
 use std::alloc::{AllocGlobal, Global};
 use std::process::Abort;
@@ -20,7 +20,13 @@ fn driven(
 ) -> Result<JudgedRun, Fail> {
     let file = file_with(alloc, words)?;
     let policy = Policy::new(Order::Turns(1), 100, Some(1000), keys)?;
-    Ok(judge_run::<Tlb, Console>(alloc, &file, ONE, &policy, n, &[], output)?)
+    let goal = Goal {
+        watches: &[],
+        never: &[],
+        output,
+        keys: &[],
+    };
+    Ok(judge_run::<Tlb, Console>(alloc, &file, ONE, &policy, n, &goal)?)
 }
 
 // Checks how many events a run makes, its verdict, and whether it is cut.
@@ -96,7 +102,12 @@ const WATCH: Watch = Watch {
 };
 
 // The verdict of the sample kernel, or a variant of it, under an order.
-fn sample(alloc: Global, changes: &[(u32, u32)], order: Order) -> Result<JudgedRun, Fail> {
+fn sample(
+    alloc: Global,
+    changes: &[(u32, u32)],
+    order: Order,
+    never: &[u32],
+) -> Result<JudgedRun, Fail> {
     let file = kernel_with(alloc, changes)?;
     let conf = Conf {
         ram: 1_048_576,
@@ -106,7 +117,13 @@ fn sample(alloc: Global, changes: &[(u32, u32)], order: Order) -> Result<JudgedR
         strict: false,
     };
     let policy = Policy::new(order, 100, Some(1000), &[])?;
-    Ok(judge_run::<Tlb, Console>(alloc, &file, conf, &policy, 10_000, &[WATCH], None)?)
+    let goal = Goal {
+        watches: &[WATCH],
+        never,
+        output: None,
+        keys: &[],
+    };
+    Ok(judge_run::<Tlb, Console>(alloc, &file, conf, &policy, 10_000, &goal)?)
 }
 
 // Checks that a run is stale where one is expected, and that the verdict needs the events up to it.
@@ -125,12 +142,12 @@ fn check_stale(rt: &impl Abort, run: &JudgedRun, expected: bool) {
 #[test]
 fn seeds(rt: HostRuntime) -> Result<(), Fail> {
     let alloc = rt.alloc();
-    check_stale(&rt, &sample(alloc, &[], Order::Turns(1))?, false);
+    check_stale(&rt, &sample(alloc, &[], Order::Turns(1), &[])?, false);
     for seed in 0..4 {
-        check_stale(&rt, &sample(alloc, &[], Order::Random(seed))?, false);
+        check_stale(&rt, &sample(alloc, &[], Order::Random(seed), &[])?, false);
     }
     for seed in 0..3 {
-        let run = sample(alloc, &WITHOUT_WAIT, Order::Random(seed))?;
+        let run = sample(alloc, &WITHOUT_WAIT, Order::Random(seed), &[])?;
         check_stale(&rt, &run, seed == 2);
     }
     let order = Order::Priorities {

@@ -1,7 +1,7 @@
 use Rattle.std.specs.Prelude.{List, [], ◌∷◌, Option, None, Some, codes, map, true, option_map}
 use Rattle.std.specs.List.{fold}
 use Rattle.clap.specs.Words.{App, Rule, Text, new_app, new_rule, with_rule, with_subcommand}
-use Rattle.clap.specs.declared.builder.action.ArgAction.TheVariants.{SetTrue}
+use Rattle.clap.specs.declared.builder.action.ArgAction.TheVariants.{Append, SetTrue}
 use Rattle.s161_command.specs.declared.argument.Argument.{Argument}
 use Rattle.s161_command.specs.declared.argument.Kind.{Kind}
 use Rattle.s161_command.specs.declared.argument.Kind.TheVariants as kinds
@@ -18,6 +18,8 @@ abbrev pub kind_rule : Text → Kind → Rule
 kind_rule name kinds.File = record (new_rule name) { value_names = 1 }
 kind_rule name kinds.Flag = record (new_rule name) { long = Some name; action = Some SetTrue }
 kind_rule name kinds.Text = record (new_rule name) { long = Some name; value_names = 1 }
+kind_rule name kinds.Texts =
+    record (new_rule name) { long = Some name; value_names = 1; action = Some Append }
 kind_rule name (kinds.Number parser) =
     record (new_rule name) { long = Some name; value_names = 1; parser = Some parser }
 

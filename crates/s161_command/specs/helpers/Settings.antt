@@ -1,4 +1,4 @@
-use Rattle.std.specs.Prelude.{◌≡◌, true, List, Option, None, Some, codes}
+use Rattle.std.specs.Prelude.{◌≡◌, ◌≤◌, true, List, length, Option, None, Some, codes}
 use Rattle.clap.specs.Words.{Row, first_of}
 use Rattle.m161_order.specs.Order.{order_fault}
 use Rattle.s161_command.specs.declared.drive.OrderUse.{OrderUse}
@@ -6,6 +6,7 @@ use Rattle.s161_command.specs.declared.settings.Settings.{Settings}
 use Rattle.s161_command.specs.Classes.{IsClassIf}
 use Rattle.s161_command.specs.Drives.{IsGap, IsOrder, gap_by_default, go_together}
 use Rattle.s161_command.specs.Links.{IsLinkIf}
+use Rattle.s161_command.specs.Repeated.{texts_of}
 
 -- What the options say that may be wrong though clap takes them.
 
@@ -15,6 +16,7 @@ pub record HasSettings (orders : OrderUse) (rows : List Row) (settings : Setting
   pub order : IsOrder orders rows settings.order
   pub limits : order_fault settings.order ≡ None
   pub delays : IsClassIf rows settings.delays
+  pub few : length (texts_of (codes "never") rows) ≤ 64
   pub gap : IsGap (gap_by_default orders) (first_of (codes "gap") rows) settings.gap
   pub link : IsLinkIf (first_of (codes "link") rows) settings.link
 
