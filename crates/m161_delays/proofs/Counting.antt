@@ -1,10 +1,12 @@
-use Rattle.std.proofs.Common.{◌≡◌, ◌∙◌, refl, ap, sym, subst, ℕ, ◌+◌, ◌%◌, ◌^◌, ◌<◌, Bool, true, false, List, [], ◌∷◌, ◌++◌, arith, ◌⊎◌, inl, inr}
+use Rattle.std.proofs.Common.{◌≡◌, refl, sym, subst, ℕ, ◌+◌, ◌%◌, ◌^◌, Bool, List, [], ◌∷◌, ◌++◌, length, arith, ◌⊎◌, inl, inr}
 use Rattle.std.proofs.lemmas.List.{length-append}
 use Rattle.std.specs.Prelude.{if◌then◌else◌}
 use Rattle.std.specs.List.{AllByRecursion}
 use Rattle.m161_delays.specs.declared.walk.Sums.{Sums}
 use Rattle.m161_delays.specs.Lists.{ComesBefore}
-use Rattle.m161_delays.specs.Runs.{AreInOrder, AreRight, AreThose, IsAmong}
+use Rattle.m161_delays.specs.Runs.{AreInOrder, AreThose, IsAmong}
+use Rattle.m161_jobs.specs.Trials.{AreRight}
+use Rattle.m161_jobs.proofs.Rights.{right_more, right_one}
 use Rattle.m161_delays.specs.helpers.Walking.{AreCounted}
 
 -- Lists of lists, and how many of their runs are cut.
@@ -39,7 +41,7 @@ among_split A B z xs ys first second (inl a) = among_left z xs ys (first.all z a
 among_split A B z xs ys first second (inr b) = among_right z xs ys (second.all z b)
 
 -- lists that are so, and behind them others that are so in another way
-those_more : (A B C : List ℕ → Type 0) (xs ys : List (List ℕ)) → ((x y : List ℕ) → A x → B y → ComesBefore x y) →
+pub those_more : (A B C : List ℕ → Type 0) (xs ys : List (List ℕ)) → ((x y : List ℕ) → A x → B y → ComesBefore x y) →
     ((z : List ℕ) → A z → C z) → ((z : List ℕ) → B z → C z) → ((z : List ℕ) → C z → A z ⊎ B z) →
     AreThose A xs → AreThose B ys → AreThose C (xs ++ ys)
 those_more A B C xs ys order of_a of_b split first second = record {
@@ -48,30 +50,31 @@ those_more A B C xs ys order of_a of_b split first second = record {
   ordered = ordered_append A B xs ys order first.each second.each first.ordered second.ordered;
 }
 
-cut_more : (is_cut : Bool) (a rest b : ℕ) → a ≡ (if is_cut then rest + 1 else rest) → a + b ≡ (if is_cut then rest + b + 1 else rest + b)
-cut_more true a rest b h = omega (arith, h)
-cut_more false a rest b h = omega (arith, h)
-
-right_more : (right : List ℕ → Bool → Type 0) (xs ys : List (List ℕ)) (a b : ℕ) → AreRight right xs a → AreRight right ys b →
-    AreRight right (xs ++ ys) (a + b)
-right_more right [] ys a b h k =
-    let none = h in
-    let same : b ≡ a + b = omega (arith, none) in subst (AreRight right ys) same k
-right_more right (x ∷ xs) ys a b h k =
-    (h.0, h.1 + b, h.2, cut_more h.0 a h.1 b h.3, right_more right xs ys h.1 b h.4 k)
-
 pub right_among : (right : List ℕ → Bool → Type 0) (xs : List (List ℕ)) (a : ℕ) (z : List ℕ) → AreRight right xs a → IsAmong z xs →
     (is_cut : Bool) × right z is_cut
 right_among right [] a z h among = absurd among
 right_among right (x ∷ xs) a z h (inl same) = (h.0, subst (λ y. right y h.0) (sym same) h.2)
 right_among right (x ∷ xs) a z h (inr rest) = right_among right xs h.1 z h.4 rest
 
+pub those_none : (A : List ℕ → Type 0) → ((z : List ℕ) → A z → ⊥) → AreThose A []
+those_none A none = record { each = tt; all = λ z h. absurd (none z h); ordered = tt }
+
+pub those_one : (A : List ℕ → Type 0) (x : List ℕ) → A x → ((z : List ℕ) → A z → z ≡ x) → AreThose A (x ∷ [])
+those_one A x so only = record { each = (so, tt); all = λ z h. inl (only z h); ordered = (tt, tt) }
+
+pub those_same : (A B : List ℕ → Type 0) (xs : List (List ℕ)) → ((z : List ℕ) → A z → B z) → ((z : List ℕ) → B z → A z) → AreThose A xs → AreThose B xs
+those_same A B xs to back those = record {
+  each = all_map A B xs to those.each;
+  all = λ z h. those.all z (back z h);
+  ordered = those.ordered;
+}
+
 -- sums
 pub counted_none : (A : List ℕ → Type 0) (right : List ℕ → Bool → Type 0) (s : Sums) → ((z : List ℕ) → A z → ⊥) →
     AreCounted A right s s
 counted_none A right s none = record {
   lists = [];
-  are_those = record { each = tt; all = λ z h. absurd (none z h); ordered = tt };
+  are_those = those_none A none;
   cut = 0;
   are_right = refl;
   fits = λ h. h;
@@ -79,22 +82,23 @@ counted_none A right s none = record {
   cut_is = omega arith;
 }
 
-one_cut : (is_cut : Bool) → (if is_cut then 1 else 0) ≡ (if is_cut then 0 + 1 else 0)
-one_cut true = refl
-one_cut false = refl
+pub counted_those : (A : List ℕ → Type 0) (right : List ℕ → Bool → Type 0) (s t : Sums) (lists : List (List ℕ)) (cut : ℕ) → AreThose A lists →
+    AreRight right lists cut → t.runs ≡ (s.runs + length lists) % 2 ^ 64 → t.cut ≡ (s.cut + cut) % 2 ^ 64 → AreCounted A right s t
+counted_those A right s t lists cut those rights runs_new cut_new = record {
+  lists = lists;
+  are_those = those;
+  cut = cut;
+  are_right = rights;
+  fits = λ h. (omega (arith, runs_new), omega (arith, cut_new));
+  runs_is = omega (arith, runs_new);
+  cut_is = omega (arith, cut_new);
+}
 
 pub counted_one : (A : List ℕ → Type 0) (right : List ℕ → Bool → Type 0) (s t : Sums) (x : List ℕ) (is_cut : Bool) → A x →
     ((z : List ℕ) → A z → z ≡ x) → right x is_cut → t.runs ≡ (s.runs + 1) % 2 ^ 64 → t.cut ≡ (s.cut + (if is_cut then 1 else 0)) % 2 ^ 64 →
     AreCounted A right s t
-counted_one A right s t x is_cut so only is_right runs cut = record {
-  lists = x ∷ [];
-  are_those = record { each = (so, tt); all = λ z h. inl (only z h); ordered = (tt, tt) };
-  cut = if is_cut then 1 else 0;
-  are_right = (is_cut, 0, is_right, one_cut is_cut, refl);
-  fits = λ h. (omega (arith, runs), subst (λ k. k < 2 ^ 64) (sym cut) (omega arith));
-  runs_is = omega (arith, runs);
-  cut_is = ap (λ k. k % 2 ^ 64) cut ∙ omega arith;
-}
+counted_one A right s t x is_cut so only is_right runs cut =
+    counted_those A right s t (x ∷ []) (if is_cut then 1 else 0) (those_one A x so only) (right_one right x is_cut is_right) runs cut
 
 pub counted_more : (A B C : List ℕ → Type 0) (right : List ℕ → Bool → Type 0) (s t u : Sums) → ((x y : List ℕ) → A x → B y → ComesBefore x y) →
     ((z : List ℕ) → A z → C z) → ((z : List ℕ) → B z → C z) → ((z : List ℕ) → C z → A z ⊎ B z) →
@@ -114,11 +118,7 @@ pub counted_same : (A B : List ℕ → Type 0) (right : List ℕ → Bool → Ty
     AreCounted A right s t → AreCounted B right s t
 counted_same A B right s t to back counted = record {
   lists = counted.lists;
-  are_those = record {
-    each = all_map A B counted.lists to counted.are_those.each;
-    all = λ z h. counted.are_those.all z (back z h);
-    ordered = counted.are_those.ordered;
-  };
+  are_those = those_same A B counted.lists to back counted.are_those;
   cut = counted.cut;
   are_right = counted.are_right;
   fits = counted.fits;

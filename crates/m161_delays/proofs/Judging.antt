@@ -1,21 +1,10 @@
 use Rattle.std.proofs.Common.{◌≡◌, refl, subst, ℕ, Bool, List, [], ◌∷◌, arith, inl, inr}
 use Rattle.m161_order.specs.Delays.{delays_of}
-use Rattle.m161_delays.specs.declared.runs.Tested.{Tested}
-use Rattle.m161_delays.specs.declared.runs.Tested.TheVariants.{Right, Wrong}
 use Rattle.m161_delays.specs.declared.walk.Found.{Found}
 use Rattle.m161_delays.specs.Lists.{ComesBefore, IsLess}
-use Rattle.m161_delays.specs.Runs.{IsJudged}
 use Rattle.m161_delays.specs.helpers.Walking.{IsFirstSo}
 
 -- What became of one run.
-
-pub right_of : {W : Type 0} (right : Bool → Type 0) (wrong : W → Type 0) (judged : Tested W) (is_cut : Bool) → judged ≡ Right is_cut →
-    IsJudged right wrong judged → right is_cut
-right_of right wrong judged is_cut is h = subst (IsJudged right wrong) is h
-
-pub wrong_of : {W : Type 0} (right : Bool → Type 0) (wrong : W → Type 0) (judged : Tested W) (what : W) → judged ≡ Wrong what →
-    IsJudged right wrong judged → wrong what
-wrong_of right wrong judged what is h = subst (IsJudged right wrong) is h
 
 -- no list comes before itself
 not_less : (ns : List ℕ) → IsLess ns ns → ⊥
@@ -23,7 +12,7 @@ not_less [] h = h
 not_less (n ∷ ns) (inl less) = let bad : ⊥ = omega (arith, less) in bad
 not_less (n ∷ ns) (inr rest) = not_less ns rest.1
 
-not_before : (ns : List ℕ) → ComesBefore ns ns → ⊥
+pub not_before : (ns : List ℕ) → ComesBefore ns ns → ⊥
 not_before ns (inl shorter) = let bad : ⊥ = omega (arith, shorter) in bad
 not_before ns (inr less) = not_less ns less.1
 
@@ -35,3 +24,18 @@ first_one right wrong found is_wrong = record {
   is_wrong = is_wrong;
   before = λ others same order. absurd (not_before (delays_of found.delays) (subst (λ z. ComesBefore z (delays_of found.delays)) same order));
 }
+
+-- of two lists, one alone comes before the other
+not_both_less : (ms ns : List ℕ) → IsLess ms ns → IsLess ns ms → ⊥
+not_both_less [] ns h k = h
+not_both_less (m ∷ ms) [] h k = h
+not_both_less (m ∷ ms) (n ∷ ns) (inl less) (inl more) = let bad : ⊥ = omega (arith, less, more) in bad
+not_both_less (m ∷ ms) (n ∷ ns) (inl less) (inr more) = let same = more.0 in let bad : ⊥ = omega (arith, less, same) in bad
+not_both_less (m ∷ ms) (n ∷ ns) (inr less) (inl more) = let same = less.0 in let bad : ⊥ = omega (arith, more, same) in bad
+not_both_less (m ∷ ms) (n ∷ ns) (inr less) (inr more) = not_both_less ms ns less.1 more.1
+
+pub not_both : (ms ns : List ℕ) → ComesBefore ms ns → ComesBefore ns ms → ⊥
+not_both ms ns (inl less) (inl more) = let bad : ⊥ = omega (arith, less, more) in bad
+not_both ms ns (inl less) (inr more) = let same = more.0 in let bad : ⊥ = omega (arith, less, same) in bad
+not_both ms ns (inr less) (inl more) = let same = less.0 in let bad : ⊥ = omega (arith, more, same) in bad
+not_both ms ns (inr less) (inr more) = not_both_less ms ns less.1 more.1

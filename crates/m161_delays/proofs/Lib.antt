@@ -6,3 +6,4 @@ pub mod Judging
 pub mod Longer
 pub mod Lengths
 pub mod Members
+mod Batches

@@ -203,13 +203,13 @@ found_child class offers right wrong ns m k s t found counted first =
     }
 
 -- no number more
-none_behind : (class : Class) (offers : List ℕ → List ℕ) (ns : List ℕ) (more : ℕ) (z rest : List ℕ) → more ≡ 0 →
+pub none_behind : (class : Class) (offers : List ℕ → List ℕ) (ns : List ℕ) (more : ℕ) (z rest : List ℕ) → more ≡ 0 →
     (h : IsBehind class offers ns more z) → h.rest ≡ rest → z ≡ ns
 none_behind class offers ns more z [] none h is = h.all_is ∙ ap (λ xs. ns ++ xs) is ∙ append-nil ns
 none_behind class offers ns more z (n ∷ rest) none h is =
     let long = h.long in let some = ap length is in absurd (let bad : ⊥ = omega (arith, long, some, none) in bad)
 
-itself_behind : (class : Class) (offers : List ℕ → List ℕ) (ns : List ℕ) (more : ℕ) (z : List ℕ) → more ≡ 0 → IsUsefulOf class offers ns →
+pub itself_behind : (class : Class) (offers : List ℕ → List ℕ) (ns : List ℕ) (more : ℕ) (z : List ℕ) → more ≡ 0 → IsUsefulOf class offers ns →
     z ≡ ns → IsBehind class offers ns more z
 itself_behind class offers ns more z none useful same = record {
   rest = [];

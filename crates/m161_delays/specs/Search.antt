@@ -4,7 +4,8 @@ use Rattle.m161_delays.specs.declared.search.Searched.{Searched}
 use Rattle.m161_delays.specs.declared.search.Searched.TheVariants.{Clean, Wrong}
 use Rattle.m161_delays.specs.declared.search.Class.{Class}
 use Rattle.m161_delays.specs.Lists.{ComesBefore}
-use Rattle.m161_delays.specs.Runs.{AreRight, AreThose, IsUsefulOf}
+use Rattle.m161_delays.specs.Runs.{AreThose, IsUsefulOf}
+use Rattle.m161_jobs.specs.Trials.{AreRight}
 
 -- The answer of a search.
 

@@ -12,10 +12,12 @@
 //! Rakamarić, Delay-Bounded Scheduling, 2011; the rest is this project's own.
 #![tactic(auto)]
 
+mod last;
 mod runs;
 mod search;
 mod walk;
 
+pub use m161_jobs::Tested;
 pub use m161_order::Delays;
-pub use runs::{Runs, Tested};
+pub use runs::Runs;
 pub use search::{Class, Searched, search_lists};

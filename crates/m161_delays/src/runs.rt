@@ -1,30 +1,20 @@
 //! What makes the runs of lists of delays.
 
+use m161_jobs::Tested;
 use m161_order::Delays;
 
-/// What became of a run.
-#[derive(Clone, Copy, Debug, Drop, PartialEq, Eq)]
-pub enum Tested<W> {
-    /// It is right.
-    Right {
-        /// Whether it ended only because no more events were asked for.
-        is_cut: bool,
-    },
-    /// It went wrong in this way.
-    Wrong(W),
-}
-
-/// Makes the runs of lists of delays.
-pub trait Runs {
+/// Makes the runs of lists of delays. Several threads may make some at once.
+pub trait Runs: Sync {
     ghost use Rattle.std.specs.Prelude.{◌≡◌, ℕ, Bool, List, ◌++◌, IfErr, IfOk, OnOk};
     ghost use Rattle.m161_order.specs.Delays.{delays_of};
-    ghost use Rattle.m161_delays.specs.Runs.{ChooseAlike, IsJudged};
+    ghost use Rattle.m161_jobs.specs.Trials.{IsJudged};
+    ghost use Rattle.m161_delays.specs.Runs.{ChooseAlike};
 
     /// How a run goes wrong.
-    type Wrong: Drop;
+    type Wrong: Drop + Send;
 
     /// Why a run can't be made.
-    type Error: Drop;
+    type Error: Drop + Send;
 
     // How many processors are ready at each place of a list's run.
     ghost offers: { Self → List ℕ → List ℕ };
@@ -53,6 +43,10 @@ pub trait Runs {
     fn judge(&self, delays: &Delays) -> Result<Tested<Self::Wrong>, Self::Error>
         ensures ok { IfOk result (IsJudged (right self.now (delays_of delays.now)) (wrong self.now (delays_of delays.now))) }
         ensures err { IfErr result (fails self.now) };
+
+    /// The error that tells of refused memory.
+    fn refused(&self) -> Self::Error
+        ensures { fails self.now result };
 
     ghost alike: { (runs : Self) → ChooseAlike (offers runs) };
 }

@@ -7,6 +7,7 @@ use crate::runs::Runs;
 use crate::walk::{Sums, walk};
 use m161_order::Delays;
 use std::alloc::Global;
+use std::thread::Threads;
 
 /// A class of lists.
 #[derive(Clone, Copy, Debug, PartialEq, Eq)]
@@ -38,22 +39,35 @@ pub enum Searched<W> {
     },
 }
 
-/// Looks at the useful lists of a class, in their order, up to the first whose run goes wrong.
+/// Looks at the useful lists of a class, in their order, up to the first whose run goes wrong. Lists
+/// that differ in their last number alone are looked at in so many threads; how many there are changes
+/// nothing in the answer.
 ///
 /// # Errors
-/// A run can't be made.
-pub fn search_lists<R: Runs>(
+/// A run can't be made, or memory is refused.
+pub fn search_lists<R: Threads + Sync, T: Runs>(
+    rt: &R,
     alloc: Global,
-    runs: &R,
+    runs: &T,
     class: Class,
-) -> Result<Searched<R::Wrong>, R::Error>
+    jobs: u32,
+) -> Result<Searched<T::Wrong>, T::Error>
     requires { class.most ≤ 64 }
-    ensures ok { IfOk result (Finds class (R.offers runs.now) (R.right runs.now) (R.wrong runs.now)) }
-    ensures err { IfErr result (R.fails runs.now) }
+    ensures ok { IfOk result (Finds class (T.offers runs.now) (T.right runs.now) (T.wrong runs.now)) }
+    ensures err { IfErr result (T.fails runs.now) }
 {
     let mut sums = Sums { runs: 0, cut: 0 };
     for length in 0..class.most + 1 {
-        if let Some(found) = walk(alloc, runs, class, Delays::none(), length, &mut sums)? {
+        if let Some(found) = walk(
+            rt,
+            alloc,
+            runs,
+            class,
+            Delays::none(),
+            length,
+            jobs,
+            &mut sums,
+        )? {
             return Ok(Searched::Wrong {
                 delays: found.delays,
                 wrong: found.wrong,

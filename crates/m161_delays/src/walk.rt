@@ -5,12 +5,15 @@ ghost use Rattle.m161_order.specs.Delays.{delays_of};
 ghost use Rattle.m161_delays.specs.Lists.{times};
 ghost use Rattle.m161_delays.specs.helpers.Last.{last_from};
 ghost use Rattle.m161_delays.specs.Runs.{IsUsefulOf};
-ghost use Rattle.m161_delays.specs.helpers.Walking.{IsBehind, IsLonger, Walks};
+ghost use Rattle.m161_delays.specs.helpers.Walking.{IsBehind, IsLonger, Walks, with_number};
 
-use crate::runs::{Runs, Tested};
+use crate::last::walk_last;
+use crate::runs::Runs;
 use crate::search::Class;
+use m161_jobs::Tested;
 use m161_order::Delays;
 use std::alloc::Global;
+use std::thread::Threads;
 
 /// How many runs were made, and how many of them were cut, modulo 2^64.
 #[derive(Clone, Copy)]
@@ -22,14 +25,13 @@ pub(crate) struct Sums {
 }
 
 impl Sums {
-    // One run more.
-    fn add(&mut self, is_cut: bool)
-        ensures runs { self.new.runs ≡ (self.old.runs + 1) % 2 ^ 64 }
-        ensures cut { self.new.cut ≡ (self.old.cut + (if is_cut then 1 else 0)) % 2 ^ 64 }
+    /// So many runs more, of which so many are cut.
+    pub(crate) fn add(&mut self, runs: u32, cut: u32)
+        ensures runs { self.new.runs ≡ (self.old.runs + runs) % 2 ^ 64 }
+        ensures cut { self.new.cut ≡ (self.old.cut + cut) % 2 ^ 64 }
     {
-        self.runs = self.runs.wrapping_add(1);
-        let cut = if is_cut { 1 } else { 0 };
-        self.cut = self.cut.wrapping_add(cut);
+        self.runs = self.runs.wrapping_add(u64::from(runs));
+        self.cut = self.cut.wrapping_add(u64::from(cut));
     }
 }
 
@@ -42,18 +44,25 @@ pub(crate) struct Found<W> {
     pub wrong: W,
 }
 
+// How many runs are cut, of one.
+fn one_if(is_cut: bool) -> u32
+    ensures { result ≡ (if is_cut then 1 else 0) }
+{
+    if is_cut { 1 } else { 0 }
+}
+
 // Makes the run of one list.
-fn judge<R: Runs>(
-    runs: &R,
+fn judge<T: Runs>(
+    runs: &T,
     delays: Delays,
     sums: &mut Sums,
-) -> Result<Option<Found<R::Wrong>>, R::Error>
-    ensures ok { IfOk result (Walks (λ numbers. numbers ≡ delays_of delays) (R.right runs.now) (R.wrong runs.now) sums.old sums.new) }
-    ensures err { IfErr result (R.fails runs.now) }
+) -> Result<Option<Found<T::Wrong>>, T::Error>
+    ensures ok { IfOk result (Walks (λ numbers. numbers ≡ delays_of delays) (T.right runs.now) (T.wrong runs.now) sums.old sums.new) }
+    ensures err { IfErr result (T.fails runs.now) }
 {
     match runs.judge(&delays)? {
         Tested::Right { is_cut } => {
-            sums.add(is_cut);
+            sums.add(1, one_if(is_cut));
             Ok(None)
         }
         Tested::Wrong(wrong) => Ok(Some(Found { delays, wrong })),
@@ -74,8 +83,8 @@ fn times(numbers: &[u32], number: u32) -> usize
     count
 }
 
-// The least number that may stand behind a list.
-fn least_behind(class: Class, delays: &Delays) -> u32
+/// The least number that may stand behind a list.
+pub(crate) fn least_behind(class: Class, delays: &Delays) -> u32
     ensures { result ≡ last_from class.from (delays_of delays.now) }
 {
     let numbers = delays.as_slice();
@@ -86,8 +95,8 @@ fn least_behind(class: Class, delays: &Delays) -> u32
     }
 }
 
-// What the next number is below: it is a place of the run.
-fn end_of_places(class: Class, counts: &[u8]) -> u32
+/// What the next number is below: it is a place of the run.
+pub(crate) fn end_of_places(class: Class, counts: &[u8]) -> u32
     ensures within { (result ≤ length counts.now) × (result ≤ class.within) }
     ensures all { (n : ℕ) → n < class.within → n < length counts.now → n < result }
 {
@@ -98,7 +107,20 @@ fn end_of_places(class: Class, counts: &[u8]) -> u32
     }
 }
 
-// The list with a number behind the others, if it is useful then; `ready` processors are at its place.
+/// The list with a number behind the others.
+pub(crate) fn with_number(delays: &Delays, number: u32) -> Delays
+    requires few { length (delays_of delays.now) < 64 }
+    requires least { last_from 0 (delays_of delays.now) ≤ number }
+    ensures { delays_of result ≡ with_number (delays_of delays.now) number }
+{
+    let mut longer = *delays;
+    match longer.push(number) {
+        Ok(()) => longer,
+        Err(_) => unreachable!(),
+    }
+}
+
+// The same, if it is useful then; `ready` processors are at its place.
 fn longer(delays: &Delays, number: u32, ready: u8) -> Option<Delays>
     requires few { length (delays_of delays.now) < 64 }
     requires least { last_from 0 (delays_of delays.now) ≤ number }
@@ -109,31 +131,27 @@ fn longer(delays: &Delays, number: u32, ready: u8) -> Option<Delays>
     if usize::from(ready) <= times(delays.as_slice(), number) + 1 {
         return None;
     }
-    let mut longer = *delays;
-    match longer.push(number) {
-        Ok(()) => Some(longer),
-        Err(_) => unreachable!(),
-    }
+    Some(with_number(delays, number))
 }
 
-// The same by the runs: `counts` are those of the list.
-fn useful_longer<R: Runs>(
-    _runs: &R,
+/// The same by the runs: `counts` are those of the list.
+pub(crate) fn useful_longer<T: Runs>(
+    _runs: &T,
     class: Class,
     delays: &Delays,
     counts: &[u8],
     number: u32,
 ) -> Option<Delays>
-    requires counts { counts.now ≡ R.offers _runs.now (delays_of delays.now) }
+    requires counts { counts.now ≡ T.offers _runs.now (delays_of delays.now) }
     requires place { number < length counts.now }
     requires within { number < class.within }
     requires least { last_from class.from (delays_of delays.now) ≤ number }
-    requires useful { IsUsefulOf class (R.offers _runs.now) (delays_of delays.now) }
+    requires useful { IsUsefulOf class (T.offers _runs.now) (delays_of delays.now) }
     requires few { (length (delays_of delays.now) < class.most) × (class.most ≤ 64) }
     ensures { MatchOption result
-        (slice_index (R.offers _runs.now (delays_of delays.now)) number
+        (slice_index (T.offers _runs.now (delays_of delays.now)) number
         ≤ times number (delays_of delays.now) + 1)
-        (IsLonger class (R.offers _runs.now) (delays_of delays.now) number) }
+        (IsLonger class (T.offers _runs.now) (delays_of delays.now) number) }
 {
     longer(delays, number, counts[number as usize])
 }
@@ -142,30 +160,35 @@ fn useful_longer<R: Runs>(
 /// up to the first that goes wrong.
 ///
 /// # Errors
-/// A run can't be made.
-pub(crate) fn walk<R: Runs>(
+/// A run can't be made, or memory is refused.
+pub(crate) fn walk<R: Threads + Sync, T: Runs>(
+    rt: &R,
     alloc: Global,
-    runs: &R,
+    runs: &T,
     class: Class,
     delays: Delays,
     more: u32,
+    jobs: u32,
     sums: &mut Sums,
-) -> Result<Option<Found<R::Wrong>>, R::Error>
-    requires useful { IsUsefulOf class (R.offers runs.now) (delays_of delays) }
+) -> Result<Option<Found<T::Wrong>>, T::Error>
+    requires useful { IsUsefulOf class (T.offers runs.now) (delays_of delays) }
     requires room { length (delays_of delays) + more ≤ class.most }
     requires most { class.most ≤ 64 }
-    ensures ok { IfOk result (Walks (IsBehind class (R.offers runs.now) (delays_of delays) more)
-        (R.right runs.now) (R.wrong runs.now) sums.old sums.new) }
-    ensures err { IfErr result (R.fails runs.now) }
+    ensures ok { IfOk result (Walks (IsBehind class (T.offers runs.now) (delays_of delays) more)
+        (T.right runs.now) (T.wrong runs.now) sums.old sums.new) }
+    ensures err { IfErr result (T.fails runs.now) }
 {
     if more == 0 {
         return judge(runs, delays, sums);
     }
     let mut counts = Vec::new(alloc);
     runs.offers(&delays, &mut counts)?;
+    if more == 1 {
+        return walk_last(rt, alloc, runs, class, &delays, &counts, jobs, sums);
+    }
     for number in least_behind(class, &delays)..end_of_places(class, &counts) {
         if let Some(longer) = useful_longer(runs, class, &delays, &counts, number) {
-            if let Some(found) = walk(alloc, runs, class, longer, more - 1, sums)? {
+            if let Some(found) = walk(rt, alloc, runs, class, longer, more - 1, jobs, sums)? {
                 return Ok(Some(found));
             }
         }

@@ -1,11 +1,14 @@
-use Rattle.std.specs.Prelude.{◌≡◌, ℕ, ◌+◌, ◌<◌, ◌%◌, ◌^◌, Bool, List, [], ◌∷◌, ◌++◌, length, Option, None, Some}
+use Rattle.std.specs.Prelude.{◌≡◌, ℕ, ◌+◌, ◌≤◌, ◌<◌, ◌%◌, ◌^◌, Bool, List, [], ◌∷◌, ◌++◌, length, map, Option, None, Some}
 use Rattle.m161_order.specs.declared.delays.Delays.{Delays}
 use Rattle.m161_order.specs.Delays.{delays_of}
 use Rattle.m161_delays.specs.declared.walk.Found.{Found}
 use Rattle.m161_delays.specs.declared.walk.Sums.{Sums}
 use Rattle.m161_delays.specs.declared.search.Class.{Class}
 use Rattle.m161_delays.specs.Lists.{ComesBefore}
-use Rattle.m161_delays.specs.Runs.{AreRight, AreThose, IsUsefulOf}
+use Rattle.m161_delays.specs.helpers.Last.{last_from}
+use Rattle.m161_delays.specs.Runs.{AreThose, IsUsefulOf}
+use Rattle.m161_jobs.specs.Trials.{AreRight}
+use Rattle.std.specs.List.{AllByRecursion}
 
 -- a useful list that goes on behind these numbers with so many more, the first of them below a place
 pub record IsBehind
@@ -58,3 +61,14 @@ pub record IsLonger
   pub longer_is : delays_of longer ≡ numbers ++ number ∷ []
   pub long : length (delays_of longer) ≡ length numbers + 1
   pub is_useful : IsUsefulOf class offers (delays_of longer)
+
+-- a list with a number more
+abbrev pub with_number : List ℕ → ℕ → List ℕ
+with_number numbers n = numbers ++ n ∷ []
+
+-- these numbers make the useful lists that are one number longer than these
+pub record AreNext
+    (class : Class) (offers : List ℕ → List ℕ) (numbers : List ℕ) (next : List ℕ) : Type 0 where
+  pub are_those : AreThose (IsBehind class offers numbers 1) (map (with_number numbers) next)
+  pub least : AllByRecursion (λ n. last_from class.from numbers ≤ n) next
+  pub few : length next < 2 ^ 32

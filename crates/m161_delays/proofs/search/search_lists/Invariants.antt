@@ -5,4 +5,4 @@ use Rattle.m161_delays.proofs.search.search_lists.Given as goal
 -- the runs of the shorter lists are made, and right
 abbrev pub invariant-loop-length : goal.invariant-loop-length
 invariant-loop-length g l =
-    AreCounted (IsShorter l.class (g.R.Runs.offers l.runs) l.length) (g.R.Runs.right l.runs) (record { runs = 0; cut = 0 }) l.sums
+    AreCounted (IsShorter l.class (g.T.Runs.offers l.runs) l.length) (g.T.Runs.right l.runs) (record { runs = 0; cut = 0 }) l.sums

@@ -11,20 +11,20 @@ pub returns-then-more-eq0-clause-ok : goal.returns-then-more-eq0-clause-ok
 returns-then-more-eq0-clause-ok g t c =
     let runs = c.args.runs.now in
     ok_map c.judge.result
-    (λ o h. walks_itself c.args.class (g.R.Runs.offers runs) (g.R.Runs.right runs) (g.R.Runs.wrong runs) (delays_of c.args.delays) c.args.more c.args.sums.now
+    (λ o h. walks_itself c.args.class (g.T.Runs.offers runs) (g.T.Runs.right runs) (g.T.Runs.wrong runs) (delays_of c.args.delays) c.args.more c.args.sums.now
     c.judge.new.sums o c.if-more-eq0.true c.requires.useful h) c.judge.ensures.ok
 
 pub loop-number-init : goal.loop-number-init
 loop-number-init g t c =
     let runs = c.args.runs.now in
-    at_first c.args.class (g.R.Runs.offers runs) (g.R.Runs.right runs) (delays_of c.args.delays) c.args.more c.least_behind-number.result c.args.sums.now
-    (g.met.R.Runs.alike runs) c.least_behind-number.ensures
+    at_first c.args.class (g.T.Runs.offers runs) (g.T.Runs.right runs) (delays_of c.args.delays) c.args.more c.least_behind-number.result c.args.sums.now
+    ((g.met.T.Runs g.world.𝓛 g.world.𝓜 g.world.𝓡 ((λ s x. x), (λ x. x), (λ x. x), λ x. x)).alike runs) c.least_behind-number.ensures
 
 pub returns-clause-ok : goal.returns-clause-ok
 returns-clause-ok g t c =
     let runs = c.args.runs.now in
-    let offers = g.R.Runs.offers runs in
-    let right = g.R.Runs.right runs in
+    let offers = g.T.Runs.offers runs in
+    let right = g.T.Runs.right runs in
     let numbers = delays_of c.args.delays in
     let m = c.args.more - 1 in
     let some : c.args.more ≡ suc m = omega (arith, c.if-more-eq0.false) in
@@ -32,7 +32,7 @@ returns-clause-ok g t c =
     let counts = ap length (c.in_ok-offers.ensures.ok ∙ ap (λ xs. xs ++ offers numbers) c.new-counts.ensures.items) in
     let all = c.end_of_places-number-end.ensures.all in
     subst (λ k. AreCounted (IsBehind c.args.class offers numbers k) right c.args.sums.now c.loop-number.sums) (sym some)
-    (at_last c.args.class offers right numbers m c.loop-number.number c.args.sums.now c.loop-number.sums (g.met.R.Runs.alike runs)
+    (at_last c.args.class offers right numbers m c.loop-number.number c.args.sums.now c.loop-number.sums ((g.met.T.Runs g.world.𝓛 g.world.𝓜 g.world.𝓡 ((λ s x. x), (λ x. x), (λ x. x), λ x. x)).alike runs)
     (λ n within there. let less = all n within (omega (arith, there, counts)) in omega (arith, less, end))
     (subst (λ k. AreCounted (IsBehindBelow c.args.class offers numbers k c.loop-number.number) right c.args.sums.now c.loop-number.sums) some
     c.loop-number.invariant))
@@ -40,9 +40,9 @@ returns-clause-ok g t c =
 pub returns-in-Some-2-clause-ok : goal.returns-in-Some-2-clause-ok
 returns-in-Some-2-clause-ok g t c =
     let runs = c.args.runs.now in
-    let offers = g.R.Runs.offers runs in
-    let right = g.R.Runs.right runs in
-    let wrong = g.R.Runs.wrong runs in
+    let offers = g.T.Runs.offers runs in
+    let right = g.T.Runs.right runs in
+    let wrong = g.T.Runs.wrong runs in
     let numbers = delays_of c.args.delays in
     let k = c.loop-number.number in
     let m = c.args.more - 1 in
@@ -58,8 +58,8 @@ pub loop-number-preserved : goal.loop-number-preserved
 loop-number-preserved g t c =
     let runs = c.args.runs.now in
     let class = c.args.class in
-    let offers = g.R.Runs.offers runs in
-    let right = g.R.Runs.right runs in
+    let offers = g.T.Runs.offers runs in
+    let right = g.T.Runs.right runs in
     let numbers = delays_of c.args.delays in
     let k = c.loop-number.number in
     let m = c.args.more - 1 in
@@ -70,7 +70,7 @@ loop-number-preserved g t c =
     (elim c.match-useful_longer.branch [
       | in-Some+in_ok-found+in_default-2 w ↦
           let child : AreCounted (IsBehind class offers (delays_of w.in-Some.longer) m) right c.loop-number.sums w.walk.new.sums =
-          subst (Walks (IsBehind class offers (delays_of w.in-Some.longer) m) right (g.R.Runs.wrong runs) c.loop-number.sums w.walk.new.sums)
+          subst (Walks (IsBehind class offers (delays_of w.in-Some.longer) m) right (g.T.Runs.wrong runs) c.loop-number.sums w.walk.new.sums)
           w.in_default-2.is w.in_ok-found.ensures.ok in
           subst (AreCounted (IsBehindBelow class offers numbers (suc m) (k + 1)) right c.args.sums.now) (sym w.sums-is)
           (at_useful class offers right numbers m k c.args.sums.now c.loop-number.sums w.walk.new.sums before
@@ -79,5 +79,5 @@ loop-number-preserved g t c =
           let few : slice_index (offers numbers) k ≤ times k numbers + 1 =
           subst (λ o. MatchOption o (slice_index (offers numbers) k ≤ times k numbers + 1) (IsLonger class offers numbers k)) w.in_default.is c.useful_longer.ensures in
           subst (AreCounted (IsBehindBelow class offers numbers (suc m) (k + 1)) right c.args.sums.now) (sym w.sums-is)
-          (at_useless class offers right numbers m k c.args.sums.now c.loop-number.sums (g.met.R.Runs.alike runs) few before)
+          (at_useless class offers right numbers m k c.args.sums.now c.loop-number.sums ((g.met.T.Runs g.world.𝓛 g.world.𝓜 g.world.𝓡 ((λ s x. x), (λ x. x), (λ x. x), λ x. x)).alike runs) few before)
     ])

@@ -8,4 +8,4 @@ decreases-walk g l = l.more
 -- the runs of the lists whose next number is below this one are made, and right
 abbrev pub invariant-loop-number : goal.invariant-loop-number
 invariant-loop-number g l =
-    AreCounted (IsBehindBelow l.class (g.R.Runs.offers l.runs) (delays_of l.delays) l.more l.number) (g.R.Runs.right l.runs) l.fn.sums l.sums
+    AreCounted (IsBehindBelow l.class (g.T.Runs.offers l.runs) (delays_of l.delays) l.more l.number) (g.T.Runs.right l.runs) l.fn.sums l.sums

@@ -1,6 +1,6 @@
 use Rattle.m161_order.specs.Delays.{delay_fault, delays_of}
 use Rattle.m161_delays.proofs.Longer.{no_error, no_fault}
-use Rattle.m161_delays.proofs.walk.longer.Goals as goal
+use Rattle.m161_delays.proofs.walk.with_number.Goals as goal
 
 pub unreachable-requires : goal.unreachable-requires
 unreachable-requires c =
