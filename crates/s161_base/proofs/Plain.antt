@@ -15,7 +15,7 @@ use Rattle.m161_elf.specs.declared.image.LoadError.TheVariants as load
 use Rattle.m161_text.specs.Parts.{◌␣◌, hex_digit, hex_text}
 use Rattle.m161_text.proofs.Hex.{hex_digit_above}
 use Rattle.s161_base.specs.declared.fault.Fault.{Fault}
-use Rattle.s161_base.specs.declared.fault.Fault.TheVariants.{Conf, File, Image, Input, Log, LogImage, LogMachine, Memory, Output, Schedule, Source, Threads, Watch, Watches, Word}
+use Rattle.s161_base.specs.declared.fault.Fault.TheVariants.{Conf, File, Image, Input, Log, LogImage, LogMachine, Memory, Never, Output, Schedule, Source, Threads, Watch, Watches, Word}
 use Rattle.s161_base.specs.declared.fault.Unread.{Unread}
 use Rattle.s161_base.specs.declared.fault.Unread.TheVariants.{Failed, NotUtf8, TooLong}
 use Rattle.s161_base.specs.Explained.{explanation_of, of_cause, of_file, of_image, of_input, of_source}
@@ -129,6 +129,7 @@ head LogMachine = refl
 head LogImage = refl
 head (Watches n) = spaced (codes "s161: watches line") (decimal n) refl (number n)
 head (Watch k) = spaced (codes "s161: watch") (decimal k) refl (number k)
+head (Never word) = spaced (codes "s161: never") (shown_name word.now) refl (name word.now)
 head Conf = refl
 head (Image e) =
     spaced (codes "s161: image") (decimal (number_of_fault e) ␣ name_of_fault e) refl
@@ -191,6 +192,7 @@ why LogMachine = refl
 why LogImage = refl
 why (Watches n) = refl
 why (Watch k) = refl
+why (Never word) = refl
 why Conf = refl
 why (Image e) = image_why e
 why (Source e) = source_why e.kind

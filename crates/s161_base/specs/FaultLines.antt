@@ -6,7 +6,7 @@ use Rattle.m161_cause.specs.Cause.{name_of_cause}
 use Rattle.m161_elf.specs.LoadError.{name_of_fault, number_of_fault}
 use Rattle.m161_text.specs.Parts.{◌␣◌, hex_text}
 use Rattle.s161_base.specs.declared.fault.Fault.{Fault}
-use Rattle.s161_base.specs.declared.fault.Fault.TheVariants.{Conf, File, Image, Input, Log, LogImage, LogMachine, Memory, Output, Schedule, Source, Threads, Watch, Watches, Word}
+use Rattle.s161_base.specs.declared.fault.Fault.TheVariants.{Conf, File, Image, Input, Log, LogImage, LogMachine, Memory, Never, Output, Schedule, Source, Threads, Watch, Watches, Word}
 use Rattle.s161_base.specs.Explained.{explanation_of}
 
 -- The line of a fault on standard error.
@@ -15,7 +15,7 @@ use Rattle.s161_base.specs.Explained.{explanation_of}
 abbrev pub is_marked : ℕ → Bool
 is_marked b = nat_lt b 32 || b == 127 || b == 40 || b == 92
 
--- such a byte of a file's name is shown by its number, every other one as it is
+-- such a byte of a file's name, or of a word, is shown by its number, every other one as it is
 abbrev pub shown_byte : ℕ → List ℕ
 shown_byte b = if is_marked b then codes "\\x" ++ hex_text 2 b else b ∷ []
 
@@ -37,6 +37,7 @@ fault_head LogMachine = codes "s161: log machine"
 fault_head LogImage = codes "s161: log image"
 fault_head (Watches n) = codes "s161: watches line" ␣ decimal n
 fault_head (Watch k) = codes "s161: watch" ␣ decimal k
+fault_head (Never word) = codes "s161: never" ␣ shown_name word.now
 fault_head Conf = codes "s161: conf"
 fault_head (Image e) = codes "s161: image" ␣ decimal (number_of_fault e) ␣ name_of_fault e
 fault_head (Source e) = codes "s161: source" ␣ source_text e

@@ -25,6 +25,9 @@ pub fn explanation(fault: &Fault<'_>) -> Option<&'static str>
         Fault::Watch(_) => Some(
             "its identifier or its page doesn't exist, or its words aren't two words of RAM",
         ),
+        Fault::Never(_) => Some(
+            "1 to 8 lower case hexadecimal digits, a name of the image's symbols, or NAME+DIGITS",
+        ),
         Fault::Conf => Some(
             "RAM has 1 to 4096 pages of 4096 bytes, there are 1 to 32 processors, and a log has 1 to 16777216 entries",
         ),

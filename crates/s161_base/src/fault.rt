@@ -39,6 +39,8 @@ pub enum Fault<'a> {
     Watches(u64),
     /// This watch, from 0, is the first that can't be watched.
     Watch(usize),
+    /// This word of `--never` stands for no address.
+    Never(&'a str),
     /// The machine's size is outside the limits.
     Conf,
     /// The image can't be loaded.

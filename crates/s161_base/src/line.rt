@@ -12,7 +12,7 @@ use m161_elf::LoadError;
 use m161_text::Byte;
 use std::fmt;
 
-// A file's name, without the bytes that would end a line or begin an explanation.
+// A file's name or a word, without the bytes that would end a line or begin an explanation.
 #[derive(Drop)]
 struct Name<'a>(&'a str);
 
@@ -106,6 +106,10 @@ impl fmt::Display for Head<'_> {
             Fault::LogImage => write!(f, "s161: log image"),
             Fault::Watches(n) => write!(f, "s161: watches line {n}"),
             Fault::Watch(k) => write!(f, "s161: watch {k}"),
+            Fault::Never(word) => {
+                let word = Name(word);
+                write!(f, "s161: never {word}")
+            }
             Fault::Conf => write!(f, "s161: conf"),
             Fault::Image(error) => {
                 let image = ImageText(error);

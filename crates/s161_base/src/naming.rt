@@ -19,9 +19,13 @@ pub fn naming_of(registers: Registers) -> Naming
     }
 }
 
-// The symbols by which an image's addresses are named.
+/// The symbols by which an image's addresses are named: the labels of its source for the sample, those
+/// of the file's symbol table for another.
+///
+/// # Errors
+/// Memory was refused.
 #[tactic(auto, unfolding(crate::specs::Naming::image_symbols))]
-fn image_symbols(alloc: Global, name: &str, file: &[u8]) -> Result<Symbols, AllocError>
+pub fn image_symbols(alloc: Global, name: &str, file: &[u8]) -> Result<Symbols, AllocError>
     ensures { IfOk result (λ symbols. symbols ≡ image_symbols name.now file.now) }
 {
     if is_sample(name) {

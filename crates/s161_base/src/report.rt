@@ -73,6 +73,10 @@ fn put_head<'a, E: Write>(fault: Fault<'_>, errors: &mut E) -> Result<(), Fault<
         Fault::LogImage => put("s161: log image", errors),
         Fault::Watches(n) => put_numbered("s161: watches line ", n, errors),
         Fault::Watch(k) => put_numbered("s161: watch ", k as u64, errors),
+        Fault::Never(word) => {
+            put("s161: never ", errors)?;
+            put_name(word, errors)
+        }
         Fault::Conf => put("s161: conf", errors),
         Fault::Image(error) => {
             put("s161: image ", errors)?;

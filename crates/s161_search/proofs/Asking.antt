@@ -6,11 +6,11 @@ use Rattle.s161_base.proofs.Asking.{IsNoFile, asks_both, asks_none, boot_is_none
 use Rattle.s161_base.specs.Asked.{Asks, AsksUntil, image_files, option_files}
 use Rattle.s161_base.specs.Reading.{IsOfText}
 use Rattle.s161_base.specs.declared.fault.Fault.{Fault}
-use Rattle.s161_base.specs.declared.fault.Fault.TheVariants.{Conf, File, Image, Input, Log, LogImage, LogMachine, Memory, Output, Schedule, Source, Threads, Watch, Watches, Word}
+use Rattle.s161_base.specs.declared.fault.Fault.TheVariants.{Conf, File, Image, Input, Log, LogImage, LogMachine, Memory, Never, Output, Schedule, Source, Threads, Watch, Watches, Word}
 use Rattle.s161_command.specs.declared.task.SearchTask.{SearchTask}
 use Rattle.s161_search.specs.Audits.{fault_of_audit}
 use Rattle.s161_search.specs.Given.{Given, IsWatchesFile, search_files}
-use Rattle.s161_search.specs.Seeds.{IsRunFault}
+use Rattle.s161_search.specs.helpers.Never.{IsNeverFault}
 use Rattle.s161_search.specs.helpers.Watches.{IsFaultIn}
 use Rattle.s161_search.proofs.Unaudited.{watches_failed}
 
@@ -42,24 +42,26 @@ pub audit_is_none : (e : AuditError) → IsNoFile (fault_of_audit e)
 audit_is_none (audit.Boot e) = boot_is_none e
 audit_is_none (audit.BadWatch k) = tt
 
--- a run that isn't made
-pub run_is_none : (task : SearchTask) (given : Given) (fault : Fault) → IsRunFault task given fault → IsNoFile fault
-run_is_none task given (File name why) h = absurd h
-run_is_none task given Memory h = tt
-run_is_none task given (Schedule n) h = tt
-run_is_none task given (Log n) h = tt
-run_is_none task given LogMachine h = tt
-run_is_none task given LogImage h = tt
-run_is_none task given (Watches n) h = tt
-run_is_none task given (Watch k) h = tt
-run_is_none task given Conf h = tt
-run_is_none task given (Image e) h = tt
-run_is_none task given (Source e) h = tt
-run_is_none task given (Threads cause) h = tt
-run_is_none task given (Input why) h = tt
-run_is_none task given Word h = tt
-run_is_none task given Output h = tt
+-- a run that isn't made, or a word that stands for no address
+pub never_is_none : (task : SearchTask) (words : List (List ℕ)) (given : Given) (fault : Fault) → IsNeverFault task words given fault → IsNoFile fault
+never_is_none task words given (File name why) h = absurd h
+never_is_none task words given Memory h = tt
+never_is_none task words given (Schedule n) h = tt
+never_is_none task words given (Log n) h = tt
+never_is_none task words given LogMachine h = tt
+never_is_none task words given LogImage h = tt
+never_is_none task words given (Watches n) h = tt
+never_is_none task words given (Watch k) h = tt
+never_is_none task words given (Never word) h = tt
+never_is_none task words given Conf h = tt
+never_is_none task words given (Image e) h = tt
+never_is_none task words given (Source e) h = tt
+never_is_none task words given (Threads cause) h = tt
+never_is_none task words given (Input why) h = tt
+never_is_none task words given Word h = tt
+never_is_none task words given Output h = tt
 
-pub if_run_is_none : {A : Type 0} (task : SearchTask) (given : Given) (result : Result A Fault) → IfErr result (IsRunFault task given) → IfErr result IsNoFile
-if_run_is_none task given (Ok x) h = tt
-if_run_is_none task given (Err fault) h = run_is_none task given fault h
+pub if_never_is_none : {A : Type 0} (task : SearchTask) (words : List (List ℕ)) (given : Given) (result : Result A Fault) →
+    IfErr result (IsNeverFault task words given) → IfErr result IsNoFile
+if_never_is_none task words given (Ok x) h = tt
+if_never_is_none task words given (Err fault) h = never_is_none task words given fault h

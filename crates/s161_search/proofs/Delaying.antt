@@ -2,7 +2,8 @@ use Rattle.std.proofs.Common.{◌≡◌, ◌⊎◌, inl, inr, refl, ap, sym, sub
 use Rattle.std.specs.Prelude.{IfErr, IfOk, Option, None, Some, Result, Ok, Err, slice_get}
 use Rattle.m161_delays.specs.declared.search.Class.{Class}
 use Rattle.m161_delays.specs.Lists.{ComesBefore, IsAscendingFrom, IsOf}
-use Rattle.m161_delays.specs.Runs.{AreRight, IsUsefulOf}
+use Rattle.m161_delays.specs.Runs.{IsUsefulOf}
+use Rattle.m161_jobs.specs.Trials.{AreRight}
 use Rattle.m161_delays.specs.Search.{AreClean, Finds, IsFirst}
 use Rattle.m161_delays.specs.declared.search.Searched.{Searched}
 use Rattle.m161_delays.specs.declared.search.Searched.TheVariants.{Clean, Wrong}
@@ -28,13 +29,14 @@ use Rattle.s161_run.specs.Driven.{rules_of}
 use Rattle.s161_search.specs.Delays.{AreCleanBy, HasRightRun, IsFirstBy, IsRightBy, offered_by}
 use Rattle.s161_search.specs.Given.{Given}
 use Rattle.s161_base.specs.declared.fault.Fault.{Fault}
-use Rattle.s161_search.specs.declared.delays.WrongRun.{WrongRun}
+use Rattle.s161_search.specs.declared.orders.WrongRun.{WrongRun}
 use Rattle.s161_search.specs.helpers.Begun.{BeginsAt}
 use Rattle.s161_search.specs.helpers.Delayed.{IsFaultFrom, IsRightFrom, IsWrongFrom}
 use Rattle.s161_search.specs.helpers.Tried.{IsListed, IsSearchedBy}
 use Rattle.s161_search.specs.Searches.{IsFoundBy}
 use Rattle.s161_search.specs.Seeds.{IsRunFault}
 use Rattle.s161_search.proofs.Booting.{booted_as_one}
+use Rattle.s161_search.proofs.Judging.{rights_as}
 
 -- Every list of a class has the run of a useful one.
 
@@ -146,8 +148,8 @@ right_before task given steps s class wrong first what boots found others of ord
 -- what is known from the state at boot on
 rights_from : (s : State) (task : SearchTask) (given : Given) (steps : ℕ) (lists : List (List ℕ)) (cut : ℕ) → BeginsAt task given s →
     AreRight (IsRightFrom s task given steps) lists cut → AreRight (HasRightRun task given steps) lists cut
-rights_from s task given steps [] cut begins h = h
-rights_from s task given steps (x ∷ xs) cut begins h = (h.0, h.1, h.2 begins, h.3, rights_from s task given steps xs h.1 begins h.4)
+rights_from s task given steps lists cut begins =
+    rights_as (IsRightFrom s task given steps) (HasRightRun task given steps) lists cut (λ x b right. right begins)
 
 booted_of : (task : SearchTask) (given : Given) (s : State) (fault : Option BootError) → BootsState given.file (conf_of task.size) fault (Ok s) →
     IsBootState given.file (conf_of task.size) s

@@ -1,7 +1,13 @@
-use Rattle.std.proofs.Common.{◌≡◌, ◌⊎◌, ◌∙◌, ℕ, List, Option, None, Some, Err, ap, inl, inr, refl, subst}
+use Rattle.std.proofs.Common.{◌≡◌, ◌⊎◌, ◌∙◌, ℕ, zero, suc, List, [], ◌∷◌, ◌++◌, take, Option, None, Some, Ok, Err, ap, inl, inr, refl, sym, subst}
+use Rattle.std.specs.Prelude.{IfErr, IfOk, Result, slice_get}
 use Rattle.m161_audit.specs.declared.finding.AuditError.{AuditError}
 use Rattle.m161_audit.specs.declared.finding.AuditError.TheVariants as audit
-use Rattle.m161_judge.specs.Judge.{BootsState}
+use Rattle.m161_audit.specs.Watch.{AreGood}
+use Rattle.m161_debug.specs.Commands.{IsPlace}
+use Rattle.m161_judge.specs.declared.verdict.Judged.{Judged}
+use Rattle.m161_judge.specs.Judge.{BootsState, Judges}
+use Rattle.m161_machine.specs.declared.event.Event.{Event}
+use Rattle.m161_machine.specs.State.{State}
 use Rattle.m161_judge.specs.Run.{Runs}
 use Rattle.m161_drive.specs.Policy.{Rules}
 use Rattle.m161_machine.specs.declared.conf.BootError.{BootError}
@@ -11,10 +17,15 @@ use Rattle.s161_base.proofs.Failing.{boot_fails}
 use Rattle.s161_base.specs.Faults.{fault_of_boot}
 use Rattle.s161_base.specs.Sizes.{conf_of}
 use Rattle.s161_base.specs.declared.fault.Fault.{Fault}
-use Rattle.s161_base.specs.declared.fault.Fault.TheVariants.{Conf, File, Image, Input, Log, LogImage, LogMachine, Memory, Output, Schedule, Source, Threads, Watch, Watches, Word}
+use Rattle.s161_base.specs.declared.fault.Fault.TheVariants.{Conf, File, Image, Input, Log, LogImage, LogMachine, Memory, Never, Output, Schedule, Source, Threads, Watch, Watches, Word}
 use Rattle.s161_command.specs.declared.task.SearchTask.{SearchTask}
-use Rattle.s161_search.specs.Given.{Given, IsGiven, criteria_of}
-use Rattle.s161_search.specs.Searches.{IsSearchFault}
+use Rattle.s161_base.specs.declared.finished.Finished.{Finished}
+use Rattle.s161_search.specs.Given.{Given, IsRead, criteria_of}
+use Rattle.s161_search.specs.Never.{AreAddresses, symbols_in}
+use Rattle.s161_search.specs.declared.inputs.Inputs.{Inputs}
+use Rattle.s161_search.specs.helpers.Inputs.{given_of}
+use Rattle.s161_search.specs.helpers.Never.{HasNever, IsNeverFault, IsWordFault, PrintsFor, with_addresses}
+use Rattle.s161_search.specs.Searches.{IsSearchFault, IsSearched, Prints}
 use Rattle.s161_search.specs.Seeds.{IsRunFault}
 
 -- Why a search ends early.
@@ -47,21 +58,156 @@ unbooted task given (Some first) (audit.BadWatch k) has h = absurd cc
 unbooted task given None (audit.Boot x) has h = let same : x ≡ BootError.NoMemory = cc in boot_failed task given x (inr same)
 unbooted task given None (audit.BadWatch k) has h = absurd cc
 
+-- of what was read alone
+pub judge_failed : (task : SearchTask) (given : Given) (events : List Event) (fault : Option BootError) (e : AuditError) →
+    boot_fault given.file (conf_of task.size) ≡ fault → Judges given.file (conf_of task.size) fault events (criteria_of given) (Err e) →
+    IsRunFault task given (fault_of_audit e)
+judge_failed task given events (Some first) (audit.Boot x) has h =
+    let same : first ≡ x = cc in
+    boot_failed task given x (inl (has ∙ ap (λ e. Some e) same))
+judge_failed task given events (Some first) (audit.BadWatch k) has h = absurd cc
+judge_failed task given events None (audit.Boot x) has h = boot_failed task given x (inr h)
+judge_failed task given events None (audit.BadWatch k) has h = (has, h.0, h.1)
+
+pub judged_good : (task : SearchTask) (given : Given) (events : List Event) (fault : Option BootError) (judged : Option Judged) →
+    Judges given.file (conf_of task.size) fault events (criteria_of given) (Ok judged) → (k : ℕ) → AreGood task.size.ram given.watches k
+judged_good task given events (Some first) judged h = absurd cc
+judged_good task given events None judged h = h.0
+
+-- a fault of a run is one of the words too
+pub run_is_never : (task : SearchTask) (words : List (List ℕ)) (given : Given) (fault : Fault) → IsRunFault task given fault → IsNeverFault task words given fault
+run_is_never task words given Conf h = h
+run_is_never task words given (Image e) h = h
+run_is_never task words given (Watch k) h = h
+run_is_never task words given Memory h = tt
+run_is_never task words given (Never word) h = absurd h
+run_is_never task words given (File name why) h = absurd h
+run_is_never task words given (Schedule n) h = absurd h
+run_is_never task words given (Log n) h = absurd h
+run_is_never task words given (Watches n) h = absurd h
+run_is_never task words given (Threads cause) h = absurd h
+run_is_never task words given (Input why) h = absurd h
+run_is_never task words given Word h = absurd h
+run_is_never task words given LogMachine h = absurd h
+run_is_never task words given LogImage h = absurd h
+run_is_never task words given Output h = absurd h
+run_is_never task words given (Source e) h = absurd h
+
+-- with other addresses a run has the same faults
+pub other_fault : (task : SearchTask) (words : List (List ℕ)) (given other : Given) (addresses : List ℕ) (fault : Fault) → other ≡ with_addresses given addresses →
+    IsRunFault task other fault → IsNeverFault task words given fault
+other_fault task words given other addresses fault same h =
+    run_is_never task words given fault (as_before fault (subst (λ g. IsRunFault task g fault) same h))
+  where
+    as_before : (f : Fault) → IsRunFault task (with_addresses given addresses) f → IsRunFault task given f
+    as_before Conf x = x
+    as_before (Image e) x = x
+    as_before (Watch k) x = x
+    as_before Memory x = x
+    as_before (Never word) x = absurd x
+    as_before (File name why) x = absurd x
+    as_before (Schedule n) x = absurd x
+    as_before (Log n) x = absurd x
+    as_before (Watches n) x = absurd x
+    as_before (Threads cause) x = absurd x
+    as_before (Input why) x = absurd x
+    as_before Word x = absurd x
+    as_before LogMachine x = absurd x
+    as_before LogImage x = absurd x
+    as_before Output x = absurd x
+    as_before (Source e) x = absurd x
+
+-- the image can be booted
+pub boots_none : (task : SearchTask) (given : Given) (s : State) (fault : Option BootError) → boot_fault given.file (conf_of task.size) ≡ fault →
+    BootsState given.file (conf_of task.size) fault (Ok s) → boot_fault given.file (conf_of task.size) ≡ None
+boots_none task given s (Some first) has h = absurd h
+boots_none task given s None has h = has
+
+-- a word stands for no address
+pub word_failed : (task : SearchTask) (words : List (List ℕ)) (given : Given) (fault : Fault) → boot_fault given.file (conf_of task.size) ≡ None →
+    ((k : ℕ) → AreGood task.size.ram given.watches k) → IsWordFault (symbols_in task given) words fault → IsNeverFault task words given fault
+word_failed task words given (Never word) boots good h = record { is_unknown = h; boots = boots; good = good }
+word_failed task words given Memory boots good h = tt
+word_failed task words given Conf boots good h = absurd h
+word_failed task words given (Image e) boots good h = absurd h
+word_failed task words given (Watch k) boots good h = absurd h
+word_failed task words given (File name why) boots good h = absurd h
+word_failed task words given (Schedule n) boots good h = absurd h
+word_failed task words given (Log n) boots good h = absurd h
+word_failed task words given (Watches n) boots good h = absurd h
+word_failed task words given (Threads cause) boots good h = absurd h
+word_failed task words given (Input why) boots good h = absurd h
+word_failed task words given Word boots good h = absurd h
+word_failed task words given LogMachine boots good h = absurd h
+word_failed task words given LogImage boots good h = absurd h
+word_failed task words given Output boots good h = absurd h
+word_failed task words given (Source e) boots good h = absurd h
+
 -- so is the search
-pub search_failed : (task : SearchTask) (files : List ℕ → Option (List ℕ)) (image : Option (List ℕ)) (given : Given) (fault : Fault) →
-    IsGiven task files image given → IsRunFault task given fault → IsSearchFault task files image fault
-search_failed task files image given Conf is h = (given, is, h)
-search_failed task files image given (Image e) is h = (given, is, h)
-search_failed task files image given (Watch k) is h = (given, is, h)
-search_failed task files image given Memory is h = tt
-search_failed task files image given (File name why) is h = absurd h
-search_failed task files image given (Schedule n) is h = absurd h
-search_failed task files image given (Log n) is h = absurd h
-search_failed task files image given (Watches n) is h = absurd h
-search_failed task files image given (Threads cause) is h = absurd h
-search_failed task files image given (Input why) is h = absurd h
-search_failed task files image given Word is h = absurd h
-search_failed task files image given LogMachine is h = absurd h
-search_failed task files image given LogImage is h = absurd h
-search_failed task files image given Output is h = absurd h
-search_failed task files image given (Source e) is h = absurd h
+pub search_failed : (task : SearchTask) (never : List (List ℕ)) (files : List ℕ → Option (List ℕ)) (image : Option (List ℕ)) (given : Given) (fault : Fault) →
+    IsRead task files image given → IsNeverFault task never given fault → IsSearchFault task never files image fault
+search_failed task never files image given Conf is h = (given, is, h)
+search_failed task never files image given (Image e) is h = (given, is, h)
+search_failed task never files image given (Watch k) is h = (given, is, h)
+search_failed task never files image given (Never word) is h = (given, is, h)
+search_failed task never files image given Memory is h = tt
+search_failed task never files image given (File name why) is h = absurd h
+search_failed task never files image given (Schedule n) is h = absurd h
+search_failed task never files image given (Log n) is h = absurd h
+search_failed task never files image given (Watches n) is h = absurd h
+search_failed task never files image given (Threads cause) is h = absurd h
+search_failed task never files image given (Input why) is h = absurd h
+search_failed task never files image given Word is h = absurd h
+search_failed task never files image given LogMachine is h = absurd h
+search_failed task never files image given LogImage is h = absurd h
+search_failed task never files image given Output is h = absurd h
+search_failed task never files image given (Source e) is h = absurd h
+
+-- what was read, with other addresses
+read_with : (task : SearchTask) (files : List ℕ → Option (List ℕ)) (image : Option (List ℕ)) (given : Given) (addresses : List ℕ) →
+    IsRead task files image given → IsRead task files image (with_addresses given addresses)
+read_with task files image given addresses is = record {
+  is_file = is.is_file;
+  are_keys = is.are_keys;
+  are_watches = is.are_watches;
+  is_output = is.is_output;
+}
+
+pub searched_so : (task : SearchTask) (never : List (List ℕ)) (files : List ℕ → Option (List ℕ)) (image : Option (List ℕ)) (given : Given) (r : Result Finished Fault) →
+    IsRead task files image given → IfOk r (λ done. PrintsFor task never given done.text.items done.status) →
+    IfOk r (λ done. IsSearched task never files image done.text.items done.status)
+searched_so task never files image given (Ok done) is h =
+    (with_addresses given h.0, (read_with task files image given h.0 is, h.1), h.2)
+searched_so task never files image given (Err fault) is h = tt
+
+pub failed_so : (task : SearchTask) (never : List (List ℕ)) (files : List ℕ → Option (List ℕ)) (image : Option (List ℕ)) (given : Given) (r : Result Finished Fault) →
+    IsRead task files image given → IfErr r (IsNeverFault task never given) → IfErr r (IsSearchFault task never files image)
+failed_so task never files image given (Ok done) is h = tt
+failed_so task never files image given (Err fault) is h = search_failed task never files image given fault is h
+
+-- with the addresses of the words
+
+pub printed_for : (task : SearchTask) (words : List (List ℕ)) (given : Given) (inputs : Inputs) (r : Result Finished Fault) → HasNever task words given inputs →
+    IfOk r (λ done. Prints task (given_of inputs) task.delays done.text.items done.status) →
+    IfOk r (λ done. PrintsFor task words given done.text.items done.status)
+printed_for task words given inputs (Ok done) has h =
+    (inputs.never.items, has.1, subst (λ g. Prints task g task.delays done.text.items done.status) has.0 h)
+printed_for task words given inputs (Err fault) has h = tt
+
+pub failed_for : (task : SearchTask) (words : List (List ℕ)) (given : Given) (inputs : Inputs) (r : Result Finished Fault) → HasNever task words given inputs →
+    IfErr r (IsRunFault task (given_of inputs)) → IfErr r (IsNeverFault task words given)
+failed_for task words given inputs (Ok done) has h = tt
+failed_for task words given inputs (Err fault) has h =
+    other_fault task words given (given_of inputs) inputs.never.items fault has.0 h
+
+-- the addresses of one word more
+pub addresses_more : (symbols : List (List ℕ × ℕ)) (words : List (List ℕ)) (i : ℕ) (addresses : List ℕ) (word : List ℕ) (address : ℕ) →
+    AreAddresses symbols (take i words) addresses → slice_get words i ≡ Some word → IsPlace symbols address word →
+    AreAddresses symbols (take (suc i) words) (addresses ++ address ∷ [])
+addresses_more symbols [] i addresses word address h at place = absurd cc
+addresses_more symbols (w ∷ ws) zero addresses word address h at place =
+    let same : w ≡ word = cc in
+    subst (λ xs. AreAddresses symbols (w ∷ []) (xs ++ address ∷ [])) (sym h) (subst (IsPlace symbols address) (sym same) place, refl)
+addresses_more symbols (w ∷ ws) (suc i) [] word address h at place = absurd h
+addresses_more symbols (w ∷ ws) (suc i) (a ∷ rest) word address h at place =
+    (h.0, addresses_more symbols ws i rest word address h.1 at place)

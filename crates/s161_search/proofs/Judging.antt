@@ -1,15 +1,25 @@
-use Rattle.std.proofs.Common.{◌≡◌, ◌⊎◌, ◌∙◌, ℕ, suc, ◌+◌, ◌≤◌, arith, Bool, true, false, List, take, Option, None, Some, Ok, ap, inl, inr, refl, sym, subst}
-use Rattle.std.specs.Prelude.{◌==◌, Result, option_map}
+use Rattle.std.proofs.Common.{◌≡◌, ◌⊎◌, ◌∙◌, ℕ, Bool, true, false, List, [], ◌∷◌, take, Option, None, Some, Ok, Err, ap, inl, inr, refl, sym, subst}
+use Rattle.std.specs.Prelude.{◌==◌, Result, IfErr, IfOk, option_map}
+use Rattle.std.specs.List.{range_with_len}
 use Rattle.std.proofs.lemmas.Bool.{eqb-true}
 use Rattle.m161_judge.specs.declared.run.JudgedRun.{JudgedRun}
 use Rattle.m161_judge.specs.declared.verdict.Judged.{Judged}
 use Rattle.m161_judge.specs.Judge.{BootsState}
 use Rattle.m161_judge.specs.Laws.{CutKeepsVerdict, IsOneVerdict}
-use Rattle.m161_judge.specs.Run.{IsRun, Runs, criteria}
+use Rattle.m161_judge.specs.Run.{IsRun, Runs, with_keys_of}
 use Rattle.m161_audit.specs.declared.finding.AuditError.{AuditError}
-use Rattle.m161_audit.specs.declared.watch.Watch.{Watch}
+use Rattle.m161_jobs.specs.Answers.{IsAnswer}
+use Rattle.m161_jobs.specs.Trials.{AreRight, IsJudged as IsJudgedTrial}
+use Rattle.m161_jobs.specs.declared.trials.Tested.{Tested}
+use Rattle.m161_jobs.specs.declared.trials.Tested.TheVariants.{Right, Wrong}
+use Rattle.m161_jobs.specs.declared.trials.Tried.{Tried}
+use Rattle.m161_jobs.specs.declared.trials.Tried.TheVariants.{Clean, Wrong as WrongTrial}
 use Rattle.m161_machine.specs.declared.conf.Conf.{Conf}
+use Rattle.m161_order.specs.declared.delays.Delays.{Delays}
 use Rattle.m161_order.specs.declared.order.Order.{Order}
+use Rattle.m161_order.specs.declared.order.Order.TheVariants.{Delayed}
+use Rattle.m161_order.specs.Delays.{delays_of}
+use Rattle.s161_base.specs.declared.fault.Fault.{Fault}
 use Rattle.s161_command.specs.declared.drive.Drive.{Drive}
 use Rattle.s161_run.specs.Driven.{rules_of}
 use Rattle.m161_judge.specs.Verdict.{Criteria, IsJudged, rank}
@@ -26,48 +36,27 @@ use Rattle.s161_base.specs.Sizes.{conf_of}
 use Rattle.s161_command.specs.declared.task.SearchTask.{SearchTask}
 use Rattle.s161_search.specs.Delays.{IsRunOf}
 use Rattle.s161_search.specs.Given.{Given, criteria_of}
-use Rattle.s161_search.specs.Seeds.{AreClean, IsRunAt, one_if, drive_at, seed_at, with_seed}
+use Rattle.s161_search.specs.Seeds.{IsRightAt, IsRunAt, IsRunFault, seed_at, with_seed}
+use Rattle.s161_search.specs.declared.orders.WrongRun.{WrongRun}
 use Rattle.s161_search.specs.Searches.{ArePrinted, HasKind, IsJudgedAt, is_whole, kind_of}
 use Rattle.s161_search.specs.declared.found.Printed.{Printed}
 use Rattle.s161_search.specs.helpers.Begun.{BeginsAt, HasKindFrom}
-use Rattle.s161_search.specs.helpers.Tried.{ArePrintedWith}
+use Rattle.s161_search.specs.helpers.Delayed.{IsFaultFrom, IsRightFrom, IsRunFrom, IsSeedRightFrom, IsSeedWrongFrom, IsTested, IsWrongFrom}
+use Rattle.s161_search.specs.helpers.Tried.{ArePrintedWith, IsTried}
 use Rattle.s161_search.proofs.Booting.{booted_as_one}
 
 -- Verdicts of runs and of lists of events.
 
--- the policy of a run
-pub rules_are : (drive : Drive) (k seed : ℕ) (order : Order) (policy : Rules) (bytes keys : List ℕ) →
-    policy ≡ record { order = order; transfer = drive.transfer; gap = drive.gap; keys = bytes } → order ≡ with_seed seed drive.order → seed ≡ seed_at drive.order k →
-    bytes ≡ keys → policy ≡ rules_of (drive_at drive k) keys
-rules_are drive k seed order policy bytes keys is order_is seed_is keys_are =
-    let by_order : Order → Rules = λ o. record { order = o; transfer = drive.transfer; gap = drive.gap; keys = bytes } in
-    is ∙ ap by_order (order_is ∙ ap (λ s. with_seed s drive.order) seed_is) ∙ ap (λ b. rules_of (drive_at drive k) b) keys_are
-
--- a run of what was read
-pub same_run : (task : SearchTask) (given : Given) (k : ℕ) (file : List ℕ) (conf : Conf) (rules : Rules) (watches : List Watch) (output : Option (List ℕ)) (result : Result JudgedRun AuditError) →
-    file ≡ given.file → conf ≡ conf_of task.size → rules ≡ rules_of (drive_at task.drive k) given.keys → watches ≡ given.watches → output ≡ given.output →
-    Runs file conf (boot_fault file conf) rules task.drive.events (criteria watches output rules) result →
-    Runs given.file (conf_of task.size) (boot_fault given.file (conf_of task.size)) (rules_of (drive_at task.drive k) given.keys) task.drive.events (criteria_of given) result
-same_run task given k file conf rules watches output result file_is conf_is rules_is watches_is output_is h =
-    let n = task.drive.events in
-    let R = rules_of (drive_at task.drive k) given.keys in
-    subst (λ f. Runs f (conf_of task.size) (boot_fault f (conf_of task.size)) R n (criteria given.watches given.output R) result) file_is
-    (subst (λ x. Runs file x (boot_fault file x) R n (criteria given.watches given.output R) result) conf_is
-    (subst (λ r. Runs file conf (boot_fault file conf) r n (criteria given.watches given.output r) result) rules_is
-    (subst (λ w. Runs file conf (boot_fault file conf) rules n (criteria w given.output rules) result) watches_is
-    (subst (λ o. Runs file conf (boot_fault file conf) rules n (criteria watches o rules) result) output_is h))))
-
--- the same by any rules
-pub as_given : (task : SearchTask) (given : Given) (rules policy : Rules) (watches : List Watch) (output : Option (List ℕ)) (result : Result JudgedRun AuditError) →
-    policy ≡ rules → watches ≡ given.watches → output ≡ given.output →
-    Runs given.file (conf_of task.size) (boot_fault given.file (conf_of task.size)) policy task.drive.events (criteria watches output policy) result →
-    Runs given.file (conf_of task.size) (boot_fault given.file (conf_of task.size)) rules task.drive.events (criteria given.watches given.output rules) result
-as_given task given rules policy watches output result rules_is watches_is output_is h =
+-- a run by a policy, of what was read
+pub as_given : (task : SearchTask) (given : Given) (drive : Drive) (policy : Rules) (goal : Criteria) (result : Result JudgedRun AuditError) →
+    policy ≡ rules_of drive given.keys → goal ≡ criteria_of given →
+    Runs given.file (conf_of task.size) (boot_fault given.file (conf_of task.size)) policy task.drive.events (with_keys_of policy goal) result →
+    Runs given.file (conf_of task.size) (boot_fault given.file (conf_of task.size)) (rules_of drive given.keys) task.drive.events (criteria_of given) result
+as_given task given drive policy goal result rules_is goal_is h =
     let conf = conf_of task.size in
     let n = task.drive.events in
-    subst (λ r. Runs given.file conf (boot_fault given.file conf) r n (criteria given.watches given.output r) result) rules_is
-    (subst (λ w. Runs given.file conf (boot_fault given.file conf) policy n (criteria w given.output policy) result) watches_is
-    (subst (λ o. Runs given.file conf (boot_fault given.file conf) policy n (criteria watches o policy) result) output_is h))
+    subst (λ r. Runs given.file conf (boot_fault given.file conf) r n (with_keys_of r (criteria_of given)) result) rules_is
+    (subst (λ g. Runs given.file conf (boot_fault given.file conf) policy n (with_keys_of policy g) result) goal_is h)
 
 -- a boot of what was read
 pub boots_as : (file same : List ℕ) (conf equal : Conf) (result : Result State AuditError) → file ≡ same → conf ≡ equal →
@@ -195,15 +184,41 @@ short_as task given s fs es gs k r begins same kind h =
     (subst (λ n. Shortens (λ kind. n == kind) (HasKind task given) es fs) kind
     (shortens_by (λ kind. k == kind) (HasKindFrom s given) (HasKind task given) es fs (λ xs verdict has. has task begins) h))
 
--- one run more
+-- what became of a run
 
-pub one_small : (b : Bool) → one_if b ≤ 1
-one_small true = omega arith
-one_small false = omega arith
+pub seed_judged : (s : State) (task : SearchTask) (given : Given) (k : ℕ) (run : JudgedRun) (tested : Tested WrongRun) →
+    IsRunFrom s task given (with_seed (seed_at task.drive.order k) task.drive.order) run → IsTested run tested →
+    IsJudgedTrial (IsSeedRightFrom s task given k) (IsSeedWrongFrom s task given k) tested
+seed_judged s task given k run (Right is_cut) is h = λ begins. (run, is begins, h.0, h.1)
+seed_judged s task given k run (Wrong wrong) is h = λ begins.
+    (subst (IsRunAt task given k) (sym h.0) (is begins), ap (λ (r : JudgedRun). r.judged) h.0 ∙ h.1)
 
-pub clean_more : (task : SearchTask) (given : Given) (n before cut : ℕ) (run : JudgedRun) → AreClean task given n before → IsRunAt task given n run → run.judged ≡ None →
-    cut ≡ before + one_if run.is_cut → AreClean task given (n + 1) cut
-clean_more task given n before cut run clean is none cut_is =
-    let next : suc n ≡ n + 1 = omega arith in
-    let all : AreClean task given (suc n) cut = (before, run, clean, is, none, cut_is) in
-    subst (λ m. AreClean task given m cut) next all
+pub list_judged : (s : State) (task : SearchTask) (given : Given) (steps : ℕ) (delays : Delays) (run : JudgedRun) (tested : Tested WrongRun) →
+    IsRunFrom s task given (Delayed steps delays) run → IsTested run tested →
+    IsJudgedTrial (IsRightFrom s task given steps (delays_of delays)) (IsWrongFrom s task given steps (delays_of delays)) tested
+list_judged s task given steps delays run (Right is_cut) is h = λ begins. (delays, run, refl, is begins, h.0, h.1)
+list_judged s task given steps delays run (Wrong wrong) is h = λ begins.
+    (delays, refl, subst (IsRunOf task given (Delayed steps delays)) (sym h.0) (is begins), ap (λ (r : JudgedRun). r.judged) h.0 ∙ h.1)
+
+-- what came of the seeds
+
+pub rights_as : {X : Type 0} (R Q : X → Bool → Type 0) (xs : List X) (cut : ℕ) → ((x : X) (b : Bool) → R x b → Q x b) → AreRight R xs cut → AreRight Q xs cut
+rights_as R Q [] cut f h = h
+rights_as R Q (x ∷ xs) cut f h = (h.0, h.1, f x h.0 h.2, h.3, rights_as R Q xs h.1 f h.4)
+
+pub tried_by : (task : SearchTask) (given : Given) (s : State) (result : Result (Tried WrongRun) Fault) → BeginsAt task given s →
+    IfOk result (IsAnswer (IsSeedRightFrom s task given) (IsSeedWrongFrom s task given) task.seeds) → IfOk result (IsTried task given)
+tried_by task given s (Ok (Clean cut)) begins h =
+    rights_as (IsSeedRightFrom s task given) (IsRightAt task given) (range_with_len 0 task.seeds) cut (λ k b right. right begins) h
+tried_by task given s (Ok (WrongTrial place wrong)) begins h = record {
+  within = h.0;
+  before = λ n less. (let right = h.2 n less in (right.0, right.1 begins));
+  is_run = (h.1 begins).0;
+  wrong = (h.1 begins).1;
+}
+tried_by task given s (Err fault) begins h = tt
+
+pub seeds_fail : (task : SearchTask) (given : Given) (s : State) (result : Result (Tried WrongRun) Fault) → BeginsAt task given s →
+    IfErr result (IsFaultFrom s task given) → IfErr result (IsRunFault task given)
+seeds_fail task given s (Ok tried) begins h = tt
+seeds_fail task given s (Err fault) begins h = h begins

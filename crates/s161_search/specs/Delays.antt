@@ -1,7 +1,8 @@
 use Rattle.std.specs.Prelude.{◌≡◌, ℕ, ◌%◌, ◌^◌, Bool, List, length, slice_get, None, Some}
 use Rattle.m161_delays.specs.declared.search.Class.{Class}
 use Rattle.m161_delays.specs.Lists.{ComesBefore, IsOf}
-use Rattle.m161_delays.specs.Runs.{AreRight, AreThose, IsUsefulOf}
+use Rattle.m161_delays.specs.Runs.{AreThose, IsUsefulOf}
+use Rattle.m161_jobs.specs.Trials.{AreRight}
 use Rattle.m161_drive.specs.Choice.{cursor_at}
 use Rattle.m161_judge.specs.declared.run.JudgedRun.{JudgedRun}
 use Rattle.m161_judge.specs.declared.verdict.Judged.{Judged}

@@ -26,10 +26,16 @@ pub record Given : Type 0 where
   pub file : List ℕ
   pub keys : List ℕ
   pub watches : List Watch
+  pub never : List ℕ
   pub output : Option (List ℕ)
 
 abbrev pub criteria_of : Given → Criteria
-criteria_of given = record { watches = given.watches; output = given.output; keys = given.keys }
+criteria_of given = record {
+  watches = given.watches;
+  never = given.never;
+  output = given.output;
+  keys = given.keys;
+}
 
 -- the watches are those of the file of a name, as far as its bytes are known, or none without a name
 abbrev pub AreWatchesOf :
@@ -43,8 +49,8 @@ abbrev pub IsOutputOf :
 IsOutputOf None files output = output ≡ None
 IsOutputOf (Some name) files output = OfKnown (files name.now) (λ bytes. output ≡ Some bytes)
 
--- all of it; the files have these bytes, and that of the image, as far as they are known
-pub record IsGiven
+-- all of it but the addresses; the files have these bytes, and that of the image, as far as they are known
+pub record IsRead
     (task : SearchTask) (files : List ℕ → Option (List ℕ)) (image : Option (List ℕ)) (given : Given)
     : Type 0 where
   pub is_file : IfSome image (λ bytes. given.file ≡ bytes)

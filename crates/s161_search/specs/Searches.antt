@@ -2,7 +2,7 @@ use Rattle.std.specs.Prelude.{◌≡◌, ◌⊎◌, ℕ, ◌==◌, Bool, true, f
 use Rattle.m161_judge.specs.declared.run.JudgedRun.{JudgedRun}
 use Rattle.m161_judge.specs.declared.verdict.Judged.{Judged}
 use Rattle.m161_judge.specs.declared.verdict.Verdict.{Verdict}
-use Rattle.m161_judge.specs.declared.verdict.Verdict.TheVariants.{Stale, Conflict, Stuck, Output as OutputVerdict, End}
+use Rattle.m161_judge.specs.declared.verdict.Verdict.TheVariants.{Stale, Reached, Conflict, Stuck, Output as OutputVerdict, End}
 use Rattle.m161_judge.specs.Verdict.{IsJudged, rank}
 use Rattle.m161_machine.specs.declared.event.Event.{Event}
 use Rattle.m161_machine.specs.History.{IsBootState}
@@ -11,13 +11,14 @@ use Rattle.m161_shorten.specs.declared.judged.Judgement.{Judgement}
 use Rattle.m161_shorten.specs.Passes.{Shortens}
 use Rattle.m161_text.specs.Lines.{with_line_end}
 use Rattle.s161_base.specs.declared.fault.Fault.{Fault}
-use Rattle.s161_base.specs.declared.fault.Fault.TheVariants.{Conf, File, Image, Memory, Watch, Watches}
+use Rattle.s161_base.specs.declared.fault.Fault.TheVariants.{Conf, File, Image, Memory, Never, Watch, Watches}
 use Rattle.s161_base.specs.Reading.{IsOfBytes}
 use Rattle.s161_base.specs.Samples.{IsFileName}
 use Rattle.s161_base.specs.Sizes.{conf_of}
 use Rattle.s161_command.specs.declared.task.SearchTask.{SearchTask}
 use Rattle.s161_run.specs.Driven.{IsKeysFile}
-use Rattle.s161_search.specs.Given.{Given, IsBadLine, IsGiven, IsWatchesFile, criteria_of}
+use Rattle.s161_search.specs.Given.{Given, IsBadLine, IsRead, IsWatchesFile, criteria_of}
+use Rattle.s161_search.specs.Never.{AreAddresses, LacksAddress, symbols_in}
 use Rattle.s161_search.specs.Seeds.{AreClean, IsFirstWrong, IsRunFault, seed_at}
 use Rattle.m161_delays.specs.declared.search.Class.{Class}
 use Rattle.m161_order.specs.declared.order.Order.TheVariants.{Turns}
@@ -45,6 +46,7 @@ HasKind task given events verdict =
 -- all events of a run are printed where that is asked for, and where the verdict is `end`
 abbrev pub is_whole : Bool → Verdict → Bool
 is_whole whole (Stale place processor address row) = whole
+is_whole whole (Reached place processor address) = whole
 is_whole whole (Conflict conflict) = whole
 is_whole whole Stuck = whole
 is_whole whole OutputVerdict = whole
@@ -109,32 +111,41 @@ Prints task given (Some class) text status =
     × (((status ≡ 0) × IsCleanBy task given steps (class_of class) text)
     ⊎ ((status ≡ 4) × IsFoundBy task given steps (class_of class) text))
 
--- a finished search: what it prints and its exit status; the files have these bytes, and that of the
+-- all that was read, and the addresses of these words; the files have these bytes, and that of the
 -- image, as far as they are known
+abbrev pub IsGiven :
+    SearchTask → List (List ℕ) → (List ℕ → Option (List ℕ)) → Option (List ℕ) → Given → Type 0
+IsGiven task never files image given =
+    IsRead task files image given × AreAddresses (symbols_in task given) never given.never
+
+-- a finished search: what it prints and its exit status
 abbrev pub IsSearched :
-    SearchTask → (List ℕ → Option (List ℕ)) → Option (List ℕ) → List ℕ → ℕ → Type 0
-IsSearched task files image text status =
-    (given : Given) × IsGiven task files image given × Prints task given task.delays text status
+    SearchTask → List (List ℕ) → (List ℕ → Option (List ℕ)) → Option (List ℕ) → List ℕ → ℕ → Type 0
+IsSearched task never files image text status =
+    (given : Given) × IsGiven task never files image given × Prints task given task.delays text status
 
 -- a run isn't made, of what was read
 abbrev pub IsNotRun :
     SearchTask → (List ℕ → Option (List ℕ)) → Option (List ℕ) → Fault → Type 0
 IsNotRun task files image fault =
-    (given : Given) × IsGiven task files image given × IsRunFault task given fault
+    (given : Given) × IsRead task files image given × IsRunFault task given fault
 
 -- what a fault that ends a search says of its inputs: of a file, that it is the image's, the keys',
 -- the watches' or the output's; of the watches, their first bad line; of the configuration, the image
--- or a watch, that all files were read. File and Memory hold whatever else is at fault
+-- or a watch, that all files were read; of a word, that it is the first that stands for no address, and
+-- that nothing else is at fault. File and Memory hold whatever else is at fault
 abbrev pub IsSearchFault :
-    SearchTask → (List ℕ → Option (List ℕ)) → Option (List ℕ) → Fault → Type 0
-IsSearchFault task files image (File name why) =
+    SearchTask → List (List ℕ) → (List ℕ → Option (List ℕ)) → Option (List ℕ) → Fault → Type 0
+IsSearchFault task never files image (File name why) =
     ((name.now ≡ task.image.now) × IsFileName task.image.now × IsOfBytes why)
     ⊎ (IsKeysFile task.drive.keys (File name why)
     ⊎ (IsWatchesFile task.watches files (File name why)
     ⊎ IsKeysFile task.output (File name why)))
-IsSearchFault task files image (Watches n) = IsBadLine task.watches files n
-IsSearchFault task files image Conf = IsNotRun task files image Conf
-IsSearchFault task files image (Image e) = IsNotRun task files image (Image e)
-IsSearchFault task files image (Watch k) = IsNotRun task files image (Watch k)
-IsSearchFault task files image Memory = Unit {0}
-IsSearchFault task files image _ = ⊥
+IsSearchFault task never files image (Watches n) = IsBadLine task.watches files n
+IsSearchFault task never files image Conf = IsNotRun task files image Conf
+IsSearchFault task never files image (Image e) = IsNotRun task files image (Image e)
+IsSearchFault task never files image (Watch k) = IsNotRun task files image (Watch k)
+IsSearchFault task never files image (Never word) =
+    (given : Given) × IsRead task files image given × LacksAddress task never given word.now
+IsSearchFault task never files image Memory = Unit {0}
+IsSearchFault task never files image _ = ⊥

@@ -1,5 +1,8 @@
-use Rattle.std.specs.Prelude.{◌≡◌, ℕ, zero, suc, ◌+◌, ◌%◌, ◌^◌, ◌<◌, Bool, if◌then◌else◌, false, None, Some}
+use Rattle.std.specs.Prelude.{◌≡◌, ℕ, ◌+◌, ◌%◌, ◌^◌, ◌<◌, Bool, false, None, Some}
+use Rattle.std.specs.List.{range_with_len}
 use Rattle.m161_audit.specs.Watch.{AreGood, IsBad}
+use Rattle.m161_jobs.specs.Answers.{AreRightBelow}
+use Rattle.m161_jobs.specs.Trials.{AreRight}
 use Rattle.m161_judge.specs.declared.run.JudgedRun.{JudgedRun}
 use Rattle.m161_judge.specs.declared.verdict.Judged.{Judged}
 use Rattle.m161_judge.specs.Run.{IsRun}
@@ -56,21 +59,19 @@ IsRunFault task given (Watch k) =
 IsRunFault task given Memory = Unit {0}
 IsRunFault task given _ = ⊥
 
-abbrev pub one_if : Bool → ℕ
-one_if b = if b then 1 else 0
+-- run k has no verdict, and is cut or isn't
+abbrev pub IsRightAt : SearchTask → Given → ℕ → Bool → Type 0
+IsRightAt task given k is_cut =
+    (run : JudgedRun) × IsRunAt task given k run × (run.judged ≡ None) × (run.is_cut ≡ is_cut)
 
 -- none of the first n runs goes wrong, and so many of them are cut
 abbrev pub AreClean : SearchTask → Given → ℕ → ℕ → Type 0
-AreClean task given zero cut = cut ≡ 0
-AreClean task given (suc n) cut =
-    (before : ℕ) × (run : JudgedRun) × AreClean task given n before × IsRunAt task given n run
-    × (run.judged ≡ None) × (cut ≡ before + one_if run.is_cut)
+AreClean task given n cut = AreRight (IsRightAt task given) (range_with_len 0 n) cut
 
 -- the first run that goes wrong, and its verdict
 pub record IsFirstWrong
     (task : SearchTask) (given : Given) (place : ℕ) (run : JudgedRun) (judged : Judged) : Type 0 where
   pub within : place < task.seeds
-  pub cut : ℕ
-  pub before : AreClean task given place cut
+  pub before : AreRightBelow (IsRightAt task given) place
   pub is_run : IsRunAt task given place run
   pub wrong : run.judged ≡ Some judged

@@ -1,20 +1,22 @@
 use Rattle.std.specs.Prelude.{ℕ, ◌==◌, if◌then◌else◌, List, [], ◌∷◌, ◌++◌, codes, decimal}
 use Rattle.m161_audit.specs.declared.finding.Finding.TheVariants as finding
 use Rattle.m161_judge.specs.declared.verdict.Verdict.{Verdict}
-use Rattle.m161_judge.specs.declared.verdict.Verdict.TheVariants.{Stale, Conflict, Stuck, Output, End}
+use Rattle.m161_judge.specs.declared.verdict.Verdict.TheVariants.{Stale, Reached, Conflict, Stuck, Output, End}
 use Rattle.m161_machine.specs.declared.event.Event.{Event}
 use Rattle.m161_steplog.specs.Written.{schedule_text}
 use Rattle.m161_text.specs.Lines.{with_line_end}
-use Rattle.m161_text.specs.Parts.{◌␣◌}
+use Rattle.m161_text.specs.Parts.{◌␣◌, word_text}
 use Rattle.s161_search.specs.Audits.{finding_text}
 use Rattle.s161_run.specs.Runs.{conflict_words}
 
 -- What a search prints.
 
--- a stale use as the audit prints it, a conflict as a run does, else the verdict's name
+-- a stale use as the audit prints it, a reach as its place, processor and address, a conflict as a run does, else the verdict's name
 abbrev pub verdict_text : Verdict → List ℕ
 verdict_text (Stale place processor address row) =
     finding_text (finding.Stale place processor address row)
+verdict_text (Reached place processor address) =
+    codes "reached" ␣ decimal place ␣ decimal processor ␣ word_text address
 verdict_text (Conflict conflict) = conflict_words conflict
 verdict_text Stuck = codes "stuck"
 verdict_text Output = codes "output"

@@ -2,6 +2,7 @@
 pub mod Watches
 pub mod Tried
 pub mod Inputs
+pub mod Never
 pub mod Begun
 pub mod Delayed
 pub mod Offers

@@ -7,7 +7,7 @@ ghost use Rattle.s161_search.specs.helpers.Inputs.{given_of};
 
 use crate::inputs::Inputs;
 use m161::{Console, Tlb};
-use m161_judge::{Booted, Goal, Judged, Verdict, judge_events};
+use m161_judge::{Booted, Judged, Verdict, judge_events};
 use m161_machine::Event;
 use m161_shorten::Judge;
 use std::alloc::{AllocError, Global};
@@ -24,12 +24,7 @@ pub(crate) fn judge_again(
 ) -> Result<Option<Judged>, AllocError>
     ensures { IfOk result (IsJudgedFrom booted.now (given_of inputs.now) events.now) }
 {
-    let goal = Goal {
-        watches: &inputs.watches,
-        output: inputs.output(),
-        keys: &inputs.keys,
-    };
-    match judge_events(alloc, booted, events, &goal) {
+    match judge_events(alloc, booted, events, &inputs.goal()) {
         Ok(judged) => Ok(judged),
         Err(_) => Err(AllocError),
     }
@@ -41,10 +36,11 @@ pub(crate) fn rank(verdict: Verdict) -> u8
 {
     match verdict {
         Verdict::Stale { .. } => 0,
-        Verdict::Conflict(_) => 1,
-        Verdict::Stuck => 2,
-        Verdict::Output => 3,
-        Verdict::End => 4,
+        Verdict::Reached { .. } => 1,
+        Verdict::Conflict(_) => 2,
+        Verdict::Stuck => 3,
+        Verdict::Output => 4,
+        Verdict::End => 5,
     }
 }
 

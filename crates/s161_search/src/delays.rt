@@ -8,23 +8,15 @@ ghost use Rattle.s161_search.specs.helpers.Inputs.{given_of};
 ghost use Rattle.s161_search.specs.helpers.Tried.{IsSearchedBy};
 
 use crate::inputs::Inputs;
-use crate::orders::{policy_of, run_order};
+use crate::orders::{WrongRun, policy_of, run_order, tested};
 use m161::{Console, Tlb};
 use m161_delays::{Class, Delays, Runs, Searched, Tested, search_lists};
-use m161_judge::{Booted, Judged, JudgedRun};
+use m161_judge::Booted;
 use m161_order::Order;
 use s161_base::fault::Fault;
 use s161_command::{DelayClass, SearchTask};
 use std::alloc::Global;
-
-/// A run that goes wrong.
-#[derive(Drop)]
-pub(crate) struct WrongRun {
-    /// The run.
-    pub run: JudgedRun,
-    /// Its verdict.
-    pub judged: Judged,
-}
+use std::thread::Threads;
 
 /// Makes the runs of lists of delays.
 #[derive(Drop)]
@@ -76,10 +68,11 @@ impl<'a, 'b> Runs for DelayedRuns<'a, 'b> {
             delays: *delays,
         };
         let run = run_order(self.alloc, self.booted, self.task, self.inputs, order)?;
-        match run.judged {
-            Some(judged) => Ok(Tested::Wrong(WrongRun { run, judged })),
-            None => Ok(Tested::Right { is_cut: run.is_cut }),
-        }
+        Ok(tested(run))
+    }
+
+    fn refused(&self) -> Fault<'a> {
+        Fault::Memory
     }
 
     ghost alike = { λ r. offers_alike r.task (given_of r.inputs.now) r.turns r.booted.now };
@@ -89,7 +82,8 @@ impl<'a, 'b> Runs for DelayedRuns<'a, 'b> {
 ///
 /// # Errors
 /// A run can't be made.
-pub(crate) fn try_lists<'a>(
+pub(crate) fn try_lists<'a, R: Threads + Sync>(
+    rt: &R,
     alloc: Global,
     booted: &Booted<Tlb, Console>,
     task: SearchTask<'a>,
@@ -114,5 +108,5 @@ pub(crate) fn try_lists<'a>(
         from: class.from,
         within: class.within,
     };
-    search_lists(alloc, &runs, lists)
+    search_lists(rt, alloc, &runs, lists, task.jobs)
 }

@@ -29,7 +29,11 @@ fn is_whole(whole: bool, verdict: Verdict) -> bool
     ensures { result ≡ is_whole whole verdict }
 {
     match verdict {
-        Verdict::Stale { .. } | Verdict::Conflict(_) | Verdict::Stuck | Verdict::Output => whole,
+        Verdict::Stale { .. }
+        | Verdict::Reached { .. }
+        | Verdict::Conflict(_)
+        | Verdict::Stuck
+        | Verdict::Output => whole,
         Verdict::End => true,
     }
 }

@@ -6,13 +6,14 @@ ghost use Rattle.s161_base.specs.Asked.{Asks, AsksFor, option_files};
 ghost use Rattle.s161_base.specs.Known.{IsText};
 ghost use Rattle.s161_base.specs.Samples.{image_file};
 ghost use Rattle.s161_run.specs.Driven.{IsKeysFile};
-ghost use Rattle.s161_search.specs.Given.{IsGiven, IsOutputOf, IsWatchesFile, search_files};
+ghost use Rattle.s161_search.specs.Given.{IsOutputOf, IsRead, IsWatchesFile, criteria_of, search_files};
 ghost use Rattle.s161_search.specs.helpers.Inputs.{given_of};
 ghost use Rattle.s161_search.specs.Searches.{IsSearchFault};
 ghost use Rattle.s161_search.specs.helpers.Watches.{AreWatchesIn, IsFaultIn, IsTextOf};
 
 use crate::watches::watches_of;
 use m161_audit::Watch;
+use m161_judge::Goal;
 use s161_base::fault::{Fault, Unread};
 use s161_base::files::FileSource;
 use s161_base::input::{read_file, read_text};
@@ -30,6 +31,8 @@ pub(crate) struct Inputs {
     pub keys: Vec<u8>,
     /// The watches.
     pub watches: Vec<Watch>,
+    /// The addresses that no Step is to reach.
+    pub never: Vec<u32>,
     /// The bytes that the console should send, if any are asked for.
     pub output: Option<Vec<u8>>,
 }
@@ -42,6 +45,18 @@ impl Inputs {
         match &self.output {
             Some(bytes) => Some(bytes.as_slice()),
             None => None,
+        }
+    }
+
+    /// By what runs are judged.
+    pub(crate) fn goal(&self) -> Goal<'_>
+        ensures { result ≡ criteria_of (given_of self.now) }
+    {
+        Goal {
+            watches: &self.watches,
+            never: &self.never,
+            output: self.output(),
+            keys: &self.keys,
         }
     }
 }
@@ -116,9 +131,9 @@ pub(crate) fn read_inputs<'a, F: FileSource>(
     files: &mut F,
     task: SearchTask<'a>,
 ) -> Result<Inputs, Fault<'a>>
-    ensures ok { IfOk result (λ inputs. IsGiven task.entry (F.known files.old)
+    ensures ok { IfOk result (λ inputs. IsRead task.entry (F.known files.old)
         (image_file (F.known files.old) task.entry.image.now) (given_of inputs)) }
-    ensures fault { IfErr result (IsSearchFault task.entry (F.known files.old)
+    ensures fault { (never : List (List ℕ)) → IfErr result (IsSearchFault task.entry never (F.known files.old)
         (image_file (F.known files.old) task.entry.image.now)) }
     ensures asks { AsksFor (search_files task.entry) result (F.asked files.old)
         (F.asked files.new) }
@@ -132,6 +147,7 @@ pub(crate) fn read_inputs<'a, F: FileSource>(
         file,
         keys,
         watches,
+        never: Vec::new(alloc),
         output,
     })
 }

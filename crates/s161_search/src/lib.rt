@@ -7,6 +7,7 @@ pub mod audit;
 mod delays;
 mod found;
 mod inputs;
+mod never;
 mod orders;
 pub mod search;
 mod seeds;

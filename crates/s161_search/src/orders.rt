@@ -3,18 +3,38 @@
 ghost use Rattle.std.specs.Prelude.{◌≡◌, IfErr, IfOk};
 ghost use Rattle.s161_base.specs.declared.fault.Fault.TheVariants as faults;
 ghost use Rattle.s161_run.specs.Driven.{rules_of};
-ghost use Rattle.s161_search.specs.helpers.Delayed.{IsFaultFrom, IsRunFrom};
+ghost use Rattle.s161_search.specs.helpers.Delayed.{IsFaultFrom, IsRunFrom, IsTested};
 ghost use Rattle.s161_search.specs.helpers.Inputs.{given_of};
 
 use crate::audit::fault_of_audit;
 use crate::inputs::Inputs;
 use m161::{Console, Tlb};
 use m161_drive::Policy;
-use m161_judge::{Booted, JudgedRun, judge_booted};
+use m161_jobs::Tested;
+use m161_judge::{Booted, Judged, JudgedRun, judge_booted};
 use m161_order::Order;
 use s161_base::fault::Fault;
 use s161_command::SearchTask;
 use std::alloc::Global;
+
+/// A run that goes wrong.
+#[derive(Drop)]
+pub(crate) struct WrongRun {
+    /// The run.
+    pub run: JudgedRun,
+    /// Its verdict.
+    pub judged: Judged,
+}
+
+/// What became of a run.
+pub(crate) fn tested(run: JudgedRun) -> Tested<WrongRun>
+    ensures { IsTested run result }
+{
+    match run.judged {
+        Some(judged) => Tested::Wrong(WrongRun { run, judged }),
+        None => Tested::Right { is_cut: run.is_cut },
+    }
+}
 
 /// The policy of a run by an order. The order of a task has no fault, so one that has is told as memory.
 ///
@@ -50,14 +70,7 @@ pub(crate) fn run_order<'a>(
     ensures fault { IfErr result (IsFaultFrom booted.now task.entry (given_of inputs.now)) }
 {
     let policy = policy_of(task, inputs, order)?;
-    match judge_booted(
-        alloc,
-        booted,
-        &policy,
-        task.drive.events,
-        &inputs.watches,
-        inputs.output(),
-    ) {
+    match judge_booted(alloc, booted, &policy, task.drive.events, &inputs.goal()) {
         Ok(run) => Ok(run),
         Err(error) => Err(fault_of_audit(error)),
     }

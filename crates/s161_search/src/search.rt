@@ -1,28 +1,31 @@
 //! Looking for a seed whose run goes wrong.
 
-ghost use Rattle.std.specs.Prelude.{◌≡◌, ◌≢◌, ◌≤◌, ℕ, IfErr, IfOk, None, Some};
+ghost use Rattle.std.specs.Prelude.{◌≡◌, ◌≢◌, ◌≤◌, ℕ, IfErr, IfOk, None, Some, map};
 ghost use Rattle.m161_order.specs.declared.order.Order.{Order as OrderValue};
 ghost use Rattle.m161_order.specs.declared.order.Order.TheVariants as order;
 ghost use Rattle.m161_order.specs.Delays.{delays_of};
 ghost use Rattle.s161_command.specs.Classes.{HasClassLimits};
 ghost use Rattle.s161_search.specs.Delays.{IsRunOf};
-ghost use Rattle.m161_order.specs.Order.{order_fault};
 ghost use Rattle.s161_base.specs.Asked.{AsksFor};
 ghost use Rattle.s161_base.specs.Samples.{image_file};
 ghost use Rattle.s161_search.specs.Given.{search_files};
 ghost use Rattle.s161_search.specs.helpers.Begun.{BeginsAt};
 ghost use Rattle.s161_search.specs.helpers.Inputs.{given_of};
+ghost use Rattle.s161_search.specs.helpers.Never.{IsNeverFault, PrintsFor};
 ghost use Rattle.s161_search.specs.Searches.{IsFound, IsSearched, IsSearchFault, Prints};
 ghost use Rattle.s161_search.specs.Seeds.{IsFirstWrong, IsRunFault};
 ghost use Rattle.s161_search.specs.helpers.Tried.{IsListed};
 
-use crate::delays::{WrongRun, try_lists};
+use crate::delays::try_lists;
 use crate::found::print_of;
 use crate::inputs::{Inputs, read_inputs};
-use crate::seeds::{FirstWrong, Tried, boot, seed_at, try_seeds};
+use crate::never::with_never;
+use crate::orders::WrongRun;
+use crate::seeds::{boot, seed_at, try_seeds};
 use crate::texts::{clean_line, delays_line, found_lines, seed_line};
 use m161::{Console, Tlb};
 use m161_delays::{Delays, Searched};
+use m161_jobs::Tried;
 use m161_judge::Booted;
 use m161_order::Order;
 use s161_base::fault::Fault;
@@ -30,6 +33,7 @@ use s161_base::files::FileSource;
 use s161_base::finished::Finished;
 use s161_command::{DelayClass, SearchTask};
 use std::alloc::{AllocError, Global};
+use std::thread::Threads;
 
 /// Reads the image, the keys, the watches and then the output, and makes the run of each seed, or of each
 /// useful list of delays, up to the first that goes wrong, whose schedule it prints.
@@ -38,49 +42,84 @@ use std::alloc::{AllocError, Global};
 /// The first fault; an event that is refused is a want of memory.
 // For LLVM: a stack frame of its own.
 #[inline(never)]
-pub fn search<'a, F: FileSource>(
+pub fn search<'a, R: Threads + Sync, F: FileSource>(
+    rt: &R,
     alloc: Global,
     files: &mut F,
     task: SearchTask<'a>,
+    never: &[&'a str],
 ) -> Result<Finished, Fault<'a>>
-    requires limits { order_fault task.drive.order ≡ None }
     requires class { HasClassLimits task.drive.order task.delays }
-    ensures ok { IfOk result (λ done. IsSearched task.entry (F.known files.old)
+    ensures ok { IfOk result (λ done. IsSearched task.entry (map (λ word. word.now) never.now) (F.known files.old)
         (image_file (F.known files.old) task.entry.image.now) done.text.items done.status) }
-    ensures fault { IfErr result (IsSearchFault task.entry (F.known files.old)
+    ensures fault { IfErr result (IsSearchFault task.entry (map (λ word. word.now) never.now) (F.known files.old)
         (image_file (F.known files.old) task.entry.image.now)) }
     ensures asks { AsksFor (search_files task.entry) result (F.asked files.old)
         (F.asked files.new) }
     ensures within { IfOk result (λ done. (done.status ≤ 5) × (done.status ≢ 2)) }
 {
     let inputs = read_inputs(alloc, files, task)?;
-    let booted = boot(alloc, task, &inputs)?;
-    match task.delays {
-        Some(class) => by_delays(alloc, &booted, task, &inputs, class),
-        None => by_seeds(alloc, &booted, task, &inputs),
-    }
+    search_in(rt, alloc, task, never, inputs)
 }
 
-// Makes the runs of the seeds.
-fn by_seeds<'a>(
+// Makes the runs of what was read.
+fn search_in<'a, R: Threads + Sync>(
+    rt: &R,
+    alloc: Global,
+    task: SearchTask<'a>,
+    never: &[&'a str],
+    inputs: Inputs,
+) -> Result<Finished, Fault<'a>>
+    requires { HasClassLimits task.drive.order task.delays }
+    ensures ok { IfOk result (λ done. PrintsFor task.entry (map (λ word. word.now) never.now) (given_of inputs.entry) done.text.items done.status) }
+    ensures fault { IfErr result (IsNeverFault task.entry (map (λ word. word.now) never.now) (given_of inputs.entry)) }
+    ensures within { IfOk result (λ done. (done.status ≤ 5) × (done.status ≢ 2)) }
+{
+    let booted = boot(alloc, task, &inputs)?;
+    let inputs = with_never(alloc, &booted, task, never, inputs)?;
+    make_runs(rt, alloc, &booted, task, &inputs)
+}
+
+// Makes the runs, by seeds or by delays.
+fn make_runs<'a, R: Threads + Sync>(
+    rt: &R,
     alloc: Global,
     booted: &Booted<Tlb, Console>,
     task: SearchTask<'a>,
     inputs: &Inputs,
 ) -> Result<Finished, Fault<'a>>
     requires booted { BeginsAt task (given_of inputs.now) booted.now }
-    requires limits { order_fault task.drive.order ≡ None }
+    requires class { HasClassLimits task.drive.order task.delays }
+    ensures ok { IfOk result (λ done. Prints task.entry (given_of inputs.now) task.entry.delays done.text.items done.status) }
+    ensures fault { IfErr result (IsRunFault task.entry (given_of inputs.now)) }
+    ensures within { IfOk result (λ done. (done.status ≤ 5) × (done.status ≢ 2)) }
+{
+    match task.delays {
+        Some(class) => by_delays(rt, alloc, booted, task, inputs, class),
+        None => by_seeds(rt, alloc, booted, task, inputs),
+    }
+}
+
+// Makes the runs of the seeds.
+fn by_seeds<'a, R: Threads + Sync>(
+    rt: &R,
+    alloc: Global,
+    booted: &Booted<Tlb, Console>,
+    task: SearchTask<'a>,
+    inputs: &Inputs,
+) -> Result<Finished, Fault<'a>>
+    requires booted { BeginsAt task (given_of inputs.now) booted.now }
     ensures ok { IfOk result (λ done. Prints task.entry (given_of inputs.now) None done.text.items done.status) }
     ensures fault { IfErr result (IsRunFault task.entry (given_of inputs.now)) }
     ensures within { IfOk result (λ done. (done.status ≤ 5) × (done.status ≢ 2)) }
 {
-    match try_seeds(alloc, booted, task, inputs)? {
-        Tried::Clean(cut) => Ok(Finished {
+    match try_seeds(rt, alloc, booted, task, inputs)? {
+        Tried::Clean { cut } => Ok(Finished {
             text: clean_line(alloc, u64::from(task.seeds), u64::from(cut))?.into_bytes(),
             status: 0,
         }),
-        Tried::Wrong(wrong) => Ok(Finished {
-            text: found_text(alloc, booted, task, inputs, wrong)?,
+        Tried::Wrong { place, wrong } => Ok(Finished {
+            text: found_text(alloc, booted, task, inputs, place, wrong)?,
             status: 4,
         }),
     }
@@ -92,13 +131,14 @@ fn found_text(
     booted: &Booted<Tlb, Console>,
     task: SearchTask<'_>,
     inputs: &Inputs,
-    wrong: FirstWrong,
+    place: u32,
+    wrong: WrongRun,
 ) -> Result<Vec<u8>, AllocError>
     requires booted { BeginsAt task (given_of inputs.now) booted.now }
-    requires first { IsFirstWrong task (given_of inputs.now) wrong.place wrong.run wrong.judged }
+    requires first { IsFirstWrong task (given_of inputs.now) place wrong.run wrong.judged }
     ensures { IfOk result (λ text. IsFound task.entry (given_of inputs.now) text.items) }
 {
-    let line = seed_line(alloc, seed_at(task.drive.order, wrong.place))?;
+    let line = seed_line(alloc, seed_at(task.drive.order, place))?;
     let printed = print_of(alloc, booted, task, inputs, wrong.judged, wrong.run.events)?;
     let text = found_lines(alloc, line, printed.verdict, &printed.events)?;
     Ok(text.into_bytes())
@@ -115,7 +155,8 @@ fn turns_of(policy: Order) -> u32
 }
 
 // Makes the runs of the lists of a class.
-fn by_delays<'a>(
+fn by_delays<'a, R: Threads + Sync>(
+    rt: &R,
     alloc: Global,
     booted: &Booted<Tlb, Console>,
     task: SearchTask<'a>,
@@ -129,7 +170,7 @@ fn by_delays<'a>(
     ensures within { IfOk result (λ done. (done.status ≤ 5) × (done.status ≢ 2)) }
 {
     let turns = turns_of(task.drive.order);
-    match try_lists(alloc, booted, task, inputs, turns, class)? {
+    match try_lists(rt, alloc, booted, task, inputs, turns, class)? {
         Searched::Clean { runs, cut } => Ok(Finished {
             text: clean_line(alloc, runs, cut)?.into_bytes(),
             status: 0,

@@ -1,42 +1,23 @@
 //! The runs of a search.
 
-ghost use Rattle.std.specs.Prelude.{◌≡◌, ◌%◌, ◌+◌, ◌^◌, IfErr, IfOk, None};
-ghost use Rattle.m161_order.specs.Order.{order_fault};
+ghost use Rattle.std.specs.Prelude.{◌≡◌, IfErr, IfOk};
 ghost use Rattle.s161_search.specs.helpers.Begun.{BeginsAt};
 ghost use Rattle.s161_search.specs.helpers.Inputs.{given_of};
-ghost use Rattle.s161_search.specs.Seeds.{IsRunAt, IsRunFault, seed_at, seed_of, with_seed};
+ghost use Rattle.s161_search.specs.Seeds.{IsRunFault, seed_at, seed_of, with_seed};
 ghost use Rattle.s161_search.specs.helpers.Tried.{IsTried};
 
 use crate::audit::fault_of_audit;
 use crate::inputs::Inputs;
+use crate::orders::{WrongRun, run_order, tested};
 use m161::{Console, Tlb};
-use m161_drive::Policy;
-use m161_judge::{Booted, Judged, JudgedRun, judge_booted};
+use m161_jobs::{Tested, Trials, Tried, try_each};
+use m161_judge::Booted;
 use m161_order::Order;
 use s161_base::fault::Fault;
 use s161_base::sizes::conf_of;
 use s161_command::SearchTask;
 use std::alloc::Global;
-
-/// The first run that goes wrong.
-#[derive(Drop)]
-pub(crate) struct FirstWrong {
-    /// Its number, from 0.
-    pub place: u32,
-    /// The run.
-    pub run: JudgedRun,
-    /// Its verdict.
-    pub judged: Judged,
-}
-
-/// What came of the seeds.
-#[derive(Drop)]
-pub(crate) enum Tried {
-    /// No run goes wrong, and so many are cut.
-    Clean(u32),
-    /// A run goes wrong.
-    Wrong(FirstWrong),
-}
+use std::thread::Threads;
 
 // The seed of an order; one by turns has none.
 fn seed_of(order: Order) -> u64
@@ -58,8 +39,7 @@ pub(crate) fn seed_at(order: Order, k: u32) -> u64
 
 // The same order with another seed.
 fn with_seed(seed: u64, order: Order) -> Order
-    ensures value { result ≡ with_seed seed order }
-    ensures limits { order_fault order ≡ None → order_fault result ≡ None }
+    ensures { result ≡ with_seed seed order }
 {
     match order {
         Order::Turns(_) | Order::Delayed { .. } => order,
@@ -74,6 +54,13 @@ fn with_seed(seed: u64, order: Order) -> Order
             within,
         },
     }
+}
+
+// The order of a run.
+fn order_at(order: Order, k: u32) -> Order
+    ensures { result ≡ with_seed (seed_at order k) order }
+{
+    with_seed(seed_at(order, k), order)
 }
 
 /// The state at boot, from which all runs begin.
@@ -94,60 +81,66 @@ pub(crate) fn boot<'a>(
     }
 }
 
-// Makes and judges a run.
-fn run_seed<'a>(
-    alloc: Global,
-    booted: &Booted<Tlb, Console>,
-    task: SearchTask<'a>,
-    inputs: &Inputs,
-    k: u32,
-) -> Result<JudgedRun, Fault<'a>>
-    requires booted { BeginsAt task (given_of inputs.now) booted.now }
-    requires limits { order_fault task.drive.order ≡ None }
-    ensures ok { IfOk result (IsRunAt task.entry (given_of inputs.now) k) }
-    ensures fault { IfErr result (IsRunFault task.entry (given_of inputs.now)) }
-{
-    let order = with_seed(seed_at(task.drive.order, k), task.drive.order);
-    let Ok(policy) = Policy::new(order, task.drive.transfer, task.drive.gap, &inputs.keys) else {
-        unreachable!()
-    };
-    match judge_booted(
-        alloc,
-        booted,
-        &policy,
-        task.drive.events,
-        &inputs.watches,
-        inputs.output(),
-    ) {
-        Ok(run) => Ok(run),
-        Err(error) => Err(fault_of_audit(error)),
+/// Makes the runs of the seeds.
+#[derive(Drop)]
+pub(crate) struct SeedRuns<'a, 'b> {
+    /// Where memory comes from.
+    pub alloc: Global,
+    /// The state at boot.
+    pub booted: &'b Booted<Tlb, Console>,
+    /// What is searched.
+    pub task: SearchTask<'a>,
+    /// What was read.
+    pub inputs: &'b Inputs,
+}
+
+impl<'a, 'b> Trials for SeedRuns<'a, 'b> {
+    ghost use Rattle.s161_search.specs.helpers.Delayed.{IsFaultFrom, IsSeedRightFrom, IsSeedWrongFrom};
+    ghost use Rattle.s161_search.specs.helpers.Inputs.{given_of};
+
+    type Wrong = WrongRun;
+
+    type Error = Fault<'a>;
+
+    ghost has = { λ r k. Unit {0} };
+
+    ghost right = { λ r. IsSeedRightFrom r.booted.now r.task (given_of r.inputs.now) };
+
+    ghost wrong = { λ r. IsSeedWrongFrom r.booted.now r.task (given_of r.inputs.now) };
+
+    ghost fails = { λ r. IsFaultFrom r.booted.now r.task (given_of r.inputs.now) };
+
+    fn judge(&self, place: u32) -> Result<Tested<WrongRun>, Fault<'a>> {
+        let order = order_at(self.task.drive.order, place);
+        let run = run_order(self.alloc, self.booted, self.task, self.inputs, order)?;
+        Ok(tested(run))
+    }
+
+    fn refused(&self) -> Fault<'a> {
+        Fault::Memory
     }
 }
 
-/// Makes the runs, one after the other, up to the first that goes wrong.
+/// Makes the runs of the seeds, up to the first that goes wrong.
 ///
 /// # Errors
 /// A run can't be made.
-pub(crate) fn try_seeds<'a>(
+pub(crate) fn try_seeds<'a, R: Threads + Sync>(
+    rt: &R,
     alloc: Global,
     booted: &Booted<Tlb, Console>,
     task: SearchTask<'a>,
     inputs: &Inputs,
-) -> Result<Tried, Fault<'a>>
+) -> Result<Tried<WrongRun>, Fault<'a>>
     requires booted { BeginsAt task (given_of inputs.now) booted.now }
-    requires limits { order_fault task.drive.order ≡ None }
     ensures ok { IfOk result (IsTried task.entry (given_of inputs.now)) }
     ensures fault { IfErr result (IsRunFault task.entry (given_of inputs.now)) }
 {
-    let mut cut = 0;
-    for place in 0..task.seeds {
-        let run = run_seed(alloc, booted, task, inputs, place)?;
-        if let Some(judged) = run.judged {
-            return Ok(Tried::Wrong(FirstWrong { place, run, judged }));
-        }
-        if run.is_cut {
-            cut += 1;
-        }
-    }
-    Ok(Tried::Clean(cut))
+    let runs = SeedRuns {
+        alloc,
+        booted,
+        task,
+        inputs,
+    };
+    try_each(rt, alloc, &runs, task.seeds, task.jobs)
 }

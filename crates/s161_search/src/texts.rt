@@ -10,6 +10,7 @@ use m161_audit::Finding;
 use m161_judge::Verdict;
 use m161_machine::Event;
 use m161_steplog::write_schedule;
+use m161_text::Word;
 use s161_run::events::ShownConflict;
 use std::alloc::{AllocError, Global};
 use std::fmt;
@@ -36,6 +37,14 @@ impl fmt::Display for ShownVerdict {
                     row,
                 });
                 write!(f, "{stale}")
+            }
+            Verdict::Reached {
+                place,
+                processor,
+                address,
+            } => {
+                let address = Word(address);
+                write!(f, "reached {place} {processor} {address}")
             }
             Verdict::Conflict(conflict) => {
                 let shown = ShownConflict(conflict);

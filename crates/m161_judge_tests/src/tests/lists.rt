@@ -177,6 +177,7 @@ fn hasty(alloc: Global, schedule: &str, watches: &[Watch]) -> Result<Option<Judg
     let events = read_schedule(alloc, schedule)?.to_vec(alloc)?;
     let goal = Goal {
         watches,
+        never: &[],
         output: Some(b"h"),
         keys: &[],
     };
@@ -206,6 +207,7 @@ fn errors(rt: HostRuntime) -> Result<(), Fail> {
     let file = file_with(alloc, &WAIT)?;
     let bad = Goal {
         watches: &[WATCH, Watch { id: 64, ..WATCH }],
+        never: &[],
         never: &[],
         output: None,
         keys: &[],

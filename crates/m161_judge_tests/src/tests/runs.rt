@@ -155,6 +155,42 @@ fn seeds(rt: HostRuntime) -> Result<(), Fail> {
         changes: 2,
         within: 100,
     };
-    check_stale(&rt, &sample(alloc, &WITHOUT_WAIT, order)?, true);
+    check_stale(&rt, &sample(alloc, &WITHOUT_WAIT, order, &[])?, true);
+    Ok(())
+}
+
+// Checks where the sample kernel, by turns of one Step, first reaches one of these addresses.
+fn check_reached(
+    rt: &(impl Abort + AllocGlobal),
+    never: &[u32],
+    expected: (usize, u32, u32),
+) -> Result<(), Fail> {
+    let run = sample(rt.alloc(), &[], Order::Turns(1), never)?;
+    let (place, processor, address) = expected;
+    let reached = Verdict::Reached {
+        place,
+        processor,
+        address,
+    };
+    same(rt, run.judged, judged(reached, place.saturating_add(1)));
+    Ok(())
+}
+
+// `reached-before-fetch`, `reached-by-branch-target`: the places are those of the trace's lines.
+#[test]
+fn reached(rt: HostRuntime) -> Result<(), Fail> {
+    check_reached(&rt, &[0x8000_00ac], (81, 1, 0x8000_00ac))?;
+    check_reached(&rt, &[0x8000_0200], (0, 0, 0x8000_0200))?;
+    check_reached(&rt, &[0x8000_00ac, 0x8000_0280], (11, 1, 0x8000_0280))?;
+    let run = sample(rt.alloc(), &[], Order::Turns(1), &[0x8000_0300, 0])?;
+    same(&rt, run.judged, None);
+    // a stale use comes first, wherever it is
+    let order = Order::Priorities {
+        seed: 0,
+        changes: 2,
+        within: 100,
+    };
+    let stale = sample(rt.alloc(), &WITHOUT_WAIT, order, &[0x8000_0200])?;
+    check_stale(&rt, &stale, true);
     Ok(())
 }

@@ -8,5 +8,6 @@ given_of inputs = record {
   file = inputs.file.items;
   keys = inputs.keys.items;
   watches = inputs.watches.items;
+  never = inputs.never.items;
   output = option_map (λ bytes. bytes.items) inputs.output;
 }

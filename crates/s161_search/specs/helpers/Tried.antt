@@ -4,8 +4,8 @@ use Rattle.m161_judge.specs.Verdict.{rank}
 use Rattle.m161_machine.specs.declared.event.Event.{Event}
 use Rattle.s161_command.specs.declared.task.SearchTask.{SearchTask}
 use Rattle.s161_search.specs.declared.found.Printed.{Printed}
-use Rattle.s161_search.specs.declared.seeds.Tried.{Tried}
-use Rattle.s161_search.specs.declared.seeds.Tried.TheVariants.{Clean, Wrong}
+use Rattle.m161_jobs.specs.declared.trials.Tried.{Tried}
+use Rattle.m161_jobs.specs.declared.trials.Tried.TheVariants.{Clean, Wrong}
 use Rattle.s161_search.specs.Given.{Given}
 use Rattle.s161_search.specs.Searches.{ArePrinted, IsJudgedAt, is_whole}
 use Rattle.s161_search.specs.Seeds.{AreClean, IsFirstWrong}
@@ -13,15 +13,15 @@ use Rattle.m161_delays.specs.declared.search.Class.{Class}
 use Rattle.m161_delays.specs.declared.search.Searched.{Searched}
 use Rattle.m161_delays.specs.declared.search.Searched.TheVariants as searched
 use Rattle.m161_order.specs.Delays.{delays_of}
-use Rattle.s161_search.specs.declared.delays.WrongRun.{WrongRun}
+use Rattle.s161_search.specs.declared.orders.WrongRun.{WrongRun}
 use Rattle.s161_search.specs.Delays.{AreCleanBy, IsFirstBy}
 use Rattle.s161_search.specs.Texts.{delays_text, found_text}
 
 -- What came of the seeds, and what is printed of it.
 
-abbrev pub IsTried : SearchTask → Given → Tried → Type 0
+abbrev pub IsTried : SearchTask → Given → Tried WrongRun → Type 0
 IsTried task given (Clean cut) = AreClean task given task.seeds cut
-IsTried task given (Wrong wrong) = IsFirstWrong task given wrong.place wrong.run wrong.judged
+IsTried task given (Wrong place wrong) = IsFirstWrong task given place wrong.run wrong.judged
 
 abbrev pub IsSearchedBy : SearchTask → Given → ℕ → Class → Searched WrongRun → Type 0
 IsSearchedBy task given steps class (searched.Clean runs cut) = AreCleanBy task given steps class runs cut

@@ -12,17 +12,17 @@ pub returns-in-Ok-clause-ok : goal.returns-in-Ok-clause-ok
 returns-in-Ok-clause-ok c = λ begins.
     let task = c.args.task in
     let given = given_of c.args.inputs.now in
-    let rules = rules_of (record task.drive { order = c.args.order }) given.keys in
-    run_made task given rules (boot_fault given.file (conf_of task.size)) c.in-Ok.run'
-    (as_given task given rules c.in_ok-policy.policy c.deref.result.now _ (Ok c.in-Ok.run') c.in_ok-policy.ensures.ok c.deref.ensures.value
-    c.output.ensures (c.in-Ok.ensures given.file (conf_of task.size) begins))
+    let drive = record task.drive { order = c.args.order } in
+    run_made task given (rules_of drive given.keys) (boot_fault given.file (conf_of task.size)) c.in-Ok.run'
+    (as_given task given drive c.in_ok-policy.policy c.goal.result (Ok c.in-Ok.run') c.in_ok-policy.ensures.ok c.goal.ensures
+    (c.in-Ok.ensures given.file (conf_of task.size) begins))
 
 pub returns-in-Err-clause-fault : goal.returns-in-Err-clause-fault
 returns-in-Err-clause-fault c = λ begins.
     let task = c.args.task in
     let given = given_of c.args.inputs.now in
-    let rules = rules_of (record task.drive { order = c.args.order }) given.keys in
+    let drive = record task.drive { order = c.args.order } in
     subst (IsRunFault task given) (sym c.fault_of_audit.ensures)
-    (run_failed task given rules task.drive.events (boot_fault given.file (conf_of task.size)) c.in-Err.error refl
-    (as_given task given rules c.in_ok-policy.policy c.deref.result.now _ (Err c.in-Err.error) c.in_ok-policy.ensures.ok c.deref.ensures.value
-    c.output.ensures (c.in-Err.ensures given.file (conf_of task.size) begins)))
+    (run_failed task given (rules_of drive given.keys) task.drive.events (boot_fault given.file (conf_of task.size)) c.in-Err.error refl
+    (as_given task given drive c.in_ok-policy.policy c.goal.result (Err c.in-Err.error) c.in_ok-policy.ensures.ok c.goal.ensures
+    (c.in-Err.ensures given.file (conf_of task.size) begins)))

@@ -9,7 +9,7 @@ returns c =
     let made = c.in_ok-printed.ensures in
     let printed = c.in_ok-printed.printed in
     record {
-      place = c.args.wrong.place;
+      place = c.args.place;
       run = c.args.wrong.run;
       judged = c.args.wrong.judged;
       first = c.requires.first;
@@ -20,8 +20,8 @@ returns c =
       same_kind = made.same_kind;
       text_is =
           ap (λ v. v.items) c.into_bytes.ensures.value
-          ∙ c.in_ok-text.ensures (seed_text (seed_at c.args.task.drive.order c.args.wrong.place))
+          ∙ c.in_ok-text.ensures (seed_text (seed_at c.args.task.drive.order c.args.place))
           (c.in_ok-line.ensures ∙ ap (λ n. with_line_end (seed_text n)) c.seed_at.ensures)
-          ∙ ap (λ v. found_text (seed_text (seed_at c.args.task.drive.order c.args.wrong.place)) v c.deref.result.now) made.verdict_is
-          ∙ ap (λ es. found_text (seed_text (seed_at c.args.task.drive.order c.args.wrong.place)) made.final.verdict es) c.deref.ensures.value;
+          ∙ ap (λ v. found_text (seed_text (seed_at c.args.task.drive.order c.args.place)) v c.deref.result.now) made.verdict_is
+          ∙ ap (λ es. found_text (seed_text (seed_at c.args.task.drive.order c.args.place)) made.final.verdict es) c.deref.ensures.value;
     }

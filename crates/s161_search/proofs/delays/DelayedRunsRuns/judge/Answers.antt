@@ -1,5 +1,9 @@
-use Rattle.std.proofs.Common.{refl}
+use Rattle.s161_search.specs.helpers.Inputs.{given_of}
+use Rattle.s161_search.proofs.Judging.{list_judged}
 use Rattle.s161_search.proofs.delays.DelayedRunsRuns.judge.Goals as goal
 
-pub returns-in-None-clause-ok : goal.returns-in-None-clause-ok
-returns-in-None-clause-ok c = λ begins. (c.args.delays.now, c.in_ok-run.run', refl, c.in_ok-run.ensures.ok begins, c.in-None.is, refl)
+pub returns-clause-ok : goal.returns-clause-ok
+returns-clause-ok c =
+    let self = c.args.self.now in
+    list_judged self.booted.now self.task (given_of self.inputs.now) self.turns c.args.delays.now c.in_ok-run.run' c.tested.result
+    c.in_ok-run.ensures.ok c.tested.ensures

@@ -1,0 +1,12 @@
+use Rattle.std.proofs.Common.{subst}
+use Rattle.s161_search.specs.helpers.Delayed.{IsRunFrom}
+use Rattle.s161_search.specs.helpers.Inputs.{given_of}
+use Rattle.s161_search.proofs.Judging.{seed_judged}
+use Rattle.s161_search.proofs.seeds.SeedRunsTrials.judge.Goals as goal
+
+pub returns-clause-ok : goal.returns-clause-ok
+returns-clause-ok c =
+    let self = c.args.self.now in
+    let given = given_of self.inputs.now in
+    seed_judged self.booted.now self.task given c.args.place c.in_ok-run.run' c.tested.result
+    (subst (λ order. IsRunFrom self.booted.now self.task given order c.in_ok-run.run') c.order_at-order.ensures c.in_ok-run.ensures.ok) c.tested.ensures
