@@ -6,7 +6,7 @@ use Rattle.s161_command.specs.declared.task.DebugTask.{DebugTask}
 use Rattle.s161_command.specs.declared.task.TraceTask.{TraceTask}
 use Rattle.s161_command.specs.declared.task.Task.{Task}
 use Rattle.s161_command.specs.declared.task.Task.TheVariants.{Assemble, Audit, Console, Debug, Demo, Disassemble, Replay, Run, RunDriven, RunInThreads, Schedule, Search, Trace}
-use Rattle.s161_command.specs.Commands.{GoTogether, IsAccepted, IsTask, command_line}
+use Rattle.s161_command.specs.Commands.{GoTogether, IsAccepted, IsTask, command_line, never_of}
 use Rattle.s161_base.specs.Asked.{AsksUntil, IsBeforeInput}
 use Rattle.s161_base.specs.declared.fault.Fault.{Fault}
 use Rattle.s161_base.specs.declared.fault.Fault.TheVariants.{Memory, Output}
@@ -32,27 +32,27 @@ use Rattle.s161_work.specs.Works.{Does, FileUse, GivesHelp, Going, HasMore, IsRe
 
 -- a task's work is ended by this fault, before anything is printed; one that writes as it goes on isn't
 -- meant
-abbrev pub IsTaskFault : Task → (Text → Option (List ℕ)) → Option (List ℕ) → Fault → Type 0
-IsTaskFault Demo files input fault = fault ≡ Memory
-IsTaskFault (Run task) files input fault =
+abbrev pub IsTaskFault : List Text → Task → (Text → Option (List ℕ)) → Option (List ℕ) → Fault → Type 0
+IsTaskFault never Demo files input fault = fault ≡ Memory
+IsTaskFault never (Run task) files input fault =
     IsFaultOf task (image_file files task.image.now) input fault
-IsTaskFault (RunInThreads task) files input fault =
+IsTaskFault never (RunInThreads task) files input fault =
     IsThreadsFault task (image_file files task.run.image.now) fault
-IsTaskFault (RunDriven task) files input fault =
+IsTaskFault never (RunDriven task) files input fault =
     IsDrivenFault task (image_file files task.run.image.now) fault
-IsTaskFault (Schedule task) files input fault =
+IsTaskFault never (Schedule task) files input fault =
     IsScheduledFault task (image_file files task.image.now) fault
-IsTaskFault (Console task) files input fault = ⊥
-IsTaskFault (Trace task) files input fault = ⊥
-IsTaskFault (Debug task) files input fault = ⊥
-IsTaskFault (Search task) files input fault =
-    IsSearchFault task files (image_file files task.image.now) fault
-IsTaskFault (Replay task) files input fault =
+IsTaskFault never (Console task) files input fault = ⊥
+IsTaskFault never (Trace task) files input fault = ⊥
+IsTaskFault never (Debug task) files input fault = ⊥
+IsTaskFault never (Search task) files input fault =
+    IsSearchFault task never files (image_file files task.image.now) fault
+IsTaskFault never (Replay task) files input fault =
     IsReplayFault task (image_file files task.image.now) (files task.text.now) fault
-IsTaskFault (Audit task) files input fault =
+IsTaskFault never (Audit task) files input fault =
     IsAuditFault task (image_file files task.image.now) (files task.text.now) input fault
-IsTaskFault (Assemble task) files input fault = IsAssemblyFault input fault
-IsTaskFault (Disassemble task) files input fault =
+IsTaskFault never (Assemble task) files input fault = IsAssemblyFault input fault
+IsTaskFault never (Disassemble task) files input fault =
     IsListingFault task.image.now (image_file files task.image.now) fault
 
 -- there is such a text with an exit status, and some of it was written
@@ -103,15 +103,15 @@ FailsToDebug task files before after fault =
 -- a task is ended by this fault: one that writes as it goes on; or before or while its text is printed,
 -- and nothing was written to standard error
 abbrev pub FailsAs :
-    Option Going → Task → (Text → Option (List ℕ)) → Standard → Standard → Fault → Type 0
-FailsAs (Some (serving console)) task files before after fault =
+    Option Going → List Text → Task → (Text → Option (List ℕ)) → Standard → Standard → Fault → Type 0
+FailsAs (Some (serving console)) never task files before after fault =
     FailsToServe console files before after fault
-FailsAs (Some (tracing trace)) task files before after fault =
+FailsAs (Some (tracing trace)) never task files before after fault =
     FailsToTrace trace files before after fault
-FailsAs (Some (debugging debug)) task files before after fault =
+FailsAs (Some (debugging debug)) never task files before after fault =
     FailsToDebug debug files before after fault
-FailsAs None task files before after fault =
-    Fails (IsResultOf task files before.input) (IsTaskFault task files before.input)
+FailsAs None never task files before after fault =
+    Fails (IsResultOf never task files before.input) (IsTaskFault never task files before.input)
     before.output after.output fault
     × (after.errors ≡ before.errors) × LeavesInput task before.input after.input
 
@@ -132,7 +132,7 @@ abbrev pub FailsToDo : List Text → FileUse → Standard → Standard → Type 
 FailsToDo words files before after =
     (task : Task) × IsTask (subcommand_of command_line words) task
     × ((fault : Fault) × (errors : Option (List ℕ))
-    × FailsAs (going_of task) task files.known before (standard after.input after.output errors) fault
+    × FailsAs (going_of task) (never_of words) task files.known before (standard after.input after.output errors) fault
     × AsksUntil (files_of task) files.before files.after fault
     × IsBeforeInput fault before.input after.input
     × IsTold fault errors after.errors)

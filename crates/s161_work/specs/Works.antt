@@ -11,7 +11,7 @@ use Rattle.s161_command.specs.declared.task.Task.TheVariants.{Assemble, Audit, C
 use Rattle.m161_text.specs.Lines.{with_line_end}
 use Rattle.s161_texts.specs.Assemblies.{IsAssembled}
 use Rattle.s161_search.specs.Audits.{IsAudited, audit_files}
-use Rattle.s161_command.specs.Commands.{ClashesIn, GoTogether, IsAccepted, IsHelp, IsTask, command_line}
+use Rattle.s161_command.specs.Commands.{ClashesIn, GoTogether, IsAccepted, IsHelp, IsTask, command_line, never_of}
 use Rattle.s161_run.specs.Consoles.{IsConsoleRun}
 use Rattle.s161_base.specs.Asked.{Asks, image_files}
 use Rattle.s161_base.specs.Streams.{Streams, streams}
@@ -83,28 +83,29 @@ Prints IsResult before after status =
 abbrev pub WithZero : (List ℕ → Type 0) → List ℕ → ℕ → Type 0
 WithZero IsResult text status = (status ≡ 0) × IsResult text
 
--- a finished task's text and exit status, over files and a standard input with these bytes; a task
--- that writes as it goes on has no such text
+-- a finished task's text and exit status, over files and a standard input with these bytes, and with
+-- these words for the addresses of `--never`; a task that writes as it goes on has no such text
 abbrev pub IsResultOf :
-    Task → (Text → Option (List ℕ)) → Option (List ℕ) → List ℕ → ℕ → Type 0
-IsResultOf Demo files input = WithZero IsDemo
-IsResultOf (Run task) files input = IsRun task (image_file files task.image.now) input
-IsResultOf (RunInThreads task) files input =
+    List Text → Task → (Text → Option (List ℕ)) → Option (List ℕ) → List ℕ → ℕ → Type 0
+IsResultOf never Demo files input = WithZero IsDemo
+IsResultOf never (Run task) files input = IsRun task (image_file files task.image.now) input
+IsResultOf never (RunInThreads task) files input =
     IsRunInThreads task (image_file files task.run.image.now)
-IsResultOf (RunDriven task) files input =
+IsResultOf never (RunDriven task) files input =
     IsDriven task files (image_file files task.run.image.now)
-IsResultOf (Schedule task) files input =
+IsResultOf never (Schedule task) files input =
     WithZero (IsScheduled task files (image_file files task.image.now))
-IsResultOf (Console task) files input = λ text status. ⊥
-IsResultOf (Trace task) files input = λ text status. ⊥
-IsResultOf (Debug task) files input = λ text status. ⊥
-IsResultOf (Search task) files input = IsSearched task files (image_file files task.image.now)
-IsResultOf (Replay task) files input =
+IsResultOf never (Console task) files input = λ text status. ⊥
+IsResultOf never (Trace task) files input = λ text status. ⊥
+IsResultOf never (Debug task) files input = λ text status. ⊥
+IsResultOf never (Search task) files input =
+    IsSearched task never files (image_file files task.image.now)
+IsResultOf never (Replay task) files input =
     IsReplayed task (image_file files task.image.now) (files task.text.now)
-IsResultOf (Audit task) files input =
+IsResultOf never (Audit task) files input =
     IsAudited task (image_file files task.image.now) (files task.text.now) input
-IsResultOf (Assemble task) files input = WithZero (IsAssembled task input)
-IsResultOf (Disassemble task) files input =
+IsResultOf never (Assemble task) files input = WithZero (IsAssembled task input)
+IsResultOf never (Disassemble task) files input =
     WithZero (IsDisassembled task (image_file files task.image.now))
 
 -- a kernel ran at the terminal, and why it stopped was written to standard error
@@ -174,20 +175,21 @@ LeavesInput task before after = ReadsNoInput task → after ≡ before
 -- a task was finished with this exit status: one that writes as it goes on; or it printed its text,
 -- and nothing was written to standard error
 abbrev pub FinishesAs :
-    Option Going → Task → (Text → Option (List ℕ)) → Standard → Standard → ℕ → Type 0
-FinishesAs (Some (serving console)) task files before after status =
+    Option Going → List Text → Task → (Text → Option (List ℕ)) → Standard → Standard → ℕ → Type 0
+FinishesAs (Some (serving console)) never task files before after status =
     IsServed console files before after status
-FinishesAs (Some (tracing trace)) task files before after status =
+FinishesAs (Some (tracing trace)) never task files before after status =
     IsTracedOut trace files before after status
-FinishesAs (Some (debugging debug)) task files before after status =
+FinishesAs (Some (debugging debug)) never task files before after status =
     IsDebuggedOut debug files before after status
-FinishesAs None task files before after status =
-    Prints (IsResultOf task files before.input) before.output after.output status
+FinishesAs None never task files before after status =
+    Prints (IsResultOf never task files before.input) before.output after.output status
     × (after.errors ≡ before.errors) × LeavesInput task before.input after.input
 
-abbrev pub Finishes : Task → (Text → Option (List ℕ)) → Standard → Standard → ℕ → Type 0
-Finishes task files before after status =
-    FinishesAs (going_of task) task files before after status
+abbrev pub Finishes :
+    List Text → Task → (Text → Option (List ℕ)) → Standard → Standard → ℕ → Type 0
+Finishes never task files before after status =
+    FinishesAs (going_of task) never task files before after status
 
 -- clap gives help or the version for these words of a command line
 abbrev pub GivesHelp : List Text → Type 0
@@ -198,7 +200,7 @@ GivesHelp words =
 abbrev pub Does : List Text → FileUse → Standard → Standard → ℕ → Type 0
 Does words files before after status =
     (task : Task) × IsTask (subcommand_of command_line words) task
-    × Finishes task files.known before after status × Asks (files_of task) files.before files.after
+    × Finishes (never_of words) task files.known before after status × Asks (files_of task) files.before files.after
 
 -- an output got a text behind the bytes that it had. Nothing is known of the text; it may be empty
 abbrev pub HasMore : Option (List ℕ) → Option (List ℕ) → Type 0

@@ -1,6 +1,6 @@
 //! The tasks whose text is complete before it is written.
 
-ghost use Rattle.std.specs.Prelude.{◌≡◌, ◌≢◌, ◌≤◌, IfErr, IfOk, None};
+ghost use Rattle.std.specs.Prelude.{◌≡◌, ◌≢◌, ◌≤◌, IfErr, IfOk, None, map};
 ghost use Rattle.m161_order.specs.Order.{order_fault};
 ghost use Rattle.s161_base.specs.Asked.{AsksFor, IsBeforeInput, image_files};
 ghost use Rattle.s161_base.specs.Samples.{image_file};
@@ -41,17 +41,18 @@ pub(crate) fn print_task<'a, R: Threads + Wait + Sync, F: FileSource, I: Read, O
     rt: &R,
     alloc: Global,
     task: Task<'a>,
+    never: &[&'a str],
     files: &mut F,
     input: &mut I,
     output: &mut O,
 ) -> Result<u8, Fault<'a>>
     requires limits { HasLimits task }
     requires text { going_of task ≡ None }
-    ensures finished { IfOk result (Prints (IsResultOf task.entry (F.known files.old)
+    ensures finished { IfOk result (Prints (IsResultOf (map (λ word. word.now) never.now) task.entry (F.known files.old)
         (I.remaining input.old)) (O.contents output.old) (O.contents output.new)) }
     ensures fault { IfErr result (Fails
-        (IsResultOf task.entry (F.known files.old) (I.remaining input.old))
-        (IsTaskFault task.entry (F.known files.old) (I.remaining input.old))
+        (IsResultOf (map (λ word. word.now) never.now) task.entry (F.known files.old) (I.remaining input.old))
+        (IsTaskFault (map (λ word. word.now) never.now) task.entry (F.known files.old) (I.remaining input.old))
         (O.contents output.old) (O.contents output.new)) }
     ensures unread { LeavesInput task.entry (I.remaining input.old) (I.remaining input.new) }
     ensures asks { AsksFor (files_of task.entry) result (F.asked files.old)
@@ -60,7 +61,7 @@ pub(crate) fn print_task<'a, R: Threads + Wait + Sync, F: FileSource, I: Read, O
         (I.remaining input.new)) }
     ensures within { IfOk result (λ status. (status ≤ 5) × (status ≢ 2)) }
 {
-    let finished = finish(rt, alloc, task, files, input)?;
+    let finished = finish(rt, alloc, task, never, files, input)?;
     send(output, &finished.text)?;
     Ok(finished.status)
 }
@@ -70,14 +71,15 @@ fn finish<'a, R: Threads + Wait + Sync, F: FileSource, I: Read>(
     rt: &R,
     alloc: Global,
     task: Task<'a>,
+    never: &[&'a str],
     files: &mut F,
     input: &mut I,
 ) -> Result<Finished, Fault<'a>>
     requires limits { HasLimits task }
     requires text { going_of task ≡ None }
-    ensures ok { IfOk result (λ done. IsResultOf task.entry (F.known files.old)
+    ensures ok { IfOk result (λ done. IsResultOf (map (λ word. word.now) never.now) task.entry (F.known files.old)
         (I.remaining input.old) done.text.items done.status) }
-    ensures fault { IfErr result (IsTaskFault task.entry (F.known files.old)
+    ensures fault { IfErr result (IsTaskFault (map (λ word. word.now) never.now) task.entry (F.known files.old)
         (I.remaining input.old)) }
     ensures unread { LeavesInput task.entry (I.remaining input.old) (I.remaining input.new) }
     ensures asks { AsksFor (files_of task.entry) result (F.asked files.old)
@@ -93,7 +95,7 @@ fn finish<'a, R: Threads + Wait + Sync, F: FileSource, I: Read>(
         Task::RunDriven(task) => run_driven(alloc, files, task),
         Task::Schedule(task) => finish_schedule(alloc, files, task),
         Task::Console(_) | Task::Trace(_) | Task::Debug(_) => unreachable!(),
-        Task::Search(task) => search(alloc, files, task),
+        Task::Search(task) => search(rt, alloc, files, task, never),
         Task::Replay(task) => replay(alloc, files, task),
         Task::Audit(task) => audit(alloc, files, input, task),
         Task::Assemble(task) => finish_assembly(alloc, input, task),

@@ -12,7 +12,7 @@ use crate::refusing::refuse;
 use s161_base::fault::Fault;
 use s161_base::files::FileSource;
 use s161_base::report::report;
-use s161_command::{Task, parse};
+use s161_command::{Task, never_words, parse};
 use std::alloc::Global;
 use std::convert::AsStr;
 use std::io::{Read, Write};
@@ -101,27 +101,32 @@ where
         Ok(task) => task,
         Err(rejection) => return refuse(alloc, rejection, output, errors),
     };
-    match do_task(rt, alloc, task, files, input, output, errors) {
+    let never = match never_words(alloc, words) {
+        Ok(never) => never,
+        Err(_) => return report(Fault::Memory, errors),
+    };
+    match do_task(rt, alloc, task, &never, files, input, output, errors) {
         Ok(status) => status,
         Err(fault) => report(fault, errors),
     }
 }
 
-// Does a task. Returns the exit status.
+// Does a task, with the words for the addresses of `--never`. Returns the exit status.
 fn do_task<'a, R: Threads + Wait + Sync, F: FileSource, I: Read, O: Write, E: Write>(
     rt: &R,
     alloc: Global,
     task: Task<'a>,
+    never: &[&'a str],
     files: &mut F,
     input: &mut I,
     output: &mut O,
     errors: &mut E,
 ) -> Result<u8, Fault<'a>>
     requires { HasLimits task }
-    ensures finished { IfOk result (Finishes task.entry (F.known files.old)
+    ensures finished { IfOk result (Finishes (map (λ word. word.now) never.now) task.entry (F.known files.old)
         (standard (I.remaining input.old) (O.contents output.old) (E.contents errors.old))
         (standard (I.remaining input.new) (O.contents output.new) (E.contents errors.new))) }
-    ensures fault { IfErr result (FailsAs (going_of task.entry) task.entry (F.known files.old)
+    ensures fault { IfErr result (FailsAs (going_of task.entry) (map (λ word. word.now) never.now) task.entry (F.known files.old)
         (standard (I.remaining input.old) (O.contents output.old) (E.contents errors.old))
         (standard (I.remaining input.new) (O.contents output.new) (E.contents errors.new))) }
     ensures asks { AsksFor (files_of task.entry) result (F.asked files.old) (F.asked files.new) }
@@ -142,6 +147,6 @@ fn do_task<'a, R: Threads + Wait + Sync, F: FileSource, I: Read, O: Write, E: Wr
         | Task::Replay(_)
         | Task::Audit(_)
         | Task::Assemble(_)
-        | Task::Disassemble(_) => print_task(rt, alloc, task, files, input, output),
+        | Task::Disassemble(_) => print_task(rt, alloc, task, never, files, input, output),
     }
 }
