@@ -1,6 +1,6 @@
 //! The addresses that no Step is to reach.
 
-ghost use Rattle.std.specs.Prelude.{◌≡◌, ◌⊎◌, ℕ, IfErr, IfOk, map};
+ghost use Rattle.std.specs.Prelude.{◌≡◌, ◌++◌, ◌∷◌, [], ℕ, IfErr, IfOk, OnOk, map};
 ghost use Rattle.m161_audit.specs.Watch.{AreGood};
 ghost use Rattle.s161_base.specs.declared.fault.Fault.TheVariants as faults;
 ghost use Rattle.m161_debug.specs.Commands.{IsPlace};
@@ -19,7 +19,7 @@ use m161_symbols::Symbols;
 use s161_base::fault::Fault;
 use s161_base::naming::image_symbols;
 use s161_command::SearchTask;
-use std::alloc::Global;
+use std::alloc::{AllocError, Global};
 
 // Looks whether a watch is bad: the audit of no event says so.
 fn check_watches<'a>(
@@ -50,6 +50,14 @@ fn address_of<'a>(symbols: &Symbols, word: &'a str) -> Result<u32, Fault<'a>>
     }
 }
 
+// Adds an address behind the others.
+fn push_address(addresses: &mut Vec<u32>, address: u32) -> Result<(), AllocError>
+    ensures { OnOk result (addresses.new.items ≡ addresses.old.items ++ address ∷ []) }
+{
+    addresses.push(address)?;
+    Ok(())
+}
+
 // The addresses of these words.
 fn addresses_of<'a>(
     alloc: Global,
@@ -63,7 +71,7 @@ fn addresses_of<'a>(
     let mut addresses = Vec::new(alloc);
     for word in words {
         let address = address_of(symbols, *word)?;
-        addresses.push(address)?;
+        push_address(&mut addresses, address)?;
     }
     Ok(addresses)
 }
