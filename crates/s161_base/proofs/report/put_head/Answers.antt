@@ -10,6 +10,12 @@ returns-in_err-put-in-File g c = rw c.in-File.is (puts_less _ _ _ _ _ _ c.in_err
 pub returns-in_ok-put-in-File : goal.returns-in_ok-put-in-File
 returns-in_ok-put-in-File g c = rw c.in-File.is (puts_then _ _ _ _ _ _ c.in_ok-put-in-File.ensures c.put_name.ensures)
 
+pub returns-in_err-put-in-Never : goal.returns-in_err-put-in-Never
+returns-in_err-put-in-Never g c = rw c.in-Never.is (puts_less _ _ _ _ _ _ c.in_err-put-in-Never.ensures c.from_residual-in_err-put-in-Never.ensures.1)
+
+pub returns-in_ok-put-in-Never : goal.returns-in_ok-put-in-Never
+returns-in_ok-put-in-Never g c = rw c.in-Never.is (puts_then _ _ _ _ _ _ c.in_ok-put-in-Never.ensures c.put_name-in-Never.ensures)
+
 pub returns-in_err-put-in-Image : goal.returns-in_err-put-in-Image
 returns-in_err-put-in-Image g c = rw c.in-Image.is (puts_less _ _ _ _ _ _ c.in_err-put-in-Image.ensures c.from_residual-in_err-put-in-Image.ensures.1)
 
