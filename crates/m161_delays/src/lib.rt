@@ -6,6 +6,7 @@
 //! useful   at each place of a list, more processors are ready than delays come there
 //! class    the lists of at most so many numbers, each at least one number and below another
 //! order    the shorter list first; of two as long, the one that is less where they first differ
+//! jobs     so many threads look at the lists that differ in their last number alone
 //! ```
 //!
 //! What makes the runs is the caller's own. Delay-bounded scheduling is that of Emmi, Qadeer and

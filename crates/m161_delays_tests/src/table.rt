@@ -47,5 +47,9 @@ impl Runs for Table {
         })
     }
 
+    fn refused(&self) -> AllocError {
+        AllocError
+    }
+
     ghost alike = { λ table j a b same. refl };
 }

@@ -2,3 +2,5 @@
 //! 1 two, at place 2 none, at place 3 one. So there are 1, 3, 4, 3 and 1 useful lists of 0 to 4 numbers.
 
 mod classes;
+mod jobs;
+mod trials;

@@ -88,6 +88,35 @@ pub clean_more : {W : Type 0} (right : ℕ → Bool → Type 0) (wrong : ℕ →
 clean_more right wrong from to end cut more tried h k before answer is =
     right_range right from to end cut more h k before (clean_of right wrong to end tried more is answer)
 
+-- the parts so far, and one more
+pub part_more : {W E : Type 0} (right : ℕ → Bool → Type 0) (wrong : ℕ → W → Type 0) (fails : E → Type 0) (from count size cut more : ℕ)
+    (all before after : List (Result (Tried W) E)) (part : Result (Tried W) E) (tried : Tried W) → from ≤ count →
+    AreParts right wrong fails (part_start from count size) all → all ≡ before ++ part ∷ after → part ≡ Ok tried → tried ≡ Clean more →
+    AreRight right (range_with_len from (part_start from count size (length before) - from)) cut →
+    AreRight right (range_with_len from (part_start from count size (length before + 1) - from)) (cut + more)
+part_more right wrong fails from count size cut more all before after part tried within parts is ok clean rights =
+    let n = length before in
+    let zero = start_zero from count size within in
+    let least = start_less from count size 0 n (omega arith) in
+    clean_more right wrong from (part_start from count size n) (part_start from count size (n + 1)) cut more tried (omega (arith, zero, least))
+    (start_less from count size n (n + 1) (omega arith)) rights
+    (part_at right wrong fails (part_start from count size) all before after part tried parts is ok) clean
+
+pub part_wrong : {W E : Type 0} (right : ℕ → Bool → Type 0) (wrong : ℕ → W → Type 0) (fails : E → Type 0) (from count size cut place : ℕ) (what : W)
+    (all before after : List (Result (Tried W) E)) (part : Result (Tried W) E) (tried : Tried W) → from ≤ count →
+    AreParts right wrong fails (part_start from count size) all → all ≡ before ++ part ∷ after → part ≡ Ok tried → tried ≡ Wrong place what →
+    AreRight right (range_with_len from (part_start from count size (length before) - from)) cut →
+    IsFirstFrom right wrong from (part_start from count size (length all)) place what
+part_wrong right wrong fails from count size cut place what all before after part tried within parts is ok found rights =
+    let n = length before in
+    let long = ap length is ∙ length-append before (part ∷ after) in
+    let zero = start_zero from count size within in
+    let least = start_less from count size 0 n (omega arith) in
+    first_behind right wrong from (part_start from count size n) (part_start from count size (n + 1)) (part_start from count size (length all)) cut place what
+    (omega (arith, zero, least)) (start_less from count size (n + 1) (length all) (omega (arith, long))) rights
+    (first_in right wrong (part_start from count size n) (part_start from count size (n + 1)) tried place what found
+    (part_at right wrong fails (part_start from count size) all before after part tried parts is ok))
+
 -- all trials below a number, and those of one more round
 pub round_more : {W : Type 0} (right : ℕ → Bool → Type 0) (wrong : ℕ → W → Type 0) (from count size parts cut more : ℕ) (tried : Tried W) →
     from ≤ count → AreRight right (range_with_len 0 from) cut → IsAnswerFrom right wrong from (part_start from count size parts) tried →

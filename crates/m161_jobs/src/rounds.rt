@@ -9,10 +9,11 @@ use crate::trials::{Trials, Tried};
 use std::alloc::Global;
 use std::thread::{Threads, map_indices};
 
-// How many trials a part has in the first round, and at most. So a trial that goes wrong early ends the
-// search soon, and threads cost little where many are looked at.
+// How many trials a part has at most in the first round: a trial that goes wrong early ends the search
+// soon.
 const FIRST: u32 = 16;
 
+// How many it has at most in the last ones: threads cost little then.
 const MOST: u32 = 4096;
 
 // A round: so many parts, of so many trials each.

@@ -6,9 +6,13 @@ use std::alloc::{AllocGlobal, Global};
 use std::fmt::Debug;
 use std::process::Abort;
 use std::test::Fail;
+use std::thread::Threads;
 
 /// No list has so many numbers.
 const NONE: usize = 99;
+
+/// How many threads look at the lists.
+static JOBS: [u32; 5] = [0, 1, 2, 3, 64];
 
 /// A class, how many lists of it are useful, and how many of these have more than one number.
 struct Row {
@@ -114,13 +118,18 @@ fn table(wrong: usize) -> Table {
 }
 
 /// Fails the test where the class isn't clean, with these sums.
-fn check_clean(rt: &impl Abort, alloc: Global, row: &Row) -> Result<(), Fail> {
+fn check_clean<R: Abort + Threads + Sync>(
+    rt: &R,
+    alloc: Global,
+    row: &Row,
+    jobs: u32,
+) -> Result<(), Fail> {
     let class = Class {
         most: row.most.min(64),
         from: row.from,
         within: row.within,
     };
-    match search_lists(alloc, &table(NONE), class)? {
+    match search_lists(rt, alloc, &table(NONE), class, jobs)? {
         Searched::Clean { runs, cut } => {
             same(rt, runs, row.runs);
             same(rt, cut, row.cut);
@@ -131,13 +140,19 @@ fn check_clean(rt: &impl Abort, alloc: Global, row: &Row) -> Result<(), Fail> {
 }
 
 /// Fails the test where the first list of so many numbers that is found isn't this one.
-fn check_found(rt: &impl Abort, alloc: Global, from: u32, expected: &[u32]) -> Result<(), Fail> {
+fn check_found<R: Abort + Threads + Sync>(
+    rt: &R,
+    alloc: Global,
+    from: u32,
+    jobs: u32,
+    expected: &[u32],
+) -> Result<(), Fail> {
     let class = Class {
         most: 64,
         from,
         within: 9,
     };
-    match search_lists(alloc, &table(expected.len()), class)? {
+    match search_lists(rt, alloc, &table(expected.len()), class, jobs)? {
         Searched::Clean { .. } => same(rt, "clean", "wrong"),
         Searched::Wrong { delays, wrong } => {
             same(rt, wrong, expected.len());
@@ -152,8 +167,10 @@ fn check_found(rt: &impl Abort, alloc: Global, from: u32, expected: &[u32]) -> R
 
 #[test]
 fn clean_classes(rt: HostRuntime) -> Result<(), Fail> {
-    for row in &ROWS {
-        check_clean(&rt, rt.alloc(), row)?;
+    for jobs in &JOBS {
+        for row in &ROWS {
+            check_clean(&rt, rt.alloc(), row, *jobs)?;
+        }
     }
     Ok(())
 }
@@ -161,12 +178,15 @@ fn clean_classes(rt: HostRuntime) -> Result<(), Fail> {
 /// The least list of each length.
 #[test]
 fn first_lists(rt: HostRuntime) -> Result<(), Fail> {
-    check_found(&rt, rt.alloc(), 0, &[])?;
-    check_found(&rt, rt.alloc(), 0, &[0])?;
-    check_found(&rt, rt.alloc(), 0, &[0, 1])?;
-    check_found(&rt, rt.alloc(), 0, &[0, 1, 1])?;
-    check_found(&rt, rt.alloc(), 0, &[0, 1, 1, 3])?;
-    check_found(&rt, rt.alloc(), 1, &[1, 1])?;
-    check_found(&rt, rt.alloc(), 1, &[1, 1, 3])?;
-    check_found(&rt, rt.alloc(), 2, &[3])
+    for jobs in &JOBS {
+        check_found(&rt, rt.alloc(), 0, *jobs, &[])?;
+        check_found(&rt, rt.alloc(), 0, *jobs, &[0])?;
+        check_found(&rt, rt.alloc(), 0, *jobs, &[0, 1])?;
+        check_found(&rt, rt.alloc(), 0, *jobs, &[0, 1, 1])?;
+        check_found(&rt, rt.alloc(), 0, *jobs, &[0, 1, 1, 3])?;
+        check_found(&rt, rt.alloc(), 1, *jobs, &[1, 1])?;
+        check_found(&rt, rt.alloc(), 1, *jobs, &[1, 1, 3])?;
+        check_found(&rt, rt.alloc(), 2, *jobs, &[3])?;
+    }
+    Ok(())
 }
