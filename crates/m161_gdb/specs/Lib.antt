@@ -1,4 +1,5 @@
 pub mod Frames
 pub mod Links
 pub mod Packets
+pub mod Stops
 pub mod helpers

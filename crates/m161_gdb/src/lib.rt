@@ -19,6 +19,7 @@ mod link;
 mod number;
 mod outgoing;
 mod packet;
+mod stops;
 mod table;
 
 pub use body::Body;
@@ -27,4 +28,5 @@ pub use laws::{frames_are_read, has_items, has_one_reading, items_stay};
 pub use link::{Duty, Link};
 pub use outgoing::frame;
 pub use packet::{Action, Actions, Change, Kind, Motion, Packet, Thread};
+pub use stops::{Breakpoint, Stops, Watch};
 pub use table::packet_of;
