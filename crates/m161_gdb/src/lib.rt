@@ -28,5 +28,5 @@ pub use laws::{frames_are_read, has_items, has_one_reading, items_stay};
 pub use link::{Duty, Link};
 pub use outgoing::frame;
 pub use packet::{Action, Actions, Change, Kind, Motion, Packet, Thread};
-pub use stops::{Breakpoint, Stops, Watch};
+pub use stops::{Breakpoint, StopError, Stops, Watch};
 pub use table::packet_of;
