@@ -1,6 +1,8 @@
 //! Runs that are a list of events.
 
-ghost use Rattle.std.specs.Prelude.{◌≡◌};
+ghost use Rattle.std.specs.Prelude.{◌≡◌, ◌≤◌, length};
+ghost use Rattle.m161_gdb_tests.specs.Courses.{course_of};
+ghost use Rattle.m161_moves.specs.Threads.{last_processor};
 
 use m161_moves::{Run, StepSeen};
 
@@ -15,15 +17,28 @@ pub struct Listed {
     pub kept: usize,
 }
 
+// The processor of the last Step before a place.
+fn last_before(events: &[Option<StepSeen>], place: usize) -> u32
+    requires { place ≤ length events.now }
+    ensures { result ≡ last_processor (course_of events.now) place }
+{
+    let mut last = 0;
+    for k in 0..place {
+        if let Some(step) = events[k] {
+            last = step.processor;
+        }
+    }
+    last
+}
+
 impl Run for Listed {
-    ghost use Rattle.std.specs.Prelude.{length, min, slice_index_or, None};
+    ghost use Rattle.std.proofs.Common.{rules};
+    ghost use Rattle.std.specs.Prelude.{length, min};
+    ghost use Rattle.m161_gdb_tests.specs.Courses.{course_of};
 
     type Error = ();
 
-    ghost course = { λ run. record {
-      end = length run.events.now;
-      step = λ j. slice_index_or run.events.now j None;
-    } };
+    ghost course = { λ run. course_of run.events.now };
 
     ghost place = { λ run. min run.at (length run.events.now) };
 
@@ -39,6 +54,10 @@ impl Run for Listed {
 
     fn next_step(&self) -> Option<StepSeen> {
         self.events[self.at]
+    }
+
+    fn last_processor(&self) -> u32 {
+        last_before(self.events, self.place())
     }
 
     fn advance(&mut self) -> Result<(), ()> {

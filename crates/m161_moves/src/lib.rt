@@ -15,6 +15,7 @@ mod moves;
 mod reason;
 mod run;
 mod stopping;
+mod thread;
 
 pub use back::backwards;
 pub use laws::{
@@ -23,3 +24,4 @@ pub use laws::{
 pub use moves::forwards;
 pub use reason::Reason;
 pub use run::{Access, Run, StepSeen};
+pub use thread::thread_of;

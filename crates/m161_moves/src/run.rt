@@ -28,6 +28,7 @@ pub struct StepSeen {
 pub trait Run {
     ghost use Rattle.std.specs.Prelude.{◌≡◌, ℕ, ◌==◌, ◌+◌, ◌<◌, ◌≤◌, IfErr, OnOk};
     ghost use Rattle.m161_moves.specs.Course.{Course};
+    ghost use Rattle.m161_moves.specs.Threads.{last_processor};
 
     /// Why a run can't be gone along.
     type Error: Drop;
@@ -53,6 +54,10 @@ pub trait Run {
     fn next_step(&self) -> Option<StepSeen>
         requires { place self.now < (course self.now).end }
         ensures { result ≡ (course self.now).step (place self.now) };
+
+    /// The processor of the last Step before the place where it stands, 0 if there is none.
+    fn last_processor(&self) -> u32
+        ensures { result ≡ last_processor (course self.now) (place self.now) };
 
     /// Goes forwards by an event.
     ///

@@ -33,8 +33,8 @@ fn is_stepping(chosen: &[Option<Motion>], processor: u32) -> bool
     }
 }
 
-// Whether it does anything.
-fn is_resumed(chosen: &[Option<Motion>], processor: u32) -> bool
+/// Whether it does anything.
+pub(crate) fn is_resumed(chosen: &[Option<Motion>], processor: u32) -> bool
     ensures { result ≡ is_resumed chosen.now processor }
 {
     motion_of(chosen, processor).is_some()
