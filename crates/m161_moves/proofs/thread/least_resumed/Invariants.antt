@@ -1,4 +1,4 @@
-use Rattle.std.proofs.Common.{◌≡◌, ◌+◌, ◌≤◌, length}
+use Rattle.std.proofs.Common.{◌≡◌, ◌+◌, length}
 use Rattle.m161_moves.specs.Threads.{least_from, least_resumed}
 use Rattle.m161_moves.proofs.thread.least_resumed.Given as goal
 
