@@ -4,3 +4,4 @@ pub mod Readings
 pub mod Cutting
 pub mod Rows
 pub mod Receiving
+pub mod Tabulating

@@ -1,7 +1,9 @@
-//! Tests of the lowest part of a server of GDB's protocol.
+//! Tests of the parts of a server of GDB's protocol.
 
 mod frames;
+mod moves;
 mod packets;
+mod stops;
 
 use std::fmt::Debug;
 use std::process::Abort;

@@ -1,0 +1,4 @@
+pub mod Firsts
+pub mod Ahead
+pub mod Returning
+pub mod Answering

@@ -1,0 +1,6 @@
+pub use Rattle.m161_gdb.specs.Stops
+pub mod Course
+pub mod Stopping
+pub mod Moves
+pub mod Threads
+pub mod helpers
