@@ -1,0 +1,4 @@
+-- Definitions that only contracts of private functions or proofs use.
+pub mod Ends
+pub mod Search
+pub mod Visit
