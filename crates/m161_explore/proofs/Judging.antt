@@ -109,12 +109,12 @@ found_path {S} {V} {R} r is_valid limit keys nodes nodes2 links found from event
     subst T (sym is_states) (subst W (sym (e ∙ ap (λ x. x ++ event ∷ []) f ∙ sym (reverse_onto trail event []))) (k.1 trail (subst Q same t)))
 
 -- the list of the state whose turn it was at the limit
-pub open_path : {S V R : Type 0} (r : Rules S V R) (is_valid : S → Type 0) (limit : ℕ) (keys : List (List ℕ)) (nodes nodes2 : List Node) (links : List ℕ) (found : Outcome V R) (from event size : ℕ) (trail : List ℕ) →
-    found ≡ TooMany from event → Finds r is_valid limit keys nodes links found →
+pub open_path : {S V R : Type 0} (r : Rules S V R) (is_valid : S → Type 0) (limit : ℕ) (keys : List (List ℕ)) (nodes nodes2 : List Node) (links : List ℕ) (found : Outcome V R) (from size : ℕ) (trail : List ℕ) →
+    found ≡ TooMany from → Finds r is_valid limit keys nodes links found →
     nodes2 ≡ nodes → IsTrail nodes2 from trail → size ≡ length trail → IsOpen r limit size
-open_path {S} {V} {R} r is_valid limit keys nodes nodes2 links found from event size trail is h same t e =
+open_path {S} {V} {R} r is_valid limit keys nodes nodes2 links found from size trail is h same t e =
     let P : Outcome V R → Type 0 = λ x. Finds r is_valid limit keys nodes links x in
     let Q : List Node → Type 0 = λ x. IsTrail x from trail in
     let T : ℕ → Type 0 = λ x. IsOpen r limit x in
     let k = subst P is h in
-    subst T (sym e) (k.1 trail (subst Q same t))
+    subst T (sym e) (k.2 trail (subst Q same t))

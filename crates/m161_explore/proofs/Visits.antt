@@ -2,6 +2,7 @@ use Rattle.std.proofs.Common.{◌≡◌, ℕ, ◌+◌, ◌<◌, ◌≤◌, suc, 
 use Rattle.std.specs.Prelude.{Option, Some, None, reverse}
 use Rattle.std.proofs.lemmas.List.{length_push, get_or_push, get_or_append_left}
 use Rattle.m161_explore.specs.declared.graph.Node.{Node}
+use Rattle.m161_explore.specs.declared.system.Advanced.{Advanced}
 use Rattle.m161_explore.specs.declared.system.Advanced.TheVariants.{Refused, Passed, Judged, Stopped}
 use Rattle.m161_explore.specs.Rules.{Advances, Rules}
 use Rattle.m161_explore.specs.Lists.{ComesBefore, HasVerdict, IsFollowed, Leads}
@@ -29,6 +30,10 @@ at_next r is_valid keys nodes links i e s h l =
 pub held_key : {S V R : Type 0} (r : Rules S V R) (is_valid : S → Type 0) (keys : List (List ℕ)) (nodes : List Node) (links : List ℕ) (i e : ℕ) (key : List ℕ) →
     IsAt r is_valid keys nodes links i e → key ≡ view_at keys i → (s : S) × is_valid s × (r.view s ≡ key)
 held_key r is_valid keys nodes links i e key at h = let s = at.searched.held i at.within in (s.0, s.1, s.2 ∙ sym h)
+
+-- what an event comes to, where that is known
+pub advances_as : {S V R : Type 0} (r : Rules S V R) (is_valid : S → Type 0) (s : S) (e : ℕ) (t : S) (a b : Advanced V R) → a ≡ b → Advances r is_valid s e t a → Advances r is_valid s e t b
+advances_as {S} {V} {R} r is_valid s e t a b h k = let P : Advanced V R → Type 0 = λ x. Advances r is_valid s e t x in subst P h k
 
 -- the state whose event is tried: one with the view that is kept
 pub record IsTried {S V R : Type 0} (r : Rules S V R) (is_valid : S → Type 0) (keys : List (List ℕ)) (i e : ℕ) (s : S) : Type 0 where

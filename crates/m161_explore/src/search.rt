@@ -13,7 +13,7 @@ pub enum Visit<V, R> {
     /// This event has this verdict.
     FoundWrong(u32, V),
     /// This event leads to a state too many.
-    Full(u32),
+    Full,
     /// The system stopped for this reason.
     StoppedBy(R),
 }
@@ -25,8 +25,8 @@ pub enum Outcome<V, R> {
     Whole,
     /// Of this state this event has this verdict.
     WrongFrom(u32, u32, V),
-    /// From this state this event leads to a state too many.
-    TooMany(u32, u32),
+    /// From this state an event leads to a state too many.
+    TooMany(u32),
     /// The system stopped for this reason.
     StoppedFor(R),
 }
@@ -56,7 +56,7 @@ fn arrive<S: System>(
     }
     let count = graph.keys.len();
     if limit as usize <= count {
-        return Ok(Visit::Full(event));
+        return Ok(Visit::Full);
     }
     graph.links.push(count as u32 + 1)?;
     graph.nodes.push(Node {
@@ -115,7 +115,7 @@ fn expand<S: System>(
         match try_event(alloc, system, state, words, graph, from, event, limit)? {
             Visit::Went => {}
             Visit::FoundWrong(wrong, verdict) => return Ok(Visit::FoundWrong(wrong, verdict)),
-            Visit::Full(last) => return Ok(Visit::Full(last)),
+            Visit::Full => return Ok(Visit::Full),
             Visit::StoppedBy(reason) => return Ok(Visit::StoppedBy(reason)),
         }
     }
@@ -143,7 +143,7 @@ pub fn search<S: System>(
         match expand(alloc, system, state, words, graph, from, limit)? {
             Visit::Went => {}
             Visit::FoundWrong(event, verdict) => return Ok(Outcome::WrongFrom(from, event, verdict)),
-            Visit::Full(event) => return Ok(Outcome::TooMany(from, event)),
+            Visit::Full => return Ok(Outcome::TooMany(from)),
             Visit::StoppedBy(reason) => return Ok(Outcome::StoppedFor(reason)),
         }
     }

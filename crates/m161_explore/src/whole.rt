@@ -112,7 +112,7 @@ pub fn explore<S: System>(
                 states: graph.keys.len() as u32,
             })
         }
-        Outcome::TooMany(from, _) => Ok(Answer::Open {
+        Outcome::TooMany(from) => Ok(Answer::Open {
             size: trail_of(alloc, &graph.nodes, from)?.len(),
         }),
         Outcome::StoppedFor(reason) => Ok(Answer::Ended(reason)),

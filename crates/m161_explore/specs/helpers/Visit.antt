@@ -8,7 +8,7 @@ use Rattle.m161_explore.specs.Rules.{Rules}
 use Rattle.m161_explore.specs.Answers.{IsFound, IsOpen, IsStopped}
 use Rattle.m161_explore.specs.Views.{view_at}
 use Rattle.m161_explore.specs.helpers.Ends.{flag_at}
-use Rattle.m161_explore.specs.helpers.Search.{IsTrail, Linked, Searched, time_of}
+use Rattle.m161_explore.specs.helpers.Search.{AreEarlier, IsTrail, Linked, Searched, time_of}
 
 -- what a search knows before it tries the event e of state i
 pub record IsAt {S V R : Type 0} (r : Rules S V R) (is_valid : S → Type 0) (views : List (List ℕ)) (nodes : List Node) (links : List ℕ) (i e : ℕ) : Type 0 where
@@ -36,16 +36,15 @@ IsWrongAt r is_valid views nodes links i event what =
     × ((trail : List ℕ) → IsTrail nodes i trail → IsFound r (reverse (event ∷ trail)) what (length views))
 
 -- what it knows where one state too many was found behind state i
-abbrev pub IsFullAt : {S V R : Type 0} → Rules S V R → (S → Type 0) → ℕ → List (List ℕ) → List Node → List ℕ → ℕ → ℕ → Type 0
-IsFullAt r is_valid limit views nodes links i event =
-    IsAt r is_valid views nodes links i event
-    × ((trail : List ℕ) → IsTrail nodes i trail → IsOpen r limit (length trail))
+abbrev pub IsFullAt : {S V R : Type 0} → Rules S V R → ℕ → List Node → ℕ → Type 0
+IsFullAt r limit nodes i =
+    (i < length nodes) × AreEarlier nodes × ((trail : List ℕ) → IsTrail nodes i trail → IsOpen r limit (length trail))
 
 -- what it knows behind an event of state i, before the event `after`
 abbrev pub Visits : {S V R : Type 0} → Rules S V R → (S → Type 0) → ℕ → List (List ℕ) → List Node → List ℕ → ℕ → ℕ → Visit V R → Type 0
 Visits r is_valid limit views nodes links i after Went = IsAt r is_valid views nodes links i after
 Visits r is_valid limit views nodes links i after (FoundWrong event what) = IsWrongAt r is_valid views nodes links i event what
-Visits r is_valid limit views nodes links i after (Full event) = IsFullAt r is_valid limit views nodes links i event
+Visits r is_valid limit views nodes links i after Full = IsFullAt r limit nodes i
 Visits r is_valid limit views nodes links i after (StoppedBy reason) = IsStopped r reason
 
 -- all events of the states before i were tried
@@ -57,7 +56,7 @@ pub record IsBefore {S V R : Type 0} (r : Rules S V R) (is_valid : S → Type 0)
 abbrev pub Finds : {S V R : Type 0} → Rules S V R → (S → Type 0) → ℕ → List (List ℕ) → List Node → List ℕ → Outcome V R → Type 0
 Finds r is_valid limit views nodes links Whole = IsBefore r is_valid views nodes links (length views)
 Finds r is_valid limit views nodes links (WrongFrom from event what) = IsWrongAt r is_valid views nodes links from event what
-Finds r is_valid limit views nodes links (TooMany from event) = IsFullAt r is_valid limit views nodes links from event
+Finds r is_valid limit views nodes links (TooMany from) = IsFullAt r limit nodes from
 Finds r is_valid limit views nodes links (StoppedFor reason) = IsStopped r reason
 
 -- the flags say which states are ends
