@@ -137,7 +137,7 @@ pub count_before : {S V R : Type 0} (r : Rules S V R) (is_valid : S → Type 0) 
 count_before r is_valid keys nodes i e trail laws w h s = (
   keys,
   differ r is_valid keys nodes (time_of r.width i e) (λ es. ComesBefore es (reverse (e ∷ trail))) laws s
-  (λ fs j k. trail_before r is_valid keys nodes i e trail laws w h s fs j k),
+      (λ fs j k. trail_before r is_valid keys nodes i e trail laws w h s fs j k),
   all_before r is_valid keys nodes i e trail laws w h s,
   refl,
 )

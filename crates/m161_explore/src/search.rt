@@ -85,7 +85,8 @@ fn try_event<S: System>(
     ensures visits { IfOk result (Visits (S.rules system.now) (S.is_valid system.now) limit graph.new.keys graph.new.nodes.items graph.new.links.items from (event + 1)) }
 {
     system.restore(state, graph.keys.get(from as usize))?;
-    match system.advance(state, event)? {
+    let advanced = system.advance(state, event)?;
+    match advanced {
         Advanced::Stopped(reason) => Ok(Visit::StoppedBy(reason)),
         Advanced::Judged(verdict) => Ok(Visit::FoundWrong(event, verdict)),
         Advanced::Refused => {
@@ -142,7 +143,9 @@ pub fn search<S: System>(
         }
         match expand(alloc, system, state, words, graph, from, limit)? {
             Visit::Went => {}
-            Visit::FoundWrong(event, verdict) => return Ok(Outcome::WrongFrom(from, event, verdict)),
+            Visit::FoundWrong(event, verdict) => return Ok(Outcome::WrongFrom(
+                from, event, verdict,
+            )),
             Visit::Full => return Ok(Outcome::TooMany(from)),
             Visit::StoppedBy(reason) => return Ok(Outcome::StoppedFor(reason)),
         }

@@ -19,8 +19,7 @@ returns-then-limit-count-clause-visits g c =
     let met = g.met.S.System in
     let laws : Laws (g.S.System.rules m) (g.S.System.is_valid m) =
     record { start = met.valid_start m; next = met.valid_next m; stop = met.alike_stop m; step = met.alike_next m; verdict = met.alike_verdict m; ends = met.alike_end m } in
-    let encoded : c.encode.new.words.items ≡ (g.S.System.rules m).view c.args.state.now = c.in_ok-encode.ensures ∙ ap (λ (x : List ℕ). x ++ (g.S.System.rules m).view c.args.state.now) c.clear.ensures.items in
-    (
+    let encoded : c.encode.new.words.items ≡ (g.S.System.rules m).view c.args.state.now = c.in_ok-encode.ensures ∙ ap (λ (x : List ℕ). x ++ (g.S.System.rules m).view c.args.state.now) c.clear.ensures.items in (
       omega (arith, c.requires.at.within, c.requires.at.searched.sizes),
       earlier_before _ _ _ _ _ c.requires.at.searched,
       (λ trail k. overflows _ _ _ _ _ _ _ _ c.args.state.now c.deref.result.now laws c.requires.at c.requires.passed c.requires.few

@@ -21,4 +21,4 @@ returns-in-WrongFrom g c =
 
 pub returns-in-TooMany : goal.returns-in-TooMany
 returns-in-TooMany g c =
-    open_path _ _ _ _ _ _ _ _ c.in-TooMany.from _ c.in_ok-trail_of-in-TooMany.events.items c.in-TooMany.is c.in_ok-search.ensures.finds c.deref-in-TooMany.ensures.value c.in_ok-trail_of-in-TooMany.ensures (omega arith)
+    open_path _ _ _ _ _ _ _ _ c.in-TooMany.from _ c.in_ok-trail_of-in-TooMany.field-0.items c.in-TooMany.is c.in_ok-search.ensures.finds c.deref-in-TooMany.ensures.value c.in_ok-trail_of-in-TooMany.ensures (omega arith)
