@@ -1,9 +1,11 @@
+pub mod Chains
 pub mod Counting
 pub mod Ending
 pub mod Judging
 pub mod Laws
 pub mod Links
 pub mod Order
+pub mod Parts
 pub mod Runs
 pub mod Spreading
 pub mod Steps

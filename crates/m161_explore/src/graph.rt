@@ -27,7 +27,7 @@ pub fn start_alone(alloc: Global, words: &[u32]) -> Result<Graph, AllocError>
     ensures nodes { IfOk result (λ graph. graph.nodes.items ≡ record { parent = 0; event = 0 } ∷ []) }
     ensures links { IfOk result (λ graph. graph.links.items ≡ []) }
 {
-    let mut keys = Keys::new(alloc);
+    let mut keys = Keys::new(alloc)?;
     keys.push(alloc, words)?;
     let mut nodes = Vec::new(alloc);
     nodes.push(Node {

@@ -15,6 +15,7 @@
 
 mod ends;
 mod graph;
+mod hash;
 mod keys;
 mod search;
 mod system;
