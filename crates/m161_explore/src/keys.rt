@@ -28,8 +28,8 @@ impl Model for Keys {
     ghost view = { λ k. parts k.cuts.items k.words.items };
 
     ghost invariant = { λ k. record {
-        cuts : AreCuts k.cuts.items (length k.words.items);
-        chained : AreChained k.heads.items k.before.items (parts k.cuts.items k.words.items);
+      cuts : AreCuts k.cuts.items (length k.words.items);
+      chained : AreChained k.heads.items k.before.items (parts k.cuts.items k.words.items);
     } };
 }
 
