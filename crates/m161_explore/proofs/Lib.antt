@@ -1,0 +1,12 @@
+pub mod Chains
+pub mod Counting
+pub mod Ending
+pub mod Judging
+pub mod Laws
+pub mod Links
+pub mod Order
+pub mod Parts
+pub mod Runs
+pub mod Spreading
+pub mod Steps
+pub mod Visits

@@ -1,0 +1,9 @@
+use Rattle.std.proofs.Common.{◌≤◌, length}
+use Rattle.m161_explore.specs.helpers.Visit.{IsAt}
+use Rattle.m161_explore.proofs.search.expand.Given as goal
+
+abbrev pub invariant-loop-event : goal.invariant-loop-event
+invariant-loop-event g l = record {
+  at : IsAt (g.S.System.rules l.system) (g.S.System.is_valid l.system) l.graph.keys l.graph.nodes.items l.graph.links.items l.from l.event;
+  few : length l.graph.keys ≤ l.limit;
+}

@@ -1,0 +1,5 @@
+pub mod Answers
+pub mod Lists
+pub mod Rules
+pub mod Views
+pub mod helpers

@@ -1,0 +1,5 @@
+-- Definitions that only contracts of private functions or proofs use.
+pub mod Ends
+pub mod Keys
+pub mod Search
+pub mod Visit

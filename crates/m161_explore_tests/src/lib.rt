@@ -1,0 +1,6 @@
+//! Tests of the exploration, with systems that are tables.
+#![tactic(auto)]
+
+pub mod table;
+#[cfg(test)]
+mod tests;

@@ -1,0 +1,123 @@
+//! Explorations of small tables. What is expected was counted by hand.
+
+use crate::table::Table;
+use m161_explore::{Answer, explore};
+use std::test::Fail;
+
+/// From 0 to 1 or 2, and from these to 3; 1 can also be stayed at.
+const DIAMOND: Table = Table {
+    first: [1, 3, 3, 8, 8, 8, 8, 8],
+    second: [2, 1, 8, 8, 8, 8, 8, 8],
+    end: 3,
+    wrong: 9,
+    stop: 9,
+};
+
+/// From 0 to 1 or 2, and from 1 to 3; 2 can't be left.
+const TRAP: Table = Table {
+    first: [1, 3, 2, 8, 8, 8, 8, 8],
+    second: [2, 1, 2, 8, 8, 8, 8, 8],
+    end: 3,
+    wrong: 9,
+    stop: 9,
+};
+
+#[test]
+fn each_list_comes_to_an_end(rt: HostRuntime) -> Result<(), Fail> {
+    assert!(rt;
+        matches!(
+            explore(rt.alloc(), &DIAMOND, 9)?,
+            Answer::Clean { states: 4 }
+        )
+    );
+    assert!(rt;
+        matches!(
+            explore(rt.alloc(), &DIAMOND, 4)?,
+            Answer::Clean { states: 4 }
+        )
+    );
+    Ok(())
+}
+
+#[test]
+fn an_event_that_is_refused_has_no_verdict(rt: HostRuntime) -> Result<(), Fail> {
+    let table = Table {
+        wrong: 2,
+        ..DIAMOND
+    };
+    assert!(rt; matches!(explore(rt.alloc(), &table, 9)?, Answer::Clean { states: 4 }));
+    Ok(())
+}
+
+#[test]
+fn the_first_list_with_a_verdict_is_found(rt: HostRuntime) -> Result<(), Fail> {
+    let table = Table {
+        wrong: 1,
+        ..DIAMOND
+    };
+    match explore(rt.alloc(), &table, 9)? {
+        Answer::Found {
+            events,
+            verdict,
+            states,
+        } => {
+            assert_eq!(rt; events.as_slice(), [0, 1].as_slice());
+            assert!(rt; verdict == 1 && states == 4);
+        }
+        _ => assert!(rt; false),
+    }
+    Ok(())
+}
+
+#[test]
+fn a_verdict_comes_before_the_states_behind_it(rt: HostRuntime) -> Result<(), Fail> {
+    let table = Table { wrong: 0, ..TRAP };
+    match explore(rt.alloc(), &table, 9)? {
+        Answer::Found {
+            events,
+            verdict,
+            states,
+        } => {
+            assert_eq!(rt; events.as_slice(), [1].as_slice());
+            assert!(rt; verdict == 0 && states == 2);
+        }
+        _ => assert!(rt; false),
+    }
+    Ok(())
+}
+
+#[test]
+fn the_first_list_that_hangs_is_found(rt: HostRuntime) -> Result<(), Fail> {
+    match explore(rt.alloc(), &TRAP, 9)? {
+        Answer::Hung { events, states } => {
+            assert_eq!(rt; events.as_slice(), [1].as_slice());
+            assert!(rt; states == 4);
+        }
+        _ => assert!(rt; false),
+    }
+    Ok(())
+}
+
+#[test]
+fn without_an_end_the_empty_list_hangs(rt: HostRuntime) -> Result<(), Fail> {
+    let table = Table { end: 9, ..DIAMOND };
+    match explore(rt.alloc(), &table, 9)? {
+        Answer::Hung { events, states } => assert!(rt; events.is_empty() && states == 4),
+        _ => assert!(rt; false),
+    }
+    Ok(())
+}
+
+#[test]
+fn the_limit_leaves_it_open(rt: HostRuntime) -> Result<(), Fail> {
+    assert!(rt; matches!(explore(rt.alloc(), &DIAMOND, 3)?, Answer::Open { size: 1 }));
+    assert!(rt; matches!(explore(rt.alloc(), &DIAMOND, 1)?, Answer::Open { size: 0 }));
+    Ok(())
+}
+
+#[test]
+fn the_system_stops_it(rt: HostRuntime) -> Result<(), Fail> {
+    let table = Table { stop: 3, ..DIAMOND };
+    assert!(rt; matches!(explore(rt.alloc(), &table, 9)?, Answer::Ended(0)));
+    Ok(())
+}
