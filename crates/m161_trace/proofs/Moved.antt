@@ -1,4 +1,4 @@
-use Rattle.std.proofs.Common.{◌≡◌, ◌≢◌, refl, sym, ap, subst, ℕ, ◌+◌, ◌%◌, Bool, true, false, List, length, Option, None, Some, Result, Ok, Err}
+use Rattle.std.proofs.Common.{◌≡◌, ◌≢◌, refl, sym, ap, subst, ℕ, ◌+◌, ◌%◌, Bool, true, false, length, Option, None, Some, Result, Ok, Err}
 use Rattle.std.specs.Prelude.{IfOk, nat_le, if◌then◌else◌, unwrap_or}
 use Rattle.m161_isa.specs.declared.effect.Effect.{Effect}
 use Rattle.m161_isa.specs.declared.effect.Effect.TheVariants as effect
@@ -8,11 +8,11 @@ use Rattle.m161_bus.specs.declared.board.BusFault.{BusFault}
 use Rattle.m161_bus.specs.Board.{BoardState, board_read, board_written}
 use Rattle.m161_cpu.specs.declared.processor.ProcessorState.{ProcessorState}
 use Rattle.m161_cpu.specs.declared.processor.ProcessorState.TheVariants.{Stopped, Running, Waiting}
-use Rattle.m161_cpu.specs.Processor.{Processor, with_state}
+use Rattle.m161_cpu.specs.Processor.{with_state}
 use Rattle.m161_cpu.specs.Links.{End}
-use Rattle.m161_cpu.specs.Scene.{Change, Scene, Store, and_then, result_map, word_to}
+use Rattle.m161_cpu.specs.Scene.{Change, Scene, and_then, result_map}
 use Rattle.m161_cpu.specs.Translation.{read_physical_word}
-use Rattle.m161_cpu.specs.Effect.{Argument, effect_of, effective_address, is_linked, store_physical_word, store_word, unless_overflow, write, write_board, write_read}
+use Rattle.m161_cpu.specs.Effect.{Argument, effect_of, effective_address, is_linked, store_physical_word, store_word, unless_overflow, write, write_read}
 use Rattle.m161_cpu.specs.Step.{Stepped, change_of_step, conflict_of, count_step, idle, lines_in, running_step, step_by_conflict, step_by_state, step_of, step_of_result, tick, with_processor}
 use Rattle.m161_trace.proofs.Console.{KeepsBytes, keeps_itself, read_keeps, write_keeps}
 use Rattle.m161_trace.proofs.Near.{in_instruction}

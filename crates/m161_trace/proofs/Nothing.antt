@@ -11,6 +11,7 @@ use Rattle.m161_bus.specs.declared.register.BoardWord.TheVariants as words
 use Rattle.m161_bus.specs.Board.{BoardState, PlaceState, place_at_boot, shown_word}
 use Rattle.m161_trace.specs.Items.{Item, board, row, board_item, changed, each, places_items, row_item, row_items, start_item, start_items}
 use Rattle.m161_trace.specs.Line.{spaced}
+use Rattle.m161_trace.specs.helpers.Adds.{Adds}
 use Rattle.m161_trace.proofs.Spaced.{spaced_none}
 
 -- Parts that are as before have no items.
@@ -29,8 +30,8 @@ none_each : (a n : ℕ) (f : ℕ → List Item) → ((j : ℕ) → f j ≡ []) �
 none_each a n f none = none_listed f (range_with_len a n) none
 
 -- nothing is appended
-appended : (old : List ℕ) (is : List Item) → is ≡ [] → old ≡ old ++ spaced is
-appended old is none = spaced_none old ∙ ap (λ js. old ++ spaced js) (sym none)
+appended : (old : List ℕ) (is : List Item) → is ≡ [] → Adds old is old
+appended old is none naming = spaced_none old naming ∙ ap (λ js. old ++ spaced naming js) (sym none)
 
 -- rows
 
@@ -46,7 +47,7 @@ no_rows_of : (rows : List Row) → row_items rows rows ≡ []
 unfolding row_items
 no_rows_of rows = none_each 0 64 (row_item rows rows) (λ i. same_row i (get_or rows i blank_row))
 
-pub no_rows : (old : List ℕ) (a b : List Row) → b ≡ a → old ≡ old ++ spaced (row_items a b)
+pub no_rows : (old : List ℕ) (a b : List Row) → b ≡ a → Adds old (row_items a b) old
 no_rows old a b same = appended old (row_items a b) (ap (row_items a) same ∙ no_rows_of a)
 
 -- the words of each processor
@@ -66,7 +67,7 @@ no_places_of n a b same =
     (λ k. no_word a b (words.Cram c k) (ap (λ (ps : List PlaceState). get_or (get_or ps c (place_at_boot 0)).cram k 0) same))) in
     λ i. enables i ++ raised i ++ crams i
 
-pub no_places : (old : List ℕ) (n : ℕ) (a b : BoardState) → b.places ≡ a.places → old ≡ old ++ spaced (places_items n a b)
+pub no_places : (old : List ℕ) (n : ℕ) (a b : BoardState) → b.places ≡ a.places → Adds old (places_items n a b) old
 no_places old n a b same = appended old (places_items n a b) (no_places_of n a b same)
 
 -- the processors that were started
@@ -79,5 +80,5 @@ no_starts_of : (n mask : ℕ) → start_items n mask mask ≡ []
 unfolding start_items
 no_starts_of n mask = none_each 0 n (start_item mask mask) (λ q. not_new (has_bit mask q) _)
 
-pub no_starts : (old : List ℕ) (n before after : ℕ) → before ≡ after → old ≡ old ++ spaced (start_items n before after)
+pub no_starts : (old : List ℕ) (n before after : ℕ) → before ≡ after → Adds old (start_items n before after) old
 no_starts old n before after same = appended old (start_items n before after) (ap (start_items n before) (sym same) ∙ no_starts_of n before)

@@ -1,5 +1,8 @@
-use Rattle.std.specs.Prelude.{ℕ, Bool, true, false, ◌==◌, if◌then◌else◌, List, [], ◌∷◌, ◌++◌, flat_map, Option, None, Some, codes, decimal}
+use Rattle.std.specs.Prelude.{ℕ, List, [], ◌∷◌, ◌++◌, flat_map, slice_index_or, Option, None, Some, codes, decimal}
 use Rattle.m161_text.specs.Parts.{◌␣◌, hex_text, word_text}
+use Rattle.m161_asm.specs.Tokens.{register_names}
+use Rattle.m161_dis.specs.declared.naming.Naming.{Naming}
+use Rattle.m161_dis.specs.declared.naming.Naming.TheVariants.{Numbers, Names}
 use Rattle.m161_dis.specs.declared.naming.Style.{Style}
 use Rattle.m161_dis.specs.Canon.{canon_with}
 use Rattle.m161_symbols.specs.Names.{place_behind}
@@ -7,7 +10,6 @@ use Rattle.m161_cop0.specs.Registers.{name_of_register, number_of_exception}
 use Rattle.m161_bus.specs.declared.register.BoardWord.{BoardWord}
 use Rattle.m161_bus.specs.declared.register.BoardWord.TheVariants as words
 use Rattle.m161_cpu.specs.declared.processor.Outcome.{Outcome}
-use Rattle.m161_cpu.specs.declared.processor.Outcome.TheVariants as outcomes
 use Rattle.m161_cpu.specs.declared.processor.ProcessorState.{ProcessorState}
 use Rattle.m161_cpu.specs.declared.processor.ProcessorState.TheVariants as states
 use Rattle.m161_machine.specs.declared.event.Event.{Event}
@@ -36,33 +38,38 @@ place_text (words.Cirqe c) = codes "cirqe" ␣ decimal c
 place_text (words.Cipi c) = codes "cipi" ␣ decimal c
 place_text (words.Cram c k) = codes "cram" ␣ decimal c ␣ decimal k
 
-abbrev pub item_text : Item → List ℕ
-item_text (doing state) = codes "state=" ++ state_text state
-item_text (register r word) = value_text (codes "r" ++ decimal r) word
-item_text (hi word) = value_text (codes "hi") word
-item_text (lo word) = value_text (codes "lo") word
-item_text (control r word) = value_text (name_of_register r) word
-item_text (row i high low) = value_text (codes "tlb" ␣ decimal i) high ␣ word_text low
-item_text (stored at word) = codes "[" ++ word_text at ++ codes "]=" ++ word_text word
-item_text (linked word) = value_text (codes "link") word
-item_text (unlinked q) = codes "unlink" ␣ decimal q
-item_text (latched byte) = codes "latch=" ++ hex_text 2 byte
-item_text (waiting n) = codes "waiting=" ++ decimal n
-item_text (board place word) = value_text (place_text place) word
-item_text (trapped code vector) = codes "trap" ␣ decimal (number_of_exception code) ␣ word_text vector
-item_text idle = codes "idle"
-item_text off = codes "off"
-item_text (conflict i j) = codes "conflict" ␣ decimal i ␣ decimal j
-item_text (starts q) = codes "starts" ␣ decimal q
+-- a general register: r and its number, or its name
+abbrev pub register_label : Naming → ℕ → List ℕ
+register_label Numbers r = codes "r" ++ decimal r
+register_label Names r = slice_index_or register_names r []
+
+abbrev pub item_text : Naming → Item → List ℕ
+item_text naming (doing state) = codes "state=" ++ state_text state
+item_text naming (register r word) = value_text (register_label naming r) word
+item_text naming (hi word) = value_text (codes "hi") word
+item_text naming (lo word) = value_text (codes "lo") word
+item_text naming (control r word) = value_text (name_of_register r) word
+item_text naming (row i high low) = value_text (codes "tlb" ␣ decimal i) high ␣ word_text low
+item_text naming (stored at word) = codes "[" ++ word_text at ++ codes "]=" ++ word_text word
+item_text naming (linked word) = value_text (codes "link") word
+item_text naming (unlinked q) = codes "unlink" ␣ decimal q
+item_text naming (latched byte) = codes "latch=" ++ hex_text 2 byte
+item_text naming (waiting n) = codes "waiting=" ++ decimal n
+item_text naming (board place word) = value_text (place_text place) word
+item_text naming (trapped code vector) = codes "trap" ␣ decimal (number_of_exception code) ␣ word_text vector
+item_text naming idle = codes "idle"
+item_text naming off = codes "off"
+item_text naming (conflict i j) = codes "conflict" ␣ decimal i ␣ decimal j
+item_text naming (starts q) = codes "starts" ␣ decimal q
 
 -- items, a space before each
-unfoldable pub spaced : List Item → List ℕ
-spaced is = flat_map (λ i. 32 ∷ item_text i) is
+unfoldable pub spaced : Naming → List Item → List ℕ
+spaced naming is = flat_map (λ i. 32 ∷ item_text naming i) is
 
 -- items behind a line's beginning: two spaces before the first, and one between two
-abbrev pub behind : List Item → List ℕ
-behind [] = []
-behind (i ∷ is) = 32 ∷ spaced (i ∷ is)
+abbrev pub behind : Naming → List Item → List ℕ
+behind naming [] = []
+behind naming (i ∷ is) = 32 ∷ spaced naming (i ∷ is)
 
 -- the address of an instruction with its place behind it
 abbrev pub address_text : Style → ℕ → List ℕ
@@ -79,7 +86,7 @@ step_head style number p s o =
     ␣ instruction_text style (processor_at p s.processors).pc (fetched p s o)
 
 unfoldable pub step_line : Style → ℕ → ℕ → State → Outcome → State → List ℕ
-step_line style number p s o t = step_head style number p s o ++ behind (items p s o t)
+step_line style number p s o t = step_head style number p s o ++ behind style.registers (items p s o t)
 
 -- the line of an event, without its end, by the state before it, its outcome and the state after it
 unfoldable pub event_line : Style → ℕ → Event → State → Outcome → State → List ℕ

@@ -10,7 +10,7 @@
 //!
 //! Items, in this order, each where it differs from before the Step; words have eight digits:
 //! state=waiting             what the processor is doing
-//! r1= .. r31= hi= lo=       its registers
+//! r1= .. r31= hi= lo=       its registers: at= .. ra= for r1= .. r31= where the style names them
 //! index= entrylo= context= badvaddr= entryhi= compare= status= cause= epc=
 //! tlb 53=00400140 00005600  a row of its TLB, as the words in EntryHi and EntryLo
 //! [00003000]=00005600       the word of RAM that the Step stored to, also if it has the same value

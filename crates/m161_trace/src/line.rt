@@ -2,6 +2,7 @@
 
 ghost use Rattle.std.specs.Prelude.{◌≡◌, ◌⊎◌, ◌<◌, ◌++◌, List, None, Ok, OnOk, codes, decimal, false, if◌then◌else◌, is_some, length, string_bytes, true};
 ghost use Rattle.m161_cpu.specs.Fetch.{fetched_word};
+ghost use Rattle.m161_dis.specs.declared.naming.Naming.{Naming};
 ghost use Rattle.m161_machine.specs.declared.event.Event.TheVariants as events;
 ghost use Rattle.m161_machine.specs.Fetched.{fetches_none};
 ghost use Rattle.m161_machine.specs.State.{next, processor_at};
@@ -12,7 +13,7 @@ ghost use Rattle.m161_trace.specs.Line.{address_text, behind, event_line, instru
 ghost use Rattle.m161_text.specs.Lines.{with_line_end};
 ghost use Rattle.m161_trace.specs.helpers.Far.{is_far, is_far_found, is_far_word};
 ghost use Rattle.m161_trace.specs.helpers.Near.{IsNear};
-ghost use Rattle.m161_trace.specs.helpers.Adds.{Adds, AreAlike};
+ghost use Rattle.m161_trace.specs.helpers.Adds.{Adds, AddsIn, AreAlike};
 
 use crate::places::{add_common, add_places};
 use crate::processor::add_processor;
@@ -21,7 +22,7 @@ use crate::shared::{
 };
 use m161_bus::Console;
 use m161_decode::row_that_fits;
-use m161_dis::{Style, push_line_with};
+use m161_dis::{Naming, Style, push_line_with};
 use m161_isa::Effect;
 use m161_machine::{Core, Event, Outcome, fetches_none};
 use m161_symbols::push_place_behind;
@@ -92,6 +93,7 @@ fn is_far_step(fetch: Option<u32>, stored: Option<u32>) -> bool
 /// The items of a Step of processor `p`, which would fetch this word.
 pub(crate) fn add_items<T: Tlb, D: Console>(
     text: &mut String,
+    naming: Naming,
     p: u32,
     before: &Core<T, D>,
     fetch: Option<u32>,
@@ -103,13 +105,13 @@ pub(crate) fn add_items<T: Tlb, D: Console>(
     requires fetch { fetch ≡ fetched_word before.now.state.memory
         (processor_at p before.now.state.processors).pc
         (processor_at p before.now.state.processors) }
-    ensures { OnOk result (Adds (string_bytes text.old)
+    ensures { OnOk result (AddsIn naming (string_bytes text.old)
         (items p before.now.state outcome after.now.state)
         (string_bytes text.new)) }
 {
     let stored = before.uses(p).stored;
     let far = is_far_step(fetch, stored);
-    add_processor(text, p, before, after, far)?;
+    add_processor(text, naming, p, before, after, far)?;
     add_shared(text, p, before, after, stored, far)?;
     add_outcome(text, outcome)?;
     add_starts_of(text, before, after)
@@ -178,8 +180,8 @@ fn push_part(text: &mut String, part: &str) -> Result<(), AllocError>
 
 // Appends items to a line's beginning.
 fn push_items(text: &mut String, items: &str) -> Result<(), AllocError>
-    ensures { (is : List Item) → items.now ≡ spaced is
-        → OnOk result (string_bytes text.new ≡ string_bytes text.old ++ behind is) }
+    ensures { (naming : Naming) (is : List Item) → items.now ≡ spaced naming is
+        → OnOk result (string_bytes text.new ≡ string_bytes text.old ++ behind naming is) }
 {
     if items.len() == 0 {
         return Ok(());
@@ -228,6 +230,7 @@ fn push_head<T: Tlb, D: Console>(
 // Writes the items of a Step of processor `p`, which would fetch this word, into a text.
 fn fill_items<T: Tlb, D: Console>(
     text: &mut String,
+    naming: Naming,
     p: u32,
     before: &Core<T, D>,
     fetch: Option<u32>,
@@ -240,10 +243,10 @@ fn fill_items<T: Tlb, D: Console>(
         (processor_at p before.now.state.processors).pc
         (processor_at p before.now.state.processors) }
     ensures { OnOk result (string_bytes text.new
-        ≡ spaced (items p before.now.state outcome after.now.state)) }
+        ≡ spaced naming (items p before.now.state outcome after.now.state)) }
 {
     text.clear();
-    add_items(text, p, before, fetch, outcome, after)
+    add_items(text, naming, p, before, fetch, outcome, after)
 }
 
 // Appends the line of a Step of processor `p`, without its end.
@@ -263,7 +266,7 @@ fn push_step_line<T: Tlb, D: Console>(
 {
     let fetch = fetch_of(p, before);
     push_head(text, style, number, p, before, fetch, outcome)?;
-    fill_items(items, p, before, fetch, outcome, after)?;
+    fill_items(items, style.registers, p, before, fetch, outcome, after)?;
     push_items(text, items.as_str())
 }
 

@@ -4,12 +4,12 @@ ghost use Rattle.std.specs.Prelude.{◌≡◌, ◌<◌, ◌==◌, ◌&&◌, OnOk
 ghost use Rattle.m161_machine.specs.State.{processor_at};
 ghost use Rattle.m161_tlb.specs.Row.{hi_word, lo_word};
 ghost use Rattle.m161_trace.specs.Items.{changed, control, control_item, control_items, hi, hi_lo_items, lo, processor_items, register, register_item, register_items, row, row_item, row_item_of, row_items, same_state, shown_registers, state_items};
-ghost use Rattle.m161_trace.specs.Line.{item_text};
-ghost use Rattle.m161_trace.specs.helpers.Adds.{Adds, AddsPart, Have};
+ghost use Rattle.m161_trace.specs.helpers.Adds.{Adds, AddsIn, AddsItem, Have};
 ghost use Rattle.m161_trace.specs.helpers.Near.{IsNear};
 
 use crate::text::{push_control, push_doing, push_hi, push_lo, push_register, push_row};
 use m161_bus::Console;
+use m161_dis::Naming;
 use m161_machine::{Core, ProcessorState, Reg, Register, Row};
 use m161_tlb::Tlb;
 use std::alloc::AllocError;
@@ -71,19 +71,27 @@ fn add_state_of<T: Tlb, D: Console>(
 }
 
 // A register, if it changed.
-fn add_changed_register(text: &mut String, r: u8, before: u32, after: u32) -> Result<(), AllocError>
-    ensures { OnOk result (Adds (string_bytes text.old) (changed before after (register r after))
+fn add_changed_register(
+    text: &mut String,
+    naming: Naming,
+    r: u8,
+    before: u32,
+    after: u32,
+) -> Result<(), AllocError>
+    requires { r < 32 }
+    ensures { OnOk result (AddsIn naming (string_bytes text.old) (changed before after (register r after))
         (string_bytes text.new)) }
 {
     if before == after {
         return Ok(());
     }
-    push_register(text, r, after)
+    push_register(text, naming, r, after)
 }
 
 // Register `r` of the two states.
 fn add_register<T: Tlb, D: Console>(
     text: &mut String,
+    naming: Naming,
     p: u32,
     before: &Core<T, D>,
     after: &Core<T, D>,
@@ -91,30 +99,37 @@ fn add_register<T: Tlb, D: Console>(
 ) -> Result<(), AllocError>
     requires have { Have p before.now.state after.now.state }
     requires register { r < 32 }
-    ensures { OnOk result (Adds (string_bytes text.old)
+    ensures { OnOk result (AddsIn naming (string_bytes text.old)
         (register_item (processor_at p before.now.state.processors)
         (processor_at p after.now.state.processors) r)
         (string_bytes text.new)) }
 {
     let register = Reg::new(r);
-    add_changed_register(text, r, before.reg(p, register), after.reg(p, register))
+    add_changed_register(
+        text,
+        naming,
+        r,
+        before.reg(p, register),
+        after.reg(p, register),
+    )
 }
 
 // The general registers that changed.
 fn add_registers<T: Tlb, D: Console>(
     text: &mut String,
+    naming: Naming,
     p: u32,
     before: &Core<T, D>,
     after: &Core<T, D>,
 ) -> Result<(), AllocError>
     requires { Have p before.now.state after.now.state }
-    ensures { OnOk result (Adds (string_bytes text.old)
+    ensures { OnOk result (AddsIn naming (string_bytes text.old)
         (register_items (processor_at p before.now.state.processors)
         (processor_at p after.now.state.processors))
         (string_bytes text.new)) }
 {
     for r in 1..32u8 {
-        add_register(text, p, before, after, r)?;
+        add_register(text, naming, p, before, after, r)?;
     }
     Ok(())
 }
@@ -258,8 +273,8 @@ fn same_row(before: &Row, after: &Row) -> bool
 
 // Row `i`, as its words.
 fn push_row_words(text: &mut String, i: u8, words: &Row) -> Result<(), AllocError>
-    ensures { OnOk result (AddsPart (string_bytes text.old)
-        (item_text (row i (hi_word words.now) (lo_word words.now)))
+    ensures { OnOk result (AddsItem (string_bytes text.old)
+        (row i (hi_word words.now) (lo_word words.now))
         (string_bytes text.new)) }
 {
     push_row(text, i, words.entry_hi(), words.entry_lo())
@@ -340,6 +355,7 @@ fn add_rows_if<T: Tlb, D: Console>(
 /// can have changed.
 pub(crate) fn add_processor<T: Tlb, D: Console>(
     text: &mut String,
+    naming: Naming,
     p: u32,
     before: &Core<T, D>,
     after: &Core<T, D>,
@@ -347,12 +363,12 @@ pub(crate) fn add_processor<T: Tlb, D: Console>(
 ) -> Result<(), AllocError>
     requires have { Have p before.now.state after.now.state }
     requires near { far ≡ false → IsNear p before.now.state after.now.state }
-    ensures { OnOk result (Adds (string_bytes text.old)
+    ensures { OnOk result (AddsIn naming (string_bytes text.old)
         (processor_items p before.now.state after.now.state)
         (string_bytes text.new)) }
 {
     add_state_of(text, p, before, after)?;
-    add_registers(text, p, before, after)?;
+    add_registers(text, naming, p, before, after)?;
     add_hi_lo(text, p, before, after)?;
     add_controls(text, p, before, after)?;
     add_rows_if(text, p, before, after, far)

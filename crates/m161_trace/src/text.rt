@@ -1,11 +1,14 @@
 //! Items as text, each behind a space.
 
-ghost use Rattle.std.specs.Prelude.{◌≡◌, ◌++◌, ◌∷◌, OnOk, codes, string_bytes};
+ghost use Rattle.std.specs.Prelude.{◌≡◌, ◌<◌, ◌++◌, ◌∷◌, [], OnOk, codes, slice_index_or, string_bytes};
+ghost use Rattle.m161_asm.specs.Tokens.{register_names};
 ghost use Rattle.m161_trace.specs.Items.{board, conflict, control, doing, hi, idle, latched, linked, lo, off, register, row, starts, stored, trapped, unlinked, waiting};
 ghost use Rattle.m161_text.specs.Parts.{word_text};
-ghost use Rattle.m161_trace.specs.Line.{item_text, place_text, value_text};
-ghost use Rattle.m161_trace.specs.helpers.Adds.{AddsPart};
+ghost use Rattle.m161_trace.specs.Line.{item_text, place_text, register_label, value_text};
+ghost use Rattle.m161_trace.specs.helpers.Adds.{AddsItem, AddsPart};
 
+use m161_asm::register_name;
+use m161_dis::Naming;
 use m161_machine::{BoardWord, Exception, ProcessorState, Register};
 use m161_text::push_hex;
 use std::alloc::AllocError;
@@ -24,7 +27,7 @@ pub(crate) fn push_named(text: &mut String, name: &str, word: u32) -> Result<(),
 
 /// What the processor is doing.
 pub(crate) fn push_doing(text: &mut String, state: ProcessorState) -> Result<(), AllocError>
-    ensures { OnOk result (AddsPart (string_bytes text.old) (item_text (doing state))
+    ensures { OnOk result (AddsItem (string_bytes text.old) (doing state)
         (string_bytes text.new)) }
 {
     match state {
@@ -34,18 +37,48 @@ pub(crate) fn push_doing(text: &mut String, state: ProcessorState) -> Result<(),
     }
 }
 
-/// A general register.
-pub(crate) fn push_register(text: &mut String, r: u8, word: u32) -> Result<(), AllocError>
-    ensures { OnOk result (AddsPart (string_bytes text.old) (item_text (register r word))
+// The name of a general register.
+fn name_of(r: u8) -> &'static str
+    requires { r < 32 }
+    ensures { result.now ≡ slice_index_or register_names r [] }
+{
+    register_name(u32::from(r))
+}
+
+// A general register, without its word.
+fn push_label(text: &mut String, naming: Naming, r: u8) -> Result<(), AllocError>
+    requires { r < 32 }
+    ensures { OnOk result (AddsPart (string_bytes text.old) (register_label naming r)
         (string_bytes text.new)) }
 {
-    write!(text, " r{r}=")?;
+    match naming {
+        Naming::Numbers => write!(text, " r{r}"),
+        Naming::Names => {
+            text.push(' ')?;
+            text.push_str(name_of(r))
+        }
+    }
+}
+
+/// A general register.
+pub(crate) fn push_register(
+    text: &mut String,
+    naming: Naming,
+    r: u8,
+    word: u32,
+) -> Result<(), AllocError>
+    requires { r < 32 }
+    ensures { OnOk result (AddsPart (string_bytes text.old) (item_text naming (register r word))
+        (string_bytes text.new)) }
+{
+    push_label(text, naming, r)?;
+    text.push('=')?;
     push_hex(text, 8, word)
 }
 
 /// HI.
 pub(crate) fn push_hi(text: &mut String, word: u32) -> Result<(), AllocError>
-    ensures { OnOk result (AddsPart (string_bytes text.old) (item_text (hi word))
+    ensures { OnOk result (AddsItem (string_bytes text.old) (hi word)
         (string_bytes text.new)) }
 {
     push_named(text, "hi", word)
@@ -53,7 +86,7 @@ pub(crate) fn push_hi(text: &mut String, word: u32) -> Result<(), AllocError>
 
 /// LO.
 pub(crate) fn push_lo(text: &mut String, word: u32) -> Result<(), AllocError>
-    ensures { OnOk result (AddsPart (string_bytes text.old) (item_text (lo word))
+    ensures { OnOk result (AddsItem (string_bytes text.old) (lo word)
         (string_bytes text.new)) }
 {
     push_named(text, "lo", word)
@@ -61,7 +94,7 @@ pub(crate) fn push_lo(text: &mut String, word: u32) -> Result<(), AllocError>
 
 /// A register of coprocessor 0.
 pub(crate) fn push_control(text: &mut String, r: Register, word: u32) -> Result<(), AllocError>
-    ensures { OnOk result (AddsPart (string_bytes text.old) (item_text (control r word))
+    ensures { OnOk result (AddsItem (string_bytes text.old) (control r word)
         (string_bytes text.new)) }
 {
     push_named(text, r.name(), word)
@@ -69,7 +102,7 @@ pub(crate) fn push_control(text: &mut String, r: Register, word: u32) -> Result<
 
 /// A row of the TLB, as its words in EntryHi and EntryLo.
 pub(crate) fn push_row(text: &mut String, i: u8, high: u32, low: u32) -> Result<(), AllocError>
-    ensures { OnOk result (AddsPart (string_bytes text.old) (item_text (row i high low))
+    ensures { OnOk result (AddsItem (string_bytes text.old) (row i high low)
         (string_bytes text.new)) }
 {
     write!(text, " tlb {i}=")?;
@@ -96,7 +129,7 @@ fn push_close(text: &mut String) -> Result<(), AllocError>
 
 /// A word of RAM that was stored to.
 pub(crate) fn push_stored(text: &mut String, at: u32, word: u32) -> Result<(), AllocError>
-    ensures { OnOk result (AddsPart (string_bytes text.old) (item_text (stored at word))
+    ensures { OnOk result (AddsItem (string_bytes text.old) (stored at word)
         (string_bytes text.new)) }
 {
     push_open(text, at)?;
@@ -106,7 +139,7 @@ pub(crate) fn push_stored(text: &mut String, at: u32, word: u32) -> Result<(), A
 
 /// The word that the link names.
 pub(crate) fn push_linked(text: &mut String, word: u32) -> Result<(), AllocError>
-    ensures { OnOk result (AddsPart (string_bytes text.old) (item_text (linked word))
+    ensures { OnOk result (AddsItem (string_bytes text.old) (linked word)
         (string_bytes text.new)) }
 {
     push_named(text, "link", word)
@@ -114,7 +147,7 @@ pub(crate) fn push_linked(text: &mut String, word: u32) -> Result<(), AllocError
 
 /// A processor whose link ended.
 pub(crate) fn push_unlinked(text: &mut String, q: u32) -> Result<(), AllocError>
-    ensures { OnOk result (AddsPart (string_bytes text.old) (item_text (unlinked q))
+    ensures { OnOk result (AddsItem (string_bytes text.old) (unlinked q)
         (string_bytes text.new)) }
 {
     write!(text, " unlink {q}")
@@ -122,7 +155,7 @@ pub(crate) fn push_unlinked(text: &mut String, q: u32) -> Result<(), AllocError>
 
 /// The byte in the console's latch.
 pub(crate) fn push_latched(text: &mut String, byte: u8) -> Result<(), AllocError>
-    ensures { OnOk result (AddsPart (string_bytes text.old) (item_text (latched byte))
+    ensures { OnOk result (AddsItem (string_bytes text.old) (latched byte)
         (string_bytes text.new)) }
 {
     text.push_str(" latch=")?;
@@ -131,7 +164,7 @@ pub(crate) fn push_latched(text: &mut String, byte: u8) -> Result<(), AllocError
 
 /// How many typed bytes wait.
 pub(crate) fn push_waiting(text: &mut String, n: u32) -> Result<(), AllocError>
-    ensures { OnOk result (AddsPart (string_bytes text.old) (item_text (waiting n))
+    ensures { OnOk result (AddsItem (string_bytes text.old) (waiting n)
         (string_bytes text.new)) }
 {
     write!(text, " waiting={n}")
@@ -155,7 +188,7 @@ fn push_place(text: &mut String, place: BoardWord) -> Result<(), AllocError>
 
 /// A word of the board.
 pub(crate) fn push_board(text: &mut String, place: BoardWord, word: u32) -> Result<(), AllocError>
-    ensures { OnOk result (AddsPart (string_bytes text.old) (item_text (board place word))
+    ensures { OnOk result (AddsItem (string_bytes text.old) (board place word)
         (string_bytes text.new)) }
 {
     push_place(text, place)?;
@@ -169,7 +202,7 @@ pub(crate) fn push_trapped(
     code: Exception,
     vector: u32,
 ) -> Result<(), AllocError>
-    ensures { OnOk result (AddsPart (string_bytes text.old) (item_text (trapped code vector))
+    ensures { OnOk result (AddsItem (string_bytes text.old) (trapped code vector)
         (string_bytes text.new)) }
 {
     write!(text, " trap {} ", code.number())?;
@@ -178,7 +211,7 @@ pub(crate) fn push_trapped(
 
 /// That the Step was idle.
 pub(crate) fn push_idle(text: &mut String) -> Result<(), AllocError>
-    ensures { OnOk result (AddsPart (string_bytes text.old) (item_text idle)
+    ensures { OnOk result (AddsItem (string_bytes text.old) idle
         (string_bytes text.new)) }
 {
     text.push_str(" idle")
@@ -186,7 +219,7 @@ pub(crate) fn push_idle(text: &mut String) -> Result<(), AllocError>
 
 /// That the Step switched the machine off.
 pub(crate) fn push_off(text: &mut String) -> Result<(), AllocError>
-    ensures { OnOk result (AddsPart (string_bytes text.old) (item_text off)
+    ensures { OnOk result (AddsItem (string_bytes text.old) off
         (string_bytes text.new)) }
 {
     text.push_str(" off")
@@ -195,7 +228,7 @@ pub(crate) fn push_off(text: &mut String) -> Result<(), AllocError>
 /// That the Step switched the machine off and left this row as it was, which would have overlapped
 /// the other one.
 pub(crate) fn push_conflict(text: &mut String, row: u8, other: u8) -> Result<(), AllocError>
-    ensures { OnOk result (AddsPart (string_bytes text.old) (item_text (conflict row other))
+    ensures { OnOk result (AddsItem (string_bytes text.old) (conflict row other)
         (string_bytes text.new)) }
 {
     write!(text, " conflict {row} {other}")
@@ -203,7 +236,7 @@ pub(crate) fn push_conflict(text: &mut String, row: u8, other: u8) -> Result<(),
 
 /// A processor that was started.
 pub(crate) fn push_starts(text: &mut String, q: u32) -> Result<(), AllocError>
-    ensures { OnOk result (AddsPart (string_bytes text.old) (item_text (starts q))
+    ensures { OnOk result (AddsItem (string_bytes text.old) (starts q)
         (string_bytes text.new)) }
 {
     write!(text, " starts {q}")

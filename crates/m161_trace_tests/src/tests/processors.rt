@@ -1,14 +1,14 @@
 //! What a Step changes of its processor.
 
 use super::same;
-use super::traced::{Run, lines_of, traced};
+use super::traced::{Run, lines_in, lines_of, traced};
 use m161_asm::assemble;
 use m161_elf_writer::write_with_symbols;
 use m161_machine::Event::{Key, Step};
 use m161_symbols::Symbols;
 use m161_test_support::files::IMAGE;
 use m161_trace::{Naming, Style};
-use std::alloc::AllocGlobal;
+use std::alloc::{AllocGlobal, Global};
 use std::test::Fail;
 
 /// The lines of the built-in image.
@@ -24,13 +24,13 @@ const DEMO: &str = "\
 
 /// The same with the registers' names.
 const NAMED: &str = "\
-0 0 80000200 3c081234 lui $t0, 0x1234  r8=12340000
-1 0 80000204 35085678 ori $t0, $t0, 0x5678  r8=12345678
-2 0 80000208 2409ffff addiu $t1, $zero, -1  r9=ffffffff
-3 0 8000020c 01095021 addu $t2, $t0, $t1  r10=12345677
-4 0 80000210 3c0b8000 lui $t3, 0x8000  r11=80000000
+0 0 80000200 3c081234 lui $t0, 0x1234  t0=12340000
+1 0 80000204 35085678 ori $t0, $t0, 0x5678  t0=12345678
+2 0 80000208 2409ffff addiu $t1, $zero, -1  t1=ffffffff
+3 0 8000020c 01095021 addu $t2, $t0, $t1  t2=12345677
+4 0 80000210 3c0b8000 lui $t3, 0x8000  t3=80000000
 5 0 80000214 ad6a0400 sw $t2, 1024($t3)  [00000400]=12345677
-6 0 80000218 8d6c0400 lw $t4, 1024($t3)  r12=12345677
+6 0 80000218 8d6c0400 lw $t4, 1024($t3)  t4=12345677
 ";
 
 /// A branch over a word to a `wait`.
@@ -64,6 +64,41 @@ const OF_REGISTERS: &str = "\
 2 0 80000208 01000011 mthi $8  hi=00000007
 3 0 8000020c 40885800 mtc0 $8, $11  compare=00000007
 4 0 80000210 ffffffff .word 0xffffffff  cause=00000028 epc=80000210 trap 10 80000080
+";
+
+/// The same with the registers' names, which hi, lo and the registers of coprocessor 0 have anyway.
+const NAMES_OF_REGISTERS: &str = "\
+0 0 80000200 34080007 ori $t0, $zero, 0x0007  t0=00000007
+1 0 80000204 01080018 mult $t0, $t0  lo=00000031
+2 0 80000208 01000011 mthi $t0  hi=00000007
+3 0 8000020c 40885800 mtc0 $t0, $11  compare=00000007
+4 0 80000210 ffffffff .word 0xffffffff  cause=00000028 epc=80000210 trap 10 80000080
+";
+
+/// The first, the last and another general register that a Step can change.
+static CALL: Run = Run {
+    words: &[
+        0x341d_1000, // ori $29, $0, 0x1000
+        0x0c00_0080, // jal 0x80000200
+        0x3401_0001, // ori $1, $0, 0x0001
+    ],
+    processors: 1,
+    strict: false,
+    events: &[(Step(0), 4)],
+};
+
+const OF_CALL: &str = "\
+0 0 80000200 341d1000 ori $29, $0, 0x1000  r29=00001000
+1 0 80000204 0c000080 jal 0x80000200  r31=8000020c
+2 0 80000208 34010001 ori $1, $0, 0x0001  r1=00000001
+3 0 80000200 341d1000 ori $29, $0, 0x1000
+";
+
+const NAMES_OF_CALL: &str = "\
+0 0 80000200 341d1000 ori $sp, $zero, 0x1000  sp=00001000
+1 0 80000204 0c000080 jal 0x80000200  ra=8000020c
+2 0 80000208 34010001 ori $at, $zero, 0x0001  at=00000001
+3 0 80000200 341d1000 ori $sp, $zero, 0x1000
 ";
 
 /// A fetch in user mode, from an address of the kernel's.
@@ -168,12 +203,17 @@ fn trace_demo(rt: HostRuntime) -> Result<(), Fail> {
     Ok(())
 }
 
+/// Registers by their names, and no symbols.
+fn by_names(alloc: Global) -> Style {
+    Style {
+        registers: Naming::Names,
+        symbols: Symbols::none(alloc),
+    }
+}
+
 #[test]
 fn trace_demo_by_names(rt: HostRuntime) -> Result<(), Fail> {
-    let style = Style {
-        registers: Naming::Names,
-        symbols: Symbols::none(rt.alloc()),
-    };
+    let style = by_names(rt.alloc());
     let text = traced(&rt, &IMAGE, 1, false, &[(Step(0), 7)], &style)?;
     same(&rt, text.as_str(), NAMED);
     Ok(())
@@ -196,6 +236,27 @@ fn trace_with_symbols(rt: HostRuntime) -> Result<(), Fail> {
 fn trace_registers(rt: HostRuntime) -> Result<(), Fail> {
     let text = lines_of(&rt, &REGISTERS)?;
     same(&rt, text.as_str(), OF_REGISTERS);
+    Ok(())
+}
+
+#[test]
+fn trace_registers_by_names(rt: HostRuntime) -> Result<(), Fail> {
+    let text = lines_in(&rt, &REGISTERS, &by_names(rt.alloc()))?;
+    same(&rt, text.as_str(), NAMES_OF_REGISTERS);
+    Ok(())
+}
+
+#[test]
+fn trace_call(rt: HostRuntime) -> Result<(), Fail> {
+    let text = lines_of(&rt, &CALL)?;
+    same(&rt, text.as_str(), OF_CALL);
+    Ok(())
+}
+
+#[test]
+fn trace_call_by_names(rt: HostRuntime) -> Result<(), Fail> {
+    let text = lines_in(&rt, &CALL, &by_names(rt.alloc()))?;
+    same(&rt, text.as_str(), NAMES_OF_CALL);
     Ok(())
 }
 

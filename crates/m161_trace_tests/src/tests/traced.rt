@@ -122,16 +122,20 @@ pub(crate) fn traced(
     Ok(text)
 }
 
-/// The lines of a run.
-pub(crate) fn lines_of(rt: &impl AllocGlobal, run: &Run) -> Result<String, Fail> {
+/// The lines of a run, in a style.
+pub(crate) fn lines_in(rt: &impl AllocGlobal, run: &Run, style: &Style) -> Result<String, Fail> {
     let file = file_from(rt.alloc(), ENTRY, ENTRY, run.words)?;
-    let style = Style::plain(rt.alloc());
     traced(
         rt,
         file.as_slice(),
         run.processors,
         run.strict,
         run.events,
-        &style,
+        style,
     )
+}
+
+/// The lines of a run.
+pub(crate) fn lines_of(rt: &impl AllocGlobal, run: &Run) -> Result<String, Fail> {
+    lines_in(rt, run, &Style::plain(rt.alloc()))
 }

@@ -6,7 +6,7 @@ use Rattle.m161_machine.specs.State.{processor_at}
 use Rattle.m161_trace.specs.Items.{items}
 use Rattle.m161_trace.specs.helpers.Far.{is_far_found}
 use Rattle.m161_trace.proofs.Near.{near}
-use Rattle.m161_trace.proofs.Spaced.{both, both_ok}
+use Rattle.m161_trace.proofs.Spaced.{both_in, both_in_ok}
 use Rattle.m161_trace.proofs.line.add_items.Goals as goal
 
 pub add_processor-requires-clause-near : goal.add_processor-requires-clause-near
@@ -25,4 +25,4 @@ add_shared-requires-clause-near g c = λ h.
 
 pub returns : goal.returns
 unfolding items
-returns g c = both_ok _ _ _ _ _ _ (both _ _ _ _ _ (both _ _ _ _ _ c.in_ok-add_processor.ensures c.in_ok-add_shared.ensures) c.in_ok-add_outcome.ensures) c.add_starts_of.ensures
+returns g c = both_in_ok _ c.args.naming _ _ _ _ _ (both_in c.args.naming _ _ _ _ _ (both_in c.args.naming _ _ _ _ _ c.in_ok-add_processor.ensures (c.in_ok-add_shared.ensures c.args.naming)) (c.in_ok-add_outcome.ensures c.args.naming)) c.add_starts_of.ensures

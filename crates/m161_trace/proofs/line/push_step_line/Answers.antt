@@ -18,4 +18,4 @@ pub returns : goal.returns
 unfolding step_line
 returns g c =
     appended_ok _ _ _ _ _ _ c.in_ok-push_head.ensures
-    (c.push_items.ensures (items c.args.p c.args.before.now.state c.args.outcome c.args.after.now.state) (c.as_str.ensures.value ∙ c.in_ok-fill_items.ensures))
+    (c.push_items.ensures c.args.style.now.registers (items c.args.p c.args.before.now.state c.args.outcome c.args.after.now.state) (c.as_str.ensures.value ∙ c.in_ok-fill_items.ensures))

@@ -18,4 +18,4 @@ pub returns : goal.returns
 returns g c =
     let item : ℕ → List Item = crams_of c.args.before.now.state.board c.args.after.now.state.board in
     let whole : c.loop-c.c ≡ c.args.n = omega arith in
-    c.loop-c.invariant ∙ ap (λ n. string_bytes c.args.text.now ++ spaced (each 0 n item)) whole
+    λ naming. c.loop-c.invariant naming ∙ ap (λ n. string_bytes c.args.text.now ++ spaced naming (each 0 n item)) whole

@@ -24,4 +24,4 @@ unfolding control_items
 returns g c =
     let item : Register → List Item = control_item c.args.p c.args.before.now.state c.args.after.now.state in
     let whole : c.loop-i.i ≡ 9 = omega arith in
-    c.loop-i.invariant ∙ ap (λ n. string_bytes c.args.text.now ++ spaced (flat_map item (take n shown_registers))) whole
+    λ naming. c.loop-i.invariant naming ∙ ap (λ n. string_bytes c.args.text.now ++ spaced naming (flat_map item (take n shown_registers))) whole

@@ -19,4 +19,4 @@ unfolding row_items
 returns g c =
     let item : ℕ → List Item = row_item (processor_at c.args.p c.args.before.now.state.processors).rows (processor_at c.args.p c.args.after.now.state.processors).rows in
     let whole : c.loop-i.i ≡ 64 = omega arith in
-    c.loop-i.invariant ∙ ap (λ n. string_bytes c.args.text.now ++ spaced (each 0 n item)) whole
+    λ naming. c.loop-i.invariant naming ∙ ap (λ n. string_bytes c.args.text.now ++ spaced naming (each 0 n item)) whole

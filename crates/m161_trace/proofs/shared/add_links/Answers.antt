@@ -7,7 +7,7 @@ use Rattle.m161_trace.proofs.Spaced.{each_more, grown}
 use Rattle.m161_trace.proofs.shared.add_links.Goals as goal
 
 pub loop-q-init : goal.loop-q-init
-loop-q-init g c = c.in_ok-add_own_link.ensures ∙ ap (λ is. string_bytes c.args.text.now ++ spaced is) (sym (append-nil _))
+loop-q-init g c = λ naming. c.in_ok-add_own_link.ensures naming ∙ ap (λ is. string_bytes c.args.text.now ++ spaced naming is) (sym (append-nil _))
 
 pub loop-q-preserved : goal.loop-q-preserved
 loop-q-preserved g c =
@@ -23,4 +23,4 @@ returns g c =
     let first = linked_items (slice_index_or c.args.before.now.state.links.live c.args.p None) (slice_index_or c.args.after.now.state.links.live c.args.p None) in
     let item : ℕ → List Item = unlinked_item c.args.before.now.state.links.live c.args.after.now.state.links.live in
     let whole : c.loop-q.q ≡ length c.args.before.now.state.processors = omega (arith, c.processors-q-end.ensures) in
-    c.loop-q.invariant ∙ ap (λ n. string_bytes c.args.text.now ++ spaced (first ++ each 0 n item)) whole
+    λ naming. c.loop-q.invariant naming ∙ ap (λ n. string_bytes c.args.text.now ++ spaced naming (first ++ each 0 n item)) whole

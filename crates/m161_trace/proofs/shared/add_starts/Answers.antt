@@ -18,4 +18,4 @@ unfolding start_items
 returns c =
     let item : ℕ → List Item = start_item c.args.before c.args.after in
     let whole : c.loop-q.q ≡ c.args.n = omega arith in
-    c.loop-q.invariant ∙ ap (λ n. string_bytes c.args.text.now ++ spaced (each 0 n item)) whole
+    λ naming. c.loop-q.invariant naming ∙ ap (λ n. string_bytes c.args.text.now ++ spaced naming (each 0 n item)) whole
