@@ -1,5 +1,5 @@
-use Rattle.std.proofs.Common.{◌≡◌, ℕ, ◌+◌, ◌*◌, ◌<◌, ◌≤◌, suc, List, [], ◌∷◌, ◌++◌, length, refl, ap, sym, ◌∙◌, subst, arith, inl, inr, ◌⊎◌}
-use Rattle.std.specs.Prelude.{reverse, Some}
+use Rattle.std.proofs.Common.{◌≡◌, ℕ, ◌+◌, ◌*◌, ◌<◌, ◌≤◌, suc, List, [], ◌∷◌, ◌++◌, length, refl, ap, sym, ◌∙◌, arith, inl, inr, ◌⊎◌}
+use Rattle.std.specs.Prelude.{reverse}
 use Rattle.std.proofs.lemmas.Bool.{cases_order}
 use Rattle.std.proofs.lemmas.List.{get_or_append_left, get_or_push, length-reverse, length_push, reverse-reverse}
 use Rattle.m161_explore.specs.declared.graph.Node.{Node}
@@ -10,7 +10,7 @@ use Rattle.m161_explore.specs.Views.{AreAll, AreDifferent, HaveFewViews, HaveMor
 use Rattle.m161_explore.specs.helpers.Search.{IsMade, IsTrail, Searched, event_at, found_at, parent_at, time_of}
 use Rattle.m161_explore.proofs.Laws.{Laws}
 use Rattle.m161_explore.proofs.Order.{AreBelow, rank, rank-before, rank-turned, rank_from, times_less}
-use Rattle.m161_explore.proofs.Runs.{AreOrdered, IsCovered, all_tried, are_ordered, before_tried, below, below_turned, has_trail, is_covered, rank_turned_less, time_parts, trail_below, trail_leads, turned, turned_back}
+use Rattle.m161_explore.proofs.Runs.{AreOrdered, all_tried, are_ordered, before_tried, below, below_turned, has_trail, is_covered, rank_turned_less, time_parts, trail_below, trail_leads, turned, turned_back}
 use Rattle.m161_explore.proofs.Steps.{split_place}
 
 -- How many views there are.

@@ -4,7 +4,7 @@ use Rattle.std.proofs.lemmas.Bool.{cases_order, cases_Bool}
 use Rattle.m161_explore.specs.declared.graph.Node.{Node}
 use Rattle.m161_explore.specs.helpers.Ends.{flag_at, LinksLead, Spreads, IsSettled}
 use Rattle.m161_explore.specs.Rules.{Rules}
-use Rattle.m161_explore.specs.Lists.{CanEnd, ComesBefore, IsFirst, IsHung, Leads}
+use Rattle.m161_explore.specs.Lists.{CanEnd, IsFirst, IsHung, Leads}
 use Rattle.m161_explore.specs.Views.{view_at}
 use Rattle.m161_explore.specs.helpers.Search.{Searched, Linked, LinksTo, link_at, time_of, IsTrail}
 use Rattle.m161_explore.specs.helpers.Visit.{IsBefore, AreEnds}

@@ -5,7 +5,7 @@ use Rattle.m161_explore.specs.declared.graph.Node.{Node}
 use Rattle.std.proofs.lemmas.Grind.{reverse_onto}
 use Rattle.m161_explore.specs.helpers.Ends.{flag_at, Spreads, IsSettled}
 use Rattle.m161_explore.specs.Rules.{Rules}
-use Rattle.m161_explore.specs.Lists.{IsFirst, IsHung}
+use Rattle.m161_explore.specs.Lists.{HasStop}
 use Rattle.m161_explore.specs.Answers.{IsClean, IsFound, IsHungFirst, IsJudged, IsOpen}
 use Rattle.m161_explore.specs.Views.{view_at}
 use Rattle.m161_explore.specs.helpers.Search.{Searched, time_of, IsTrail, AreEarlier, root}
@@ -13,7 +13,7 @@ use Rattle.m161_explore.specs.declared.search.Outcome.{Outcome}
 use Rattle.m161_explore.specs.declared.search.Outcome.TheVariants.{TooMany, WrongFrom}
 use Rattle.m161_explore.specs.helpers.Visit.{IsBefore, AreEnds, Finds}
 use Rattle.m161_explore.proofs.Laws.{Laws}
-use Rattle.m161_explore.proofs.Runs.{none_judged}
+use Rattle.m161_explore.proofs.Runs.{none_judged, none_stopped}
 use Rattle.m161_explore.proofs.Steps.{begins, split_place}
 use Rattle.m161_explore.proofs.Ending.{can_always_end, is_first_hung}
 use Rattle.m161_explore.proofs.Counting.{count_all}
@@ -42,6 +42,11 @@ never_judged : {S V R : Type 0} (r : Rules S V R) (is_valid : S → Type 0) (key
 never_judged r is_valid keys nodes links laws before es judged =
     none_judged r is_valid keys nodes (time_of r.width (length keys) 0) laws before.searched (omega arith) es judged
 
+never_stopped : {S V R : Type 0} (r : Rules S V R) (is_valid : S → Type 0) (keys : List (List ℕ)) (nodes : List Node) (links : List ℕ) → Laws r is_valid → IsBefore r is_valid keys nodes links (length keys) →
+    (es : List ℕ) (reason : R) → HasStop r es reason → ⊥
+never_stopped r is_valid keys nodes links laws before es reason stop =
+    none_stopped r is_valid keys nodes (time_of r.width (length keys) 0) laws before.searched (omega arith) es reason stop
+
 -- all states were found, and each can end
 pub is_clean : {S V R : Type 0} (r : Rules S V R) (is_valid : S → Type 0) (keys : List (List ℕ)) (nodes : List Node) (links : List ℕ) (ends flags : List Bool) (states : ℕ) → Laws r is_valid → IsBefore r is_valid keys nodes links (length keys) →
     AreEnds r is_valid keys ends → Spreads r.width links ends flags →
@@ -50,6 +55,7 @@ is_clean r is_valid keys nodes links ends flags states laws before are_ends spre
     let P : ℕ → Type 0 = λ x. IsClean r x in
     subst P (sym is_states) (record {
       no_verdict = λ es judged. never_judged r is_valid keys nodes links laws before es judged;
+      no_stop = λ es reason stop. never_stopped r is_valid keys nodes links laws before es reason stop;
       can_end = λ es t leads. can_always_end r is_valid keys nodes links ends flags laws before are_ends spreads all es t leads;
       count = count_all r is_valid keys nodes (time_of r.width (length keys) 0) laws before.searched (omega arith);
     })
@@ -92,6 +98,7 @@ hung_path r is_valid keys nodes nodes2 links ends flags i states path trail laws
     let W : List ℕ → Type 0 = λ x. IsHungFirst r x (length keys) in
     subst Q (sym is_states) (subst W (sym e) (record {
       no_verdict = λ es judged. never_judged r is_valid keys nodes links laws before es judged;
+      no_stop = λ es reason stop. never_stopped r is_valid keys nodes links laws before es reason stop;
       first = is_first_hung r is_valid keys nodes links ends flags i trail laws before are_ends spreads settled within off earlier (subst P same t);
       count = count_all r is_valid keys nodes (time_of r.width (length keys) 0) laws before.searched (omega arith);
     }))

@@ -1,4 +1,4 @@
-use Rattle.std.proofs.Common.{◌≡◌, ℕ, List, sym, ◌∙◌}
+use Rattle.std.proofs.Common.{◌≡◌, ℕ, sym, ◌∙◌}
 use Rattle.std.specs.Prelude.{None, Some}
 use Rattle.m161_explore.specs.Rules.{Rules}
 use Rattle.m161_explore.specs.helpers.Search.{IsClear}

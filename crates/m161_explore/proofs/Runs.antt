@@ -6,7 +6,7 @@ use Rattle.std.proofs.lemmas.List.{reverse-append, reverse-reverse}
 use Rattle.std.proofs.lemmas.Bool.{cases_order}
 use Rattle.m161_explore.specs.declared.graph.Node.{Node}
 use Rattle.m161_explore.specs.Rules.{Rules}
-use Rattle.m161_explore.specs.Lists.{ComesBefore, HasVerdict, IsFollowed, Leads}
+use Rattle.m161_explore.specs.Lists.{ComesBefore, HasStop, HasVerdict, IsFollowed, Leads}
 use Rattle.m161_explore.specs.Answers.{IsJudged}
 use Rattle.m161_explore.specs.Views.{view_at}
 use Rattle.m161_explore.specs.helpers.Search.{Searched, IsTrail, IsMade, IsClear, IsKnown, parent_at, event_at, found_at, time_of}
@@ -203,35 +203,47 @@ pub rank_turned_less : (n : ℕ) (es fs : List ℕ) → rank_from n 0 es < rank_
 rank_turned_less n es fs h =
     omega (arith, rank-turned n es [], rank-turned n (reverse fs) [], ap (λ x. rank n x) (reverse-reverse fs))
 
--- the last event of a list was tried, where the front of the list turned round leads to a state that was
--- found, and none of its events was tried later
-pub not_judged : {S V R : Type 0} (r : Rules S V R) (is_valid : S → Type 0) (keys : List (List ℕ)) (nodes : List Node) (now : ℕ) → Laws r is_valid → Searched r is_valid keys nodes now →
-    (P : List ℕ → Type 0) → IsTried r.width nodes (length keys) now P →
-    (es before : List ℕ) (last : ℕ) (s t : S) (what : V) → P (reverse es) → reverse es ≡ last ∷ reverse before → Leads r r.start before s → last < r.width →
-    r.next s last ≡ Some t → r.verdict s last ≡ Some what → ⊥
-not_judged {S} r is_valid keys nodes now laws searched P tried es before last s t what p is leads event next verdict =
-    let q : P (last ∷ reverse before) = subst P is p in
-    let c : IsCovered r is_valid keys nodes (reverse before) s =
-    is_covered r is_valid keys nodes now laws searched P tried (reverse before) s (tried.front last (reverse before) event q)
-    (turned r r.start s before [] r.start refl leads) in
-    let trail = has_trail r is_valid keys nodes now searched (suc c.place) c.place (omega arith) c.within in
-    let clear : IsClear r s last = searched.clear c.place last s c.within event
-    (tried.tried last (reverse before) trail.0 c.place event q c.within trail.1 (c.first trail.0 trail.1)) c.valid c.same in
-    let no : Some what ≡ None = sym verdict ∙ clear.1 t next in
-    absurd (cc)
-
--- a list with a verdict, turned round
+-- a list and an event behind it, turned round
 pub judged_turned : {S V R : Type 0} (r : Rules S V R) (es : List ℕ) (s : S) (e : ℕ) (f : IsFollowed r es s e) → reverse es ≡ e ∷ reverse f.before
 judged_turned r es s e f = ap (λ x. reverse x) f.is ∙ reverse_push f.before e
+
+-- the last event of a list was tried and is clear, where the list is one of those that are considered
+pub last_clear : {S V R : Type 0} (r : Rules S V R) (is_valid : S → Type 0) (keys : List (List ℕ)) (nodes : List Node) (now : ℕ) → Laws r is_valid → Searched r is_valid keys nodes now →
+    (P : List ℕ → Type 0) → IsTried r.width nodes (length keys) now P →
+    (es : List ℕ) (s : S) (last : ℕ) → P (reverse es) → IsFollowed r es s last → IsClear r s last
+last_clear {S} r is_valid keys nodes now laws searched P tried es s last p f =
+    let q : P (last ∷ reverse f.before) = subst P (judged_turned r es s last f) p in
+    let c : IsCovered r is_valid keys nodes (reverse f.before) s =
+    is_covered r is_valid keys nodes now laws searched P tried (reverse f.before) s (tried.front last (reverse f.before) f.event q)
+    (turned r r.start s f.before [] r.start refl f.leads) in
+    let trail = has_trail r is_valid keys nodes now searched (suc c.place) c.place (omega arith) c.within in
+    searched.clear c.place last s c.within f.event
+    (tried.tried last (reverse f.before) trail.0 c.place f.event q c.within trail.1 (c.first trail.0 trail.1)) c.valid c.same
+
+-- a list whose last event is clear has no verdict
+pub clear_not_judged : {S V R : Type 0} (r : Rules S V R) (es : List ℕ) (what : V) (v : HasVerdict r es what) → IsClear r v.from v.last → ⊥
+clear_not_judged r es what v clear =
+    let no : Some what ≡ None = sym v.verdict ∙ clear.1 v.to v.accepted in absurd (cc)
+
+-- nor does the system stop at it
+pub clear_not_stopped : {S V R : Type 0} (r : Rules S V R) (es : List ℕ) (reason : R) (h : HasStop r es reason) → IsClear r h.from h.last → ⊥
+clear_not_stopped r es reason h clear =
+    let no : Some reason ≡ None = sym h.stop ∙ clear.0 in absurd (cc)
 
 -- no list has a verdict, once all events of all states were tried
 pub none_judged : {S V R : Type 0} (r : Rules S V R) (is_valid : S → Type 0) (keys : List (List ℕ)) (nodes : List Node) (now : ℕ) → Laws r is_valid → Searched r is_valid keys nodes now →
     r.width * length keys ≤ now → (es : List ℕ) → IsJudged r es → ⊥
 none_judged r is_valid keys nodes now laws s h es judged =
     let v : HasVerdict r es judged.0 = judged.1 in
-    let f : IsFollowed r es v.from v.last = v.followed in
-    not_judged r is_valid keys nodes now laws s (λ es. Unit {0}) (all_tried r.width nodes (length keys) now h) es f.before v.last v.from v.to judged.0
-    tt (judged_turned r es v.from v.last f) f.leads f.event v.accepted v.verdict
+    clear_not_judged r es judged.0 v
+    (last_clear r is_valid keys nodes now laws s (λ es. Unit {0}) (all_tried r.width nodes (length keys) now h) es v.from v.last tt v.followed)
+
+-- and the system stops at none
+pub none_stopped : {S V R : Type 0} (r : Rules S V R) (is_valid : S → Type 0) (keys : List (List ℕ)) (nodes : List Node) (now : ℕ) → Laws r is_valid → Searched r is_valid keys nodes now →
+    r.width * length keys ≤ now → (es : List ℕ) (reason : R) → HasStop r es reason → ⊥
+none_stopped r is_valid keys nodes now laws s h es reason stop =
+    clear_not_stopped r es reason stop
+    (last_clear r is_valid keys nodes now laws s (λ es. Unit {0}) (all_tried r.width nodes (length keys) now h) es stop.from stop.last tt stop.followed)
 
 -- the events of a list that an event follows are below the width
 pub followed_below : {S V R : Type 0} (r : Rules S V R) (es : List ℕ) (s : S) (e : ℕ) → IsFollowed r es s e → AreBelow r.width es
@@ -250,9 +262,9 @@ none_judged_before r is_valid keys nodes i e trail laws w h within searched es j
     let tail = trail_below r is_valid keys nodes now laws searched trail i h in
     let b = rank-before r.width es (reverse (e ∷ trail)) (followed_below r es v.from v.last f) (below_turned r.width (e ∷ trail) (w, tail)) before in
     let lower : rank r.width (reverse es) < rank r.width (e ∷ trail) = rank_turned_less r.width es (e ∷ trail) b in
-    not_judged r is_valid keys nodes now laws searched (λ es. rank r.width es < rank r.width (e ∷ trail))
-    (before_tried r is_valid keys nodes i e trail w h searched) es f.before v.last v.from v.to judged.0
-    lower (judged_turned r es v.from v.last f) f.leads f.event v.accepted v.verdict
+    clear_not_judged r es judged.0 v
+    (last_clear r is_valid keys nodes now laws searched (λ es. rank r.width es < rank r.width (e ∷ trail))
+    (before_tried r is_valid keys nodes i e trail w h searched) es v.from v.last lower v.followed)
 
 -- the trail of a state, and an event behind it, as a list
 pub followed : {S V R : Type 0} (r : Rules S V R) (is_valid : S → Type 0) (keys : List (List ℕ)) (nodes : List Node) (i e now : ℕ) (trail : List ℕ) → Laws r is_valid →

@@ -1,12 +1,12 @@
-use Rattle.std.proofs.Common.{◌≡◌, ℕ, ◌+◌, ◌<◌, ◌≤◌, suc, List, [], ◌∷◌, ◌++◌, length, refl, ap, sym, ◌∙◌, subst, arith}
+use Rattle.std.proofs.Common.{◌≡◌, ℕ, ◌+◌, ◌<◌, ◌≤◌, suc, List, [], ◌∷◌, ◌++◌, length, refl, sym, ◌∙◌, subst, arith}
 use Rattle.std.specs.Prelude.{Option, Some, None, reverse}
 use Rattle.std.proofs.lemmas.List.{length_push, get_or_push, get_or_append_left}
 use Rattle.m161_explore.specs.declared.graph.Node.{Node}
 use Rattle.m161_explore.specs.declared.system.Advanced.{Advanced}
 use Rattle.m161_explore.specs.declared.system.Advanced.TheVariants.{Refused, Passed, Judged, Stopped}
 use Rattle.m161_explore.specs.Rules.{Advances, Rules}
-use Rattle.m161_explore.specs.Lists.{ComesBefore, HasVerdict, IsFollowed, Leads}
-use Rattle.m161_explore.specs.Answers.{IsFound, IsJudged, IsOpen, IsStopped}
+use Rattle.m161_explore.specs.Lists.{HasVerdict, Leads}
+use Rattle.m161_explore.specs.Answers.{IsFound, IsOpen, IsStopped}
 use Rattle.m161_explore.specs.Views.{view_at}
 use Rattle.m161_explore.specs.helpers.Search.{IsClear, IsTrail, Linked, LinksTo, Searched, time_of}
 use Rattle.m161_explore.specs.helpers.Visit.{HasPassed, IsAt}

@@ -1,4 +1,4 @@
-use Rattle.std.specs.Prelude.{◌≡◌, ℕ, ◌+◌, ◌≤◌, List, length}
+use Rattle.std.specs.Prelude.{ℕ, ◌+◌, ◌≤◌, List, length}
 use Rattle.m161_explore.specs.declared.whole.Answer.{Answer}
 use Rattle.m161_explore.specs.declared.whole.Answer.TheVariants.{Clean, Found, Hung, Open, Ended}
 use Rattle.m161_explore.specs.Rules.{Rules}
@@ -14,9 +14,11 @@ IsAny es = Unit {0}
 abbrev pub IsJudged : {S V R : Type 0} → Rules S V R → List ℕ → Type 0
 IsJudged {S} {V} r es = (what : V) × HasVerdict r es what
 
--- no list has a verdict, some events continue each to an end, and there are so many different views
+-- no list has a verdict, the system stops at none, some events continue each to an end, and there are so
+-- many different views
 pub record IsClean {S V R : Type 0} (r : Rules S V R) (states : ℕ) : Type 0 where
   pub no_verdict : (es : List ℕ) → IsJudged r es → ⊥
+  pub no_stop : (es : List ℕ) (reason : R) → HasStop r es reason → ⊥
   pub can_end : (es : List ℕ) (t : S) → Leads r r.start es t → CanEnd r t
   pub count : HaveViews r IsAny states
 
@@ -26,9 +28,11 @@ pub record IsFound {S V R : Type 0} (r : Rules S V R) (events : List ℕ) (what 
   pub first : IsFirst (IsJudged r) events
   pub count : HaveViews r (λ es. ComesBefore es events) states
 
--- no list has a verdict, this is the first that hangs, and there are so many different views
+-- no list has a verdict, the system stops at none, this is the first that hangs, and there are so many
+-- different views
 pub record IsHungFirst {S V R : Type 0} (r : Rules S V R) (events : List ℕ) (states : ℕ) : Type 0 where
   pub no_verdict : (es : List ℕ) → IsJudged r es → ⊥
+  pub no_stop : (es : List ℕ) (reason : R) → HasStop r es reason → ⊥
   pub first : IsFirst (IsHung r) events
   pub count : HaveViews r IsAny states
 

@@ -1,4 +1,4 @@
-use Rattle.std.proofs.Common.{◌≡◌, ℕ, ◌+◌, arith, refl}
+use Rattle.std.proofs.Common.{arith, refl}
 use Rattle.m161_explore.proofs.Spreading.{spread_one, unset-set}
 use Rattle.m161_explore.proofs.ends.spread.Goals as goal
 

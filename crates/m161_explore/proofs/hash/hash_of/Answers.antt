@@ -1,6 +1,6 @@
-use Rattle.std.proofs.Common.{add-one, ◌≡◌, ap, ◌∙◌}
+use Rattle.std.proofs.Common.{add-one, ap, ◌∙◌}
 use Rattle.std.specs.Prelude.{slice_index_or}
-use Rattle.m161_explore.specs.helpers.Keys.{hash_upto, mixed}
+use Rattle.m161_explore.specs.helpers.Keys.{mixed}
 use Rattle.m161_explore.proofs.hash.hash_of.Goals as goal
 
 pub loop-at-preserved : goal.loop-at-preserved

@@ -1,4 +1,4 @@
-use Rattle.std.proofs.Common.{◌+◌, ◌-◌, arith, length}
+use Rattle.std.proofs.Common.{arith}
 use Rattle.m161_explore.proofs.Parts.{length-parts}
 use Rattle.m161_explore.proofs.keys.find_in.Goals as goal
 

@@ -1,4 +1,4 @@
-use Rattle.std.proofs.Common.{◌+◌, ap, arith, length, length-set, refl, ◌∙◌}
+use Rattle.std.proofs.Common.{ap, arith, length, length-set, refl, ◌∙◌}
 use Rattle.m161_explore.specs.helpers.Keys.{bucket, parts}
 use Rattle.m161_explore.proofs.Chains.{linked_next}
 use Rattle.m161_explore.proofs.Parts.{length-parts}

@@ -1,4 +1,4 @@
-use Rattle.std.proofs.Common.{◌≡◌, ◌<◌, length}
+use Rattle.std.proofs.Common.{◌≡◌, length}
 use Rattle.m161_explore.specs.helpers.Keys.{AreLinked, parts}
 use Rattle.m161_explore.proofs.keys.relink.Given as goal
 

@@ -1,4 +1,4 @@
-use Rattle.std.proofs.Common.{◌≡◌, ◌∙◌}
+use Rattle.std.proofs.Common.{◌∙◌}
 use Rattle.m161_explore.specs.declared.system.Advanced.TheVariants.{Judged, Passed, Refused, Stopped}
 use Rattle.m161_explore.proofs.Laws.{Laws}
 use Rattle.m161_explore.proofs.Visits.{IsTried, advances_as, has_passed, held_key, judges, refuses, stops}

@@ -1,4 +1,4 @@
-use Rattle.std.proofs.Common.{◌≡◌, ℕ, ◌++◌, List, ap, arith, sym, ◌∙◌}
+use Rattle.std.proofs.Common.{◌≡◌, ℕ, ◌++◌, List, ap, arith, ◌∙◌}
 use Rattle.m161_explore.proofs.Judging.{begins_before, found_path, open_path}
 use Rattle.m161_explore.proofs.Laws.{Laws}
 use Rattle.m161_explore.proofs.whole.explore.Goals as goal

@@ -1,4 +1,4 @@
-use Rattle.std.proofs.Common.{◌≡◌, arith, ◌∙◌, refl}
+use Rattle.std.proofs.Common.{◌≡◌, arith, ◌∙◌}
 use Rattle.std.proofs.lemmas.List.{take_at}
 use Rattle.m161_explore.specs.helpers.Ends.{IsSettled, Spreads}
 use Rattle.m161_explore.proofs.Judging.{hung_path, is_clean, settled_at, spreads_at}
