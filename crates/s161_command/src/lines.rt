@@ -442,7 +442,7 @@ const NAMES: Argument = Argument {
     name: "names",
     kind: Kind::Flag,
     shown: "",
-    help: "Shows registers of instructions by their names: $t0 for $8",
+    help: "Shows registers by their names: $t0 for $8",
     default: None,
     required: false,
 };

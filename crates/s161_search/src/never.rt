@@ -2,13 +2,12 @@
 
 ghost use Rattle.std.specs.Prelude.{◌≡◌, ◌++◌, ◌∷◌, [], ℕ, IfErr, IfOk, OnOk, map};
 ghost use Rattle.m161_audit.specs.Watch.{AreGood};
-ghost use Rattle.s161_base.specs.declared.fault.Fault.TheVariants as faults;
 ghost use Rattle.m161_debug.specs.Commands.{IsPlace};
 ghost use Rattle.s161_search.specs.Never.{AreAddresses};
 ghost use Rattle.s161_search.specs.Seeds.{IsRunFault};
 ghost use Rattle.s161_search.specs.helpers.Begun.{BeginsAt};
 ghost use Rattle.s161_search.specs.helpers.Inputs.{given_of};
-ghost use Rattle.s161_search.specs.helpers.Never.{HasNever, IsNeverFault, IsWordFault};
+ghost use Rattle.s161_search.specs.helpers.Never.{HasNever, IsNeverFault, IsNoAddress, IsWordFault};
 
 use crate::audit::fault_of_audit;
 use crate::inputs::Inputs;
@@ -41,8 +40,7 @@ fn check_watches<'a>(
 // The address of a word.
 fn address_of<'a>(symbols: &Symbols, word: &'a str) -> Result<u32, Fault<'a>>
     ensures ok { IfOk result (λ address. IsPlace symbols.now address word.now) }
-    ensures err { IfErr result (λ fault. (fault ≡ faults.Never word)
-        × ((address : ℕ) → IsPlace symbols.now address word.now → ⊥)) }
+    ensures err { IfErr result (IsNoAddress symbols.now word.now) }
 {
     match address_of_word(symbols, word) {
         Some(address) => Ok(address),
@@ -88,8 +86,8 @@ pub(crate) fn with_never<'a>(
     inputs: Inputs,
 ) -> Result<Inputs, Fault<'a>>
     requires { BeginsAt task (given_of inputs) booted.now }
-    ensures ok { IfOk result (HasNever task.entry (map (λ word. word.now) words.now) (given_of inputs.entry)) }
-    ensures err { IfErr result (IsNeverFault task.entry (map (λ word. word.now) words.now) (given_of inputs.entry)) }
+    ensures ok { IfOk result (HasNever task.entry (map (λ word. word.now) words.now) (given_of inputs)) }
+    ensures err { IfErr result (IsNeverFault task.entry (map (λ word. word.now) words.now) (given_of inputs)) }
 {
     if words.is_empty() {
         return Ok(Inputs {

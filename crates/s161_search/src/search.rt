@@ -71,8 +71,8 @@ fn search_in<'a, R: Threads + Sync>(
     inputs: Inputs,
 ) -> Result<Finished, Fault<'a>>
     requires { HasClassLimits task.drive.order task.delays }
-    ensures ok { IfOk result (λ done. PrintsFor task.entry (map (λ word. word.now) never.now) (given_of inputs.entry) done.text.items done.status) }
-    ensures fault { IfErr result (IsNeverFault task.entry (map (λ word. word.now) never.now) (given_of inputs.entry)) }
+    ensures ok { IfOk result (λ done. PrintsFor task.entry (map (λ word. word.now) never.now) (given_of inputs) done.text.items done.status) }
+    ensures fault { IfErr result (IsNeverFault task.entry (map (λ word. word.now) never.now) (given_of inputs)) }
     ensures within { IfOk result (λ done. (done.status ≤ 5) × (done.status ≢ 2)) }
 {
     let booted = boot(alloc, task, &inputs)?;

@@ -1,4 +1,5 @@
 use Rattle.std.specs.Prelude.{◌≡◌, ℕ, List}
+use Rattle.m161_debug.specs.Commands.{IsPlace}
 use Rattle.s161_base.specs.declared.fault.Fault.{Fault}
 use Rattle.s161_base.specs.declared.fault.Fault.TheVariants.{Conf, Image, Memory, Never, Watch}
 use Rattle.s161_command.specs.declared.task.SearchTask.{SearchTask}
@@ -10,6 +11,12 @@ use Rattle.s161_search.specs.Seeds.{IsRunFault}
 use Rattle.s161_search.specs.helpers.Inputs.{given_of}
 
 -- What comes of the words that stand for addresses.
+
+-- a word stands for none
+abbrev pub IsNoAddress : List (List ℕ × ℕ) → List ℕ → Fault → Type 0
+IsNoAddress symbols word (Never other) =
+    (other.now ≡ word) × ((address : ℕ) → IsPlace symbols address word → ⊥)
+IsNoAddress symbols word _ = ⊥
 
 -- one of them stands for none; or memory was refused
 abbrev pub IsWordFault : List (List ℕ × ℕ) → List (List ℕ) → Fault → Type 0
