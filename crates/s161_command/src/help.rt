@@ -136,11 +136,11 @@ The events are those of run: a schedule from standard input, or chosen by an ord
   K k HH                    a byte is typed
   K o                       the console has sent its byte
 ITEMS are state=, r1= to r31= (with --names at= to ra=), hi=, lo=, the registers of coprocessor 0 by
-their names, tlb ROW=, [ADDRESS]= for a stored word of RAM, link=ADDRESS, unlink P, and of the board latch=, waiting=,
-wirq=, rirq=, irqe=, cpue=, cirqe P=, cipi P=, cram P K=, each where it has changed; then trap CODE
-VECTOR, idle, off or conflict ROW OTHER; and starts P. Random, Count and PRId aren't shown. The last
-line says why the run stopped. The run is made to its end, and events K to K + N - 1 have lines
-(--from, --count).
+their names, tlb ROW=, [ADDRESS]= for a stored word of RAM, link=ADDRESS, unlink P, and of the board
+latch=, waiting=, wirq=, rirq=, irqe=, cpue=, cirqe P=, cipi P=, cram P K=, each where it has
+changed; then trap CODE VECTOR, idle, off or conflict ROW OTHER; and starts P. Random, Count and
+PRId aren't shown. The last line says why the run stopped. The run is made to its end, and events K
+to K + N - 1 have lines (--from, --count).
 The image, a schedule and keys have at most 402653184 bytes each.
 
 Exit status:
