@@ -1,5 +1,7 @@
-use Rattle.std.proofs.Common.{◌≡◌, ◌⊎◌, ◌∙◌, ℕ, zero, suc, List, [], ◌∷◌, ◌++◌, take, Option, None, Some, Ok, Err, ap, inl, inr, refl, sym, subst}
-use Rattle.std.specs.Prelude.{IfErr, IfOk, Result, slice_get}
+use Rattle.std.proofs.Common.{◌≡◌, ◌⊎◌, ◌∙◌, ℕ, zero, suc, List, [], ◌∷◌, ◌++◌, ◌<◌, ◌≤◌, ◌+◌, arith, get_or, length, map, take, Option, None, Some, Ok, Err, Bor, ap, inl, inr, refl, sym, subst}
+use Rattle.std.specs.Prelude.{IfErr, IfOk, Result, option_map, slice_get}
+use Rattle.std.proofs.lemmas.List.{length-map, take_all}
+use Rattle.std.proofs.lemmas.Option.{slice_get-get_or}
 use Rattle.m161_audit.specs.declared.finding.AuditError.{AuditError}
 use Rattle.m161_audit.specs.declared.finding.AuditError.TheVariants as audit
 use Rattle.m161_audit.specs.Watch.{AreGood}
@@ -24,7 +26,7 @@ use Rattle.s161_search.specs.Given.{Given, IsRead, criteria_of}
 use Rattle.s161_search.specs.Never.{AreAddresses, symbols_in}
 use Rattle.s161_search.specs.declared.inputs.Inputs.{Inputs}
 use Rattle.s161_search.specs.helpers.Inputs.{given_of}
-use Rattle.s161_search.specs.helpers.Never.{HasNever, IsNeverFault, IsWordFault, PrintsFor, with_addresses}
+use Rattle.s161_search.specs.helpers.Never.{HasNever, IsNeverFault, IsNoAddress, IsWordFault, PrintsFor, with_addresses}
 use Rattle.s161_search.specs.Searches.{IsSearchFault, IsSearched, Prints}
 use Rattle.s161_search.specs.Seeds.{IsRunFault}
 
@@ -211,3 +213,57 @@ addresses_more symbols (w ∷ ws) zero addresses word address h at place =
 addresses_more symbols (w ∷ ws) (suc i) [] word address h at place = absurd h
 addresses_more symbols (w ∷ ws) (suc i) (a ∷ rest) word address h at place =
     (h.0, addresses_more symbols ws i rest word address h.1 at place)
+
+-- the words, one after the other
+
+map_at : (words : List (Bor (List ℕ))) (i : ℕ) → slice_get (map (λ word. word.now) words) i ≡ option_map (λ (word : Bor (List ℕ)). word.now) (slice_get words i)
+map_at [] i = refl
+map_at (w ∷ ws) zero = refl
+map_at (w ∷ ws) (suc i) = map_at ws i
+
+word_at : (words : List (Bor (List ℕ))) (i : ℕ) (d : Bor (List ℕ)) → i < length words →
+    slice_get (map (λ word. word.now) words) i ≡ Some (get_or words i d).now
+word_at words i d less = map_at words i ∙ ap (option_map (λ (word : Bor (List ℕ)). word.now)) (slice_get-get_or words i d less)
+
+pub words_more : (symbols : List (List ℕ × ℕ)) (words : List (Bor (List ℕ))) (i : ℕ) (d : Bor (List ℕ)) (old new : List ℕ) (address : ℕ) → i < length words →
+    AreAddresses symbols (take i (map (λ word. word.now) words)) old → IsPlace symbols address (get_or words i d).now → new ≡ old ++ address ∷ [] →
+    AreAddresses symbols (take (i + 1) (map (λ word. word.now) words)) new
+words_more symbols words i d old new address less h place new_is =
+    let ws = map (λ word. word.now) words in
+    let one : suc i ≡ i + 1 = omega arith in
+    subst (λ n. AreAddresses symbols (take n ws) new) one
+    (subst (λ xs. AreAddresses symbols (take (suc i) ws) xs) (sym new_is)
+    (addresses_more symbols ws i old (get_or words i d).now address h (word_at words i d less) place))
+
+pub words_all : (symbols : List (List ℕ × ℕ)) (words : List (Bor (List ℕ))) (i : ℕ) (addresses : List ℕ) → length words ≤ i →
+    AreAddresses symbols (take i (map (λ word. word.now) words)) addresses → AreAddresses symbols (map (λ word. word.now) words) addresses
+words_all symbols words i addresses all h =
+    let ws = map (λ word. word.now) words in
+    let many = length-map words (λ (word : Bor (List ℕ)). word.now) in
+    subst (λ xs. AreAddresses symbols xs addresses) (take_all i ws (omega (arith, many, all))) h
+
+pub word_unknown : (symbols : List (List ℕ × ℕ)) (words : List (Bor (List ℕ))) (i : ℕ) (d : Bor (List ℕ)) (addresses : List ℕ) (fault : Fault) → i < length words →
+    AreAddresses symbols (take i (map (λ word. word.now) words)) addresses → IsNoAddress symbols (get_or words i d).now fault →
+    IsWordFault symbols (map (λ word. word.now) words) fault
+word_unknown symbols words i d addresses (Never other) less before h = record {
+  place = i;
+  word_is = word_at words i d less ∙ ap (λ w. Some w) (sym h.0);
+  addresses = addresses;
+  before = before;
+  unknown = λ address is. h.1 address (subst (IsPlace symbols address) h.0 is);
+}
+word_unknown symbols words i d addresses Conf less before h = absurd h
+word_unknown symbols words i d addresses (Image e) less before h = absurd h
+word_unknown symbols words i d addresses (Watch k) less before h = absurd h
+word_unknown symbols words i d addresses Memory less before h = absurd h
+word_unknown symbols words i d addresses (File name why) less before h = absurd h
+word_unknown symbols words i d addresses (Schedule n) less before h = absurd h
+word_unknown symbols words i d addresses (Log n) less before h = absurd h
+word_unknown symbols words i d addresses (Watches n) less before h = absurd h
+word_unknown symbols words i d addresses (Threads cause) less before h = absurd h
+word_unknown symbols words i d addresses (Input why) less before h = absurd h
+word_unknown symbols words i d addresses Word less before h = absurd h
+word_unknown symbols words i d addresses LogMachine less before h = absurd h
+word_unknown symbols words i d addresses LogImage less before h = absurd h
+word_unknown symbols words i d addresses Output less before h = absurd h
+word_unknown symbols words i d addresses (Source e) less before h = absurd h

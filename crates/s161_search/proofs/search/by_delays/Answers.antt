@@ -7,7 +7,7 @@ use Rattle.s161_search.proofs.Delaying.{found_listed, turns_are}
 use Rattle.s161_search.proofs.search.by_delays.Goals as goal
 
 pub returns-in_ok-listed_text-in-Wrong-clause-ok : goal.returns-in_ok-listed_text-in-Wrong-clause-ok
-returns-in_ok-listed_text-in-Wrong-clause-ok c =
+returns-in_ok-listed_text-in-Wrong-clause-ok g c =
     let task = c.args.task in
     let given = given_of c.args.inputs.now in
     let class = class_of c.args.class in

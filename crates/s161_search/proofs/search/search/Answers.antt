@@ -1,4 +1,5 @@
 use Rattle.std.proofs.Common.{map}
+use Rattle.std.proofs.lemmas.Result.{err_from_is_err_and}
 use Rattle.s161_base.proofs.Asking.{result_asks}
 use Rattle.s161_base.specs.Samples.{image_file}
 use Rattle.s161_search.specs.Given.{search_files}
@@ -6,6 +7,11 @@ use Rattle.s161_search.specs.helpers.Inputs.{given_of}
 use Rattle.s161_search.proofs.Asking.{if_never_is_none}
 use Rattle.s161_search.proofs.Failing.{failed_so, searched_so}
 use Rattle.s161_search.proofs.search.search.Goals as goal
+
+pub returns-in_err-inputs-clause-fault : goal.returns-in_err-inputs-clause-fault
+returns-in_err-inputs-clause-fault g c =
+    let made = err_from_is_err_and c.from_residual.result c.from_residual.ensures.1 in
+    rw (made.1, made.2) (c.in_err-inputs.ensures.fault (map (λ word. word.now) c.args.never.now))
 
 pub returns-clause-ok : goal.returns-clause-ok
 returns-clause-ok g c =

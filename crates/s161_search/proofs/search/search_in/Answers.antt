@@ -5,10 +5,10 @@ use Rattle.s161_search.proofs.search.search_in.Goals as goal
 
 pub returns-clause-ok : goal.returns-clause-ok
 returns-clause-ok g c =
-    printed_for c.args.task (map (λ word. word.now) c.args.never.now) (given_of c.args.inputs) c.in_ok-with_never.field-0 c.make_runs.result
-    c.in_ok-with_never.ensures.ok c.make_runs.ensures.ok
+    printed_for c.args.task (map (λ word. word.now) c.args.never.now) (given_of c.args.inputs) c.in_ok-inputs.inputs c.make_runs.result
+    c.in_ok-inputs.ensures.ok c.make_runs.ensures.ok
 
 pub returns-clause-fault : goal.returns-clause-fault
 returns-clause-fault g c =
-    failed_for c.args.task (map (λ word. word.now) c.args.never.now) (given_of c.args.inputs) c.in_ok-with_never.field-0 c.make_runs.result
-    c.in_ok-with_never.ensures.ok c.make_runs.ensures.fault
+    failed_for c.args.task (map (λ word. word.now) c.args.never.now) (given_of c.args.inputs) c.in_ok-inputs.inputs c.make_runs.result
+    c.in_ok-inputs.ensures.ok c.make_runs.ensures.fault
