@@ -25,12 +25,15 @@ function option_head(names, value, word, count, k, head) {
 
 # A block is the lines of a help's text, one behind the other, that begin with spaces; `block` has `lines` of
 # them. It is a table where a row has a text of its own: behind two spaces or more, at the place where its
-# next line begins, or else where another row has one. What isn't a table is shown as it is.
+# next line begins, or else where another row has one (behind three or more, if its next line begins elsewhere).
+# What isn't a table is shown as it is.
 function indent_of(line) { match(line, /^ */); return RLENGTH }
-function place_of(k, n, best) {
+function place_of(k, n, next_indent, best) {
     best = 0
-    if (k < lines && indent_of(block[k + 1]) > 2) return is_gap(block[k], indent_of(block[k + 1])) ? indent_of(block[k + 1]) : 0
-    for (n = 4; n < length(block[k]); n++) if (is_gap(block[k], n) && shared(k, n)) best = n
+    next_indent = k < lines ? indent_of(block[k + 1]) : 0
+    if (next_indent > 2 && is_gap(block[k], next_indent)) return next_indent
+    for (n = 4; n < length(block[k]); n++)
+        if (is_gap(block[k], n) && shared(k, n) && (next_indent <= 2 || substr(block[k], n - 2, 1) == " ")) best = n
     return best
 }
 function is_gap(line, n) {

@@ -1,6 +1,6 @@
 # panic. Bug: each processor looks whether the work is done, by the word 1000, and only then says that it
-# does it, so that both may do it. The second one finds a two at the word 1004, and goes to `panic`.
-# Wrong is: a Step reaches `panic`.
+# does it, so that both may do it; the second one finds a two at the word 1004, and goes to `panic`. Fix:
+# `ll` and `sc`. Wrong is: a Step reaches `panic`.
         lui     $8, 0xbfff
         ori     $8, $8, 0x8000          # the processors' places, in kseg1
         lui     $9, 0x8000

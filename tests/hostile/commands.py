@@ -169,6 +169,7 @@ quit
 def images(make):
     """The images that both sizes use."""
     make.write("named.elf", make.said(["as", "--symbols"], make.example("turns.s").encode()))
+    make.write("panic.elf", make.said(["as", "--symbols"], make.example("labs/panic.s").encode()))
     for name in ("hello", "turns", "words", "sum", "sharing", "conflict"):
         make.assemble(f"{name}.elf", make.example(f"{name}.s"))
     shootdown = make.example("shootdown.s")
@@ -242,6 +243,12 @@ def small(make):
                 ends=4),
         Command(["search", "off.elf", *one, "--seeds", "1", "--output", "keys"], ends=4),
         Command(["search", "shell.elf", *two, "--seeds", "1", "--keys", keys, "--events", "500"]),
+        Command(["search", "turns.elf", *two, "--seeds", "5", "--jobs", "3"]),
+        Command(["search", "turns.elf", *two, "--delays", "1", "--within", "6"]),
+        Command(["search", "turns.elf", *two, "--delays", "2", "--within", "5", "--jobs", "3"]),
+        Command(["search", "panic.elf", *two, "--delays", "1", "--never", "panic", "--jobs", "2"], ends=4),
+        Command(["search", "panic.elf", *two, "--seeds", "2", "--never", "panic", "--never", "80000000",
+                 "--events", "300"], ends=4),
         Command(["console", "hello.elf", *one], "console", b""),
         Command(["console", "shell.elf", *two, *at_random], "console", b"start\n\x7foff\n"),
         debug(["hello.elf", "hello.schedule", *one], one, events_of(hello.decode())),
@@ -288,6 +295,8 @@ def words_and_faults(make):
         Command(["audit", "off.elf", "bad.watches"], text=b"", ends=1),
         Command(["audit", "off.elf", "far.watches"], text=b"", ends=1),
         Command(["debug", "off.elf", "bad.schedule"], text=b"", ends=1),
+        Command(["search", "panic.elf", "--seeds", "1", "--never", "panic", "--never", "none"], ends=1),
+        Command(["search", "off.elf", "--seeds", "1", "--never", "panic"], ends=1),
     ]
 
 
