@@ -208,7 +208,6 @@ fn errors(rt: HostRuntime) -> Result<(), Fail> {
     let bad = Goal {
         watches: &[WATCH, Watch { id: 64, ..WATCH }],
         never: &[],
-        never: &[],
         output: None,
         keys: &[],
     };
