@@ -8,7 +8,7 @@ _s161_of_command() {
     run) options='--ram --cpus --log --link --strict --show-log --only-log --threads --burst --turns --delayed --random --changes --within --events --transfer --keys --gap -h --help' arguments=('files @sample') ;;
     console) options='--ram --cpus --log --link --strict --turns --delayed --random --changes --within --events --transfer --gap -h --help' arguments=('files @sample') ;;
     schedule) options='--ram --cpus --log --link --strict --turns --delayed --random --changes --within --events --transfer --keys --gap -h --help' arguments=('files @sample') ;;
-    search) options='--ram --cpus --log --link --strict --seeds --delays --turns --from --watches --output --whole --changes --within --events --transfer --keys --gap -h --help' arguments=('files @sample') ;;
+    search) options='--ram --cpus --log --link --strict --seeds --delays --turns --from --jobs --watches --never --output --whole --changes --within --events --transfer --keys --gap -h --help' arguments=('files @sample') ;;
     trace) options='--ram --cpus --log --link --strict --from --count --names --symbols --turns --delayed --random --changes --within --events --transfer --keys --gap -h --help' arguments=('files @sample') ;;
     replay) options='--ram --cpus --log -h --help' arguments=('files @sample' 'files') ;;
     debug) options='--ram --cpus --log --link --strict --names --symbols --turns --delayed --random --changes --within --events --transfer --keys --gap -h --help' arguments=('files @sample' 'files') ;;
@@ -23,7 +23,7 @@ _s161_of_command() {
 # Of which kind an option's value is; a flag has none.
 _s161_of_option() {
     case $1 in
-    --ram | --cpus | --log | --threads | --burst | --turns | --delayed | --random | --changes | --within | --events | --transfer | --seeds | --delays | --from | --count) kind='number' ;;
+    --ram | --cpus | --log | --threads | --burst | --turns | --delayed | --random | --changes | --within | --events | --transfer | --seeds | --delays | --from | --jobs | --never | --count) kind='number' ;;
     --link) kind='words word line' ;;
     --keys | --watches | --output) kind='files' ;;
     --gap) kind='words none' ;;
