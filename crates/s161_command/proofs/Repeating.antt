@@ -1,4 +1,4 @@
-use Rattle.std.proofs.Common.{◌≡◌, ◌∙◌, refl, sym, ap, List, [], map}
+use Rattle.std.proofs.Common.{◌≡◌, ◌∙◌, sym, ap, List, [], map}
 use Rattle.std.proofs.Common.{Bor}
 use Rattle.std.specs.Prelude.{Option, None, Some, Result, Ok, Err, IfOk, option_map, unwrap_or}
 use Rattle.clap.specs.Words.{Row, Text, all_of}

@@ -15,6 +15,7 @@ use Rattle.s161_command.specs.declared.task.ConsoleTask.{ConsoleTask}
 use Rattle.s161_command.specs.declared.task.DebugTask.{DebugTask}
 use Rattle.s161_command.specs.declared.task.DrivenTask.{DrivenTask}
 use Rattle.s161_command.specs.declared.task.FilesTask.{FilesTask}
+use Rattle.s161_command.specs.declared.task.GdbTask.{GdbTask}
 use Rattle.s161_command.specs.declared.task.ListingTask.{ListingTask}
 use Rattle.s161_command.specs.declared.task.Registers.{Registers}
 use Rattle.s161_command.specs.declared.task.Registers.TheVariants.{Numbered, Named}
@@ -32,7 +33,7 @@ use Rattle.s161_command.specs.declared.task.Source.TheVariants.{File, Driven}
 use Rattle.s161_command.specs.declared.task.ThreadsTask.{ThreadsTask}
 use Rattle.s161_command.specs.declared.task.TraceTask.{TraceTask}
 use Rattle.s161_command.specs.declared.task.Task.{Task}
-use Rattle.s161_command.specs.declared.task.Task.TheVariants.{Assemble, Audit, Console, Debug, Demo, Disassemble, Replay, Run, RunDriven, RunInThreads, Schedule, Search, Trace}
+use Rattle.s161_command.specs.declared.task.Task.TheVariants.{Assemble, Audit, Console, Debug, Demo, Disassemble, Gdb, Replay, Run, RunDriven, RunInThreads, Schedule, Search, Trace}
 use Rattle.s161_command.specs.Classes.{HasClassLimits, IsClassIf, IsSeeds}
 use Rattle.s161_command.specs.Drives.{AsksDrive, AsksDriveIf, Clashes, IsLongNumberOf, go_together, has_order, long_rule, optional_rule, text_rule, texts_rule, with_console_pace_rules, with_order_rules, with_pace_rules, with_priority_rules}
 use Rattle.s161_command.specs.Links.{IsLink, IsLinkIf, RefusesLink}
@@ -144,12 +145,15 @@ schedule_line =
 -- the arguments of `trace`, without those of a driven run: an image and options
 abbrev pub plain_trace_line : App
 plain_trace_line =
-    with_rule (with_rule (with_rule (with_rule
+    with_rule (with_rule (with_rule (with_rule (with_rule (with_rule (with_rule
     (with_size_rules (codes "65536") (on_image (codes "trace")))
     (long_rule (codes "from") 0 18_446_744_073_709_551_615))
     (long_rule (codes "count") 0 18_446_744_073_709_551_615))
     (flag_rule (codes "names")))
-    (flag_rule (codes "symbols"))
+    (flag_rule (codes "symbols")))
+    (flag_rule (codes "loads")))
+    (optional_rule (codes "only") 0 4_294_967_295))
+    (flag_rule (codes "outcomes"))
 
 -- the arguments of `trace`; a driven run has at most as many events as any run
 abbrev pub trace_line : App
@@ -169,19 +173,28 @@ replay_line =
 abbrev pub optional_file_rule : Text → Rule
 optional_file_rule name = record (new_rule name) { value_names = 1 }
 
--- the arguments of `debug`, without those of a driven run: an image, a file and options
+-- a command over an image and a list of events, without the options of a driven run: a file that may
+-- be left out, and those of a size that a log may say
+abbrev pub listed_line : Text → App
+listed_line name =
+    with_rule (with_rule (with_asked_size_rules (codes "1048576")
+    (with_rule (on_image name) (optional_file_rule (codes "file"))))
+    (text_rule (codes "link")))
+    strict_rule
+
+-- the arguments of `debug`, without those of a driven run
 abbrev pub plain_debug_line : App
 plain_debug_line =
-    with_rule (with_rule (with_rule (with_rule (with_asked_size_rules (codes "1048576")
-    (with_rule (on_image (codes "debug")) (optional_file_rule (codes "file"))))
-    (text_rule (codes "link")))
-    strict_rule)
-    (flag_rule (codes "names")))
+    with_rule (with_rule (listed_line (codes "debug")) (flag_rule (codes "names")))
     (flag_rule (codes "symbols"))
 
 -- the arguments of `debug`; its list of events has at most 16,777,216
 abbrev pub debug_line : App
 debug_line = with_pace_rules 16_777_216 (with_order_rules plain_debug_line)
+
+-- the arguments of `gdb`, whose list of events is as long as that of `debug`
+abbrev pub gdb_line : App
+gdb_line = with_pace_rules 16_777_216 (with_order_rules (listed_line (codes "gdb")))
 
 -- the arguments of `audit`: an image, watches and options
 abbrev pub audit_line : App
@@ -208,7 +221,8 @@ program_line =
 abbrev pub command_line : App
 command_line =
     with_subcommand (with_subcommand (with_subcommand (with_subcommand (with_subcommand
-    (with_subcommand (with_subcommand (with_subcommand (with_subcommand (with_subcommand program_line
+    (with_subcommand (with_subcommand (with_subcommand (with_subcommand (with_subcommand
+    (with_subcommand program_line
     run_line.top)
     console_line.top)
     schedule_line.top)
@@ -216,6 +230,7 @@ command_line =
     trace_line.top)
     replay_line.top)
     debug_line.top)
+    gdb_line.top)
     audit_line.top)
     as_line.top)
     dis_line.top
@@ -330,9 +345,12 @@ pub record AsksTrace (rows : List Row) (task : TraceTask) : Type 0 where
       IsLongNumberOf 18_446_744_073_709_551_615 (one_of (codes "count") rows) task.count
   pub registers : task.registers ≡ registers_of rows
   pub symbols : task.symbols ≡ is_set (codes "symbols") rows
+  pub loads : task.loads ≡ is_set (codes "loads") rows
+  pub only : IsNumberIf (one_of (codes "only") rows) task.only
+  pub outcomes : task.outcomes ≡ is_set (codes "outcomes") rows
   pub drive : AsksDriveIf Optional rows task.drive
 
--- the events of `debug` come from a file, or from a driven run if an order is given
+-- the events of `debug` and of `gdb` come from a file, or from a driven run if an order is given
 abbrev pub IsSource : List Row → Source → Type 0
 IsSource rows (File name) =
     (has_order rows ≡ false) × (name.now ≡ given_of (codes "file") rows)
@@ -347,6 +365,14 @@ pub record AsksDebug (rows : List Row) (task : DebugTask) : Type 0 where
   pub strict : task.size.strict ≡ is_set (codes "strict") rows
   pub registers : task.registers ≡ registers_of rows
   pub symbols : task.symbols ≡ is_set (codes "symbols") rows
+
+-- `gdb` asks for this
+pub record AsksGdb (rows : List Row) (task : GdbTask) : Type 0 where
+  pub image : task.image.now ≡ given_of (codes "image") rows
+  pub source : IsSource rows task.source
+  pub size : IsAskedSize 1_048_576 rows task.size
+  pub link : IsLinkIf (first_of (codes "link") rows) task.size.link
+  pub strict : task.size.strict ≡ is_set (codes "strict") rows
 
 -- `dis` asks for this
 pub record AsksListing (rows : List Row) (task : ListingTask) : Type 0 where
@@ -370,7 +396,7 @@ abbrev pub IsOther : Text → Type 0
 IsOther word =
     (word ≡ codes "run") ⊎ (word ≡ codes "console") ⊎ (word ≡ codes "schedule")
     ⊎ (word ≡ codes "search") ⊎ (word ≡ codes "trace") ⊎ (word ≡ codes "replay")
-    ⊎ (word ≡ codes "debug")
+    ⊎ (word ≡ codes "debug") ⊎ (word ≡ codes "gdb")
     ⊎ (word ≡ codes "audit") ⊎ (word ≡ codes "as") ⊎ (word ≡ codes "dis")
 
 -- a command, with its arguments, asks for this
@@ -394,6 +420,8 @@ IsTask command (Replay task) =
     IsSomeAnd command (λ given. (given.0 ≡ codes "replay") × AsksReplay given.1 task)
 IsTask command (Debug task) =
     IsSomeAnd command (λ given. (given.0 ≡ codes "debug") × AsksDebug given.1 task)
+IsTask command (Gdb task) =
+    IsSomeAnd command (λ given. (given.0 ≡ codes "gdb") × AsksGdb given.1 task)
 IsTask command (Audit task) =
     IsSomeAnd command
     (λ given. (given.0 ≡ codes "audit") × AsksFiles (codes "watches") 65_536 given.1 task)
@@ -410,7 +438,8 @@ order_use word =
     else if bytes_eq word (codes "console") then Some Assumed
     else if bytes_eq word (codes "search") then Some Seeded
     else if bytes_eq word (codes "trace") then Some Optional
-    else if bytes_eq word (codes "debug") then Some OrFile else None
+    else if bytes_eq word (codes "debug") then Some OrFile
+    else if bytes_eq word (codes "gdb") then Some OrFile else None
 
 -- the options of a command go together
 abbrev pub GoTogether : Option (Text × List Row) → Type 0
@@ -428,7 +457,7 @@ abbrev pub ClashesIn : Option (Text × List Row) → Clash → Type 0
 ClashesIn command clash =
     IsSomeAnd command (λ given. ClashesAs (order_use given.0) given.1 clash)
 
--- the numbers of the order that gives the events of `debug` are within their limits
+-- the numbers of the order that gives the events of `debug` or `gdb` are within their limits
 abbrev pub HasSourceLimits : Source → Type 0
 HasSourceLimits (File name) = Unit {0}
 HasSourceLimits (Driven drive) = order_fault drive.order ≡ None
@@ -442,6 +471,7 @@ HasLimits (Search task) =
     (order_fault task.drive.order ≡ None) × HasClassLimits task.drive.order task.delays
 HasLimits (Trace task) = IfSome task.drive (λ drive. order_fault drive.order ≡ None)
 HasLimits (Debug task) = HasSourceLimits task.source
+HasLimits (Gdb task) = HasSourceLimits task.source
 HasLimits _ = Unit {0}
 
 -- the words that stand for the addresses of `--never`, in their order

@@ -1,4 +1,4 @@
-use Rattle.std.specs.Prelude.{ℕ, ◌<◌, List, [], length, unwrap_or}
+use Rattle.std.specs.Prelude.{◌<◌, List, [], length, unwrap_or}
 use Rattle.clap.specs.Words.{Row, Text, all_of}
 
 -- Options that may be given more than once.

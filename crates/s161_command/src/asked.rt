@@ -14,9 +14,9 @@ use crate::given::{file_given, is_set, long_given, number_given, number_if_given
 use crate::link::link_or_word;
 use crate::settings::{Settings, order_use, settings_given};
 use crate::task::{
-    AskedSize, AssemblyTask, ConsoleTask, DebugTask, DrivenTask, FilesTask, ListingTask, Registers,
-    ReplayTask, RunTask, ScheduleTask, SearchTask, Shown, Size, Source, Task, ThreadsTask,
-    TraceTask,
+    AskedSize, AssemblyTask, ConsoleTask, DebugTask, DrivenTask, FilesTask, GdbTask, ListingTask,
+    Registers, ReplayTask, RunTask, ScheduleTask, SearchTask, Shown, Size, Source, Task,
+    ThreadsTask, TraceTask,
 };
 use clap::ArgMatches;
 use m161_isa::LinkUnit;
@@ -206,11 +206,14 @@ fn task_of_trace<'a>(given: &ArgMatches<'a>, settings: Settings) -> Task<'a>
         count: long_given(given, "count", u64::MAX),
         registers: registers_given(given),
         symbols: is_set(given, "symbols"),
+        loads: is_set(given, "loads"),
+        only: number_if_given(given, "only"),
+        outcomes: is_set(given, "outcomes"),
         drive: drive_if_ordered(given, settings),
     })
 }
 
-// Where the events of a debugged run come from.
+// Where the events of a run come from that is debugged, or served to GDB.
 fn source_given<'a>(given: &ArgMatches<'a>, settings: Settings) -> Source<'a>
     requires { HasSettings OrFile (rows_of (found_of given.now)) settings }
     ensures source { IsSource (rows_of (found_of given.now)) result }
@@ -236,6 +239,20 @@ fn task_of_debug<'a>(given: &ArgMatches<'a>, settings: Settings) -> Task<'a>
         size: asked_size_given(given, 1_048_576, settings.link, strict),
         registers: registers_given(given),
         symbols: is_set(given, "symbols"),
+    })
+}
+
+// The task of `gdb`.
+fn task_of_gdb<'a>(given: &ArgMatches<'a>, settings: Settings) -> Task<'a>
+    requires { HasSettings OrFile (rows_of (found_of given.now)) settings }
+    ensures task { IsTask (Some (codes "gdb", rows_of (found_of given.now))) result }
+    ensures limits { HasLimits result }
+{
+    let strict = is_set(given, "strict");
+    Task::Gdb(GdbTask {
+        image: file_given(given, "image"),
+        source: source_given(given, settings),
+        size: asked_size_given(given, 1_048_576, settings.link, strict),
     })
 }
 
@@ -291,6 +308,7 @@ fn task_named<'a>(name: &str, given: &ArgMatches<'a>, settings: Settings) -> Tas
         "trace" => task_of_trace(given, settings),
         "replay" => Task::Replay(replay_task_of(given)),
         "debug" => task_of_debug(given, settings),
+        "gdb" => task_of_gdb(given, settings),
         "audit" => Task::Audit(files_task_of(given, "watches", 65_536, settings.link)),
         "as" => Task::Assemble(assembly_task_of(given)),
         "dis" => Task::Disassemble(listing_task_of(given)),

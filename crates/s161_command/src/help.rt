@@ -140,7 +140,9 @@ their names, tlb ROW=, [ADDRESS]= for a stored word of RAM, link=ADDRESS, unlink
 latch=, waiting=, wirq=, rirq=, irqe=, cpue=, cirqe P=, cipi P=, cram P K=, each where it has
 changed; then trap CODE VECTOR, idle, off or conflict ROW OTHER; and starts P. Random, Count and
 PRId aren't shown. The last line says why the run stopped. The run is made to its end, and events K
-to K + N - 1 have lines (--from, --count).
+to K + N - 1 have lines (--from, --count), of them only those that --only and --outcomes leave. With
+--loads the first item of a Step that loads is (ADDRESS)=WORD: the physical address of the word that
+the bytes are in, and that word before the Step.
 The image, a schedule and keys have at most 402653184 bytes each.
 
 Exit status:
@@ -205,6 +207,29 @@ Exit status:
 Example:
   printf 'b 0 80000208\\ng\\nr 0\\n' | s161 debug kernel.elf schedule
   s161 debug kernel.elf --cpus 2 --random 7";
+
+/// The end of the help of `gdb`.
+pub(crate) const AFTER_GDB_HELP: &str = "\
+The events and the machine are those of debug: the run is fixed before the first packet, and what a
+client sends goes along it, forwards and backwards, and never changes it. Packets are read from
+standard input and answered on standard output. A thread is a processor: thread 1 is processor 0.
+Registers and memory are read, never written. Breakpoints, watches, steps and their reverse stop at
+a place, a number of events made; a watch stops before the event that loads or stores. Lines of
+`monitor`:
+  at  why              the place and what comes next; why the last move stopped
+  goto K               marks place K: a move that reaches it stops there
+  where                where each processor is
+  regs [P]  cop0 [P]  tlb [P]
+                       registers, coprocessor 0, the TLB, of the processor that is looked at or of P
+  help
+The image, FILE and keys have at most 402653184 bytes each.
+
+Exit status:
+  0  the client left, or the input ended
+  1  a fault, named on standard error
+
+Example:
+  gdb-multiarch kernel.elf -ex 'target remote | s161 gdb kernel.elf --cpus 2 --random 7'";
 
 /// The end of the help of `audit`.
 pub(crate) const AFTER_AUDIT_HELP: &str = "\

@@ -1,14 +1,14 @@
 //! The table of commands: the arguments of each.
 
 ghost use Rattle.std.specs.Prelude.{◌≡◌};
-ghost use Rattle.s161_command.specs.Commands.{as_line, audit_line, console_line, debug_line, dis_line, replay_line, run_line, schedule_line, search_line, trace_line};
+ghost use Rattle.s161_command.specs.Commands.{as_line, audit_line, console_line, debug_line, dis_line, gdb_line, replay_line, run_line, schedule_line, search_line, trace_line};
 ghost use Rattle.s161_command.specs.helpers.Lines.{app_named, demo_line, line_app};
 
 use crate::argument::{Argument, Kind};
 use crate::help::{
     AFTER_AS_HELP, AFTER_AUDIT_HELP, AFTER_CONSOLE_HELP, AFTER_DEBUG_HELP, AFTER_DIS_HELP,
-    AFTER_REPLAY_HELP, AFTER_RUN_HELP, AFTER_SCHEDULE_HELP, AFTER_SEARCH_HELP, AFTER_TRACE_HELP,
-    IMAGE_HELP,
+    AFTER_GDB_HELP, AFTER_REPLAY_HELP, AFTER_RUN_HELP, AFTER_SCHEDULE_HELP, AFTER_SEARCH_HELP,
+    AFTER_TRACE_HELP, IMAGE_HELP,
 };
 use clap::builder::ValueParser;
 
@@ -23,6 +23,7 @@ pub(crate) enum CommandName {
     Trace,
     Replay,
     Debug,
+    Gdb,
     Audit,
     Assemble,
     Disassemble,
@@ -40,7 +41,7 @@ pub(crate) struct Line {
 }
 
 /// The commands; help shows them in this order.
-pub(crate) static COMMANDS: [CommandName; 11] = [
+pub(crate) static COMMANDS: [CommandName; 12] = [
     CommandName::Demo,
     CommandName::Run,
     CommandName::Console,
@@ -49,6 +50,7 @@ pub(crate) static COMMANDS: [CommandName; 11] = [
     CommandName::Trace,
     CommandName::Replay,
     CommandName::Debug,
+    CommandName::Gdb,
     CommandName::Audit,
     CommandName::Assemble,
     CommandName::Disassemble,
@@ -147,7 +149,7 @@ const ASKED_CPUS: Argument = Argument {
     required: false,
 };
 
-// How many entries the log of `debug` keeps.
+// How many entries the log of `debug` and `gdb` keeps.
 const DEBUG_LOG: Argument = Argument {
     name: "log",
     kind: ANY_NUMBER,
@@ -437,6 +439,36 @@ const COUNT: Argument = Argument {
     required: false,
 };
 
+// Whether `trace` shows loads.
+const LOADS: Argument = Argument {
+    name: "loads",
+    kind: Kind::Flag,
+    shown: "",
+    help: "Shows the word of RAM, or of a slot, that a Step loads: (ADDRESS)=WORD",
+    default: None,
+    required: false,
+};
+
+// The processor whose Steps have lines.
+const ONLY: Argument = Argument {
+    name: "only",
+    kind: ANY_NUMBER,
+    shown: "P",
+    help: "Only Steps of processor P have lines",
+    default: None,
+    required: false,
+};
+
+// Whether only events with an outcome have lines.
+const OUTCOMES: Argument = Argument {
+    name: "outcomes",
+    kind: Kind::Flag,
+    shown: "",
+    help: "Only traps, idle Steps, and what stops the machine have lines",
+    default: None,
+    required: false,
+};
+
 // Whether registers are shown by their names.
 const NAMES: Argument = Argument {
     name: "names",
@@ -477,7 +509,7 @@ const ENTRIES: Argument = Argument {
     required: true,
 };
 
-// The events of `debug`.
+// The events of `debug` and `gdb`.
 const FILE: Argument = Argument {
     name: "file",
     kind: Kind::File,
@@ -585,6 +617,9 @@ static TRACE: Line = Line {
         COUNT,
         NAMES,
         SYMBOLS,
+        LOADS,
+        ONLY,
+        OUTCOMES,
         TURNS,
         DELAYED,
         RANDOM,
@@ -616,6 +651,29 @@ static DEBUG: Line = Line {
         ASKED_STRICT,
         NAMES,
         SYMBOLS,
+        TURNS,
+        DELAYED,
+        RANDOM,
+        CHANGES,
+        WITHIN,
+        LISTED_EVENTS,
+        TRANSFER,
+        KEYS,
+        GAP,
+    ],
+};
+
+static GDB: Line = Line {
+    name: "gdb",
+    about: "Serves GDB's remote protocol on an image under a list of events",
+    arguments: &[
+        IMAGE,
+        FILE,
+        ASKED_RAM,
+        ASKED_CPUS,
+        DEBUG_LOG,
+        ASKED_LINK,
+        ASKED_STRICT,
         TURNS,
         DELAYED,
         RANDOM,
@@ -703,6 +761,13 @@ fn debug_command() -> &'static Line
     &DEBUG
 }
 
+// The line of `gdb`.
+fn gdb_command() -> &'static Line
+    ensures { line_app result.now ≡ gdb_line }
+{
+    &GDB
+}
+
 // The line of `audit`.
 fn audit_command() -> &'static Line
     ensures { line_app result.now ≡ audit_line }
@@ -737,6 +802,7 @@ pub(crate) fn line_of(name: CommandName) -> &'static Line
         CommandName::Trace => trace_command(),
         CommandName::Replay => replay_command(),
         CommandName::Debug => debug_command(),
+        CommandName::Gdb => gdb_command(),
         CommandName::Audit => audit_command(),
         CommandName::Assemble => as_command(),
         CommandName::Disassemble => dis_command(),
@@ -755,6 +821,7 @@ pub(crate) fn after_help_of(name: CommandName) -> Option<&'static str> {
         CommandName::Trace => Some(AFTER_TRACE_HELP),
         CommandName::Replay => Some(AFTER_REPLAY_HELP),
         CommandName::Debug => Some(AFTER_DEBUG_HELP),
+        CommandName::Gdb => Some(AFTER_GDB_HELP),
         CommandName::Audit => Some(AFTER_AUDIT_HELP),
         CommandName::Assemble => Some(AFTER_AS_HELP),
         CommandName::Disassemble => Some(AFTER_DIS_HELP),

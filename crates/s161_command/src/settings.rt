@@ -41,6 +41,7 @@ pub(crate) fn order_use(name: &str) -> Option<OrderUse>
         "search" => Some(OrderUse::Seeded),
         "trace" => Some(OrderUse::Optional),
         "debug" => Some(OrderUse::OrFile),
+        "gdb" => Some(OrderUse::OrFile),
         _ => None,
     }
 }

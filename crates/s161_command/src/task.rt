@@ -28,6 +28,8 @@ pub enum Task<'a> {
     Replay(ReplayTask<'a>),
     /// Debug an image under a list of events.
     Debug(DebugTask<'a>),
+    /// Serve GDB on an image under a list of events.
+    Gdb(GdbTask<'a>),
     /// Look for stale uses of an image's run under a schedule, by the watches of a text.
     Audit(FilesTask<'a>),
     /// Assemble a text into its file.
@@ -163,11 +165,17 @@ pub struct TraceTask<'a> {
     pub registers: Registers,
     /// Whether addresses are shown by the names of the image's symbol table.
     pub symbols: bool,
+    /// Whether loads are shown.
+    pub loads: bool,
+    /// The processor whose Steps alone have lines, if there is one.
+    pub only: Option<u32>,
+    /// Whether only events have lines that trap, are idle, or stop the machine.
+    pub outcomes: bool,
     /// What the driven run is asked for; without it a schedule is read.
     pub drive: Option<Drive<'a>>,
 }
 
-/// Where the events of a debugged run come from.
+/// Where the events of a run come from that is debugged, or served to GDB.
 #[derive(Clone, Copy)]
 pub enum Source<'a> {
     /// A schedule's or a log's file, by its name.
@@ -191,6 +199,17 @@ pub struct DebugTask<'a> {
     pub symbols: bool,
 }
 
+/// The arguments of `gdb`.
+#[derive(Clone, Copy)]
+pub struct GdbTask<'a> {
+    /// The image's name.
+    pub image: &'a str,
+    /// Where the events come from.
+    pub source: Source<'a>,
+    /// The machine's size.
+    pub size: AskedSize,
+}
+
 /// The arguments of `as`.
 #[derive(Clone, Copy)]
 pub struct AssemblyTask {
@@ -209,7 +228,7 @@ pub struct ListingTask<'a> {
     pub symbols: bool,
 }
 
-/// The size of the machine that `replay` or `debug` asks for.
+/// The size of the machine that `replay`, `debug` or `gdb` asks for.
 #[derive(Clone, Copy)]
 pub struct AskedSize {
     /// Bytes of RAM, if they are given.

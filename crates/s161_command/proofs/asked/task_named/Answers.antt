@@ -22,6 +22,9 @@ task_of_trace-requires c = settings_as (rows_of (found_of c.args.given.now)) c.a
 pub task_of_debug-requires : goal.task_of_debug-requires
 task_of_debug-requires c = settings_as (rows_of (found_of c.args.given.now)) c.args.settings c.in-debug.is c.requires
 
+pub task_of_gdb-requires : goal.task_of_gdb-requires
+task_of_gdb-requires c = settings_as (rows_of (found_of c.args.given.now)) c.args.settings c.in-gdb.is c.requires
+
 pub files_task_of-requires : goal.files_task_of-requires
 files_task_of-requires c = settings_as (rows_of (found_of c.args.given.now)) c.args.settings c.in-audit.is c.requires
 
@@ -60,6 +63,12 @@ returns-in-debug-clause-task c = task_as (rows_of (found_of c.args.given.now)) c
 
 pub returns-in-debug-clause-limits : goal.returns-in-debug-clause-limits
 returns-in-debug-clause-limits c = c.task_of_debug.ensures.limits
+
+pub returns-in-gdb-clause-task : goal.returns-in-gdb-clause-task
+returns-in-gdb-clause-task c = task_as (rows_of (found_of c.args.given.now)) c.task_of_gdb.result c.in-gdb.is c.task_of_gdb.ensures.task
+
+pub returns-in-gdb-clause-limits : goal.returns-in-gdb-clause-limits
+returns-in-gdb-clause-limits c = c.task_of_gdb.ensures.limits
 
 pub returns-in-replay-clause-task : goal.returns-in-replay-clause-task
 returns-in-replay-clause-task c = task_as (rows_of (found_of c.args.given.now)) (Replay c.replay_task_of.result) c.in-replay.is (refl, c.replay_task_of.ensures)

@@ -1,4 +1,4 @@
-use Rattle.std.proofs.Common.{◌≡◌, ◌∙◌, ap, map}
+use Rattle.std.proofs.Common.{◌∙◌, ap, map}
 use Rattle.clap.specs.Words.{found_of, rows_of}
 use Rattle.clap.proofs.WalkLemmas.{raw_values-rows}
 use Rattle.s161_command.proofs.Repeating.{if_ok, no_texts, some_texts}
