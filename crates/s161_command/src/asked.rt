@@ -206,7 +206,6 @@ fn task_of_trace<'a>(given: &ArgMatches<'a>, settings: Settings) -> Task<'a>
         count: long_given(given, "count", u64::MAX),
         registers: registers_given(given),
         symbols: is_set(given, "symbols"),
-        loads: is_set(given, "loads"),
         only: number_if_given(given, "only"),
         outcomes: is_set(given, "outcomes"),
         drive: drive_if_ordered(given, settings),

@@ -140,9 +140,8 @@ their names, tlb ROW=, [ADDRESS]= for a stored word of RAM, link=ADDRESS, unlink
 latch=, waiting=, wirq=, rirq=, irqe=, cpue=, cirqe P=, cipi P=, cram P K=, each where it has
 changed; then trap CODE VECTOR, idle, off or conflict ROW OTHER; and starts P. Random, Count and
 PRId aren't shown. The last line says why the run stopped. The run is made to its end, and events K
-to K + N - 1 have lines (--from, --count), of them only those that --only and --outcomes leave. With
---loads the first item of a Step that loads is (ADDRESS)=WORD: the physical address of the word that
-the bytes are in, and that word before the Step.
+to K + N - 1 have lines (--from, --count), of them only those that --only and --outcomes leave; their
+numbers stay.
 The image, a schedule and keys have at most 402653184 bytes each.
 
 Exit status:

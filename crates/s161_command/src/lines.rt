@@ -439,16 +439,6 @@ const COUNT: Argument = Argument {
     required: false,
 };
 
-// Whether `trace` shows loads.
-const LOADS: Argument = Argument {
-    name: "loads",
-    kind: Kind::Flag,
-    shown: "",
-    help: "Shows the word of RAM, or of a slot, that a Step loads: (ADDRESS)=WORD",
-    default: None,
-    required: false,
-};
-
 // The processor whose Steps have lines.
 const ONLY: Argument = Argument {
     name: "only",
@@ -617,7 +607,6 @@ static TRACE: Line = Line {
         COUNT,
         NAMES,
         SYMBOLS,
-        LOADS,
         ONLY,
         OUTCOMES,
         TURNS,

@@ -165,8 +165,6 @@ pub struct TraceTask<'a> {
     pub registers: Registers,
     /// Whether addresses are shown by the names of the image's symbol table.
     pub symbols: bool,
-    /// Whether loads are shown.
-    pub loads: bool,
     /// The processor whose Steps alone have lines, if there is one.
     pub only: Option<u32>,
     /// Whether only events have lines that trap, are idle, or stop the machine.
