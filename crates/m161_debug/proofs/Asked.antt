@@ -7,7 +7,7 @@ use Rattle.m161_debug.specs.declared.command.Area.TheVariants.{Memory, Code}
 use Rattle.m161_debug.specs.declared.command.Change.{Change}
 use Rattle.m161_debug.specs.declared.command.Change.TheVariants.{Set, Delete}
 use Rattle.m161_debug.specs.declared.command.Command.{Command}
-use Rattle.m161_debug.specs.declared.command.Command.TheVariants.{Breakpoint, Make, Steps, Go, GoFirst, Until, Show, Where, Words, Fetched, Log}
+use Rattle.m161_debug.specs.declared.command.Command.TheVariants.{At, Breakpoint, Make, Steps, Go, GoFirst, Until, Show, Register, Where, Words, Fetched, Log}
 use Rattle.m161_debug.specs.declared.command.CommandError.{CommandError}
 use Rattle.m161_debug.specs.declared.command.CommandError.TheVariants.{BadArgument}
 use Rattle.m161_debug.specs.declared.command.Display.TheVariants.{Regs, Cop0, Tlb}
@@ -87,11 +87,38 @@ no_steps symbols text one two = (λ unknown. unknown.1.1.0 refl, λ command is. 
     by (Show Regs p) word is = omega (arith, ap (λ ds. get_or ds 0 0) word)
     by (Show Cop0 p) word is = omega (arith, ap (λ ds. get_or ds 0 0) word)
     by (Show Tlb p) word is = omega (arith, ap (λ ds. get_or ds 0 0) word)
+    by (Register p r) word is = omega (arith, ap (λ ds. get_or ds 0 0) word)
     by Where word is = absurd is
     by (Words Memory address n) word is = omega (arith, ap (λ ds. get_or ds 0 0) word)
     by (Words Code address n) word is = omega (arith, ap (λ ds. get_or ds 0 0) word)
     by (Fetched address n p) word is = omega (arith, ap (λ ds. get_or ds 0 0) word)
     by (Log n) word is = omega (arith, ap (λ ds. get_or ds 0 0) word)
+    by At word is = absurd is
+
+-- and `r`, with what is neither a processor nor a processor and a number
+pub no_registers : (symbols : List (List ℕ × ℕ)) (text : List ℕ) → Finds IsNumber text None → Finds AreNumbers text None → IsAskedOf symbols (codes "r") (Some text) (Err BadArgument)
+no_registers symbols text one two = (λ unknown. unknown.1.1.1.1.1.1.0 refl, λ command is. by command is.0 is.1)
+  where
+    by : (command : Command) → word_of command ≡ codes "r" → HasArguments symbols command text → ⊥
+    by (Breakpoint Set p address) word is = omega (arith, ap (λ ds. get_or ds 0 0) word)
+    by (Breakpoint Delete p address) word is = omega (arith, ap (λ ds. get_or ds 0 0) word)
+    by (Make (events.Step p)) word is = omega (arith, ap (λ ds. get_or ds 0 0) word)
+    by (Make (events.Key byte)) word is = omega (arith, ap (λ ds. get_or ds 0 0) word)
+    by (Make events.Done) word is = absurd is
+    by (Steps p n) word is = omega (arith, ap (λ ds. get_or ds 0 0) word)
+    by Go word is = absurd is
+    by (GoFirst n) word is = omega (arith, ap (λ ds. get_or ds 0 0) word)
+    by (Until condition) word is = omega (arith, ap (λ ds. get_or ds 0 0) word)
+    by (Show Regs p) word is = one.none p is
+    by (Show Cop0 p) word is = omega (arith, ap (λ ds. get_or ds 0 0) word)
+    by (Show Tlb p) word is = omega (arith, ap (λ ds. get_or ds 0 0) word)
+    by (Register p r) word is = two.none (p, r) is
+    by Where word is = absurd is
+    by (Words Memory address n) word is = omega (arith, ap (λ ds. get_or ds 0 0) word)
+    by (Words Code address n) word is = omega (arith, ap (λ ds. get_or ds 0 0) word)
+    by (Fetched address n p) word is = omega (arith, ap (λ ds. get_or ds 0 0) word)
+    by (Log n) word is = omega (arith, ap (λ ds. get_or ds 0 0) word)
+    by At word is = absurd is
 
 -- `b` with what is no processor and address
 pub no_break : (symbols : List (List ℕ × ℕ)) (text : List ℕ) → Finds (AreParts IsNumber (IsPlace symbols)) text None → IsAskedOf symbols (codes "b") (Some text) (Err BadArgument)
@@ -110,11 +137,13 @@ no_break symbols text none = (λ unknown. unknown.0 refl, λ command is. by comm
     by (Show Regs p) word is = omega (arith, ap (λ ds. get_or ds 0 0) word)
     by (Show Cop0 p) word is = omega (arith, ap (λ ds. get_or ds 0 0) word)
     by (Show Tlb p) word is = omega (arith, ap (λ ds. get_or ds 0 0) word)
+    by (Register p r) word is = omega (arith, ap (λ ds. get_or ds 0 0) word)
     by Where word is = absurd is
     by (Words Memory address n) word is = omega (arith, ap (λ ds. get_or ds 0 0) word)
     by (Words Code address n) word is = omega (arith, ap (λ ds. get_or ds 0 0) word)
     by (Fetched address n p) word is = omega (arith, ap (λ ds. get_or ds 0 0) word)
     by (Log n) word is = omega (arith, ap (λ ds. get_or ds 0 0) word)
+    by At word is = absurd is
 
 -- and `d`
 pub no_delete : (symbols : List (List ℕ × ℕ)) (text : List ℕ) → Finds (AreParts IsNumber (IsPlace symbols)) text None → IsAskedOf symbols (codes "d") (Some text) (Err BadArgument)
@@ -133,11 +162,13 @@ no_delete symbols text none = (λ unknown. unknown.1.0 refl, λ command is. by c
     by (Show Regs p) word is = omega (arith, ap (λ ds. get_or ds 0 0) word)
     by (Show Cop0 p) word is = omega (arith, ap (λ ds. get_or ds 0 0) word)
     by (Show Tlb p) word is = omega (arith, ap (λ ds. get_or ds 0 0) word)
+    by (Register p r) word is = omega (arith, ap (λ ds. get_or ds 0 0) word)
     by Where word is = absurd is
     by (Words Memory address n) word is = omega (arith, ap (λ ds. get_or ds 0 0) word)
     by (Words Code address n) word is = omega (arith, ap (λ ds. get_or ds 0 0) word)
     by (Fetched address n p) word is = omega (arith, ap (λ ds. get_or ds 0 0) word)
     by (Log n) word is = omega (arith, ap (λ ds. get_or ds 0 0) word)
+    by At word is = absurd is
 
 -- `m` with what is no address and number
 pub no_memory : (symbols : List (List ℕ × ℕ)) (text : List ℕ) → Finds (AreParts (IsPlace symbols) IsNumber) text None → IsAskedOf symbols (codes "m") (Some text) (Err BadArgument)
@@ -156,11 +187,13 @@ no_memory symbols text none = (λ unknown. unknown.1.1.1.1.1.1.1.1.1.0 refl, λ 
     by (Show Regs p) word is = omega (arith, ap (λ ds. get_or ds 0 0) word)
     by (Show Cop0 p) word is = omega (arith, ap (λ ds. get_or ds 0 0) word)
     by (Show Tlb p) word is = omega (arith, ap (λ ds. get_or ds 0 0) word)
+    by (Register p r) word is = omega (arith, ap (λ ds. get_or ds 0 0) word)
     by Where word is = absurd is
     by (Words Memory address n) word is = none.none (address, n) is
     by (Words Code address n) word is = omega (arith, ap (λ ds. get_or ds 0 0) word)
     by (Fetched address n p) word is = omega (arith, ap (λ ds. get_or ds 0 0) word)
     by (Log n) word is = omega (arith, ap (λ ds. get_or ds 0 0) word)
+    by At word is = absurd is
 
 -- `x` with what is neither this, nor an address, a number and a processor
 pub no_code : (symbols : List (List ℕ × ℕ)) (text : List ℕ) → Finds (AreParts (IsPlace symbols) IsNumber) text None → Finds (AreParts (IsPlace symbols) AreNumbers) text None → IsAskedOf symbols (codes "x") (Some text) (Err BadArgument)
@@ -179,11 +212,13 @@ no_code symbols text none more = (λ unknown. unknown.1.1.1.1.1.1.1.1.1.1.0 refl
     by (Show Regs p) word is = omega (arith, ap (λ ds. get_or ds 0 0) word)
     by (Show Cop0 p) word is = omega (arith, ap (λ ds. get_or ds 0 0) word)
     by (Show Tlb p) word is = omega (arith, ap (λ ds. get_or ds 0 0) word)
+    by (Register p r) word is = omega (arith, ap (λ ds. get_or ds 0 0) word)
     by Where word is = absurd is
     by (Words Memory address n) word is = omega (arith, ap (λ ds. get_or ds 0 0) word)
     by (Words Code address n) word is = none.none (address, n) is
     by (Fetched address n p) word is = more.none (address, (n, p)) is
     by (Log n) word is = omega (arith, ap (λ ds. get_or ds 0 0) word)
+    by At word is = absurd is
 
 pub no_change : (symbols : List (List ℕ × ℕ)) (change : Change) (text : List ℕ) → Finds (AreParts IsNumber (IsPlace symbols)) text None → IsAskedOf symbols (change_word change) (Some text) (Err BadArgument)
 no_change symbols Set text none = no_break symbols text none

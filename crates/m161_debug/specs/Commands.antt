@@ -10,7 +10,7 @@ use Rattle.m161_debug.specs.declared.command.Area.TheVariants.{Memory, Code}
 use Rattle.m161_debug.specs.declared.command.Change.{Change}
 use Rattle.m161_debug.specs.declared.command.Change.TheVariants.{Set, Delete}
 use Rattle.m161_debug.specs.declared.command.Command.{Command}
-use Rattle.m161_debug.specs.declared.command.Command.TheVariants.{Breakpoint, Make, Steps, Go, GoFirst, Until, Show, Where, Words, Fetched, Log}
+use Rattle.m161_debug.specs.declared.command.Command.TheVariants.{At, Breakpoint, Make, Steps, Go, GoFirst, Until, Show, Register, Where, Words, Fetched, Log}
 use Rattle.m161_debug.specs.declared.command.CommandError.{CommandError}
 use Rattle.m161_debug.specs.declared.command.CommandError.TheVariants.{Unknown, BadArgument, BadProcessor, TooMany, NoMemory}
 use Rattle.m161_debug.specs.declared.command.Display.{Display}
@@ -25,7 +25,7 @@ abbrev pub command_words : List (List ℕ)
 command_words =
     codes "b" ∷ codes "d" ∷ codes "s" ∷ codes "k" ∷ codes "o" ∷ codes "g" ∷ codes "r" ∷ codes "c"
     ∷ codes "t"
-    ∷ codes "m" ∷ codes "x" ∷ codes "l" ∷ codes "u" ∷ codes "w" ∷ []
+    ∷ codes "m" ∷ codes "x" ∷ codes "l" ∷ codes "u" ∷ codes "w" ∷ codes "a" ∷ []
 
 abbrev pub change_word : Change → List ℕ
 change_word Set = codes "b"
@@ -53,10 +53,12 @@ word_of Go = codes "g"
 word_of (GoFirst n) = codes "g"
 word_of (Until condition) = codes "u"
 word_of (Show display p) = display_word display
+word_of (Register p r) = codes "r"
 word_of Where = codes "w"
 word_of (Words area address n) = area_word area
 word_of (Fetched address n p) = codes "x"
 word_of (Log n) = codes "l"
+word_of At = codes "a"
 
 -- The arguments.
 
@@ -174,10 +176,12 @@ StandsAlone Go = Unit {0}
 StandsAlone (GoFirst n) = ⊥
 StandsAlone (Until condition) = ⊥
 StandsAlone (Show display p) = ⊥
+StandsAlone (Register p r) = ⊥
 StandsAlone Where = Unit {0}
 StandsAlone (Words area address n) = ⊥
 StandsAlone (Fetched address n p) = ⊥
 StandsAlone (Log n) = ⊥
+StandsAlone At = Unit {0}
 
 -- and with these
 abbrev pub HasArguments : List (List ℕ × ℕ) → Command → List ℕ → Type 0
@@ -190,10 +194,12 @@ HasArguments symbols Go text = ⊥
 HasArguments symbols (GoFirst n) text = IsCount n text
 HasArguments symbols (Until condition) text = IsCondition symbols condition text
 HasArguments symbols (Show display p) text = IsNumber p text
+HasArguments symbols (Register p r) text = AreNumbers (p, r) text
 HasArguments symbols Where text = ⊥
 HasArguments symbols (Words area address n) text = AreParts (IsPlace symbols) IsNumber (address, n) text
 HasArguments symbols (Fetched address n p) text = AreParts (IsPlace symbols) AreNumbers (address, (n, p)) text
 HasArguments symbols (Log n) text = IsNumber n text
+HasArguments symbols At text = ⊥
 
 abbrev pub IsCommandWith : List (List ℕ × ℕ) → Command → Option (List ℕ) → Type 0
 IsCommandWith symbols command None = StandsAlone command

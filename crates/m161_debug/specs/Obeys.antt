@@ -1,4 +1,4 @@
-use Rattle.std.specs.Prelude.{◌≡◌, ℕ, ◌+◌, ◌*◌, ◌%◌, ◌^◌, ◌==◌, ◌&&◌, not, nat_le, Bool, if◌then◌else◌, is_some, List, [], ◌∷◌, ◌++◌, length, replicate, take, Option, None, Some, Result, Ok, Err, codes, decimal}
+use Rattle.std.specs.Prelude.{◌≡◌, ℕ, ◌+◌, ◌*◌, ◌%◌, ◌^◌, ◌==◌, ◌&&◌, not, nat_le, Bool, if◌then◌else◌, is_some, List, [], ◌∷◌, ◌++◌, length, replicate, slice_index, take, Option, None, Some, Result, Ok, Err, codes, decimal}
 use Rattle.std.specs.List.{list_all, range_with_len}
 use Rattle.std.specs.Option.{option_map}
 use Rattle.m161_dis.specs.declared.naming.Style.{Style}
@@ -20,7 +20,7 @@ use Rattle.m161_debug.specs.declared.command.Area.{Area}
 use Rattle.m161_debug.specs.declared.command.Area.TheVariants.{Memory, Code}
 use Rattle.m161_debug.specs.declared.command.Change.TheVariants.{Set, Delete}
 use Rattle.m161_debug.specs.declared.command.Command.{Command}
-use Rattle.m161_debug.specs.declared.command.Command.TheVariants.{Breakpoint, Make, Steps, Go, GoFirst, Until, Show, Where, Words, Fetched, Log}
+use Rattle.m161_debug.specs.declared.command.Command.TheVariants.{At, Breakpoint, Make, Steps, Go, GoFirst, Until, Show, Register, Where, Words, Fetched, Log}
 use Rattle.m161_debug.specs.declared.command.CommandError.{CommandError}
 use Rattle.m161_debug.specs.declared.command.CommandError.TheVariants.{BadArgument, BadProcessor, TooMany, NoMemory}
 use Rattle.m161_debug.specs.declared.command.Display.{Display}
@@ -77,6 +77,12 @@ fetch_fault p address n s =
     else if nat_le (length s.processors) p then Some BadProcessor
     else if is_fetched p address n s then None else Some BadArgument
 
+-- the fault of a display of register r of processor p
+abbrev pub register_fault : ℕ → ℕ → State → Option CommandError
+register_fault p r s =
+    if nat_le 32 r then Some BadArgument
+    else if nat_le (length s.processors) p then Some BadProcessor else None
+
 -- the fault of a command
 abbrev pub fault_of : SessionState → Command → Option CommandError
 fault_of s (Breakpoint Set p address) =
@@ -89,11 +95,13 @@ fault_of s (GoFirst n) = None
 fault_of s (Until condition) = condition_fault condition s.machine.state
 fault_of s (Show display p) =
     if nat_le (length s.machine.state.processors) p then Some BadProcessor else None
+fault_of s (Register p r) = register_fault p r s.machine.state
 fault_of s Where = None
 fault_of s (Words area address n) =
     if is_shown area s.machine.state address n then None else Some BadArgument
 fault_of s (Fetched address n p) = fetch_fault p address n s.machine.state
 fault_of s (Log n) = if nat_le 1 n && nat_le n 1024 then None else Some BadArgument
+fault_of s At = None
 
 abbrev pub refused_text : Refusal → List ℕ
 refused_text r = decimal (number_of_refusal r) ␣ name_of_refusal r
@@ -130,6 +138,15 @@ abbrev pub display_text : Display → ℕ → State → List ℕ
 display_text Regs p s = show_regs_text p s
 display_text Cop0 p s = show_cop0_text p s
 display_text Tlb p s = show_tlb_text p s
+
+-- a general register
+abbrev pub register_text : ℕ → ℕ → State → List ℕ
+register_text p r s =
+    (codes "r" ++ decimal r) ␣ word_text (slice_index (processor_at p s.processors).registers r)
+
+-- the place of a run: how many events were accepted since boot, and how many it has with the remaining ones
+abbrev pub at_text : ℕ → List Event → List ℕ
+at_text made rest = codes "at" ␣ decimal made ␣ codes "of" ␣ decimal (made + length rest)
 
 abbrev pub area_text : Style → Area → ℕ → ℕ → State → List ℕ
 area_text style Memory address n s = show_mem_text (physical_of address) n s
@@ -188,6 +205,8 @@ HasEffect (GoFirst n) s rest used t printed = Goes s (take n rest) used t printe
 HasEffect (Until condition) s rest used t printed = Awaits condition s rest used t printed
 HasEffect (Show display p) s rest used t printed =
     (used ≡ 0) × (t ≡ s) × (printed ≡ display_text display p s.machine.state)
+HasEffect (Register p r) s rest used t printed =
+    (used ≡ 0) × (t ≡ s) × (printed ≡ with_line_end (register_text p r s.machine.state))
 HasEffect Where s rest used t printed =
     (used ≡ 0) × (t ≡ s) × (printed ≡ show_where_text s.style s.machine.state)
 HasEffect (Words area address n) s rest used t printed =
@@ -196,6 +215,8 @@ HasEffect (Fetched address n p) s rest used t printed =
     (used ≡ 0) × (t ≡ s) × (printed ≡ show_fetched_text s.style p address n s.machine.state)
 HasEffect (Log n) s rest used t printed =
     (used ≡ 0) × (t ≡ s) × (printed ≡ show_log_text n s.machine.log)
+HasEffect At s rest used t printed =
+    (used ≡ 0) × (t ≡ s) × (printed ≡ with_line_end (at_text s.machine.state.made rest))
 
 -- the error is returned, and nothing is changed
 abbrev pub FailsWith :

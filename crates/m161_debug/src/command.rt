@@ -1,7 +1,7 @@
 //! The commands of a debugger.
 
 ghost use Rattle.std.specs.Prelude.{◌≡◌, ℕ, List, Some, None, codes};
-ghost use Rattle.m161_debug.specs.Commands.{change_word, display_word, name_of_error, IsAsked, IsAskedOf, IsCondition, IsConditionOf};
+ghost use Rattle.m161_debug.specs.Commands.{change_word, name_of_error, IsAsked, IsAskedOf, IsCondition, IsConditionOf};
 ghost use Rattle.m161_debug.specs.helpers.Reading.{Finds};
 
 use crate::breakpoints::BreakError;
@@ -55,6 +55,8 @@ pub(crate) enum Command {
     Until(Condition),
     /// Shows a processor.
     Show(Display, u32),
+    /// Shows a general register of a processor.
+    Register(u32, u32),
     /// Shows where each started processor is.
     Where,
     /// Shows this number of words from an address on.
@@ -63,6 +65,8 @@ pub(crate) enum Command {
     Fetched(u32, u32, u32),
     /// Shows this number of the log's last entries.
     Log(u32),
+    /// Shows how many events were made, and how many there are with the remaining ones.
+    At,
 }
 
 /// Why a command isn't executed. Each is returned only if none above it holds.
@@ -145,6 +149,7 @@ fn command_alone(line: &str) -> Result<Command, CommandError>
         "o" => Ok(Command::Make(Event::Done)),
         "g" => Ok(Command::Go),
         "w" => Ok(Command::Where),
+        "a" => Ok(Command::At),
         "b" | "d" | "s" | "k" | "r" | "c" | "t" | "m" | "x" | "l" | "u" => {
             Err(CommandError::BadArgument)
         }
@@ -164,10 +169,10 @@ fn command_with(symbols: &Symbols, word: &str, arguments: &str) -> Result<Comman
         "o" => Err(CommandError::BadArgument),
         "g" => go_of(arguments),
         "u" => until_of(symbols, arguments),
-        "r" => show_of(Display::Regs, arguments),
-        "c" => show_of(Display::Cop0, arguments),
-        "t" => show_of(Display::Tlb, arguments),
-        "w" => Err(CommandError::BadArgument),
+        "r" => register_or_all(arguments),
+        "c" => cop0_of(arguments),
+        "t" => tlb_of(arguments),
+        "w" | "a" => Err(CommandError::BadArgument),
         "m" => memory_of(symbols, arguments),
         "x" => code_of(symbols, arguments),
         "l" => log_command(arguments),
@@ -270,12 +275,38 @@ fn condition_with(symbols: &Symbols, word: &str, arguments: &str) -> Option<Cond
     }
 }
 
-fn show_of(display: Display, arguments: &str) -> Result<Command, CommandError>
+// Coprocessor 0 of a processor.
+fn cop0_of(arguments: &str) -> Result<Command, CommandError>
     ensures { (symbols : List (List ℕ × ℕ)) →
-        IsAskedOf symbols (display_word display) (Some arguments.now) result }
+        IsAskedOf symbols (codes "c") (Some arguments.now) result }
 {
     match number(arguments) {
-        Some(p) => Ok(Command::Show(display, p)),
+        Some(p) => Ok(Command::Show(Display::Cop0, p)),
+        None => Err(CommandError::BadArgument),
+    }
+}
+
+// The TLB of a processor.
+fn tlb_of(arguments: &str) -> Result<Command, CommandError>
+    ensures { (symbols : List (List ℕ × ℕ)) →
+        IsAskedOf symbols (codes "t") (Some arguments.now) result }
+{
+    match number(arguments) {
+        Some(p) => Ok(Command::Show(Display::Tlb, p)),
+        None => Err(CommandError::BadArgument),
+    }
+}
+
+// The registers of a processor, or one of them.
+fn register_or_all(arguments: &str) -> Result<Command, CommandError>
+    ensures { (symbols : List (List ℕ × ℕ)) →
+        IsAskedOf symbols (codes "r") (Some arguments.now) result }
+{
+    if let Some(p) = number(arguments) {
+        return Ok(Command::Show(Display::Regs, p));
+    }
+    match numbers(arguments) {
+        Some((p, r)) => Ok(Command::Register(p, r)),
         None => Err(CommandError::BadArgument),
     }
 }

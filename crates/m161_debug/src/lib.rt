@@ -25,6 +25,8 @@
 //! u r P N     u i P N    .. general register N, row N of the TLB of P has changed
 //! u o                    .. the console has sent a byte
 //! r P     c P     t P    registers, coprocessor 0, TLB
+//! r P N                  rN and general register N, 0 to 31
+//! a                      at K of N: the events accepted since boot, and these with the remaining ones
 //! w                      for each started processor P STATE ADDR WORD TEXT, or P STATE ADDR -
 //! m ADDR N    x ADDR N   1 to 1,024 words: memory, code
 //! x ADDR N P             1 to 1,024 instructions as P would fetch them now

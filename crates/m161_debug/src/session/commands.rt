@@ -6,7 +6,7 @@ ghost use Rattle.m161_debug.specs.declared.command.Change.TheVariants as changes
 ghost use Rattle.m161_debug.specs.declared.command.Command.TheVariants as commands;
 ghost use Rattle.m161_text.specs.Parts.{◌␣◌, word_text};
 ghost use Rattle.m161_text.specs.Lines.{with_line_end};
-ghost use Rattle.m161_debug.specs.Obeys.{area_text, condition_fault, display_text, fetch_fault, is_shown, is_there, Commands, Obeys};
+ghost use Rattle.m161_debug.specs.Obeys.{area_text, condition_fault, display_text, fetch_fault, is_shown, is_there, register_fault, register_text, Commands, Obeys};
 
 use crate::breakpoints::Breakpoint;
 use crate::command::{Area, Change, Command, CommandError, Display, command_of};
@@ -17,6 +17,7 @@ use crate::room::{put_event, put_outcome, put_refusal, put_stop_line};
 use crate::session::Session;
 use m161_bus::Console;
 use m161_elf::is_in_ram;
+use m161_isa::Reg;
 use m161_machine::Event;
 use m161_text::{Word, put};
 use m161_tlb::Tlb;
@@ -66,10 +67,12 @@ impl<T: Tlb + Drop, D: Console + Drop> Session<T, D> {
             Command::GoFirst(n) => self.go_first(n, rest, text),
             Command::Until(condition) => self.go_until(condition, rest, text),
             Command::Show(display, p) => self.show(display, p, text),
+            Command::Register(p, r) => self.show_register(p, r, text),
             Command::Where => self.show_places(text),
             Command::Words(area, address, n) => self.show_words(area, address, n, text),
             Command::Fetched(address, n, p) => self.show_instructions(address, n, p, text),
             Command::Log(n) => self.show_entries(n, text),
+            Command::At => self.show_place(rest.len(), text),
         }
     }
 
@@ -224,6 +227,65 @@ impl<T: Tlb + Drop, D: Console + Drop> Session<T, D> {
         }
         let shown = self.display(display, p)?;
         text.push_str(shown.as_str())?;
+        Ok(0)
+    }
+
+    // Why a register isn't shown.
+    fn register_fault(&self, p: u32, r: u32) -> Option<CommandError>
+        ensures { result ≡ register_fault p r self.now.machine.state }
+    {
+        if r >= 32 {
+            Some(CommandError::BadArgument)
+        } else if p >= self.machine.processors() {
+            Some(CommandError::BadProcessor)
+        } else {
+            None
+        }
+    }
+
+    // The line of a register.
+    fn register_line(&self, p: u32, r: u32) -> Result<String, AllocError>
+        requires { register_fault p r self.now.machine.state ≡ None }
+        ensures { IfOk result (λ line. string_bytes line
+            ≡ with_line_end (register_text p r self.now.machine.state)) }
+    {
+        let mut line = String::new(self.machine.allocator());
+        let word = self.machine.reg(p, Reg::new(r as u8));
+        writeln!(line, "r{r} {}", Word(word))?;
+        Ok(line)
+    }
+
+    // Appends a register of a processor.
+    fn show_register(&mut self, p: u32, r: u32, text: &mut String) -> Result<usize, CommandError>
+        ensures { (rest : List Event) → Obeys (Ok (commands.Register p r)) self.old rest result
+            self.new (string_bytes text.old) (string_bytes text.new) }
+    {
+        if let Some(error) = self.register_fault(p, r) {
+            return Err(error);
+        }
+        let line = self.register_line(p, r)?;
+        text.push_str(line.as_str())?;
+        Ok(0)
+    }
+
+    // The line of the place of a run, of which so many events remain.
+    fn place_line(&self, made: u64, all: u128) -> Result<String, AllocError>
+        ensures { IfOk result (λ line. string_bytes line
+            ≡ with_line_end (codes "at" ␣ decimal made ␣ codes "of" ␣ decimal all)) }
+    {
+        let mut line = String::new(self.machine.allocator());
+        writeln!(line, "at {made} of {all}")?;
+        Ok(line)
+    }
+
+    // Appends the place of a run, of which so many events remain.
+    fn show_place(&mut self, rest: usize, text: &mut String) -> Result<usize, CommandError>
+        ensures { (events : List Event) → rest ≡ length events → Obeys (Ok commands.At) self.old events
+            result self.new (string_bytes text.old) (string_bytes text.new) }
+    {
+        let made = self.machine.made();
+        let line = self.place_line(made, u128::from(made) + rest as u128)?;
+        text.push_str(line.as_str())?;
         Ok(0)
     }
 

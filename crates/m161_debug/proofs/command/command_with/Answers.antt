@@ -5,7 +5,7 @@ use Rattle.m161_debug.proofs.command.command_with.Goals as goal
 pub returns-in_default : goal.returns-in_default
 returns-in_default c =
     let no = c.in_default in
-    (no.not-b, (no.not-d, (no.not-s, (no.not-k, (no.not-o, (no.not-g, (no.not-r, (no.not-c, (no.not-t, (no.not-m, (no.not-x, (no.not-l, (no.not-u, (no.not-w, tt))))))))))))))
+    (no.not-b, (no.not-d, (no.not-s, (no.not-k, (no.not-o, (no.not-g, (no.not-r, (no.not-c, (no.not-t, (no.not-m, (no.not-x, (no.not-l, (no.not-u, (no.not-w, (no.not-a, tt)))))))))))))))
 
 pub returns-in-s : goal.returns-in-s
 returns-in-s c =
@@ -24,18 +24,18 @@ returns-in-g c =
 
 pub returns-in-r : goal.returns-in-r
 returns-in-r c =
-    subst (λ w. IsAskedOf c.args.symbols.now w (Some c.args.arguments.now) c.show_of.result)
-    (sym c.in-r.is) (c.show_of.ensures c.args.symbols.now)
+    subst (λ w. IsAskedOf c.args.symbols.now w (Some c.args.arguments.now) c.register_or_all.result)
+    (sym c.in-r.is) (c.register_or_all.ensures c.args.symbols.now)
 
 pub returns-in-c : goal.returns-in-c
 returns-in-c c =
-    subst (λ w. IsAskedOf c.args.symbols.now w (Some c.args.arguments.now) c.show_of-in-c.result)
-    (sym c.in-c.is) (c.show_of-in-c.ensures c.args.symbols.now)
+    subst (λ w. IsAskedOf c.args.symbols.now w (Some c.args.arguments.now) c.cop0_of.result)
+    (sym c.in-c.is) (c.cop0_of.ensures c.args.symbols.now)
 
 pub returns-in-t : goal.returns-in-t
 returns-in-t c =
-    subst (λ w. IsAskedOf c.args.symbols.now w (Some c.args.arguments.now) c.show_of-in-t.result)
-    (sym c.in-t.is) (c.show_of-in-t.ensures c.args.symbols.now)
+    subst (λ w. IsAskedOf c.args.symbols.now w (Some c.args.arguments.now) c.tlb_of.result)
+    (sym c.in-t.is) (c.tlb_of.ensures c.args.symbols.now)
 
 pub returns-in-l : goal.returns-in-l
 returns-in-l c =
