@@ -17,5 +17,15 @@ SECTIONS
     .data : { *(.data .data.*) }
     .bss : { *(.bss .bss.* COMMON) }
     end = .;
+    /* For a debugger: they are in the file, and in no segment. */
+    .debug_info 0 : { *(.debug_info) }
+    .debug_abbrev 0 : { *(.debug_abbrev) }
+    .debug_line 0 : { *(.debug_line) }
+    .debug_line_str 0 : { *(.debug_line_str) }
+    .debug_str 0 : { *(.debug_str) }
+    .debug_frame 0 : { *(.debug_frame) }
+    .debug_loc 0 : { *(.debug_loc) }
+    .debug_ranges 0 : { *(.debug_ranges) }
+    .debug_aranges 0 : { *(.debug_aranges) }
     /DISCARD/ : { *(*) }
 }

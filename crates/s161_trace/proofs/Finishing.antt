@@ -1,4 +1,4 @@
-use Rattle.std.proofs.Common.{◌≡◌, ◌∙◌, ◌⊎◌, refl, sym, ap, subst, ℕ, ◌-◌, List, ◌++◌, take, drop, Option, None, Some, Result, Ok, Err, IfSome, inl, inr, append_assoc, arith}
+use Rattle.std.proofs.Common.{◌≡◌, ◌∙◌, ◌⊎◌, refl, sym, ap, subst, ℕ, List, ◌++◌, Option, None, Some, Result, Ok, Err, IfSome, inl, inr, append_assoc}
 use Rattle.std.specs.Prelude.{IfErr, IfOk, string_bytes}
 use Rattle.std.specs.Io.KnownBytes.{Appends}
 use Rattle.std.proofs.KnownBytes.{Appends-trans}
@@ -26,7 +26,7 @@ use Rattle.s161_run.specs.declared.events.RunStop.{RunStop}
 use Rattle.s161_run.specs.Runs.{IsFaultOf, stop_line}
 use Rattle.s161_trace.specs.declared.lines.Lines.{Lines}
 use Rattle.s161_trace.specs.declared.filter.LineFilter.{LineFilter}
-use Rattle.s161_trace.specs.Traces.{Begins, BootsFor, IsEarlyFault, IsTraceFault, IsTraced, IsUnread, Runs, driven_of, lines_text, run_of, trace_text, traced}
+use Rattle.s161_trace.specs.Traces.{Begins, BootsFor, IsEarlyFault, IsTraceFault, IsTraced, IsUnread, Runs, driven_of, lines_text, run_of, trace_text}
 use Rattle.s161_trace.specs.helpers.Booted.{FailsRun, PrintsRun}
 use Rattle.s161_trace.specs.helpers.Driven.{DrivesAll, DrivesSome}
 use Rattle.s161_trace.specs.helpers.Printing.{FailsToPrint, FailsToPrintAll, FailsToPut, IsNew, Prints, PrintsAll, lines_from, run_text, filter_of}
@@ -132,15 +132,11 @@ module _ (task : TraceTask) (file : List ℕ) (IsSome : State → List Entry →
         fails = subst (λ v. FailsToPrintAll v s IsSome IsAll t a c fault) is h;
       }))
 
--- A task's. The lines that are asked for are those from the first event on.
+-- A task's. The lines that are asked for are those that the filter leaves.
 
 shown : (task : TraceTask) (file : List ℕ) (s : State) (entries : List Entry) →
     text_of (lines_from (filter_of task file) 0 s entries) ≡ lines_text task file s entries
-shown task file s entries =
-    let w = filter_of task file in
-    let all : task.count - (0 - task.from) ≡ task.count = omega arith in
-    let first : task.from - 0 ≡ task.from = omega arith in
-    λ i. text_of (take (all i) (drop (first i) (traced w.style 0 s entries)))
+shown task file s entries = refl
 
 shown_whole : (task : TraceTask) (file : List ℕ) (s : State) (entries : List Entry) (stop : RunStop) →
     run_text (filter_of task file) s entries stop ≡ trace_text task file s entries stop

@@ -1,10 +1,10 @@
-use Rattle.std.proofs.Common.{◌≡◌, ◌∙◌, refl, sym, ap, subst, ℕ, suc, ◌+◌, ◌-◌, ◌≤◌, Bool, true, false, nat_le, nat_lt, List, [], ◌∷◌, ◌++◌, length, take, drop, Option, Ok, append-nil, append_assoc, inr, arith}
+use Rattle.std.proofs.Common.{◌≡◌, ◌∙◌, refl, sym, ap, subst, ℕ, suc, ◌+◌, ◌≤◌, Bool, true, false, nat_le, List, [], ◌∷◌, ◌++◌, length, take, Option, Ok, append-nil, append_assoc, inr, arith}
 use Rattle.std.proofs.lemmas.List.{length-append, take-append-le, take_all}
-use Rattle.std.proofs.Math.Seq.{drop-nil, take-append_seam, take-nil}
+use Rattle.std.proofs.Math.Seq.{take-append_seam}
 use Rattle.std.proofs.lemmas.List.Concat.{flat_map-append}
-use Rattle.std.proofs.lemmas.Bool.{leb-true, ltb-true, leb-false, ltb-false}
+use Rattle.std.proofs.lemmas.Bool.{leb-true, leb-false}
 use Rattle.std.proofs.KnownBytes.{Appends-nil, Appends-trans}
-use Rattle.std.specs.Prelude.{◌&&◌, if◌then◌else◌, string_bytes}
+use Rattle.std.specs.Prelude.{if◌then◌else◌, string_bytes}
 use Rattle.std.specs.Io.KnownBytes.{Appends}
 use Rattle.m161_cpu.specs.declared.processor.Outcome.{Outcome}
 use Rattle.m161_machine.specs.declared.event.Entry.{Entry}
@@ -24,63 +24,20 @@ use Rattle.s161_trace.specs.helpers.Printing.{FailsToPrint, FailsToPut, Prints, 
 
 -- The lines of a run, one after the other.
 
--- the first line of a part of a list
-
-take_none : {A : Type 0} (n k : ℕ) → ◌≡◌ {A = List A} (take n (drop k [])) []
-take_none n k = ap (take n) (drop-nil k) ∙ take-nil n
-
--- behind its first place, or where it is outside
-open_part : {A : Type 0} (b : Bool) (d count : ℕ) (x : A) (xs : List A) → nat_lt d count ≡ b →
-    take (count - d) (x ∷ xs) ≡ (if b then x ∷ [] else []) ++ take (count - (d + 1)) xs
-open_part true d count x xs is =
-    let less = ltb-true d count is in
-    let more : count - d ≡ suc (count - (d + 1)) = omega (arith, less) in
-    ap (λ n. take n (x ∷ xs)) more
-open_part false d count x xs is =
-    let most = ltb-false d count is in
-    let none : count - d ≡ 0 = omega (arith, most) in
-    let none_after : count - (d + 1) ≡ 0 = omega (arith, most) in
-    ap (λ n. take n (x ∷ xs)) none ∙ sym (ap (λ n. take n xs) none_after)
-
-part_by : {A : Type 0} (b : Bool) (from count k : ℕ) (x : A) (xs : List A) → nat_le from k ≡ b →
-    take (count - (k - from)) (drop (from - k) (x ∷ xs))
-    ≡ (if b && nat_lt (k - from) count then x ∷ [] else []) ++ take (count - (k + 1 - from)) (drop (from - (k + 1)) xs)
-part_by true from count k x xs is =
-    let within = leb-true from k is in
-    let first : from - k ≡ 0 = omega (arith, within) in
-    let second : from - (k + 1) ≡ 0 = omega (arith, within) in
-    let after : k + 1 - from ≡ k - from + 1 = omega (arith, within) in
-    let one = if nat_lt (k - from) count then x ∷ [] else [] in
-    ap (λ n. take (count - (k - from)) (drop n (x ∷ xs))) first
-    ∙ open_part (nat_lt (k - from) count) (k - from) count x xs refl
-    ∙ sym (ap (λ n. one ++ take (count - n) xs) after)
-    ∙ sym (ap (λ n. one ++ take (count - (k + 1 - from)) (drop n xs)) second)
-part_by false from count k x xs is =
-    let before = leb-false from k is in
-    let first : from - k ≡ suc (from - (k + 1)) = omega (arith, before) in
-    let same : k - from ≡ k + 1 - from = omega (arith, before) in
-    ap (λ n. take (count - (k - from)) (drop n (x ∷ xs))) first
-    ∙ ap (λ n. take (count - n) (drop (from - (k + 1)) xs)) same
-
-part : {A : Type 0} (from count k : ℕ) (x : A) (xs : List A) →
-    take (count - (k - from)) (drop (from - k) (x ∷ xs))
-    ≡ (if nat_le from k && nat_lt (k - from) count then x ∷ [] else []) ++ take (count - (k + 1 - from)) (drop (from - (k + 1)) xs)
-part from count k x xs = part_by (nat_le from k) from count k x xs refl
-
 -- the line of an event, if it has one
 abbrev pub line_of : LineFilter → ℕ → State → Entry → State → List (List ℕ)
-line_of w number s e t = if has_line w number then event_line w.style number e.event s e.outcome t ∷ [] else []
+line_of w number s e t =
+    if has_line w number e.event e.outcome then event_line w.style number e.event s e.outcome t ∷ [] else []
 
 module _ (w : LineFilter) where
   pub no_lines : (number : ℕ) (s : State) → lines_from w number s [] ≡ []
-  no_lines number s = take_none (w.count - (number - w.from)) (w.from - number)
+  no_lines number s = refl
 
   -- of the first event, and of those after it
   pub first_line : (number : ℕ) (s : State) (e : Entry) (es : List Entry) (t : State) → next s e.event ≡ Ok (e.outcome, t) →
       lines_from w number s (e ∷ es) ≡ line_of w number s e t ++ lines_from w (number + 1) t es
   first_line number s e es t h =
-      ap (λ r. take (w.count - (number - w.from)) (drop (w.from - number) (line_and w.style number s e.event r (λ u. traced w.style (number + 1) u es)))) h
-      ∙ part w.from w.count number (event_line w.style number e.event s e.outcome t) (traced w.style (number + 1) t es)
+      ap (λ r. line_and w.style (has_line w) number s e.event r (λ u. traced w.style (has_line w) (number + 1) u es)) h
 
   one_line : (number : ℕ) (s : State) (e : Entry) (t : State) → next s e.event ≡ Ok (e.outcome, t) →
       lines_from w number s (e ∷ []) ≡ line_of w number s e t
@@ -113,7 +70,7 @@ module _ (w : LineFilter) where
       ap text_of (lines_on es fs number s t h)
       ∙ flat_map-append with_line_end (lines_from w number s es) (lines_from w (number + length es) t fs)
 
-  pub with_line : (number : ℕ) (s : State) (e : Event) (o : Outcome) (t : State) → has_line w number ≡ true → next s e ≡ Ok (o, t) →
+  pub with_line : (number : ℕ) (s : State) (e : Event) (o : Outcome) (t : State) → has_line w number e o ≡ true → next s e ≡ Ok (o, t) →
       text_of (lines_from w number s (entry e o ∷ [])) ≡ with_line_end (event_line w.style number e s o t)
   with_line number s e o t has h =
       let line = event_line w.style number e s o t in
@@ -121,7 +78,7 @@ module _ (w : LineFilter) where
       ∙ ap (λ b. text_of (if b then line ∷ [] else [])) has
       ∙ append-nil (with_line_end line)
 
-  pub without_line : (number : ℕ) (s : State) (e : Event) (o : Outcome) (t : State) → has_line w number ≡ false → next s e ≡ Ok (o, t) →
+  pub without_line : (number : ℕ) (s : State) (e : Event) (o : Outcome) (t : State) → has_line w number e o ≡ false → next s e ≡ Ok (o, t) →
       text_of (lines_from w number s (entry e o ∷ [])) ≡ []
   without_line number s e o t has h =
       let line = event_line w.style number e s o t in

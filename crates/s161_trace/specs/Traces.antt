@@ -1,8 +1,10 @@
-use Rattle.std.specs.Prelude.{◌≡◌, ◌⊎◌, ℕ, ◌+◌, ◌≤◌, List, [], ◌∷◌, ◌++◌, take, drop, length, slice_get, Option, None, Some, IfSome, Result, Ok, Err}
+use Rattle.std.specs.Prelude.{◌≡◌, ◌⊎◌, ℕ, ◌+◌, ◌-◌, ◌≤◌, nat_le, nat_lt, ◌==◌, ◌&&◌, Bool, true, false, if◌then◌else◌, List, [], ◌∷◌, ◌++◌, take, length, slice_get, Option, None, Some, IfSome, Result, Ok, Err}
 use Rattle.std.specs.Io.KnownBytes.{Appends}
 use Rattle.m161_cpu.specs.declared.processor.Outcome.{Outcome}
+use Rattle.m161_cpu.specs.declared.processor.Outcome.TheVariants as outcomes
 use Rattle.m161_machine.specs.declared.event.Entry.{Entry}
 use Rattle.m161_machine.specs.declared.event.Event.{Event}
+use Rattle.m161_machine.specs.declared.event.Event.TheVariants as event
 use Rattle.m161_machine.specs.declared.event.Refusal.{Refusal}
 use Rattle.m161_machine.specs.State.{State, next}
 use Rattle.m161_machine.specs.History.{Leads, events_of}
@@ -42,25 +44,58 @@ keys_files (Some drive) = option_files drive.keys
 abbrev pub trace_files : TraceTask → List (List ℕ)
 trace_files task = image_files task.image.now ++ keys_files task.drive
 
--- an event's line, and then those of the events after it; none where it is refused
-abbrev pub line_and :
-    Style → ℕ → State → Event → Result (Outcome × State) Refusal → (State → List (List ℕ)) →
-    List (List ℕ)
-line_and style number s e (Err refusal) rest = []
-line_and style number s e (Ok given) rest =
-    event_line style number e s given.0 given.1 ∷ rest given.1
+-- which events have lines
 
--- the lines of the events of these entries, from a state on; the first of them has this number
-abbrev pub traced : Style → ℕ → State → List Entry → List (List ℕ)
-traced style number s [] = []
-traced style number s (e ∷ es) =
-    line_and style number s e.event (next s e.event) (λ t. traced style (number + 1) t es)
+-- events of these numbers: so many, from one on
+abbrev pub is_among : ℕ → ℕ → ℕ → Bool
+is_among from count number = nat_le from number && nat_lt (number - from) count
+
+-- Steps of the processor that is asked for, if one is
+abbrev pub is_step_of : ℕ → Event → Bool
+is_step_of p (event.Step q) = p == q
+is_step_of p (event.Key byte) = false
+is_step_of p event.Done = false
+
+abbrev pub is_only : Option ℕ → Event → Bool
+is_only None e = true
+is_only (Some p) e = is_step_of p e
+
+-- events that do something else than what they are for
+abbrev pub has_outcome : Outcome → Bool
+has_outcome outcomes.Ran = false
+has_outcome (outcomes.Trapped code vector) = true
+has_outcome outcomes.Idle = true
+has_outcome outcomes.PoweredOff = true
+has_outcome (outcomes.Conflict i j) = true
+has_outcome outcomes.Taken = false
+
+-- those for which each of these holds that is asked for
+abbrev pub is_wanted : ℕ → ℕ → Option ℕ → Bool → ℕ → Event → Outcome → Bool
+is_wanted from count only by_outcome number e o =
+    is_among from count number && is_only only e && (if by_outcome then has_outcome o else true)
+
+-- an event's line, if it has one, and then those of the events after it; none where it is refused
+abbrev pub line_and :
+    Style → (ℕ → Event → Outcome → Bool) → ℕ → State → Event → Result (Outcome × State) Refusal →
+    (State → List (List ℕ)) → List (List ℕ)
+line_and style has number s e (Err refusal) rest = []
+line_and style has number s e (Ok given) rest =
+    (if has number e given.0 then event_line style number e s given.0 given.1 ∷ [] else [])
+    ++ rest given.1
+
+-- the lines of those of these entries' events that have one, from a state on; the first of the events
+-- has this number
+abbrev pub traced :
+    Style → (ℕ → Event → Outcome → Bool) → ℕ → State → List Entry → List (List ℕ)
+traced style has number s [] = []
+traced style has number s (e ∷ es) =
+    line_and style has number s e.event (next s e.event) (λ t. traced style has (number + 1) t es)
 
 -- those that the task asks for, over this file of its image
 abbrev pub shown_lines : TraceTask → List ℕ → State → List Entry → List (List ℕ)
 shown_lines task file s entries =
-    take task.count
-    (drop task.from (traced (style_of task.registers task.symbols task.image.now file) 0 s entries))
+    traced (style_of task.registers task.symbols task.image.now file)
+    (is_wanted task.from task.count task.only task.outcomes) 0 s entries
 
 -- their text, of a run from a state on that has these entries
 abbrev pub lines_text : TraceTask → List ℕ → State → List Entry → List ℕ

@@ -162,7 +162,7 @@ impl Lines {
         outcome: Outcome,
         output: &mut O,
     ) -> Result<(), Fault<'a>>
-        requires has { has_line self.old.filter self.old.number ≡ true }
+        requires has { has_line self.old.filter self.old.number event outcome ≡ true }
         requires accepted { next self.old.tracer event ≡ Ok (outcome, machine.now.state) }
         requires few { self.old.number < 2 ^ 64 - 1 }
         ensures ok { OnOk result (Prints self.old (O.contents output.old)
@@ -190,7 +190,7 @@ impl Lines {
         ensures err { IfErr result (FailsToPrint self.old (O.contents output.old)
             (entry event outcome ∷ []) machine.now.state (O.contents output.new)) }
     {
-        if self.filter.has(self.number) {
+        if self.filter.has(self.number, event, outcome) {
             return self.add_line(machine, event, outcome, output);
         }
         self.pass(event)?;

@@ -1,6 +1,8 @@
-use Rattle.std.specs.Prelude.{◌≡◌, ◌⊎◌, ℕ, ◌+◌, ◌-◌, Bool, ◌&&◌, nat_le, nat_lt, List, [], ◌++◌, take, drop, length, string_bytes, Option}
+use Rattle.std.specs.Prelude.{◌≡◌, ◌⊎◌, ℕ, ◌+◌, Bool, List, [], ◌++◌, length, string_bytes, Option}
 use Rattle.std.specs.Io.KnownBytes.{Appends}
+use Rattle.m161_cpu.specs.declared.processor.Outcome.{Outcome}
 use Rattle.m161_machine.specs.declared.event.Entry.{Entry}
+use Rattle.m161_machine.specs.declared.event.Event.{Event}
 use Rattle.m161_machine.specs.History.{Leads}
 use Rattle.m161_machine.specs.State.{State}
 use Rattle.m161_text.specs.Lines.{text_of, with_line_end}
@@ -13,7 +15,7 @@ use Rattle.s161_run.specs.declared.events.RunStop.{RunStop}
 use Rattle.s161_run.specs.Runs.{stop_line}
 use Rattle.s161_trace.specs.declared.lines.Lines.{Lines}
 use Rattle.s161_trace.specs.declared.filter.LineFilter.{LineFilter}
-use Rattle.s161_trace.specs.Traces.{traced}
+use Rattle.s161_trace.specs.Traces.{is_wanted, traced}
 
 -- How lines are printed as a run goes on.
 
@@ -23,16 +25,17 @@ filter_of task file = record {
   style = style_of task.registers task.symbols task.image.now file;
   from = task.from;
   count = task.count;
+  only = task.only;
+  outcomes = task.outcomes;
 }
 
--- whether the event of a number has a line
-abbrev pub has_line : LineFilter → ℕ → Bool
-has_line w number = nat_le w.from number && nat_lt (number - w.from) w.count
+-- whether an event has a line
+abbrev pub has_line : LineFilter → ℕ → Event → Outcome → Bool
+has_line w = is_wanted w.from w.count w.only w.outcomes
 
 -- the lines that are asked for, of events from a state on, the first of which has this number
 abbrev pub lines_from : LineFilter → ℕ → State → List Entry → List (List ℕ)
-lines_from w number s entries =
-    take (w.count - (number - w.from)) (drop (w.from - number) (traced w.style number s entries))
+lines_from w number s entries = traced w.style (has_line w) number s entries
 
 -- bytes are put behind those that are kept back, and some of all are written
 abbrev pub PutsOut :
