@@ -7,7 +7,7 @@ pub(crate) const IMAGE_HELP: &str =
 /// The end of the program's help.
 pub(crate) const AFTER_HELP: &str = "\
 Exit status:
-  0  a finished demo, schedule, debug, as or dis, a machine that switched
+  0  a finished demo, schedule, debug, gdb, as or dis, a machine that switched
      itself off, a log that agrees, a clean run or search, or help
   1  a fault, named on standard error, or a refused event of run, trace or
      console
@@ -190,7 +190,9 @@ read:
   j K                  goes back to the state before event K of those that were made
   s P  s P N  k HH  o  makes an event, or N Steps, that aren't FILE's
   w                    shows where each processor is
+  a                    shows how many events were made, and how many with the others
   r P  c P  t P        shows registers, coprocessor 0, the TLB
+  r P N                shows register N of P
   m ADDR N  x ADDR N   shows N words of memory or of code, 1 to 1024
   x ADDR N P           the same as processor P would fetch them
   l N                  shows the log's last N entries, 1 to 1024, or all that it keeps
@@ -217,9 +219,12 @@ a place, a number of events made; a watch stops before the event that loads or s
 `monitor`:
   at  why              the place and what comes next; why the last move stopped
   goto K               marks place K: a move that reaches it stops there
-  where                where each processor is
+  where                where each started processor is
   regs [P]  cop0 [P]  tlb [P]
-                       registers, coprocessor 0, the TLB, of the processor that is looked at or of P
+                       registers, coprocessor 0, the TLB of P, or of the processor that GDB looks at
+  memory ADDR N        N words of memory, 1 to 1024
+  trace N              the lines that trace has of the last N events, 1 to 1024
+  output  schedule     the console's bytes so far; the events so far, as a schedule
   help
 The image, FILE and keys have at most 402653184 bytes each.
 
