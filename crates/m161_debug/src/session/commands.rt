@@ -236,7 +236,7 @@ impl<T: Tlb + Drop, D: Console + Drop> Session<T, D> {
     {
         if r >= 32 {
             Some(CommandError::BadArgument)
-        } else if p >= self.machine.processors() {
+        } else if self.machine.processors() <= p {
             Some(CommandError::BadProcessor)
         } else {
             None
