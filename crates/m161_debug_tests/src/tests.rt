@@ -5,6 +5,7 @@ mod conflicts;
 mod fetched;
 mod jumps;
 mod names;
+mod registers;
 mod sessions;
 mod steps;
 mod untils;

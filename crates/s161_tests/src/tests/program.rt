@@ -38,6 +38,7 @@ Commands:
   trace     Prints a line for each event of a run: the instruction, and what it changed
   replay    Makes a log's events once more, and compares their outcomes
   debug     Does a debugger's commands on an image under a list of events
+  gdb       Serves GDB's remote protocol on an image under a list of events
   audit     Looks for a Step that uses a stale row of the TLB, after its shootdown
   as        Assembles a text to an ELF file
   dis       Prints the instructions of an image
@@ -48,7 +49,7 @@ Options:
   -V, --version  Print version
 
 Exit status:
-  0  a finished demo, schedule, debug, as or dis, a machine that switched
+  0  a finished demo, schedule, debug, gdb, as or dis, a machine that switched
      itself off, a log that agrees, a clean run or search, or help
   1  a fault, named on standard error, or a refused event of run, trace or
      console
