@@ -1,8 +1,11 @@
 use Rattle.std.proofs.Common.{ℕ, List, Option, Result}
+use Rattle.std.specs.declared.alloc.AllocError.{AllocError}
 use Rattle.std.specs.Prelude.{IfErr}
 use Rattle.std.proofs.lemmas.Result.{IfErr-weaker}
 use Rattle.m161_debug.specs.Breakpoints.{SessionState}
 use Rattle.m161_machine.specs.declared.event.Event.{Event}
+use Rattle.m161_server.specs.declared.fault.Fault.{Fault as ServerFault}
+use Rattle.m161_server.specs.declared.fault.Fault.TheVariants as server
 use Rattle.s161_base.proofs.Asking.{IsNoFile, result_asks}
 use Rattle.s161_base.specs.Asked.{Asks, AsksFor}
 use Rattle.s161_base.specs.Streams.{Streams}
@@ -11,6 +14,7 @@ use Rattle.s161_base.specs.declared.fault.Fault.TheVariants.{Conf, File, Image, 
 use Rattle.s161_base.specs.declared.machines.LoggedMachine.{LoggedMachine}
 use Rattle.s161_command.specs.declared.task.AskedSize.{AskedSize}
 use Rattle.s161_debug.specs.Debugs.{IsListFault, IsMachineFault}
+use Rattle.s161_debug.specs.Gdb.{told_as}
 use Rattle.s161_debug.specs.Sessions.{Breaks, IsBehind}
 
 -- The faults that are none of a file: behind it all files were asked for.
@@ -81,3 +85,10 @@ pub session_asks : {A : Type 0} (s : SessionState) (events : List Event) (x : St
     (names : List (List ℕ)) (a b : Option (List (List ℕ))) → Asks names a b → AsksFor names r a b
 session_asks s events x r fails names a b asks =
     result_asks names a b r asks (IfErr-weaker r (Breaks s events x) IsNoFile (λ fault h. behind_is_none fault h.part h.is_behind) fails)
+
+-- of a session of GDB
+pub told_is_none : (why : ServerFault AllocError) → IsNoFile (told_as why)
+told_is_none server.Input = tt
+told_is_none server.Output = tt
+told_is_none server.Memory = tt
+told_is_none (server.Run error) = tt

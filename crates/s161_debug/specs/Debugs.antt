@@ -1,3 +1,4 @@
+use Rattle.std.proofs.Common.{Bor}
 use Rattle.std.specs.Prelude.{◌≡◌, ◌⊎◌, ℕ, Bool, true, false, nat_eq, if◌then◌else◌, List, [], ◌∷◌, ◌++◌, Option, None, Some, IfSome, codes}
 use Rattle.std.specs.List.{starts_with}
 use Rattle.m161_machine.specs.declared.conf.BootError.TheVariants.{Load}
@@ -137,13 +138,18 @@ IsSourceFault (source.File name) size files file fault =
 IsSourceFault (source.Driven drive) size files file fault =
     IsKeysFile drive.keys fault ⊎ IsMachineFault size file None fault
 
--- a fault before the session: memory was refused, whatever else is at fault; or the image's file
--- isn't read; or the source's fault
+-- why the run of an image's file of this name isn't opened: memory was refused, whatever else is at
+-- fault; or the image's file isn't read; or the source's fault
+abbrev pub IsUnopened :
+    Bor (List ℕ) → Source → AskedSize → (List ℕ → Option (List ℕ)) → Option (List ℕ) → Fault → Type 0
+IsUnopened name from size files image fault =
+    (fault ≡ Memory) ⊎ (IsFileUnread name IsOfBytes fault × IsFileName name.now)
+    ⊎ OfKnown image (λ file. IsSourceFault from size files file fault)
+
+-- a fault before the session
 abbrev pub IsEarlyFault :
     DebugTask → (List ℕ → Option (List ℕ)) → Option (List ℕ) → Fault → Type 0
-IsEarlyFault task files image fault =
-    (fault ≡ Memory) ⊎ (IsFileUnread task.image IsOfBytes fault × IsFileName task.image.now)
-    ⊎ OfKnown image (λ file. IsSourceFault task.source task.size files file fault)
+IsEarlyFault task = IsUnopened task.image task.source task.size
 
 -- a fault in the session
 abbrev pub FailsInSession :

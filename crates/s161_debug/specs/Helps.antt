@@ -18,7 +18,9 @@ help_text = text_of (
     codes "u o                        g, and stops once a byte is sent" ∷
     codes "j K                        goes to the state before event K; the later ones are left again" ∷
     codes "w                          where the started processors are" ∷
+    codes "a                          how many events were made, and how many with those that are left" ∷
     codes "r P                        the registers of processor P" ∷
+    codes "r P N                      its register N" ∷
     codes "c P                        its registers of coprocessor 0" ∷
     codes "t P                        its TLB" ∷
     codes "m ADDR N                   N words of RAM" ∷

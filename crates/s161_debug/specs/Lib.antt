@@ -1,4 +1,5 @@
 pub mod Debugs
+pub mod Gdb
 pub mod Helps
 pub mod Lines
 pub mod Sessions

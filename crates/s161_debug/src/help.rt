@@ -18,7 +18,9 @@ u i P I                    g, and stops once its TLB row I is another
 u o                        g, and stops once a byte is sent
 j K                        goes to the state before event K; the later ones are left again
 w                          where the started processors are
+a                          how many events were made, and how many with those that are left
 r P                        the registers of processor P
+r P N                      its register N
 c P                        its registers of coprocessor 0
 t P                        its TLB
 m ADDR N                   N words of RAM

@@ -11,11 +11,14 @@
 //!
 //! K is decimal, without leading zeros, and below 2^64. An error is printed as `? NAME`. The lines
 //! and their texts are this project's own.
+//!
+//! And the command that serves GDB on a run over the same events, by m161_server's sessions.
 #![tactic(auto)]
 
 mod answer;
 mod asked;
 pub mod debug;
+pub mod gdb;
 mod help;
 mod left;
 mod line;

@@ -12,7 +12,8 @@ ghost use Rattle.s161_base.specs.Texts.{IsLogFault, IsScheduleFault};
 ghost use Rattle.s161_command.specs.declared.task.Source.TheVariants as sources;
 ghost use Rattle.s161_run.specs.Driven.{rules_of};
 ghost use Rattle.s161_run.specs.Schedules.{Chose};
-ghost use Rattle.s161_debug.specs.Debugs.{debug_files, first_plain, is_log, source_files, IsEarlyFault, IsListFault, IsMachineFault, IsOpened, IsSourceFault, Lists, ListsAs, Opens};
+ghost use Rattle.s161_debug.specs.Debugs.{debug_files, first_plain, is_log, source_files, IsEarlyFault, IsListFault, IsMachineFault, IsOpened, IsSourceFault, IsUnopened, Lists, ListsAs, Opens};
+ghost use Rattle.s161_debug.specs.Gdb.{gdb_files, OpensRun};
 ghost use Rattle.s161_debug.specs.helpers.Debugs.{IsBootFault};
 
 use m161::Machine;
@@ -26,7 +27,7 @@ use s161_base::machines::{LoggedMachine, asked_conf, machine_fault};
 use s161_base::naming::style_of;
 use s161_base::sample::read_image;
 use s161_base::texts::{events_of, log_of};
-use s161_command::{AskedSize, DebugTask, Drive, Source};
+use s161_command::{AskedSize, DebugTask, Drive, GdbTask, Source};
 use s161_run::policy::read_keys;
 use s161_run::schedule::{chosen_events, events_made};
 use std::alloc::Global;
@@ -39,11 +40,11 @@ pub(crate) struct Opened {
     pub(crate) style: Style,
 }
 
-// The machine of a session, and its events.
+/// The machine of a session, and its events.
 #[derive(Drop)]
-struct Prepared {
-    machine: Machine,
-    events: Vec<Event>,
+pub(crate) struct Prepared {
+    pub(crate) machine: Machine,
+    pub(crate) events: Vec<Event>,
 }
 
 // The events of a text, and what it says of its machine if it is a log.
@@ -81,6 +82,29 @@ pub(crate) fn open<'a, F: FileSource>(
         events: booted.events,
         style,
     })
+}
+
+/// The same for a session of GDB, which shows no symbols.
+///
+/// # Errors
+/// The first fault.
+pub(crate) fn open_run<'a, F: FileSource>(
+    alloc: Global,
+    files: &mut F,
+    task: GdbTask<'a>,
+) -> Result<Prepared, Fault<'a>>
+    requires { HasSourceLimits task.source }
+    ensures ok { IfOk result (λ opened. OpensRun task.entry (F.known files.old)
+        (image_file (F.known files.old) task.entry.image.now) opened.machine opened.events.items) }
+    ensures fault { IfErr result (IsUnopened task.entry.image task.entry.source task.entry.size
+        (F.known files.old) (image_file (F.known files.old) task.entry.image.now)) }
+    ensures asks { AsksFor (gdb_files task.entry) result (F.asked files.old)
+        (F.asked files.new) }
+{
+    let whole = read_image(alloc, files, task.image)?;
+    let image = whole.as_slice();
+    let booted = open_image(alloc, files, image, task.size, task.source)?;
+    Ok(booted)
 }
 
 // Boots an image, with the events of a source.

@@ -10,8 +10,10 @@ use Rattle.s161_base.specs.declared.fault.Fault.{Fault}
 use Rattle.s161_base.specs.declared.fault.Fault.TheVariants.{Conf, File, Image, Input, Log, LogImage, LogMachine, Memory, Never, Output, Schedule, Source, Threads, Watch, Watches, Word}
 use Rattle.s161_command.specs.declared.task.ConsoleTask.{ConsoleTask}
 use Rattle.s161_command.specs.declared.task.DebugTask.{DebugTask}
-use Rattle.s161_debug.proofs.Asking.{behind_is_none}
+use Rattle.s161_command.specs.declared.task.GdbTask.{GdbTask}
+use Rattle.s161_debug.proofs.Asking.{behind_is_none, told_is_none}
 use Rattle.s161_debug.specs.Debugs.{IsDebugFault}
+use Rattle.s161_debug.specs.Gdb.{IsGdbFault}
 use Rattle.s161_run.proofs.Asking.{serve_is_none}
 use Rattle.s161_run.specs.Consoles.{IsConsoleFault}
 use Rattle.s161_texts.specs.Listings.{IsUnlisted}
@@ -38,6 +40,12 @@ pub debug_before : (task : DebugTask) (files : Text → Option (List ℕ)) (imag
     IsDebugFault task files image x fault → IsBeforeInput fault x.input x.left
 debug_before task files image x fault (inl h) = untouched fault x.input x.left h.1.0
 debug_before task files image x fault (inr h) = none_before fault x.input x.left (behind_is_none fault h.4.part h.4.is_behind)
+
+-- a session of GDB
+pub gdb_before : (task : GdbTask) (files : Text → Option (List ℕ)) (image : Option (List ℕ)) (x : Streams) (fault : Fault) →
+    IsGdbFault task files image x fault → IsBeforeInput fault x.input x.left
+gdb_before task files image x fault (inl h) = untouched fault x.input x.left h.1.0
+gdb_before task files image x fault (inr h) = none_before fault x.input x.left (subst IsNoFile (sym h.fault_is) (told_is_none h.why))
 
 -- the demo, which has no file
 pub demo_asks : {A : Type 0} (r : Result A Fault) (a : Option (List Text)) → IfErr r (λ fault. fault ≡ Memory) → AsksFor [] r a a

@@ -3,9 +3,10 @@ use Rattle.clap.specs.Words.{Text, subcommand_of}
 use Rattle.m161_text.specs.Lines.{with_line_end}
 use Rattle.s161_command.specs.declared.task.ConsoleTask.{ConsoleTask}
 use Rattle.s161_command.specs.declared.task.DebugTask.{DebugTask}
+use Rattle.s161_command.specs.declared.task.GdbTask.{GdbTask}
 use Rattle.s161_command.specs.declared.task.TraceTask.{TraceTask}
 use Rattle.s161_command.specs.declared.task.Task.{Task}
-use Rattle.s161_command.specs.declared.task.Task.TheVariants.{Assemble, Audit, Console, Debug, Demo, Disassemble, Replay, Run, RunDriven, RunInThreads, Schedule, Search, Trace}
+use Rattle.s161_command.specs.declared.task.Task.TheVariants.{Assemble, Audit, Console, Debug, Demo, Disassemble, Gdb, Replay, Run, RunDriven, RunInThreads, Schedule, Search, Trace}
 use Rattle.s161_command.specs.Commands.{GoTogether, IsAccepted, IsTask, command_line, never_of}
 use Rattle.s161_base.specs.Asked.{AsksUntil, IsBeforeInput}
 use Rattle.s161_base.specs.declared.fault.Fault.{Fault}
@@ -16,6 +17,7 @@ use Rattle.s161_base.specs.Streams.{AppendsSome}
 use Rattle.s161_search.specs.Audits.{IsAuditFault}
 use Rattle.s161_run.specs.Consoles.{IsConsoleFault, IsConsoleRun}
 use Rattle.s161_debug.specs.Debugs.{IsDebugFault}
+use Rattle.s161_debug.specs.Gdb.{IsGdbFault}
 use Rattle.s161_run.specs.Driven.{IsDrivenFault}
 use Rattle.s161_run.specs.Schedules.{IsScheduledFault}
 use Rattle.s161_run.specs.Replays.{IsReplayFault}
@@ -26,7 +28,7 @@ use Rattle.s161_run.specs.Threads.{IsThreadsFault}
 use Rattle.s161_trace.specs.Traces.{IsTraceFault}
 use Rattle.s161_work.specs.Assemblies.{IsAssemblyFault}
 use Rattle.s161_work.specs.Listings.{IsListingFault}
-use Rattle.s161_work.specs.Works.{Does, FileUse, GivesHelp, Going, HasMore, IsRefused, IsResultOf, IsUnasked, LeavesInput, Standard, debugging, files_of, going_of, serving, standard, streams_of, tracing}
+use Rattle.s161_work.specs.Works.{Does, FileUse, GivesHelp, Going, HasMore, IsRefused, IsResultOf, IsUnasked, LeavesInput, Standard, answering, debugging, files_of, going_of, serving, standard, streams_of, tracing}
 
 -- How a command line ends with the status 1.
 
@@ -45,6 +47,7 @@ IsTaskFault never (Schedule task) files input fault =
 IsTaskFault never (Console task) files input fault = ⊥
 IsTaskFault never (Trace task) files input fault = ⊥
 IsTaskFault never (Debug task) files input fault = ⊥
+IsTaskFault never (Gdb task) files input fault = ⊥
 IsTaskFault never (Search task) files input fault =
     IsSearchFault task never files (image_file files task.image.now) fault
 IsTaskFault never (Replay task) files input fault =
@@ -100,6 +103,13 @@ FailsToDebug task files before after fault =
     IsDebugFault task files (image_file files task.image.now) (streams_of before after) fault
     × (after.errors ≡ before.errors)
 
+-- and a session of GDB
+abbrev pub FailsToAnswer :
+    GdbTask → (Text → Option (List ℕ)) → Standard → Standard → Fault → Type 0
+FailsToAnswer task files before after fault =
+    IsGdbFault task files (image_file files task.image.now) (streams_of before after) fault
+    × (after.errors ≡ before.errors)
+
 -- a task is ended by this fault: one that writes as it goes on; or before or while its text is printed,
 -- and nothing was written to standard error
 abbrev pub FailsAs :
@@ -110,6 +120,8 @@ FailsAs (Some (tracing trace)) never task files before after fault =
     FailsToTrace trace files before after fault
 FailsAs (Some (debugging debug)) never task files before after fault =
     FailsToDebug debug files before after fault
+FailsAs (Some (answering gdb)) never task files before after fault =
+    FailsToAnswer gdb files before after fault
 FailsAs None never task files before after fault =
     Fails (IsResultOf never task files before.input) (IsTaskFault never task files before.input)
     before.output after.output fault

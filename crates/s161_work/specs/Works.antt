@@ -5,9 +5,10 @@ use Rattle.clap.specs.declared.error.kind.ErrorKind.{ErrorKind}
 use Rattle.s161_command.specs.declared.drive.Clash.{Clash}
 use Rattle.s161_command.specs.declared.task.ConsoleTask.{ConsoleTask}
 use Rattle.s161_command.specs.declared.task.DebugTask.{DebugTask}
+use Rattle.s161_command.specs.declared.task.GdbTask.{GdbTask}
 use Rattle.s161_command.specs.declared.task.TraceTask.{TraceTask}
 use Rattle.s161_command.specs.declared.task.Task.{Task}
-use Rattle.s161_command.specs.declared.task.Task.TheVariants.{Assemble, Audit, Console, Debug, Demo, Disassemble, Replay, Run, RunDriven, RunInThreads, Schedule, Search, Trace}
+use Rattle.s161_command.specs.declared.task.Task.TheVariants.{Assemble, Audit, Console, Debug, Demo, Disassemble, Gdb, Replay, Run, RunDriven, RunInThreads, Schedule, Search, Trace}
 use Rattle.m161_text.specs.Lines.{with_line_end}
 use Rattle.s161_texts.specs.Assemblies.{IsAssembled}
 use Rattle.s161_search.specs.Audits.{IsAudited, audit_files}
@@ -16,6 +17,7 @@ use Rattle.s161_run.specs.Consoles.{IsConsoleRun}
 use Rattle.s161_base.specs.Asked.{Asks, image_files}
 use Rattle.s161_base.specs.Streams.{Streams, streams}
 use Rattle.s161_debug.specs.Debugs.{IsDebug, debug_files}
+use Rattle.s161_debug.specs.Gdb.{IsGdb, gdb_files}
 use Rattle.s161_run.specs.Driven.{IsDriven, driven_files}
 use Rattle.s161_run.specs.Schedules.{IsScheduled, schedule_files}
 use Rattle.s161_run.specs.Demos.{IsDemo}
@@ -51,6 +53,7 @@ files_of (Schedule task) = schedule_files task
 files_of (Console task) = image_files task.image.now
 files_of (Trace task) = trace_files task
 files_of (Debug task) = debug_files task
+files_of (Gdb task) = gdb_files task
 files_of (Search task) = search_files task
 files_of (Replay task) = replay_files task
 files_of (Audit task) = audit_files task
@@ -98,6 +101,7 @@ IsResultOf never (Schedule task) files input =
 IsResultOf never (Console task) files input = λ text status. ⊥
 IsResultOf never (Trace task) files input = λ text status. ⊥
 IsResultOf never (Debug task) files input = λ text status. ⊥
+IsResultOf never (Gdb task) files input = λ text status. ⊥
 IsResultOf never (Search task) files input =
     IsSearched task never files (image_file files task.image.now)
 IsResultOf never (Replay task) files input =
@@ -140,16 +144,26 @@ pub record IsDebuggedOut
   pub is_silent : after.errors ≡ before.errors
   pub status_is : status ≡ 0
 
+-- a client of GDB's protocol was answered, and nothing was written to standard error
+pub record IsGdbOut
+    (task : GdbTask) (files : Text → Option (List ℕ)) (before after : Standard) (status : ℕ)
+    : Type 0 where
+  pub answered : IsGdb task files (image_file files task.image.now) (streams_of before after)
+  pub is_silent : after.errors ≡ before.errors
+  pub status_is : status ≡ 0
+
 -- the tasks that write as they go on
 pub data Going : Type 0 where
   serving : ConsoleTask → Going
   tracing : TraceTask → Going
   debugging : DebugTask → Going
+  answering : GdbTask → Going
 
 abbrev pub going_of : Task → Option Going
 going_of (Console task) = Some (serving task)
 going_of (Trace task) = Some (tracing task)
 going_of (Debug task) = Some (debugging task)
+going_of (Gdb task) = Some (answering task)
 going_of _ = None
 
 -- a task that reads nothing of standard input
@@ -162,6 +176,7 @@ ReadsNoInput (Schedule task) = Unit {0}
 ReadsNoInput (Console task) = ⊥
 ReadsNoInput (Trace task) = ⊥
 ReadsNoInput (Debug task) = ⊥
+ReadsNoInput (Gdb task) = ⊥
 ReadsNoInput (Search task) = Unit {0}
 ReadsNoInput (Replay task) = Unit {0}
 ReadsNoInput (Audit task) = ⊥
@@ -182,6 +197,8 @@ FinishesAs (Some (tracing trace)) never task files before after status =
     IsTracedOut trace files before after status
 FinishesAs (Some (debugging debug)) never task files before after status =
     IsDebuggedOut debug files before after status
+FinishesAs (Some (answering gdb)) never task files before after status =
+    IsGdbOut gdb files before after status
 FinishesAs None never task files before after status =
     Prints (IsResultOf never task files before.input) before.output after.output status
     × (after.errors ≡ before.errors) × LeavesInput task before.input after.input

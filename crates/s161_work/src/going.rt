@@ -5,15 +5,17 @@ ghost use Rattle.m161_order.specs.Order.{order_fault};
 ghost use Rattle.s161_base.specs.Asked.{AsksFor, IsBeforeInput, image_files};
 ghost use Rattle.s161_command.specs.Commands.{HasSourceLimits};
 ghost use Rattle.s161_debug.specs.Debugs.{debug_files};
+ghost use Rattle.s161_debug.specs.Gdb.{gdb_files};
 ghost use Rattle.s161_trace.specs.Traces.{trace_files};
-ghost use Rattle.s161_work.specs.Failures.{FailsToDebug, FailsToServe, FailsToTrace};
-ghost use Rattle.s161_work.specs.Works.{IsDebuggedOut, IsServed, IsTracedOut, standard};
+ghost use Rattle.s161_work.specs.Failures.{FailsToAnswer, FailsToDebug, FailsToServe, FailsToTrace};
+ghost use Rattle.s161_work.specs.Works.{IsDebuggedOut, IsGdbOut, IsServed, IsTracedOut, standard};
 
 use s161_base::fault::Fault;
 use s161_base::files::FileSource;
 use s161_base::streams::send;
-use s161_command::{ConsoleTask, DebugTask, TraceTask};
+use s161_command::{ConsoleTask, DebugTask, GdbTask, TraceTask};
 use s161_debug::debug::debug;
+use s161_debug::gdb::gdb;
 use s161_run::console::console;
 use s161_run::summary::status;
 use s161_trace::trace::trace;
@@ -95,5 +97,30 @@ pub(crate) fn debug_out<'a, F: FileSource, I: Read, O: Write>(
     ensures within { IfOk result (λ status. status ≡ 0) }
 {
     debug(alloc, files, input, output, task)?;
+    Ok(0)
+}
+
+/// Answers a client of GDB's protocol. Returns the exit status.
+pub(crate) fn gdb_out<'a, F: FileSource, I: Read, O: Write>(
+    alloc: Global,
+    task: GdbTask<'a>,
+    files: &mut F,
+    input: &mut I,
+    output: &mut O,
+) -> Result<u8, Fault<'a>>
+    requires { HasSourceLimits task.source }
+    ensures answered { (errors : Option (List ℕ)) → IfOk result (IsGdbOut task.entry (F.known files.old)
+        (standard (I.remaining input.old) (O.contents output.old) errors)
+        (standard (I.remaining input.new) (O.contents output.new) errors)) }
+    ensures fault { (errors : Option (List ℕ)) → IfErr result (FailsToAnswer task.entry (F.known files.old)
+        (standard (I.remaining input.old) (O.contents output.old) errors)
+        (standard (I.remaining input.new) (O.contents output.new) errors)) }
+    ensures asks { AsksFor (gdb_files task.entry) result (F.asked files.old)
+        (F.asked files.new) }
+    ensures before { IfErr result (λ fault. IsBeforeInput fault (I.remaining input.old)
+        (I.remaining input.new)) }
+    ensures within { IfOk result (λ status. status ≡ 0) }
+{
+    gdb(alloc, files, input, output, task)?;
     Ok(0)
 }

@@ -94,7 +94,7 @@ fn finish<'a, R: Threads + Wait + Sync, F: FileSource, I: Read>(
         Task::RunInThreads(task) => run_in_threads(rt, alloc, files, task),
         Task::RunDriven(task) => run_driven(alloc, files, task),
         Task::Schedule(task) => finish_schedule(alloc, files, task),
-        Task::Console(_) | Task::Trace(_) | Task::Debug(_) => unreachable!(),
+        Task::Console(_) | Task::Trace(_) | Task::Debug(_) | Task::Gdb(_) => unreachable!(),
         Task::Search(task) => search(rt, alloc, files, task, never),
         Task::Replay(task) => replay(alloc, files, task),
         Task::Audit(task) => audit(alloc, files, input, task),

@@ -6,7 +6,7 @@ ghost use Rattle.s161_command.specs.Commands.{HasLimits};
 ghost use Rattle.s161_work.specs.Failures.{EndsBadly, FailsAs, IsTold};
 ghost use Rattle.s161_work.specs.Works.{Finishes, Follows, IsDone, Rejects, file_use, files_of, going_of, standard};
 
-use crate::going::{debug_out, serve, trace_out};
+use crate::going::{debug_out, gdb_out, serve, trace_out};
 use crate::printing::print_task;
 use crate::refusing::refuse;
 use s161_base::fault::Fault;
@@ -61,12 +61,12 @@ where
 }
 
 /// Does the work of a command line. Returns the exit status: 0 for a finished demo, schedule, debug,
-/// as or dis, a machine that switched itself off, a log that agrees, a clean run or search, or help;
+/// gdb, as or dis, a machine that switched itself off, a log that agrees, a clean run or search, or help;
 /// 1 for a fault, or a refused event of a run; 2 for a command line that isn't followed; 3 if the
 /// schedule, the events or the Steps of the threads ended; 4 for a log that differs, a stale use, a
 /// run that goes wrong in a search or a conflict that switched a strict machine off; 5 if a policy is
-/// stuck. The output is complete in memory before it is written, but for that of `console`, `trace` and
-/// `debug`.
+/// stuck. The output is complete in memory before it is written, but for that of `console`, `trace`,
+/// `debug` and `gdb`.
 pub fn work<A, S, F, I, O, E>(
     rt: &A,
     words: &[S],
@@ -138,6 +138,7 @@ fn do_task<'a, R: Threads + Wait + Sync, F: FileSource, I: Read, O: Write, E: Wr
         Task::Console(task) => serve(alloc, task, files, input, output, errors),
         Task::Trace(task) => trace_out(alloc, task, files, input, output),
         Task::Debug(task) => debug_out(alloc, task, files, input, output),
+        Task::Gdb(task) => gdb_out(alloc, task, files, input, output),
         Task::Demo
         | Task::Run(_)
         | Task::RunInThreads(_)

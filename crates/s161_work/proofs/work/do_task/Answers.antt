@@ -13,6 +13,12 @@ returns-in-Debug-clause-finished g c = rw c.in-Debug.is (c.debug_out.ensures.deb
 pub returns-in-Debug-clause-fault : goal.returns-in-Debug-clause-fault
 returns-in-Debug-clause-fault g c = rw c.in-Debug.is (c.debug_out.ensures.fault (g.E.Write.contents c.args.errors.now))
 
+pub returns-in-Gdb-clause-finished : goal.returns-in-Gdb-clause-finished
+returns-in-Gdb-clause-finished g c = rw c.in-Gdb.is (c.gdb_out.ensures.answered (g.E.Write.contents c.args.errors.now))
+
+pub returns-in-Gdb-clause-fault : goal.returns-in-Gdb-clause-fault
+returns-in-Gdb-clause-fault g c = rw c.in-Gdb.is (c.gdb_out.ensures.fault (g.E.Write.contents c.args.errors.now))
+
 pub returns-in-Console-clause-asks : goal.returns-in-Console-clause-asks
 returns-in-Console-clause-asks g c = rw c.in-Console.is c.serve.ensures.asks
 
@@ -21,3 +27,6 @@ returns-in-Trace-clause-asks g c = rw c.in-Trace.is c.trace_out.ensures.asks
 
 pub returns-in-Debug-clause-asks : goal.returns-in-Debug-clause-asks
 returns-in-Debug-clause-asks g c = rw c.in-Debug.is c.debug_out.ensures.asks
+
+pub returns-in-Gdb-clause-asks : goal.returns-in-Gdb-clause-asks
+returns-in-Gdb-clause-asks g c = rw c.in-Gdb.is c.gdb_out.ensures.asks
