@@ -1,16 +1,16 @@
 -- Duties that are done are what is done about items.
-use Rattle.std.proofs.Common.{◌≡◌, ℕ, Bool, true, List, [], ◌∷◌, Option, None, Some, Result, Ok, Err, refl, sym, ap, ap₂, ◌∙◌, subst}
+use Rattle.std.proofs.Common.{◌≡◌, ℕ, Bool, List, ◌∷◌, Option, Result, Ok, Err, refl, ap₂, ◌∙◌, subst}
 use Rattle.m161_gdb.specs.declared.frames.Item.{Item}
 use Rattle.m161_gdb.specs.declared.frames.Item.TheVariants as items
 use Rattle.m161_gdb.specs.declared.link.Duty.{Duty}
 use Rattle.m161_gdb.specs.declared.link.Duty.TheVariants as duties
 use Rattle.m161_gdb.specs.declared.link.Link.{Link}
-use Rattle.m161_gdb.specs.Links.{HasReceived, HoldsBody, Receives, duty}
+use Rattle.m161_gdb.specs.Links.{HasReceived, HoldsBody, Receives}
 use Rattle.m161_moves.specs.Course.{Course}
 use Rattle.m161_server.specs.declared.fault.Fault.{Fault}
 use Rattle.m161_server.specs.declared.fault.Fault.TheVariants as faults
 use Rattle.m161_server.specs.Sessions.{Standing}
-use Rattle.m161_server.specs.Serving.{DoesDuty, DoesItem, Progress, Writes, WritesAnswer, packet_in}
+use Rattle.m161_server.specs.Serving.{DoesDuty, Progress, WritesAnswer, packet_in}
 use Rattle.m161_server.specs.helpers.Turns.{Deals, DoesAny, Turn, at}
 
 -- where a link has the same of what it received

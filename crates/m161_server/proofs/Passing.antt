@@ -1,5 +1,5 @@
 -- Sessions, byte by byte.
-use Rattle.std.proofs.Common.{◌≡◌, ℕ, Bool, true, false, List, [], ◌∷◌, ◌++◌, Option, None, Some, Result, Ok, Err, inl, inr, refl, sym, ap, ap₂, ◌∙◌, subst, append_assoc, append-nil, take}
+use Rattle.std.proofs.Common.{◌≡◌, ℕ, Bool, true, false, List, [], ◌∷◌, ◌++◌, Option, Result, Ok, Err, inl, inr, refl, sym, ap₂, subst, append-nil, take}
 use Rattle.std.proofs.KnownBytes.{Appends-nil, Appends-trans, Consumes-nil, Consumes-trans}
 use Rattle.std.specs.Io.KnownBytes.{Appends, Consumes, IsAtEnd}
 use Rattle.m161_gdb.specs.declared.frames.Item.{Item}
@@ -13,7 +13,7 @@ use Rattle.m161_server.specs.declared.fault.Fault.TheVariants as faults
 use Rattle.m161_server.specs.declared.serving.Talk.{Talk}
 use Rattle.m161_server.specs.declared.session.Session.{Session}
 use Rattle.m161_server.specs.Sessions.{standing}
-use Rattle.m161_server.specs.Serving.{Breaks, Ends, HasPast, Passes, Progress, in_order, new_session}
+use Rattle.m161_server.specs.Serving.{Breaks, Ends, HasPast, Passes, in_order, new_session}
 use Rattle.m161_server.specs.Streams.{streams}
 use Rattle.m161_server.specs.helpers.Turns.{Serves, Serving, Takes, TakesItem, TakesNone, at, progress}
 
@@ -33,7 +33,6 @@ same_progress course place from to old new past text link session here passes =
 module _ {E : Type 0} (Fails : E → Type 0) (course : Course) (place : ℕ) (input output : Option (List ℕ))
     (from : ℕ) (old : Talk) (left written : Option (List ℕ))
     (so_far : Serving course place input output from old left written) where
-
   pub at_end : (l : Option (List ℕ)) → IsAtEnd l → Consumes left l [] → Ends course place (streams input l output written)
   at_end l end nothing = inl (record {
     bytes = so_far.bytes;
@@ -134,8 +133,13 @@ module _ {E : Type 0} (Fails : E → Type 0) (course : Course) (place : ℕ) (in
           has = has_past old.reader so_far.bytes so_far.past so_far.has_read;
           read = byte ∷ [];
           written = take turn.3.0 turn.0;
-          behind = (byte, t.item, has_past new.reader (so_far.bytes ++ byte ∷ []) (t.item ∷ so_far.past) t.has_read,
-              (turn.0, progress to new (t.item ∷ so_far.past), turn.1, turn.2, (turn.3.0, refl)), refl);
+          behind = (
+            byte,
+            t.item,
+            has_past new.reader (so_far.bytes ++ byte ∷ []) (t.item ∷ so_far.past) t.has_read,
+            (turn.0, progress to new (t.item ∷ so_far.past), turn.1, turn.2, (turn.3.0, refl)),
+            refl,
+          );
           are_read = all_read;
           are_written = Appends-trans output written w so_far.text (take turn.3.0 turn.0) so_far.are_written turn.3.1;
         }

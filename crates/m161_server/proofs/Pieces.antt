@@ -1,4 +1,4 @@
-use Rattle.std.proofs.Common.{◌≡◌, refl, sym, append_assoc, ℕ, zero, suc, ◌+◌, ◌-◌, ◌*◌, ◌/◌, ◌<◌, ◌≤◌, List, [], ◌∷◌, ◌++◌, ap, ◌∙◌, length, length-drop, take, drop, min, flat_map, arith}
+use Rattle.std.proofs.Common.{◌≡◌, sym, append_assoc, ℕ, suc, ◌+◌, ◌-◌, ◌/◌, ◌<◌, List, ◌++◌, ap, ◌∙◌, length, length-drop, take, drop, flat_map, arith}
 use Rattle.m161_server.specs.Texts.{pieces, shown_packet, shown_packets}
 
 -- a text that has a byte has a piece more than what is left behind its first

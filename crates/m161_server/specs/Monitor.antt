@@ -5,7 +5,7 @@ use Rattle.m161_gdb.specs.Stops.{StopsValue}
 use Rattle.m161_moves.specs.declared.reason.Reason.{Reason}
 use Rattle.m161_moves.specs.declared.reason.Reason.TheVariants as reasons
 use Rattle.m161_moves.specs.Scenes.{Scene}
-use Rattle.m161_text.specs.Lines.{text_of, with_line_end}
+use Rattle.m161_text.specs.Lines.{text_of}
 use Rattle.m161_text.specs.Parts.{hex_text}
 use Rattle.m161_server.specs.declared.session.Session.{Session}
 use Rattle.m161_server.specs.declared.words.Asked.{Asked}

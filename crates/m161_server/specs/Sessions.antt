@@ -1,4 +1,4 @@
-use Rattle.std.specs.Prelude.{◌≡◌, ℕ, nat_lt, nat_le, ◌-◌, Bool, true, false, ◌==◌, ◌&&◌, if◌then◌else◌, List, [], ◌∷◌, ◌++◌, Option, None, Some, is_some, unwrap_or, codes, drop, length, max}
+use Rattle.std.specs.Prelude.{◌≡◌, ℕ, nat_lt, Bool, true, false, ◌&&◌, if◌then◌else◌, List, [], ◌∷◌, ◌++◌, Option, None, Some, codes, drop, length, max}
 use Rattle.m161_gdb.specs.declared.packet.Action.{Action}
 use Rattle.m161_gdb.specs.declared.packet.Change.{Change}
 use Rattle.m161_gdb.specs.declared.packet.Change.TheVariants as changes
@@ -10,10 +10,9 @@ use Rattle.m161_gdb.specs.declared.packet.Packet.{Packet}
 use Rattle.m161_gdb.specs.declared.packet.Packet.TheVariants as packets
 use Rattle.m161_gdb.specs.declared.packet.Thread.{Thread}
 use Rattle.m161_gdb.specs.declared.packet.Thread.TheVariants as threads
-use Rattle.m161_gdb.specs.declared.stops.Watch.{Watch}
 use Rattle.m161_gdb.specs.Motions.{motion_by_control, tabulate}
 use Rattle.m161_gdb.specs.Packets.{first_naming}
-use Rattle.m161_gdb.specs.Stops.{StopsValue, after_delete, after_set, no_stops}
+use Rattle.m161_gdb.specs.Stops.{StopsValue, after_delete, after_set}
 use Rattle.m161_moves.specs.declared.reason.Reason.{Reason}
 use Rattle.m161_moves.specs.declared.reason.Reason.TheVariants as reasons
 use Rattle.m161_moves.specs.Course.{Course}

@@ -1,4 +1,4 @@
-use Rattle.std.specs.Prelude.{ℕ, zero, suc, ◌+◌, ◌*◌, ◌^◌, ◌/◌, nat_lt, nat_le, Bool, true, false, if◌then◌else◌, List, [], ◌∷◌, ◌++◌, Option, None, Some, codes, decimal, length, take, drop, min, flat_map}
+use Rattle.std.specs.Prelude.{ℕ, zero, suc, ◌+◌, ◌^◌, ◌/◌, nat_lt, nat_le, Bool, if◌then◌else◌, List, [], ◌∷◌, ◌++◌, Option, None, Some, codes, decimal, length, take, drop, min, flat_map}
 use Rattle.m161_gdb.specs.Frames.{frame_text}
 use Rattle.m161_moves.specs.declared.doing.Activity.{Activity}
 use Rattle.m161_moves.specs.declared.doing.Activity.TheVariants as activities

@@ -1,4 +1,4 @@
-use Rattle.std.specs.Prelude.{ℕ, ◌+◌, ◌-◌, ◌*◌, ◌^◌, nat_lt, nat_le, ◌==◌, ◌&&◌, ◌||◌, Bool, true, false, if◌then◌else◌, List, [], ◌∷◌, Option, None, Some, is_some, codes, bytes_eq, length, take, drop, option_and_then}
+use Rattle.std.specs.Prelude.{ℕ, ◌+◌, ◌-◌, ◌*◌, ◌^◌, nat_lt, nat_le, ◌==◌, ◌&&◌, ◌||◌, Bool, if◌then◌else◌, List, [], ◌∷◌, Option, None, Some, is_some, codes, bytes_eq, length, take, drop, option_and_then}
 use Rattle.m161_gdb.specs.Packets.{cut_at}
 use Rattle.m161_server.specs.declared.words.Asked.{Asked}
 use Rattle.m161_server.specs.declared.words.Asked.TheVariants as asks

@@ -22,7 +22,8 @@ use m161_gdb::{Motion, Packet, Thread};
 use std::alloc::{AllocError, Global};
 
 // What the server has beyond the oldest protocol.
-const FEATURES: &str = "PacketSize=4000;QStartNoAckMode+;multiprocess-;swbreak+;hwbreak+;vContSupported+;ReverseStep+;ReverseContinue+;qXfer:features:read+;qXfer:threads:read+";
+const FEATURES: &str =
+    "PacketSize=4000;QStartNoAckMode+;multiprocess-;swbreak+;hwbreak+;vContSupported+;ReverseStep+;ReverseContinue+;qXfer:features:read+;qXfer:threads:read+";
 
 // Chooses the general processor.
 fn general<T: Target>(
@@ -71,10 +72,7 @@ fn doing_or<T: Target>(alloc: Global, target: &T, processor: u32) -> Result<Repl
         ≡ told (doing_or (T.course target.now).scene (T.place target.now) processor)) }
 {
     if processor < target.processors() {
-        Ok(Reply::said(
-            alloc,
-            doing_text(alloc, target.doing(processor))?,
-        ))
+        Ok(Reply::said(alloc, doing_text(alloc, target.doing(processor))?))
     } else {
         tell(alloc, "E02")
     }
@@ -84,10 +82,7 @@ fn doing_or<T: Target>(alloc: Global, target: &T, processor: u32) -> Result<Repl
 fn threads<T: Target>(alloc: Global, target: &T) -> Result<Reply, AllocError>
     ensures { IfOk result (λ reply. reply ≡ told (threads_text (T.course target.now).scene.processors)) }
 {
-    Ok(Reply::said(
-        alloc,
-        threads_text(alloc, target.processors())?,
-    ))
+    Ok(Reply::said(alloc, threads_text(alloc, target.processors())?))
 }
 
 // The last stop.
@@ -154,10 +149,7 @@ fn memory<T: Target>(
         (T.place target.now) (within (T.course target.now).scene session.now.general) address size)) }
 {
     let general = within(target, session.general);
-    Ok(Reply::said(
-        alloc,
-        memory_text(alloc, target, general, address, size)?,
-    ))
+    Ok(Reply::said(alloc, memory_text(alloc, target, general, address, size)?))
 }
 
 // Answers a packet that makes no move, and is no line of the monitor.

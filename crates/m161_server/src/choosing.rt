@@ -103,11 +103,5 @@ pub(crate) fn chosen_by<T: Target>(
     ensures few { IfOk result (λ chosen. length chosen.items < 2 ^ 32) }
 {
     let general = within(target, session.general);
-    motions_by_control(
-        alloc,
-        session.control,
-        general,
-        motion,
-        target.processors(),
-    )
+    motions_by_control(alloc, session.control, general, motion, target.processors())
 }

@@ -46,7 +46,7 @@ pub(crate) fn shown_packets(alloc: Global, text: &[u8]) -> Result<Vec<u8>, Alloc
 {
     let mut out = Vec::new(alloc);
     let mut rest = text;
-    while !rest.is_empty() {
+    while 0 < rest.len() {
         let (piece, behind) = split(rest, MOST);
         push_packet(alloc, &mut out, piece)?;
         rest = behind;

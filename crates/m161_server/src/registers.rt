@@ -177,7 +177,12 @@ fn part(text: &str, from: usize, size: usize) -> &[u8]
 ///
 /// # Errors
 /// Memory was refused.
-pub(crate) fn part_text(alloc: Global, whole: &str, from: u32, size: u32) -> Result<Vec<u8>, AllocError>
+pub(crate) fn part_text(
+    alloc: Global,
+    whole: &str,
+    from: u32,
+    size: u32,
+) -> Result<Vec<u8>, AllocError>
     ensures { IfOk result (λ bytes. bytes.items ≡ part_text whole.now from size) }
 {
     let size = size.min(PART) as usize;

@@ -202,7 +202,14 @@ fn take_byte<T: Target, O: Write>(
         (O.contents output.old) (O.contents output.new) result }
 {
     match talk.reader.push(byte)? {
-        Some(item) => do_item(alloc, target, &mut talk.link, &mut talk.session, item, output),
+        Some(item) => do_item(
+            alloc,
+            target,
+            &mut talk.link,
+            &mut talk.session,
+            item,
+            output,
+        ),
         None => Ok(true),
     }
 }

@@ -132,11 +132,7 @@ pub(crate) fn threads_text(alloc: Global, processors: u32) -> Result<String, All
 
 // The line of a processor.
 #[tactic(auto, unfolding(crate::specs::Texts::thread_line))]
-fn thread_line<T: Target>(
-    alloc: Global,
-    target: &T,
-    processor: u32,
-) -> Result<String, AllocError>
+fn thread_line<T: Target>(alloc: Global, target: &T, processor: u32) -> Result<String, AllocError>
     requires exists { processor < (T.course target.now).scene.processors }
     requires small { processor < 32 }
     ensures { IfOk result (λ text. string_bytes text

@@ -79,13 +79,7 @@ fn number_in(text: &[u8]) -> Option<u32>
     match text {
         [] => None,
         [c] => digit_value(*c),
-        [c, _, ..] => {
-            if *c == b'0' {
-                None
-            } else {
-                digits_from(text)
-            }
-        }
+        [c, _, ..] => { if *c == b'0' { None } else { digits_from(text) } }
     }
 }
 

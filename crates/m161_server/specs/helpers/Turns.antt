@@ -1,5 +1,5 @@
-use Rattle.std.specs.Prelude.{◌≡◌, ◌⊎◌, ℕ, Bool, true, false, List, [], ◌∷◌, ◌++◌, Option, None, Some, Result, Ok, Err}
-use Rattle.std.specs.Io.KnownBytes.{Appends, Consumes, IsAtEnd}
+use Rattle.std.specs.Prelude.{◌≡◌, ◌⊎◌, ℕ, Bool, true, false, List, [], ◌∷◌, Option, None, Some, Result, Ok, Err}
+use Rattle.std.specs.Io.KnownBytes.{Appends, Consumes}
 use Rattle.m161_gdb.specs.declared.frames.Item.{Item}
 use Rattle.m161_gdb.specs.declared.link.Duty.{Duty}
 use Rattle.m161_gdb.specs.declared.link.Link.{Link}
@@ -10,7 +10,6 @@ use Rattle.m161_moves.specs.Course.{Course}
 use Rattle.m161_server.specs.declared.fault.Fault.{Fault}
 use Rattle.m161_server.specs.declared.fault.Fault.TheVariants as faults
 use Rattle.m161_server.specs.declared.serving.Talk.{Talk}
-use Rattle.m161_server.specs.declared.session.Session.{Session}
 use Rattle.m161_gdb.specs.declared.link.Duty.TheVariants as duties
 use Rattle.m161_server.specs.Sessions.{Standing, standing}
 use Rattle.m161_server.specs.Serving.{Breaks, DoesItem, in_order, Ends, Passes, Progress, WritesAnswer, interrupted, packet_in}
