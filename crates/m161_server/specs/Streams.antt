@@ -1,0 +1,29 @@
+use Rattle.std.specs.Prelude.{ℕ, List, [], ◌∷◌, take, Option, None, Some}
+use Rattle.std.specs.Io.KnownBytes.{Appends, Consumes, IsAtEnd}
+
+-- What is read of an input and written to an output as a session goes on.
+
+-- what an input had and has left, and what an output had and has, as far as the bytes are known
+pub record Streams : Type 0 where
+  pub input : Option (List ℕ)
+  pub left : Option (List ℕ)
+  pub before : Option (List ℕ)
+  pub after : Option (List ℕ)
+
+abbrev pub streams :
+    Option (List ℕ) → Option (List ℕ) → Option (List ℕ) → Option (List ℕ) → Streams
+streams input left before after = record {
+  input = input;
+  left = left;
+  before = before;
+  after = after;
+}
+
+-- known bytes grow by the first of these
+abbrev pub AppendsSome : Option (List ℕ) → Option (List ℕ) → List ℕ → Type 0
+AppendsSome old new bytes = (n : ℕ) × Appends old new (take n bytes)
+
+-- a byte was read, or the end
+abbrev pub ReadsByte : Option (List ℕ) → Option ℕ → Option (List ℕ) → Type 0
+ReadsByte left None l = IsAtEnd l × Consumes left l []
+ReadsByte left (Some byte) l = Consumes left l (byte ∷ [])

@@ -1,0 +1,27 @@
+//! Why a session ends early.
+
+use std::alloc::AllocError;
+
+/// Why a session ends early.
+#[derive(Drop)]
+pub enum Fault<E> {
+    /// The input can't be read.
+    Input,
+    /// The output failed.
+    Output,
+    /// Memory was refused.
+    Memory,
+    /// The run can't be gone along.
+    Run(E),
+}
+
+impl<E> From<AllocError> for Fault<E> {
+    ghost use Rattle.std.specs.Prelude.{◌≡◌};
+    ghost use Rattle.m161_server.specs.declared.fault.Fault.TheVariants.{Memory};
+
+    ghost from_gives = { λ _ fault. fault ≡ Memory };
+
+    fn from(_error: AllocError) -> Fault<E> {
+        Fault::Memory
+    }
+}
