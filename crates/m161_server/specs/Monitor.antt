@@ -121,9 +121,3 @@ monitor_text scene place s asks.Schedule = scene.schedule_text place
 monitor_text scene place s asks.Help = help_text
 monitor_text scene place s asks.Unknown = error_line (codes "Unknown")
 monitor_text scene place s asks.BadArgument = error_line (codes "BadArgument")
-
--- a text that is neither the console's nor a trace's
-abbrev pub is_short : Asked → Bool
-is_short (asks.Trace n) = false
-is_short asks.Output = false
-is_short _ = true

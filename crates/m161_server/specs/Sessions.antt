@@ -20,6 +20,8 @@ use Rattle.m161_moves.specs.Moves.{StopsBackwards, StopsForwards}
 use Rattle.m161_moves.specs.Scenes.{Scene}
 use Rattle.m161_moves.specs.Threads.{thread_of}
 use Rattle.m161_text.specs.Parts.{hex_text}
+use Rattle.m161_server.specs.declared.fault.Fault.{Fault}
+use Rattle.m161_server.specs.declared.fault.Fault.TheVariants as faults
 use Rattle.m161_server.specs.declared.session.LastStop.{LastStop}
 use Rattle.m161_server.specs.declared.session.Session.{Session}
 use Rattle.m161_server.specs.Descriptions.{description}
@@ -243,12 +245,9 @@ ends packets.Detach = true
 ends packets.Kill = true
 ends _ = false
 
--- a packet that makes no move, and no line of the monitor
-abbrev pub is_still : Packet → Bool
-is_still (packets.Resume actions) = false
-is_still packets.Continue = false
-is_still packets.Step = false
-is_still packets.ContinueBack = false
-is_still packets.StepBack = false
-is_still (packets.Monitor line) = false
-is_still _ = true
+-- why a packet isn't answered: memory was refused, or the run can't be gone along
+abbrev pub IsUnanswered : {E : Type 0} → (E → Type 0) → Fault E → Type 0
+IsUnanswered Fails faults.Input = ⊥
+IsUnanswered Fails faults.Output = ⊥
+IsUnanswered Fails faults.Memory = Unit {0}
+IsUnanswered Fails (faults.Run error) = Fails error

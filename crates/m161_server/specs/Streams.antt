@@ -18,12 +18,3 @@ streams input left before after = record {
   before = before;
   after = after;
 }
-
--- known bytes grow by the first of these
-abbrev pub AppendsSome : Option (List ℕ) → Option (List ℕ) → List ℕ → Type 0
-AppendsSome old new bytes = (n : ℕ) × Appends old new (take n bytes)
-
--- a byte was read, or the end
-abbrev pub ReadsByte : Option (List ℕ) → Option ℕ → Option (List ℕ) → Type 0
-ReadsByte left None l = IsAtEnd l × Consumes left l []
-ReadsByte left (Some byte) l = Consumes left l (byte ∷ [])

@@ -1,2 +1,4 @@
 -- Definitions that only contracts of private functions, or proofs, use.
 pub mod Turns
+pub mod Kinds
+pub mod Streams

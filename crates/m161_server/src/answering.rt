@@ -3,9 +3,9 @@
 ghost use Rattle.std.specs.Prelude.{◌≡◌, true, IfErr, IfOk, IfSome};
 ghost use Rattle.m161_gdb.specs.declared.packet.Packet.TheVariants as packets;
 ghost use Rattle.m161_server.specs.Descriptions.{description};
-ghost use Rattle.m161_server.specs.Sessions.{doing_or, general_text, is_still, standing, stop_text, told, Answers};
+ghost use Rattle.m161_server.specs.Sessions.{doing_or, general_text, standing, stop_text, told, Answers, IsUnanswered};
 ghost use Rattle.m161_server.specs.Texts.{memory_text, part_text, thread_list, threads_text, within, word_or, words_text};
-ghost use Rattle.m161_server.specs.helpers.Turns.{IsUnanswered};
+ghost use Rattle.m161_server.specs.helpers.Kinds.{is_still};
 
 use crate::choosing::{choose_control, choose_general, has_thread, ok_or};
 use crate::description::description;

@@ -1,9 +1,9 @@
 //! What the monitor answers.
 
 ghost use Rattle.std.specs.Prelude.{◌≡◌, ◌<◌, ◌++◌, true, IfErr, IfOk, IfSome, decimal, string_bytes};
-ghost use Rattle.m161_server.specs.Monitor.{at_line, error_line, goto_text, help_text, is_short, kind_word, memory_or, monitor_text, of_processor, place_line, processor_of, step_word, stop_at, stops_after, stops_at, trace_text, why_line, why_word};
-ghost use Rattle.m161_server.specs.Sessions.{standing, Monitors};
-ghost use Rattle.m161_server.specs.helpers.Turns.{IsUnanswered};
+ghost use Rattle.m161_server.specs.Monitor.{at_line, error_line, goto_text, help_text, kind_word, memory_or, monitor_text, of_processor, place_line, processor_of, step_word, stop_at, stops_after, stops_at, trace_text, why_line, why_word};
+ghost use Rattle.m161_server.specs.Sessions.{standing, IsUnanswered, Monitors};
+ghost use Rattle.m161_server.specs.helpers.Kinds.{is_short};
 ghost use Rattle.m161_server.specs.Words.{asked_of};
 
 use crate::fault::Fault;

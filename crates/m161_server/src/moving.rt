@@ -1,8 +1,7 @@
 //! Moves along a run.
 
 ghost use Rattle.std.specs.Prelude.{◌≡◌, ◌<◌, ◌^◌, IfErr, IfOk, drop, length, max};
-ghost use Rattle.m161_server.specs.Sessions.{has_threads, moved, standing, stops_behind, MovesBack, MovesOn, Resumes, Settles, chosen_by, chosen_of};
-ghost use Rattle.m161_server.specs.helpers.Turns.{IsUnanswered};
+ghost use Rattle.m161_server.specs.Sessions.{has_threads, moved, standing, stops_behind, MovesBack, MovesOn, Resumes, Settles, chosen_by, chosen_of, IsUnanswered};
 
 use crate::choosing::{chosen_by, chosen_of, has_threads};
 use crate::fault::Fault;

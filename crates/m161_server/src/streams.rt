@@ -4,7 +4,7 @@
 ghost use Rattle.std.specs.Prelude.{◌≡◌, [], IfErr, IfOk, OnOk};
 ghost use Rattle.std.specs.Io.KnownBytes.{Appends, Consumes};
 ghost use Rattle.m161_server.specs.declared.fault.Fault.TheVariants as faults;
-ghost use Rattle.m161_server.specs.Streams.{AppendsSome, ReadsByte};
+ghost use Rattle.m161_server.specs.helpers.Streams.{AppendsSome, ReadsByte};
 
 use crate::fault::Fault;
 use std::io::{ErrorKind, Read, Write};

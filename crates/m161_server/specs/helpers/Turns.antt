@@ -13,7 +13,8 @@ use Rattle.m161_server.specs.declared.serving.Talk.{Talk}
 use Rattle.m161_gdb.specs.declared.link.Duty.TheVariants as duties
 use Rattle.m161_server.specs.Sessions.{Standing, standing}
 use Rattle.m161_server.specs.Serving.{Breaks, DoesItem, in_order, Ends, Passes, Progress, WritesAnswer, interrupted, packet_in}
-use Rattle.m161_server.specs.Streams.{AppendsSome, streams}
+use Rattle.m161_server.specs.Streams.{streams}
+use Rattle.m161_server.specs.helpers.Streams.{AppendsSome}
 
 -- The parts of serving.
 
@@ -21,13 +22,6 @@ use Rattle.m161_server.specs.Streams.{AppendsSome, streams}
 abbrev pub IsChanged : Option StopsValue → Bool → StopsValue → StopsValue → Type 0
 IsChanged None done old new = (done ≡ false) × (new ≡ old)
 IsChanged (Some stops) done old new = (done ≡ true) × (new ≡ stops)
-
--- why a packet isn't answered
-abbrev pub IsUnanswered : {E : Type 0} → (E → Type 0) → Fault E → Type 0
-IsUnanswered Fails faults.Input = ⊥
-IsUnanswered Fails faults.Output = ⊥
-IsUnanswered Fails faults.Memory = Unit {0}
-IsUnanswered Fails (faults.Run error) = Fails error
 
 -- what is to be written was written, whole, or in part where the output failed; or nothing was
 abbrev pub Turn :

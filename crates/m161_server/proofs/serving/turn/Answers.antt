@@ -1,5 +1,5 @@
 use Rattle.std.proofs.Common.{subst}
-use Rattle.m161_server.specs.Streams.{ReadsByte}
+use Rattle.m161_server.specs.helpers.Streams.{ReadsByte}
 use Rattle.m161_server.proofs.Passing.{took}
 use Rattle.m161_server.proofs.serving.turn.Goals as goal
 
