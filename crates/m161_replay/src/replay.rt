@@ -1,0 +1,150 @@
+//! The run of a list of events, from the state at boot on.
+
+ghost use Rattle.std.specs.Prelude.{◌≡◌, IfOk};
+ghost use Rattle.m161_replay.specs.Replays.{state_at};
+
+use crate::kept::{Kept, keep_near, last_after};
+use crate::seen::event_seen;
+use crate::standing::Standing;
+use m161_bus::Console;
+use m161_machine::{Core, Event};
+use m161_moves::{Run, StepSeen};
+use m161_tlb::Tlb;
+use std::alloc::{AllocError, Global};
+use std::marker::Model;
+
+/// The run of a list of events from a state on, standing at one of its places. It holds five states:
+/// the first one, two where it stands and one that it has kept; a way back holds two more.
+#[derive(Drop)]
+pub struct Replay<T: Tlb, D: Console> {
+    list: Vec<Event>,
+    start: Box<Core<T, D>>,
+    kept: Kept<T, D>,
+    here: Standing<T, D>,
+    place: usize,
+    last: u32,
+}
+
+impl<T: Tlb, D: Console> Model for Replay<T, D> {
+    ghost use Rattle.std.specs.Prelude.{◌≡◌, slice_get};
+    ghost use Rattle.m161_replay.specs.Replays.{Replay};
+    ghost use Rattle.m161_replay.specs.helpers.Standing.{IsAt, Peeks};
+
+    ghost Value = { Replay };
+
+    ghost view = { λ r. record {
+      start = r.start.value.state;
+      events = r.list.items;
+      place = r.place;
+    } };
+
+    ghost invariant = { λ r.
+        IsAt r.start.value.state r.list.items r.kept.place r.kept.last r.kept.core.value.state
+        × IsAt r.start.value.state r.list.items r.place r.last r.here.core.value.state
+        × Peeks r.here.core.value.state (slice_get r.list.items r.place) r.here.outcome
+        r.here.ahead.value.state };
+}
+
+impl<T: Tlb + Drop, D: Console + Drop> Replay<T, D> {
+    /// The run of these events from this state on, at its beginning.
+    ///
+    /// # Errors
+    /// Memory was refused.
+    #[inline(never)]
+    pub fn new(
+        alloc: Global,
+        start: Core<T, D>,
+        events: Vec<Event>,
+    ) -> Result<Replay<T, D>, AllocError>
+        ensures { IfOk result (λ replay.
+            replay ≡ record { start = start.state; events = events.items; place = 0 }) }
+    {
+        let start = Box::new(alloc, start)?;
+        let kept = Kept::at_start(alloc, &*start)?;
+        let here = Standing::of(alloc, &*start, events.first().copied())?;
+        Ok(Replay {
+            list: events,
+            start,
+            kept,
+            here,
+            place: 0,
+            last: 0,
+        })
+    }
+}
+
+impl<T: Tlb, D: Console> Replay<T, D> {
+    /// The state at the place where it stands.
+    pub fn state(&self) -> &Core<T, D>
+        ensures { result.now.state ≡ state_at self.now.start self.now.events self.now.place }
+    {
+        &*self.here.core
+    }
+
+    /// Its events, those behind its end too.
+    pub fn events(&self) -> &[Event]
+        ensures { result.now ≡ self.now.events }
+    {
+        self.list.as_slice()
+    }
+}
+
+impl<T: Tlb + Drop, D: Console + Drop> Run for Replay<T, D> {
+    ghost use Rattle.std.specs.Prelude.{min};
+    ghost use Rattle.m161_replay.specs.Replays.{course_of, number_made, place_of};
+    ghost use Rattle.std.proofs.Common.{rules};
+
+    type Error = AllocError;
+
+    ghost course = { λ run. course_of run.start run.events };
+
+    ghost place = { λ run. place_of run };
+
+    // Memory was refused.
+    ghost fails = { λ course error. Unit {0} };
+
+    fn place(&self) -> usize {
+        self.place
+    }
+
+    fn is_at_end(&self) -> bool {
+        self.here.outcome().is_none()
+    }
+
+    fn next_step(&self) -> Option<StepSeen> {
+        let event = self.list[self.place];
+        event_seen(&*self.here.core, event, self.here.outcome())
+    }
+
+    fn last_processor(&self) -> u32 {
+        self.last
+    }
+
+    fn advance(&mut self) -> Result<(), AllocError> {
+        let event = self.list[self.place];
+        let following = self.list.get(self.place + 1).copied();
+        self.here.advance(event, following)?;
+        self.place += 1;
+        self.last = last_after(event, self.last);
+        Ok(())
+    }
+
+    fn go_back(&mut self, to: usize) -> Result<(), AllocError> {
+        let alloc = *self.list.allocator();
+        let Replay {
+            list,
+            start,
+            kept,
+            here,
+            place,
+            last,
+        } = self;
+        keep_near(alloc, &**start, list.as_slice(), kept, to)?;
+        *here = Standing::of(alloc, &*kept.core, list.get(kept.place).copied())?;
+        *place = kept.place;
+        *last = kept.last;
+        Ok(())
+    }
+
+    ghost within = { λ run. Prim.search rules };
+}
