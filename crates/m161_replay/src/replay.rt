@@ -1,10 +1,9 @@
 //! The run of a list of events, from the state at boot on.
 
-ghost use Rattle.std.specs.Prelude.{◌≡◌, IfOk};
+ghost use Rattle.std.specs.Prelude.{◌≡◌, IfOk, slice_get};
 ghost use Rattle.m161_replay.specs.Replays.{state_at};
 
 use crate::kept::{Kept, keep_near, last_after};
-use crate::seen::event_seen;
 use crate::standing::Standing;
 use m161_bus::Console;
 use m161_machine::{Core, Event};
@@ -45,6 +44,13 @@ impl<T: Tlb, D: Console> Model for Replay<T, D> {
         r.here.ahead.value.state };
 }
 
+// The event at a place, if there is one.
+fn event_at(list: &[Event], place: usize) -> Option<Event>
+    ensures { result ≡ slice_get list.now place }
+{
+    list.get(place).copied()
+}
+
 impl<T: Tlb + Drop, D: Console + Drop> Replay<T, D> {
     /// The run of these events from this state on, at its beginning.
     ///
@@ -61,7 +67,7 @@ impl<T: Tlb + Drop, D: Console + Drop> Replay<T, D> {
     {
         let start = Box::new(alloc, start)?;
         let kept = Kept::at_start(alloc, &*start)?;
-        let here = Standing::of(alloc, &*start, events.first().copied())?;
+        let here = Standing::of(alloc, &*start, event_at(events.as_slice(), 0))?;
         Ok(Replay {
             list: events,
             start,
@@ -108,12 +114,17 @@ impl<T: Tlb + Drop, D: Console + Drop> Run for Replay<T, D> {
     }
 
     fn is_at_end(&self) -> bool {
-        self.here.outcome().is_none()
+        match self.here.outcome() {
+            Some(_) => false,
+            None => true,
+        }
     }
 
     fn next_step(&self) -> Option<StepSeen> {
-        let event = self.list[self.place];
-        event_seen(&*self.here.core, event, self.here.outcome())
+        match event_at(self.list.as_slice(), self.place) {
+            Some(event) => self.here.seen(event),
+            None => None,
+        }
     }
 
     fn last_processor(&self) -> u32 {
@@ -121,8 +132,9 @@ impl<T: Tlb + Drop, D: Console + Drop> Run for Replay<T, D> {
     }
 
     fn advance(&mut self) -> Result<(), AllocError> {
-        let event = self.list[self.place];
-        let following = self.list.get(self.place + 1).copied();
+        let list = self.list.as_slice();
+        let event = list[self.place];
+        let following = event_at(list, self.place + 1);
         self.here.advance(event, following)?;
         self.place += 1;
         self.last = last_after(event, self.last);
@@ -131,18 +143,17 @@ impl<T: Tlb + Drop, D: Console + Drop> Run for Replay<T, D> {
 
     fn go_back(&mut self, to: usize) -> Result<(), AllocError> {
         let alloc = *self.list.allocator();
-        let Replay {
-            list,
-            start,
-            kept,
-            here,
-            place,
-            last,
-        } = self;
-        keep_near(alloc, &**start, list.as_slice(), kept, to)?;
-        *here = Standing::of(alloc, &*kept.core, list.get(kept.place).copied())?;
-        *place = kept.place;
-        *last = kept.last;
+        keep_near(
+            alloc,
+            &*self.start,
+            self.list.as_slice(),
+            &mut self.kept,
+            to,
+        )?;
+        let event = event_at(self.list.as_slice(), self.kept.place);
+        self.here = Standing::of(alloc, &*self.kept.core, event)?;
+        self.place = self.kept.place;
+        self.last = self.kept.last;
         Ok(())
     }
 

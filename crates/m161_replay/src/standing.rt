@@ -1,12 +1,15 @@
 //! A state, and the one behind its next event.
 
-ghost use Rattle.std.specs.Prelude.{◌≡◌, ◌≤◌, IfOk, IsSome, OnErr, OnOk, Ok, Some};
+ghost use Rattle.std.specs.Prelude.{◌≡◌, ◌≤◌, IfOk, OnErr, OnOk, Ok, Some};
 ghost use Rattle.m161_cpu.specs.declared.processor.Outcome.{Outcome};
 ghost use Rattle.m161_machine.specs.State.{State, next};
+ghost use Rattle.m161_replay.specs.Replays.{event_seen};
 ghost use Rattle.m161_replay.specs.helpers.Standing.{Peeks};
 
+use crate::seen::event_seen;
 use m161_bus::Console;
 use m161_machine::{Core, Event, Outcome};
+use m161_moves::StepSeen;
 use m161_tlb::Tlb;
 use std::alloc::{AllocError, Global};
 
@@ -86,6 +89,15 @@ impl<T: Tlb, D: Console> Standing<T, D> {
         self.outcome
     }
 
+    /// What moves see of the next event, which is this one.
+    pub(crate) fn seen(&self, event: Event) -> Option<StepSeen>
+        requires { Peeks self.now.core.value.state (Some event) self.now.outcome
+            self.now.ahead.value.state }
+        ensures { result ≡ event_seen self.now.core.value.state event }
+    {
+        event_seen(&*self.core, event, self.outcome)
+    }
+
     /// Goes on by an event, which is accepted, to before this one.
     ///
     /// # Errors
@@ -93,7 +105,8 @@ impl<T: Tlb, D: Console> Standing<T, D> {
     pub(crate) fn advance(&mut self, event: Event, following: Option<Event>) -> Result<(), AllocError>
         requires peeks { Peeks self.old.core.value.state (Some event) self.old.outcome
             self.old.ahead.value.state }
-        requires accepted { IsSome self.old.outcome }
+        requires accepted { (o : Outcome) × (t : State)
+            × (next self.old.core.value.state event ≡ Ok (o, t)) }
         ensures made { OnOk result ((o : Outcome)
             × (next self.old.core.value.state event ≡ Ok (o, self.new.core.value.state))) }
         ensures peeks { OnOk result (Peeks self.new.core.value.state following self.new.outcome
