@@ -216,3 +216,9 @@ place_is start list place last s at = let end = at.end_is in omega (arith, end)
 pub made_by : (s : State) (e : Event) (outcome : Option Outcome) (t : State) → Peeks s (Some e) outcome t → IsSome outcome → (o : Outcome) × (u : State) × (next s e ≡ Ok (o, u))
 made_by s e None t peeks some = absurd (cc)
 made_by s e (Some o) t peeks some = (o, t, peeks)
+
+pub one_further : (start : State) (list : List Event) (place last : ℕ) (s : State) (outcome : Option Outcome) (t : State) → IsAt start list place last s → (c : Comes s list place outcome t) →
+    (e : Event) → e ≡ c.event → (o : Outcome) (u : State) → next s e ≡ Ok (o, u) → (later : ℕ) → later ≡ last_after e last → IsAt start list (place + 1) later u
+one_further start list place last s outcome t at c e is o u made later behind =
+    subst (λ n. IsAt start list (place + 1) n u) (sym behind)
+    (is_at_next start list place last s e o u at (c.event_is ∙ ap (λ x. Some x) (sym is)) made)

@@ -100,11 +100,7 @@ fn address_fetched(outcome: Outcome, pc: u32, fetch: Option<u32>) -> Option<u32>
 
 /// What moves see of the next Step of processor `p`, which has this outcome.
 #[tactic(auto, unfolding(crate::specs::Seen::step_seen))]
-pub(crate) fn step_seen<T: Tlb, D: Console>(
-    core: &Core<T, D>,
-    p: u32,
-    outcome: Outcome,
-) -> StepSeen
+pub(crate) fn step_seen<T: Tlb, D: Console>(core: &Core<T, D>, p: u32, outcome: Outcome) -> StepSeen
     requires processor { p < length core.now.state.processors }
     requires outcome { (step_result p core.now.state).outcome ≡ outcome }
     ensures { result ≡ step_seen p core.now.state outcome }

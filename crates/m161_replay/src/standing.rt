@@ -102,7 +102,11 @@ impl<T: Tlb, D: Console> Standing<T, D> {
     ///
     /// # Errors
     /// Memory was refused. Nothing is changed then.
-    pub(crate) fn advance(&mut self, event: Event, following: Option<Event>) -> Result<(), AllocError>
+    pub(crate) fn advance(
+        &mut self,
+        event: Event,
+        following: Option<Event>,
+    ) -> Result<(), AllocError>
         requires peeks { Peeks self.old.core.value.state (Some event) self.old.outcome
             self.old.ahead.value.state }
         requires accepted { (o : Outcome) × (t : State)

@@ -7,7 +7,7 @@ use Rattle.m161_replay.proofs.kept.Kept.go_on.Given as goal
 abbrev pub invariant-loop-self : goal.invariant-loop-self
 invariant-loop-self g l = record {
   at : (start : State) → IsAt start l.list l.initial.self.place l.initial.self.last l.initial.self.core.value.state →
-  IsAt start l.list l.self.place l.self.last l.self.core.value.state;
+      IsAt start l.list l.self.place l.self.last l.self.core.value.state;
   more : l.initial.self.place ≤ l.self.place;
   within : l.self.place ≤ max l.initial.self.place l.to;
 }
