@@ -91,7 +91,7 @@ impl<T: Tlb, D: Console> Replay<T, D> {
     pub fn events(&self) -> &[Event]
         ensures { result.now ≡ self.now.events }
     {
-        self.list.as_slice()
+        &self.list[..]
     }
 }
 
