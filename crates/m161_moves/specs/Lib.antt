@@ -1,4 +1,5 @@
 pub use Rattle.m161_gdb.specs.Stops
+pub mod Scenes
 pub mod Course
 pub mod Stopping
 pub mod Moves

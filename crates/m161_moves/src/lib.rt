@@ -10,6 +10,7 @@
 #![tactic(auto)]
 
 mod back;
+mod doing;
 mod laws;
 mod moves;
 mod reason;
@@ -18,6 +19,7 @@ mod stopping;
 mod thread;
 
 pub use back::backwards;
+pub use doing::{Activity, Doing};
 pub use laws::{
     has_backwards, has_forwards, has_one_backwards, has_one_forwards, step_is_taken_back,
 };

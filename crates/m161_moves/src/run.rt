@@ -33,7 +33,7 @@ pub trait Run {
     /// Why a run can't be gone along.
     type Error: Drop;
 
-    // Its end, and its Steps: what no move changes.
+    // Its end, its Steps, and what is seen at its places: what no move changes.
     ghost course: { Self → Course };
 
     // The place where it stands.
