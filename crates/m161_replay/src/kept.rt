@@ -4,7 +4,7 @@ ghost use Rattle.std.specs.Prelude.{◌≡◌, ◌+◌, ◌-◌, ◌^◌, ◌≤
 ghost use Rattle.m161_cpu.specs.declared.processor.Outcome.{Outcome};
 ghost use Rattle.m161_machine.specs.declared.event.Event.{Event};
 ghost use Rattle.m161_machine.specs.State.{State, next};
-ghost use Rattle.m161_replay.specs.Replays.{number_made};
+ghost use Rattle.m161_replay.specs.Replays.{number_made, state_at};
 ghost use Rattle.m161_replay.specs.helpers.Standing.{IsAt, last_after};
 
 use crate::standing::make;
@@ -50,6 +50,24 @@ impl<T: Tlb + Drop, D: Console + Drop> Kept<T, D> {
             core,
             place: 0,
             last: 0,
+        })
+    }
+
+    /// The same again.
+    ///
+    /// # Errors
+    /// Memory was refused.
+    #[inline(never)]
+    pub(crate) fn copy(&self, alloc: Global) -> Result<Kept<T, D>, AllocError>
+        ensures state { IfOk result (λ kept. kept.core.value.state ≡ self.now.core.value.state) }
+        ensures place { IfOk result (λ kept. kept.place ≡ self.now.place) }
+        ensures last { IfOk result (λ kept. kept.last ≡ self.now.last) }
+    {
+        let core = Box::new(alloc, self.core.copy(alloc)?)?;
+        Ok(Kept {
+            core,
+            place: self.place,
+            last: self.last,
         })
     }
 }
@@ -116,4 +134,34 @@ pub(crate) fn keep_near<T: Tlb + Drop, D: Console + Drop>(
         *kept = Kept::at_start(alloc, start)?;
     }
     kept.go_on(list, to.saturating_sub(NEAR))
+}
+
+/// A state at a place, made from the kept one, if that isn't behind it, or else from the beginning.
+///
+/// # Errors
+/// Memory was refused.
+pub(crate) fn state_at<T: Tlb + Drop, D: Console + Drop>(
+    alloc: Global,
+    start: &Core<T, D>,
+    list: &[Event],
+    kept: &Kept<T, D>,
+    place: usize,
+) -> Result<Box<Core<T, D>>, AllocError>
+    requires at { IsAt start.now.state list.now kept.now.place kept.now.last
+        kept.now.core.value.state }
+    requires place { place ≤ number_made start.now.state list.now }
+    ensures { IfOk result (λ core. core.value.state ≡ state_at start.now.state list.now place) }
+{
+    let mut made = if kept.place <= place {
+        kept.copy(alloc)?
+    } else {
+        Kept::at_start(alloc, start)?
+    };
+    made.go_on(list, place)?;
+    let Kept {
+        core,
+        place: _,
+        last: _,
+    } = made;
+    Ok(core)
 }

@@ -14,6 +14,10 @@ mod loads;
 mod replay;
 mod seen;
 mod standing;
+mod target;
+mod traced;
+mod views;
 
 pub use m161_moves::{Access, Run, StepSeen};
+pub use m161_server::Target;
 pub use replay::Replay;

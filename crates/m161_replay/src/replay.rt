@@ -1,10 +1,11 @@
 //! The run of a list of events, from the state at boot on.
 
-ghost use Rattle.std.specs.Prelude.{◌≡◌, IfOk, slice_get};
-ghost use Rattle.m161_replay.specs.Replays.{state_at};
+ghost use Rattle.std.specs.Prelude.{◌≡◌, ◌≤◌, IfOk, length, slice_get, string_bytes, take};
+ghost use Rattle.m161_replay.specs.Replays.{number_made, state_at, trace_before};
 
-use crate::kept::{Kept, keep_near, last_after};
+use crate::kept::{Kept, keep_near, last_after, state_at};
 use crate::standing::Standing;
+use crate::traced::trace_from;
 use m161_bus::Console;
 use m161_machine::{Core, Event};
 use m161_moves::{Run, StepSeen};
@@ -25,7 +26,7 @@ pub struct Replay<T: Tlb, D: Console> {
 }
 
 impl<T: Tlb, D: Console> Model for Replay<T, D> {
-    ghost use Rattle.std.specs.Prelude.{◌≡◌, slice_get};
+    ghost use Rattle.std.specs.Prelude.{◌≡◌, ◌≤◌, length, slice_get};
     ghost use Rattle.m161_replay.specs.Replays.{Replay};
     ghost use Rattle.m161_replay.specs.helpers.Standing.{IsAt, Peeks};
 
@@ -38,14 +39,15 @@ impl<T: Tlb, D: Console> Model for Replay<T, D> {
     } };
 
     ghost invariant = { λ r.
-        IsAt r.start.value.state r.list.items r.kept.place r.kept.last r.kept.core.value.state
+        (1 ≤ length r.start.value.state.processors)
+        × IsAt r.start.value.state r.list.items r.kept.place r.kept.last r.kept.core.value.state
         × IsAt r.start.value.state r.list.items r.place r.last r.here.core.value.state
         × Peeks r.here.core.value.state (slice_get r.list.items r.place) r.here.outcome
         r.here.ahead.value.state };
 }
 
-// The event at a place, if there is one.
-fn event_at(list: &[Event], place: usize) -> Option<Event>
+/// The event at a place, if there is one.
+pub(crate) fn event_at(list: &[Event], place: usize) -> Option<Event>
     ensures { result ≡ slice_get list.now place }
 {
     list.get(place).copied()
@@ -62,6 +64,7 @@ impl<T: Tlb + Drop, D: Console + Drop> Replay<T, D> {
         start: Core<T, D>,
         events: Vec<Event>,
     ) -> Result<Replay<T, D>, AllocError>
+        requires { 1 ≤ length start.state.processors }
         ensures { IfOk result (λ replay.
             replay ≡ record { start = start.state; events = events.items; place = 0 }) }
     {
@@ -79,12 +82,51 @@ impl<T: Tlb + Drop, D: Console + Drop> Replay<T, D> {
     }
 }
 
+impl<T: Tlb + Drop, D: Console + Drop> Replay<T, D> {
+    /// A trace's lines of the last events before the place where it stands, this number or all.
+    ///
+    /// # Errors
+    /// Memory was refused.
+    #[tactic(auto, unfolding(crate::specs::Replays::trace_before))]
+    pub fn trace(&self, alloc: Global, number: usize) -> Result<String, AllocError>
+        ensures { IfOk result (λ text. string_bytes text
+            ≡ trace_before self.now.start self.now.events self.now.place number) }
+    {
+        let list = self.list.as_slice();
+        let first = self.place.saturating_sub(number);
+        let mut before = state_at(alloc, &*self.start, list, &self.kept, first)?;
+        let mut behind = Box::new(alloc, before.copy(alloc)?)?;
+        trace_from(
+            alloc,
+            &list[..self.place],
+            first,
+            &mut *before,
+            &mut *behind,
+        )
+    }
+}
+
 impl<T: Tlb, D: Console> Replay<T, D> {
     /// The state at the place where it stands.
     pub fn state(&self) -> &Core<T, D>
         ensures { result.now.state ≡ state_at self.now.start self.now.events self.now.place }
     {
         &*self.here.core
+    }
+
+    /// Its events before the place where it stands.
+    pub fn events_made(&self) -> &[Event]
+        ensures { result.now ≡ take self.now.place self.now.events }
+    {
+        &self.list[..self.place]
+    }
+
+    /// Its law: it has a processor, and stands not behind its end.
+    pub fn law(&self)
+        ensures some { 1 ≤ length self.now.start.processors }
+        ensures within { self.now.place ≤ number_made self.now.start self.now.events }
+    {
+        let _list = &self.list;
     }
 
     /// Its events, those behind its end too.

@@ -39,5 +39,6 @@ mod text;
 mod tracer;
 
 pub use laws::items_tell;
+pub use line::write_line;
 pub use m161_dis::{Naming, Style};
 pub use tracer::Tracer;

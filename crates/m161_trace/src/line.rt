@@ -287,9 +287,13 @@ fn push_done(text: &mut String, number: u64) -> Result<(), AllocError>
     write!(text, "{number} o")
 }
 
-/// Writes the line of an event into an empty text, with its end; `items` is room for its items.
+/// Writes the line of an event that is accepted, with its end, in place of a text; `items` is room for
+/// its items. `number` is the event's in its run.
+///
+/// # Errors
+/// Memory was refused.
 #[tactic(auto, unfolding(crate::specs::Line::event_line))]
-pub(crate) fn write_line<T: Tlb, D: Console>(
+pub fn write_line<T: Tlb, D: Console>(
     text: &mut String,
     items: &mut String,
     style: &Style,
