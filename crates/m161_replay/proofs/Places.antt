@@ -1,7 +1,7 @@
-use Rattle.std.proofs.Common.{◌≡◌, ◌∙◌, refl, sym, ap, subst, ℕ, zero, suc, ◌+◌, ◌≤◌, ◌<◌, arith, ◌⊎◌, inl, inr, Bool, true, false, List, [], ◌∷◌, ◌++◌, length, take, drop, get_or, slice_index_or, Option, None, Some, Result, Ok, Err, slice_get}
+use Rattle.std.proofs.Common.{◌≡◌, ◌∙◌, refl, sym, ap, subst, ℕ, zero, suc, ◌+◌, ◌≤◌, ◌<◌, arith, append_assoc, ◌⊎◌, inl, inr, Bool, true, false, List, [], ◌∷◌, ◌++◌, length, take, drop, get_or, slice_index_or, Option, None, Some, Result, Ok, Err, slice_get}
 use Rattle.std.specs.Prelude.{IsSome, is_none, min, nat_le, ◌==◌, option_and_then}
 use Rattle.std.proofs.lemmas.Bool.Decides.{nat_tests}
-use Rattle.std.proofs.lemmas.List.{at_drop_more, drop_all, take_more}
+use Rattle.std.proofs.lemmas.List.{append-nil, at_drop_more, drop_all, length-map, take_more}
 use Rattle.std.proofs.lemmas.Option.{get_or_from_slice_get, slice_get_cases, slice_get_within}
 use Rattle.m161_isa.specs.Choice.{first_answer}
 use Rattle.m161_cpu.specs.declared.processor.Outcome.{Outcome}
@@ -9,12 +9,15 @@ use Rattle.m161_machine.specs.declared.event.Event.{Event}
 use Rattle.m161_machine.specs.declared.event.Event.TheVariants as events
 use Rattle.m161_machine.specs.declared.event.Refusal.{Refusal}
 use Rattle.m161_machine.specs.declared.event.Refusal.TheVariants.{BadProcessor, Off, Worn}
-use Rattle.m161_machine.specs.State.{State, next, step_result, unless, with_step}
+use Rattle.m161_cpu.specs.Processor.{Processor}
+use Rattle.m161_machine.specs.State.{State, counts, next, step_result, unless, with_step}
+use Rattle.m161_machine.proofs.Counting.{counts_law}
+use Rattle.m161_machine.proofs.Counted.{same_length}
 use Rattle.m161_moves.specs.declared.run.StepSeen.{StepSeen}
 use Rattle.m161_moves.specs.Course.{Course}
 use Rattle.m161_moves.specs.Threads.{last_processor, processor_or}
 use Rattle.m161_replay.specs.Seen.{step_seen}
-use Rattle.m161_replay.specs.Replays.{after, along, counted, course_of, event_seen, number_made, seen_by, state_at}
+use Rattle.m161_replay.specs.Replays.{after, along, counted, course_of, event_seen, line_by, number_made, seen_by, state_at, trace_from}
 use Rattle.m161_replay.specs.helpers.Standing.{IsAt, Peeks, last_after}
 
 -- Places of a run.
@@ -222,3 +225,34 @@ pub one_further : (start : State) (list : List Event) (place last : ℕ) (s : St
 one_further start list place last s outcome t at c e is o u made later behind =
     subst (λ n. IsAt start list (place + 1) n u) (sym behind)
     (is_at_next start list place last s e o u at (c.event_is ∙ ap (λ x. Some x) (sym is)) made)
+
+-- no event changes the number of processors
+
+number_next : (s t : State) (e : Event) (o : Outcome) → next s e ≡ Ok (o, t) → length t.processors ≡ length s.processors
+number_next s t e o h =
+    sym (length-map t.processors (λ (p : Processor). p.count)) ∙ ap length (counts_law s t e o h) ∙ same_length e (counts s)
+    ∙ length-map s.processors (λ (p : Processor). p.count)
+
+number_after : (s : State) (e : Event) (x : Result (Outcome × State) Refusal) → next s e ≡ x → length (after s x).processors ≡ length s.processors
+number_after s e (Err r) h = refl
+number_after s e (Ok made) h = number_next s made.1 e made.0 h
+
+number_along : (es : List Event) (s : State) → length (along s es).processors ≡ length s.processors
+number_along [] s = refl
+number_along (e ∷ es) s = number_along es (after s (next s e)) ∙ number_after s e (next s e) refl
+
+pub number_at : (start : State) (list : List Event) (place : ℕ) → length (state_at start list place).processors ≡ length start.processors
+number_at start list place = number_along (take place list) start
+
+-- a trace, one event on
+
+pub traced_more : (before more : List ℕ) (i : ℕ) (s t : State) (list : List Event) (e : Event) (whole : List ℕ) → slice_get list i ≡ Some e →
+    before ++ trace_from i s (drop i list) ≡ whole → more ≡ before ++ line_by i e s (next s e) → t ≡ after s (next s e) →
+    more ++ trace_from (i + 1) t (drop (i + 1) list) ≡ whole
+traced_more before more i s t list e whole at so_far text state =
+    let rest = trace_from (i + 1) (after s (next s e)) (drop (i + 1) list) in
+    ap (λ u. more ++ trace_from (i + 1) u (drop (i + 1) list)) state ∙ ap (λ x. x ++ rest) text ∙ append_assoc before (line_by i e s (next s e)) rest
+    ∙ ap (λ x. before ++ x) (sym (ap (trace_from i s) (rest_is list i e at))) ∙ so_far
+
+pub traced_all : (text : List ℕ) (i : ℕ) (s : State) (list : List Event) (whole : List ℕ) → length list ≤ i → text ++ trace_from i s (drop i list) ≡ whole → text ≡ whole
+traced_all text i s list whole past h = sym (append-nil text) ∙ ap (λ l. text ++ trace_from i s l) (sym (drop_all i list past)) ∙ h

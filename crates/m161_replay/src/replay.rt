@@ -1,7 +1,7 @@
 //! The run of a list of events, from the state at boot on.
 
 ghost use Rattle.std.specs.Prelude.{◌≡◌, ◌≤◌, IfOk, length, slice_get, string_bytes, take};
-ghost use Rattle.m161_replay.specs.Replays.{number_made, state_at, trace_before};
+ghost use Rattle.m161_replay.specs.Replays.{number_made, place_of, state_at, trace_before};
 
 use crate::kept::{Kept, keep_near, last_after, state_at};
 use crate::standing::Standing;
@@ -83,12 +83,9 @@ impl<T: Tlb + Drop, D: Console + Drop> Replay<T, D> {
 }
 
 impl<T: Tlb + Drop, D: Console + Drop> Replay<T, D> {
-    /// A trace's lines of the last events before the place where it stands, this number or all.
-    ///
-    /// # Errors
-    /// Memory was refused.
+    // A trace's lines of the last events before the place where it stands, this number or all.
     #[tactic(auto, unfolding(crate::specs::Replays::trace_before))]
-    pub fn trace(&self, alloc: Global, number: usize) -> Result<String, AllocError>
+    fn lines(&self, alloc: Global, number: usize) -> Result<String, AllocError>
         ensures { IfOk result (λ text. string_bytes text
             ≡ trace_before self.now.start self.now.events self.now.place number) }
     {
@@ -104,21 +101,51 @@ impl<T: Tlb + Drop, D: Console + Drop> Replay<T, D> {
             &mut *behind,
         )
     }
+
+    /// A trace's lines of the last events before the place where it stands, this number or all.
+    ///
+    /// # Errors
+    /// Memory was refused.
+    pub fn trace(&self, alloc: Global, number: usize) -> Result<String, AllocError>
+        ensures { IfOk result (λ text. string_bytes text
+            ≡ trace_before self.now.start self.now.events (place_of self.now) number) }
+    {
+        self.law();
+        self.lines(alloc, number)
+    }
 }
 
 impl<T: Tlb, D: Console> Replay<T, D> {
-    /// The state at the place where it stands.
-    pub fn state(&self) -> &Core<T, D>
+    // The state at the place where it stands.
+    fn core(&self) -> &Core<T, D>
         ensures { result.now.state ≡ state_at self.now.start self.now.events self.now.place }
     {
         &*self.here.core
     }
 
-    /// Its events before the place where it stands.
-    pub fn events_made(&self) -> &[Event]
+    /// The state at the place where it stands.
+    pub fn state(&self) -> &Core<T, D>
+        ensures state { result.now.state
+            ≡ state_at self.now.start self.now.events (place_of self.now) }
+        ensures number { length result.now.state.processors ≡ length self.now.start.processors }
+    {
+        self.law();
+        self.core()
+    }
+
+    // Its events before the place where it stands.
+    fn made(&self) -> &[Event]
         ensures { result.now ≡ take self.now.place self.now.events }
     {
         &self.list[..self.place]
+    }
+
+    /// Its events before the place where it stands.
+    pub fn events_made(&self) -> &[Event]
+        ensures { result.now ≡ take (place_of self.now) self.now.events }
+    {
+        self.law();
+        self.made()
     }
 
     /// Its law: it has a processor, and stands not behind its end.

@@ -1,7 +1,5 @@
 //! What a session asks of a run.
 
-ghost use Rattle.std.specs.Prelude.{◌≡◌};
-
 use crate::replay::{Replay, event_at};
 use crate::views::{byte, doing, memory_text, next_text, register};
 use m161_bus::Console;
@@ -15,7 +13,10 @@ use std::alloc::{AllocError, Global};
 
 impl<T: Tlb + Drop, D: Console + Drop> Target for Replay<T, D> {
     fn processors(&self) -> u32 {
-        self.state().processors()
+        self.law();
+        let core = self.state();
+        core.law();
+        core.processors()
     }
 
     fn count(&self) -> usize {
