@@ -1,0 +1,4 @@
+pub mod Seen
+pub mod Views
+pub mod Replays
+pub mod helpers
