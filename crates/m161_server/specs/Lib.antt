@@ -5,4 +5,5 @@ pub mod Words
 pub mod Monitor
 pub mod Sessions
 pub mod Serving
+pub mod Laws
 pub mod helpers

@@ -189,12 +189,7 @@ fn answer_still<T: Target>(
         Packet::Kill => Ok(Reply::none(alloc)),
         Packet::Malformed => tell(alloc, "E01"),
         Packet::Unknown => tell(alloc, ""),
-        Packet::Resume(_) => tell(alloc, ""),
-        Packet::Continue => tell(alloc, ""),
-        Packet::Step => tell(alloc, ""),
-        Packet::ContinueBack => tell(alloc, ""),
-        Packet::StepBack => tell(alloc, ""),
-        Packet::Monitor(_) => tell(alloc, ""),
+        _ => tell(alloc, ""),
     }
 }
 

@@ -12,6 +12,7 @@ mod answering;
 mod choosing;
 mod description;
 mod fault;
+mod laws;
 mod monitor;
 mod moving;
 mod outgoing;
@@ -27,6 +28,7 @@ mod words;
 
 pub use answering::answer;
 pub use fault::Fault;
+pub use laws::{has_answer, has_one_answer, has_one_text};
 pub use reply::Reply;
 pub use serving::serve;
 pub use session::{LastStop, Session};
