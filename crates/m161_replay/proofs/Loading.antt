@@ -1,5 +1,5 @@
-use Rattle.std.proofs.Common.{◌≡◌, ◌∙◌, refl, sym, ap, subst, ℕ, ◌+◌, ◌*◌, ◌/◌, ◌%◌, ◌^◌, ◌⊎◌, inl, inr, Bool, true, false, List, length, Option, None, Some, Result, Ok, Err, slice_get}
-use Rattle.std.specs.Prelude.{if◌then◌else◌, not, ◌&&◌, option_and_then}
+use Rattle.std.proofs.Common.{◌≡◌, ◌∙◌, refl, sym, ap, subst, ℕ, ◌+◌, ◌*◌, ◌/◌, ◌%◌, ◌^◌, inl, inr, Bool, true, false, List, length, Option, None, Some, Result, Ok, Err, slice_get}
+use Rattle.std.specs.Prelude.{if◌then◌else◌, not, ◌&&◌}
 use Rattle.m161_isa.specs.Address.{unmapped}
 use Rattle.m161_isa.specs.declared.instr.Instr.{Instr}
 use Rattle.m161_isa.specs.declared.instr.Instr.TheVariants as instrs
@@ -12,7 +12,7 @@ use Rattle.m161_tlb.specs.declared.row.Row.{Row as TlbRow}
 use Rattle.m161_tlb.specs.Rows.{find_row}
 use Rattle.m161_ram.specs.Word.{word_at}
 use Rattle.m161_cop0.specs.Control.{Control, identifier_of}
-use Rattle.m161_cpu.specs.declared.processor.Outcome.TheVariants.{Ran, Trapped, Idle}
+use Rattle.m161_cpu.specs.declared.processor.Outcome.TheVariants.{Ran}
 use Rattle.m161_cpu.specs.declared.uses.Uses.{Uses}
 use Rattle.m161_cpu.specs.declared.uses.Via.{Via}
 use Rattle.m161_cpu.specs.Fetch.{fetched_word, word_found}
@@ -21,11 +21,11 @@ use Rattle.m161_cpu.specs.Scene.{Scene, and_then, around, result_map, scene}
 use Rattle.m161_cpu.specs.Step.{Stepped, is_unusable, step_of, step_of_fault, usable}
 use Rattle.m161_cpu.specs.Translation.{by_row, by_segment, in_ram, is_misaddressed, is_store, physical, physical_at, through_row}
 use Rattle.m161_cpu.specs.Uses.{Reference, fetch_of, fetches, reference_in, reference_by_row, reference_of_row, translated, uses_of, via_row}
-use Rattle.m161_cpu.specs.UsesLaw.{AccessesBy, ExecutesBy, FetchesBy, RefersBy, StepUses, UsesBy, UsesNothing, address_of, awake, word_from}
+use Rattle.m161_cpu.specs.UsesLaw.{AccessesBy, ExecutesBy, FetchesBy, RefersBy, StepUses, UsesBy, UsesNothing, awake, word_from}
 use Rattle.m161_cpu.specs.helpers.Uses.{address_by, reference_by, reference_by_some}
 use Rattle.m161_machine.specs.State.{State, processor_at, step_result}
 use Rattle.m161_machine.specs.Uses.{uses_in}
-use Rattle.m161_replay.specs.Seen.{loaded_by, word_around, word_at_physical}
+use Rattle.m161_replay.specs.Seen.{loaded_by, word_around}
 use Rattle.m161_replay.specs.helpers.Loads.{IsLoadFrom, IsReached, Locates, Reaches}
 
 -- The load of a Step that ran.

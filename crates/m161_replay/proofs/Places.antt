@@ -1,4 +1,4 @@
-use Rattle.std.proofs.Common.{◌≡◌, ◌∙◌, refl, sym, ap, subst, ℕ, zero, suc, ◌+◌, ◌≤◌, ◌<◌, arith, append_assoc, ◌⊎◌, inl, inr, Bool, true, false, List, [], ◌∷◌, ◌++◌, length, take, drop, get_or, slice_index_or, Option, None, Some, Result, Ok, Err, slice_get}
+use Rattle.std.proofs.Common.{◌≡◌, ◌∙◌, refl, sym, ap, subst, ℕ, suc, ◌+◌, ◌≤◌, ◌<◌, arith, append_assoc, ◌⊎◌, inl, inr, Bool, true, false, List, [], ◌∷◌, ◌++◌, length, take, drop, get_or, slice_index_or, Option, None, Some, Result, Ok, Err, slice_get}
 use Rattle.std.specs.Prelude.{IsSome, is_none, min, nat_le, ◌==◌, option_and_then}
 use Rattle.std.proofs.lemmas.Bool.Decides.{nat_tests}
 use Rattle.std.proofs.lemmas.List.{append-nil, at_drop_more, drop_all, length-map, take_more}
@@ -13,7 +13,6 @@ use Rattle.m161_cpu.specs.Processor.{Processor}
 use Rattle.m161_machine.specs.State.{State, counts, next, step_result, unless, with_step}
 use Rattle.m161_machine.proofs.Counting.{counts_law}
 use Rattle.m161_machine.proofs.Counted.{same_length}
-use Rattle.m161_moves.specs.declared.run.StepSeen.{StepSeen}
 use Rattle.m161_moves.specs.Course.{Course}
 use Rattle.m161_moves.specs.Threads.{last_processor, processor_or}
 use Rattle.m161_replay.specs.Seen.{step_seen}

@@ -1,4 +1,4 @@
-use Rattle.std.specs.Prelude.{ℕ, ◌+◌, ◌-◌, ◌*◌, ◌/◌, ◌%◌, ◌^◌, nat_le, nat_lt, ◌==◌, ◌&&◌, Bool, if◌then◌else◌, List, [], ◌∷◌, ◌++◌, codes, decimal, get_or, length, slice_get, slice_index, Option, None, Some, option_and_then, option_map, unwrap_or, Result, Ok, Err}
+use Rattle.std.specs.Prelude.{ℕ, ◌+◌, ◌*◌, ◌/◌, ◌%◌, ◌^◌, nat_le, nat_lt, ◌==◌, ◌&&◌, Bool, if◌then◌else◌, List, codes, decimal, get_or, length, slice_get, slice_index, Option, None, Some, option_and_then, option_map, unwrap_or, Result, Ok, Err}
 use Rattle.std.specs.List.{position, range_with_len}
 use Rattle.m161_isa.specs.Address.{unmapped}
 use Rattle.m161_tlb.specs.declared.row.Row.{Row}

@@ -1,7 +1,6 @@
-use Rattle.std.proofs.Common.{◌≡◌, ◌∙◌, ap, sym, length, ℕ, Bool, false, Option, None, Some, Ok}
-use Rattle.std.specs.Prelude.{if◌then◌else◌}
+use Rattle.std.proofs.Common.{◌≡◌, ◌∙◌, ap, sym, length, ℕ, Option, None, Some}
 use Rattle.m161_machine.specs.State.{processor_at}
-use Rattle.m161_replay.specs.Seen.{word_around, word_at_physical}
+use Rattle.m161_replay.specs.Seen.{word_around}
 use Rattle.m161_replay.proofs.Loading.{load_found}
 use Rattle.m161_replay.proofs.loads.loaded_at.Goals as goal
 

@@ -1,4 +1,4 @@
-use Rattle.std.proofs.Common.{◌≡◌, ◌∙◌, ◌*◌, ◌%◌, ◌^◌, ◌+◌, ap, sym, subst, arith, slice_get, ℕ, Option, Some}
+use Rattle.std.proofs.Common.{◌≡◌, ◌∙◌, ap, subst, arith, slice_get, Some}
 use Rattle.m161_machine.specs.State.{processor_at}
 use Rattle.m161_replay.proofs.Loading.{through_none, through_some}
 use Rattle.m161_replay.proofs.loads.physical.Goals as goal

@@ -1,6 +1,6 @@
-use Rattle.std.proofs.Common.{◌∙◌, ◌<◌, sym, arith}
+use Rattle.std.proofs.Common.{◌∙◌, sym, arith}
 use Rattle.m161_machine.specs.State.{processor_at}
-use Rattle.m161_replay.proofs.Seeing.{NoneBelow, no_row_found, row_found, row_passed}
+use Rattle.m161_replay.proofs.Seeing.{no_row_found, row_found, row_passed}
 use Rattle.m161_replay.proofs.views.lowest_row.Goals as goal
 
 pub returns-then-matches : goal.returns-then-matches

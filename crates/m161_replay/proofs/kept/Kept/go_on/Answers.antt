@@ -1,8 +1,7 @@
-use Rattle.std.proofs.Common.{◌∙◌, ◌<◌, ap, arith}
+use Rattle.std.proofs.Common.{◌∙◌, ap, arith}
 use Rattle.m161_machine.specs.declared.event.Event.TheVariants.{Step}
 use Rattle.m161_machine.specs.State.{next}
-use Rattle.m161_replay.specs.Replays.{number_made}
-use Rattle.m161_replay.proofs.Places.{Accepts, accepts, goes_on, indexed}
+use Rattle.m161_replay.proofs.Places.{accepts, goes_on, indexed}
 use Rattle.m161_replay.proofs.kept.Kept.go_on.Goals as goal
 
 pub advance-requires-clause-accepted : goal.advance-requires-clause-accepted

@@ -1,11 +1,11 @@
-use Rattle.std.proofs.Common.{◌≡◌, ◌∙◌, ◌+◌, ◌<◌, ap, min, sym, subst, slice_get, slice_index_or, List, Option, Some}
+use Rattle.std.proofs.Common.{◌∙◌, ◌+◌, ◌<◌, ap, min, sym, subst, slice_get, slice_index_or, List, Option, Some}
 use Rattle.std.proofs.lemmas.Option.{get_or_from_slice_get}
 use Rattle.m161_machine.specs.declared.event.Event.{Event}
 use Rattle.m161_machine.specs.declared.event.Event.TheVariants.{Step}
 use Rattle.m161_machine.specs.State.{next}
 use Rattle.m161_replay.specs.Replays.{Replay, number_made, place_of}
 use Rattle.m161_replay.specs.helpers.Standing.{Peeks}
-use Rattle.m161_replay.proofs.Places.{Comes, comes, one_further}
+use Rattle.m161_replay.proofs.Places.{comes, one_further}
 use Rattle.m161_replay.proofs.replay.ReplayRun.advance.Goals as goal
 
 pub advance-requires-clause-peeks : goal.advance-requires-clause-peeks

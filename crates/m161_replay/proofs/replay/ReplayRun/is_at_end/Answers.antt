@@ -1,4 +1,4 @@
-use Rattle.std.proofs.Common.{◌≡◌, ◌∙◌, ap, sym, is_none, None, Some}
+use Rattle.std.proofs.Common.{◌∙◌, ap, sym, is_none}
 use Rattle.m161_replay.proofs.Places.{is_end}
 use Rattle.m161_replay.proofs.replay.ReplayRun.is_at_end.Goals as goal
 
