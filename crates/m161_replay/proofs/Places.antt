@@ -17,7 +17,8 @@ use Rattle.m161_moves.specs.Course.{Course}
 use Rattle.m161_moves.specs.Threads.{last_processor, processor_or}
 use Rattle.m161_replay.specs.Seen.{step_seen}
 use Rattle.m161_replay.specs.Replays.{after, along, counted, course_of, event_seen, line_by, number_made, seen_by, state_at, trace_from}
-use Rattle.m161_replay.specs.helpers.Standing.{IsAt, Peeks, last_after}
+use Rattle.m161_replay.specs.Standing.{IsAt, Peeks}
+use Rattle.m161_replay.specs.helpers.Standing.{last_after}
 
 -- Places of a run.
 

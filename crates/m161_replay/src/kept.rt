@@ -5,7 +5,8 @@ ghost use Rattle.m161_cpu.specs.declared.processor.Outcome.{Outcome};
 ghost use Rattle.m161_machine.specs.declared.event.Event.{Event};
 ghost use Rattle.m161_machine.specs.State.{State, next};
 ghost use Rattle.m161_replay.specs.Replays.{number_made, state_at};
-ghost use Rattle.m161_replay.specs.helpers.Standing.{IsAt, last_after};
+ghost use Rattle.m161_replay.specs.Standing.{IsAt};
+ghost use Rattle.m161_replay.specs.helpers.Standing.{last_after};
 
 use crate::standing::make;
 use m161_bus::Console;

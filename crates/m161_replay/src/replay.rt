@@ -28,7 +28,7 @@ pub struct Replay<T: Tlb, D: Console> {
 impl<T: Tlb, D: Console> Model for Replay<T, D> {
     ghost use Rattle.std.specs.Prelude.{◌≡◌, ◌≤◌, length, slice_get};
     ghost use Rattle.m161_replay.specs.Replays.{Replay};
-    ghost use Rattle.m161_replay.specs.helpers.Standing.{IsAt, Peeks};
+    ghost use Rattle.m161_replay.specs.Standing.{IsAt, Peeks};
 
     ghost Value = { Replay };
 

@@ -7,7 +7,7 @@ ghost use Rattle.m161_machine.specs.Fetched.{fetches_none};
 ghost use Rattle.m161_machine.specs.State.{State, processor_at, step_result};
 ghost use Rattle.m161_replay.specs.Replays.{event_seen};
 ghost use Rattle.m161_replay.specs.Seen.{access_of, accessed, step_seen, virtual_word};
-ghost use Rattle.m161_replay.specs.helpers.Standing.{Peeks};
+ghost use Rattle.m161_replay.specs.Standing.{Peeks};
 
 use crate::loads::loaded;
 use m161_bus::Console;

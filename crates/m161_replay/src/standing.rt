@@ -4,7 +4,7 @@ ghost use Rattle.std.specs.Prelude.{◌≡◌, ◌≤◌, IfOk, OnErr, OnOk, Ok,
 ghost use Rattle.m161_cpu.specs.declared.processor.Outcome.{Outcome};
 ghost use Rattle.m161_machine.specs.State.{State, next};
 ghost use Rattle.m161_replay.specs.Replays.{event_seen};
-ghost use Rattle.m161_replay.specs.helpers.Standing.{Peeks};
+ghost use Rattle.m161_replay.specs.Standing.{Peeks};
 
 use crate::seen::event_seen;
 use m161_bus::Console;

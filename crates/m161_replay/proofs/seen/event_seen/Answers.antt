@@ -3,7 +3,7 @@ use Rattle.m161_cpu.specs.declared.processor.Outcome.{Outcome}
 use Rattle.m161_machine.specs.declared.event.Event.{Event}
 use Rattle.m161_machine.specs.declared.event.Event.TheVariants.{Step}
 use Rattle.m161_machine.specs.State.{next}
-use Rattle.m161_replay.specs.helpers.Standing.{Peeks}
+use Rattle.m161_replay.specs.Standing.{Peeks}
 use Rattle.m161_replay.proofs.Places.{accepted}
 use Rattle.m161_replay.proofs.seen.event_seen.Goals as goal
 

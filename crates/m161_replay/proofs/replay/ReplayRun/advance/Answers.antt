@@ -4,7 +4,7 @@ use Rattle.m161_machine.specs.declared.event.Event.{Event}
 use Rattle.m161_machine.specs.declared.event.Event.TheVariants.{Step}
 use Rattle.m161_machine.specs.State.{next}
 use Rattle.m161_replay.specs.Replays.{Replay, number_made, place_of}
-use Rattle.m161_replay.specs.helpers.Standing.{Peeks}
+use Rattle.m161_replay.specs.Standing.{Peeks}
 use Rattle.m161_replay.proofs.Places.{comes, one_further}
 use Rattle.m161_replay.proofs.replay.ReplayRun.advance.Goals as goal
 
