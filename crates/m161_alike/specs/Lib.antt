@@ -1,0 +1,4 @@
+pub mod Reads
+pub mod View
+pub mod Law
+pub mod Words
