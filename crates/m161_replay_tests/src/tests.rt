@@ -2,6 +2,7 @@
 
 mod moves;
 mod runs;
+mod seen;
 
 use std::fmt::Debug;
 use std::process::Abort;

@@ -1,11 +1,9 @@
 //! Moves along the run of the sample kernel.
 
-use super::runs::{Act, C, S, check_acts, replay, spinning};
+use super::runs::{Act, C, S, check_acts, go_to, replay, spinning};
 use super::same;
-use m161::{Console, Tlb};
 use m161_gdb::Kind;
 use m161_moves::Run;
-use m161_replay::Replay;
 use std::test::Fail;
 
 const LOOP: u32 = 0x8000_0244;
@@ -130,17 +128,6 @@ static ENDS: [Act; 6] = [
 #[test]
 fn stop_at_ends(rt: HostRuntime) -> Result<(), Fail> {
     check_acts(&rt, &ENDS)
-}
-
-// Goes to a place, or back from behind it.
-fn go_to(run: &mut Replay<Tlb, Console>, place: usize) -> Result<(), Fail> {
-    if run.place() > place {
-        run.go_back(place)?;
-    }
-    while run.place() < place && !run.is_at_end() {
-        run.advance()?;
-    }
-    Ok(())
 }
 
 #[test]

@@ -9,7 +9,7 @@ use m161_replay::Replay;
 use m161_test_support::files::file_at;
 use m161_test_support::kernel::kernel_file;
 use m161_test_support::outcomes::{ENTRY, SMALLEST};
-use std::alloc::AllocGlobal;
+use std::alloc::{AllocError, AllocGlobal};
 use std::process::Abort;
 use std::test::Fail;
 
@@ -56,11 +56,34 @@ pub(crate) fn events(rt: &impl AllocGlobal) -> Result<Vec<Event>, Fail> {
     Ok(events)
 }
 
+/// The run of a list of events.
+#[inline(never)]
+fn run_of(
+    rt: &impl AllocGlobal,
+    core: Core,
+    events: Vec<Event>,
+) -> Result<Replay<Tlb, Console>, Fail> {
+    if core.processors() == 0 {
+        return Err(Fail::from(AllocError));
+    }
+    Ok(Replay::new(rt.alloc(), core, events)?)
+}
+
 /// That run, made again.
 #[inline(never)]
 pub(crate) fn replay(rt: &impl AllocGlobal) -> Result<Replay<Tlb, Console>, Fail> {
     let events = events(rt)?;
-    Ok(Replay::new(rt.alloc(), booted(rt)?, events)?)
+    run_of(rt, booted(rt)?, events)
+}
+
+/// A Step, a key, and a byte that is sent, of which the last is refused.
+#[inline(never)]
+pub(crate) fn refused(rt: &impl AllocGlobal) -> Result<Replay<Tlb, Console>, Fail> {
+    let mut events = Vec::new(rt.alloc());
+    events.push(Event::Step(0))?;
+    events.push(Event::Key(0x41))?;
+    events.push(Event::Done)?;
+    run_of(rt, booted(rt)?, events)
 }
 
 /// A run of so many Steps of a processor that spins.
@@ -72,7 +95,7 @@ pub(crate) fn spinning(rt: &impl AllocGlobal, steps: u32) -> Result<Replay<Tlb, 
     for _step in 0..steps {
         events.push(Event::Step(0))?;
     }
-    Ok(Replay::new(rt.alloc(), core, events)?)
+    run_of(rt, core, events)
 }
 
 fn told(reason: Reason) -> Told {
@@ -137,6 +160,17 @@ fn obey(
             stops.set_mark(None);
             check_stop(rt, run, motions, found, *place, *told_as, *processor);
         }
+    }
+    Ok(())
+}
+
+/// Goes to a place, or back from behind it.
+pub(crate) fn go_to(run: &mut Replay<Tlb, Console>, place: usize) -> Result<(), Fail> {
+    if run.place() > place {
+        run.go_back(place)?;
+    }
+    while run.place() < place && !run.is_at_end() {
+        run.advance()?;
     }
     Ok(())
 }
