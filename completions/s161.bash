@@ -9,9 +9,10 @@ _s161_of_command() {
     console) options='--ram --cpus --log --link --strict --turns --delayed --random --changes --within --events --transfer --gap -h --help' arguments=('files @sample') ;;
     schedule) options='--ram --cpus --log --link --strict --turns --delayed --random --changes --within --events --transfer --keys --gap -h --help' arguments=('files @sample') ;;
     search) options='--ram --cpus --log --link --strict --seeds --delays --turns --from --jobs --watches --never --output --whole --changes --within --events --transfer --keys --gap -h --help' arguments=('files @sample') ;;
-    trace) options='--ram --cpus --log --link --strict --from --count --names --symbols --turns --delayed --random --changes --within --events --transfer --keys --gap -h --help' arguments=('files @sample') ;;
+    trace) options='--ram --cpus --log --link --strict --from --count --names --symbols --only --outcomes --turns --delayed --random --changes --within --events --transfer --keys --gap -h --help' arguments=('files @sample') ;;
     replay) options='--ram --cpus --log -h --help' arguments=('files @sample' 'files') ;;
     debug) options='--ram --cpus --log --link --strict --names --symbols --turns --delayed --random --changes --within --events --transfer --keys --gap -h --help' arguments=('files @sample' 'files') ;;
+    gdb) options='--ram --cpus --log --link --strict --turns --delayed --random --changes --within --events --transfer --keys --gap -h --help' arguments=('files @sample' 'files') ;;
     audit) options='--ram --cpus --log --link --strict -h --help' arguments=('files @sample' 'files') ;;
     as) options='--symbols -h --help' arguments=() ;;
     dis) options='--names --symbols -h --help' arguments=('files @sample') ;;
@@ -23,7 +24,7 @@ _s161_of_command() {
 # Of which kind an option's value is; a flag has none.
 _s161_of_option() {
     case $1 in
-    --ram | --cpus | --log | --threads | --burst | --turns | --delayed | --random | --changes | --within | --events | --transfer | --seeds | --delays | --from | --jobs | --never | --count) kind='number' ;;
+    --ram | --cpus | --log | --threads | --burst | --turns | --delayed | --random | --changes | --within | --events | --transfer | --seeds | --delays | --from | --jobs | --never | --count | --only) kind='number' ;;
     --link) kind='words word line' ;;
     --keys | --watches | --output) kind='files' ;;
     --gap) kind='words none' ;;
@@ -31,7 +32,7 @@ _s161_of_option() {
     esac
 }
 
-_s161_commands='demo run console schedule search trace replay debug audit as dis help'
+_s161_commands='demo run console schedule search trace replay debug gdb audit as dis help'
 
 # Offers what a kind has that begins with the word, each behind the given text.
 _s161_offer() {
