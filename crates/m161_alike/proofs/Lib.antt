@@ -1,0 +1,3 @@
+mod Cop0
+mod Heard
+mod Timeless

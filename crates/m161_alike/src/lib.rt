@@ -1,0 +1,19 @@
+//! States of a machine that differ in time alone.
+//!
+//! ```text
+//! time     Random and Count of each processor, the counts of Steps and events, the log
+//! reads    a Step reads Random where it makes `tlbwr`, or `mfc0` of Random; and Count where it makes
+//!          `mfc0` of Count. An idle one reads nothing, nor one that takes an interrupt or traps before
+//! known    a set of pairs of a processor and one of the two registers
+//! view     a state without the time that isn't known, and without the console's output. Count of a
+//!          processor stays where its Compare isn't zero: the timer is armed
+//! alike    two states are alike if their views are equal
+//! ```
+//!
+//! The law: two states that are alike behave alike until a Step reads what isn't known. All of this
+//! is this project's own.
+#![tactic(auto)]
+
+mod reads;
+
+pub use reads::Reads;
