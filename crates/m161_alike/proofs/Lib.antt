@@ -1,3 +1,5 @@
 mod Cop0
 mod Heard
+mod HeardStep
 mod Timeless
+mod TimelessStep

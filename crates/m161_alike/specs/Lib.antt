@@ -1,2 +1,3 @@
 pub mod Reads
 pub mod View
+pub mod Law

@@ -7,10 +7,11 @@ use Rattle.m161_cop0.specs.declared.register.Register.{Register}
 use Rattle.m161_cop0.specs.declared.register.Register.TheVariants as register
 use Rattle.m161_cop0.specs.Registers.{register_with}
 use Rattle.m161_cpu.specs.Processor.{Processor}
-use Rattle.m161_cpu.specs.Scene.{Scene}
+use Rattle.m161_cpu.specs.Scene.{Scene, around, scene}
 use Rattle.m161_cpu.specs.Effect.{Argument, arguments, with_three}
 use Rattle.m161_cpu.specs.Step.{executable_word}
 use Rattle.m161_cpu.specs.Uses.{fetches}
+use Rattle.m161_machine.specs.State.{State, processor_at}
 use Rattle.m161_alike.specs.declared.reads.Reads.{Reads}
 
 -- What a Step reads of time: Random and Count, which tick with each Step.
@@ -56,6 +57,12 @@ unfoldable pub reads_of_step : Scene → Reads
 reads_of_step s =
     if fetches s then reads_after s.processor (executable_word s.around.memory s.processor)
     else no_reads
+
+-- what a Step of processor p reads, if it is the next event
+unfoldable pub reads_in : ℕ → State → Reads
+reads_in p s =
+    reads_of_step
+    (scene (processor_at p s.processors) (around p s.memory s.board s.links s.conf.strict))
 
 -- what is read is known
 abbrev pub AreWithin : Reads → Reads → Type 0

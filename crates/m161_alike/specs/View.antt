@@ -1,7 +1,10 @@
-use Rattle.std.specs.Prelude.{ℕ, Bool, not, ◌==◌, ◌||◌, if◌then◌else◌, List, []}
+use Rattle.std.specs.Prelude.{◌≡◌, ℕ, ◌+◌, Bool, not, ◌==◌, ◌||◌, if◌then◌else◌, List, [], ◌∷◌}
+use Rattle.m161_isa.specs.Bits.{has_bit}
 use Rattle.m161_cop0.specs.Control.{Control}
 use Rattle.m161_bus.specs.Board.{BoardState}
 use Rattle.m161_cpu.specs.Processor.{Processor}
+use Rattle.m161_machine.specs.State.{State}
+use Rattle.m161_alike.specs.declared.known.Known.{Known}
 use Rattle.m161_alike.specs.declared.reads.Reads.{Reads}
 
 -- Views: states without the time that isn't known, and without what the console has sent.
@@ -32,3 +35,25 @@ with_output sent b = record b { console = record b.console { output = sent } }
 
 abbrev pub board_view : BoardState → BoardState
 board_view b = with_output [] b
+
+-- what is known of a processor's time
+abbrev pub known_of : Known → ℕ → Reads
+known_of known p = record { random = has_bit known.random p; count = has_bit known.count p }
+
+-- the processors from number c on
+abbrev pub processors_view : Known → ℕ → List Processor → List Processor
+processors_view known c [] = []
+processors_view known c (p ∷ ps) =
+    processor_view (known_of known c) p ∷ processors_view known (c + 1) ps
+
+-- a state, without the count of its events
+abbrev pub view : Known → State → State
+view known s = record s {
+  processors = processors_view known 0 s.processors;
+  board = board_view s.board;
+  made = 0;
+}
+
+-- states that differ in what isn't known alone
+abbrev pub AreAlike : Known → State → State → Type 0
+AreAlike known s t = view known s ≡ view known t

@@ -14,6 +14,10 @@
 //! is this project's own.
 #![tactic(auto)]
 
+mod known;
+mod laws;
 mod reads;
 
+pub use known::Known;
+pub use laws::alike_states_behave_alike;
 pub use reads::Reads;
