@@ -1,5 +1,5 @@
-use Rattle.std.proofs.Common.{◌≡◌, ◌∙◌, refl, ap, sym, ℕ, ◌+◌, ◌-◌, ◌/◌, ◌%◌, ◌*◌, Bool, true, false, List, [], ◌∷◌, length, Option, None, Some, Result, Ok, Err}
-use Rattle.std.specs.Prelude.{◌+ℤ◌, ◌-ℤ◌, ◌==◌, nat_le, nat_lt, option_map, if◌then◌else◌}
+use Rattle.std.proofs.Common.{◌≡◌, ◌∙◌, refl, ap, ℕ, ◌+◌, ◌-◌, ◌/◌, ◌%◌, Bool, true, false, List, [], ◌∷◌, length, None, Some, Result, Ok, Err}
+use Rattle.std.specs.Prelude.{◌==◌, nat_le, nat_lt, option_map, if◌then◌else◌}
 use Rattle.std.specs.List.{AllByRecursion}
 use Rattle.m161_isa.specs.declared.effect.Effect.{Effect}
 use Rattle.m161_isa.specs.declared.effect.Effect.TheVariants as effect
@@ -7,9 +7,8 @@ use Rattle.m161_bus.specs.declared.board.BusFault.{BusFault}
 use Rattle.m161_bus.specs.Registers.{RegisterLine, at, configuration_register, console_configuration, console_table, controller_configuration, controller_part, controller_register, in_table, is_word_of_slots, place_register, place_table, register_in, register_of}
 use Rattle.m161_bus.specs.Board.{BoardState, after_read, board_read, board_written, interrupt_lines, read_from, slot_word, slot_written, with_slot_word}
 use Rattle.m161_cpu.specs.Scene.{Scene, Change, and_then, result_map, scene}
-use Rattle.m161_cpu.specs.Translation.{or_bus_error, read_physical_word, read_word}
-use Rattle.m161_cpu.specs.Effect.{Argument, effect_of, effective_address, is_linked, store_physical_word, store_word, store_word_at, write_board, write_read}
-use Rattle.m161_ram.specs.Word.{word_at}
+use Rattle.m161_cpu.specs.Translation.{read_physical_word, read_word}
+use Rattle.m161_cpu.specs.Effect.{Argument, effect_of, effective_address, is_linked, store_physical_word, store_word_at, write_read}
 use Rattle.m161_alike.specs.View.{with_output}
 
 -- What the console has sent is read by nothing: an effect does the same whatever it was, and leaves it

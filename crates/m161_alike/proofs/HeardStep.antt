@@ -1,4 +1,4 @@
-use Rattle.std.proofs.Common.{◌≡◌, ◌∙◌, refl, ap, sym, ℕ, Bool, true, false, List, [], ◌∷◌, Option, None, Some, Result, Ok, Err}
+use Rattle.std.proofs.Common.{◌≡◌, ◌∙◌, refl, ap, ℕ, Bool, true, false, List, [], ◌∷◌, Option, None, Some, Ok, Err}
 use Rattle.std.specs.Prelude.{option_map, unwrap_or, if◌then◌else◌}
 use Rattle.m161_isa.specs.declared.effect.Effect.{Effect}
 use Rattle.m161_isa.specs.declared.table.Row.{Row}
@@ -10,7 +10,7 @@ use Rattle.m161_cpu.specs.declared.processor.ProcessorState.TheVariants.{Stopped
 use Rattle.m161_cpu.specs.Processor.{with_state}
 use Rattle.m161_cpu.specs.Scene.{Scene, Change, and_then, around_after, processor_after, result_map, scene, stored_by}
 use Rattle.m161_cpu.specs.Effect.{Argument, arguments, effect_of, with_three}
-use Rattle.m161_cpu.specs.Step.{Stepped, change_by_row, change_in, change_of_step, conflict_of, executable_word, idle, lines_in, off_after, outcome_after, running_step, step_by_conflict, step_by_state, step_of, step_of_change, step_of_result, switches_off, tick, with_processor, without_row}
+use Rattle.m161_cpu.specs.Step.{Stepped, change_by_row, change_in, change_of_step, conflict_of, executable_word, idle, lines_in, off_after, outcome_after, running_step, step_by_conflict, step_by_state, step_of, step_of_result, switches_off, tick, with_processor}
 use Rattle.m161_alike.specs.View.{with_output}
 use Rattle.m161_alike.proofs.Heard.{effect_heard, heard, heard_change}
 

@@ -1,5 +1,5 @@
-use Rattle.std.proofs.Common.{◌≡◌, ◌∙◌, refl, ap, sym, ℕ, ◌/◌, ◌^◌, Bool, true, false, List, [], ◌∷◌, Option, None, Some, Result, Ok, Err}
-use Rattle.std.specs.Prelude.{◌+ℤ◌, ◌-ℤ◌, option_map, slice_get, if◌then◌else◌}
+use Rattle.std.proofs.Common.{◌≡◌, refl, ap, ◌/◌, ◌^◌, Option, None, Some, Ok}
+use Rattle.std.specs.Prelude.{option_map, slice_get}
 use Rattle.m161_isa.specs.declared.effect.Effect.{Effect}
 use Rattle.m161_isa.specs.declared.effect.Effect.TheVariants as effect
 use Rattle.m161_tlb.specs.declared.row.Row.{Row as TlbRow}

@@ -207,7 +207,7 @@ word_timeless : (k : Reads) (s : Scene) (w : _) → AreWithin (reads_after s.pro
 word_timeless k s (Ok word) h = row_timeless k s word (row_that_fits word) h
 word_timeless k s (Err f) h = refl
 
-same_word : (k : Reads) (memory : List ℕ) (p : Processor) → executable_word memory (processor_view k p) ≡ executable_word memory p
+pub same_word : (k : Reads) (memory : List ℕ) (p : Processor) → executable_word memory (processor_view k p) ≡ executable_word memory p
 unfolding physical_at is_misaddressed is_user may_use_cop0
 same_word k memory p = refl
 
@@ -244,7 +244,7 @@ same_row_reads p q registers pc word None = refl
 same_row_reads p q registers pc word (Some r) =
     ap (with_three (reads_of (table r).effect)) (same_arguments p q registers pc (table r).operands (numbers_of word (Some r)))
 
-same_reads : {F : Type 0} (p q : Processor) → q.registers ≡ p.registers → q.pc ≡ p.pc → (w : Result ℕ F) → reads_after q w ≡ reads_after p w
+pub same_reads : {F : Type 0} (p q : Processor) → q.registers ≡ p.registers → q.pc ≡ p.pc → (w : Result ℕ F) → reads_after q w ≡ reads_after p w
 same_reads p q registers pc (Ok word) = same_row_reads p q registers pc word (row_that_fits word)
 same_reads p q registers pc (Err f) = refl
 
