@@ -1,3 +1,5 @@
+mod Bits
+mod Memory
 mod Cop0
 mod Heard
 mod HeardStep

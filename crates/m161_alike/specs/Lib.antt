@@ -1,3 +1,4 @@
 pub mod Reads
 pub mod View
 pub mod Law
+pub mod Words

@@ -40,6 +40,10 @@ board_view b = with_output [] b
 abbrev pub known_of : Known → ℕ → Reads
 known_of known p = record { random = has_bit known.random p; count = has_bit known.count p }
 
+-- what one of two has
+abbrev pub joined : Reads → Reads → Reads
+joined a b = record { random = a.random || b.random; count = a.count || b.count }
+
 -- the processors from number c on
 abbrev pub processors_view : Known → ℕ → List Processor → List Processor
 processors_view known c [] = []

@@ -17,7 +17,9 @@
 mod known;
 mod laws;
 mod reads;
+mod words;
 
 pub use known::Known;
 pub use laws::alike_states_behave_alike;
 pub use reads::Reads;
+pub use words::{words_tell_memory, write_memory};

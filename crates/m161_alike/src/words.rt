@@ -1,0 +1,86 @@
+//! The words of a view: a state is known again by them.
+
+ghost use Rattle.std.specs.Prelude.{◌≡◌, ◌≤◌, ◌+◌, ◌*◌, ◌^◌, ◌++◌, length, take, OnOk, OnErr};
+ghost use Rattle.m161_ram.specs.Word.{word_at};
+ghost use Rattle.m161_alike.specs.Words.{MemoryLaw, memory_words, word_change};
+
+use m161_bus::Console;
+use m161_machine::Core;
+use m161_tlb::Tlb;
+use std::alloc::AllocError;
+
+/// Writes the words of memory that differ from boot's behind the words that are there, each behind its
+/// address.
+///
+/// # Errors
+/// Memory is refused. Nothing is changed then.
+pub fn write_memory<T: Tlb, D: Console>(
+    core: &Core<T, D>,
+    boot: &[u8],
+    out: &mut Vec<u32>,
+) -> Result<(), AllocError>
+    requires { length boot.now ≡ length core.now.state.memory }
+    ensures ok { OnOk result
+        (out.new.items ≡ out.old.items ++ memory_words boot.now core.now.state.memory) }
+    ensures err { OnErr result (out.new.items ≡ out.old.items) }
+{
+    core.law();
+    let before = out.len();
+    match push_changes(core.memory(), boot, out) {
+        Ok(()) => Ok(()),
+        Err(error) => {
+            out.truncate(before);
+            Err(error)
+        }
+    }
+}
+
+// The words of memory that differ from boot's, each behind its address. After an error some of them
+// are there.
+fn push_changes(memory: &[u8], boot: &[u8], out: &mut Vec<u32>) -> Result<(), AllocError>
+    requires size { length boot.now ≡ length memory.now }
+    requires few { length memory.now ≤ 2 ^ 29 }
+    ensures ok { OnOk result (out.new.items ≡ out.old.items ++ memory_words boot.now memory.now) }
+    ensures err { OnErr result (take (length out.old.items) out.new.items ≡ out.old.items) }
+{
+    for place in 0..memory.len() / 4 {
+        push_change(memory, boot, place, out)?;
+    }
+    Ok(())
+}
+
+// One of them.
+fn push_change(
+    memory: &[u8],
+    boot: &[u8],
+    place: usize,
+    out: &mut Vec<u32>,
+) -> Result<(), AllocError>
+    requires size { length boot.now ≡ length memory.now }
+    requires few { length memory.now ≤ 2 ^ 29 }
+    requires within { 4 * place + 4 ≤ length memory.now }
+    ensures ok { OnOk result (out.new.items ≡ out.old.items ++ word_change boot.now memory.now (4 * place)) }
+    ensures err { OnErr result (out.new.items ≡ out.old.items) }
+{
+    let word = word_of(memory, 4 * place);
+    if word == word_of(boot, 4 * place) {
+        return Ok(());
+    }
+    out.reserve(2)?;
+    out.push_reserved(4 * place as u32);
+    out.push_reserved(word);
+    Ok(())
+}
+
+// The word whose first byte has this place.
+fn word_of(bytes: &[u8], at: usize) -> u32
+    requires { at + 4 ≤ length bytes.now }
+    ensures { result ≡ word_at bytes.now at }
+{
+    u32::from_be_bytes([bytes[at], bytes[at + 1], bytes[at + 2], bytes[at + 3]])
+}
+
+/// The law of the words of memory.
+pub fn words_tell_memory()
+    ensures { MemoryLaw }
+{}
