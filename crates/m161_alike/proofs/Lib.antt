@@ -7,4 +7,5 @@ mod Timeless
 mod TimelessStep
 mod Looking
 mod Viewed
+mod Decoded
 mod Behaving

@@ -2,3 +2,4 @@ pub mod Reads
 pub mod View
 pub mod Law
 pub mod Words
+pub mod helpers
