@@ -8,4 +8,5 @@ mod TimelessStep
 mod Looking
 mod Viewed
 mod Decoded
+mod Words
 mod Behaving

@@ -1,16 +1,19 @@
 //! What a Step reads of time.
 
-ghost use Rattle.std.specs.Prelude.{◌≡◌, if◌then◌else◌};
+ghost use Rattle.std.specs.Prelude.{◌≡◌, ◌<◌, if◌then◌else◌, length};
 ghost use Rattle.m161_isa.specs.Instr.{instr_of};
 ghost use Rattle.m161_cop0.specs.Control.{Control};
 ghost use Rattle.m161_cop0.specs.Registers.{register_with};
 ghost use Rattle.m161_cpu.specs.Step.{is_unusable};
-ghost use Rattle.m161_alike.specs.Reads.{no_reads, reads_of_register};
+ghost use Rattle.m161_alike.specs.Reads.{no_reads, reads_in, reads_of_register};
 ghost use Rattle.m161_alike.specs.helpers.Reads.{reads_of_instr};
 
+use m161_bus::Console;
 use m161_cop0::Register;
 use m161_decode::decode;
 use m161_isa::{Instr, PlainOp, Reg};
+use m161_machine::Core;
+use m161_tlb::Tlb;
 
 /// Which of a processor's two registers of time are read, or known.
 #[derive(Clone, Copy, Debug, PartialEq, Eq)]
@@ -38,6 +41,21 @@ const COUNT: Reads = Reads {
     random: false,
     count: true,
 };
+
+/// What a Step of a processor reads, if it is the next event.
+#[tactic(auto, unfolding(crate::specs::Reads::reads_in))]
+pub fn reads<T: Tlb, D: Console>(core: &Core<T, D>, p: u32) -> Reads
+    requires { p < length core.now.state.processors }
+    ensures { result ≡ reads_in p core.now.state }
+{
+    if !core.fetches(p) {
+        return NOTHING;
+    }
+    match core.fetched_word(p, core.pc(p)) {
+        Some(word) => reads_of_word(word, core.cop(p, Register::Status)),
+        None => NOTHING,
+    }
+}
 
 // What the instruction of a word reads, if this Status lets it be executed.
 fn reads_of_word(word: u32, status: u32) -> Reads
