@@ -7,10 +7,15 @@ use Rattle.m161_isa.specs.Table.{absent_in, row_that_fits}
 use Rattle.m161_isa.specs.Instr.{instr_by, instr_of, misfit}
 use Rattle.m161_cpu.specs.Processor.{Processor}
 use Rattle.m161_cpu.specs.Fetch.{fetched_word, word_found}
-use Rattle.m161_cpu.specs.Scene.{Scene, and_then}
+use Rattle.m161_cpu.specs.Scene.{Scene, and_then, around, scene}
 use Rattle.m161_cpu.specs.Step.{executable_word, is_unusable, usable, word_at_pc}
 use Rattle.m161_cpu.specs.Uses.{fetches}
-use Rattle.m161_alike.specs.Reads.{no_reads, reads_after, reads_by_row, reads_of_step, reads_of_word}
+use Rattle.m161_alike.specs.declared.reads.Reads.{Reads}
+use Rattle.m161_alike.specs.Reads.{no_reads, reads_after, reads_by_row, reads_in, reads_of_step, reads_of_word}
+use Rattle.m161_machine.specs.State.{State, processor_at}
+use Rattle.m161_cop0.specs.declared.register.Register.TheVariants as register
+use Rattle.m161_cop0.specs.Registers.{number_of_register}
+use Rattle.m161_cop0.specs.Control.{Control, read_of}
 use Rattle.m161_alike.specs.helpers.Reads.{reads_of_instr}
 use Rattle.m161_alike.proofs.TimelessStep.{reads_if}
 
@@ -125,3 +130,30 @@ no_word s fetching is = sym (reads_if s true fetching ∙ lost s.processor (word
 
 pub no_fetch : (s : Scene) → fetches s ≡ false → no_reads ≡ reads_of_step s
 no_fetch s h = sym (reads_if s false h)
+
+-- the same of a state
+
+pub word_read_in : (p : ℕ) (s : State) (word : ℕ) (result : Reads) →
+    fetches (scene (processor_at p s.processors) (around p s.memory s.board s.links s.conf.strict)) ≡ true →
+    fetched_word s.memory (processor_at p s.processors).pc (processor_at p s.processors) ≡ Some word →
+    result ≡ (if is_unusable (processor_at p s.processors).control word then no_reads else reads_of_instr (instr_of word)) →
+    result ≡ reads_in p s
+unfolding reads_in
+word_read_in p s word result fetching is value =
+    value ∙ word_read (scene (processor_at p s.processors) (around p s.memory s.board s.links s.conf.strict)) word
+    (is_unusable (processor_at p s.processors).control word) fetching is refl
+
+pub no_word_in : (p : ℕ) (s : State) →
+    fetches (scene (processor_at p s.processors) (around p s.memory s.board s.links s.conf.strict)) ≡ true →
+    fetched_word s.memory (processor_at p s.processors).pc (processor_at p s.processors) ≡ None → no_reads ≡ reads_in p s
+unfolding reads_in
+no_word_in p s fetching is = no_word (scene (processor_at p s.processors) (around p s.memory s.board s.links s.conf.strict)) fetching is
+
+pub no_fetch_in : (p : ℕ) (s : State) →
+    fetches (scene (processor_at p s.processors) (around p s.memory s.board s.links s.conf.strict)) ≡ false → no_reads ≡ reads_in p s
+unfolding reads_in
+no_fetch_in p s h = no_fetch (scene (processor_at p s.processors) (around p s.memory s.board s.links s.conf.strict)) h
+
+pub status_read : (lines : ℕ) (c : Control) → read_of (number_of_register register.Status) lines c ≡ c.status
+unfolding read_of
+status_read lines c = refl

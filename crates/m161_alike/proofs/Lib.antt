@@ -8,5 +8,5 @@ mod TimelessStep
 mod Looking
 mod Viewed
 mod Decoded
-mod Words
+mod Written
 mod Behaving

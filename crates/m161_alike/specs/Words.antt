@@ -1,4 +1,4 @@
-use Rattle.std.specs.Prelude.{◌≡◌, ℕ, ◌*◌, ◌/◌, ◌%◌, ◌^◌, ◌<◌, ◌==◌, if◌then◌else◌, All, List, [], ◌∷◌, length, flat_map}
+use Rattle.std.specs.Prelude.{◌≡◌, ℕ, ◌+◌, ◌*◌, ◌/◌, ◌%◌, ◌^◌, ◌<◌, Bool, ◌==◌, if◌then◌else◌, All, List, [], ◌∷◌, ◌++◌, length, map, get_or, slice_index, slice_index_or, flat_map, Option, None, Some}
 use Rattle.std.specs.List.{range_with_len}
 use Rattle.m161_ram.specs.Word.{word_at}
 use Rattle.m161_tlb.specs.declared.row.Row.{Row as TlbRow}
@@ -42,7 +42,7 @@ control_words c =
 -- a row of the TLB: its flags are below its identifier
 abbrev pub row_words : TlbRow → List ℕ
 row_words r =
-    r.page ∷ r.frame ∷ r.id * 16 + (flag r.n * 8 + flag r.d * 4 + flag r.v * 2 + flag r.g) ∷ []
+    r.page ∷ r.frame ∷ (r.id * 16 + (flag r.n * 8 + flag r.d * 4 + flag r.v * 2 + flag r.g)) ∷ []
 
 -- rows 0 to 63
 abbrev pub rows_words : Processor → List ℕ

@@ -1,6 +1,6 @@
 //! The words of the board, of the links, and of what switched a strict machine off.
 
-ghost use Rattle.std.specs.Prelude.{◌≡◌, ◌<◌, ◌≤◌, ◌++◌, flat_map, OnOk, OnErr};
+ghost use Rattle.std.specs.Prelude.{◌≡◌, ◌<◌, ◌++◌, flat_map, length, OnOk, OnErr};
 ghost use Rattle.std.specs.List.{range_with_len};
 ghost use Rattle.m161_bus.specs.Board.{place_of};
 ghost use Rattle.m161_alike.specs.Words.{board_words, conflict_words, cram_words, optional, part_words, register_board_words};
@@ -34,7 +34,7 @@ pub fn write_board<T: Tlb, D: Console>(
 }
 
 // The same; after an error some of the words are there.
-#[tactic(auto, using(crate::proofs::Words::begins_more))]
+#[tactic(auto, using(crate::proofs::Written::begins_more))]
 fn push_board<T: Tlb, D: Console>(core: &Core<T, D>, out: &mut Vec<u32>) -> Result<(), AllocError>
     ensures ok { OnOk result (out.new.items ≡ out.old.items ++ board_words core.now.state) }
     ensures err { OnErr result (Begins out.old.items out.new.items) }
@@ -46,7 +46,8 @@ fn push_board<T: Tlb, D: Console>(core: &Core<T, D>, out: &mut Vec<u32>) -> Resu
     }))?;
     out.extend_from_slice(&conflict(core.conflict()))?;
     push_parts(core, out)?;
-    push_waiting(core, out)
+    push_waiting(core, out)?;
+    Ok(())
 }
 
 // The registers that are no processor's.
@@ -87,6 +88,7 @@ fn conflict(conflict: Option<Conflict>) -> [u32; 4]
 }
 
 // What the controller keeps for each processor, and the links.
+#[tactic(auto, using(crate::proofs::Written::begins_more))]
 fn push_parts<T: Tlb, D: Console>(core: &Core<T, D>, out: &mut Vec<u32>) -> Result<(), AllocError>
     ensures ok { OnOk result (out.new.items ≡ out.old.items
         ++ flat_map (part_words core.now.state) (range_with_len 0 core.now.state.board.processors)) }
@@ -100,23 +102,24 @@ fn push_parts<T: Tlb, D: Console>(core: &Core<T, D>, out: &mut Vec<u32>) -> Resu
 }
 
 // One of these parts.
-#[tactic(auto, using(crate::proofs::Words::begins_more))]
+#[tactic(auto, using(crate::proofs::Written::begins_more))]
 fn push_part<T: Tlb, D: Console>(
     core: &Core<T, D>,
     p: u32,
     out: &mut Vec<u32>,
 ) -> Result<(), AllocError>
-    requires processor { p < core.now.state.board.processors }
-    requires few { core.now.state.board.processors ≤ 32 }
+    requires { p < length core.now.state.processors }
     ensures ok { OnOk result (out.new.items ≡ out.old.items ++ part_words core.now.state p) }
     ensures err { OnErr result (Begins out.old.items out.new.items) }
 {
+    core.law();
     out.extend_from_slice(&[
         core.board_word(BoardWord::Cirqe(p)),
         core.board_word(BoardWord::Cipi(p)),
     ])?;
     out.extend_from_slice(&optional(core.link(p)))?;
-    push_cram(core, p, out)
+    push_cram(core, p, out)?;
+    Ok(())
 }
 
 // The words of a processor's CRAM.

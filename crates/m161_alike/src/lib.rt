@@ -25,5 +25,5 @@ pub use board::write_board;
 pub use known::Known;
 pub use laws::alike_states_behave_alike;
 pub use processor::{words_tell_a_processor, write_processor};
-pub use reads::{Reads, reads};
+pub use reads::{Reads, next_reads};
 pub use words::{words_tell_memory, write_memory};

@@ -43,7 +43,7 @@ pub fn write_processor<T: Tlb, D: Console>(
 }
 
 // The same; after an error some of the words are there.
-#[tactic(auto, using(crate::proofs::Words::begins_more))]
+#[tactic(auto, using(crate::proofs::Written::begins_more))]
 fn push_processor<T: Tlb, D: Console>(
     core: &Core<T, D>,
     known: Reads,
@@ -58,7 +58,8 @@ fn push_processor<T: Tlb, D: Console>(
     push_registers(core, p, out)?;
     push_place(core, p, out)?;
     push_control(core, known, p, out)?;
-    push_rows(core, p, out)
+    push_rows(core, p, out)?;
+    Ok(())
 }
 
 // The general registers.

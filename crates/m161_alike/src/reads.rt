@@ -44,7 +44,7 @@ const COUNT: Reads = Reads {
 
 /// What a Step of a processor reads, if it is the next event.
 #[tactic(auto, unfolding(crate::specs::Reads::reads_in))]
-pub fn reads<T: Tlb, D: Console>(core: &Core<T, D>, p: u32) -> Reads
+pub fn next_reads<T: Tlb, D: Console>(core: &Core<T, D>, p: u32) -> Reads
     requires { p < length core.now.state.processors }
     ensures { result ≡ reads_in p core.now.state }
 {

@@ -1,7 +1,7 @@
 //! Tests of what a Step reads, and of views. The expected values were worked out by hand.
 
 use m161::Core;
-use m161_alike::{Known, Reads, reads, write_memory, write_processor};
+use m161_alike::{Known, Reads, next_reads, write_memory, write_processor};
 use m161_machine::{Conf, LinkUnit};
 use m161_test_support::files::file_from;
 use m161_test_support::outcomes::ENTRY;
@@ -102,7 +102,7 @@ fn known_of(random: bool, count: bool) -> Known {
 /// Fails the test where the next Step of processor 0 reads otherwise.
 fn check_reads(rt: &impl Abort, core: &Core, random: bool, count: bool) {
     if core.processors() > 0 {
-        same(rt, reads(core, 0), Reads { random, count });
+        same(rt, next_reads(core, 0), Reads { random, count });
     }
 }
 
@@ -133,7 +133,7 @@ fn a_stopped_processor_reads_nothing(rt: HostRuntime) -> Result<(), Fail> {
     if core.processors() > 1 {
         same(
             &rt,
-            reads(&core, 1),
+            next_reads(&core, 1),
             Reads {
                 random: false,
                 count: false,

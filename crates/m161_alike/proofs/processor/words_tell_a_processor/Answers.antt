@@ -1,6 +1,6 @@
 use Rattle.std.proofs.Common.{refl}
 use Rattle.m161_alike.specs.View.{processor_view}
-use Rattle.m161_alike.proofs.Words.{same_processor}
+use Rattle.m161_alike.proofs.Written.{same_processor}
 use Rattle.m161_alike.proofs.processor.words_tell_a_processor.Goals as goal
 
 pub returns : goal.returns

@@ -1,8 +1,8 @@
-use Rattle.std.proofs.Common.{◌≡◌, ◌∙◌, refl, ap, sym, subst, ℕ, zero, suc, ◌+◌, ◌*◌, ◌<◌, ◌≤◌, arith, Bool, true, false, List, [], ◌∷◌, ◌++◌, length, take, drop, map, get_or, ext_get_or}
-use Rattle.std.specs.Prelude.{flat_map, slice_index}
+use Rattle.std.proofs.Common.{◌≡◌, ◌∙◌, refl, ap, sym, subst, ℕ, zero, suc, ◌+◌, ◌*◌, ◌<◌, ◌≤◌, arith, Bool, true, false, List, [], ◌∷◌, ◌++◌, length, take, drop, map, get_or, ext_get_or, append_assoc}
+use Rattle.std.specs.Prelude.{OnErr, flat_map, slice_get, slice_index, Option, None, Some, Result, Ok, Err}
 use Rattle.std.specs.List.{range_with_len}
-use Rattle.std.proofs.lemmas.List.{length-append, take-take}
-use Rattle.std.proofs.lemmas.List.FromFn.{get_or-map-range_with_len}
+use Rattle.std.proofs.lemmas.List.{flat_map_more, length-append, take-take}
+use Rattle.std.proofs.lemmas.List.FromFn.{get_or-map-range_with_len, map-range_with_len_more}
 use Rattle.std.proofs.Math.Seq.{take-append_seam}
 use Rattle.m161_tlb.specs.declared.row.Row.{Row as TlbRow}
 use Rattle.m161_tlb.specs.Rows.{blank_row}
@@ -21,6 +21,46 @@ begins_more old mid new xs is h =
     let long : length mid ≡ length old + length xs = ap length is ∙ length-append old xs in
     let less : length old ≤ length mid = omega (arith, long) in
     sym (take-take (length old) (length mid) new less) ∙ ap (take (length old)) (h ∙ is) ∙ take-append_seam old xs
+
+pub begins_with : (old new xs : List ℕ) → new ≡ old ++ xs → Begins old new
+begins_with old new xs is = ap (take (length old)) is ∙ take-append_seam old xs
+
+-- one place more
+range_more : (a n : ℕ) → range_with_len a (n + 1) ≡ range_with_len a n ++ (a + n) ∷ []
+range_more a zero = let here : a ≡ a + 0 = omega arith in ap (λ x. x ∷ []) here
+range_more a (suc n) =
+    let there : a + 1 + n ≡ a + suc n = omega arith in
+    let one : suc n + 1 ≡ suc (n + 1) = omega arith in
+    ap (range_with_len a) one
+    ∙ ap (λ l. a ∷ l) (range_more (a + 1) n ∙ ap (λ x. range_with_len (a + 1) n ++ x ∷ []) there)
+
+pub pieces_more : (f : ℕ → List ℕ) (before now new : List ℕ) (n : ℕ) → now ≡ before ++ flat_map f (range_with_len 0 n) →
+    new ≡ now ++ f n → new ≡ before ++ flat_map f (range_with_len 0 (n + 1))
+pieces_more f before now new n so_far is =
+    let here : 0 + n ≡ n = omega arith in
+    is ∙ ap (λ l. l ++ f n) so_far
+    ∙ flat_map_more f before (range_with_len 0 n) n
+    ∙ ap (λ l. before ++ flat_map f l) (sym (range_more 0 n ∙ ap (λ x. range_with_len 0 n ++ x ∷ []) here))
+
+pub numbers_more : (f : ℕ → ℕ) (before now new : List ℕ) (n x : ℕ) → now ≡ before ++ map f (range_with_len 0 n) →
+    x ≡ f n → new ≡ now ++ x ∷ [] → new ≡ before ++ map f (range_with_len 0 (n + 1))
+numbers_more f before now new n x so_far here is =
+    is ∙ ap (λ l. l ++ x ∷ []) so_far ∙ append_assoc before (map f (range_with_len 0 n)) (x ∷ [])
+    ∙ ap (λ y. before ++ (map f (range_with_len 0 n) ++ y ∷ [])) here
+    ∙ ap (λ l. before ++ l) (sym (map-range_with_len_more f 0 n n (omega arith)))
+
+pub joined : (old mid new xs ys : List ℕ) → mid ≡ old ++ xs → new ≡ mid ++ ys → new ≡ old ++ (xs ++ ys)
+joined old mid new xs ys first second = second ∙ ap (λ l. l ++ ys) first ∙ append_assoc old xs ys
+
+pub at_err : {T E : Type 0} {P : Type 0} (r : Result T E) → P → OnErr r P
+at_err (Ok x) h = tt
+at_err (Err e) h = h
+
+-- a row that is there
+pub got : (rs : List TlbRow) (i : ℕ) (r : TlbRow) → slice_get rs i ≡ Some r → r ≡ get_or rs i blank_row
+got [] i r e = absurd (let bad : ◌≡◌ {A = Option TlbRow} None (Some r) = e in cc)
+got (q ∷ rs) zero r e = let same : q ≡ r = cc in sym same
+got (q ∷ rs) (suc i) r e = got rs i r e
 
 -- lists that are equal, by their parts
 pub split : (xs ys r q : List ℕ) → length xs ≡ length ys → xs ++ r ≡ ys ++ q → (xs ≡ ys) × (r ≡ q)
