@@ -1,4 +1,4 @@
-use Rattle.std.proofs.Common.{◌≡◌, ◌∙◌, refl, ap, sym, ℕ, Bool, true, false, List, Option, None, Some, Result, Ok, Err}
+use Rattle.std.proofs.Common.{◌≡◌, ◌∙◌, refl, ap, sym, ℕ, Bool, true, false, Option, None, Some, Ok, Err}
 use Rattle.std.specs.Prelude.{if◌then◌else◌}
 use Rattle.m161_isa.specs.declared.table.Row.{Row}
 use Rattle.m161_isa.specs.declared.table.Row.TheVariants as rows
@@ -8,7 +8,7 @@ use Rattle.m161_isa.specs.Instr.{instr_by, instr_of, misfit}
 use Rattle.m161_cpu.specs.Processor.{Processor}
 use Rattle.m161_cpu.specs.Fetch.{fetched_word, word_found}
 use Rattle.m161_cpu.specs.Scene.{Scene, and_then, around, scene}
-use Rattle.m161_cpu.specs.Step.{executable_word, is_unusable, usable, word_at_pc}
+use Rattle.m161_cpu.specs.Step.{is_unusable, usable, word_at_pc}
 use Rattle.m161_cpu.specs.Uses.{fetches}
 use Rattle.m161_alike.specs.declared.reads.Reads.{Reads}
 use Rattle.m161_alike.specs.Reads.{no_reads, reads_after, reads_by_row, reads_in, reads_of_step, reads_of_word}

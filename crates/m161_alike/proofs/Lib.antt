@@ -8,5 +8,6 @@ mod TimelessStep
 mod Looking
 mod Viewed
 mod Decoded
+mod Telling
 mod Written
 mod Behaving

@@ -19,6 +19,7 @@ mod known;
 mod laws;
 mod processor;
 mod reads;
+mod view_words;
 mod words;
 
 pub use board::write_board;
@@ -26,4 +27,5 @@ pub use known::Known;
 pub use laws::alike_states_behave_alike;
 pub use processor::{words_tell_a_processor, write_processor};
 pub use reads::{Reads, next_reads};
+pub use view_words::words_tell_a_view;
 pub use words::{words_tell_memory, write_memory};

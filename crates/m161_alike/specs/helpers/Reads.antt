@@ -1,4 +1,4 @@
-use Rattle.std.specs.Prelude.{Bool, true, false}
+use Rattle.std.specs.Prelude.{true, false}
 use Rattle.m161_isa.specs.declared.instr.Instr.{Instr}
 use Rattle.m161_isa.specs.declared.instr.Instr.TheVariants.{MoveFromCop0, Plain}
 use Rattle.m161_isa.specs.declared.instr.PlainOp.TheVariants as plain

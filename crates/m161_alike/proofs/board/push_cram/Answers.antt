@@ -1,4 +1,3 @@
-use Rattle.std.proofs.Common.{◌∙◌}
 use Rattle.std.specs.Prelude.{slice_index}
 use Rattle.m161_bus.specs.Board.{place_of}
 use Rattle.m161_alike.proofs.Written.{numbers_more}

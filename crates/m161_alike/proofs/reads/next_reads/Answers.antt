@@ -1,5 +1,4 @@
-use Rattle.std.proofs.Common.{◌≡◌, ◌∙◌, sym, ap, true, false, Some, None, rules}
-use Rattle.std.specs.Prelude.{slice_index_or}
+use Rattle.std.proofs.Common.{◌∙◌, sym, ap, rules}
 use Rattle.m161_bus.specs.Board.{interrupt_lines}
 use Rattle.m161_cpu.specs.Fetch.{fetched_word}
 use Rattle.m161_machine.specs.State.{processor_at}
