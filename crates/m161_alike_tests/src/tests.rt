@@ -237,6 +237,10 @@ fn memory_is_what_differs(rt: HostRuntime) -> Result<(), Fail> {
     if boot.memory().len() == core.memory().len() {
         write_memory(&core, boot.memory(), &mut words)?;
     }
-    same(&rt, words.as_slice() == [0x300, 0x8000_0000].as_slice(), true);
+    same(
+        &rt,
+        words.as_slice() == [0x300, 0x8000_0000].as_slice(),
+        true,
+    );
     Ok(())
 }
