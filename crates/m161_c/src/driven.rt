@@ -112,6 +112,14 @@ pub(crate) fn drive_by(machine: &mut Machine, plan: &Plan, keys: &[u8], n: u64) 
     }
 }
 
+// A tracer of a machine in its state.
+fn tracer_of(alloc: Global, machine: &Machine) -> Result<Tracer<Tlb, Console>, AllocError>
+    ensures { IfOk result (λ tracer. tracer ≡ machine.now.state) }
+{
+    let core = machine.core().copy(alloc)?;
+    Ok(Tracer::new(alloc, core))
+}
+
 // The same with the event's line, which is appended.
 fn trace_next(
     machine: &mut Machine,
@@ -159,7 +167,7 @@ pub(crate) fn trace(
         (string_bytes text.old) (string_bytes text.new)) }
 {
     machine.replay();
-    let mut tracer = Tracer::new(alloc, machine.core().copy(alloc)?);
+    let mut tracer = tracer_of(alloc, machine)?;
     let mut cursor = Cursor::new(policy, machine.core());
     for made in 0..n {
         let stop = trace_next(machine, policy, &mut cursor, &mut tracer, style, text)?;

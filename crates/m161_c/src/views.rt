@@ -102,11 +102,7 @@ impl Session {
         ensures { result ≡ board_of self.now.machine }
     {
         match &self.machine {
-            Some(machine) => Some(board_with(
-                machine.is_off(),
-                machine.latch(),
-                machine.waiting(),
-            )),
+            Some(machine) => Some(board_with(machine.is_off(), machine.latch(), machine.waiting())),
             None => None,
         }
     }
