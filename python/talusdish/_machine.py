@@ -102,7 +102,8 @@ def _slot() -> Slot:
 def _bytes(slot: Slot) -> bytes:
     size = lib.talusdish_length(slot)
     room = c.create_string_buffer(size or 1)
-    return room.raw[: lib.talusdish_read(slot, 0, room, size)]
+    read = lib.talusdish_read(slot, 0, room, size)
+    return room.raw[:read]
 
 
 def assemble(text: str, symbols: bool = False) -> Image:
