@@ -134,12 +134,13 @@ fn stop_at_ends(rt: HostRuntime) -> Result<(), Fail> {
 fn stand_where_moves_stop(rt: HostRuntime) -> Result<(), Fail> {
     let mut run = replay(&rt)?;
     same(&rt, run.events().len(), 138);
-    while !run.is_at_end() {
-        same(&rt, run.state().made() as usize, run.place());
-        run.advance()?;
+    for place in 0..138 {
+        same(&rt, run.state().made() as usize, place);
+        go_to(&mut run, place + 1)?;
     }
+    same(&rt, run.is_at_end(), true);
     same(&rt, run.state().is_off(), true);
-    run.go_back(100)?;
+    go_to(&mut run, 100)?;
     same(&rt, run.place() <= 100, true);
     same(&rt, run.state().made() as usize, run.place());
     Ok(())
@@ -150,9 +151,7 @@ fn stand_where_moves_stop(rt: HostRuntime) -> Result<(), Fail> {
 #[test]
 fn keep_a_state_near(rt: HostRuntime) -> Result<(), Fail> {
     let mut run = spinning(&rt, 100_000)?;
-    while !run.is_at_end() {
-        run.advance()?;
-    }
+    go_to(&mut run, 100_000)?;
     same(&rt, run.place(), 100_000);
     for (to, place) in [(90_000, 24_464), (24_464, 24_464), (24_463, 0), (65_537, 1)] {
         go_to(&mut run, to)?;

@@ -169,7 +169,10 @@ pub(crate) fn go_to(run: &mut Replay<Tlb, Console>, place: usize) -> Result<(), 
     if run.place() > place {
         run.go_back(place)?;
     }
-    while run.place() < place && !run.is_at_end() {
+    for _event in run.place()..place {
+        if run.is_at_end() {
+            return Ok(());
+        }
         run.advance()?;
     }
     Ok(())
