@@ -7,4 +7,7 @@ mod Timeless
 mod TimelessStep
 mod Looking
 mod Viewed
+mod Decoded
+mod Telling
+mod Written
 mod Behaving

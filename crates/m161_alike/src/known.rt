@@ -27,6 +27,17 @@ impl Known {
         }
     }
 
+    /// What is known of a processor.
+    pub fn of(&self, p: u32) -> Reads
+        requires { p < 32 }
+        ensures { result ≡ known_of self.now p }
+    {
+        Reads {
+            random: has_bit(self.random, p),
+            count: has_bit(self.count, p),
+        }
+    }
+
     /// Whether all of this is known of a processor.
     pub fn contains(&self, p: u32, read: Reads) -> bool
         requires { p < 32 }

@@ -14,12 +14,18 @@
 //! is this project's own.
 #![tactic(auto)]
 
+mod board;
 mod known;
 mod laws;
+mod processor;
 mod reads;
+mod view_words;
 mod words;
 
+pub use board::write_board;
 pub use known::Known;
 pub use laws::alike_states_behave_alike;
-pub use reads::Reads;
+pub use processor::{words_tell_a_processor, write_processor};
+pub use reads::{Reads, next_reads};
+pub use view_words::words_tell_a_view;
 pub use words::{words_tell_memory, write_memory};

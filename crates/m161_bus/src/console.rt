@@ -1,6 +1,6 @@
 //! The laws of a console.
 
-ghost use Rattle.std.specs.Prelude.{◌≡◌, ◌≢◌, ℕ, ◌+◌, ◌≤◌, List, Err, length, IfOk, IsOk, OnOk, OnErr};
+ghost use Rattle.std.specs.Prelude.{◌≡◌, ◌≢◌, ℕ, ◌+◌, ◌<◌, ◌≤◌, List, Err, length, slice_index, IfOk, IsOk, OnOk, OnErr};
 ghost use Rattle.m161_bus.specs.Console.{ConsoleState, console_at_boot, console_read, after_console_read, console_written, with_key, done_of, is_line_up};
 ghost use Rattle.m161_bus.specs.declared.console.DoneError.TheVariants.{NoMemory};
 ghost use Rattle.m161_bus.specs.Outcome.{LeavesUnlessRefused, LeavesUnlessNoMemory};
@@ -100,6 +100,11 @@ pub trait Console {
     /// How many typed bytes wait to be read.
     fn waiting(&self) -> u32
         ensures { result ≡ length (content self.now).waiting };
+
+    /// A byte that waits to be read, by its place behind the oldest.
+    fn waiting_byte(&self, place: u32) -> u8
+        requires { place < length (content self.now).waiting }
+        ensures { result ≡ slice_index (content self.now).waiting place };
 
     /// Whether the line is up.
     fn line(&self) -> bool

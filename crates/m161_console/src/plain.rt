@@ -129,6 +129,10 @@ impl Console for PlainConsole {
         self.waiting.len() as u32
     }
 
+    fn waiting_byte(&self, place: u32) -> u8 {
+        self.waiting[place as usize]
+    }
+
     fn line(&self) -> bool {
         self.port.line(self.waits())
     }

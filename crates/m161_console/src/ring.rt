@@ -132,6 +132,13 @@ impl Console for RingConsole {
         self.waiting.len() as u32
     }
 
+    fn waiting_byte(&self, place: u32) -> u8 {
+        match self.waiting.get(place as usize) {
+            Some(byte) => *byte,
+            None => 0,
+        }
+    }
+
     fn line(&self) -> bool {
         self.port.line(self.waits())
     }

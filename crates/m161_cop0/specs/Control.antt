@@ -1,5 +1,6 @@
 use Rattle.std.specs.Prelude.{ℕ, ◌+◌, ◌*◌, ◌/◌, ◌%◌, ◌^◌, Bool, false, not, ◌==◌, ◌&&◌, ◌||◌, bit_and, bit_or, if◌then◌else◌, Option, None, Some}
 use Rattle.m161_isa.specs.Bits.{bits_of, has_bit}
+use Rattle.m161_cop0.specs.declared.cause.CauseParts.{CauseParts}
 use Rattle.m161_cop0.specs.declared.register.Register.{Register}
 use Rattle.m161_cop0.specs.declared.register.Register.TheVariants as register
 use Rattle.m161_cop0.specs.Registers.{register_with}
@@ -98,6 +99,16 @@ identifier_of c = bits_of c.entry_hi 6 6
 -- Index's row
 abbrev pub index_row_of : Control → ℕ
 index_row_of c = bits_of c.index 8 6
+
+-- its parts beside the board's lines
+abbrev pub cause_parts_of : Control → CauseParts
+cause_parts_of c = record {
+  branch_delay = c.branch_delay;
+  unit = c.unit;
+  code = c.code;
+  timer = c.timer;
+  software = c.software;
+}
 
 -- Cause
 abbrev pub cause_of : ℕ → Control → ℕ

@@ -22,12 +22,14 @@
 //! the timer, the masks of Index, EntryLo and Cause, and PRId are this project's own.
 #![tactic(auto)]
 
+mod cause;
 mod clock;
 mod control;
 mod exception;
 mod register;
 mod trap;
 
+pub use cause::CauseParts;
 pub use clock::random_after_ticks;
 pub use control::Cop0;
 pub use exception::Exception;

@@ -131,9 +131,10 @@ impl<T: Tlb> Cpu<T> {
         }
     }
 
-    // Whether its next Step fetches an instruction.
+    /// Whether its next Step fetches an instruction: it isn't idle, and takes no interrupt. `lines` are
+    /// the board's lines of this processor.
     #[inline(always)]
-    fn fetches(&self, lines: u32) -> bool
+    pub fn fetches(&self, lines: u32) -> bool
         ensures { (a : Around) → interrupt_lines a.number a.board ≡ lines
             → result ≡ fetches (scene self.now a) }
     {

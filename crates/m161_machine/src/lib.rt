@@ -40,7 +40,7 @@ pub use events::{Events, Runs};
 pub use fetched::fetches_none;
 pub use laws::stores_agree;
 pub use m161_bus::{BoardWord, Console};
-pub use m161_cop0::{Exception, Register};
+pub use m161_cop0::{CauseParts, Exception, Register};
 pub use m161_cpu::{Outcome, ProcessorState, RowNumber, Uses, Via};
 pub use m161_elf::LoadError;
 pub use m161_isa::{LinkUnit, Reg};

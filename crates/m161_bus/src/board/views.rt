@@ -1,6 +1,6 @@
 //! What a board shows, and the events of its console.
 
-ghost use Rattle.std.specs.Prelude.{◌≡◌, ◌≢◌, ◌+◌, ◌<◌, ◌≤◌, false, Err, length, IsOk, OnOk, OnErr};
+ghost use Rattle.std.specs.Prelude.{◌≡◌, ◌≢◌, ◌+◌, ◌<◌, ◌≤◌, false, Err, length, slice_index, IsOk, OnOk, OnErr};
 ghost use Rattle.m161_bus.specs.Board.{IsShown, KeepsSize, board_done, board_key, interrupt_lines, shown_word, start_words};
 ghost use Rattle.m161_bus.specs.declared.console.DoneError.TheVariants.{NoMemory};
 ghost use Rattle.m161_bus.specs.Outcome.{LeavesUnlessRefused, LeavesUnlessNoMemory};
@@ -89,6 +89,14 @@ impl<D: Console> Board<D> {
         ensures { result ≡ length self.now.state.console.waiting }
     {
         self.console.waiting()
+    }
+
+    /// A typed byte that waits to be read, by its place behind the oldest.
+    pub fn waiting_byte(&self, place: u32) -> u8
+        requires { place < length self.now.state.console.waiting }
+        ensures { result ≡ slice_index self.now.state.console.waiting place }
+    {
+        self.console.waiting_byte(place)
     }
 
     /// A word that an event can change, as a processor would read it. Nothing is changed.

@@ -1,8 +1,9 @@
 //! What the processor asks of the registers.
 
 ghost use Rattle.std.specs.Prelude.{◌≡◌, ◌-◌, ◌%◌, ◌<◌, ◌≤◌};
-ghost use Rattle.m161_cop0.specs.Control.{cause_of, expects_timer, identifier_of, im_of, index_row_of, is_interrupted, is_pending, is_user, may_use_cop0};
+ghost use Rattle.m161_cop0.specs.Control.{cause_of, cause_parts_of, expects_timer, identifier_of, im_of, index_row_of, is_interrupted, is_pending, is_user, may_use_cop0};
 
+use crate::cause::CauseParts;
 use crate::control::Cop0;
 
 impl Cop0 {
@@ -81,6 +82,19 @@ impl Cop0 {
         ensures { result ≡ self.now.age }
     {
         self.age
+    }
+
+    /// The parts of Cause beside the board's lines.
+    pub fn cause_parts(&self) -> CauseParts
+        ensures { result ≡ cause_parts_of self.now }
+    {
+        CauseParts {
+            branch_delay: self.branch_delay,
+            unit: self.unit,
+            code: self.code,
+            timer: self.timer,
+            software: self.software,
+        }
     }
 
     /// BadVAddr.

@@ -2,12 +2,12 @@
 //! field.
 
 ghost use Rattle.std.specs.Prelude.{◌≡◌, ◌≢◌, ℕ, true, false, ◌-◌, ◌%◌, ◌<◌, Some, slice_get, slice_index};
-ghost use Rattle.m161_cop0.specs.Control.{read_of};
+ghost use Rattle.m161_cop0.specs.Control.{cause_parts_of, read_of};
 ghost use Rattle.m161_cop0.specs.Registers.{number_of_register};
 ghost use Rattle.m161_cpu.specs.Resting.{is_resting, is_ticking};
 
 use crate::processor::{Cpu, ProcessorState};
-use m161_cop0::Register;
+use m161_cop0::{CauseParts, Register};
 use m161_isa::Reg;
 use m161_tlb::{Row, Tlb};
 
@@ -102,6 +102,21 @@ impl<T: Tlb> Cpu<T> {
         ensures { result ≡ self.now.pc }
     {
         self.pc
+    }
+
+    /// The address of the instruction behind the current one: in a delay slot the branch's target, if
+    /// it is taken.
+    pub fn following(&self) -> u32
+        ensures { result ≡ self.now.following }
+    {
+        self.following
+    }
+
+    /// The parts of Cause beside the board's lines.
+    pub fn cause_parts(&self) -> CauseParts
+        ensures { result ≡ cause_parts_of self.now.control }
+    {
+        self.control.cause_parts()
     }
 
     /// Whether the current instruction is in a delay slot.

@@ -2,9 +2,11 @@
 
 ghost use Rattle.std.specs.Prelude.{◌≡◌, ◌<◌, None, Some, slice_get, slice_index, slice_index_or, length};
 ghost use Rattle.m161_bus.specs.Board.{IsShown, interrupt_lines, shown_word};
-ghost use Rattle.m161_cop0.specs.Control.{read_of};
+ghost use Rattle.m161_cop0.specs.Control.{cause_parts_of, read_of};
 ghost use Rattle.m161_cop0.specs.Registers.{number_of_register};
 ghost use Rattle.m161_cpu.specs.Fetch.{fetched_word};
+ghost use Rattle.m161_cpu.specs.Scene.{around, scene};
+ghost use Rattle.m161_cpu.specs.Uses.{fetches};
 ghost use Rattle.m161_machine.specs.State.{processor_at, step_result, word_in};
 ghost use Rattle.m161_machine.specs.Resting.{IdleIsRest, rests, ticks};
 ghost use Rattle.m161_machine.specs.Uses.{uses_in};
@@ -13,7 +15,7 @@ use crate::conf::Conf;
 use crate::event::Conflict;
 use crate::state::Core;
 use m161_bus::{BoardWord, Console};
-use m161_cop0::Register;
+use m161_cop0::{CauseParts, Register};
 use m161_cpu::{ProcessorState, Uses};
 use m161_isa::Reg;
 use m161_tlb::{Row, Tlb};
@@ -51,6 +53,34 @@ impl<T: Tlb, D: Console> Core<T, D> {
         ensures { result ≡ (processor_at p self.now.state.processors).pc }
     {
         self.processors[p as usize].pc()
+    }
+
+    /// The address of the instruction behind a processor's current one: in a delay slot the branch's
+    /// target, if it is taken.
+    pub fn following(&self, p: u32) -> u32
+        requires { p < length self.now.state.processors }
+        ensures { result ≡ (processor_at p self.now.state.processors).following }
+    {
+        self.processors[p as usize].following()
+    }
+
+    /// The parts of Cause of a processor beside the board's lines.
+    pub fn cause_parts(&self, p: u32) -> CauseParts
+        requires { p < length self.now.state.processors }
+        ensures { result ≡ cause_parts_of (processor_at p self.now.state.processors).control }
+    {
+        self.processors[p as usize].cause_parts()
+    }
+
+    /// Whether a Step of a processor, if it is the next event, fetches an instruction: it isn't idle,
+    /// and takes no interrupt.
+    pub fn fetches(&self, p: u32) -> bool
+        requires { p < length self.now.state.processors }
+        ensures { result ≡ fetches (scene (processor_at p self.now.state.processors)
+            (around p self.now.state.memory self.now.state.board self.now.state.links
+            self.now.state.conf.strict)) }
+    {
+        self.processors[p as usize].fetches(self.board.lines(p))
     }
 
     /// Whether a processor's current instruction is in a delay slot.
@@ -168,6 +198,14 @@ impl<T: Tlb, D: Console> Core<T, D> {
         ensures { result ≡ length self.now.state.board.console.waiting }
     {
         self.board.waiting()
+    }
+
+    /// A typed byte that waits to be read, by its place behind the oldest.
+    pub fn waiting_byte(&self, place: u32) -> u8
+        requires { place < length self.now.state.board.console.waiting }
+        ensures { result ≡ slice_index self.now.state.board.console.waiting place }
+    {
+        self.board.waiting_byte(place)
     }
 
     /// A word of the slots that an event can change, as a processor would read it. Nothing is

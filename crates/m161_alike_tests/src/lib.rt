@@ -1,0 +1,5 @@
+//! Tests of states that are alike, on small kernels.
+#![tactic(auto)]
+
+#[cfg(test)]
+mod tests;
