@@ -1,4 +1,5 @@
 pub mod Firsts
+pub mod Unseen
 pub mod Ahead
 pub mod Returning
 pub mod Answering

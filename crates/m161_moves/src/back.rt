@@ -2,8 +2,10 @@
 
 ghost use Rattle.std.specs.Prelude.{◌≡◌, ◌≢◌, ◌+◌, ◌-◌, ◌<◌, ◌≤◌, false, Some, IfErr, IfOk, OnOk};
 ghost use Rattle.m161_moves.specs.Moves.{backwards_reason, StopsBackwards};
+ghost use Rattle.m161_moves.specs.helpers.Looking.{StandsFor, StopAtNoStep};
 ghost use Rattle.m161_moves.specs.helpers.Places.{return_of, IsGreatest, IsLast};
 
+use crate::looking::{Sight, next_seen, stop_at_steps};
 use crate::reason::Reason;
 use crate::run::{Run, StepSeen};
 use crate::stopping::{break_of, mark_of, step_of, touch_of};
@@ -18,57 +20,90 @@ pub(crate) struct Found {
     pub reason: Reason,
 }
 
-// What stops a move back before the next event.
-fn at_return<R: Run>(run: &R, stops: &Stops, chosen: &[Option<Motion>]) -> Option<Reason>
-    requires { R.place run.now < (R.course run.now).end }
+// What stops a move back before the next event, which this stands for.
+fn at_return<R: Run>(
+    run: &R,
+    stops: &Stops,
+    chosen: &[Option<Motion>],
+    step: Option<StepSeen>,
+) -> Option<Reason>
+    requires step { StandsFor stops.now chosen.now ((R.course run.now).step (R.place run.now)) step }
     ensures { result ≡ return_of (R.course run.now) stops.now chosen.now (R.place run.now) }
 {
     if let Some(reason) = mark_of(stops, run.place()) {
         return Some(reason);
     }
-    let step = run.next_step();
     if let Some(reason) = break_of(stops, chosen, step) {
         return Some(reason);
     }
     step_of(chosen, step)
 }
 
-// What stops a move back from a place at this one, which isn't the first; behind it is that event.
-fn at_place<R: Run>(
+// What stops a move back from a place at this one, which isn't the first; behind it is one event, and
+// before it the other.
+fn reason_at<R: Run>(
     run: &R,
     stops: &Stops,
     chosen: &[Option<Motion>],
     from: usize,
     behind: Option<StepSeen>,
+    step: Option<StepSeen>,
 ) -> Option<Reason>
-    requires within { from ≤ (R.course run.now).end }
     requires some { 0 < R.place run.now }
-    requires behind { behind ≡ (R.course run.now).step (R.place run.now - 1) }
+    requires behind { StandsFor stops.now chosen.now ((R.course run.now).step (R.place run.now - 1)) behind }
+    requires step { R.place run.now < from →
+        StandsFor stops.now chosen.now ((R.course run.now).step (R.place run.now)) step }
     requires interrupted { stops.now.interrupted ≡ false }
     ensures { result ≡ backwards_reason (R.course run.now) stops.now chosen.now from (R.place run.now) }
 {
     if from <= run.place() {
         return touch_of(stops, chosen, behind);
     }
-    match at_return(run, stops, chosen) {
+    match at_return(run, stops, chosen, step) {
         Some(reason) => Some(reason),
         None => touch_of(stops, chosen, behind),
     }
 }
 
 // And at the first.
-fn at_begin<R: Run>(run: &R, stops: &Stops, chosen: &[Option<Motion>], from: usize) -> Reason
-    requires within { from ≤ (R.course run.now).end }
+fn at_begin<R: Run>(
+    run: &R,
+    stops: &Stops,
+    chosen: &[Option<Motion>],
+    from: usize,
+    step: Option<StepSeen>,
+) -> Reason
     requires begin { R.place run.now ≡ 0 }
+    requires step { 0 < from → StandsFor stops.now chosen.now ((R.course run.now).step (R.place run.now)) step }
     requires interrupted { stops.now.interrupted ≡ false }
     ensures { backwards_reason (R.course run.now) stops.now chosen.now from 0 ≡ Some result }
 {
     if 0 < from {
-        if let Some(reason) = at_return(run, stops, chosen) {
+        if let Some(reason) = at_return(run, stops, chosen, step) {
             return reason;
         }
     }
     Reason::Begin
+}
+
+// What stands for the next event, if a move back from a place goes back by it.
+fn first_seen<R: Run>(
+    run: &R,
+    stops: &Stops,
+    chosen: &[Option<Motion>],
+    looks: bool,
+    from: usize,
+) -> Option<StepSeen>
+    requires within { from ≤ (R.course run.now).end }
+    requires looks { looks ≡ false → StopAtNoStep stops.now chosen.now }
+    ensures { R.place run.now < from →
+        StandsFor stops.now chosen.now ((R.course run.now).step (R.place run.now)) result }
+{
+    if run.place() < from {
+        next_seen(run, stops, chosen, looks)
+    } else {
+        None
+    }
 }
 
 // Goes forwards by an event, and says what stops a move back from a place there.
@@ -76,19 +111,28 @@ fn look_on<R: Run>(
     run: &mut R,
     stops: &Stops,
     chosen: &[Option<Motion>],
+    looks: bool,
     from: usize,
-) -> Result<Option<Reason>, R::Error>
+    step: Option<StepSeen>,
+) -> Result<Sight, R::Error>
     requires within { from ≤ (R.course run.old).end }
     requires place { R.place run.old < from }
+    requires looks { looks ≡ false → StopAtNoStep stops.now chosen.now }
+    requires step { StandsFor stops.now chosen.now ((R.course run.old).step (R.place run.old)) step }
     requires interrupted { stops.now.interrupted ≡ false }
     ensures course { R.course run.new ≡ R.course run.old }
     ensures ok { IfOk result (λ found. (R.place run.new ≡ R.place run.old + 1)
-        × (found ≡ backwards_reason (R.course run.old) stops.now chosen.now from (R.place run.new))) }
+        × (found.reason ≡ backwards_reason (R.course run.old) stops.now chosen.now from (R.place run.new))) }
+    ensures step { IfOk result (λ found. R.place run.new < from →
+        StandsFor stops.now chosen.now ((R.course run.old).step (R.place run.new)) found.step) }
     ensures err { IfErr result (R.fails (R.course run.old)) }
 {
-    let behind = run.next_step();
     run.advance()?;
-    Ok(at_place(run, stops, chosen, from, behind))
+    let next = first_seen(run, stops, chosen, looks, from);
+    Ok(Sight {
+        reason: reason_at(run, stops, chosen, from, step, next),
+        step: next,
+    })
 }
 
 // Goes forwards to a place, and says where a move back from another stops last on the way, if it does.
@@ -96,12 +140,14 @@ fn look<R: Run>(
     run: &mut R,
     stops: &Stops,
     chosen: &[Option<Motion>],
+    looks: bool,
     from: usize,
     last: usize,
 ) -> Result<Option<Found>, R::Error>
     requires within { from ≤ (R.course run.old).end }
     requires last { last ≤ from }
     requires place { R.place run.old ≤ last }
+    requires looks { looks ≡ false → StopAtNoStep stops.now chosen.now }
     requires interrupted { stops.now.interrupted ≡ false }
     ensures course { R.course run.new ≡ R.course run.old }
     ensures place { OnOk result (R.place run.new ≡ last) }
@@ -110,8 +156,11 @@ fn look<R: Run>(
     ensures err { IfErr result (R.fails (R.course run.old)) }
 {
     let mut found = None;
+    let mut step = first_seen(run, stops, chosen, looks, from);
     while run.place() < last {
-        if let Some(reason) = look_on(run, stops, chosen, from)? {
+        let behind = look_on(run, stops, chosen, looks, from, step)?;
+        step = behind.step;
+        if let Some(reason) = behind.reason {
             found = Some(Found {
                 place: run.place(),
                 reason,
@@ -126,11 +175,13 @@ fn look_from_begin<R: Run>(
     run: &mut R,
     stops: &Stops,
     chosen: &[Option<Motion>],
+    looks: bool,
     from: usize,
     last: usize,
 ) -> Result<Found, R::Error>
     requires within { from ≤ (R.course run.old).end }
     requires last { last ≤ from }
+    requires looks { looks ≡ false → StopAtNoStep stops.now chosen.now }
     requires interrupted { stops.now.interrupted ≡ false }
     ensures course { R.course run.new ≡ R.course run.old }
     ensures place { OnOk result (R.place run.new ≡ last) }
@@ -138,8 +189,9 @@ fn look_from_begin<R: Run>(
     ensures err { IfErr result (R.fails (R.course run.old)) }
 {
     run.go_back(0)?;
-    let reason = at_begin(run, stops, chosen, from);
-    match look(run, stops, chosen, from, last)? {
+    let step = first_seen(run, stops, chosen, looks, from);
+    let reason = at_begin(run, stops, chosen, from, step);
+    match look(run, stops, chosen, looks, from, last)? {
         Some(found) => Ok(found),
         None => Ok(Found { place: 0, reason }),
     }
@@ -168,12 +220,13 @@ fn find<R: Run>(run: &mut R, stops: &Stops, chosen: &[Option<Motion>]) -> Result
         (R.place run.old) found.place found.reason) }
     ensures err { IfErr result (R.fails (R.course run.old)) }
 {
+    let looks = stop_at_steps(stops, chosen);
     let from = run.place();
     run.go_back(from)?;
     let near = run.place();
-    match look(run, stops, chosen, from, from)? {
+    match look(run, stops, chosen, looks, from, from)? {
         Some(found) => Ok(found),
-        None => look_from_begin(run, stops, chosen, from, near),
+        None => look_from_begin(run, stops, chosen, looks, from, near),
     }
 }
 

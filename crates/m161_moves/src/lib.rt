@@ -12,6 +12,7 @@
 mod back;
 mod doing;
 mod laws;
+mod looking;
 mod moves;
 mod reason;
 mod run;

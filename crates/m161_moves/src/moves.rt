@@ -1,26 +1,32 @@
 //! Moves forwards.
 
-ghost use Rattle.std.specs.Prelude.{◌≡◌, ◌+◌, ◌<◌, IfErr, IfOk};
+ghost use Rattle.std.specs.Prelude.{◌≡◌, ◌+◌, ◌<◌, None, false, IfErr, IfOk};
 ghost use Rattle.m161_moves.specs.Moves.{StopsForwards};
+ghost use Rattle.m161_moves.specs.helpers.Looking.{StandsFor, StopAtNoStep};
 ghost use Rattle.m161_moves.specs.helpers.Places.{ahead_of, behind_of};
 
+use crate::looking::{Sight, next_seen, stop_at_steps, stopped};
 use crate::reason::Reason;
-use crate::run::Run;
+use crate::run::{Run, StepSeen};
 use crate::stopping::{break_of, mark_of, step_of, touch_of};
 use m161_gdb::{Motion, Stops};
 
 // What stops before the next event.
-fn ahead<R: Run>(run: &R, stops: &Stops, chosen: &[Option<Motion>]) -> Option<Reason>
-    ensures { result ≡ ahead_of (R.course run.now) stops.now chosen.now (R.place run.now) }
+fn ahead<R: Run>(run: &R, stops: &Stops, chosen: &[Option<Motion>], looks: bool) -> Sight
+    requires looks { looks ≡ false → StopAtNoStep stops.now chosen.now }
+    ensures reason { result.reason ≡ ahead_of (R.course run.now) stops.now chosen.now (R.place run.now) }
+    ensures step { R.place run.now < (R.course run.now).end →
+        StandsFor stops.now chosen.now ((R.course run.now).step (R.place run.now)) result.step }
 {
     if run.is_at_end() {
-        return Some(Reason::End);
+        return stopped(Reason::End);
     }
-    let step = run.next_step();
-    if let Some(reason) = break_of(stops, chosen, step) {
-        return Some(reason);
-    }
-    touch_of(stops, chosen, step)
+    let step = next_seen(run, stops, chosen, looks);
+    let reason = match break_of(stops, chosen, step) {
+        Some(reason) => Some(reason),
+        None => touch_of(stops, chosen, step),
+    };
+    Sight { reason, step }
 }
 
 // Goes forwards by an event, and says what stops behind it.
@@ -28,22 +34,27 @@ fn go_on<R: Run>(
     run: &mut R,
     stops: &Stops,
     chosen: &[Option<Motion>],
-) -> Result<Option<Reason>, R::Error>
-    requires { R.place run.old < (R.course run.old).end }
+    looks: bool,
+    step: Option<StepSeen>,
+) -> Result<Sight, R::Error>
+    requires within { R.place run.old < (R.course run.old).end }
+    requires looks { looks ≡ false → StopAtNoStep stops.now chosen.now }
+    requires step { StandsFor stops.now chosen.now ((R.course run.old).step (R.place run.old)) step }
     ensures course { R.course run.new ≡ R.course run.old }
     ensures ok { IfOk result (λ found. (R.place run.new ≡ R.place run.old + 1)
-        × (found ≡ behind_of (R.course run.new) stops.now chosen.now (R.place run.new))) }
+        × (found.reason ≡ behind_of (R.course run.new) stops.now chosen.now (R.place run.new))) }
+    ensures step { IfOk result (λ found. found.reason ≡ None → R.place run.new < (R.course run.new).end →
+        StandsFor stops.now chosen.now ((R.course run.new).step (R.place run.new)) found.step) }
     ensures err { IfErr result (R.fails (R.course run.old)) }
 {
-    let step = run.next_step();
     run.advance()?;
     if let Some(reason) = mark_of(stops, run.place()) {
-        return Ok(Some(reason));
+        return Ok(stopped(reason));
     }
     if let Some(reason) = step_of(chosen, step) {
-        return Ok(Some(reason));
+        return Ok(stopped(reason));
     }
-    Ok(ahead(run, stops, chosen))
+    Ok(ahead(run, stops, chosen, looks))
 }
 
 /// Moves forwards, to the least place from here on where something stops, and says why. Each
@@ -65,11 +76,12 @@ pub fn forwards<R: Run>(
     if stops.is_interrupted() {
         return Ok(Reason::Interrupt);
     }
-    let mut found = ahead(run, stops, chosen);
+    let looks = stop_at_steps(stops, chosen);
+    let mut found = ahead(run, stops, chosen, looks);
     loop {
-        if let Some(reason) = found {
+        if let Some(reason) = found.reason {
             return Ok(reason);
         }
-        found = go_on(run, stops, chosen)?;
+        found = go_on(run, stops, chosen, looks, found.step)?;
     }
 }

@@ -1,7 +1,7 @@
 //! What stops at one event.
 
 ghost use Rattle.std.specs.Prelude.{◌≡◌, ◌<◌, ◌^◌};
-ghost use Rattle.m161_moves.specs.Stopping.{break_at, break_of, first_touched, is_resumed, is_stepping, is_touched, kind_at, lies_in, lies_in_any, looks_at, mark_of, motion_of, step_of, touch_at, touch_of, addresses_of};
+ghost use Rattle.m161_moves.specs.Stopping.{break_at, break_of, first_touched, is_resumed, is_step, is_stepping, is_touched, kind_at, lies_in, lies_in_any, looks_at, mark_of, motion_of, step_of, touch_at, touch_of, addresses_of};
 
 use crate::reason::Reason;
 use crate::run::{Access, StepSeen};
@@ -22,15 +22,22 @@ fn motion_of(chosen: &[Option<Motion>], processor: u32) -> Option<Motion>
     }
 }
 
-// Whether it makes a Step.
-fn is_stepping(chosen: &[Option<Motion>], processor: u32) -> bool
-    ensures { result ≡ is_stepping chosen.now processor }
+/// Whether a motion is a Step.
+pub(crate) fn makes_step(motion: Option<Motion>) -> bool
+    ensures { result ≡ is_step motion }
 {
-    match motion_of(chosen, processor) {
+    match motion {
         Some(Motion::Step) => true,
         Some(Motion::Continue) => false,
         None => false,
     }
+}
+
+// Whether it makes a Step.
+fn is_stepping(chosen: &[Option<Motion>], processor: u32) -> bool
+    ensures { result ≡ is_stepping chosen.now processor }
+{
+    makes_step(motion_of(chosen, processor))
 }
 
 /// Whether it does anything.

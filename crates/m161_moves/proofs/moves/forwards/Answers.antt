@@ -1,5 +1,6 @@
 use Rattle.std.proofs.Common.{◌∙◌, ◌<◌, ◌≤◌, refl, sym, subst, ap, arith}
 use Rattle.m161_moves.specs.Course.{Course}
+use Rattle.m161_moves.specs.helpers.Looking.{StandsFor}
 use Rattle.m161_moves.specs.helpers.Places.{behind_of}
 use Rattle.m161_moves.proofs.Ahead.{NoneBefore, at_start, further, goes_on, interrupted, none_yet, one_more}
 use Rattle.m161_moves.proofs.moves.forwards.Goals as goal
@@ -15,7 +16,8 @@ loop-found-init g c =
     record {
       same = refl;
       more = omega arith;
-      found = c.ahead-found.ensures ∙ at_start course c.args.stops.now c.args.chosen.now from (sym c.is_interrupted.ensures ∙ c.if-is_interrupted.false);
+      stands = λ none. c.ahead-found.ensures.step;
+      found = c.ahead-found.ensures.reason ∙ at_start course c.args.stops.now c.args.chosen.now from (sym c.is_interrupted.ensures ∙ c.if-is_interrupted.false);
       before = none_yet course c.args.stops.now c.args.chosen.now from;
     }
 
@@ -24,9 +26,14 @@ go_on-requires g c =
     let run = c.loop-found.run in
     let course = g.R.Run.course c.args.run.now in
     let place = g.R.Run.place run in
-    subst (λ (k : Course). place < k.end) (sym c.loop-found.invariant.same)
-    (goes_on course c.args.stops.now c.args.chosen.now (g.R.Run.place c.args.run.now) place (sym c.is_interrupted.ensures ∙ c.if-is_interrupted.false)
-    (subst (λ (k : Course). place ≤ k.end) c.loop-found.invariant.same (g.met.R.Run.within run)) (sym c.loop-found.invariant.found ∙ c.in_default.is))
+    let within : place < course.end = goes_on course c.args.stops.now c.args.chosen.now (g.R.Run.place c.args.run.now) place (sym c.is_interrupted.ensures ∙ c.if-is_interrupted.false)
+    (subst (λ (k : Course). place ≤ k.end) c.loop-found.invariant.same (g.met.R.Run.within run)) (sym c.loop-found.invariant.found ∙ c.in_default.is) in
+    record {
+      within = subst (λ (k : Course). place < k.end) (sym c.loop-found.invariant.same) within;
+      looks = c.stop_at_steps-looks.ensures;
+      step = subst (λ (k : Course). StandsFor c.args.stops.now c.args.chosen.now (k.step place) c.loop-found.found.step) (sym c.loop-found.invariant.same)
+          (c.loop-found.invariant.stands c.in_default.is within);
+    }
 
 pub loop-found-preserved : goal.loop-found-preserved
 loop-found-preserved g c =
@@ -43,6 +50,8 @@ loop-found-preserved g c =
     record {
       same = same;
       more = omega (arith, more, one);
+      stands = λ none below. subst (λ (k : Course). StandsFor stops chosen (k.step new) c.in_ok-found.found.step) same
+          (c.in_ok-found.ensures.step none (subst (λ (k : Course). new < k.end) (sym same) below));
       found = c.in_ok-found.ensures.ok.1 ∙ ap (λ k. behind_of k stops chosen new) same ∙ further course stops chosen from new no_flag (omega (arith, more, one));
       before = subst (NoneBefore course stops chosen from) (sym one)
           (one_more course stops chosen from old c.loop-found.invariant.before (sym c.loop-found.invariant.found ∙ c.in_default.is));
