@@ -145,14 +145,15 @@ schedule_line =
 -- the arguments of `trace`, without those of a driven run: an image and options
 abbrev pub plain_trace_line : App
 plain_trace_line =
-    with_rule (with_rule (with_rule (with_rule (with_rule (with_rule
+    with_rule (with_rule (with_rule (with_rule (with_rule (with_rule (with_rule
     (with_size_rules (codes "65536") (on_image (codes "trace")))
     (long_rule (codes "from") 0 18_446_744_073_709_551_615))
     (long_rule (codes "count") 0 18_446_744_073_709_551_615))
     (flag_rule (codes "names")))
     (flag_rule (codes "symbols")))
     (optional_rule (codes "only") 0 4_294_967_295))
-    (flag_rule (codes "outcomes"))
+    (flag_rule (codes "outcomes")))
+    (flag_rule (codes "loads"))
 
 -- the arguments of `trace`; a driven run has at most as many events as any run
 abbrev pub trace_line : App
@@ -346,6 +347,7 @@ pub record AsksTrace (rows : List Row) (task : TraceTask) : Type 0 where
   pub symbols : task.symbols ≡ is_set (codes "symbols") rows
   pub only : IsNumberIf (one_of (codes "only") rows) task.only
   pub outcomes : task.outcomes ≡ is_set (codes "outcomes") rows
+  pub loads : task.loads ≡ is_set (codes "loads") rows
   pub drive : AsksDriveIf Optional rows task.drive
 
 -- the events of `debug` and of `gdb` come from a file, or from a driven run if an order is given

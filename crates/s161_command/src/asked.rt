@@ -208,6 +208,7 @@ fn task_of_trace<'a>(given: &ArgMatches<'a>, settings: Settings) -> Task<'a>
         symbols: is_set(given, "symbols"),
         only: number_if_given(given, "only"),
         outcomes: is_set(given, "outcomes"),
+        loads: is_set(given, "loads"),
         drive: drive_if_ordered(given, settings),
     })
 }

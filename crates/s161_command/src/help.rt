@@ -139,9 +139,11 @@ ITEMS are state=, r1= to r31= (with --names at= to ra=), hi=, lo=, the registers
 their names, tlb ROW=, [ADDRESS]= for a stored word of RAM, link=ADDRESS, unlink P, and of the board
 latch=, waiting=, wirq=, rirq=, irqe=, cpue=, cirqe P=, cipi P=, cram P K=, each where it has
 changed; then trap CODE VECTOR, idle, off or conflict ROW OTHER; and starts P. Random, Count and
-PRId aren't shown. The last line says why the run stopped. The run is made to its end, and events K
-to K + N - 1 have lines (--from, --count), of them only those that --only and --outcomes leave; their
-numbers stay.
+PRId aren't shown. With --loads the first item of a Step that loads from RAM or a slot, and doesn't
+trap, is (ADDRESS)=: the physical address of the word that has the bytes, and that word before the
+Step, or what was read of the slot. The last line says why the run stopped. The run is made to its
+end, and events K to K + N - 1 have lines (--from, --count), of them only those that --only and
+--outcomes leave; their numbers stay.
 The image, a schedule and keys have at most 402653184 bytes each.
 
 Exit status:
@@ -153,7 +155,7 @@ Exit status:
 
 Example:
   s161 trace kernel.elf --cpus 2 --random 7 --from 1000 --count 50
-  s161 trace kernel.elf --cpus 2 < bad.schedule";
+  s161 trace kernel.elf --cpus 2 --loads < bad.schedule";
 
 /// The end of the help of `replay`.
 pub(crate) const AFTER_REPLAY_HELP: &str = "\

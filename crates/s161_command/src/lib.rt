@@ -11,6 +11,7 @@ mod given;
 mod help;
 mod lines;
 mod link;
+mod options;
 mod repeated;
 mod settings;
 mod task;

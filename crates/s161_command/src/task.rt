@@ -169,6 +169,8 @@ pub struct TraceTask<'a> {
     pub only: Option<u32>,
     /// Whether only events have lines that trap, are idle, or stop the machine.
     pub outcomes: bool,
+    /// Whether a line shows the word that its Step loads.
+    pub loads: bool,
     /// What the driven run is asked for; without it a schedule is read.
     pub drive: Option<Drive<'a>>,
 }
