@@ -4,9 +4,9 @@ import subprocess
 from dataclasses import dataclass, field
 
 # How a command writes: `whole` all at once, after everything else; `scheduled` and `driven` so too, a
-# run that a refused event may end; `threads` a run in threads; `traced`, `console` and `debug` as
+# run that a refused event may end; `threads` a run in threads; `traced`, `console`, `debug` and `gdb` as
 # they go on.
-WRITES_AS_IT_GOES = ("traced", "console", "debug")
+WRITES_AS_IT_GOES = ("traced", "console", "debug", "gdb")
 
 
 @dataclass
@@ -21,6 +21,7 @@ class Command:
     sort: bool = False  # whether the order of the lines of its output is the host's
     events: list = field(default_factory=list)  # of a debugger's session, a line each
     size: list = field(default_factory=list)  # of its machine, as options
+    parts: list = field(default_factory=list)  # of a client's session, its packets
 
     @property
     def name(self):
@@ -166,6 +167,53 @@ quit
 """
 
 
+def framed(*bodies):
+    """Packets of GDB's remote protocol, each acknowledged: so its answer is."""
+    return [b"$" + body.encode() + b"#%02x" % (sum(body.encode()) % 256) + b"+" for body in bodies]
+
+
+def monitor(line):
+    """The packet of a monitor's line."""
+    return "qRcmd," + line.encode().hex()
+
+
+# A session of GDB's remote protocol: each packet that makes room for something is there.
+PACKETS = framed(
+    "qSupported",
+    "qXfer:features:read:target.xml:0,fff",
+    "qXfer:threads:read::0,fff",
+    "Hg1",
+    "g",
+    "m80000200,40",
+    "Z0,80000210,4",
+    "Z2,80003000,4",
+    "vCont;c",
+    "bs",
+    monitor("at"),
+    monitor("where"),
+    monitor("regs"),
+    monitor("cop0"),
+    monitor("tlb"),
+    monitor("memory 80000200 9"),
+    monitor("trace 5"),
+    monitor("schedule"),
+    monitor("output"),
+    monitor("goto 3"),
+    "vCont;c",
+    monitor("help"),
+    "z0,80000210,4",
+    "c",
+    "c",
+    monitor("trace 9"),
+    "bc",
+    "bc",
+    "M80003000,1:00",
+    "zz",
+    "qThreadExtraInfo,1",
+    "D",
+)
+
+
 def images(make):
     """The images that both sizes use."""
     make.write("named.elf", make.said(["as", "--symbols"], make.example("turns.s").encode()))
@@ -201,6 +249,9 @@ def small(make):
 
     def debug(words, size, events, script=SESSION):
         return Command(["debug", *words], "debug", script.encode(), events=events, size=size)
+
+    def gdb(*words):
+        return Command(["gdb", *words], "gdb", b"".join(PACKETS), of="packets", parts=PACKETS)
 
     chosen = make.said(["schedule", "turns.elf", *two, *at_random]).decode()
     sample = make.said(["run", "@sample", "--cpus", "2", "--only-log"], shootdown).decode()
@@ -255,6 +306,8 @@ def small(make):
         debug(["@sample", "sample.log"], ["--cpus", "2"], events_of(sample)),
         debug(["turns.elf", *two, *at_random], two, events_of(chosen)),
         debug(["named.elf", *two, *at_random, "--symbols"], two, events_of(chosen), NAMED_SESSION),
+        gdb("hello.elf", "hello.schedule", *one),
+        gdb("turns.elf", *two, *at_random),
         Command(["trace", "hello.elf", *one], "traced", hello),
         Command(["trace", "turns.elf", *two, *at_random, "--names"], "traced"),
         Command(["trace", "named.elf", *two, *at_random, "--symbols"], "traced"),
@@ -372,6 +425,8 @@ def middle(make):
                 events=events, size=one),
         Command(["debug", "printer.elf", "printing.log"], "debug", script.encode(), events=events,
                 size=one),
+        Command(["gdb", "printer.elf", "printing.schedule", *one], "gdb", b"".join(PACKETS * 3),
+                of="packets", parts=PACKETS * 3),
         Command(["trace", "printer.elf", *one], "traced", printing),
         Command(["trace", "shell.elf", *two, *at_random, "--keys", keys, "--events", "6000", "--names"],
                 "traced", ends=3),

@@ -87,10 +87,12 @@ def is_beginning(command, output, usual):
 
 
 def is_whole(command, output):
-    """Whether an output ends where a command may end a write: of a debugger behind an answer, of
+    """Whether an output ends where a command may end a write: of `debug` and `gdb` behind an answer, of
     `trace` behind a line, of `console` anywhere, else only before it begins."""
     if command.kind == "debug":
         return len(output) in ends_of_answers(command)
+    if command.kind == "gdb":
+        return len(output) in judging.ends_of_packets(command)
     return not output or command.kind == "console" or (command.kind == "traced" and output[-1:] == b"\n")
 
 

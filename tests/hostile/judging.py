@@ -63,13 +63,36 @@ def judge_fault(command, answer, usual):
     """What stands on standard output beside the fault of memory."""
     if not answer.output:
         return "memory"
-    if command.kind not in ("traced", "console"):
+    if command.kind not in ("traced", "console", "gdb"):
         raise Wrong("a part of the output, and the fault of memory")
     if not usual.output.startswith(answer.output):
         raise Wrong("the output isn't the beginning of the usual one")
+    if command.kind == "gdb" and len(answer.output) != answered(command, answer):
+        raise Wrong("not the answers to the packets before the one that memory was refused to")
     if command.kind == "traced" and not answer.output.endswith(b"\n"):
         raise Wrong("a part of a line")
     return "memory, behind a part"
+
+
+def ends_of_packets(command):
+    """After how many bytes of its output the answers to a client's packets end: a new session with the
+    first of them says it for each."""
+    packets = command.parts
+    texts = [b"".join(packets[:count]) for count in range(len(packets) + 1)]
+    return [len(running.place.undisturbed(command.words, text).output) for text in texts]
+
+
+def answered(command, answer):
+    """How many bytes answer the packets that a session had carried out when memory was refused last:
+    those that ended before the last byte that it had read."""
+    read = len(command.text[: answer.counts.place])
+    carried = 0
+    at = 0
+    for packet in command.parts:
+        at += len(packet)
+        # The last byte acknowledges the answer.
+        carried += at - 1 < read
+    return ends_of_packets(command)[carried]
 
 
 def option(words, name, value):
