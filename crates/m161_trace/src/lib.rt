@@ -32,6 +32,7 @@
 
 mod laws;
 mod line;
+mod loads;
 mod places;
 mod processor;
 mod shared;
@@ -40,5 +41,6 @@ mod tracer;
 
 pub use laws::items_tell;
 pub use line::write_line;
+pub use loads::loaded;
 pub use m161_dis::{Naming, Style};
 pub use tracer::Tracer;
