@@ -135,8 +135,15 @@ impl Lines {
         self.line.clear();
         let number = self.number;
         let LineFilter { style, loads, .. } = &self.filter;
-        self.tracer
-            .line_with(machine, event, outcome, number, style, *loads, &mut self.line)?;
+        self.tracer.line_with(
+            machine,
+            event,
+            outcome,
+            number,
+            style,
+            *loads,
+            &mut self.line,
+        )?;
         self.number += 1;
         Ok(())
     }
