@@ -9,6 +9,7 @@
 //! K o                       the console's byte was sent
 //!
 //! Items, in this order, each where it differs from before the Step; words have eight digits:
+//! (00003000)=00005600       where loads are shown: the word that the Step loaded from
 //! state=waiting             what the processor is doing
 //! r1= .. r31= hi= lo=       its registers: at= .. ra= for r1= .. r31= where the style names them
 //! index= entrylo= context= badvaddr= entryhi= compare= status= cause= epc=
