@@ -1,3 +1,2 @@
 -- Definitions that only contracts of private functions, or proofs, use.
-pub mod Loads
 pub mod Standing

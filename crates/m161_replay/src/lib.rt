@@ -10,7 +10,6 @@
 #![tactic(auto)]
 
 mod kept;
-mod loads;
 mod replay;
 mod seen;
 mod standing;

@@ -9,12 +9,12 @@ ghost use Rattle.m161_replay.specs.Replays.{event_seen};
 ghost use Rattle.m161_replay.specs.Seen.{access_of, accessed, step_seen, virtual_word};
 ghost use Rattle.m161_replay.specs.Standing.{Peeks};
 
-use crate::loads::loaded;
 use m161_bus::Console;
 use m161_cpu::Via;
 use m161_machine::{Core, Event, Outcome, fetches_none};
 use m161_moves::{Access, StepSeen};
 use m161_tlb::Tlb;
+use m161_trace::loaded;
 
 // The virtual address of a word that a row translated.
 fn virtual_word(via: Option<Via>) -> Option<u32>

@@ -1,4 +1,5 @@
 pub mod Spaced
+pub mod Loading
 pub mod Members
 pub mod Started
 pub mod Links

@@ -1,4 +1,5 @@
 pub mod Items
+pub mod Loads
 pub mod Line
 pub mod Law
 pub mod helpers

@@ -1,4 +1,4 @@
-use Rattle.std.specs.Prelude.{ℕ, List, [], ◌∷◌, ◌++◌, flat_map, slice_index_or, Option, None, Some, codes, decimal}
+use Rattle.std.specs.Prelude.{ℕ, Bool, true, false, if◌then◌else◌, List, [], ◌∷◌, ◌++◌, flat_map, slice_index_or, Option, None, Some, codes, decimal}
 use Rattle.m161_text.specs.Parts.{◌␣◌, hex_text, word_text}
 use Rattle.m161_asm.specs.Tokens.{register_names}
 use Rattle.m161_dis.specs.declared.naming.Naming.{Naming}
@@ -16,6 +16,8 @@ use Rattle.m161_machine.specs.declared.event.Event.{Event}
 use Rattle.m161_machine.specs.declared.event.Event.TheVariants as events
 use Rattle.m161_machine.specs.Fetched.{fetched}
 use Rattle.m161_machine.specs.State.{State, processor_at}
+use Rattle.m161_trace.specs.declared.loads.Load.{Load}
+use Rattle.m161_trace.specs.Loads.{load_of}
 use Rattle.m161_trace.specs.Items.{Item, doing, register, hi, lo, control, row, stored, linked, unlinked, latched, waiting, board, trapped, idle, off, conflict, starts, items}
 
 -- The line of an event. Words have eight digits; other numbers are decimal.
@@ -71,6 +73,15 @@ abbrev pub behind : Naming → List Item → List ℕ
 behind naming [] = []
 behind naming (i ∷ is) = 32 ∷ spaced naming (i ∷ is)
 
+-- what a Step loaded: the address of the word in parentheses
+abbrev pub load_text : Load → List ℕ
+load_text load = codes "(" ++ word_text load.at ++ codes ")=" ++ word_text load.word
+
+-- the same with a load before the items, if there is one
+abbrev pub behind_load : Naming → Option Load → List Item → List ℕ
+behind_load naming None is = behind naming is
+behind_load naming (Some load) is = codes "  " ++ load_text load ++ spaced naming is
+
 -- the address of an instruction with its place behind it
 abbrev pub address_text : Style → ℕ → List ℕ
 address_text style at = word_text at ++ place_behind style.symbols at
@@ -85,11 +96,19 @@ step_head style number p s o =
     decimal number ␣ decimal p ␣ address_text style (processor_at p s.processors).pc
     ␣ instruction_text style (processor_at p s.processors).pc (fetched p s o)
 
-unfoldable pub step_line : Style → ℕ → ℕ → State → Outcome → State → List ℕ
-step_line style number p s o t = step_head style number p s o ++ behind style.registers (items p s o t)
+-- with its load, where loads are shown
+unfoldable pub step_line : Style → Bool → ℕ → ℕ → State → Outcome → State → List ℕ
+step_line style loads number p s o t =
+    step_head style number p s o
+    ++ behind_load style.registers (if loads then load_of p s o t else None) (items p s o t)
 
--- the line of an event, without its end, by the state before it, its outcome and the state after it
+-- the line of an event, without its end, by the state before it, its outcome and the state after it;
+-- with what a Step loads, or without
+unfoldable pub event_line_with : Style → Bool → ℕ → Event → State → Outcome → State → List ℕ
+event_line_with style loads number (events.Step p) s o t = step_line style loads number p s o t
+event_line_with style loads number (events.Key byte) s o t =
+    decimal number ␣ codes "k" ␣ hex_text 2 byte
+event_line_with style loads number events.Done s o t = decimal number ␣ codes "o"
+
 unfoldable pub event_line : Style → ℕ → Event → State → Outcome → State → List ℕ
-event_line style number (events.Step p) s o t = step_line style number p s o t
-event_line style number (events.Key byte) s o t = decimal number ␣ codes "k" ␣ hex_text 2 byte
-event_line style number events.Done s o t = decimal number ␣ codes "o"
+event_line style number e s o t = event_line_with style false number e s o t

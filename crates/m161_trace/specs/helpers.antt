@@ -2,3 +2,4 @@
 pub mod Adds
 pub mod Far
 pub mod Near
+pub mod Loads

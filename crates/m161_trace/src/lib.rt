@@ -9,6 +9,7 @@
 //! K o                       the console's byte was sent
 //!
 //! Items, in this order, each where it differs from before the Step; words have eight digits:
+//! (00003000)=00005600       where loads are shown: the word that the Step loaded from
 //! state=waiting             what the processor is doing
 //! r1= .. r31= hi= lo=       its registers: at= .. ra= for r1= .. r31= where the style names them
 //! index= entrylo= context= badvaddr= entryhi= compare= status= cause= epc=
@@ -32,6 +33,7 @@
 
 mod laws;
 mod line;
+mod loads;
 mod places;
 mod processor;
 mod shared;
@@ -40,5 +42,6 @@ mod tracer;
 
 pub use laws::items_tell;
 pub use line::write_line;
+pub use loads::loaded;
 pub use m161_dis::{Naming, Style};
 pub use tracer::Tracer;

@@ -9,12 +9,14 @@ ghost use Rattle.m161_machine.specs.State.{next, processor_at};
 ghost use Rattle.m161_machine.specs.Uses.{uses_in};
 ghost use Rattle.m161_text.specs.Parts.{◌␣◌, hex_text};
 ghost use Rattle.m161_trace.specs.Items.{Item, items, shared_items};
-ghost use Rattle.m161_trace.specs.Line.{address_text, behind, event_line, instruction_text, spaced, step_head, step_line};
+ghost use Rattle.m161_trace.specs.Line.{address_text, behind, behind_load, event_line, event_line_with, instruction_text, load_text, spaced, step_head, step_line};
+ghost use Rattle.m161_trace.specs.Loads.{load_of};
 ghost use Rattle.m161_text.specs.Lines.{with_line_end};
 ghost use Rattle.m161_trace.specs.helpers.Far.{is_far, is_far_found, is_far_word};
 ghost use Rattle.m161_trace.specs.helpers.Near.{IsNear};
 ghost use Rattle.m161_trace.specs.helpers.Adds.{Adds, AddsIn, AreAlike};
 
+use crate::loads::{Load, load_of};
 use crate::places::{add_common, add_places};
 use crate::processor::add_processor;
 use crate::shared::{
@@ -190,6 +192,55 @@ fn push_items(text: &mut String, items: &str) -> Result<(), AllocError>
     push_part(text, items)
 }
 
+// Appends a load to a line's beginning.
+fn push_load(text: &mut String, load: Load) -> Result<(), AllocError>
+    ensures { OnOk result (string_bytes text.new
+        ≡ string_bytes text.old ++ (codes "  " ++ load_text load)) }
+{
+    text.push_str("  (")?;
+    push_hex(text, 8, load.at)?;
+    text.push_str(")=")?;
+    push_hex(text, 8, load.word)
+}
+
+// Appends a load, if there is one, and items to a line's beginning.
+fn push_load_and_items(text: &mut String, load: Option<Load>, items: &str) -> Result<(), AllocError>
+    ensures { (naming : Naming) (is : List Item) → items.now ≡ spaced naming is
+        → OnOk result (string_bytes text.new
+        ≡ string_bytes text.old ++ behind_load naming load is) }
+{
+    match load {
+        None => push_items(text, items),
+        Some(load) => {
+            push_load(text, load)?;
+            push_part(text, items)
+        }
+    }
+}
+
+// What a Step of processor `p` loads, which would fetch this word, where loads are shown.
+fn load_if<T: Tlb, D: Console>(
+    loads: bool,
+    p: u32,
+    before: &Core<T, D>,
+    fetch: Option<u32>,
+    outcome: Outcome,
+    after: &Core<T, D>,
+) -> Option<Load>
+    requires accepted { next before.now.state (events.Step p) ≡ Ok (outcome, after.now.state) }
+    requires alike { AreAlike p before.now.state after.now.state }
+    requires fetch { fetch ≡ fetched_word before.now.state.memory
+        (processor_at p before.now.state.processors).pc
+        (processor_at p before.now.state.processors) }
+    ensures { result ≡ (if loads then load_of p before.now.state outcome after.now.state else None) }
+{
+    if loads {
+        load_of(p, before, fetch, outcome, after)
+    } else {
+        None
+    }
+}
+
 // The word that processor `p` would fetch.
 fn fetch_of<T: Tlb, D: Console>(p: u32, before: &Core<T, D>) -> Option<u32>
     requires { p < length before.now.state.processors }
@@ -254,6 +305,7 @@ fn push_step_line<T: Tlb, D: Console>(
     text: &mut String,
     items: &mut String,
     style: &Style,
+    loads: bool,
     number: u64,
     p: u32,
     before: &Core<T, D>,
@@ -262,12 +314,13 @@ fn push_step_line<T: Tlb, D: Console>(
 ) -> Result<(), AllocError>
     requires { next before.now.state (events.Step p) ≡ Ok (outcome, after.now.state) }
     ensures { OnOk result (string_bytes text.new ≡ string_bytes text.old
-        ++ step_line style.now number p before.now.state outcome after.now.state) }
+        ++ step_line style.now loads number p before.now.state outcome after.now.state) }
 {
     let fetch = fetch_of(p, before);
     push_head(text, style, number, p, before, fetch, outcome)?;
+    let load = load_if(loads, p, before, fetch, outcome, after);
     fill_items(items, style.registers, p, before, fetch, outcome, after)?;
-    push_items(text, items.as_str())
+    push_load_and_items(text, load, items.as_str())
 }
 
 // Appends the line of a key, without its end.
@@ -287,8 +340,41 @@ fn push_done(text: &mut String, number: u64) -> Result<(), AllocError>
     write!(text, "{number} o")
 }
 
-/// Writes the line of an event that is accepted, with its end, in place of a text; `items` is room for
-/// its items. `number` is the event's in its run.
+/// Writes the line of an event that is accepted, with its end, in place of a text, and what a Step
+/// loads where `loads` is true; `items` is room for its items. `number` is the event's in its run.
+///
+/// # Errors
+/// Memory was refused.
+#[tactic(auto, unfolding(crate::specs::Line::event_line_with))]
+pub(crate) fn write_line_with<T: Tlb, D: Console>(
+    text: &mut String,
+    items: &mut String,
+    style: &Style,
+    loads: bool,
+    number: u64,
+    event: Event,
+    before: &Core<T, D>,
+    outcome: Outcome,
+    after: &Core<T, D>,
+) -> Result<(), AllocError>
+    requires { next before.now.state event ≡ Ok (outcome, after.now.state) }
+    ensures { OnOk result (string_bytes text.new ≡
+        with_line_end (event_line_with style.now loads number event before.now.state outcome
+        after.now.state)) }
+{
+    text.clear();
+    match event {
+        Event::Step(p) => {
+            push_step_line(text, items, style, loads, number, p, before, outcome, after)?
+        }
+        Event::Key(byte) => push_key(text, number, byte)?,
+        Event::Done => push_done(text, number)?,
+    }
+    text.push('\n')
+}
+
+/// Writes the line of an event that is accepted, with its end, in place of a text, without what a Step
+/// loads; `items` is room for its items. `number` is the event's in its run.
 ///
 /// # Errors
 /// Memory was refused.
@@ -307,11 +393,7 @@ pub fn write_line<T: Tlb, D: Console>(
     ensures { OnOk result (string_bytes text.new ≡
         with_line_end (event_line style.now number event before.now.state outcome after.now.state)) }
 {
-    text.clear();
-    match event {
-        Event::Step(p) => push_step_line(text, items, style, number, p, before, outcome, after)?,
-        Event::Key(byte) => push_key(text, number, byte)?,
-        Event::Done => push_done(text, number)?,
-    }
-    text.push('\n')
+    write_line_with(
+        text, items, style, false, number, event, before, outcome, after,
+    )
 }

@@ -5,9 +5,9 @@ ghost use Rattle.m161_cpu.specs.declared.processor.Outcome.{Outcome};
 ghost use Rattle.m161_machine.specs.State.{State, next};
 ghost use Rattle.m161_machine.specs.History.{Makes};
 ghost use Rattle.m161_text.specs.Lines.{with_line_end};
-ghost use Rattle.m161_trace.specs.Line.{event_line};
+ghost use Rattle.m161_trace.specs.Line.{event_line, event_line_with};
 
-use crate::line::write_line;
+use crate::line::write_line_with;
 use m161_bus::Console;
 use m161_dis::Style;
 use m161_machine::{Core, Event, Machine, Outcome, Refusal};
@@ -60,10 +60,11 @@ impl<T: Tlb, D: Console> Tracer<T, D> {
 
     /// Appends the line of an event that the machine has just accepted, with its end, and makes the
     /// event on the state here. `number` is the event's in its run; registers and addresses are shown
-    /// in this style.
+    /// in this style, and what a Step loads isn't.
     ///
     /// # Errors
     /// Memory was refused. The text and the state are as before then.
+    #[tactic(auto, unfolding(crate::specs::Line::event_line))]
     pub fn line(
         &mut self,
         machine: &Machine<T, D>,
@@ -80,15 +81,41 @@ impl<T: Tlb, D: Console> Tracer<T, D> {
         ensures err { OnErr result ((string_bytes text.new ≡ string_bytes text.old)
             × (self.new ≡ self.old)) }
     {
+        self.line_with(machine, event, outcome, number, style, false, text)
+    }
+
+    /// The same, and the line shows what a Step loads where `loads` is true.
+    ///
+    /// # Errors
+    /// Memory was refused. The text and the state are as before then.
+    pub fn line_with(
+        &mut self,
+        machine: &Machine<T, D>,
+        event: Event,
+        outcome: Outcome,
+        number: u64,
+        style: &Style,
+        loads: bool,
+        text: &mut String,
+    ) -> Result<(), AllocError>
+        requires { next self.old event ≡ Ok (outcome, machine.now.state) }
+        ensures text { OnOk result (string_bytes text.new ≡ string_bytes text.old
+            ++ with_line_end (event_line_with style.now loads number event self.old outcome
+            machine.now.state)) }
+        ensures state { OnOk result (self.new ≡ machine.now.state) }
+        ensures err { OnErr result ((string_bytes text.new ≡ string_bytes text.old)
+            × (self.new ≡ self.old)) }
+    {
         let Tracer {
             before,
             line,
             items,
         } = self;
-        write_line(
+        write_line_with(
             line,
             items,
             style,
+            loads,
             number,
             event,
             before,

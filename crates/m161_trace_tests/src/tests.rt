@@ -1,6 +1,7 @@
 //! Tests of traces. The lines that are expected were written by hand, from what the words do.
 
 mod board;
+mod loads;
 mod processors;
 mod sample;
 mod traced;

@@ -13,7 +13,7 @@ use Rattle.m161_machine.specs.State.{State, next}
 use Rattle.m161_machine.specs.History.{Leads, entry}
 use Rattle.m161_machine.proofs.Leading.{leads_on}
 use Rattle.m161_text.specs.Lines.{text_of, with_line_end}
-use Rattle.m161_trace.specs.Line.{event_line}
+use Rattle.m161_trace.specs.Line.{event_line_with}
 use Rattle.s161_base.specs.declared.fault.Fault.{Fault}
 use Rattle.s161_base.specs.declared.fault.Fault.TheVariants.{Memory}
 use Rattle.s161_base.specs.Streams.{AppendsSome}
@@ -27,7 +27,7 @@ use Rattle.s161_trace.specs.helpers.Printing.{FailsToPrint, FailsToPut, Prints, 
 -- the line of an event, if it has one
 abbrev pub line_of : LineFilter → ℕ → State → Entry → State → List (List ℕ)
 line_of w number s e t =
-    if has_line w number e.event e.outcome then event_line w.style number e.event s e.outcome t ∷ [] else []
+    if has_line w number e.event e.outcome then event_line_with w.style w.loads number e.event s e.outcome t ∷ [] else []
 
 module _ (w : LineFilter) where
   pub no_lines : (number : ℕ) (s : State) → lines_from w number s [] ≡ []
@@ -37,7 +37,7 @@ module _ (w : LineFilter) where
   pub first_line : (number : ℕ) (s : State) (e : Entry) (es : List Entry) (t : State) → next s e.event ≡ Ok (e.outcome, t) →
       lines_from w number s (e ∷ es) ≡ line_of w number s e t ++ lines_from w (number + 1) t es
   first_line number s e es t h =
-      ap (λ r. line_and w.style (has_line w) number s e.event r (λ u. traced w.style (has_line w) (number + 1) u es)) h
+      ap (λ r. line_and w.style w.loads (has_line w) number s e.event r (λ u. traced w.style w.loads (has_line w) (number + 1) u es)) h
 
   one_line : (number : ℕ) (s : State) (e : Entry) (t : State) → next s e.event ≡ Ok (e.outcome, t) →
       lines_from w number s (e ∷ []) ≡ line_of w number s e t
@@ -71,9 +71,9 @@ module _ (w : LineFilter) where
       ∙ flat_map-append with_line_end (lines_from w number s es) (lines_from w (number + length es) t fs)
 
   pub with_line : (number : ℕ) (s : State) (e : Event) (o : Outcome) (t : State) → has_line w number e o ≡ true → next s e ≡ Ok (o, t) →
-      text_of (lines_from w number s (entry e o ∷ [])) ≡ with_line_end (event_line w.style number e s o t)
+      text_of (lines_from w number s (entry e o ∷ [])) ≡ with_line_end (event_line_with w.style w.loads number e s o t)
   with_line number s e o t has h =
-      let line = event_line w.style number e s o t in
+      let line = event_line_with w.style w.loads number e s o t in
       ap text_of (one_line number s (entry e o) t h)
       ∙ ap (λ b. text_of (if b then line ∷ [] else [])) has
       ∙ append-nil (with_line_end line)
@@ -81,7 +81,7 @@ module _ (w : LineFilter) where
   pub without_line : (number : ℕ) (s : State) (e : Event) (o : Outcome) (t : State) → has_line w number e o ≡ false → next s e ≡ Ok (o, t) →
       text_of (lines_from w number s (entry e o ∷ [])) ≡ []
   without_line number s e o t has h =
-      let line = event_line w.style number e s o t in
+      let line = event_line_with w.style w.loads number e s o t in
       ap text_of (one_line number s (entry e o) t h)
       ∙ ap (λ b. text_of (if b then line ∷ [] else [])) has
 

@@ -15,7 +15,7 @@ use Rattle.m161_drive.specs.Choice.{cursor_at}
 use Rattle.m161_drive.specs.Drive.{Chooses, Drives}
 use Rattle.m161_steplog.specs.Schedule.{IsSchedule}
 use Rattle.m161_text.specs.Lines.{lines_of, text_of, with_line_end}
-use Rattle.m161_trace.specs.Line.{event_line}
+use Rattle.m161_trace.specs.Line.{event_line_with}
 use Rattle.s161_base.specs.Asked.{image_files, option_files}
 use Rattle.s161_base.specs.declared.fault.Fault.{Fault}
 use Rattle.s161_base.specs.declared.fault.Fault.TheVariants.{Memory, Output}
@@ -76,25 +76,26 @@ is_wanted from count only by_outcome number e o =
 
 -- an event's line, if it has one, and then those of the events after it; none where it is refused
 abbrev pub line_and :
-    Style → (ℕ → Event → Outcome → Bool) → ℕ → State → Event → Result (Outcome × State) Refusal →
-    (State → List (List ℕ)) → List (List ℕ)
-line_and style has number s e (Err refusal) rest = []
-line_and style has number s e (Ok given) rest =
-    (if has number e given.0 then event_line style number e s given.0 given.1 ∷ [] else [])
+    Style → Bool → (ℕ → Event → Outcome → Bool) → ℕ → State → Event →
+    Result (Outcome × State) Refusal → (State → List (List ℕ)) → List (List ℕ)
+line_and style loads has number s e (Err refusal) rest = []
+line_and style loads has number s e (Ok given) rest =
+    (if has number e given.0 then event_line_with style loads number e s given.0 given.1 ∷ [] else [])
     ++ rest given.1
 
--- the lines of those of these entries' events that have one, from a state on; the first of the events
--- has this number
+-- the lines of those of these entries' events that have one, with what their Steps load or without,
+-- from a state on; the first of the events has this number
 abbrev pub traced :
-    Style → (ℕ → Event → Outcome → Bool) → ℕ → State → List Entry → List (List ℕ)
-traced style has number s [] = []
-traced style has number s (e ∷ es) =
-    line_and style has number s e.event (next s e.event) (λ t. traced style has (number + 1) t es)
+    Style → Bool → (ℕ → Event → Outcome → Bool) → ℕ → State → List Entry → List (List ℕ)
+traced style loads has number s [] = []
+traced style loads has number s (e ∷ es) =
+    line_and style loads has number s e.event (next s e.event)
+    (λ t. traced style loads has (number + 1) t es)
 
 -- those that the task asks for, over this file of its image
 abbrev pub shown_lines : TraceTask → List ℕ → State → List Entry → List (List ℕ)
 shown_lines task file s entries =
-    traced (style_of task.registers task.symbols task.image.now file)
+    traced (style_of task.registers task.symbols task.image.now file) task.loads
     (is_wanted task.from task.count task.only task.outcomes) 0 s entries
 
 -- their text, of a run from a state on that has these entries

@@ -23,6 +23,8 @@ pub(crate) struct LineFilter {
     pub only: Option<u32>,
     /// Whether only events have lines that trap, are idle, or stop the machine.
     pub outcomes: bool,
+    /// Whether lines show what Steps load.
+    pub loads: bool,
 }
 
 // Whether an event is a Step of a processor.
@@ -71,6 +73,7 @@ impl LineFilter {
             count: task.count,
             only: task.only,
             outcomes: task.outcomes,
+            loads: task.loads,
         })
     }
 

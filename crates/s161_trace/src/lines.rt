@@ -5,7 +5,7 @@ ghost use Rattle.std.specs.Io.KnownBytes.{Appends};
 ghost use Rattle.m161_machine.specs.History.{entry};
 ghost use Rattle.m161_machine.specs.State.{State, next};
 ghost use Rattle.m161_text.specs.Lines.{with_line_end};
-ghost use Rattle.m161_trace.specs.Line.{event_line};
+ghost use Rattle.m161_trace.specs.Line.{event_line_with};
 ghost use Rattle.s161_run.specs.Runs.{stop_line};
 ghost use Rattle.m161_cpu.specs.declared.processor.Outcome.{Outcome};
 ghost use Rattle.s161_trace.specs.helpers.Printing.{FailsToPrint, FailsToPut, IsNew, Prints, PutsOut, has_line};
@@ -125,8 +125,8 @@ impl Lines {
         requires accepted { next self.old.tracer event ≡ Ok (outcome, machine.now.state) }
         requires few { self.old.number < 2 ^ 64 - 1 }
         ensures line { OnOk result (string_bytes self.new.line ≡ with_line_end
-            (event_line self.old.filter.style self.old.number event self.old.tracer outcome
-            machine.now.state)) }
+            (event_line_with self.old.filter.style self.old.filter.loads self.old.number event
+            self.old.tracer outcome machine.now.state)) }
         ensures tracer { OnOk result (self.new.tracer ≡ machine.now.state) }
         ensures number { OnOk result (self.new.number ≡ self.old.number + 1) }
         ensures filter { self.new.filter ≡ self.old.filter }
@@ -134,9 +134,16 @@ impl Lines {
     {
         self.line.clear();
         let number = self.number;
-        let style = &self.filter.style;
-        self.tracer
-            .line(machine, event, outcome, number, style, &mut self.line)?;
+        let LineFilter { style, loads, .. } = &self.filter;
+        self.tracer.line_with(
+            machine,
+            event,
+            outcome,
+            number,
+            style,
+            *loads,
+            &mut self.line,
+        )?;
         self.number += 1;
         Ok(())
     }

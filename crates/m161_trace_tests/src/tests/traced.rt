@@ -51,13 +51,14 @@ pub(crate) fn tracer_of(
     Ok(Tracer::new(rt.alloc(), core))
 }
 
-/// Makes an event and appends its line.
+/// Makes an event and appends its line, with what it loads or without.
 #[inline(never)]
-pub(crate) fn trace_one(
+fn trace_one(
     machine: &mut Machine,
     tracer: &mut Tracer<Tlb, Console>,
     event: Event,
     style: &Style,
+    loads: bool,
     text: &mut String,
 ) -> Result<(), Fail>
     requires { tracer.old ≡ machine.old.state }
@@ -65,7 +66,11 @@ pub(crate) fn trace_one(
 {
     let number = machine.made();
     let outcome = machine.event(event)?;
-    tracer.line(machine, event, outcome, number, style, text)?;
+    if loads {
+        tracer.line_with(machine, event, outcome, number, style, true, text)?;
+    } else {
+        tracer.line(machine, event, outcome, number, style, text)?;
+    }
     Ok(())
 }
 
@@ -77,13 +82,14 @@ fn trace_times(
     event: Event,
     times: u32,
     style: &Style,
+    loads: bool,
     text: &mut String,
 ) -> Result<(), Fail>
     requires { tracer.old ≡ machine.old.state }
     ensures { OnOk result (tracer.new ≡ machine.new.state) }
 {
     for _time in 0..times {
-        trace_one(machine, tracer, event, style, text)?;
+        trace_one(machine, tracer, event, style, loads, text)?;
     }
     Ok(())
 }
@@ -103,8 +109,35 @@ pub(crate) fn pass_one(
     Ok(())
 }
 
-/// The lines of events from boot on.
+/// The lines of events from boot on, with what their Steps load or without.
 #[inline(never)]
+fn traced_with(
+    rt: &impl AllocGlobal,
+    file: &[u8],
+    processors: u32,
+    strict: bool,
+    events: &[(Event, u32)],
+    style: &Style,
+    loads: bool,
+) -> Result<String, Fail> {
+    let mut machine = booted(rt, file, processors, strict)?;
+    let mut tracer = tracer_of(rt, &machine)?;
+    let mut text = String::new(rt.alloc());
+    for (event, times) in events {
+        trace_times(
+            &mut machine,
+            &mut tracer,
+            *event,
+            *times,
+            style,
+            loads,
+            &mut text,
+        )?;
+    }
+    Ok(text)
+}
+
+/// The lines of events from boot on.
 pub(crate) fn traced(
     rt: &impl AllocGlobal,
     file: &[u8],
@@ -113,13 +146,7 @@ pub(crate) fn traced(
     events: &[(Event, u32)],
     style: &Style,
 ) -> Result<String, Fail> {
-    let mut machine = booted(rt, file, processors, strict)?;
-    let mut tracer = tracer_of(rt, &machine)?;
-    let mut text = String::new(rt.alloc());
-    for (event, times) in events {
-        trace_times(&mut machine, &mut tracer, *event, *times, style, &mut text)?;
-    }
-    Ok(text)
+    traced_with(rt, file, processors, strict, events, style, false)
 }
 
 /// The lines of a run, in a style.
@@ -138,4 +165,18 @@ pub(crate) fn lines_in(rt: &impl AllocGlobal, run: &Run, style: &Style) -> Resul
 /// The lines of a run.
 pub(crate) fn lines_of(rt: &impl AllocGlobal, run: &Run) -> Result<String, Fail> {
     lines_in(rt, run, &Style::plain(rt.alloc()))
+}
+
+/// The same with what its Steps load.
+pub(crate) fn loads_of(rt: &impl AllocGlobal, run: &Run) -> Result<String, Fail> {
+    let file = file_from(rt.alloc(), ENTRY, ENTRY, run.words)?;
+    traced_with(
+        rt,
+        file.as_slice(),
+        run.processors,
+        run.strict,
+        run.events,
+        &Style::plain(rt.alloc()),
+        true,
+    )
 }

@@ -27,6 +27,7 @@ filter_of task file = record {
   count = task.count;
   only = task.only;
   outcomes = task.outcomes;
+  loads = task.loads;
 }
 
 -- whether an event has a line
@@ -35,7 +36,7 @@ has_line w = is_wanted w.from w.count w.only w.outcomes
 
 -- the lines that are asked for, of events from a state on, the first of which has this number
 abbrev pub lines_from : LineFilter → ℕ → State → List Entry → List (List ℕ)
-lines_from w number s entries = traced w.style (has_line w) number s entries
+lines_from w number s entries = traced w.style w.loads (has_line w) number s entries
 
 -- bytes are put behind those that are kept back, and some of all are written
 abbrev pub PutsOut :

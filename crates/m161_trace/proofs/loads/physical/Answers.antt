@@ -1,7 +1,7 @@
 use Rattle.std.proofs.Common.{◌≡◌, ◌∙◌, ap, subst, arith, slice_get, Some}
 use Rattle.m161_machine.specs.State.{processor_at}
-use Rattle.m161_replay.proofs.Loading.{through_none, through_some}
-use Rattle.m161_replay.proofs.loads.physical.Goals as goal
+use Rattle.m161_trace.proofs.Loading.{through_none, through_some}
+use Rattle.m161_trace.proofs.loads.physical.Goals as goal
 
 pub returns-in-Some : goal.returns-in-Some
 returns-in-Some g c = λ r load reached.

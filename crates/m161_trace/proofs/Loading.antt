@@ -25,8 +25,8 @@ use Rattle.m161_cpu.specs.UsesLaw.{AccessesBy, ExecutesBy, FetchesBy, RefersBy, 
 use Rattle.m161_cpu.specs.helpers.Uses.{address_by, reference_by, reference_by_some}
 use Rattle.m161_machine.specs.State.{State, processor_at, step_result}
 use Rattle.m161_machine.specs.Uses.{uses_in}
-use Rattle.m161_replay.specs.Seen.{loaded_by, word_around}
-use Rattle.m161_replay.specs.helpers.Loads.{IsLoadFrom, IsReached, Locates, Reaches}
+use Rattle.m161_trace.specs.Loads.{loads_from}
+use Rattle.m161_trace.specs.helpers.Loads.{IsLoadFrom, IsReached, Locates, Reaches}
 
 -- The load of a Step that ran.
 
@@ -178,8 +178,7 @@ unfolding reference_by
 word_refers p word i row numbers =
     ap (reference_by_some p i) row ∙ referred p word i (row_that_fits word) numbers
 
-pub load_found : (p : Processor) (r : Reference) (address : ℕ) (via : Option Via) (size at : ℕ) (found : Option ℕ) (reached : IsReached p r via) → IsLoadFrom address r →
-    ◌≡◌ {A = Option ℕ} (Some at) (Some reached.at) → found ≡ word_around size at → found ≡ loaded_by size p r
-load_found p r address via size at found reached load same is =
-    let here : at ≡ reached.at = cc in
-    is ∙ ap (word_around size) here ∙ sym (rw (load.loads, reached.address_is) refl)
+pub load_found : (p : Processor) (r : Reference) (address : ℕ) (via : Option Via) (found : Option ℕ) (reached : IsReached p r via) → IsLoadFrom address r →
+    found ≡ Some reached.at → found ≡ loads_from p r
+load_found p r address via found reached load is =
+    is ∙ sym (rw (load.loads, reached.address_is) refl)
