@@ -8,6 +8,7 @@ pub mod Shown
 pub mod Nothing
 pub mod NearEffects
 pub mod Near
+pub mod LoadsTell
 pub mod Console
 pub mod Stored
 pub mod Moved

@@ -1,4 +1,4 @@
-use Rattle.std.specs.Prelude.{◌≡◌, ◌≢◌, ◌⊎◌, ℕ, ◌-◌, ◌<◌, ◌≤◌, true, List, [], ◌∷◌, length, drop, slice_index, slice_index_or, Option, None, Some, Ok}
+use Rattle.std.specs.Prelude.{◌≡◌, ◌≢◌, ◌⊎◌, ℕ, ◌-◌, ◌*◌, ◌/◌, ◌<◌, ◌≤◌, false, true, List, [], ◌∷◌, length, drop, slice_index, slice_index_or, Option, None, Some, Ok}
 use Rattle.m161_tlb.specs.Row.{hi_word, lo_word}
 use Rattle.m161_tlb.specs.Rows.{blank_row}
 use Rattle.m161_cop0.specs.declared.register.Register.{Register}
@@ -7,8 +7,15 @@ use Rattle.m161_bus.specs.Board.{IsShown, shown_word, start_words}
 use Rattle.m161_cpu.specs.declared.processor.Outcome.{Outcome}
 use Rattle.m161_cpu.specs.declared.processor.Outcome.TheVariants as outcomes
 use Rattle.m161_cpu.specs.Processor.{Processor, started_processor}
+use Rattle.m161_cpu.specs.Translation.{is_store}
+use Rattle.m161_cpu.specs.Uses.{Reference, reference_in}
+use Rattle.m161_cpu.specs.UsesLaw.{address_of}
+use Rattle.m161_isa.specs.Instr.{rt_of}
+use Rattle.m161_machine.specs.Fetched.{fetched}
 use Rattle.m161_machine.specs.declared.event.Event.TheVariants.{Step}
 use Rattle.m161_machine.specs.State.{State, next, processor_at, word_in}
+use Rattle.m161_trace.specs.declared.loads.Load.{Load}
+use Rattle.m161_trace.specs.Loads.{load_of}
 use Rattle.m161_trace.specs.Items.{Item, doing, register, hi, lo, control, row, stored, linked, unlinked, latched, waiting, board, trapped, idle, off, conflict, starts, control_word, items, shown_registers}
 
 -- The law of the items: they tell all that a Step changed.
@@ -117,3 +124,31 @@ abbrev pub ItemsTell : Type 0
 ItemsTell =
     (p : ℕ) (s : State) (o : Outcome) (t : State) → next s (Step p) ≡ Ok (o, t)
     → Tells p s o t (items p s o t)
+
+-- What the load on the line of a Step of processor p tells, which ran and fetched this word, whose
+-- instruction loads by this reference. The reference has a physical address; if that is in a word of
+-- RAM, the line has this word, as it was before the Step; if it is in none, it is that of a slot, and
+-- the line has what a register got, if that isn't register 0.
+pub record TellsLoad (p : ℕ) (s t : State) (word : ℕ) (r : Reference) : Type 0 where
+  pub at : ℕ
+  pub address_is : address_of (processor_at p s.processors) r ≡ Ok at
+  pub of_ram : (loaded : ℕ) → word_in s.memory (at / 4 * 4) ≡ Some loaded
+      → load_of p s outcomes.Ran t ≡ Some (record { at = at / 4 * 4; word = loaded })
+  pub of_slot : word_in s.memory (at / 4 * 4) ≡ None → 1 ≤ rt_of word
+      → load_of p s outcomes.Ran t ≡ Some (record {
+        at = at / 4 * 4;
+        word = slice_index (processor_at p t.processors).registers (rt_of word);
+      })
+
+-- the law of the loads: each is told, and nothing else is
+pub record LoadsTell : Type 0 where
+  pub told : (p : ℕ) (s t : State) (word : ℕ) (r : Reference)
+      → next s (Step p) ≡ Ok (outcomes.Ran, t) → fetched p s outcomes.Ran ≡ Some word
+      → reference_in (processor_at p s.processors) word ≡ Some r → is_store r.access ≡ false
+      → TellsLoad p s t word r
+  -- a Step that doesn't run tells none, nor one whose instruction doesn't load
+  pub only_ran : (p : ℕ) (s t : State) (o : Outcome) (load : Load) → load_of p s o t ≡ Some load
+      → o ≡ outcomes.Ran
+  pub only_loads : (p : ℕ) (s t : State) (load : Load) → load_of p s outcomes.Ran t ≡ Some load
+      → (word : ℕ) × (r : Reference) × (fetched p s outcomes.Ran ≡ Some word)
+      × (reference_in (processor_at p s.processors) word ≡ Some r) × (is_store r.access ≡ false)

@@ -1,6 +1,8 @@
-//! A law of the items. The function does nothing: its contract is the law.
+//! Laws of a line. The functions do nothing: their contracts are the laws.
 
-ghost use Rattle.m161_trace.specs.Law.{ItemsTell};
+ghost use Rattle.m161_trace.specs.Law.{ItemsTell, LoadsTell};
+
+use m161_cpu::uses_tell_the_step;
 
 /// The items of a Step tell what it changed: each shows its part's value after the Step, and a part
 /// without an item has the value that it had: of RAM each word but the one that was stored to, of
@@ -9,3 +11,12 @@ ghost use Rattle.m161_trace.specs.Law.{ItemsTell};
 pub fn items_tell()
     ensures { ItemsTell }
 {}
+
+/// Where loads are shown, the line of a Step that loads, and runs, has the word of RAM that has the
+/// bytes, as it was before the Step, or what a register got of a slot; no other line has one. A load
+/// of a slot to register 0 is the one that isn't told.
+pub fn loads_tell()
+    ensures { LoadsTell }
+{
+    uses_tell_the_step();
+}

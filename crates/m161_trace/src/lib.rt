@@ -40,7 +40,7 @@ mod shared;
 mod text;
 mod tracer;
 
-pub use laws::items_tell;
+pub use laws::{items_tell, loads_tell};
 pub use line::write_line;
 pub use loads::loaded;
 pub use m161_dis::{Naming, Style};
