@@ -1,4 +1,4 @@
-use Rattle.std.specs.Prelude.{◌≡◌, ◌⊎◌, ℕ, ◌+◌, Bool, if◌then◌else◌, List, Option, None, Some, Result, Ok, Err}
+use Rattle.std.specs.Prelude.{◌≡◌, ◌⊎◌, ℕ, ◌+◌, Bool, if◌then◌else◌, List, Some, Result, Ok, Err}
 use Rattle.std.specs.Str.{IsUtf8}
 use Rattle.m161_isa.specs.declared.link.LinkUnit.TheVariants.{Line, Word}
 use Rattle.m161_asm.specs.declared.error.AsmError.{AsmError}

@@ -1,9 +1,5 @@
-use Rattle.std.specs.Prelude.{◌≡◌, ◌⊎◌, ℕ, Bool, if◌then◌else◌, List, [], Option, None, Some, Result, Ok, Err}
-use Rattle.m161_cpu.specs.declared.processor.Outcome.{Outcome}
-use Rattle.m161_machine.specs.declared.event.Event.{Event}
-use Rattle.m161_machine.specs.declared.event.Refusal.{Refusal}
-use Rattle.m161_machine.specs.History.{History, Answers}
-use Rattle.m161_machine.specs.Refusal.{number_of_refusal}
+use Rattle.std.specs.Prelude.{◌≡◌, ◌⊎◌, ℕ, Bool, if◌then◌else◌, List, [], Option, None, Some}
+use Rattle.m161_machine.specs.History.{History}
 use Rattle.m161_order.specs.declared.order.Order.{Order}
 use Rattle.m161_order.specs.declared.order.OrderError.{OrderError}
 use Rattle.m161_order.specs.Order.{order_fault}
@@ -11,12 +7,9 @@ use Rattle.m161_dis.specs.declared.naming.Style.{Style}
 use Rattle.m161_dis.specs.declared.naming.Naming.TheVariants.{Names, Numbers}
 use Rattle.m161_drive.specs.declared.run.Stop.{Stop}
 use Rattle.m161_drive.specs.Policy.{Rules}
-use Rattle.m161_text.specs.Lines.{with_line_end}
-use Rattle.m161_trace.specs.Line.{event_line}
 use Rattle.m161_c.specs.declared.answer.Plan.{Plan}
 use Rattle.m161_c.specs.declared.session.Session.{Session}
 use Rattle.m161_c.specs.Driven.{TracesOn, number_of_order, number_of_stop, order_in, rules_in}
-use Rattle.m161_c.specs.Runs.{event_of}
 
 -- Events with their lines, which become the session's bytes.
 
