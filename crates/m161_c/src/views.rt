@@ -1,13 +1,14 @@
 //! The views of a session's machine, and its log's text.
 
 ghost use Rattle.std.specs.Prelude.{◌≡◌, ◌<◌, None, Some, IfOk, length, string_bytes};
-ghost use Rattle.m161_c.specs.Runs.{HoldsOf};
-ghost use Rattle.m161_c.specs.Shown.{board_of, board_with, control_of, cop_of, log_of, row_of, words_of};
+ghost use Rattle.m161_c.specs.Runs.{HoldsOf, told_of};
+ghost use Rattle.m161_c.specs.Shown.{board_of, board_with, clash_in, clash_of, control_of, cop_of, entries_of, entry_of, link_of, log_of, logged_with, row_of, words_of};
 
-use crate::answer::{Board, RowWords};
+use crate::answer::{Board, Clash, Logged, RowWords};
 use crate::session::Session;
+use crate::shown::told_of;
 use crate::{NO_MEMORY, NOTHING};
-use m161::{Machine, Reg, Register};
+use m161::{BoardWord, Conflict, Entry, Event, Machine, Reg, Register};
 use m161_steplog::{Mode, write_log, write_tail};
 use std::alloc::{AllocError, Global};
 
@@ -35,8 +36,8 @@ fn words_of(machine: &Machine, p: u32, i: u8) -> RowWords
     }
 }
 
-fn board_with(off: bool, latch: Option<u8>, waiting: u32) -> Board
-    ensures { result ≡ board_with off latch waiting }
+fn board_with(off: bool, latch: Option<u8>, waiting: u32, started: u32) -> Board
+    ensures { result ≡ board_with off latch waiting started }
 {
     match latch {
         None => Board {
@@ -44,12 +45,51 @@ fn board_with(off: bool, latch: Option<u8>, waiting: u32) -> Board
             sending: false,
             latch: 0,
             waiting,
+            started,
         },
         Some(byte) => Board {
             off,
             sending: true,
             latch: byte,
             waiting,
+            started,
+        },
+    }
+}
+
+fn clash_in(conflict: Option<Conflict>) -> Option<Clash>
+    ensures { result ≡ clash_in conflict }
+{
+    match conflict {
+        Some(conflict) => Some(Clash {
+            processor: conflict.processor,
+            row: u32::from(conflict.row),
+            other: u32::from(conflict.other),
+        }),
+        None => None,
+    }
+}
+
+// An entry of a log as numbers.
+fn logged(entry: Entry) -> Logged
+    ensures { result ≡ logged_with entry.event (told_of entry.outcome) }
+{
+    let told = told_of(entry.outcome);
+    match entry.event {
+        Event::Step(p) => Logged {
+            kind: 0,
+            value: p,
+            told,
+        },
+        Event::Key(byte) => Logged {
+            kind: 1,
+            value: u32::from(byte),
+            told,
+        },
+        Event::Done => Logged {
+            kind: 2,
+            value: 0,
+            told,
         },
     }
 }
@@ -102,8 +142,60 @@ impl Session {
         ensures { result ≡ board_of self.now.machine }
     {
         match &self.machine {
-            Some(machine) => Some(board_with(machine.is_off(), machine.latch(), machine.waiting())),
+            Some(machine) => {
+                let started = machine.board_word(BoardWord::Cpue);
+                Some(board_with(
+                    machine.is_off(),
+                    machine.latch(),
+                    machine.waiting(),
+                    started,
+                ))
+            }
             None => None,
+        }
+    }
+
+    pub(crate) fn link(&self, p: u32) -> Option<u32>
+        ensures { result ≡ link_of self.now.machine p }
+    {
+        let Some(machine) = &self.machine else {
+            return None;
+        };
+        if p < machine.processors() {
+            machine.link(p)
+        } else {
+            None
+        }
+    }
+
+    pub(crate) fn clash(&self) -> Option<Clash>
+        ensures { result ≡ clash_of self.now.machine }
+    {
+        match &self.machine {
+            Some(machine) => clash_in(machine.conflict()),
+            None => None,
+        }
+    }
+
+    pub(crate) fn entries(&self) -> usize
+        ensures { result ≡ entries_of self.now.machine }
+    {
+        match &self.machine {
+            Some(machine) => machine.log_len(),
+            None => 0,
+        }
+    }
+
+    pub(crate) fn entry(&self, i: usize) -> Option<Logged>
+        ensures { result ≡ entry_of self.now.machine i }
+    {
+        let Some(machine) = &self.machine else {
+            return None;
+        };
+        if i < machine.log_len() {
+            Some(logged(machine.log_at(i)))
+        } else {
+            None
         }
     }
 
