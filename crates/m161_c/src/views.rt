@@ -2,9 +2,11 @@
 
 ghost use Rattle.std.specs.Prelude.{◌≡◌, ◌<◌, None, Some, IfOk, length, string_bytes};
 ghost use Rattle.m161_c.specs.Runs.{HoldsOf, told_of};
+ghost use Rattle.m161_c.specs.Search.{SearchesOf};
 ghost use Rattle.m161_c.specs.Shown.{board_of, board_with, clash_in, clash_of, control_of, cop_of, entries_of, entry_of, link_of, log_of, logged_with, row_of, words_of};
 
-use crate::answer::{Board, Clash, Logged, RowWords};
+use crate::answer::{Board, Clash, Goal, Logged, Plan, RowWords};
+use crate::search::search;
 use crate::session::Session;
 use crate::shown::told_of;
 use crate::{NO_MEMORY, NOTHING};
@@ -152,6 +154,23 @@ impl Session {
                 ))
             }
             None => None,
+        }
+    }
+
+    pub(crate) fn search(
+        &self,
+        alloc: Global,
+        plan: &Plan,
+        keys: &[u8],
+        n: u64,
+        count: u64,
+        goal: &Goal,
+    ) -> (u64, u8)
+        ensures { SearchesOf self.now.machine plan.now keys.now n count goal.now result.0 result.1 }
+    {
+        match &self.machine {
+            Some(machine) => search(alloc, machine.core(), plan, keys, n, count, goal),
+            None => (0, NOTHING),
         }
     }
 
