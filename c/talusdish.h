@@ -6,6 +6,7 @@
  *     n = talusdish_read(&slot, 0, file, sizeof file);         which is read from it
  *     talusdish_boot(&slot, file, n, &conf);                   its machine is booted from it
  *     talusdish_steps(&slot, 0, 1000, &made);                  and makes Steps
+ *     talusdish_word(&slot, 0x1000, &word);                    whose work is seen
  *     talusdish_close(&slot);
  *
  * Who owns what. The caller owns the slot and every buffer; a call keeps no pointer to any of them behind its
@@ -49,7 +50,7 @@ typedef struct {
     uint32_t ram;        /* bytes of RAM: 4,096 to 16,777,216, a multiple of 4,096 */
     uint32_t processors; /* 1 to 32 */
     uint32_t log;        /* entries of the log: 1 to 16,777,216 */
-    bool line;           /* whether ll links to a line of 64 bytes in place of a word */
+    bool line;           /* whether ll links to a line, the aligned 16 bytes, in place of a word */
     bool strict;         /* whether the machine stops where a row of a TLB would overlap another one */
 } talusdish_size;
 
@@ -65,12 +66,32 @@ typedef struct {
     bool gaps;         /* without: a key is typed only where no processor is ready */
 } talusdish_plan;
 
+/* How a run of a search has to end: the machine off, and with this word in RAM. */
+typedef struct {
+    uint32_t address; /* the physical address of the word in bytes, a multiple of 4; where there is no word, no run ends right */
+    uint32_t word;
+} talusdish_goal;
+
 /* An event's outcome. */
 typedef struct {
     uint32_t kind;   /* TALUSDISH_RAN to TALUSDISH_TAKEN */
     uint32_t first;  /* trapped: the code, as in Cause; conflict: the row, 0 to 63 */
     uint32_t second; /* trapped: the vector's address; conflict: the other row */
 } talusdish_told;
+
+/* An entry of the log: an event that was made, and its outcome. */
+typedef struct {
+    uint32_t kind;  /* TALUSDISH_STEP, TALUSDISH_KEY or TALUSDISH_DONE */
+    uint32_t value; /* the processor, the key (0 to 255), or 0 */
+    talusdish_told told;
+} talusdish_logged;
+
+/* What switched a strict machine off. */
+typedef struct {
+    uint32_t processor; /* which was to write a row of its TLB */
+    uint32_t row;       /* that row, 0 to 63, which stays as it was */
+    uint32_t other;     /* the lowest other row that it would have overlapped */
+} talusdish_clash;
 
 /* A processor. */
 typedef struct {
@@ -95,6 +116,7 @@ typedef struct {
     bool sending;     /* whether the console is sending a byte */
     uint8_t latch;    /* that byte, or 0 */
     uint32_t waiting; /* how many typed bytes wait: 0 to 256 */
+    uint32_t started; /* bit c is set if processor c was started; processor 0 is from the boot on */
 } talusdish_board_view;
 
 enum { TALUSDISH_TURNS = 0, TALUSDISH_RANDOM = 1, TALUSDISH_PRIORITIES = 2 };
@@ -127,6 +149,8 @@ enum {
     TALUSDISH_NO_TURN = 18,
     TALUSDISH_NO_STRETCH = 19,
     TALUSDISH_TOO_MANY_CHANGES = 20,
+    /* of a search */
+    TALUSDISH_ALL_RIGHT = 21, /* each run ends right */
     /* of any call */
     TALUSDISH_BAD = 253,       /* a text isn't UTF-8, or a number means nothing */
     TALUSDISH_NO_MEMORY = 254, /* memory was refused */
@@ -157,6 +181,11 @@ uint8_t talusdish_boot(talusdish_slot *slot, const uint8_t *file, size_t size, c
  * outcome is told; BAD where the numbers mean no event; or why it is refused (1 to 8). Nothing is changed or told then. */
 uint8_t talusdish_event(talusdish_slot *slot, uint8_t kind, uint32_t value, talusdish_told *told);
 
+/* The same of a Step of processor `p`, of a typed byte, and of the end of the console's transfer. */
+uint8_t talusdish_step(talusdish_slot *slot, uint32_t p, talusdish_told *told);
+uint8_t talusdish_key(talusdish_slot *slot, uint8_t byte, talusdish_told *told);
+uint8_t talusdish_done(talusdish_slot *slot, talusdish_told *told);
+
 /* Makes Steps of processor `p` until `n` are made, which is answered by 0, or one is refused (1, 2 or 8). `made` is how many
  * were. As many calls of talusdish_event in less time. */
 uint8_t talusdish_steps(talusdish_slot *slot, uint32_t p, uint32_t n, uint32_t *made);
@@ -171,6 +200,15 @@ uint8_t talusdish_drive(talusdish_slot *slot, const talusdish_plan *plan, const 
  * `s161 trace`, numbered from the events of the machine. With `names` registers are shown by their names. Works on a copy of
  * the machine; where memory is refused (NO_MEMORY), no event is made. */
 uint8_t talusdish_trace(talusdish_slot *slot, const talusdish_plan *plan, const uint8_t *keys, size_t size, bool names, uint64_t n, uint64_t *made);
+
+/* Looks for a run that ends wrong. The runs are those that the plan chooses with `count` seeds, its own and those behind it
+ * (modulo 2^64), each of at most `n` events from the machine as it is, with `size` bytes of keys. Each is made on a copy, in
+ * this order, up to the first that doesn't end right; the session stays as it is. 0 where one ends wrong; ALL_RIGHT where
+ * none does; NO_TURN to TOO_MANY_CHANGES, BAD or NO_MEMORY where one isn't made. `right` is how many end right before it:
+ * the wrong run is that of the seed `plan->seed + right`, and talusdish_drive or talusdish_trace with that seed makes it. A
+ * copy takes the machine's RAM once. */
+uint8_t talusdish_search(talusdish_slot *slot, const talusdish_plan *plan, const uint8_t *keys, size_t size, uint64_t n, uint64_t count,
+                         const talusdish_goal *goal, uint64_t *right);
 
 /* Shows a processor. False where there is no such one: nothing is told then. */
 bool talusdish_processor(talusdish_slot *slot, uint32_t p, talusdish_shown *shown);
@@ -197,12 +235,26 @@ bool talusdish_cop(talusdish_slot *slot, uint32_t p, uint32_t number, uint32_t *
 /* A row, 0 to 63, of a processor's TLB. False where there is no such processor or row: nothing is told then. */
 bool talusdish_row(talusdish_slot *slot, uint32_t p, uint32_t i, talusdish_row_words *words);
 
-/* Whether the machine is off, and its console. False with no machine: nothing is told then. */
+/* The physical address of the first byte of the word, or of the line, that a processor's link of ll is to. False where there
+ * is no such processor, or its link isn't live: nothing is told then. */
+bool talusdish_link(talusdish_slot *slot, uint32_t p, uint32_t *at);
+
+/* What switched a strict machine off. False where nothing did: nothing is told then. */
+bool talusdish_conflict(talusdish_slot *slot, talusdish_clash *clash);
+
+/* Whether the machine is off, its console, and which processors were started. False with no machine: nothing is told then. */
 bool talusdish_board(talusdish_slot *slot, talusdish_board_view *board);
 
 /* The text of the machine's log becomes the session's bytes: its last entries, as many as it has room for, without the machine
  * line; `m161 tail ..` in its first line says how many came before them. 0 or NO_MEMORY. */
 uint8_t talusdish_log(talusdish_slot *slot);
+
+/* How many entries the log keeps: all events of the machine, or the last ones, as many as it has room for. 0 with no machine. */
+size_t talusdish_entries(talusdish_slot *slot);
+
+/* An entry of the log by its number, from 0, the oldest one that is kept. False where there is no such entry: nothing is told
+ * then. */
+bool talusdish_entry(talusdish_slot *slot, size_t i, talusdish_logged *entry);
 
 /* Copies the session, its machine and its bytes, into the slot `to`, which is another one; what that held is freed then. 0; or
  * NO_MEMORY or NOTHING (`slot` is empty), and `to` is as it was. */

@@ -1,5 +1,5 @@
 /* Each call of talusdish.h: what it answers and tells, on empty slots too. Prints a line for each check that fails, and last
- * `N passed, M failed`. The first argument is the repository's folder. */
+ * `N passed, M failed`. */
 #include "talusdish.h"
 
 #include <stdio.h>
@@ -106,12 +106,23 @@ static void on_empty(talusdish_slot *slot) {
     CHECK(talusdish_read(slot, 0, &byte, 1) == 0 && byte == 3);
     CHECK(!talusdish_word(slot, 0, &word) && word == 5);
     talusdish_row_words row = {1, 2};
-    talusdish_board_view board = {true, true, 9, 9};
+    talusdish_board_view board = {true, true, 9, 9, 9};
     talusdish_slot to = {0};
     CHECK(!talusdish_cop(slot, 0, 12, &word) && word == 5);
     CHECK(!talusdish_row(slot, 0, 0, &row) && row.high == 1 && row.low == 2);
     CHECK(!talusdish_board(slot, &board) && board.latch == 9);
     CHECK(talusdish_log(slot) == TALUSDISH_NOTHING);
+    talusdish_goal goal = {0, 0};
+    talusdish_clash clash = {7, 8, 9};
+    talusdish_logged entry = {7, 8, {9, 9, 9}};
+    made = 5;
+    CHECK(talusdish_step(slot, 0, &told) == TALUSDISH_NOTHING && talusdish_key(slot, 1, &told) == TALUSDISH_NOTHING);
+    CHECK(talusdish_done(slot, &told) == TALUSDISH_NOTHING);
+    CHECK(talusdish_search(slot, &turns, &byte, 0, 10, 10, &goal, &made) == TALUSDISH_NOTHING && made == 0);
+    CHECK(!talusdish_link(slot, 0, &word) && word == 5);
+    CHECK(!talusdish_conflict(slot, &clash) && clash.processor == 7 && clash.row == 8 && clash.other == 9);
+    CHECK(talusdish_entries(slot) == 0);
+    CHECK(!talusdish_entry(slot, 0, &entry) && entry.kind == 7 && entry.value == 8 && entry.told.kind == 9);
     CHECK(talusdish_copy(slot, &to) == TALUSDISH_NOTHING && !to.full && !to.at);
     CHECK(fault.line == 7 && fault.column == 9 && told.kind == 1 && told.first == 2 && told.second == 3);
     CHECK(slot->at == NULL && !slot->full);
@@ -190,6 +201,109 @@ static void events(void) {
     talusdish_close(&slot);
 }
 
+/* Steps, keys and ends of transfers by their own calls; the entries of the log. */
+static void single_events(void) {
+    static const char *text = " lui $8, 0xbfe0\n ori $9, $0, 65\n sw $9, 0($8)\n syscall\n nop\n";
+    talusdish_slot slot = {0};
+    talusdish_told told = {9, 9, 9};
+    talusdish_logged entry = {7, 8, {9, 9, 9}};
+    talusdish_size conf = small;
+    conf.log = 4;
+    CHECK(talusdish_open(&slot));
+    CHECK(talusdish_step(&slot, 0, &told) == TALUSDISH_NOTHING && told.kind == 9);
+    CHECK(boot(&slot, text, conf) == 0);
+    CHECK(talusdish_entries(&slot) == 0 && !talusdish_entry(&slot, 0, &entry) && entry.kind == 7);
+    CHECK(talusdish_step(&slot, 1, &told) == TALUSDISH_BAD_PROCESSOR && told.kind == 9);
+    CHECK(talusdish_done(&slot, &told) == TALUSDISH_NOTHING_SENT && told.kind == 9);
+    CHECK(talusdish_step(&slot, 0, &told) == 0 && told.kind == TALUSDISH_RAN);
+    CHECK(talusdish_key(&slot, 200, &told) == 0 && told.kind == TALUSDISH_TAKEN);
+    CHECK(talusdish_step(&slot, 0, &told) == 0 && talusdish_step(&slot, 0, &told) == 0);
+    CHECK(talusdish_entries(&slot) == 4);
+    CHECK(talusdish_entry(&slot, 0, &entry) && entry.kind == TALUSDISH_STEP && entry.value == 0 && entry.told.kind == TALUSDISH_RAN);
+    CHECK(talusdish_entry(&slot, 1, &entry) && entry.kind == TALUSDISH_KEY && entry.value == 200 && entry.told.kind == TALUSDISH_TAKEN);
+    CHECK(talusdish_done(&slot, &told) == 0 && told.kind == TALUSDISH_TAKEN);
+    CHECK(talusdish_output(&slot) == 0 && has_bytes(&slot, "A"));
+    CHECK(talusdish_step(&slot, 0, &told) == 0 && told.kind == TALUSDISH_TRAPPED && told.first == 8 && told.second == 0x80000080);
+    /* the log keeps the last four */
+    CHECK(talusdish_entries(&slot) == 4 && talusdish_made(&slot) == 6);
+    CHECK(talusdish_entry(&slot, 2, &entry) && entry.kind == TALUSDISH_DONE && entry.value == 0 && entry.told.kind == TALUSDISH_TAKEN);
+    CHECK(talusdish_entry(&slot, 3, &entry) && entry.told.kind == TALUSDISH_TRAPPED && entry.told.first == 8 && entry.told.second == 0x80000080);
+    entry.kind = 7;
+    CHECK(!talusdish_entry(&slot, 4, &entry) && !talusdish_entry(&slot, SIZE_MAX, &entry) && entry.kind == 7);
+    talusdish_close(&slot);
+}
+
+/* Two processors add one to the word at 1000 by a load and a store; the second looks, and switches off if it is 2. */
+static const char *race =
+    " lui $8, 0xbfff\n ori $8, $8, 0x8000\n lui $9, 0x8000\n ori $9, $9, 0x021c\n sw $9, 1792($8)\n ori $9, $0, 3\n sw $9, -492($8)\n"
+    "both: lui $8, 0xbfff\n ori $8, $8, 0x8000\n lui $11, 0x8000\n lw $12, 4096($11)\n addiu $12, $12, 1\n sw $12, 4096($11)\n"
+    "over: ll $12, 4160($11)\n addiu $13, $12, 1\n sc $13, 4160($11)\n beq $13, $0, over\n nop\n beq $12, $0, rest\n nop\n"
+    " lw $12, 4096($11)\n addiu $12, $12, -2\n bne $12, $0, rest\n nop\n sw $0, -504($8)\nrest: wait\n beq $0, $0, rest\n nop\n";
+
+static void searches(void) {
+    talusdish_slot slot = {0}, other = {0};
+    talusdish_goal goal = {0x1000, 2};
+    talusdish_plan plan = {TALUSDISH_RANDOM, 0, 0, 0, 0, 100, 0, false};
+    talusdish_size two = {65536, 2, 16, false, false};
+    talusdish_board_view board;
+    uint64_t right = 9, made;
+    uint32_t word;
+    const uint8_t *none = (const uint8_t *)"";
+    CHECK(talusdish_open(&slot));
+    CHECK(boot(&slot, race, two) == 0);
+    CHECK(talusdish_search(&slot, &plan, none, 0, 10000, 100, &goal, &right) == 0);
+    CHECK(talusdish_made(&slot) == 0);
+    /* the runs of the seeds before it end right, and its own doesn't */
+    for (uint64_t k = 0; k <= right; k++) {
+        talusdish_plan one = plan;
+        one.seed = k;
+        CHECK(talusdish_copy(&slot, &other) == 0);
+        uint8_t answer = talusdish_drive(&other, &one, none, 0, 10000, &made);
+        CHECK(talusdish_word(&other, 0x1000, &word));
+        CHECK((answer == TALUSDISH_RUN_OFF && word == 2) == (k < right));
+    }
+    CHECK(talusdish_search(&slot, &plan, none, 0, 10000, right, &goal, &made) == TALUSDISH_ALL_RIGHT && made == right);
+    plan.seed = UINT64_MAX;
+    CHECK(talusdish_search(&slot, &plan, none, 0, 10000, 0, &goal, &made) == TALUSDISH_ALL_RIGHT && made == 0);
+    plan.seed = right;
+    CHECK(talusdish_search(&slot, &plan, none, 0, 10000, 5, &goal, &made) == 0 && made == 0);
+    goal.address = 65536;
+    CHECK(talusdish_search(&slot, &turns, none, 0, 10000, 5, &goal, &made) == 0 && made == 0);
+    plan.kind = 9;
+    CHECK(talusdish_search(&slot, &plan, none, 0, 10, 5, &goal, &made) == TALUSDISH_BAD && made == 0);
+    plan.kind = TALUSDISH_PRIORITIES;
+    CHECK(talusdish_search(&slot, &plan, none, 0, 10, 5, &goal, &made) == TALUSDISH_NO_STRETCH && made == 0);
+    CHECK(talusdish_board(&slot, &board) && board.started == 1);
+    CHECK(talusdish_board(&other, &board) && board.started == 3);
+    talusdish_close(&other);
+    talusdish_close(&slot);
+}
+
+/* Links of ll, and a strict machine that stops at a row of the TLB that would overlap another one. */
+static void links_and_conflicts(void) {
+    static const char *text =
+        " lui $8, 0x8000\n ll $9, 0x1004($8)\n lui $10, 0x0040\n mtc0 $10, $10\n ori $11, $0, 0x0300\n mtc0 $11, $0\n tlbwi\n"
+        " ori $11, $0, 0x0500\n mtc0 $11, $0\n sw $0, 0x1004($8)\n tlbwi\n nop\n";
+    talusdish_slot slot = {0};
+    talusdish_told told;
+    talusdish_clash clash = {7, 8, 9};
+    uint32_t at = 5, made;
+    talusdish_size conf = small;
+    conf.strict = true;
+    CHECK(talusdish_open(&slot));
+    CHECK(boot(&slot, text, conf) == 0);
+    CHECK(!talusdish_link(&slot, 0, &at) && at == 5);
+    CHECK(talusdish_steps(&slot, 0, 2, &made) == 0 && talusdish_link(&slot, 0, &at) && at == 0x1004);
+    at = 5;
+    CHECK(!talusdish_link(&slot, 1, &at) && !talusdish_link(&slot, UINT32_MAX, &at) && at == 5);
+    CHECK(talusdish_steps(&slot, 0, 8, &made) == 0 && made == 8 && !talusdish_link(&slot, 0, &at) && at == 5);
+    CHECK(!talusdish_conflict(&slot, &clash) && clash.row == 8);
+    CHECK(talusdish_step(&slot, 0, &told) == 0 && told.kind == TALUSDISH_CONFLICT && told.first == 5 && told.second == 3);
+    CHECK(talusdish_conflict(&slot, &clash) && clash.processor == 0 && clash.row == 5 && clash.other == 3);
+    CHECK(talusdish_step(&slot, 0, &told) == TALUSDISH_OFF);
+    talusdish_close(&slot);
+}
+
 static void runs(void) {
     talusdish_slot slot = {0};
     talusdish_told told;
@@ -250,7 +364,7 @@ static void traces(void) {
     CHECK(talusdish_trace(&slot, &turns, (const uint8_t *)"", 0, false, 2, &made) == 0 && made == 2);
     CHECK(has_bytes(&slot, "0 0 80000200 24080005 addiu $8, $0, 5  r8=00000005\n1 0 80000204 25090007 addiu $9, $8, 7  r9=0000000c\n"));
     CHECK(talusdish_trace(&slot, &turns, (const uint8_t *)"", 0, true, 1, &made) == 0 && made == 1);
-    CHECK(has_bytes(&slot, "2 0 80000208 3c0a8000 lui $t2, 32768  t2=80000000\n"));
+    CHECK(has_bytes(&slot, "2 0 80000208 3c0a8000 lui $t2, 0x8000  t2=80000000\n"));
     talusdish_plan none = turns;
     none.turns = 0;
     CHECK(talusdish_trace(&slot, &none, (const uint8_t *)"", 0, true, 1, &made) == TALUSDISH_NO_TURN && made == 0);
@@ -320,6 +434,9 @@ int main(void) {
     on_empty(&slot);
     faults();
     events();
+    single_events();
+    searches();
+    links_and_conflicts();
     runs();
     traces();
     views();

@@ -102,6 +102,9 @@ static uint64_t whole(long at) {
     note(made);
     AGAIN(254, talusdish_output(&slot));
     AGAIN(254, talusdish_log(&slot));
+    talusdish_goal goal = {0x1000, 0};
+    AGAIN(254, talusdish_search(&slot, &plan, (const uint8_t *)"", 0, 100, 3, &goal, &made));
+    note(made);
     talusdish_slot copy = {0};
     AGAIN(254, talusdish_copy(&slot, &copy));
     note(seen(&copy) == seen(&slot));
