@@ -15,12 +15,15 @@ from ._errors import (
     NotExecutable, NothingSent, NotMips, NoTurn, Off, PlanError, Refusal, SegmentOutsideFile, SegmentOutsideRam, TalusdishError,
     TooManyChanges, Truncated, Worn,
 )
-from ._machine import Console, Doing, Image, Kind, Machine, Memory, Outcome, Processor, Processors, Run, Stop, assemble
-from ._orders import Order, Priorities, Random, Turns
+from ._machine import (
+    Conflict, Console, Doing, Entries, Entry, Event, Image, Kind, Machine, Memory, Outcome, Processor, Processors, Run, Stop, assemble,
+)
+from ._orders import Order, Priorities, Random, Seeded, Turns
 
 __all__ = [
-    "AssemblyError", "BadConf", "BadEntry", "BadHeaderTable", "BadProcessor", "BootError", "Console", "Doing", "FileLargerThanMemory", "Image",
+    "AssemblyError", "BadConf", "BadEntry", "BadHeaderTable", "BadProcessor", "BootError", "Conflict", "Console", "Doing", "Entries", "Entry",
+    "Event", "FileLargerThanMemory", "Image",
     "KeyFull", "Kind", "Machine", "Memory", "NoStretch", "NoTurn", "NotElf32Big", "NotExecutable", "NotMips", "NothingSent", "Off",
-    "Order", "Outcome", "PlanError", "Priorities", "Processor", "Processors", "Random", "Refusal", "Run", "SegmentOutsideFile",
+    "Order", "Outcome", "PlanError", "Priorities", "Processor", "Processors", "Random", "Refusal", "Run", "Seeded", "SegmentOutsideFile",
     "SegmentOutsideRam", "Stop", "TalusdishError", "TooManyChanges", "Truncated", "Turns", "Worn", "assemble",
 ]

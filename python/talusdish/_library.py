@@ -8,8 +8,7 @@ from pathlib import Path
 from typing import Any
 
 OK, NOTHING, NO_MEMORY, BAD = 0, 255, 254, 253
-RUN_OFF, RUN_STUCK = 16, 17
-STEP, KEY, DONE = 0, 1, 2
+RUN_OFF, RUN_STUCK, ALL_RIGHT = 16, 17, 21
 
 
 class Slot(c.Structure):
@@ -31,8 +30,20 @@ class Plan(c.Structure):
     ]
 
 
+class Goal(c.Structure):
+    _fields_ = [("address", c.c_uint32), ("word", c.c_uint32)]
+
+
 class Told(c.Structure):
     _fields_ = [("kind", c.c_uint32), ("first", c.c_uint32), ("second", c.c_uint32)]
+
+
+class Logged(c.Structure):
+    _fields_ = [("kind", c.c_uint32), ("value", c.c_uint32), ("told", Told)]
+
+
+class Clash(c.Structure):
+    _fields_ = [("processor", c.c_uint32), ("row", c.c_uint32), ("other", c.c_uint32)]
 
 
 class Shown(c.Structure):
@@ -47,7 +58,7 @@ class RowWords(c.Structure):
 
 
 class BoardView(c.Structure):
-    _fields_ = [("off", c.c_bool), ("sending", c.c_bool), ("latch", c.c_uint8), ("waiting", c.c_uint32)]
+    _fields_ = [("off", c.c_bool), ("sending", c.c_bool), ("latch", c.c_uint8), ("waiting", c.c_uint32), ("started", c.c_uint32)]
 
 
 def _path() -> str:
@@ -71,9 +82,13 @@ def _load() -> Any:
         "assemble": (u8, slot, c.c_char_p, size, c.c_bool, point(Fault)),
         "boot": (u8, slot, c.c_char_p, size, point(Size)),
         "event": (u8, slot, u8, u32, point(Told)),
+        "step": (u8, slot, u32, point(Told)),
+        "key": (u8, slot, u8, point(Told)),
+        "done": (u8, slot, point(Told)),
         "steps": (u8, slot, u32, u32, point(u32)),
         "drive": (u8, slot, point(Plan), c.c_char_p, size, u64, point(u64)),
         "trace": (u8, slot, point(Plan), c.c_char_p, size, c.c_bool, u64, point(u64)),
+        "search": (u8, slot, point(Plan), c.c_char_p, size, u64, u64, point(Goal), point(u64)),
         "processor": (c.c_bool, slot, u32, point(Shown)),
         "made": (u64, slot),
         "output": (u8, slot),
@@ -82,6 +97,10 @@ def _load() -> Any:
         "cop": (c.c_bool, slot, u32, u32, point(u32)),
         "row": (c.c_bool, slot, u32, u32, point(RowWords)),
         "board": (c.c_bool, slot, point(BoardView)),
+        "link": (c.c_bool, slot, u32, point(u32)),
+        "conflict": (c.c_bool, slot, point(Clash)),
+        "entries": (size, slot),
+        "entry": (c.c_bool, slot, size, point(Logged)),
         "log": (u8, slot),
         "copy": (u8, slot, slot),
         "word": (c.c_bool, slot, u32, point(u32)),

@@ -6,13 +6,15 @@ import ctypes as c
 import threading
 import weakref
 from contextlib import contextmanager
-from dataclasses import dataclass
+from dataclasses import dataclass, replace
 from enum import Enum
 from typing import Iterator, Optional, Sequence
 
 from ._errors import KINDS, PLANS, AssemblyError, BadProcessor, boot_error, refusal
-from ._library import DONE, KEY, NO_MEMORY, RUN_OFF, RUN_STUCK, STEP, BoardView, Fault, RowWords, Shown, Size, Slot, Told, lib
-from ._orders import Order, Turns, plan_of, within
+from ._library import (
+    ALL_RIGHT, NO_MEMORY, RUN_OFF, RUN_STUCK, BoardView, Clash, Fault, Goal, Logged, RowWords, Shown, Size, Slot, Told, lib,
+)
+from ._orders import Order, Turns, Seeded, plan_of, within
 
 
 class Doing(Enum):
@@ -42,6 +44,33 @@ class Outcome:
     kind: Kind
     first: int
     second: int
+
+
+class Event(Enum):
+    """The kind of an event: a Step of a processor, a typed byte, or the end of the console's transfer."""
+
+    STEP = 0
+    KEY = 1
+    DONE = 2
+
+
+@dataclass(frozen=True)
+class Entry:
+    """An entry of the log: its event with the processor or the key (0 of `DONE`), and its outcome."""
+
+    event: Event
+    value: int
+    outcome: Outcome
+
+
+@dataclass(frozen=True)
+class Conflict:
+    """What switched a strict machine off: the processor that was to write a row of its TLB, that row, which stays as it was, and
+    the lowest other row that it would have overlapped."""
+
+    processor: int
+    row: int
+    other: int
 
 
 class Stop(Enum):
@@ -78,6 +107,10 @@ def _alone(lock: threading.Lock) -> Iterator[None]:
         yield
     finally:
         lock.release()
+
+
+def _outcome(told: Told) -> Outcome:
+    return Outcome(Kind(told.kind), told.first, told.second)
 
 
 def _processor(p: int) -> int:
@@ -166,6 +199,28 @@ class Processors(Sequence[Processor]):
         )
 
 
+class Entries(Sequence[Entry]):
+    """The entries that a machine's log keeps, the oldest first: `machine.entries[-1]` is the last event."""
+
+    def __init__(self, machine: Machine) -> None:
+        self._machine = machine
+
+    def __len__(self) -> int:
+        with _alone(self._machine._lock):
+            return lib.talusdish_entries(self._machine._slot)
+
+    def __getitem__(self, i):  # type: ignore[override]
+        count = len(self)
+        if isinstance(i, slice):
+            return [self[k] for k in range(*i.indices(count))]
+        k = i + count if i < 0 else i
+        logged = Logged()
+        with _alone(self._machine._lock):
+            if not 0 <= k < count or not lib.talusdish_entry(self._machine._slot, k, logged):
+                raise IndexError(f"the log has no entry {i}")
+        return Entry(Event(logged.kind), logged.value, _outcome(logged.told))
+
+
 class Memory:
     """A machine's RAM by words: `memory[0x3010]` is the word at a physical address, a multiple of 4, in bytes."""
 
@@ -210,6 +265,7 @@ class Machine:
         weakref.finalize(self, lib.talusdish_close, slot)
         self.processors = Processors(self, cpus)
         self.memory = Memory(self, ram)
+        self.entries = Entries(self)
 
     def copy(self) -> Machine:
         """The same machine again; each goes its own way from then on. Raises MemoryError."""
@@ -223,25 +279,25 @@ class Machine:
 
     __copy__ = copy
 
-    def _event(self, kind: int, value: int) -> Outcome:
+    def _event(self, call, *value: int) -> Outcome:  # type: ignore[no-untyped-def]
         told = Told()
         with _alone(self._lock):
-            answer = lib.talusdish_event(self._slot, kind, value, told)
+            answer = call(self._slot, *value, told)
         if answer:
             raise refusal(answer)
-        return Outcome(Kind(told.kind), told.first, told.second)
+        return _outcome(told)
 
     def step(self, p: int = 0) -> Outcome:
         """Makes one Step of processor `p`. Raises BadProcessor, Off or Worn; the machine is as it was then."""
-        return self._event(STEP, _processor(p))
+        return self._event(lib.talusdish_step, _processor(p))
 
     def key(self, byte: int) -> Outcome:
         """Types a byte at the console. Raises Off, Worn or KeyFull, and ValueError for no byte."""
-        return self._event(KEY, within("byte", byte, 8))
+        return self._event(lib.talusdish_key, within("byte", byte, 8))
 
     def done(self) -> Outcome:
         """The console has sent its byte. Raises Off, Worn, NothingSent or MemoryError."""
-        return self._event(DONE, 0)
+        return self._event(lib.talusdish_done)
 
     def steps(self, n: int, p: int = 0) -> int:
         """Makes Steps of processor `p` until `n` are made, at most 2^32 - 1, or one is refused because the machine went off.
@@ -276,6 +332,27 @@ class Machine:
             text = _bytes(self._slot)
         return iter(text.decode().splitlines())
 
+    def search(
+        self, order: Seeded, address: int, word: int, count: int = 1000, events: int = 10000, keys: bytes = b"", gap: int | None = None,
+        transfer: int = 4,
+    ) -> Optional[Seeded]:
+        """Looks for a run that ends wrong: one after which the machine isn't off, or the word at a physical address isn't `word`.
+        Tries the order with `count` seeds, its own and those behind it, each from the machine as it is, which stays so. Gives the
+        first order whose run ends wrong, or None. Raises NoStretch, TooManyChanges, or MemoryError."""
+        right, plan = c.c_uint64(), plan_of(order, transfer, gap)
+        goal = Goal(within("address", address), within("word", word))
+        with _alone(self._lock):
+            answer = lib.talusdish_search(
+                self._slot, plan, keys, len(keys), within("events", events, 64), within("count", count, 64), goal, right
+            )
+        if answer == ALL_RIGHT:
+            return None
+        if answer == NO_MEMORY:
+            raise MemoryError("talusdish")
+        if answer:
+            raise PLANS[answer](PLANS[answer].__doc__)
+        return replace(order, seed=(order.seed + right.value) % 2**64)
+
     @property
     def made(self) -> int:
         """How many events the machine has accepted."""
@@ -309,6 +386,30 @@ class Machine:
     def is_off(self) -> bool:
         """Whether the machine was switched off."""
         return bool(self._board().off)
+
+    @property
+    def started(self) -> list[bool]:
+        """Of each processor whether it was started."""
+        started = self._board().started
+        return [bool(started >> p & 1) for p in range(len(self.processors))]
+
+    @property
+    def conflict(self) -> Optional[Conflict]:
+        """What switched a strict machine off, if something did."""
+        clash = Clash()
+        with _alone(self._lock):
+            if not lib.talusdish_conflict(self._slot, clash):
+                return None
+        return Conflict(clash.processor, clash.row, clash.other)
+
+    def link(self, p: int) -> Optional[int]:
+        """The physical address of the first byte of the word, or of the line, that processor `p`'s link of `ll` is to; None where
+        its link isn't live. Raises IndexError."""
+        if not 0 <= p < len(self.processors):
+            raise IndexError(f"there is no processor {p}")
+        at = c.c_uint32()
+        with _alone(self._lock):
+            return at.value if lib.talusdish_link(self._slot, p, at) else None
 
     @property
     def console(self) -> Console:

@@ -33,6 +33,7 @@ class Priorities:
 
 
 Order = Union[Turns, Random, Priorities]
+Seeded = Union[Random, Priorities]
 
 
 def within(name: str, number: int, bits: int = 32) -> int:

@@ -5,7 +5,7 @@ import unittest
 from pathlib import Path
 
 import talusdish
-from talusdish import Doing, Image, Kind, Machine, Outcome, Priorities, Random, Stop, Turns, assemble
+from talusdish import Conflict, Doing, Entry, Event, Image, Kind, Machine, Outcome, Priorities, Random, Stop, Turns, assemble
 
 EXAMPLES = Path(__file__).resolve().parents[2] / "examples"
 SUM = "main: addiu $8, $0, 5\n addiu $9, $8, 7\n lui $10, 0x8000\n sw $9, 0x3010($10)\nlast: wait\n beq $0, $0, last\n nop\n"
@@ -49,8 +49,7 @@ class Assembling(unittest.TestCase):
         self.assertTrue(assemble(SUM).file.startswith(b"\x7fELF"))
 
     def test_empty(self):
-        with self.assertRaises(talusdish.BadEntry):
-            Machine(assemble(""), ram=4096)
+        self.assertEqual(Machine(assemble(""), ram=4096).processors[0].pc, 0x80000200)
 
 
 class Booting(unittest.TestCase):
@@ -65,6 +64,9 @@ class Booting(unittest.TestCase):
                 Machine(Image(image), ram=ram, cpus=cpus)
             self.assertIsInstance(caught.exception, talusdish.BootError)
             self.assertEqual(caught.exception.number, kind.number)
+        misaligned = file[:24] + b"\x80\0\2\2" + file[28:]
+        with self.assertRaises(talusdish.BadEntry):
+            Machine(Image(misaligned), ram=4096)
         with self.assertRaises(ValueError):
             Machine(Image(file), ram=2**32)
         with self.assertRaises(ValueError):
@@ -117,7 +119,7 @@ class Events(unittest.TestCase):
 
     def test_trap(self):
         machine = Machine(assemble(" syscall\n nop\n"), ram=65536)
-        self.assertEqual(machine.step(), Outcome(Kind.TRAPPED, 8, 0x80000080 if machine.processors[0].pc == 0x80000080 else 0xBFC00180))
+        self.assertEqual(machine.step(), Outcome(Kind.TRAPPED, 8, 0x80000080))
 
 
 class Views(unittest.TestCase):
@@ -148,6 +150,42 @@ class Views(unittest.TestCase):
         for p, i in ((1, 0), (0, 64), (0, -1), (-1, 0)):
             with self.subTest((p, i)), self.assertRaises(IndexError):
                 machine.row(p, i)
+
+    def test_entries(self):
+        machine = Machine(assemble(" lui $8, 0xbfe0\n ori $9, $0, 65\n sw $9, 0($8)\n"), ram=65536, log=3)
+        self.assertEqual((len(machine.entries), list(machine.entries)), (0, []))
+        machine.steps(3)
+        machine.key(200)
+        machine.done()
+        taken = Outcome(Kind.TAKEN, 0, 0)
+        self.assertEqual(list(machine.entries), [Entry(Event.STEP, 0, Outcome(Kind.RAN, 0, 0)), Entry(Event.KEY, 200, taken), Entry(Event.DONE, 0, taken)])
+        self.assertEqual(machine.entries[-1], machine.entries[2])
+        self.assertEqual(machine.entries[0:2], list(machine.entries)[:2])
+        for i in (3, -4, 2**64):
+            with self.subTest(i), self.assertRaises(IndexError):
+                machine.entries[i]
+
+    def test_link(self):
+        machine = Machine(assemble(" lui $8, 0x8000\n ll $9, 0x1014($8)\n sw $0, 0x1018($8)\n sw $0, 0x1014($8)\n"), ram=65536)
+        self.assertIsNone(machine.link(0))
+        machine.steps(3)
+        self.assertEqual(machine.link(0), 0x1014)
+        machine.step()
+        self.assertIsNone(machine.link(0))
+        with self.assertRaises(IndexError):
+            machine.link(1)
+        machine = Machine(Image(assemble(" lui $8, 0x8000\n ll $9, 0x1014($8)\n").file), ram=65536, line=True)
+        machine.steps(2)
+        self.assertEqual(machine.link(0), 0x1010)
+
+    def test_conflict(self):
+        text = " ori $8, $0, 0x0300\n mtc0 $8, $0\n tlbwi\n ori $8, $0, 0x0500\n mtc0 $8, $0\n tlbwi\n"
+        machine = Machine(assemble(" lui $9, 0x0040\n mtc0 $9, $10\n" + text), ram=65536, strict=True)
+        self.assertEqual(machine.steps(7), 7)
+        self.assertIsNone(machine.conflict)
+        self.assertEqual(machine.step(), Outcome(Kind.CONFLICT, 5, 3))
+        self.assertEqual(machine.conflict, Conflict(0, 5, 3))
+        self.assertTrue(machine.is_off)
 
     def test_copy(self):
         machine = Machine(assemble(SUM), ram=65536, cpus=2, log=8)
@@ -206,10 +244,32 @@ class Runs(unittest.TestCase):
             self.assertEqual(one.run(Random(seed), events=200), two.run(Random(seed), events=200))
             self.assertEqual(one.processors[1], two.processors[1])
 
+    def test_search(self):
+        image = assemble((EXAMPLES / "labs" / "lost-update.s").read_text())
+        machine = Machine(image, ram=65536, cpus=2, log=1)
+        self.assertEqual(machine.started, [True, False])
+        for first in (Random(0), Random(2**64 - 3), Priorities(5, 2, 60)):
+            with self.subTest(first):
+                found = machine.search(first, 0x1000, 2, events=10_000, transfer=100)
+                for k in range(1000):
+                    order = talusdish.Random((first.seed + k) % 2**64) if isinstance(first, Random) else Priorities(first.seed + k, 2, 60)
+                    other = machine.copy()
+                    run = other.run(order, events=10_000, transfer=100)
+                    self.assertEqual(other.started, [True, True])
+                    if run.stop != Stop.OFF or other.memory[0x1000] != 2:
+                        break
+                self.assertEqual(found, order)
+        self.assertEqual((machine.made, machine.started), (0, [True, False]))
+        self.assertIsNone(machine.search(Random(0), 0x1000, 2, count=0))
+        with self.assertRaises(talusdish.NoStretch):
+            machine.search(Priorities(0, 1, 0), 0x1000, 2)
+        with self.assertRaises(ValueError):
+            machine.search(Random(0), 2**32, 2)
+
     def test_trace(self):
         machine = Machine(assemble(SUM), ram=65536)
         self.assertEqual(list(machine.trace(events=2)), ["0 0 80000200 24080005 addiu $8, $0, 5  r8=00000005", "1 0 80000204 25090007 addiu $9, $8, 7  r9=0000000c"])
-        self.assertEqual(list(machine.trace(events=1, names=True)), ["2 0 80000208 3c0a8000 lui $t2, 32768  t2=80000000"])
+        self.assertEqual(list(machine.trace(events=1, names=True)), ["2 0 80000208 3c0a8000 lui $t2, 0x8000  t2=80000000"])
         self.assertEqual(machine.made, 3)
 
     def test_threads(self):
