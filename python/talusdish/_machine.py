@@ -8,7 +8,7 @@ import weakref
 from contextlib import contextmanager
 from dataclasses import dataclass, replace
 from enum import Enum
-from typing import Iterator, Optional, Sequence
+from typing import Callable, Iterator, Optional, Sequence
 
 from ._errors import KINDS, PLANS, AssemblyError, BadProcessor, boot_error, refusal
 from ._library import (
@@ -186,7 +186,7 @@ class Processors(Sequence[Processor]):
     def __len__(self) -> int:
         return self._count
 
-    def __getitem__(self, p):  # type: ignore[override]
+    def __getitem__(self, p):  # type: ignore[no-untyped-def, override]
         if isinstance(p, slice):
             return [self[q] for q in range(*p.indices(self._count))]
         q = p + self._count if p < 0 else p
@@ -209,7 +209,7 @@ class Entries(Sequence[Entry]):
         with _alone(self._machine._lock):
             return lib.talusdish_entries(self._machine._slot)
 
-    def __getitem__(self, i):  # type: ignore[override]
+    def __getitem__(self, i):  # type: ignore[no-untyped-def, override]
         count = len(self)
         if isinstance(i, slice):
             return [self[k] for k in range(*i.indices(count))]
@@ -279,7 +279,7 @@ class Machine:
 
     __copy__ = copy
 
-    def _event(self, call, *value: int) -> Outcome:  # type: ignore[no-untyped-def]
+    def _event(self, call: Callable[..., int], *value: int) -> Outcome:
         told = Told()
         with _alone(self._lock):
             answer = call(self._slot, *value, told)

@@ -82,16 +82,41 @@ static const char *echo =
     " sw $0, 8($8)\n lw $10, 0($8)\n sw $10, 0($8)\n"
     "sent: lw $9, 4($8)\n andi $9, $9, 2\n beq $9, $0, sent\n nop\n sw $0, 4($8)\n beq $0, $0, read\n nop\n";
 
+/* Each view of a slot without a session. */
+static void views_of_empty(talusdish_slot *slot) {
+    talusdish_shown shown;
+    talusdish_row_words row = {1, 2};
+    talusdish_board_view board = {true, true, 9, 9, 9};
+    talusdish_clash clash = {7, 8, 9};
+    talusdish_logged entry = {7, 8, {9, 9, 9}};
+    uint32_t word = 5;
+    uint8_t byte = 3;
+    memset(&shown, 0x5a, sizeof shown);
+    talusdish_shown same = shown;
+    CHECK(!talusdish_processor(slot, 0, &shown) && memcmp(&shown, &same, sizeof shown) == 0);
+    CHECK(talusdish_made(slot) == 0);
+    CHECK(talusdish_length(slot) == 0);
+    CHECK(talusdish_read(slot, 0, &byte, 1) == 0 && byte == 3);
+    CHECK(!talusdish_word(slot, 0, &word) && word == 5);
+    CHECK(!talusdish_cop(slot, 0, 12, &word) && word == 5);
+    CHECK(!talusdish_row(slot, 0, 0, &row) && row.high == 1 && row.low == 2);
+    CHECK(!talusdish_board(slot, &board) && board.latch == 9);
+    CHECK(!talusdish_link(slot, 0, &word) && word == 5);
+    CHECK(!talusdish_conflict(slot, &clash) && clash.processor == 7 && clash.row == 8 && clash.other == 9);
+    CHECK(talusdish_entries(slot) == 0);
+    CHECK(!talusdish_entry(slot, 0, &entry) && entry.kind == 7 && entry.value == 8 && entry.told.kind == 9);
+}
+
 /* Each call on a slot without a session. */
 static void on_empty(talusdish_slot *slot) {
     talusdish_fault fault = {7, 9};
     talusdish_told told = {1, 2, 3};
-    talusdish_shown shown;
+    talusdish_goal goal = {0, 0};
+    talusdish_slot to = {0};
     uint64_t made = 5;
-    uint32_t few = 5, word = 5;
+    uint32_t few = 5;
     uint8_t byte = 3;
-    memset(&shown, 0x5a, sizeof shown);
-    talusdish_shown same = shown;
+    views_of_empty(slot);
     CHECK(talusdish_assemble(slot, &byte, 0, true, &fault) == TALUSDISH_NOTHING);
     CHECK(talusdish_boot(slot, &byte, 1, &small) == TALUSDISH_NOTHING);
     CHECK(talusdish_event(slot, TALUSDISH_STEP, 0, &told) == TALUSDISH_NOTHING);
@@ -99,30 +124,12 @@ static void on_empty(talusdish_slot *slot) {
     CHECK(talusdish_drive(slot, &turns, &byte, 1, 10, &made) == TALUSDISH_NOTHING && made == 0);
     made = 5;
     CHECK(talusdish_trace(slot, &turns, &byte, 0, false, 10, &made) == TALUSDISH_NOTHING && made == 0);
-    CHECK(!talusdish_processor(slot, 0, &shown) && memcmp(&shown, &same, sizeof shown) == 0);
-    CHECK(talusdish_made(slot) == 0);
     CHECK(talusdish_output(slot) == TALUSDISH_NOTHING);
-    CHECK(talusdish_length(slot) == 0);
-    CHECK(talusdish_read(slot, 0, &byte, 1) == 0 && byte == 3);
-    CHECK(!talusdish_word(slot, 0, &word) && word == 5);
-    talusdish_row_words row = {1, 2};
-    talusdish_board_view board = {true, true, 9, 9, 9};
-    talusdish_slot to = {0};
-    CHECK(!talusdish_cop(slot, 0, 12, &word) && word == 5);
-    CHECK(!talusdish_row(slot, 0, 0, &row) && row.high == 1 && row.low == 2);
-    CHECK(!talusdish_board(slot, &board) && board.latch == 9);
     CHECK(talusdish_log(slot) == TALUSDISH_NOTHING);
-    talusdish_goal goal = {0, 0};
-    talusdish_clash clash = {7, 8, 9};
-    talusdish_logged entry = {7, 8, {9, 9, 9}};
     made = 5;
     CHECK(talusdish_step(slot, 0, &told) == TALUSDISH_NOTHING && talusdish_key(slot, 1, &told) == TALUSDISH_NOTHING);
     CHECK(talusdish_done(slot, &told) == TALUSDISH_NOTHING);
     CHECK(talusdish_search(slot, &turns, &byte, 0, 10, 10, &goal, &made) == TALUSDISH_NOTHING && made == 0);
-    CHECK(!talusdish_link(slot, 0, &word) && word == 5);
-    CHECK(!talusdish_conflict(slot, &clash) && clash.processor == 7 && clash.row == 8 && clash.other == 9);
-    CHECK(talusdish_entries(slot) == 0);
-    CHECK(!talusdish_entry(slot, 0, &entry) && entry.kind == 7 && entry.value == 8 && entry.told.kind == 9);
     CHECK(talusdish_copy(slot, &to) == TALUSDISH_NOTHING && !to.full && !to.at);
     CHECK(fault.line == 7 && fault.column == 9 && told.kind == 1 && told.first == 2 && told.second == 3);
     CHECK(slot->at == NULL && !slot->full);
@@ -142,14 +149,25 @@ static void faults(void) {
     free(bad);
     CHECK(talusdish_length(&slot) == 0);
     CHECK(assemble(&slot, sum, &fault) == 0 && fault.line == 7);
-    size_t size, more;
+    size_t size;
     uint8_t *file = bytes_of(&slot, &size);
     CHECK(size > 52 && memcmp(file, "\177ELF", 4) == 0);
     CHECK(assemble(&slot, "bogus\n", &fault) == 2 && talusdish_length(&slot) == size);
+    free(file);
+    talusdish_close(&slot);
+}
+
+/* Refusals of a boot, each of which leaves the session. */
+static void boots(void) {
+    talusdish_slot slot = {0};
+    talusdish_fault fault;
+    size_t size, more;
+    CHECK(talusdish_open(&slot));
+    CHECK(assemble(&slot, sum, &fault) == 0);
+    uint8_t *file = bytes_of(&slot, &size);
     CHECK(talusdish_assemble(&slot, (const uint8_t *)sum, strlen(sum), true, &fault) == 0);
     uint8_t *labelled = bytes_of(&slot, &more);
     CHECK(more > size);
-    /* refusals of a boot, each of which leaves the session */
     talusdish_size no_ram = small, many = small;
     no_ram.ram = 100;
     many.processors = 33;
@@ -307,7 +325,6 @@ static void links_and_conflicts(void) {
 static void runs(void) {
     talusdish_slot slot = {0};
     talusdish_told told;
-    talusdish_shown shown;
     uint64_t made;
     uint32_t few;
     CHECK(talusdish_open(&slot));
@@ -318,8 +335,15 @@ static void runs(void) {
     CHECK(talusdish_event(&slot, TALUSDISH_STEP, 0, &told) == TALUSDISH_OFF);
     CHECK(talusdish_steps(&slot, 0, 1, &few) == TALUSDISH_OFF && few == 0);
     CHECK(talusdish_drive(&slot, &turns, (const uint8_t *)"", 0, 9, &made) == TALUSDISH_RUN_OFF && made == 0);
-    /* plans outside their limits */
+    talusdish_close(&slot);
+}
+
+/* Plans outside their limits, and the other orders. */
+static void plans(void) {
+    talusdish_slot slot = {0};
     talusdish_plan plan = turns;
+    uint64_t made;
+    CHECK(talusdish_open(&slot));
     CHECK(boot(&slot, hi, small) == 0);
     plan.turns = 0;
     CHECK(talusdish_drive(&slot, &plan, (const uint8_t *)"", 0, 9, &made) == TALUSDISH_NO_TURN && made == 0);
@@ -338,13 +362,20 @@ static void runs(void) {
     plan.seed = 7;
     CHECK(talusdish_drive(&slot, &plan, (const uint8_t *)"", 0, 1, &made) == 0 && made == 1 && talusdish_made(&slot) == 10);
     CHECK(talusdish_drive(&slot, &plan, (const uint8_t *)"", 0, 0, &made) == 0 && made == 0);
-    /* a sleeping machine */
+    talusdish_close(&slot);
+}
+
+/* A sleeping machine, and keys. */
+static void waits(void) {
+    talusdish_slot slot = {0};
+    talusdish_plan plan = turns;
+    talusdish_shown shown;
+    uint64_t made;
+    CHECK(talusdish_open(&slot));
     CHECK(boot(&slot, sum, small) == 0);
     CHECK(talusdish_drive(&slot, &turns, (const uint8_t *)"", 0, 1000, &made) == TALUSDISH_RUN_STUCK && made == 5);
     CHECK(talusdish_processor(&slot, 0, &shown) && shown.state == 2);
-    /* keys */
     CHECK(boot(&slot, echo, small) == 0);
-    plan = turns;
     plan.gap = 50;
     plan.gaps = true;
     uint8_t *keys = exact("ab!", 3);
@@ -379,23 +410,22 @@ static void traces(void) {
     talusdish_close(&slot);
 }
 
-/* tlbwi writes EntryHi and EntryLo to the row that Index names; the log and copies. */
+/* tlbwi writes EntryHi and EntryLo to the row that Index names; a byte is sent then. */
+static const char *text_of_views =
+    " lui $8, 0x0040\n ori $8, $8, 0x0140\n mtc0 $8, $10\n ori $9, $0, 0x5600\n mtc0 $9, $2\n"
+    " ori $10, $0, 0x0300\n mtc0 $10, $0\n tlbwi\n mfc0 $11, $15\n lui $12, 0xbfe0\n ori $13, $0, 65\n sw $13, 0($12)\n nop\n";
+
 static void views(void) {
-    static const char *text =
-        " lui $8, 0x0040\n ori $8, $8, 0x0140\n mtc0 $8, $10\n ori $9, $0, 0x5600\n mtc0 $9, $2\n"
-        " ori $10, $0, 0x0300\n mtc0 $10, $0\n tlbwi\n mfc0 $11, $15\n lui $12, 0xbfe0\n ori $13, $0, 65\n sw $13, 0($12)\n nop\n";
-    talusdish_slot slot = {0}, copy = {0};
+    talusdish_slot slot = {0};
     talusdish_row_words row = {1, 2};
     talusdish_board_view board;
     talusdish_told told;
-    talusdish_shown a, b;
     uint32_t word = 5, made;
     CHECK(talusdish_open(&slot));
     CHECK(!talusdish_board(&slot, &board) && talusdish_log(&slot) == TALUSDISH_NOTHING);
-    CHECK(talusdish_copy(&slot, &copy) == 0 && copy.full && talusdish_length(&copy) == 0);
     talusdish_size conf = small;
     conf.log = 3;
-    CHECK(boot(&slot, text, conf) == 0);
+    CHECK(boot(&slot, text_of_views, conf) == 0);
     CHECK(talusdish_log(&slot) == 0 && has_bytes(&slot, "m161 log 2 word\n"));
     CHECK(talusdish_steps(&slot, 0, 3, &made) == 0);
     CHECK(talusdish_log(&slot) == 0 && has_bytes(&slot, "m161 log 2 word\ns 0 ran\ns 0 ran\ns 0 ran\n"));
@@ -410,7 +440,21 @@ static void views(void) {
     CHECK(talusdish_steps(&slot, 0, 4, &made) == 0 && talusdish_event(&slot, TALUSDISH_KEY, 66, &told) == 0);
     CHECK(talusdish_board(&slot, &board) && !board.off && board.sending && board.latch == 65 && board.waiting == 1);
     CHECK(talusdish_log(&slot) == 0 && has_bytes(&slot, "m161 tail 2 word 10\ns 0 ran\ns 0 ran\nk 42 taken\n"));
-    /* a copy goes its own way */
+    talusdish_close(&slot);
+}
+
+/* A copy goes its own way. */
+static void copies(void) {
+    talusdish_slot slot = {0}, copy = {0};
+    talusdish_told told;
+    talusdish_shown a, b;
+    uint32_t made;
+    talusdish_size conf = small;
+    conf.log = 3;
+    CHECK(talusdish_open(&slot));
+    CHECK(talusdish_copy(&slot, &copy) == 0 && copy.full && talusdish_length(&copy) == 0);
+    CHECK(boot(&slot, text_of_views, conf) == 0);
+    CHECK(talusdish_steps(&slot, 0, 12, &made) == 0 && talusdish_event(&slot, TALUSDISH_KEY, 66, &told) == 0 && talusdish_log(&slot) == 0);
     CHECK(talusdish_copy(&slot, &copy) == 0 && has_bytes(&copy, "m161 tail 2 word 10\ns 0 ran\ns 0 ran\nk 42 taken\n"));
     CHECK(talusdish_event(&copy, TALUSDISH_DONE, 0, &told) == 0 && talusdish_output(&copy) == 0 && has_bytes(&copy, "A"));
     CHECK(talusdish_output(&slot) == 0 && has_bytes(&slot, "") && talusdish_made(&slot) == 13 && talusdish_made(&copy) == 14);
@@ -433,13 +477,17 @@ int main(void) {
     talusdish_close(&slot);
     on_empty(&slot);
     faults();
+    boots();
     events();
     single_events();
     searches();
     links_and_conflicts();
     runs();
+    plans();
+    waits();
     traces();
     views();
+    copies();
     printf("%d passed, %d failed\n", passed, failed);
     return failed != 0;
 }
