@@ -1,0 +1,267 @@
+/* The machine and the assembler of Talusdish, a proved emulator of System/161, from C.
+ *
+ *     talusdish_slot slot = {0};
+ *     talusdish_open(&slot);                                   a session: bytes, and a machine if one is booted
+ *     talusdish_assemble(&slot, text, size, false, &fault);    its bytes are an ELF file then
+ *     n = talusdish_read(&slot, 0, file, sizeof file);         which is read from it
+ *     talusdish_boot(&slot, file, n, &conf);                   its machine is booted from it
+ *     talusdish_steps(&slot, 0, 1000, &made);                  and makes Steps
+ *     talusdish_word(&slot, 0x1000, &word);                    whose work is seen
+ *     talusdish_close(&slot);
+ *
+ * Who owns what. The caller owns the slot and every buffer; a call keeps no pointer to any of them behind its
+ * return. The slot owns the session, which lies on the heap of malloc, until talusdish_close. A slot of zeros is
+ * empty. Its bytes are written by these calls alone, and never copied: two copies would own one session.
+ *
+ * Threads. A slot belongs to one thread at a time: one call at a time on each slot. Slots are independent of one
+ * another, and there is no state beside them.
+ *
+ * Errors. Each call on an empty or closed slot is answered: by 255, by false, or by the number 0 where a number is
+ * returned. Other answers than 0 are the numbers below. Where memory is refused, the session is as it was.
+ *
+ * What is trusted: that the pointers point to what their types say (never NULL, but for a buffer of length 0: give any
+ * pointer that isn't NULL there too), that lengths are true, that no two arguments overlap, and that bools are 0 or 1.
+ */
+#ifndef TALUSDISH_H
+#define TALUSDISH_H
+
+#include <stdbool.h>
+#include <stddef.h>
+#include <stdint.h>
+
+#ifdef __cplusplus
+extern "C" {
+#endif
+
+/* What a caller keeps of a session: zeros for none. */
+typedef struct {
+    void *at;
+    bool full;
+} talusdish_slot;
+
+/* The place of a fault in a text: the line and the column in bytes, both from 1. */
+typedef struct {
+    uint64_t line;
+    uint64_t column;
+} talusdish_fault;
+
+/* The size of a machine and its modes. */
+typedef struct {
+    uint32_t ram;        /* bytes of RAM: 4,096 to 16,777,216, a multiple of 4,096 */
+    uint32_t processors; /* 1 to 32 */
+    uint32_t log;        /* entries of the log: 1 to 16,777,216 */
+    bool line;           /* whether ll links to a line, the aligned 16 bytes, in place of a word */
+    bool strict;         /* whether the machine stops where a row of a TLB would overlap another one */
+} talusdish_size;
+
+/* What chooses the events of a driven run. */
+typedef struct {
+    uint32_t kind;     /* TALUSDISH_TURNS, TALUSDISH_RANDOM or TALUSDISH_PRIORITIES */
+    uint32_t turns;    /* turns: Steps of a turn, at least 1 */
+    uint64_t seed;     /* random, priorities: the seed */
+    uint32_t changes;  /* priorities: how many times in a stretch one changes, at most 64 */
+    uint32_t within;   /* priorities: Steps of a stretch, at least 1 */
+    uint32_t transfer; /* a byte of the console is sent once so many events came after it; or where no processor is ready */
+    uint32_t gap;      /* with gaps: a key is typed once so many events came after the last one */
+    bool gaps;         /* without: a key is typed only where no processor is ready */
+} talusdish_plan;
+
+/* How a run of a search has to end: the machine off, and with this word in RAM. */
+typedef struct {
+    uint32_t address; /* the physical address of the word in bytes, a multiple of 4; where there is no word, no run ends right */
+    uint32_t word;
+} talusdish_goal;
+
+/* An event's outcome. */
+typedef struct {
+    uint32_t kind;   /* TALUSDISH_RAN to TALUSDISH_TAKEN */
+    uint32_t first;  /* trapped: the code, as in Cause; conflict: the row, 0 to 63 */
+    uint32_t second; /* trapped: the vector's address; conflict: the other row */
+} talusdish_told;
+
+/* An entry of the log: an event that was made, and its outcome. */
+typedef struct {
+    uint32_t kind;  /* TALUSDISH_STEP, TALUSDISH_KEY or TALUSDISH_DONE */
+    uint32_t value; /* the processor, the key (0 to 255), or 0 */
+    talusdish_told told;
+} talusdish_logged;
+
+/* What switched a strict machine off. */
+typedef struct {
+    uint32_t processor; /* which was to write a row of its TLB */
+    uint32_t row;       /* that row, 0 to 63, which stays as it was */
+    uint32_t other;     /* the lowest other row that it would have overlapped */
+} talusdish_clash;
+
+/* A processor. */
+typedef struct {
+    uint32_t registers[32];
+    uint32_t hi;
+    uint32_t lo;
+    uint32_t pc;    /* the address of its instruction */
+    uint32_t state; /* 0 stopped, 1 running, 2 waiting */
+    bool in_slot;   /* whether its instruction is in a delay slot */
+    uint64_t count; /* its Steps, idle ones included */
+} talusdish_shown;
+
+/* A row of a TLB. */
+typedef struct {
+    uint32_t high; /* EntryHi: page and identifier */
+    uint32_t low;  /* EntryLo: frame and flags */
+} talusdish_row_words;
+
+/* The machine beside its processors and RAM. */
+typedef struct {
+    bool off;         /* whether it was switched off */
+    bool sending;     /* whether the console is sending a byte */
+    uint8_t latch;    /* that byte, or 0 */
+    uint32_t waiting; /* how many typed bytes wait: 0 to 256 */
+    uint32_t started; /* bit c is set if processor c was started; processor 0 is from the boot on */
+} talusdish_board_view;
+
+enum { TALUSDISH_TURNS = 0, TALUSDISH_RANDOM = 1, TALUSDISH_PRIORITIES = 2 };
+
+enum { TALUSDISH_STEP = 0, TALUSDISH_KEY = 1, TALUSDISH_DONE = 2 };
+
+enum {
+    TALUSDISH_RAN = 0,
+    TALUSDISH_TRAPPED = 1,
+    TALUSDISH_IDLE = 2,
+    TALUSDISH_POWERED_OFF = 3,
+    TALUSDISH_CONFLICT = 4,
+    TALUSDISH_TAKEN = 5
+};
+
+/* Answers. */
+enum {
+    TALUSDISH_OK = 0,
+    /* why an event is refused; each only if none above it holds */
+    TALUSDISH_BAD_PROCESSOR = 1, /* there is no such processor */
+    TALUSDISH_OFF = 2,           /* the machine is off */
+    TALUSDISH_WORN = 8,          /* the machine has accepted 2^63 - 1 events */
+    TALUSDISH_KEY_FULL = 4,      /* 256 typed bytes are waiting */
+    TALUSDISH_NOTHING_SENT = 5,  /* the console isn't sending a byte */
+    TALUSDISH_EVENT_MEMORY = 6,  /* memory was refused; only of TALUSDISH_DONE */
+    /* why a driven run has no more events */
+    TALUSDISH_RUN_OFF = 16,   /* the machine is off */
+    TALUSDISH_RUN_STUCK = 17, /* the plan chooses no event: no processor is ready, and no key is left */
+    /* a plan's first number that is outside its limits */
+    TALUSDISH_NO_TURN = 18,
+    TALUSDISH_NO_STRETCH = 19,
+    TALUSDISH_TOO_MANY_CHANGES = 20,
+    /* of a search */
+    TALUSDISH_ALL_RIGHT = 21, /* each run ends right */
+    /* of any call */
+    TALUSDISH_BAD = 253,       /* a text isn't UTF-8, or a number means nothing */
+    TALUSDISH_NO_MEMORY = 254, /* memory was refused */
+    TALUSDISH_NOTHING = 255    /* the slot is empty, or its session has no machine */
+};
+
+/* Opens a session, without a machine and without bytes, in a slot. What the slot held is freed then. False where memory is
+ * refused: the slot is as it was. */
+bool talusdish_open(talusdish_slot *slot);
+
+/* Frees a slot's session. The slot is empty then, and may be closed or opened again. */
+void talusdish_close(talusdish_slot *slot);
+
+/* Assembles a text of `size` bytes of UTF-8. The ELF file, with the labels as its symbols if they are wanted, becomes the
+ * session's bytes, and the answer is 0. Else nothing is changed, and the answer is BAD, or the number of the fault's kind,
+ * whose place is told: 1 BadToken, 2 UnknownWord, 3 BadOperand, 4 OutOfRange, 5 UnknownLabel, 6 DoubleLabel,
+ * 7 BranchTooFar, 8 Overlap, 9 NoMemory (column 1, and a line that the assembler had reached). */
+uint8_t talusdish_assemble(talusdish_slot *slot, const uint8_t *text, size_t size, bool symbols, talusdish_fault *fault);
+
+/* Boots an ELF file of `size` bytes: the machine is the session's from then on, in the place of an earlier one, and the
+ * answer is 0. Else nothing is changed, and the answer is 1 for a size outside the limits; 2 Truncated, 3 NotElf32Big,
+ * 4 NotExecutable, 5 NotMips, 6 BadHeaderTable, 7 SegmentOutsideFile, 8 SegmentOutsideRam, 9 FileLargerThanMemory or
+ * 10 BadEntry for the file's first fault; or NO_MEMORY. A machine takes three times its RAM, and 4 bytes for each entry of
+ * its log. */
+uint8_t talusdish_boot(talusdish_slot *slot, const uint8_t *file, size_t size, const talusdish_size *conf);
+
+/* Makes one event: a Step of processor `value`, the key `value` (0 to 255), or the end of the console's transfer. 0, and the
+ * outcome is told; BAD where the numbers mean no event; or why it is refused (1 to 8). Nothing is changed or told then. */
+uint8_t talusdish_event(talusdish_slot *slot, uint8_t kind, uint32_t value, talusdish_told *told);
+
+/* The same of a Step of processor `p`, of a typed byte, and of the end of the console's transfer. */
+uint8_t talusdish_step(talusdish_slot *slot, uint32_t p, talusdish_told *told);
+uint8_t talusdish_key(talusdish_slot *slot, uint8_t byte, talusdish_told *told);
+uint8_t talusdish_done(talusdish_slot *slot, talusdish_told *told);
+
+/* Makes Steps of processor `p` until `n` are made, which is answered by 0, or one is refused (1, 2 or 8). `made` is how many
+ * were. As many calls of talusdish_event in less time. */
+uint8_t talusdish_steps(talusdish_slot *slot, uint32_t p, uint32_t n, uint32_t *made);
+
+/* Makes the events that a plan chooses, from a new beginning of its order and with `size` bytes of keys, until the machine is
+ * off (RUN_OFF), `n` are made (0), none is chosen (RUN_STUCK), or the chosen one is refused (WORN, EVENT_MEMORY). `made` is
+ * how many were. NO_TURN to TOO_MANY_CHANGES or BAD for a plan that can't be followed: nothing is changed then. Two calls
+ * are two runs: each begins the plan's order and the keys anew. */
+uint8_t talusdish_drive(talusdish_slot *slot, const talusdish_plan *plan, const uint8_t *keys, size_t size, uint64_t n, uint64_t *made);
+
+/* The same, and the lines of its events, each with a line feed, become the session's bytes: the same lines as those of
+ * `s161 trace`, numbered from the events of the machine. With `names` registers are shown by their names. Works on a copy of
+ * the machine; where memory is refused (NO_MEMORY), no event is made. */
+uint8_t talusdish_trace(talusdish_slot *slot, const talusdish_plan *plan, const uint8_t *keys, size_t size, bool names, uint64_t n, uint64_t *made);
+
+/* Looks for a run that ends wrong. The runs are those that the plan chooses with `count` seeds, its own and those behind it
+ * (modulo 2^64), each of at most `n` events from the machine as it is, with `size` bytes of keys. Each is made on a copy, in
+ * this order, up to the first that doesn't end right; the session stays as it is. 0 where one ends wrong; ALL_RIGHT where
+ * none does; NO_TURN to TOO_MANY_CHANGES, BAD or NO_MEMORY where one isn't made. `right` is how many end right before it:
+ * the wrong run is that of the seed `plan->seed + right`, and talusdish_drive or talusdish_trace with that seed makes it. A
+ * copy takes the machine's RAM once. */
+uint8_t talusdish_search(talusdish_slot *slot, const talusdish_plan *plan, const uint8_t *keys, size_t size, uint64_t n, uint64_t count,
+                         const talusdish_goal *goal, uint64_t *right);
+
+/* Shows a processor. False where there is no such one: nothing is told then. */
+bool talusdish_processor(talusdish_slot *slot, uint32_t p, talusdish_shown *shown);
+
+/* How many events the machine has accepted; 0 with no machine. */
+uint64_t talusdish_made(talusdish_slot *slot);
+
+/* The bytes that the console has sent become the session's. 0 or NO_MEMORY. */
+uint8_t talusdish_output(talusdish_slot *slot);
+
+/* How many bytes the session has; 0 with no session. */
+size_t talusdish_length(talusdish_slot *slot);
+
+/* Copies the session's bytes from index `from` on, as many as there are and fit into `size` bytes. Returns how many. */
+size_t talusdish_read(talusdish_slot *slot, size_t from, uint8_t *into, size_t size);
+
+/* The word at a physical address. False where the address is no multiple of 4 or outside RAM: nothing is told then. */
+bool talusdish_word(talusdish_slot *slot, uint32_t address, uint32_t *word);
+
+/* A register of coprocessor 0 of a processor by its number, 0 to 31, as mfc0 reads it. False where there is no such
+ * processor or register: nothing is told then. */
+bool talusdish_cop(talusdish_slot *slot, uint32_t p, uint32_t number, uint32_t *word);
+
+/* A row, 0 to 63, of a processor's TLB. False where there is no such processor or row: nothing is told then. */
+bool talusdish_row(talusdish_slot *slot, uint32_t p, uint32_t i, talusdish_row_words *words);
+
+/* The physical address of the first byte of the word, or of the line, that a processor's link of ll is to. False where there
+ * is no such processor, or its link isn't live: nothing is told then. */
+bool talusdish_link(talusdish_slot *slot, uint32_t p, uint32_t *at);
+
+/* What switched a strict machine off. False where nothing did: nothing is told then. */
+bool talusdish_conflict(talusdish_slot *slot, talusdish_clash *clash);
+
+/* Whether the machine is off, its console, and which processors were started. False with no machine: nothing is told then. */
+bool talusdish_board(talusdish_slot *slot, talusdish_board_view *board);
+
+/* The text of the machine's log becomes the session's bytes: its last entries, as many as it has room for, without the machine
+ * line; `m161 tail ..` in its first line says how many came before them. 0 or NO_MEMORY. */
+uint8_t talusdish_log(talusdish_slot *slot);
+
+/* How many entries the log keeps: all events of the machine, or the last ones, as many as it has room for. 0 with no machine. */
+size_t talusdish_entries(talusdish_slot *slot);
+
+/* An entry of the log by its number, from 0, the oldest one that is kept. False where there is no such entry: nothing is told
+ * then. */
+bool talusdish_entry(talusdish_slot *slot, size_t i, talusdish_logged *entry);
+
+/* Copies the session, its machine and its bytes, into the slot `to`, which is another one; what that held is freed then. 0; or
+ * NO_MEMORY or NOTHING (`slot` is empty), and `to` is as it was. */
+uint8_t talusdish_copy(talusdish_slot *slot, talusdish_slot *to);
+
+#ifdef __cplusplus
+}
+#endif
+
+#endif

@@ -1,0 +1,434 @@
+"""Images, machines and their views."""
+
+from __future__ import annotations
+
+import ctypes as c
+import threading
+import weakref
+from contextlib import contextmanager
+from dataclasses import dataclass, replace
+from enum import Enum
+from typing import Callable, Iterator, Optional, Sequence
+
+from ._errors import KINDS, PLANS, AssemblyError, BadProcessor, boot_error, refusal
+from ._library import (
+    ALL_RIGHT, NO_MEMORY, RUN_OFF, RUN_STUCK, BoardView, Clash, Fault, Goal, Logged, RowWords, Shown, Size, Slot, Told, lib,
+)
+from ._orders import Order, Turns, Seeded, plan_of, within
+
+
+class Doing(Enum):
+    """What a processor is doing."""
+
+    STOPPED = 0
+    RUNNING = 1
+    WAITING = 2
+
+
+class Kind(Enum):
+    """The kind of an event's outcome."""
+
+    RAN = 0
+    TRAPPED = 1
+    IDLE = 2
+    OFF = 3
+    CONFLICT = 4
+    TAKEN = 5
+
+
+@dataclass(frozen=True)
+class Outcome:
+    """An event's outcome. Of a trap `first` is its code as in Cause, and `second` its vector; of a conflict they are the row and
+    the other row; else both are 0."""
+
+    kind: Kind
+    first: int
+    second: int
+
+
+class Event(Enum):
+    """The kind of an event: a Step of a processor, a typed byte, or the end of the console's transfer."""
+
+    STEP = 0
+    KEY = 1
+    DONE = 2
+
+
+@dataclass(frozen=True)
+class Entry:
+    """An entry of the log: its event with the processor or the key (0 of `DONE`), and its outcome."""
+
+    event: Event
+    value: int
+    outcome: Outcome
+
+
+@dataclass(frozen=True)
+class Conflict:
+    """What switched a strict machine off: the processor that was to write a row of its TLB, that row, which stays as it was, and
+    the lowest other row that it would have overlapped."""
+
+    processor: int
+    row: int
+    other: int
+
+
+class Stop(Enum):
+    """Why a driven run has no more events."""
+
+    END = 0
+    OFF = RUN_OFF
+    STUCK = RUN_STUCK
+    WORN = 8
+    NO_MEMORY = 6
+
+
+@dataclass(frozen=True)
+class Run:
+    """A driven run: how many events were made, and why no more were."""
+
+    made: int
+    stop: Stop
+
+
+@dataclass(frozen=True)
+class Image:
+    """An ELF file."""
+
+    file: bytes
+
+
+@contextmanager
+def _alone(lock: threading.Lock) -> Iterator[None]:
+    """One call at a time. (ctypes lets other threads run while a call works.)"""
+    if not lock.acquire(blocking=False):
+        raise RuntimeError("a machine belongs to one thread at a time")
+    try:
+        yield
+    finally:
+        lock.release()
+
+
+def _outcome(told: Told) -> Outcome:
+    return Outcome(Kind(told.kind), told.first, told.second)
+
+
+def _processor(p: int) -> int:
+    if not 0 <= p < 2**32:
+        raise BadProcessor(BadProcessor.__doc__)
+    return p
+
+
+def _run(made: int, answer: int) -> Run:
+    if answer in PLANS:
+        raise PLANS[answer](PLANS[answer].__doc__)
+    return Run(made, Stop(answer))
+
+
+def _slot() -> Slot:
+    slot = Slot()
+    if not lib.talusdish_open(slot):
+        raise MemoryError("talusdish")
+    return slot
+
+
+def _bytes(slot: Slot) -> bytes:
+    size = lib.talusdish_length(slot)
+    room = c.create_string_buffer(size or 1)
+    read = lib.talusdish_read(slot, 0, room, size)
+    return room.raw[:read]
+
+
+def assemble(text: str, symbols: bool = False) -> Image:
+    """Assembles a text, with its labels as the file's symbols if they are wanted.
+
+    Raises AssemblyError with the place and the kind of the text's first fault, and MemoryError."""
+    source, fault, slot = text.encode(), Fault(), _slot()
+    try:
+        answer = lib.talusdish_assemble(slot, source, len(source), symbols, fault)
+        if answer == 0:
+            return Image(_bytes(slot))
+    finally:
+        lib.talusdish_close(slot)
+    if answer == 9:
+        raise MemoryError("talusdish")
+    raise AssemblyError(fault.line, fault.column, KINDS[answer])
+
+
+@dataclass(frozen=True)
+class Processor:
+    """What a processor shows at one moment: its 32 registers, HI, LO, the address of its instruction (bytes), what it is doing,
+    whether its instruction is in a delay slot, and how many Steps it has made."""
+
+    reg: Sequence[int]
+    hi: int
+    lo: int
+    pc: int
+    state: Doing
+    in_slot: bool
+    count: int
+
+
+@dataclass(frozen=True)
+class Console:
+    """The byte that the console is sending, if it is, and how many typed bytes wait (0 to 256)."""
+
+    latch: Optional[int]
+    waiting: int
+
+
+class Processors(Sequence[Processor]):
+    """The processors of a machine; each is shown as it is when it is asked for."""
+
+    def __init__(self, machine: Machine, count: int) -> None:
+        self._machine, self._count = machine, count
+
+    def __len__(self) -> int:
+        return self._count
+
+    def __getitem__(self, p):  # type: ignore[no-untyped-def, override]
+        if isinstance(p, slice):
+            return [self[q] for q in range(*p.indices(self._count))]
+        q = p + self._count if p < 0 else p
+        shown = Shown()
+        with _alone(self._machine._lock):
+            if not 0 <= q < self._count or not lib.talusdish_processor(self._machine._slot, q, shown):
+                raise IndexError(f"there is no processor {p}")
+        return Processor(
+            tuple(shown.registers), shown.hi, shown.lo, shown.pc, Doing(shown.state), bool(shown.in_slot), shown.count
+        )
+
+
+class Entries(Sequence[Entry]):
+    """The entries that a machine's log keeps, the oldest first: `machine.entries[-1]` is the last event."""
+
+    def __init__(self, machine: Machine) -> None:
+        self._machine = machine
+
+    def __len__(self) -> int:
+        with _alone(self._machine._lock):
+            return lib.talusdish_entries(self._machine._slot)
+
+    def __getitem__(self, i):  # type: ignore[no-untyped-def, override]
+        count = len(self)
+        if isinstance(i, slice):
+            return [self[k] for k in range(*i.indices(count))]
+        k = i + count if i < 0 else i
+        logged = Logged()
+        with _alone(self._machine._lock):
+            if not 0 <= k < count or not lib.talusdish_entry(self._machine._slot, k, logged):
+                raise IndexError(f"the log has no entry {i}")
+        return Entry(Event(logged.kind), logged.value, _outcome(logged.told))
+
+
+class Memory:
+    """A machine's RAM by words: `memory[0x3010]` is the word at a physical address, a multiple of 4, in bytes."""
+
+    def __init__(self, machine: Machine, size: int) -> None:
+        self._machine, self._size = machine, size
+
+    def __len__(self) -> int:
+        """How many bytes it has."""
+        return self._size
+
+    def __getitem__(self, address: int) -> int:
+        word = c.c_uint32()
+        with _alone(self._machine._lock):
+            if not 0 <= address < self._size or not lib.talusdish_word(self._machine._slot, address, word):
+                raise IndexError(f"there is no word at {address:#x}")
+        return word.value
+
+
+class Machine:
+    """A machine that was booted from an image.
+
+    `ram` is in bytes (4,096 to 16,777,216, a multiple of 4,096), `cpus` 1 to 32, and `log` the entries that the log has room
+    for (1 to 16,777,216). With `line` the instruction `ll` links to a line in place of a word; a `strict` machine stops where a
+    row of a TLB would overlap another one. It takes three times its RAM.
+
+    A machine belongs to one thread at a time; a call while another thread is in one raises RuntimeError.
+
+    Raises a BootError (BadConf, Truncated, .. BadEntry), MemoryError, or ValueError for a number below 0 or above 2^32 - 1."""
+
+    def __init__(
+        self, image: Image, ram: int = 1048576, cpus: int = 1, log: int = 4096, line: bool = False, strict: bool = False
+    ) -> None:
+        size = Size(within("ram", ram), within("cpus", cpus), within("log", log), line, strict)
+        self._own(_slot(), ram, cpus)
+        answer = lib.talusdish_boot(self._slot, image.file, len(image.file), size)
+        if answer:
+            raise boot_error(answer)
+
+    def _own(self, slot: Slot, ram: int, cpus: int) -> None:
+        self._lock = threading.Lock()
+        self._slot = slot
+        weakref.finalize(self, lib.talusdish_close, slot)
+        self.processors = Processors(self, cpus)
+        self.memory = Memory(self, ram)
+        self.entries = Entries(self)
+
+    def copy(self) -> Machine:
+        """The same machine again; each goes its own way from then on. Raises MemoryError."""
+        slot = Slot()
+        with _alone(self._lock):
+            if lib.talusdish_copy(self._slot, slot):
+                raise MemoryError("talusdish")
+        other = Machine.__new__(Machine)
+        other._own(slot, len(self.memory), len(self.processors))
+        return other
+
+    __copy__ = copy
+
+    def _event(self, call: Callable[..., int], *value: int) -> Outcome:
+        told = Told()
+        with _alone(self._lock):
+            answer = call(self._slot, *value, told)
+        if answer:
+            raise refusal(answer)
+        return _outcome(told)
+
+    def step(self, p: int = 0) -> Outcome:
+        """Makes one Step of processor `p`. Raises BadProcessor, Off or Worn; the machine is as it was then."""
+        return self._event(lib.talusdish_step, _processor(p))
+
+    def key(self, byte: int) -> Outcome:
+        """Types a byte at the console. Raises Off, Worn or KeyFull, and ValueError for no byte."""
+        return self._event(lib.talusdish_key, within("byte", byte, 8))
+
+    def done(self) -> Outcome:
+        """The console has sent its byte. Raises Off, Worn, NothingSent or MemoryError."""
+        return self._event(lib.talusdish_done)
+
+    def steps(self, n: int, p: int = 0) -> int:
+        """Makes Steps of processor `p` until `n` are made, at most 2^32 - 1, or one is refused because the machine went off.
+        Returns how many. Raises BadProcessor, Off or Worn where the first one is refused."""
+        made = c.c_uint32()
+        with _alone(self._lock):
+            answer = lib.talusdish_steps(self._slot, _processor(p), within("n", n), made)
+        if answer and made.value == 0:
+            raise refusal(answer)
+        return made.value
+
+    def run(self, order: Order = Turns(1), events: int = 1000000, keys: bytes = b"", gap: int | None = None, transfer: int = 4) -> Run:
+        """Makes the events that an order chooses, at most `events`. A byte of the console is sent once `transfer` events came
+        after it. A key is typed where no processor is ready, and with a `gap` once so many events came after the last one.
+        Each call begins the order and the keys anew. Raises NoTurn, NoStretch or TooManyChanges."""
+        made, plan = c.c_uint64(), plan_of(order, transfer, gap)
+        with _alone(self._lock):
+            answer = lib.talusdish_drive(self._slot, plan, keys, len(keys), within("events", events, 64), made)
+        return _run(made.value, answer)
+
+    def trace(
+        self, order: Order = Turns(1), events: int = 1000, keys: bytes = b"", gap: int | None = None, transfer: int = 4, names: bool = False
+    ) -> Iterator[str]:
+        """Runs as `run` does, and gives a line for each event, as `s161 trace` prints it; with `names` registers have their
+        names. The run is made by this call, before the first line is asked for. Raises also MemoryError: no event is made then."""
+        made, plan = c.c_uint64(), plan_of(order, transfer, gap)
+        with _alone(self._lock):
+            answer = lib.talusdish_trace(self._slot, plan, keys, len(keys), names, within("events", events, 64), made)
+            if answer == NO_MEMORY:
+                raise MemoryError("talusdish")
+            _run(made.value, answer)
+            text = _bytes(self._slot)
+        return iter(text.decode().splitlines())
+
+    def search(
+        self, order: Seeded, address: int, word: int, count: int = 1000, events: int = 10000, keys: bytes = b"", gap: int | None = None,
+        transfer: int = 4,
+    ) -> Optional[Seeded]:
+        """Looks for a run that ends wrong: one after which the machine isn't off, or the word at a physical address isn't `word`.
+        Tries the order with `count` seeds, its own and those behind it, each from the machine as it is, which stays so. Gives the
+        first order whose run ends wrong, or None. Raises NoStretch, TooManyChanges, or MemoryError."""
+        right, plan = c.c_uint64(), plan_of(order, transfer, gap)
+        goal = Goal(within("address", address), within("word", word))
+        with _alone(self._lock):
+            answer = lib.talusdish_search(
+                self._slot, plan, keys, len(keys), within("events", events, 64), within("count", count, 64), goal, right
+            )
+        if answer == ALL_RIGHT:
+            return None
+        if answer == NO_MEMORY:
+            raise MemoryError("talusdish")
+        if answer:
+            raise PLANS[answer](PLANS[answer].__doc__)
+        return replace(order, seed=(order.seed + right.value) % 2**64)
+
+    @property
+    def made(self) -> int:
+        """How many events the machine has accepted."""
+        with _alone(self._lock):
+            return lib.talusdish_made(self._slot)
+
+    @property
+    def output(self) -> bytes:
+        """The bytes that the console has sent. Raises MemoryError."""
+        with _alone(self._lock):
+            if lib.talusdish_output(self._slot):
+                raise MemoryError("talusdish")
+            return _bytes(self._slot)
+
+    @property
+    def log(self) -> list[str]:
+        """The log's text by lines: a first line (`m161 log ..`, or `m161 tail ..` with how many entries were dropped), and a
+        line for each of the last entries. Raises MemoryError."""
+        with _alone(self._lock):
+            if lib.talusdish_log(self._slot):
+                raise MemoryError("talusdish")
+            return _bytes(self._slot).decode().splitlines()
+
+    def _board(self) -> BoardView:
+        board = BoardView()
+        with _alone(self._lock):
+            lib.talusdish_board(self._slot, board)
+        return board
+
+    @property
+    def is_off(self) -> bool:
+        """Whether the machine was switched off."""
+        return bool(self._board().off)
+
+    @property
+    def started(self) -> list[bool]:
+        """Of each processor whether it was started."""
+        started = self._board().started
+        return [bool(started >> p & 1) for p in range(len(self.processors))]
+
+    @property
+    def conflict(self) -> Optional[Conflict]:
+        """What switched a strict machine off, if something did."""
+        clash = Clash()
+        with _alone(self._lock):
+            if not lib.talusdish_conflict(self._slot, clash):
+                return None
+        return Conflict(clash.processor, clash.row, clash.other)
+
+    def link(self, p: int) -> Optional[int]:
+        """The physical address of the first byte of the word, or of the line, that processor `p`'s link of `ll` is to; None where
+        its link isn't live. Raises IndexError."""
+        if not 0 <= p < len(self.processors):
+            raise IndexError(f"there is no processor {p}")
+        at = c.c_uint32()
+        with _alone(self._lock):
+            return at.value if lib.talusdish_link(self._slot, p, at) else None
+
+    @property
+    def console(self) -> Console:
+        """The console as it is now."""
+        board = self._board()
+        return Console(board.latch if board.sending else None, board.waiting)
+
+    def cop(self, p: int, number: int) -> int:
+        """A register of coprocessor 0 of processor `p` by its number, as `mfc0` reads it. Raises IndexError."""
+        word = c.c_uint32()
+        with _alone(self._lock):
+            if not (0 <= p < 2**32 and 0 <= number < 32) or not lib.talusdish_cop(self._slot, p, number, word):
+                raise IndexError(f"processor {p} has no register {number} of coprocessor 0")
+        return word.value
+
+    def row(self, p: int, i: int) -> tuple[int, int]:
+        """A row, 0 to 63, of processor `p`'s TLB, as the words in EntryHi and EntryLo. Raises IndexError."""
+        words = RowWords()
+        with _alone(self._lock):
+            if not (0 <= p < 2**32 and 0 <= i < 64) or not lib.talusdish_row(self._slot, p, i, words):
+                raise IndexError(f"processor {p} has no row {i}")
+        return words.high, words.low

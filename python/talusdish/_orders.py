@@ -1,0 +1,57 @@
+"""The orders of driven runs."""
+
+from __future__ import annotations
+
+from dataclasses import dataclass
+from typing import Union
+
+from ._library import Plan
+
+
+@dataclass(frozen=True)
+class Turns:
+    """Turns: so many Steps of each ready processor, at least 1."""
+
+    steps: int = 1
+
+
+@dataclass(frozen=True)
+class Random:
+    """A ready processor at random, by the words of a seed of 64 bits."""
+
+    seed: int
+
+
+@dataclass(frozen=True)
+class Priorities:
+    """The ready processor of the highest priority; `changes` priorities (at most 64) change in each stretch of `within` Steps
+    (at least 1), at Steps that are drawn by the seed."""
+
+    seed: int
+    changes: int
+    within: int
+
+
+Order = Union[Turns, Random, Priorities]
+Seeded = Union[Random, Priorities]
+
+
+def within(name: str, number: int, bits: int = 32) -> int:
+    """The number, which a ctypes field would cut off in silence."""
+    if not 0 <= number < 2**bits:
+        raise ValueError(f"{name} is {number}; it has {bits} bits")
+    return number
+
+
+def plan_of(order: Order, transfer: int, gap: int | None) -> Plan:
+    plan = Plan(transfer=within("transfer", transfer), gap=within("gap", gap or 0), gaps=gap is not None)
+    if isinstance(order, Turns):
+        plan.kind, plan.turns = 0, within("steps", order.steps)
+    elif isinstance(order, Random):
+        plan.kind, plan.seed = 1, within("seed", order.seed, 64)
+    elif isinstance(order, Priorities):
+        plan.kind, plan.seed = 2, within("seed", order.seed, 64)
+        plan.changes, plan.within = within("changes", order.changes), within("within", order.within)
+    else:
+        raise TypeError(f"{order!r} is no order")
+    return plan

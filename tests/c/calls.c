@@ -1,0 +1,493 @@
+/* Each call of talusdish.h: what it answers and tells, on empty slots too. Prints a line for each check that fails, and last
+ * `N passed, M failed`. */
+#include "talusdish.h"
+
+#include <stdio.h>
+#include <stdlib.h>
+#include <string.h>
+
+static int passed, failed;
+
+static void check(bool holds, const char *what, int line) {
+    if (holds) {
+        passed++;
+    } else {
+        failed++;
+        printf("tests/c/calls.c:%d: %s\n", line, what);
+    }
+}
+#define CHECK(what) check((what), #what, __LINE__)
+
+/* A buffer of exactly this size, so that the address sanitizer sees each byte beyond it. */
+static uint8_t *exact(const void *bytes, size_t size) {
+    uint8_t *own = malloc(size ? size : 1);
+    if (!own) exit(2);
+    if (size) memcpy(own, bytes, size);
+    return own;
+}
+
+static uint8_t assemble(talusdish_slot *slot, const char *text, talusdish_fault *fault) {
+    size_t size = strlen(text);
+    uint8_t *own = exact(text, size);
+    uint8_t answer = talusdish_assemble(slot, own, size, false, fault);
+    free(own);
+    return answer;
+}
+
+/* The session's bytes, read in pieces of seven. */
+static uint8_t *bytes_of(talusdish_slot *slot, size_t *size) {
+    *size = talusdish_length(slot);
+    uint8_t *all = exact("", 0);
+    free(all);
+    all = malloc(*size ? *size : 1);
+    size_t at = 0, n;
+    uint8_t piece[7];
+    while ((n = talusdish_read(slot, at, piece, sizeof piece)) > 0) {
+        memcpy(all + at, piece, n);
+        at += n;
+    }
+    CHECK(at == *size);
+    return all;
+}
+
+static bool has_bytes(talusdish_slot *slot, const char *want) {
+    size_t size;
+    uint8_t *all = bytes_of(slot, &size);
+    bool same = size == strlen(want) && memcmp(all, want, size) == 0;
+    free(all);
+    return same;
+}
+
+static const talusdish_size small = {65536, 1, 16, false, false};
+static const talusdish_plan turns = {TALUSDISH_TURNS, 1, 0, 0, 0, 4, 0, false};
+
+static uint8_t boot(talusdish_slot *slot, const char *text, talusdish_size conf) {
+    talusdish_fault fault;
+    size_t size;
+    CHECK(assemble(slot, text, &fault) == 0);
+    uint8_t *file = bytes_of(slot, &size);
+    uint8_t answer = talusdish_boot(slot, file, size, &conf);
+    free(file);
+    return answer;
+}
+
+static const char *sum = "main: addiu $8, $0, 5\n addiu $9, $8, 7\n lui $10, 0x8000\n sw $9, 0x1000($10)\nlast: wait\n beq $0, $0, last\n nop\n";
+static const char *hi =
+    " lui $8, 0xbfe0\n ori $9, $0, 104\n sw $9, 0($8)\n"
+    "sent: lw $10, 4($8)\n andi $10, $10, 2\n beq $10, $0, sent\n nop\n"
+    " lui $8, 0xbfff\n sw $0, 32264($8)\n nop\n";
+/* Sends each typed byte back. */
+static const char *echo =
+    " lui $8, 0xbfe0\nread: lw $9, 8($8)\n andi $9, $9, 2\n beq $9, $0, read\n nop\n"
+    " sw $0, 8($8)\n lw $10, 0($8)\n sw $10, 0($8)\n"
+    "sent: lw $9, 4($8)\n andi $9, $9, 2\n beq $9, $0, sent\n nop\n sw $0, 4($8)\n beq $0, $0, read\n nop\n";
+
+/* Each view of a slot without a session. */
+static void views_of_empty(talusdish_slot *slot) {
+    talusdish_shown shown;
+    talusdish_row_words row = {1, 2};
+    talusdish_board_view board = {true, true, 9, 9, 9};
+    talusdish_clash clash = {7, 8, 9};
+    talusdish_logged entry = {7, 8, {9, 9, 9}};
+    uint32_t word = 5;
+    uint8_t byte = 3;
+    memset(&shown, 0x5a, sizeof shown);
+    talusdish_shown same = shown;
+    CHECK(!talusdish_processor(slot, 0, &shown) && memcmp(&shown, &same, sizeof shown) == 0);
+    CHECK(talusdish_made(slot) == 0);
+    CHECK(talusdish_length(slot) == 0);
+    CHECK(talusdish_read(slot, 0, &byte, 1) == 0 && byte == 3);
+    CHECK(!talusdish_word(slot, 0, &word) && word == 5);
+    CHECK(!talusdish_cop(slot, 0, 12, &word) && word == 5);
+    CHECK(!talusdish_row(slot, 0, 0, &row) && row.high == 1 && row.low == 2);
+    CHECK(!talusdish_board(slot, &board) && board.latch == 9);
+    CHECK(!talusdish_link(slot, 0, &word) && word == 5);
+    CHECK(!talusdish_conflict(slot, &clash) && clash.processor == 7 && clash.row == 8 && clash.other == 9);
+    CHECK(talusdish_entries(slot) == 0);
+    CHECK(!talusdish_entry(slot, 0, &entry) && entry.kind == 7 && entry.value == 8 && entry.told.kind == 9);
+}
+
+/* Each call on a slot without a session. */
+static void on_empty(talusdish_slot *slot) {
+    talusdish_fault fault = {7, 9};
+    talusdish_told told = {1, 2, 3};
+    talusdish_goal goal = {0, 0};
+    talusdish_slot to = {0};
+    uint64_t made = 5;
+    uint32_t few = 5;
+    uint8_t byte = 3;
+    views_of_empty(slot);
+    CHECK(talusdish_assemble(slot, &byte, 0, true, &fault) == TALUSDISH_NOTHING);
+    CHECK(talusdish_boot(slot, &byte, 1, &small) == TALUSDISH_NOTHING);
+    CHECK(talusdish_event(slot, TALUSDISH_STEP, 0, &told) == TALUSDISH_NOTHING);
+    CHECK(talusdish_steps(slot, 0, 10, &few) == TALUSDISH_NOTHING && few == 0);
+    CHECK(talusdish_drive(slot, &turns, &byte, 1, 10, &made) == TALUSDISH_NOTHING && made == 0);
+    made = 5;
+    CHECK(talusdish_trace(slot, &turns, &byte, 0, false, 10, &made) == TALUSDISH_NOTHING && made == 0);
+    CHECK(talusdish_output(slot) == TALUSDISH_NOTHING);
+    CHECK(talusdish_log(slot) == TALUSDISH_NOTHING);
+    made = 5;
+    CHECK(talusdish_step(slot, 0, &told) == TALUSDISH_NOTHING && talusdish_key(slot, 1, &told) == TALUSDISH_NOTHING);
+    CHECK(talusdish_done(slot, &told) == TALUSDISH_NOTHING);
+    CHECK(talusdish_search(slot, &turns, &byte, 0, 10, 10, &goal, &made) == TALUSDISH_NOTHING && made == 0);
+    CHECK(talusdish_copy(slot, &to) == TALUSDISH_NOTHING && !to.full && !to.at);
+    CHECK(fault.line == 7 && fault.column == 9 && told.kind == 1 && told.first == 2 && told.second == 3);
+    CHECK(slot->at == NULL && !slot->full);
+}
+
+static void faults(void) {
+    talusdish_slot slot = {0};
+    talusdish_fault fault = {7, 9};
+    CHECK(talusdish_open(&slot));
+    CHECK(talusdish_length(&slot) == 0 && talusdish_made(&slot) == 0);
+    CHECK(assemble(&slot, "main: addiu $8, $0, 1\n  bogus $1\n", &fault) == 2);
+    CHECK(fault.line == 2 && fault.column == 3);
+    CHECK(assemble(&slot, "a: nop\n beq $0, $0, b\n", &fault) == 5 && fault.line == 2);
+    uint8_t *bad = exact("nop\n\xff", 5);
+    fault.line = 7;
+    CHECK(talusdish_assemble(&slot, bad, 5, false, &fault) == TALUSDISH_BAD && fault.line == 7);
+    free(bad);
+    CHECK(talusdish_length(&slot) == 0);
+    CHECK(assemble(&slot, sum, &fault) == 0 && fault.line == 7);
+    size_t size;
+    uint8_t *file = bytes_of(&slot, &size);
+    CHECK(size > 52 && memcmp(file, "\177ELF", 4) == 0);
+    CHECK(assemble(&slot, "bogus\n", &fault) == 2 && talusdish_length(&slot) == size);
+    free(file);
+    talusdish_close(&slot);
+}
+
+/* Refusals of a boot, each of which leaves the session. */
+static void boots(void) {
+    talusdish_slot slot = {0};
+    talusdish_fault fault;
+    size_t size, more;
+    CHECK(talusdish_open(&slot));
+    CHECK(assemble(&slot, sum, &fault) == 0);
+    uint8_t *file = bytes_of(&slot, &size);
+    CHECK(talusdish_assemble(&slot, (const uint8_t *)sum, strlen(sum), true, &fault) == 0);
+    uint8_t *labelled = bytes_of(&slot, &more);
+    CHECK(more > size);
+    talusdish_size no_ram = small, many = small;
+    no_ram.ram = 100;
+    many.processors = 33;
+    CHECK(talusdish_boot(&slot, file, size, &no_ram) == 1);
+    CHECK(talusdish_boot(&slot, file, size, &many) == 1);
+    uint8_t *cut = exact(file, 51);
+    CHECK(talusdish_boot(&slot, cut, 51, &small) == 2);
+    free(cut);
+    cut = exact(file, size - 1);
+    CHECK(talusdish_boot(&slot, cut, size - 1, &small) == 7);
+    free(cut);
+    file[0] = 0;
+    CHECK(talusdish_boot(&slot, file, size, &small) == 3);
+    CHECK(talusdish_length(&slot) == more && talusdish_output(&slot) == TALUSDISH_NOTHING);
+    file[0] = 0x7f;
+    CHECK(talusdish_boot(&slot, file, size, &small) == 0);
+    CHECK(talusdish_boot(&slot, labelled, more, &small) == 0);
+    CHECK(talusdish_length(&slot) == more);
+    free(file);
+    free(labelled);
+    talusdish_close(&slot);
+}
+
+static void events(void) {
+    talusdish_slot slot = {0};
+    talusdish_told told = {9, 9, 9};
+    talusdish_shown shown;
+    uint32_t made, word = 5;
+    CHECK(talusdish_open(&slot));
+    CHECK(talusdish_event(&slot, TALUSDISH_STEP, 0, &told) == TALUSDISH_NOTHING);
+    CHECK(boot(&slot, sum, small) == 0);
+    CHECK(talusdish_processor(&slot, 0, &shown) && shown.pc == 0x80000200 && shown.state == 1 && shown.count == 0 && !shown.in_slot);
+    CHECK(!talusdish_processor(&slot, 1, &shown));
+    CHECK(talusdish_event(&slot, TALUSDISH_STEP, 1, &told) == TALUSDISH_BAD_PROCESSOR && told.kind == 9);
+    CHECK(talusdish_event(&slot, TALUSDISH_DONE, 0, &told) == TALUSDISH_NOTHING_SENT && told.kind == 9);
+    CHECK(talusdish_event(&slot, TALUSDISH_KEY, 256, &told) == TALUSDISH_BAD && told.kind == 9);
+    CHECK(talusdish_event(&slot, 3, 0, &told) == TALUSDISH_BAD && told.kind == 9);
+    CHECK(talusdish_made(&slot) == 0);
+    CHECK(talusdish_event(&slot, TALUSDISH_STEP, 0, &told) == 0 && told.kind == TALUSDISH_RAN && told.first == 0 && told.second == 0);
+    CHECK(talusdish_processor(&slot, 0, &shown) && shown.pc == 0x80000204 && shown.registers[8] == 5 && shown.count == 1);
+    CHECK(talusdish_steps(&slot, 0, 3, &made) == 0 && made == 3);
+    CHECK(talusdish_word(&slot, 0x1000, &word) && word == 12);
+    CHECK(!talusdish_word(&slot, 0x1001, &word) && !talusdish_word(&slot, 65536, &word) && word == 12);
+    CHECK(talusdish_steps(&slot, 1, 3, &made) == TALUSDISH_BAD_PROCESSOR && made == 0);
+    for (int k = 0; k < 256; k++) CHECK(talusdish_event(&slot, TALUSDISH_KEY, (uint32_t)k, &told) == 0 && told.kind == TALUSDISH_TAKEN);
+    CHECK(talusdish_event(&slot, TALUSDISH_KEY, 0, &told) == TALUSDISH_KEY_FULL);
+    CHECK(talusdish_made(&slot) == 260);
+    CHECK(talusdish_processor(&slot, 0, &shown) && shown.count == 4 && shown.registers[9] == 12);
+    talusdish_close(&slot);
+}
+
+/* Steps, keys and ends of transfers by their own calls; the entries of the log. */
+static void single_events(void) {
+    static const char *text = " lui $8, 0xbfe0\n ori $9, $0, 65\n sw $9, 0($8)\n syscall\n nop\n";
+    talusdish_slot slot = {0};
+    talusdish_told told = {9, 9, 9};
+    talusdish_logged entry = {7, 8, {9, 9, 9}};
+    talusdish_size conf = small;
+    conf.log = 4;
+    CHECK(talusdish_open(&slot));
+    CHECK(talusdish_step(&slot, 0, &told) == TALUSDISH_NOTHING && told.kind == 9);
+    CHECK(boot(&slot, text, conf) == 0);
+    CHECK(talusdish_entries(&slot) == 0 && !talusdish_entry(&slot, 0, &entry) && entry.kind == 7);
+    CHECK(talusdish_step(&slot, 1, &told) == TALUSDISH_BAD_PROCESSOR && told.kind == 9);
+    CHECK(talusdish_done(&slot, &told) == TALUSDISH_NOTHING_SENT && told.kind == 9);
+    CHECK(talusdish_step(&slot, 0, &told) == 0 && told.kind == TALUSDISH_RAN);
+    CHECK(talusdish_key(&slot, 200, &told) == 0 && told.kind == TALUSDISH_TAKEN);
+    CHECK(talusdish_step(&slot, 0, &told) == 0 && talusdish_step(&slot, 0, &told) == 0);
+    CHECK(talusdish_entries(&slot) == 4);
+    CHECK(talusdish_entry(&slot, 0, &entry) && entry.kind == TALUSDISH_STEP && entry.value == 0 && entry.told.kind == TALUSDISH_RAN);
+    CHECK(talusdish_entry(&slot, 1, &entry) && entry.kind == TALUSDISH_KEY && entry.value == 200 && entry.told.kind == TALUSDISH_TAKEN);
+    CHECK(talusdish_done(&slot, &told) == 0 && told.kind == TALUSDISH_TAKEN);
+    CHECK(talusdish_output(&slot) == 0 && has_bytes(&slot, "A"));
+    CHECK(talusdish_step(&slot, 0, &told) == 0 && told.kind == TALUSDISH_TRAPPED && told.first == 8 && told.second == 0x80000080);
+    /* the log keeps the last four */
+    CHECK(talusdish_entries(&slot) == 4 && talusdish_made(&slot) == 6);
+    CHECK(talusdish_entry(&slot, 2, &entry) && entry.kind == TALUSDISH_DONE && entry.value == 0 && entry.told.kind == TALUSDISH_TAKEN);
+    CHECK(talusdish_entry(&slot, 3, &entry) && entry.told.kind == TALUSDISH_TRAPPED && entry.told.first == 8 && entry.told.second == 0x80000080);
+    entry.kind = 7;
+    CHECK(!talusdish_entry(&slot, 4, &entry) && !talusdish_entry(&slot, SIZE_MAX, &entry) && entry.kind == 7);
+    talusdish_close(&slot);
+}
+
+/* Two processors add one to the word at 1000 by a load and a store; the second looks, and switches off if it is 2. */
+static const char *race =
+    " lui $8, 0xbfff\n ori $8, $8, 0x8000\n lui $9, 0x8000\n ori $9, $9, 0x021c\n sw $9, 1792($8)\n ori $9, $0, 3\n sw $9, -492($8)\n"
+    "both: lui $8, 0xbfff\n ori $8, $8, 0x8000\n lui $11, 0x8000\n lw $12, 4096($11)\n addiu $12, $12, 1\n sw $12, 4096($11)\n"
+    "over: ll $12, 4160($11)\n addiu $13, $12, 1\n sc $13, 4160($11)\n beq $13, $0, over\n nop\n beq $12, $0, rest\n nop\n"
+    " lw $12, 4096($11)\n addiu $12, $12, -2\n bne $12, $0, rest\n nop\n sw $0, -504($8)\nrest: wait\n beq $0, $0, rest\n nop\n";
+
+static void searches(void) {
+    talusdish_slot slot = {0}, other = {0};
+    talusdish_goal goal = {0x1000, 2};
+    talusdish_plan plan = {TALUSDISH_RANDOM, 0, 0, 0, 0, 100, 0, false};
+    talusdish_size two = {65536, 2, 16, false, false};
+    talusdish_board_view board;
+    uint64_t right = 9, made;
+    uint32_t word;
+    const uint8_t *none = (const uint8_t *)"";
+    CHECK(talusdish_open(&slot));
+    CHECK(boot(&slot, race, two) == 0);
+    CHECK(talusdish_search(&slot, &plan, none, 0, 10000, 100, &goal, &right) == 0);
+    CHECK(talusdish_made(&slot) == 0);
+    /* the runs of the seeds before it end right, and its own doesn't */
+    for (uint64_t k = 0; k <= right; k++) {
+        talusdish_plan one = plan;
+        one.seed = k;
+        CHECK(talusdish_copy(&slot, &other) == 0);
+        uint8_t answer = talusdish_drive(&other, &one, none, 0, 10000, &made);
+        CHECK(talusdish_word(&other, 0x1000, &word));
+        CHECK((answer == TALUSDISH_RUN_OFF && word == 2) == (k < right));
+    }
+    CHECK(talusdish_search(&slot, &plan, none, 0, 10000, right, &goal, &made) == TALUSDISH_ALL_RIGHT && made == right);
+    plan.seed = UINT64_MAX;
+    CHECK(talusdish_search(&slot, &plan, none, 0, 10000, 0, &goal, &made) == TALUSDISH_ALL_RIGHT && made == 0);
+    plan.seed = right;
+    CHECK(talusdish_search(&slot, &plan, none, 0, 10000, 5, &goal, &made) == 0 && made == 0);
+    goal.address = 65536;
+    CHECK(talusdish_search(&slot, &turns, none, 0, 10000, 5, &goal, &made) == 0 && made == 0);
+    plan.kind = 9;
+    CHECK(talusdish_search(&slot, &plan, none, 0, 10, 5, &goal, &made) == TALUSDISH_BAD && made == 0);
+    plan.kind = TALUSDISH_PRIORITIES;
+    CHECK(talusdish_search(&slot, &plan, none, 0, 10, 5, &goal, &made) == TALUSDISH_NO_STRETCH && made == 0);
+    CHECK(talusdish_board(&slot, &board) && board.started == 1);
+    CHECK(talusdish_board(&other, &board) && board.started == 3);
+    talusdish_close(&other);
+    talusdish_close(&slot);
+}
+
+/* Links of ll, and a strict machine that stops at a row of the TLB that would overlap another one. */
+static void links_and_conflicts(void) {
+    static const char *text =
+        " lui $8, 0x8000\n ll $9, 0x1004($8)\n lui $10, 0x0040\n mtc0 $10, $10\n ori $11, $0, 0x0300\n mtc0 $11, $0\n tlbwi\n"
+        " ori $11, $0, 0x0500\n mtc0 $11, $0\n sw $0, 0x1004($8)\n tlbwi\n nop\n";
+    talusdish_slot slot = {0};
+    talusdish_told told;
+    talusdish_clash clash = {7, 8, 9};
+    uint32_t at = 5, made;
+    talusdish_size conf = small;
+    conf.strict = true;
+    CHECK(talusdish_open(&slot));
+    CHECK(boot(&slot, text, conf) == 0);
+    CHECK(!talusdish_link(&slot, 0, &at) && at == 5);
+    CHECK(talusdish_steps(&slot, 0, 2, &made) == 0 && talusdish_link(&slot, 0, &at) && at == 0x1004);
+    at = 5;
+    CHECK(!talusdish_link(&slot, 1, &at) && !talusdish_link(&slot, UINT32_MAX, &at) && at == 5);
+    CHECK(talusdish_steps(&slot, 0, 8, &made) == 0 && made == 8 && !talusdish_link(&slot, 0, &at) && at == 5);
+    CHECK(!talusdish_conflict(&slot, &clash) && clash.row == 8);
+    CHECK(talusdish_step(&slot, 0, &told) == 0 && told.kind == TALUSDISH_CONFLICT && told.first == 5 && told.second == 3);
+    CHECK(talusdish_conflict(&slot, &clash) && clash.processor == 0 && clash.row == 5 && clash.other == 3);
+    CHECK(talusdish_step(&slot, 0, &told) == TALUSDISH_OFF);
+    talusdish_close(&slot);
+}
+
+static void runs(void) {
+    talusdish_slot slot = {0};
+    talusdish_told told;
+    uint64_t made;
+    uint32_t few;
+    CHECK(talusdish_open(&slot));
+    CHECK(boot(&slot, hi, small) == 0);
+    CHECK(talusdish_drive(&slot, &turns, (const uint8_t *)"", 0, 1000, &made) == TALUSDISH_RUN_OFF && made > 8 && made < 40);
+    CHECK(talusdish_made(&slot) == made);
+    CHECK(talusdish_output(&slot) == 0 && has_bytes(&slot, "h"));
+    CHECK(talusdish_event(&slot, TALUSDISH_STEP, 0, &told) == TALUSDISH_OFF);
+    CHECK(talusdish_steps(&slot, 0, 1, &few) == TALUSDISH_OFF && few == 0);
+    CHECK(talusdish_drive(&slot, &turns, (const uint8_t *)"", 0, 9, &made) == TALUSDISH_RUN_OFF && made == 0);
+    talusdish_close(&slot);
+}
+
+/* Plans outside their limits, and the other orders. */
+static void plans(void) {
+    talusdish_slot slot = {0};
+    talusdish_plan plan = turns;
+    uint64_t made;
+    CHECK(talusdish_open(&slot));
+    CHECK(boot(&slot, hi, small) == 0);
+    plan.turns = 0;
+    CHECK(talusdish_drive(&slot, &plan, (const uint8_t *)"", 0, 9, &made) == TALUSDISH_NO_TURN && made == 0);
+    plan.kind = TALUSDISH_PRIORITIES;
+    CHECK(talusdish_drive(&slot, &plan, (const uint8_t *)"", 0, 9, &made) == TALUSDISH_NO_STRETCH);
+    plan.within = 8;
+    plan.changes = 65;
+    CHECK(talusdish_drive(&slot, &plan, (const uint8_t *)"", 0, 9, &made) == TALUSDISH_TOO_MANY_CHANGES);
+    plan.kind = 3;
+    CHECK(talusdish_drive(&slot, &plan, (const uint8_t *)"", 0, 9, &made) == TALUSDISH_BAD);
+    CHECK(talusdish_made(&slot) == 0);
+    plan.kind = TALUSDISH_PRIORITIES;
+    plan.changes = 2;
+    CHECK(talusdish_drive(&slot, &plan, (const uint8_t *)"", 0, 9, &made) == 0 && made == 9);
+    plan.kind = TALUSDISH_RANDOM;
+    plan.seed = 7;
+    CHECK(talusdish_drive(&slot, &plan, (const uint8_t *)"", 0, 1, &made) == 0 && made == 1 && talusdish_made(&slot) == 10);
+    CHECK(talusdish_drive(&slot, &plan, (const uint8_t *)"", 0, 0, &made) == 0 && made == 0);
+    talusdish_close(&slot);
+}
+
+/* A sleeping machine, and keys. */
+static void waits(void) {
+    talusdish_slot slot = {0};
+    talusdish_plan plan = turns;
+    talusdish_shown shown;
+    uint64_t made;
+    CHECK(talusdish_open(&slot));
+    CHECK(boot(&slot, sum, small) == 0);
+    CHECK(talusdish_drive(&slot, &turns, (const uint8_t *)"", 0, 1000, &made) == TALUSDISH_RUN_STUCK && made == 5);
+    CHECK(talusdish_processor(&slot, 0, &shown) && shown.state == 2);
+    CHECK(boot(&slot, echo, small) == 0);
+    plan.gap = 50;
+    plan.gaps = true;
+    uint8_t *keys = exact("ab!", 3);
+    CHECK(talusdish_drive(&slot, &plan, keys, 3, 400, &made) == 0 && made == 400);
+    free(keys);
+    CHECK(talusdish_output(&slot) == 0 && has_bytes(&slot, "ab!"));
+    talusdish_close(&slot);
+}
+
+static void traces(void) {
+    talusdish_slot slot = {0}, other = {0};
+    talusdish_shown a, b;
+    uint64_t made, as_many;
+    CHECK(talusdish_open(&slot) && talusdish_open(&other));
+    CHECK(talusdish_trace(&slot, &turns, (const uint8_t *)"", 0, false, 3, &made) == TALUSDISH_NOTHING && made == 0);
+    CHECK(boot(&slot, sum, small) == 0 && boot(&other, sum, small) == 0);
+    CHECK(talusdish_trace(&slot, &turns, (const uint8_t *)"", 0, false, 2, &made) == 0 && made == 2);
+    CHECK(has_bytes(&slot, "0 0 80000200 24080005 addiu $8, $0, 5  r8=00000005\n1 0 80000204 25090007 addiu $9, $8, 7  r9=0000000c\n"));
+    CHECK(talusdish_trace(&slot, &turns, (const uint8_t *)"", 0, true, 1, &made) == 0 && made == 1);
+    CHECK(has_bytes(&slot, "2 0 80000208 3c0a8000 lui $t2, 0x8000  t2=80000000\n"));
+    talusdish_plan none = turns;
+    none.turns = 0;
+    CHECK(talusdish_trace(&slot, &none, (const uint8_t *)"", 0, true, 1, &made) == TALUSDISH_NO_TURN && made == 0);
+    CHECK(talusdish_made(&slot) == 3);
+    CHECK(talusdish_trace(&slot, &turns, (const uint8_t *)"", 0, false, 9, &made) == TALUSDISH_RUN_STUCK && made == 2);
+    CHECK(talusdish_drive(&other, &turns, (const uint8_t *)"", 0, 100, &as_many) == TALUSDISH_RUN_STUCK && as_many == 5);
+    memset(&a, 0, sizeof a);
+    memset(&b, 0, sizeof b);
+    CHECK(talusdish_processor(&slot, 0, &a) && talusdish_processor(&other, 0, &b));
+    CHECK(memcmp(a.registers, b.registers, sizeof a.registers) == 0 && a.pc == b.pc && a.count == b.count);
+    talusdish_close(&other);
+    talusdish_close(&slot);
+}
+
+/* tlbwi writes EntryHi and EntryLo to the row that Index names; a byte is sent then. */
+static const char *text_of_views =
+    " lui $8, 0x0040\n ori $8, $8, 0x0140\n mtc0 $8, $10\n ori $9, $0, 0x5600\n mtc0 $9, $2\n"
+    " ori $10, $0, 0x0300\n mtc0 $10, $0\n tlbwi\n mfc0 $11, $15\n lui $12, 0xbfe0\n ori $13, $0, 65\n sw $13, 0($12)\n nop\n";
+
+static void views(void) {
+    talusdish_slot slot = {0};
+    talusdish_row_words row = {1, 2};
+    talusdish_board_view board;
+    talusdish_told told;
+    uint32_t word = 5, made;
+    CHECK(talusdish_open(&slot));
+    CHECK(!talusdish_board(&slot, &board) && talusdish_log(&slot) == TALUSDISH_NOTHING);
+    talusdish_size conf = small;
+    conf.log = 3;
+    CHECK(boot(&slot, text_of_views, conf) == 0);
+    CHECK(talusdish_log(&slot) == 0 && has_bytes(&slot, "m161 log 2 word\n"));
+    CHECK(talusdish_steps(&slot, 0, 3, &made) == 0);
+    CHECK(talusdish_log(&slot) == 0 && has_bytes(&slot, "m161 log 2 word\ns 0 ran\ns 0 ran\ns 0 ran\n"));
+    CHECK(talusdish_steps(&slot, 0, 5, &made) == 0);
+    CHECK(talusdish_row(&slot, 0, 3, &row) && row.high == 0x00400140 && row.low == 0x5600);
+    row.high = 1;
+    CHECK(!talusdish_row(&slot, 0, 64, &row) && !talusdish_row(&slot, 1, 0, &row) && row.high == 1);
+    CHECK(talusdish_cop(&slot, 0, 15, &word) && word == 0xa1);
+    CHECK(talusdish_cop(&slot, 0, 10, &word) && word == 0x00400140);
+    CHECK(!talusdish_cop(&slot, 0, 3, &word) && !talusdish_cop(&slot, 0, 32, &word) && !talusdish_cop(&slot, 1, 0, &word) && word == 0x00400140);
+    CHECK(talusdish_board(&slot, &board) && !board.off && !board.sending && board.latch == 0 && board.waiting == 0);
+    CHECK(talusdish_steps(&slot, 0, 4, &made) == 0 && talusdish_event(&slot, TALUSDISH_KEY, 66, &told) == 0);
+    CHECK(talusdish_board(&slot, &board) && !board.off && board.sending && board.latch == 65 && board.waiting == 1);
+    CHECK(talusdish_log(&slot) == 0 && has_bytes(&slot, "m161 tail 2 word 10\ns 0 ran\ns 0 ran\nk 42 taken\n"));
+    talusdish_close(&slot);
+}
+
+/* A copy goes its own way. */
+static void copies(void) {
+    talusdish_slot slot = {0}, copy = {0};
+    talusdish_told told;
+    talusdish_shown a, b;
+    uint32_t made;
+    talusdish_size conf = small;
+    conf.log = 3;
+    CHECK(talusdish_open(&slot));
+    CHECK(talusdish_copy(&slot, &copy) == 0 && copy.full && talusdish_length(&copy) == 0);
+    CHECK(boot(&slot, text_of_views, conf) == 0);
+    CHECK(talusdish_steps(&slot, 0, 12, &made) == 0 && talusdish_event(&slot, TALUSDISH_KEY, 66, &told) == 0 && talusdish_log(&slot) == 0);
+    CHECK(talusdish_copy(&slot, &copy) == 0 && has_bytes(&copy, "m161 tail 2 word 10\ns 0 ran\ns 0 ran\nk 42 taken\n"));
+    CHECK(talusdish_event(&copy, TALUSDISH_DONE, 0, &told) == 0 && talusdish_output(&copy) == 0 && has_bytes(&copy, "A"));
+    CHECK(talusdish_output(&slot) == 0 && has_bytes(&slot, "") && talusdish_made(&slot) == 13 && talusdish_made(&copy) == 14);
+    CHECK(talusdish_steps(&copy, 0, 1, &made) == 0);
+    CHECK(talusdish_processor(&slot, 0, &a) && talusdish_processor(&copy, 0, &b) && a.count + 1 == b.count);
+    CHECK(talusdish_copy(&slot, &copy) == 0 && talusdish_made(&copy) == 13);
+    talusdish_close(&slot);
+    CHECK(talusdish_made(&slot) == 0 && talusdish_made(&copy) == 13 && talusdish_event(&copy, TALUSDISH_DONE, 0, &told) == 0);
+    CHECK(talusdish_copy(&slot, &copy) == TALUSDISH_NOTHING && talusdish_made(&copy) == 14);
+    talusdish_close(&copy);
+}
+
+int main(void) {
+    talusdish_slot slot = {0};
+    on_empty(&slot);
+    CHECK(talusdish_open(&slot) && slot.full && slot.at);
+    CHECK(talusdish_open(&slot) && slot.full); /* frees the first one */
+    talusdish_close(&slot);
+    on_empty(&slot);
+    talusdish_close(&slot);
+    on_empty(&slot);
+    faults();
+    boots();
+    events();
+    single_events();
+    searches();
+    links_and_conflicts();
+    runs();
+    plans();
+    waits();
+    traces();
+    views();
+    copies();
+    printf("%d passed, %d failed\n", passed, failed);
+    return failed != 0;
+}

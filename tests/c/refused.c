@@ -1,0 +1,135 @@
+/* A run of all calls in which one request of memory is refused: each in turn. What isn't answered by "memory" has to be as in a
+ * run without refusals; after the refusal the same call again has to go as if it had not been. */
+#include "talusdish.h"
+
+#include <errno.h>
+#include <stdio.h>
+#include <stdlib.h>
+#include <string.h>
+
+static long requests, refuse_at;
+static int passed, failed;
+
+static bool refused(void) { return ++requests == refuse_at; }
+
+void *__real_malloc(size_t size);
+void *__real_calloc(size_t count, size_t size);
+void *__real_realloc(void *at, size_t size);
+void *__real_aligned_alloc(size_t align, size_t size);
+int __real_posix_memalign(void **at, size_t align, size_t size);
+void *__wrap_malloc(size_t size) { return refused() ? NULL : __real_malloc(size); }
+void *__wrap_calloc(size_t count, size_t size) { return refused() ? NULL : __real_calloc(count, size); }
+void *__wrap_realloc(void *at, size_t size) { return refused() ? NULL : __real_realloc(at, size); }
+void *__wrap_aligned_alloc(size_t align, size_t size) { return refused() ? NULL : __real_aligned_alloc(align, size); }
+int __wrap_posix_memalign(void **at, size_t align, size_t size) { return refused() ? ENOMEM : __real_posix_memalign(at, align, size); }
+
+static const char *hi =
+    " lui $8, 0xbfe0\n ori $9, $0, 104\n sw $9, 0($8)\n"
+    "sent: lw $10, 4($8)\n andi $10, $10, 2\n beq $10, $0, sent\n nop\n"
+    " lui $8, 0xbfff\n sw $0, 32264($8)\n nop\n";
+
+static uint64_t sum;
+static void note(uint64_t word) { sum = (sum ^ word) * 1099511628211u; }
+
+/* All that is seen of a session. */
+static void view(talusdish_slot *slot) {
+    talusdish_shown shown;
+    uint8_t bytes[65536];
+    uint32_t word;
+    size_t n = talusdish_read(slot, 0, bytes, sizeof bytes);
+    note(talusdish_made(slot));
+    note(talusdish_length(slot));
+    for (size_t k = 0; k < n; k++) note(bytes[k]);
+    memset(&shown, 0, sizeof shown);
+    if (talusdish_processor(slot, 0, &shown)) {
+        for (int k = 0; k < 32; k++) note(shown.registers[k]);
+        note(shown.pc);
+        note(shown.count);
+    }
+    for (uint32_t at = 0; at < 8192; at += 4) note(talusdish_word(slot, at, &word) ? word : 1);
+}
+
+static uint64_t seen(talusdish_slot *slot) {
+    uint64_t kept = sum, now;
+    sum = 1;
+    view(slot);
+    now = sum;
+    sum = kept;
+    return now;
+}
+
+static bool all_same = true;
+
+/* A call that is made again where memory was refused. */
+#define AGAIN(memory, call)                                     \
+    do {                                                        \
+        uint64_t before = seen(&slot);                          \
+        int answer = (call);                                    \
+        if (answer == (memory)) {                               \
+            all_same = all_same && before == seen(&slot);       \
+            answer = (call);                                    \
+        }                                                       \
+        note((uint64_t)answer);                                 \
+        view(&slot);                                            \
+    } while (0)
+
+static uint64_t whole(long at) {
+    talusdish_slot slot = {0};
+    talusdish_fault fault;
+    talusdish_told told;
+    uint64_t made = 0;
+    uint32_t few = 0;
+    static uint8_t file[65536];
+    talusdish_size conf = {8192, 2, 8, false, false};
+    talusdish_plan plan = {TALUSDISH_TURNS, 1, 0, 0, 0, 4, 0, false};
+    requests = 0;
+    refuse_at = at;
+    sum = 1;
+    AGAIN(0, talusdish_open(&slot));
+    AGAIN(9, talusdish_assemble(&slot, (const uint8_t *)hi, strlen(hi), true, &fault));
+    size_t size = talusdish_read(&slot, 0, file, sizeof file);
+    AGAIN(254, talusdish_boot(&slot, file, size, &conf));
+    AGAIN(254, talusdish_trace(&slot, &plan, (const uint8_t *)"k", 1, true, 2, &made));
+    note(made);
+    AGAIN(6, talusdish_event(&slot, TALUSDISH_STEP, 0, &told));
+    note(told.kind);
+    AGAIN(6, talusdish_event(&slot, TALUSDISH_DONE, 0, &told));
+    note(told.kind);
+    AGAIN(254, talusdish_output(&slot));
+    AGAIN(6, talusdish_steps(&slot, 0, 2, &few));
+    note(few);
+    AGAIN(254, talusdish_trace(&slot, &plan, (const uint8_t *)"", 0, false, 100, &made));
+    note(made);
+    AGAIN(254, talusdish_output(&slot));
+    AGAIN(254, talusdish_log(&slot));
+    talusdish_goal goal = {0x1000, 0};
+    AGAIN(254, talusdish_search(&slot, &plan, (const uint8_t *)"", 0, 100, 3, &goal, &made));
+    note(made);
+    talusdish_slot copy = {0};
+    AGAIN(254, talusdish_copy(&slot, &copy));
+    note(seen(&copy) == seen(&slot));
+    talusdish_close(&copy);
+    talusdish_close(&slot);
+    return sum;
+}
+
+int main(void) {
+    uint64_t want = whole(0);
+    long all = requests;
+    if (all < 20) {
+        printf("only %ld requests\n0 passed, 1 failed\n", all);
+        return 1;
+    }
+    for (long at = 1; at <= all; at++) {
+        all_same = true;
+        bool holds = whole(at) == want && all_same;
+        if (holds) {
+            passed++;
+        } else {
+            failed++;
+            printf("request %ld of %ld\n", at, all);
+        }
+    }
+    printf("%d passed, %d failed\n", passed, failed);
+    return failed != 0;
+}
