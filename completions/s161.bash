@@ -9,7 +9,7 @@ _s161_of_command() {
     console) options='--ram --cpus --log --link --strict --turns --delayed --random --changes --within --events --transfer --gap -h --help' arguments=('files @sample') ;;
     schedule) options='--ram --cpus --log --link --strict --turns --delayed --random --changes --within --events --transfer --keys --gap -h --help' arguments=('files @sample') ;;
     search) options='--ram --cpus --log --link --strict --seeds --delays --turns --from --jobs --watches --never --output --whole --changes --within --events --transfer --keys --gap -h --help' arguments=('files @sample') ;;
-    trace) options='--ram --cpus --log --link --strict --from --count --names --symbols --only --outcomes --turns --delayed --random --changes --within --events --transfer --keys --gap -h --help' arguments=('files @sample') ;;
+    trace) options='--ram --cpus --log --link --strict --from --count --names --symbols --only --outcomes --loads --turns --delayed --random --changes --within --events --transfer --keys --gap -h --help' arguments=('files @sample') ;;
     replay) options='--ram --cpus --log -h --help' arguments=('files @sample' 'files') ;;
     debug) options='--ram --cpus --log --link --strict --names --symbols --turns --delayed --random --changes --within --events --transfer --keys --gap -h --help' arguments=('files @sample' 'files') ;;
     gdb) options='--ram --cpus --log --link --strict --turns --delayed --random --changes --within --events --transfer --keys --gap -h --help' arguments=('files @sample' 'files') ;;

@@ -114,6 +114,7 @@ complete -c s161 -n '__fish_seen_subcommand_from trace' -l names -d 'Shows regis
 complete -c s161 -n '__fish_seen_subcommand_from trace' -l symbols -d 'Shows names of addresses, from the image\'s symbol table'
 complete -c s161 -n '__fish_seen_subcommand_from trace' -l only -x -d 'Only Steps of processor P have lines'
 complete -c s161 -n '__fish_seen_subcommand_from trace' -l outcomes -d 'Only traps, idle Steps, and what stops the machine have lines'
+complete -c s161 -n '__fish_seen_subcommand_from trace' -l loads -d 'Shows the word that a Step loads, as its first item: (ADDRESS)='
 complete -c s161 -n '__fish_seen_subcommand_from trace' -l turns -x -d 'Chooses the events: each ready processor makes N Steps in turn, 1 to 1000000'
 complete -c s161 -n '__fish_seen_subcommand_from trace' -l delayed -x -d 'With --turns: at the choices of these numbers, from 0, a ready processor is passed over; 1 to 64, ascending'
 complete -c s161 -n '__fish_seen_subcommand_from trace' -l random -x -d 'Chooses the events: the next Step is that of a ready processor at random, always the same for a SEED'
