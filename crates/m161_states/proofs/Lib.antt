@@ -1,0 +1,3 @@
+mod Apart
+mod Seen
+mod Law

@@ -1,0 +1,5 @@
+pub mod Question
+pub mod System
+pub mod Verdicts
+pub mod Views
+pub mod Laws
