@@ -1,4 +1,4 @@
-use Rattle.std.proofs.Common.{◌≡◌, ◌∙◌, refl, ap, sym, subst, ℕ, ◌+◌, Bool, true, false, List, [], ◌∷◌, length, Option, None, Some, Result, Ok, Err, ◌⊎◌, inl, inr}
+use Rattle.std.proofs.Common.{◌≡◌, ◌∙◌, refl, ap, sym, subst, ℕ, Bool, true, false, [], ◌∷◌, length, Option, None, Some, Result, Ok, Err, ◌⊎◌, inl, inr}
 use Rattle.std.specs.Prelude.{◌==◌, ◌&&◌, ◌||◌, not, nat_le, nat_lt, is_some, slice_get, option_map, if◌then◌else◌}
 use Rattle.std.specs.List.{list_any, range_with_len}
 use Rattle.std.specs.Option.{option_or}
@@ -7,17 +7,14 @@ use Rattle.m161_cpu.specs.declared.processor.Outcome.{Outcome}
 use Rattle.m161_cpu.specs.declared.uses.Uses.{Uses}
 use Rattle.m161_cpu.specs.declared.uses.Via.{Via}
 use Rattle.m161_cpu.specs.Processor.{Processor}
-use Rattle.m161_tlb.specs.declared.row.Row.{Row}
 use Rattle.m161_machine.specs.declared.event.Event.{Event}
 use Rattle.m161_machine.specs.declared.event.Event.TheVariants.{Step, Key, Done}
 use Rattle.m161_machine.specs.declared.event.Refusal.{Refusal}
 use Rattle.m161_machine.specs.declared.event.Refusal.TheVariants.{BadProcessor, Off, Worn}
 use Rattle.m161_machine.specs.State.{State, answer, is_worn, next as result_of, processor_at, refusal, unless, word_in}
 use Rattle.m161_machine.specs.Fetched.{fetched}
-use Rattle.m161_machine.specs.Resting.{rests, ticks}
 use Rattle.m161_machine.specs.Uses.{uses_in}
-use Rattle.m161_drive.specs.Ready.{is_asleep, is_sending, some_ready, some_ticking}
-use Rattle.m161_judge.specs.Verdict.{Criteria, is_stuck}
+use Rattle.m161_drive.specs.Ready.{is_asleep, some_ready, some_ticking}
 use Rattle.m161_alike.specs.declared.known.Known.{Known}
 use Rattle.m161_alike.specs.declared.reads.Reads.{Reads}
 use Rattle.m161_alike.specs.Reads.{AreWithin, no_reads, reads_in}
@@ -25,13 +22,12 @@ use Rattle.m161_alike.specs.View.{AreAlike, known_of}
 use Rattle.m161_alike.specs.Law.{AlikeLaw, AnswersAlike, BehaveAlike, LookAlike, ReadsWithin, UsesAlike, sent_by}
 use Rattle.m161_alike.specs.WordsLaw.{ViewLaw}
 use Rattle.m161_states.specs.declared.verdict.Unknown.{Unknown}
-use Rattle.m161_states.specs.declared.verdict.Verdict.{Verdict}
-use Rattle.m161_states.specs.declared.verdict.Verdict.TheVariants.{Conflict, Output, Reached, Stale, Stuck}
-use Rattle.m161_states.specs.Question.{Question, booted, processors_of}
-use Rattle.m161_states.specs.System.{Explored, Flags, accepted, agreed_after, behind, event_of, flags_behind, fresh, next, next_by, stored_by, typed_after}
-use Rattle.m161_states.specs.Verdicts.{conflict_in, has_sent, is_end, is_old_row, is_outside, is_stuck_in, judged, output_in, reached_at, reached_by, reads_next, some_watch, stale_use, stale_via, stop, stop_by, stuck_in, unknown_by, verdict, verdict_by, wrong_in, wrong_with}
+use Rattle.m161_states.specs.declared.verdict.Verdict.TheVariants.{Conflict, Output, Stale, Stuck}
+use Rattle.m161_states.specs.Question.{Question, processors_of}
+use Rattle.m161_states.specs.System.{Explored, accepted, agreed_after, behind, event_of, flags_behind, fresh, next_by, stored_by, typed_after}
+use Rattle.m161_states.specs.Verdicts.{has_sent, is_end, is_old_row, is_outside, is_stuck_in, judged, reached_at, reached_by, some_watch, stale_use, stale_via, stop, stop_by, unknown_by, verdict_by, wrong_in, wrong_with}
 use Rattle.m161_states.specs.Views.{view}
-use Rattle.m161_states.specs.Laws.{AlikeEnd, AlikeNext, AlikeStop, AlikeVerdict, IsValid}
+use Rattle.m161_states.specs.Laws.{AlikeEnd, AlikeNext, AlikeStop, AlikeVerdict}
 use Rattle.m161_states.proofs.Seen.{Same, same_processor, same_size, shown, told}
 
 -- States with one view behave alike.
@@ -149,9 +145,11 @@ refused_with s e r h = ap (λ o. unless o (answer s e)) h
 
 off_refuses : (s : State) (e : Event) → s.board.off ≡ true → (r : Refusal) × (result_of s e ≡ Err r)
 off_refuses s (Step p) off =
-    let first = refused_off (nat_le (length s.processors) p) (is_worn s.made) in
-    (first.0, refused_with s (Step p) first.0
-    (ap (λ o. first_answer ((nat_le (length s.processors) p, BadProcessor) ∷ (o, Off) ∷ (is_worn s.made, Worn) ∷ [])) off ∙ first.1))
+    let first = refused_off (nat_le (length s.processors) p) (is_worn s.made) in (
+      first.0,
+      refused_with s (Step p) first.0
+          (ap (λ o. first_answer ((nat_le (length s.processors) p, BadProcessor) ∷ (o, Off) ∷ (is_worn s.made, Worn) ∷ [])) off ∙ first.1),
+    )
 off_refuses s (Key byte) off = (Off, refused_with s (Key byte) Off (ap (λ o. first_answer ((o, Off) ∷ (is_worn s.made, Worn) ∷ [])) off))
 off_refuses s Done off = (Off, refused_with s Done Off (ap (λ o. first_answer ((o, Off) ∷ (is_worn s.made, Worn) ∷ [])) off))
 
@@ -188,9 +186,11 @@ same_some u v h = cc
 accepted_alike : (q : Question) (x y u : Explored) (e : Event) (r o : Result (Outcome × State) Refusal) → Same q x y →
     BehaveAlike q.known e (fresh x.state) (fresh y.state) → AnswersAlike q.known r o → accepted q.goal x e r ≡ Some u → Follows q u (accepted q.goal y e o)
 accepted_alike q x y u e (Ok a) (Ok b) same behave answers h =
-    let is : behind q.goal x e a.1 ≡ u = same_some (behind q.goal x e a.1) u h in
-    (behind q.goal y e b.1, refl,
-    ap (view q) (sym is) ∙ shown q (behind q.goal x e a.1) (behind q.goal y e b.1) (same_behind q x y e a.1 b.1 same behave answers.1))
+    let is : behind q.goal x e a.1 ≡ u = same_some (behind q.goal x e a.1) u h in (
+      behind q.goal y e b.1,
+      refl,
+      ap (view q) (sym is) ∙ shown q (behind q.goal x e a.1) (behind q.goal y e b.1) (same_behind q x y e a.1 b.1 same behave answers.1),
+    )
 accepted_alike q x y u e (Err r) o same behave answers h = absurd (let bad : ◌≡◌ {A = Option Explored} None (Some u) = h in cc)
 accepted_alike q x y u e (Ok a) (Err o) same behave answers h = absurd answers
 

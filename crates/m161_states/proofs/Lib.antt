@@ -1,3 +1,9 @@
 mod Apart
+mod Memory
 mod Seen
 mod Law
+mod Lists
+mod Boards
+mod Changes
+mod Steps
+mod Shapes

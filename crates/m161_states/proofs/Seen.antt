@@ -1,4 +1,4 @@
-use Rattle.std.proofs.Common.{◌≡◌, ◌∙◌, refl, ap, sym, subst, ℕ, zero, suc, ◌+◌, ◌<◌, arith, Bool, true, false, List, [], ◌∷◌, ◌++◌, length, drop, get_or, Option, None, Some, append_assoc}
+use Rattle.std.proofs.Common.{◌≡◌, ◌∙◌, refl, ap, sym, ℕ, zero, suc, ◌+◌, arith, Bool, true, false, List, [], ◌∷◌, ◌++◌, length, drop, get_or, append_assoc}
 use Rattle.std.specs.Prelude.{◌||◌, ◌==◌, not, flat_map, if◌then◌else◌}
 use Rattle.std.specs.List.{range_with_len}
 use Rattle.m161_cop0.specs.Control.{control_at_start}
@@ -8,11 +8,13 @@ use Rattle.m161_alike.specs.declared.known.Known.{Known}
 use Rattle.m161_alike.specs.declared.reads.Reads.{Reads}
 use Rattle.m161_alike.specs.View.{AreAlike, known_of, processor_view, processors_view}
 use Rattle.m161_alike.specs.Words.{board_words, memory_words, optional, processor_words}
-use Rattle.m161_alike.specs.WordsLaw.{AreOfOneConf, ViewLaw, words_at}
+use Rattle.m161_alike.specs.WordsLaw.{AreOfOneConf, HasShape, ViewLaw, words_at}
 use Rattle.m161_states.specs.Question.{Question, booted, processors_of}
-use Rattle.m161_states.specs.System.{Explored, Flags, start}
-use Rattle.m161_states.specs.Views.{beside_words, counted, flag_words, view}
+use Rattle.m161_states.specs.System.{Explored, start}
+use Rattle.m161_states.specs.Shape.{IsShaped}
+use Rattle.m161_states.specs.Views.{counted, flag_words, view}
 use Rattle.m161_states.specs.Laws.{IsValid}
+use Rattle.m161_states.proofs.Memory.{memory_told}
 use Rattle.m161_states.proofs.Apart.{counted_apart, optional_apart, piece, pieces_size, same_flags, split}
 
 -- What states with one view share.
@@ -94,6 +96,28 @@ one_conf q s t a b = record {
   memory = sym a.memory ∙ b.memory;
 }
 
+-- all of a state but its memory
+abbrev bare : State → State
+bare s = record s { memory = [] }
+
+bare_shape : (s : State) → IsShaped s → HasShape (bare s)
+bare_shape s a = record {
+  processors = a.processors;
+  size_is = a.size_is;
+  places = a.places;
+  crams = a.crams;
+  other_places = a.other_places;
+  links = a.links;
+  other_links = a.other_links;
+  memory = (λ k d below. absurd (let bad : ⊥ = omega (arith, below) in bad), refl);
+}
+
+bare_conf : (s t : State) → AreOfOneConf s t → AreOfOneConf (bare s) (bare t)
+bare_conf s t a = record { conf = a.conf; ram = a.ram; processors = a.processors; unit = a.unit; memory = refl }
+
+with_memory : (known : Known) (s t : State) → AreAlike known (bare s) (bare t) → s.memory ≡ t.memory → AreAlike known s t
+with_memory known s t alike memory = λ i. record (alike i) { memory = memory i }
+
 pub told : ViewLaw → (q : Question) (x y : Explored) → IsValid q x → IsValid q y → view q x ≡ view q y → Same q x y
 told law q x y a b e =
     let n = processors_of q in
@@ -109,12 +133,15 @@ told law q x y a b e =
     let fifth = counted_apart (flat_map flag_words x.flags) (flat_map flag_words y.flags) _ _ fourth.1 in
     let sixth = counted_apart (board_words x.state) (board_words y.state) _ _ fifth.1 in
     let number : n ≡ x.state.board.processors = a.one.processors in
+    let one = one_conf q x.state y.state a.one b.one in
+    let others = law q.known [] (bare x.state) (bare y.state) (bare_shape x.state a.shape) (bare_shape y.state b.shape) (bare_conf x.state y.state one) (record {
+      processors = λ p below. piece f g sizes n p (omega (arith, below, number)) first.0;
+      board = sixth.0;
+      memory = refl;
+    }) in
     record {
-      alike = law q.known (booted q).bytes x.state y.state a.shape b.shape (one_conf q x.state y.state a.one b.one) (record {
-        processors = λ p below. piece f g sizes n p (omega (arith, below, number)) first.0;
-        board = sixth.0;
-        memory = sixth.1;
-      });
+      alike = with_memory q.known x.state y.state others
+          (memory_told (booted q).bytes x.state.memory y.state.memory a.shape.bytes b.shape.bytes a.shape.whole one.memory sixth.1);
       typed = ap (λ l. get_or l 0 0) second;
       flags = same_flags x.flags y.flags fifth.0;
       agreed = fourth.0;

@@ -1,19 +1,17 @@
 use Rattle.std.specs.Prelude.{◌≡◌, ℕ, None, Some}
-use Rattle.m161_alike.specs.WordsLaw.{AreOfOneConf, HasShape}
+use Rattle.m161_alike.specs.WordsLaw.{AreOfOneConf}
 use Rattle.m161_states.specs.Question.{Question}
 use Rattle.m161_states.specs.System.{Explored, next, start}
 use Rattle.m161_states.specs.Verdicts.{is_end, stop, verdict}
+use Rattle.m161_states.specs.Shape.{IsShaped}
 use Rattle.m161_states.specs.Views.{view}
 
 -- The laws of the system.
 
 -- the lists of the machine's state have their sizes, and it is of the machine that is booted
 pub record IsValid (q : Question) (x : Explored) : Type 0 where
-  pub shape : HasShape x.state
+  pub shape : IsShaped x.state
   pub one : AreOfOneConf (start q).state x.state
-
-abbrev pub SameView : Question → Explored → Explored → Type 0
-SameView q x y = IsValid q x × IsValid q y × (view q x ≡ view q y)
 
 abbrev pub ValidStart : Type 0
 ValidStart = (q : Question) → IsValid q (start q)

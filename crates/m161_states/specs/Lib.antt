@@ -2,4 +2,5 @@ pub mod Question
 pub mod System
 pub mod Verdicts
 pub mod Views
+pub mod Shape
 pub mod Laws

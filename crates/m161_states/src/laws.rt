@@ -1,7 +1,7 @@
 //! Laws of the system, in the form in which an exploration asks for them. The functions do nothing:
 //! their contracts are the laws.
 
-ghost use Rattle.m161_states.specs.Laws.{AlikeEnd, AlikeNext, AlikeStop, AlikeVerdict};
+ghost use Rattle.m161_states.specs.Laws.{AlikeEnd, AlikeNext, AlikeStop, AlikeVerdict, ValidNext, ValidStart};
 
 use m161_alike::{alike_states_behave_alike, words_tell_a_view};
 
@@ -37,3 +37,13 @@ pub fn alike_end()
     alike_states_behave_alike();
     words_tell_a_view();
 }
+
+/// The first state is valid.
+pub fn valid_start()
+    ensures law { ValidStart }
+{}
+
+/// An event leads from a valid state to a valid one.
+pub fn valid_next()
+    ensures law { ValidNext }
+{}

@@ -21,7 +21,7 @@
 mod laws;
 mod verdict;
 
-pub use laws::{alike_end, alike_next, alike_stop, alike_verdict};
+pub use laws::{alike_end, alike_next, alike_stop, alike_verdict, valid_next, valid_start};
 pub use m161_alike::{Known, Reads};
 pub use m161_machine::Conflict;
 pub use verdict::{Unknown, Verdict};
