@@ -7,3 +7,7 @@ mod Boards
 mod Changes
 mod Steps
 mod Shapes
+mod Told
+mod Agreed
+mod Followed
+mod Audited

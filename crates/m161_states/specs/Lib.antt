@@ -4,3 +4,4 @@ pub mod Verdicts
 pub mod Views
 pub mod Shape
 pub mod Laws
+pub mod Run

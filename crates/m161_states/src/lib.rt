@@ -19,9 +19,11 @@
 #![tactic(auto)]
 
 mod laws;
+mod run_laws;
 mod verdict;
 
 pub use laws::{alike_end, alike_next, alike_stop, alike_verdict, valid_next, valid_start};
 pub use m161_alike::{Known, Reads};
 pub use m161_machine::Conflict;
+pub use run_laws::{agreed_tells, flag_tells, next_is_event, stale_is_audited, start_is_boot};
 pub use verdict::{Unknown, Verdict};
