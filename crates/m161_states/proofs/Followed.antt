@@ -122,7 +122,7 @@ stores_are Done s = refl
 
 -- one event more
 
-same_given : (a b : Outcome × State) → ◌≡◌ {A = Result (Outcome × State) Refusal} (Ok (a.0, fresh a.1)) (Ok (b.0, fresh b.1)) → fresh a.1 ≡ fresh b.1
+pub same_given : (a b : Outcome × State) → ◌≡◌ {A = Result (Outcome × State) Refusal} (Ok (a.0, fresh a.1)) (Ok (b.0, fresh b.1)) → fresh a.1 ≡ fresh b.1
 same_given a b h = let pair : ◌≡◌ {A = Outcome × State} (a.0, fresh a.1) (b.0, fresh b.1) = cc in ap (λ (x : Outcome × State). x.1) pair
 
 module _ (law : SentLaw) (q : Question) (es : List Event) (s : StoreState) (x : Explored) (e : Event) (b : IsBehind q es s x) where
@@ -174,3 +174,19 @@ start_is_boot q =
     none_sent : (output : Option (List ℕ)) → agreed_at_boot output ≡ agreed_of output []
     none_sent None = refl
     none_sent (Some asked) = refl
+
+-- the same of the state behind, by its parts
+
+pub follows_to : SentLaw → (q : Question) (es : List Event) (s : StoreState) (x : Explored) (e : Event) → IsBehind q es s x → (given a : Outcome × State) →
+    result_of (live_state s) e ≡ Ok given → fresh a.1 ≡ fresh given.1 → IsBehind q (es ++ e ∷ []) (after_event s e) (behind q.goal x e a.1)
+follows_to law q es s x e b given a h same = behind_is law q es s x e b given a h same
+
+pub image_behind : (q : Question) (es : List Event) (s : StoreState) (x : Explored) (e : Event) → IsBehind q es s x → (given : Outcome × State) →
+    result_of (live_state s) e ≡ Ok given → live_state (after_event s e) ≡ given.1
+image_behind q es s x e b given h =
+    let more = next_with_stores e s given.0 given.1 (made_behind q es s x b) h in
+    ap live_state (ap (state_given s) more.0) ∙ more.1
+
+pub freshened_is : (q : Question) (es : List Event) (s : StoreState) (x : Explored) (e : Event) → IsBehind q es s x → is_worn s.made ≡ false →
+    freshened (result_of (fresh x.state) e) ≡ freshened (result_of (live_state s) e)
+freshened_is q es s x e b worn = ap (λ u. freshened (result_of u e)) b.state ∙ next_fresh (live_state s) e worn

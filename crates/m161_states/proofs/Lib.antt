@@ -1,13 +1,14 @@
 mod Apart
 mod Memory
 mod Seen
-mod Law
+pub mod Law
 mod Lists
 mod Boards
 mod Changes
 mod Steps
-mod Shapes
+pub mod Shapes
 mod Told
 mod Agreed
 mod Followed
 mod Audited
+mod Ranked

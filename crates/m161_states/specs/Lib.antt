@@ -5,3 +5,4 @@ pub mod Views
 pub mod Shape
 pub mod Laws
 pub mod Run
+pub mod Judged

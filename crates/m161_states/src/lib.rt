@@ -13,9 +13,9 @@
 //! view        the words of the machine's view and of what is kept beside it
 //! ```
 //!
-//! The laws: a valid state leads to valid ones; and from two valid states with one view an event that
-//! reads nothing unknown does the same, and leads to states with one view. All of this is this
-//! project's own.
+//! The laws: a valid state leads to valid ones; from two valid states with one view an event that
+//! reads nothing unknown does the same, and leads to states with one view; and a state says of the
+//! run that leads to it what the audit and the judge say. All of this is this project's own.
 #![tactic(auto)]
 
 mod laws;
@@ -25,5 +25,7 @@ mod verdict;
 pub use laws::{alike_end, alike_next, alike_stop, alike_verdict, valid_next, valid_start};
 pub use m161_alike::{Known, Reads};
 pub use m161_machine::Conflict;
-pub use run_laws::{agreed_tells, flag_tells, next_is_event, stale_is_audited, start_is_boot};
+pub use run_laws::{
+    agreed_tells, flag_tells, next_is_event, stale_is_audited, start_is_boot, verdict_is_first,
+};
 pub use verdict::{Unknown, Verdict};

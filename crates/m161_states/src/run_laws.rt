@@ -1,6 +1,7 @@
 //! Laws of what a state of the exploration says of the run that leads to it. The functions do
 //! nothing: their contracts are the laws.
 
+ghost use Rattle.m161_states.specs.Judged.{VerdictIsFirst};
 ghost use Rattle.m161_states.specs.Run.{AgreedTells, FlagTells, NextIsEvent, StaleIsAudited, StartIsBoot};
 
 use m161_alike::alike_states_behave_alike;
@@ -32,3 +33,11 @@ pub fn stale_is_audited()
 pub fn agreed_tells()
     ensures law { AgreedTells }
 {}
+
+/// The verdict of an accepted event is the first kind that holds, as the judge says it of the list
+/// that ends with the event, unless the machine has accepted all that it counts.
+pub fn verdict_is_first()
+    ensures law { VerdictIsFirst }
+{
+    alike_states_behave_alike();
+}
