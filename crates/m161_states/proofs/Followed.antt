@@ -6,7 +6,6 @@ use Rattle.m161_bus.specs.declared.console.DoneError.{DoneError}
 use Rattle.m161_bus.specs.declared.console.KeyFull.{KeyFull}
 use Rattle.m161_bus.specs.Board.{BoardState, board_done, board_key}
 use Rattle.m161_cpu.specs.declared.processor.Outcome.{Outcome}
-use Rattle.m161_cpu.specs.Scene.{result_map}
 use Rattle.m161_cpu.specs.Uses.{uses_of}
 use Rattle.m161_machine.specs.declared.event.Event.{Event}
 use Rattle.m161_machine.specs.declared.event.Event.TheVariants.{Done, Key, Step}
@@ -23,16 +22,13 @@ use Rattle.m161_judge.specs.Verdict.{is_key}
 use Rattle.m161_alike.specs.Law.{SentLaw, sent_by}
 use Rattle.m161_states.specs.Question.{Question, booted}
 use Rattle.m161_states.specs.System.{Explored, accepted, agreed_after, agreed_at_boot, behind, flags_behind, fresh, next_by, stored_by, typed_after}
-use Rattle.m161_states.specs.Run.{GoesOn, IsBehind, NextIsEvent, StartIsBoot, agreed_of, flags_of}
+use Rattle.m161_states.specs.Run.{FreshIsSame, GoesOn, IsBehind, NextIsEvent, StartIsBoot, agreed_of, flags_of, freshened}
 use Rattle.m161_states.proofs.Agreed.{agreed_append}
 use Rattle.m161_states.proofs.Told.{flags_more}
 
 -- A state of the exploration follows a run of the machine.
 
 -- the number of events before an event is of no account, where the machine isn't worn
-
-abbrev pub freshened : Result (Outcome × State) Refusal → Result (Outcome × State) Refusal
-freshened r = result_map (λ (a : Outcome × State). (a.0, fresh a.1)) r
 
 key_fresh : (s : State) (r : Result BoardState KeyFull) → freshened (answered_key (fresh s) r) ≡ freshened (answered_key s r)
 key_fresh s (Ok board) = refl
@@ -190,3 +186,6 @@ image_behind q es s x e b given h =
 pub freshened_is : (q : Question) (es : List Event) (s : StoreState) (x : Explored) (e : Event) → IsBehind q es s x → is_worn s.made ≡ false →
     freshened (result_of (fresh x.state) e) ≡ freshened (result_of (live_state s) e)
 freshened_is q es s x e b worn = ap (λ u. freshened (result_of u e)) b.state ∙ next_fresh (live_state s) e worn
+
+pub fresh_is_same : FreshIsSame
+fresh_is_same s e worn = next_fresh s e worn

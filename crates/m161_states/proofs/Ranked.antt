@@ -19,11 +19,11 @@ use Rattle.m161_states.specs.declared.verdict.Verdict.TheVariants.{Conflict, Out
 use Rattle.m161_states.specs.Question.{Question}
 use Rattle.m161_states.specs.System.{Explored, behind, fresh}
 use Rattle.m161_states.specs.Verdicts.{conflict_in, has_sent, is_stuck_in, judged, output_in, reached_by, stale_use, stuck_in, verdict_by, wrong_in, wrong_with}
-use Rattle.m161_states.specs.Run.{IsBehind, agreed_of}
+use Rattle.m161_states.specs.Run.{IsBehind, agreed_of, freshened}
 use Rattle.m161_states.specs.Judged.{IsFirstWrong, IsWrong, Made, VerdictIsFirst, rank}
 use Rattle.m161_states.proofs.Agreed.{agreed_tells}
 use Rattle.m161_states.proofs.Audited.{stale_is_audited, use_told}
-use Rattle.m161_states.proofs.Followed.{follows_to, freshened, freshened_is, image_behind, same_given}
+use Rattle.m161_states.proofs.Followed.{follows_to, freshened_is, image_behind, same_given}
 
 -- The verdict is the first kind that holds.
 

@@ -1,6 +1,7 @@
 use Rattle.std.specs.Prelude.{◌≡◌, ◌↔◌, ℕ, true, false, List, [], ◌∷◌, ◌++◌, count_by, map, Option, None, Some, Result, Ok, Err}
 use Rattle.m161_cpu.specs.declared.processor.Outcome.{Outcome}
 use Rattle.m161_cpu.specs.declared.uses.Via.{Via}
+use Rattle.m161_cpu.specs.Scene.{result_map}
 use Rattle.m161_machine.specs.declared.event.Event.{Event}
 use Rattle.m161_machine.specs.declared.event.Refusal.{Refusal}
 use Rattle.m161_machine.specs.History.{boot_state}
@@ -39,6 +40,16 @@ pub record IsBehind (q : Question) (events : List Event) (s : StoreState) (x : E
   pub agreed : x.agreed ≡ agreed_of q.goal.output s.board.console.output
 
 -- the laws
+
+-- an answer, with the state behind the event as before any event
+abbrev pub freshened : Result (Outcome × State) Refusal → Result (Outcome × State) Refusal
+freshened r = result_map (λ (a : Outcome × State). (a.0, fresh a.1)) r
+
+-- the number of events before an event is of no account, unless the machine is worn
+abbrev pub FreshIsSame : Type 0
+FreshIsSame =
+    (s : State) (e : Event) → is_worn s.made ≡ false
+    → freshened (result_of (fresh s) e) ≡ freshened (result_of s e)
 
 -- no event is made yet
 abbrev pub StartIsBoot : Type 0

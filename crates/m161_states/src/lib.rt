@@ -26,6 +26,7 @@ pub use laws::{alike_end, alike_next, alike_stop, alike_verdict, valid_next, val
 pub use m161_alike::{Known, Reads};
 pub use m161_machine::Conflict;
 pub use run_laws::{
-    agreed_tells, flag_tells, next_is_event, stale_is_audited, start_is_boot, verdict_is_first,
+    agreed_tells, flag_tells, fresh_is_same, next_is_event, stale_is_audited, start_is_boot,
+    verdict_is_first,
 };
 pub use verdict::{Unknown, Verdict};

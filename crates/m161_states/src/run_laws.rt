@@ -2,13 +2,19 @@
 //! nothing: their contracts are the laws.
 
 ghost use Rattle.m161_states.specs.Judged.{VerdictIsFirst};
-ghost use Rattle.m161_states.specs.Run.{AgreedTells, FlagTells, NextIsEvent, StaleIsAudited, StartIsBoot};
+ghost use Rattle.m161_states.specs.Run.{AgreedTells, FlagTells, FreshIsSame, NextIsEvent, StaleIsAudited, StartIsBoot};
 
 use m161_alike::alike_states_behave_alike;
 
 /// The first state is that of a machine at boot.
 pub fn start_is_boot()
     ensures law { StartIsBoot }
+{}
+
+/// The number of events before an event is of no account, unless the machine has accepted all that it
+/// counts.
+pub fn fresh_is_same()
+    ensures law { FreshIsSame }
 {}
 
 /// An event is accepted exactly where the machine accepts it behind the same events, unless the
