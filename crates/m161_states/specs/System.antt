@@ -46,11 +46,8 @@ start q = record {
   agreed = agreed_at_boot q.goal.output;
 }
 
--- how many events there are: a Step of each processor, Done, and the next key
-abbrev pub width : Question → ℕ
-width q = processors_of q + 2
-
--- an event by its number; there is no next key where all are typed
+-- an event by its number: a Step of each processor, then Done, then the next key; there is none where
+-- all are typed
 abbrev pub event_of : Question → Explored → ℕ → Option Event
 event_of q x n =
     if nat_lt n (processors_of q) then Some (Step n)
