@@ -57,6 +57,9 @@ try_each-requires-after_bounds g c κs bounds n less =
     let within : n < length next = let count = c.len-count.ensures in let long = c.in-Ok.numbers.ok.0 in omega (arith, count, long, less) in
     let least : last_from c.args.class.from numbers ≤ slice_index next n = number_at (λ k. last_from c.args.class.from numbers ≤ k) next n within c.in-Ok.ensures.least in
     subst (λ xs. (n < length xs) × (length numbers < 64) × (last_from 0 numbers ≤ slice_index xs n)
-    × g.T.Runs.is_on runs (with_number numbers (slice_index xs n)) c.args.point.now) (sym c.deref.ensures.value)
-    (within, (let few = c.requires.few.0 in let most = c.requires.few.1 in omega (arith, few, most)), last_zero c.args.class.from (slice_index next n) numbers least,
-    on_longer (g.T.Runs.is_on runs) numbers (last_from c.args.class.from numbers) (slice_index next n) c.args.point.now least c.requires.point)
+    × g.T.Runs.is_on runs (with_number numbers (slice_index xs n)) c.args.point.now) (sym c.deref.ensures.value) (
+      within,
+      (let few = c.requires.few.0 in let most = c.requires.few.1 in omega (arith, few, most)),
+      last_zero c.args.class.from (slice_index next n) numbers least,
+      on_longer (g.T.Runs.is_on runs) numbers (last_from c.args.class.from numbers) (slice_index next n) c.args.point.now least c.requires.point,
+    )
