@@ -8,3 +8,4 @@ pub mod Moving
 mod Apart
 pub mod Differing
 pub mod Turning
+pub mod Going
