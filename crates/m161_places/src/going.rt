@@ -1,6 +1,6 @@
 //! Going on along the run of a list of delays.
 
-ghost use Rattle.std.specs.Prelude.{◌≡◌, ◌&&◌, nat_lt, if◌then◌else◌, IfOk, IfSome, Some, slice_get};
+ghost use Rattle.std.specs.Prelude.{◌≡◌, ◌++◌, ◌∷◌, [], ◌&&◌, nat_lt, if◌then◌else◌, IfOk, IfSome, Some, slice_get};
 ghost use Rattle.m161_places.specs.Going.{GoesNoting, PassesNoting};
 ghost use Rattle.m161_places.specs.Places.{is_step};
 
@@ -16,6 +16,16 @@ fn place_number(made: PackedEntry, ready: u8) -> u32
     ensures { result ≡ (if is_step (Some made.event) && nat_lt 0 ready then 1 else 0) }
 {
     if is_step(made) && ready > 0 { 1 } else { 0 }
+}
+
+// Notes an event behind the others. How many places it is at, where so many processors were ready.
+fn note_event(events: &mut Vec<Event>, made: PackedEntry, ready: u8) -> Result<u32, AllocError>
+    ensures { IfOk result (λ places.
+        (places ≡ (if is_step (Some made.event) && nat_lt 0 ready then 1 else 0))
+        × (events.new.items ≡ events.old.items ++ made.event ∷ [])) }
+{
+    events.push(made.entry().event)?;
+    Ok(place_number(made, ready))
 }
 
 // Makes the event that is chosen, and notes it behind the others. How many places it is at; none where
@@ -34,10 +44,7 @@ fn go_on<T: Tlb, D: Console>(
     let ready = count_ready(core);
     let key = policy.key(cursor.typed());
     match turn(core, policy, cursor, key, &mut entry) {
-        Ok(_) => {
-            events.push(entry[0].entry().event)?;
-            Ok(Some(place_number(entry[0], ready)))
-        }
+        Ok(_) => Ok(Some(note_event(events, entry[0], ready)?)),
         Err(_) => Ok(None),
     }
 }

@@ -1,5 +1,7 @@
 use Rattle.std.proofs.Common.{◌≡◌, ◌∙◌, sym, ap, subst, ◌+◌, ◌++◌, arith, length, take}
 use Rattle.std.specs.Prelude.{count_by, is_some, nat_lt}
+use Rattle.std.proofs.lemmas.List.{length-map}
+use Rattle.m161_machine.specs.declared.event.Entry.{Entry}
 use Rattle.m161_machine.specs.History.{events_of}
 use Rattle.m161_drive.specs.declared.run.Driven.{Driven}
 use Rattle.m161_drive.specs.Drive.{Drives}
@@ -20,7 +22,7 @@ returns g c = λ s was.
     let entries = was.entries ++ c.in_ok-driven.ensures.0 in
     let front = ap length was.events_are in
     let room : length was.entries + c.saturating_sub-left.result ≡ c.args.n =
-    let few = was.few in let size = length_events was.entries in omega (arith, few, size, front, c.saturating_sub-left.ensures, c.len.ensures, c.args.begun.ok.0) in
+    let few = was.few in let size = length-map was.entries (λ (e : Entry). e.event) in omega (arith, few, size, front, c.saturating_sub-left.ensures, c.len.ensures, c.args.begun.ok.0) in
     let whole : Driven = record { made = length was.entries + driven.made; stop = driven.stop } in
     let drives : Drives rules c.args.n s whole entries t =
     on_whole rules c.args.n s c.args.cursor c.args.core.now.state t was.entries c.in_ok-driven.ensures.0 c.saturating_sub-left.result driven was.chosen_are room

@@ -1,4 +1,4 @@
-use Rattle.m161_places.proofs.Going.{go_alike}
+use Rattle.m161_places.proofs.Exchanging.{go_alike}
 use Rattle.m161_places.proofs.laws.go_alike.Goals as goal
 
 pub returns : goal.returns
