@@ -5,7 +5,10 @@ ghost use Rattle.m161_cop0.specs.Control.{control_at_start, read_of, after_write
 
 mod clock;
 mod entry;
+mod restore;
 mod views;
+
+pub use restore::Cop0Parts;
 
 use crate::register::Register;
 use m161_isa::Reg;
@@ -237,7 +240,7 @@ impl Cop0 {
 }
 
 // IM in Cause's places if IEc is set, else 0.
-fn enabled_im(status: u32) -> u32
+pub(crate) fn enabled_im(status: u32) -> u32
     ensures { result ≡ enabled_im_of status }
 {
     if status % 2 == 1 {
