@@ -8,10 +8,9 @@ mod entry;
 mod restore;
 mod views;
 
-pub use restore::Cop0Parts;
-
 use crate::register::Register;
 use m161_isa::Reg;
+pub use restore::Cop0Parts;
 use std::marker::Model;
 
 /// The bits of Index that a write keeps.

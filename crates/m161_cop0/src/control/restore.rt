@@ -4,9 +4,8 @@ ghost use Rattle.std.specs.Prelude.{◌≡◌};
 ghost use Rattle.m161_cop0.specs.Restore.{HasBounds, restored_control};
 
 use crate::cause::CauseParts;
-use crate::control::Cop0;
 use crate::control::clock::fire;
-use crate::control::{enabled_im, internal_ip};
+use crate::control::{Cop0, enabled_im, internal_ip};
 
 /// What the registers of coprocessor 0 hold.
 #[derive(Clone, Copy, Debug, PartialEq, Eq)]
