@@ -1,4 +1,4 @@
-use Rattle.std.specs.Prelude.{◌≡◌, ℕ, List, length, slice_index}
+use Rattle.std.specs.Prelude.{◌≡◌, List, length, slice_index}
 use Rattle.m161_tlb.specs.declared.row.Row.{Row}
 use Rattle.m161_cop0.specs.Restore.{HasBounds, restored_control, ticks_to}
 use Rattle.m161_cpu.specs.declared.processor.restore.ProcessorParts.{ProcessorParts}
