@@ -30,8 +30,8 @@ fn activity_of(state: ProcessorState) -> Activity
     }
 }
 
-// Whether a processor is in user mode.
-fn is_user<T: Tlb, D: Console>(core: &Core<T, D>, p: u32) -> bool
+/// Whether a processor is in user mode.
+pub(crate) fn is_user<T: Tlb, D: Console>(core: &Core<T, D>, p: u32) -> bool
     requires { p < length core.now.state.processors }
     ensures { result ≡ is_user (processor_at p core.now.state.processors).control }
 {
@@ -140,8 +140,8 @@ fn identifier<T: Tlb, D: Console>(core: &Core<T, D>, p: u32) -> u8
     ((high >> 6) % 64) as u8
 }
 
-// The physical address that a row gives, if it is valid.
-fn through(address: u32, row: Option<Row>) -> Option<u32>
+/// The physical address that a row gives, if it is valid.
+pub(crate) fn through(address: u32, row: Option<Row>) -> Option<u32>
     ensures { result ≡ option_and_then (through address) row }
 {
     match row {
