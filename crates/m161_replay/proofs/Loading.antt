@@ -1,140 +1,142 @@
-use Rattle.std.proofs.Common.{◌≡◌, ◌∙◌, refl, sym, ap, ℕ, ◌+◌, ◌*◌, ◌/◌, ◌%◌, ◌^◌, Bool, true, false, Option, None, Some, Result, Ok, Err, slice_get}
-use Rattle.std.specs.Prelude.{if◌then◌else◌, length, not, ◌&&◌, option_and_then}
+use Rattle.std.proofs.Common.{◌≡◌, ◌∙◌, refl, sym, ap, subst, ℕ, ◌+◌, ◌*◌, ◌/◌, ◌%◌, ◌^◌, Bool, true, false, length, Option, None, Some, Result, Ok, Err, slice_get}
+use Rattle.std.specs.Prelude.{if◌then◌else◌, not, ◌&&◌, option_and_then}
 use Rattle.m161_isa.specs.Address.{unmapped}
 use Rattle.m161_isa.specs.declared.instr.Instr.TheVariants as instrs
 use Rattle.m161_isa.specs.declared.instr.LoadOp.{LoadOp}
 use Rattle.m161_isa.specs.declared.instr.LoadOp.TheVariants as load
-use Rattle.m161_tlb.specs.declared.row.Row.{Row}
+use Rattle.m161_tlb.specs.declared.row.Row.{Row as TlbRow}
 use Rattle.m161_tlb.specs.Rows.{find_row}
 use Rattle.m161_cop0.specs.declared.register.Register.TheVariants as registers
 use Rattle.m161_cop0.specs.Registers.{number_of_register}
 use Rattle.m161_cop0.specs.Control.{Control, identifier_of, read_of}
-use Rattle.m161_cpu.specs.declared.fault.Access.TheVariants.{Load}
-use Rattle.m161_cpu.specs.declared.fault.StepFault.{StepFault}
-use Rattle.m161_cpu.specs.declared.translation.Physical.{Physical}
 use Rattle.m161_cpu.specs.declared.uses.Via.{Via}
 use Rattle.m161_cpu.specs.Fetch.{fetched_word, word_found}
 use Rattle.m161_cpu.specs.Processor.{Processor}
-use Rattle.m161_cpu.specs.Scene.{Scene, and_then, result_map}
+use Rattle.m161_cpu.specs.Scene.{Scene, and_then}
 use Rattle.m161_cpu.specs.Step.{executable_word, is_unusable, usable, word_at_pc}
-use Rattle.m161_cpu.specs.Translation.{address_error, by_row, by_segment, is_misaddressed, physical, physical_at, through_row}
-use Rattle.m161_cpu.specs.Uses.{Reference, fetches, reference_after, reference_in, reference_of_step, uses_of, via_in, via_of, via_reference}
+use Rattle.m161_cpu.specs.Translation.{by_row, by_segment, is_misaddressed, is_store, physical, physical_at, through_row}
+use Rattle.m161_cpu.specs.Uses.{Reference, fetches, reference_after, reference_in, reference_of_step, translated, uses_of, via_in, via_of, via_reference, via_row}
 use Rattle.m161_cpu.specs.UsesLaw.{address_of}
 use Rattle.m161_cpu.specs.helpers.Uses.{address_by, reference_by, width_of_load}
 use Rattle.m161_machine.specs.State.{State, processor_at}
 use Rattle.m161_machine.specs.Uses.{uses_in}
 use Rattle.m161_trace.specs.Loads.{loads_by, loads_from, physical_if, word_around}
+use Rattle.m161_trace.specs.helpers.Loads.{IsLoadFrom, IsReached, Locates}
 use Rattle.m161_replay.specs.Seen.{fetched_next, loaded_next, scene_in}
-use Rattle.m161_replay.specs.Views.{through}
-use Rattle.m161_replay.specs.helpers.Loads.{direct, load_reference}
+use Rattle.m161_replay.specs.helpers.Loads.{IsLoad, direct}
 
 -- The load of a Step, before it is made.
 
--- the physical address of a translation
-abbrev place_in : Result Physical StepFault → Option ℕ
-place_in to = physical_if (result_map (λ (x : Physical). x.at) to)
+-- where a translation leads
 
--- the row of a translation
-abbrev via_at : Processor → ℕ → ℕ → Via
-via_at p address i = record { row = i; page = address / 2 ^ 12; id = identifier_of p.control; address = address }
+by_flags : {F : Type 0} (p : Processor) (r : Reference) (i : ℕ) (row : TlbRow) (v st d : Bool) (e f : F) (to : _) →
+    ◌≡◌ {A = Result _ F} (if not v then Err e else if st && not d then Err f else Ok (physical (row.frame * 2 ^ 12 + r.address % 2 ^ 12) (Some i))) (Ok to) →
+    slice_get p.rows i ≡ Some row → st ≡ false → Locates p r.address to.at (via_row p r.address to.row)
+by_flags p r i row false st d e f to h is loads = absurd (cc)
+by_flags p r i row true true d e f to h is loads = absurd (cc)
+by_flags p r i row true false d e f to h is loads =
+    let k : physical (row.frame * 2 ^ 12 + r.address % 2 ^ 12) (Some i) ≡ to = cc in
+    subst (λ t. Locates p r.address t.at (via_row p r.address t.row)) k (row, is, refl)
+
+by_entry : (p : Processor) (r : Reference) (i : ℕ) (here : Option TlbRow) (to : _) → through_row r.access r.address i here ≡ Ok to → slice_get p.rows i ≡ here → is_store r.access ≡ false →
+    Locates p r.address to.at (via_row p r.address to.row)
+by_entry p r i None to h is loads = absurd (cc)
+by_entry p r i (Some row) to h is loads = by_flags p r i row row.v (is_store r.access) row.d _ _ to h is loads
+
+by_find : (p : Processor) (r : Reference) (found : Option ℕ) (to : _) → by_row r.access r.address p.rows found ≡ Ok to → is_store r.access ≡ false →
+    Locates p r.address to.at (via_row p r.address to.row)
+by_find p r None to h loads = absurd (cc)
+by_find p r (Some i) to h loads = by_entry p r i (slice_get p.rows i) to h refl loads
+
+by_test : (p : Processor) (r : Reference) (wrong : Bool) (direct : Option ℕ) (e : _) (to : _) → (if wrong then Err e else by_segment r.access r.address p direct) ≡ Ok to →
+    unmapped r.address ≡ direct → is_store r.access ≡ false → Locates p r.address to.at (via_row p r.address to.row)
+by_test p r true direct e to h is loads = absurd (cc)
+by_test p r false (Some at) e to h is loads =
+    let k : physical at None ≡ to = cc in
+    subst (λ t. Locates p r.address t.at (via_row p r.address t.row)) k is
+by_test p r false None e to h is loads =
+    by_find p r (find_row p.rows (r.address / 2 ^ 12) (identifier_of p.control)) to h loads
+
+located : (p : Processor) (r : Reference) (to : _) → translated p r ≡ Ok to → is_store r.access ≡ false → Locates p r.address to.at (via_row p r.address to.row)
+located p r to h loads = by_test p r (is_misaddressed r.width r.address p) (unmapped r.address) _ to h refl loads
 
 -- through a row
 
-same_row : (a b : Row) (o : Option Row) → o ≡ Some a → o ≡ Some b → a ≡ b
-same_row a b o x y = let e : ◌≡◌ {A = Option Row} (Some a) (Some b) = sym x ∙ y in cc
+reached_by : (p : Processor) (r : Reference) (v : Via) (x : Result _ _) → translated p r ≡ x → Some v ≡ via_in p r.address x → IsReached p r (Some v)
+unfolding physical_at
+reached_by p r v (Err f) at is = absurd (let bad : ◌≡◌ {A = Option Via} (Some v) None = is in cc)
+reached_by p r v (Ok to) at is = record {
+  at = to.at;
+  address_is = rw at refl;
+  locates = λ loads. subst (Locates p r.address to.at) (sym is) (located p r to at loads);
+}
 
-by_valid : (address : ℕ) (row : Row) → row.v ≡ true → through address row ≡ Some (row.frame * 2 ^ 12 + address % 2 ^ 12)
-by_valid address row valid = rw valid refl
+pub reached : (p : Processor) (r : Reference) (v : Via) → Some v ≡ via_of p r → IsReached p r (Some v)
+unfolding via_of
+reached p r v is = reached_by p r v (translated p r) refl is
 
-row_flags : (p : Processor) (address i : ℕ) (row : Row) (v d : Bool) (e f : StepFault) (via : Via) (here : Row) → row.v ≡ v →
-    Some via ≡ via_in p address (if not v then Err e else if false && not d then Err f else Ok (physical (row.frame * 2 ^ 12 + address % 2 ^ 12) (Some i))) →
-    slice_get p.rows i ≡ Some row → slice_get p.rows via.row ≡ Some here →
-    through address here ≡ place_in (if not v then Err e else if false && not d then Err f else Ok (physical (row.frame * 2 ^ 12 + address % 2 ^ 12) (Some i)))
-row_flags p address i row false d e f via here valid h is got = absurd (let bad : ◌≡◌ {A = Option Via} (Some via) None = h in cc)
-row_flags p address i row true d e f via here valid h is got =
-    let some : ◌≡◌ {A = Option Via} (Some via) (Some (via_at p address i)) = h in
-    let via_is : via ≡ via_at p address i = cc in
-    let number : via.row ≡ i = ap (λ (x : Via). x.row) via_is in
-    let same : here ≡ row = same_row here row (slice_get p.rows i) (ap (slice_get p.rows) (sym number) ∙ got) is in
-    ap (through address) same ∙ by_valid address row valid
-
-row_entry : (p : Processor) (address i : ℕ) (entry : Option Row) (via : Via) (here : Row) → Some via ≡ via_in p address (through_row Load address i entry) →
-    slice_get p.rows i ≡ entry → slice_get p.rows via.row ≡ Some here → through address here ≡ place_in (through_row Load address i entry)
-row_entry p address i None via here h is got = absurd (let bad : ◌≡◌ {A = Option Via} (Some via) None = h in cc)
-row_entry p address i (Some row) via here h is got = row_flags p address i row row.v row.d _ _ via here refl h is got
-
-row_found : (p : Processor) (address : ℕ) (found : Option ℕ) (via : Via) (here : Row) → Some via ≡ via_in p address (by_row Load address p.rows found) →
-    slice_get p.rows via.row ≡ Some here → through address here ≡ place_in (by_row Load address p.rows found)
-row_found p address None via here h got = absurd (let bad : ◌≡◌ {A = Option Via} (Some via) None = h in cc)
-row_found p address (Some i) via here h got = row_entry p address i (slice_get p.rows i) via here h refl got
-
-row_segment : (p : Processor) (address : ℕ) (wrong : Bool) (at : Option ℕ) (e : StepFault) (via : Via) (here : Row) →
-    Some via ≡ via_in p address (if wrong then Err e else by_segment Load address p at) → slice_get p.rows via.row ≡ Some here →
-    through address here ≡ place_in (if wrong then Err e else by_segment Load address p at)
-row_segment p address true at e via here h got = absurd (let bad : ◌≡◌ {A = Option Via} (Some via) None = h in cc)
-row_segment p address false (Some at) e via here h got = absurd (let bad : ◌≡◌ {A = Option Via} (Some via) None = h in cc)
-row_segment p address false None e via here h got =
-    row_found p address (find_row p.rows (address / 2 ^ 12) (identifier_of p.control)) via here h got
-
-pub through_is : (p : Processor) (width address : ℕ) (via : Via) (here : Row) → Some via ≡ via_of p (load_reference width address) →
-    slice_get p.rows via.row ≡ Some here → through address here ≡ physical_if (address_of p (load_reference width address))
-unfolding via_of physical_at
-through_is p width address via here h got =
-    row_segment p address (is_misaddressed width address p) (unmapped address) (address_error Load address) via here h got
+pub from_load : (width address : ℕ) (r : Reference) → IsLoad width address r → IsLoadFrom address r
+from_load width address r load = record { loads = load.loads; address_is = load.address_is }
 
 -- through none
 
-none_flags : (p : Processor) (address i : ℕ) (row : Row) (v d : Bool) (e f : StepFault) →
-    None ≡ via_in p address (if not v then Err e else if false && not d then Err f else Ok (physical (row.frame * 2 ^ 12 + address % 2 ^ 12) (Some i))) →
-    None ≡ place_in (if not v then Err e else if false && not d then Err f else Ok (physical (row.frame * 2 ^ 12 + address % 2 ^ 12) (Some i)))
-none_flags p address i row false d e f h = refl
-none_flags p address i row true d e f h = absurd (let bad : ◌≡◌ {A = Option Via} None (Some (via_at p address i)) = h in cc)
+direct_err : (p : Processor) (r : Reference) (wrong : Bool) (at : Option ℕ) (e f : _) → (if wrong then Err e else by_segment r.access r.address p at) ≡ Err f →
+    ◌≡◌ {A = Option ℕ} (if wrong then None else at) None
+direct_err p r true at e f h = refl
+direct_err p r false (Some at) e f h = absurd (cc)
+direct_err p r false None e f h = refl
 
-none_entry : (p : Processor) (address i : ℕ) (entry : Option Row) → None ≡ via_in p address (through_row Load address i entry) →
-    None ≡ place_in (through_row Load address i entry)
-none_entry p address i None h = refl
-none_entry p address i (Some row) h = none_flags p address i row row.v row.d _ _ h
+direct_ok : (p : Processor) (r : Reference) (wrong : Bool) (e : _) (to : _) → (if wrong then Err e else by_segment r.access r.address p (unmapped r.address)) ≡ Ok to →
+    unmapped r.address ≡ Some to.at → (if wrong then None else unmapped r.address) ≡ Some to.at
+direct_ok p r true e to h is = absurd (cc)
+direct_ok p r false e to h is = is
 
-none_found : (p : Processor) (address : ℕ) (found : Option ℕ) → None ≡ via_in p address (by_row Load address p.rows found) →
-    None ≡ place_in (by_row Load address p.rows found)
-none_found p address None h = refl
-none_found p address (Some i) h = none_entry p address i (slice_get p.rows i) h
+direct_by : (p : Processor) (r : Reference) (x : Result _ _) → translated p r ≡ x → is_store r.access ≡ false → None ≡ via_in p r.address x →
+    direct r.width r.address p ≡ physical_if (address_of p r)
+unfolding physical_at
+direct_by p r (Err f) is loads h =
+    let none : physical_if (address_of p r) ≡ None = rw is refl in
+    direct_err p r (is_misaddressed r.width r.address p) (unmapped r.address) _ f is ∙ sym none
+direct_by p r (Ok to) is loads h =
+    let at : unmapped r.address ≡ Some to.at = subst (Locates p r.address to.at) (sym h) (located p r to is loads) in
+    let some : physical_if (address_of p r) ≡ Some to.at = rw is refl in
+    direct_ok p r (is_misaddressed r.width r.address p) _ to is at ∙ sym some
 
-none_segment : (p : Processor) (address : ℕ) (wrong : Bool) (at : Option ℕ) (e : StepFault) →
-    None ≡ via_in p address (if wrong then Err e else by_segment Load address p at) →
-    (if wrong then None else at) ≡ place_in (if wrong then Err e else by_segment Load address p at)
-none_segment p address true at e h = refl
-none_segment p address false (Some at) e h = refl
-none_segment p address false None e h = none_found p address (find_row p.rows (address / 2 ^ 12) (identifier_of p.control)) h
-
-pub direct_is : (p : Processor) (width address : ℕ) → None ≡ via_of p (load_reference width address) →
-    direct width address p ≡ physical_if (address_of p (load_reference width address))
-unfolding via_of physical_at
-direct_is p width address h = none_segment p address (is_misaddressed width address p) (unmapped address) (address_error Load address) h
+pub direct_is : (p : Processor) (width address : ℕ) (r : Reference) → IsLoad width address r → None ≡ via_of p r → direct width address p ≡ physical_if (address_of p r)
+unfolding via_of
+direct_is p width address r load h =
+    (λ i. direct (sym load.width_is i) (sym load.address_is i) p) ∙ direct_by p r (translated p r) refl load.loads h
 
 -- the reference of a load
 
-pub load_refers : (p : Processor) (op : LoadOp) (rt o b : ℕ) → reference_by p (instrs.Load op rt o b) ≡ Some (load_reference (width_of_load op) (address_by p o b))
+pub load_refers : (p : Processor) (op : LoadOp) (rt o b : ℕ) →
+    (r : Reference) × (reference_by p (instrs.Load op rt o b) ≡ Some r) × IsLoad (width_of_load op) (address_by p o b) r
 unfolding reference_by
-load_refers p load.Byte rt o b = refl
-load_refers p load.ByteUnsigned rt o b = refl
-load_refers p load.Half rt o b = refl
-load_refers p load.HalfUnsigned rt o b = refl
-load_refers p load.Word rt o b = refl
-load_refers p load.WordLeft rt o b = refl
-load_refers p load.WordRight rt o b = refl
-load_refers p load.Linked rt o b = refl
+load_refers p load.Byte rt o b = (_, refl, record { loads = refl; width_is = refl; address_is = refl })
+load_refers p load.ByteUnsigned rt o b = (_, refl, record { loads = refl; width_is = refl; address_is = refl })
+load_refers p load.Half rt o b = (_, refl, record { loads = refl; width_is = refl; address_is = refl })
+load_refers p load.HalfUnsigned rt o b = (_, refl, record { loads = refl; width_is = refl; address_is = refl })
+load_refers p load.Word rt o b = (_, refl, record { loads = refl; width_is = refl; address_is = refl })
+load_refers p load.WordLeft rt o b = (_, refl, record { loads = refl; width_is = refl; address_is = refl })
+load_refers p load.WordRight rt o b = (_, refl, record { loads = refl; width_is = refl; address_is = refl })
+load_refers p load.Linked rt o b = (_, refl, record { loads = refl; width_is = refl; address_is = refl })
+
+pub load_found : (p : Processor) (r : Reference) (width address : ℕ) (o : Option ℕ) (whole : Option Reference) → IsLoad width address r → o ≡ physical_if (address_of p r) → whole ≡ Some r →
+    o ≡ option_and_then (loads_from p) whole
+load_found p r width address o whole load is found =
+    let plain : loads_from p r ≡ physical_if (address_of p r) = rw (load.loads) refl in
+    is ∙ sym plain ∙ sym (ap (option_and_then (loads_from p)) found)
 
 -- the reference of a Step, by the word that it fetches
 
 refers_if : (s : Scene) (t : Bool) → fetches s ≡ t → reference_of_step s ≡ (if t then reference_after s.processor (executable_word s.around.memory s.processor) else None)
 refers_if s t h = ap (λ (x : Bool). if x then reference_after s.processor (executable_word s.around.memory s.processor) else None) h
 
-found : (p : Processor) (w : Result ℕ StepFault) (word : ℕ) → word_found w ≡ Some word → reference_after p (and_then w (usable p.control)) ≡ reference_after p (usable p.control word)
+found : (p : Processor) (w : _) (word : ℕ) → word_found w ≡ Some word → reference_after p (and_then w (usable p.control)) ≡ reference_after p (usable p.control word)
 found p (Ok other) word h = let same : other ≡ word = cc in ap (λ x. reference_after p (usable p.control x)) same
 found p (Err f) word h = absurd (let bad : ◌≡◌ {A = Option ℕ} None (Some word) = h in cc)
 
-lost : (p : Processor) (w : Result ℕ StepFault) → word_found w ≡ None → reference_after p (and_then w (usable p.control)) ≡ None
+lost : (p : Processor) (w : _) → word_found w ≡ None → reference_after p (and_then w (usable p.control)) ≡ None
 lost p (Ok other) h = absurd (let bad : ◌≡◌ {A = Option ℕ} (Some other) None = h in cc)
 lost p (Err f) h = refl
 

@@ -1,19 +1,20 @@
 //! The word that a Step loads, before it is made.
 
-ghost use Rattle.std.specs.Prelude.{◌≡◌, ◌≤◌, ◌<◌, length, option_and_then};
+ghost use Rattle.std.specs.Prelude.{◌≡◌, ◌≤◌, ◌<◌, Some, length, option_and_then};
 ghost use Rattle.m161_cop0.specs.Control.{Control};
 ghost use Rattle.m161_cpu.specs.Step.{is_unusable};
 ghost use Rattle.m161_cpu.specs.Translation.{is_misaddressed};
-ghost use Rattle.m161_cpu.specs.Uses.{reference_in, via_of, via_reference};
+ghost use Rattle.m161_cpu.specs.Uses.{Reference, reference_in, via_of, via_reference};
 ghost use Rattle.m161_cpu.specs.UsesLaw.{address_of};
 ghost use Rattle.m161_cpu.specs.helpers.Uses.{address_by, width_of_load};
 ghost use Rattle.m161_machine.specs.State.{processor_at};
 ghost use Rattle.m161_machine.specs.Uses.{uses_in};
 ghost use Rattle.m161_replay.specs.Seen.{fetched_next, loaded_next};
-ghost use Rattle.m161_replay.specs.helpers.Loads.{direct, load_reference};
+ghost use Rattle.m161_replay.specs.helpers.Loads.{IsLoad, direct};
 ghost use Rattle.m161_trace.specs.Loads.{loads_by, physical_if, word_around};
+ghost use Rattle.m161_trace.specs.helpers.Loads.{IsLoadFrom, IsReached};
 
-use crate::views::{is_user, through};
+use crate::views::is_user;
 use m161_alu::sign_extend_half;
 use m161_bus::Console;
 use m161_cop0::Register;
@@ -76,6 +77,19 @@ fn direct<T: Tlb, D: Console>(core: &Core<T, D>, p: u32, width: u32, address: u3
     unmapped(address)
 }
 
+// The physical address of a load that goes through this row.
+fn through<T: Tlb, D: Console>(core: &Core<T, D>, p: u32, address: u32, via: Via) -> u32
+    requires { p < length core.now.state.processors }
+    ensures { (r : Reference) → IsLoadFrom address r
+        → (reached : IsReached (processor_at p core.now.state.processors) r (Some via))
+        → result ≡ reached.at }
+{
+    let number = via.row.number();
+    let row = core.row(p, number);
+    let frame = row.frame.number();
+    (frame << 12) + address % (1 << 12)
+}
+
 // The physical address of a load, if it has one: through this row, or through none.
 fn physical<T: Tlb, D: Console>(
     core: &Core<T, D>,
@@ -86,16 +100,12 @@ fn physical<T: Tlb, D: Console>(
 ) -> Option<u32>
     requires processor { p < length core.now.state.processors }
     requires width { 1 ≤ width }
-    requires via { via
-        ≡ via_of (processor_at p core.now.state.processors) (load_reference width address) }
-    ensures { result ≡ physical_if (address_of (processor_at p core.now.state.processors)
-        (load_reference width address)) }
+    ensures { (r : Reference) → IsLoad width address r
+        → via ≡ via_of (processor_at p core.now.state.processors) r
+        → result ≡ physical_if (address_of (processor_at p core.now.state.processors) r) }
 {
     match via {
-        Some(via) => {
-            let row = core.row(p, via.row.number());
-            through(address, Some(row))
-        }
+        Some(via) => Some(through(core, p, address, via)),
         None => direct(core, p, width, address),
     }
 }
@@ -142,6 +152,27 @@ fn word_around(size: usize, at: Option<u32>) -> Option<u32>
     }
 }
 
+// The physical address that the next Step of processor `p` loads from. It fetches this word; and its
+// load or store is through this row.
+fn loaded_address<T: Tlb, D: Console>(
+    core: &Core<T, D>,
+    p: u32,
+    word: u32,
+    via: Option<Via>,
+) -> Option<u32>
+    requires processor { p < length core.now.state.processors }
+    requires word { fetched_next p core.now.state ≡ Some word }
+    requires via { via ≡ (uses_in p core.now.state).access }
+    ensures { option_and_then (word_around (length core.now.state.memory)) result
+        ≡ loaded_next p core.now.state }
+{
+    let status = core.cop(p, Register::Status);
+    if is_unusable(word, status) {
+        return None;
+    }
+    loads_by(core, p, word, via)
+}
+
 /// The word of RAM that the next Step of processor `p` loads from. It fetches this word, if any; and
 /// its load or store is through this row.
 pub(crate) fn loaded_next<T: Tlb, D: Console>(
@@ -156,14 +187,7 @@ pub(crate) fn loaded_next<T: Tlb, D: Console>(
     ensures { result ≡ loaded_next p core.now.state }
 {
     match fetch {
-        Some(word) => {
-            let status = core.cop(p, Register::Status);
-            if is_unusable(word, status) {
-                return None;
-            }
-            let at = loads_by(core, p, word, via);
-            word_around(core.memory().len(), at)
-        }
+        Some(word) => word_around(core.memory().len(), loaded_address(core, p, word, via)),
         None => None,
     }
 }

@@ -44,7 +44,8 @@ pub(crate) fn copied<T: Tlb + Drop, D: Console + Drop>(
 ) -> Result<Box<Core<T, D>>, AllocError>
     ensures { IfOk result (λ copy. copy.value.state ≡ core.now.state) }
 {
-    Ok(Box::new(alloc, core.copy(alloc)?)?)
+    let copy = Box::new(alloc, core.copy(alloc)?)?;
+    Ok(copy)
 }
 
 // Whether a Step of processor `p` is accepted.

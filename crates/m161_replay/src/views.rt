@@ -140,8 +140,8 @@ fn identifier<T: Tlb, D: Console>(core: &Core<T, D>, p: u32) -> u8
     ((high >> 6) % 64) as u8
 }
 
-/// The physical address that a row gives, if it is valid.
-pub(crate) fn through(address: u32, row: Option<Row>) -> Option<u32>
+// The physical address that a row gives, if it is valid.
+fn through(address: u32, row: Option<Row>) -> Option<u32>
     ensures { result ≡ option_and_then (through address) row }
 {
     match row {
