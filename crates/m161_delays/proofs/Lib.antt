@@ -7,3 +7,4 @@ pub mod Longer
 pub mod Lengths
 pub mod Members
 mod Batches
+mod Points

@@ -14,6 +14,10 @@ abbrev pub ChooseAlike : (List ℕ → List ℕ) → Type 0
 ChooseAlike offers =
     (j : ℕ) (a b : List ℕ) → AgreeBelow j a b → take (j + 1) (offers a) ≡ take (j + 1) (offers b)
 
+-- a point is one of the run of each list that agrees with this one below a number
+abbrev pub StandsAt : {P : Type 0} → (List ℕ → P → Type 0) → List ℕ → ℕ → P → Type 0
+StandsAt IsOn numbers j point = (others : List ℕ) → AgreeBelow j numbers others → IsOn others point
+
 -- each list comes before those behind it
 abbrev pub AreInOrder : List (List ℕ) → Type 0
 AreInOrder [] = Unit {0}

@@ -2,7 +2,8 @@
 
 ghost use Rattle.std.specs.Prelude.{◌≡◌, ℕ, ◌≤◌, ◌+◌, ◌<◌, IfErr, IfOk, length};
 ghost use Rattle.m161_order.specs.Delays.{delays_of};
-ghost use Rattle.m161_delays.specs.Runs.{IsUsefulOf};
+ghost use Rattle.m161_delays.specs.Runs.{IsUsefulOf, StandsAt};
+ghost use Rattle.m161_delays.specs.helpers.Last.{last_from};
 ghost use Rattle.m161_delays.specs.helpers.Walking.{AreNext, IsBehind, Walks};
 
 use crate::runs::Runs;
@@ -13,11 +14,12 @@ use m161_order::Delays;
 use std::alloc::{AllocError, Global};
 use std::thread::Threads;
 
-// The lists that have one of these numbers behind those of a list.
+// The lists that have one of these numbers behind those of a list, and a point of their runs.
 #[derive(Drop)]
-struct Batch<'a, T> {
+struct Batch<'a, T: Runs> {
     runs: &'a T,
     delays: &'a Delays,
+    point: &'a T::Point,
     numbers: &'a [u32],
 }
 
@@ -32,7 +34,8 @@ impl<'a, T: Runs> Trials for Batch<'a, T> {
     type Error = T::Error;
 
     ghost has = { λ b n. (n < length b.numbers.now) × (length (delays_of b.delays.now) < 64)
-        × (last_from 0 (delays_of b.delays.now) ≤ slice_index b.numbers.now n) };
+        × (last_from 0 (delays_of b.delays.now) ≤ slice_index b.numbers.now n)
+        × T.is_on b.runs.now (with_number (delays_of b.delays.now) (slice_index b.numbers.now n)) b.point.now };
 
     ghost right = { λ b n. T.right b.runs.now (with_number (delays_of b.delays.now) (slice_index b.numbers.now n)) };
 
@@ -42,7 +45,8 @@ impl<'a, T: Runs> Trials for Batch<'a, T> {
 
     fn judge(&self, place: u32) -> Result<Tested<T::Wrong>, T::Error> {
         let number = self.numbers[place as usize];
-        self.runs.judge(&with_number(self.delays, number))
+        let longer = with_number(self.delays, number);
+        self.runs.judge_from(&longer, self.point)
     }
 
     fn refused(&self) -> T::Error {
@@ -73,7 +77,7 @@ fn useful_numbers<T: Runs>(
 }
 
 /// Makes the runs of the useful lists that go on behind one, which has these counts, with one number
-/// more, in so many threads, up to the first that goes wrong.
+/// more, in so many threads, up to the first that goes wrong. Each begins at this point.
 ///
 /// # Errors
 /// A run can't be made, or memory is refused.
@@ -83,10 +87,12 @@ pub(crate) fn walk_last<R: Threads + Sync, T: Runs>(
     runs: &T,
     class: Class,
     delays: &Delays,
+    point: &T::Point,
     counts: &[u8],
     jobs: u32,
     sums: &mut Sums,
 ) -> Result<Option<Found<T::Wrong>>, T::Error>
+    requires point { StandsAt (T.is_on runs.now) (delays_of delays.now) (last_from class.from (delays_of delays.now)) point.now }
     requires counts { counts.now ≡ T.offers runs.now (delays_of delays.now) }
     requires useful { IsUsefulOf class (T.offers runs.now) (delays_of delays.now) }
     requires few { (length (delays_of delays.now) < class.most) × (class.most ≤ 64) }
@@ -100,6 +106,7 @@ pub(crate) fn walk_last<R: Threads + Sync, T: Runs>(
     let batch = Batch {
         runs,
         delays,
+        point,
         numbers: &numbers,
     };
     let count = numbers.len() as u32;

@@ -56,6 +56,7 @@ pub fn search_lists<R: Threads + Sync, T: Runs>(
     ensures ok { IfOk result (Finds class (T.offers runs.now) (T.right runs.now) (T.wrong runs.now)) }
     ensures err { IfErr result (T.fails runs.now) }
 {
+    let start = runs.start()?;
     let mut sums = Sums { runs: 0, cut: 0 };
     for length in 0..class.most + 1 {
         if let Some(found) = walk(
@@ -64,6 +65,7 @@ pub fn search_lists<R: Threads + Sync, T: Runs>(
             runs,
             class,
             Delays::none(),
+            &start,
             length,
             jobs,
             &mut sums,

@@ -1,10 +1,10 @@
 //! The walk over the useful lists of a class, depth first.
 
-ghost use Rattle.std.specs.Prelude.{◌≡◌, ◌%◌, ◌^◌, if◌then◌else◌, ◌≤◌, ◌+◌, ◌++◌, ◌∷◌, [], ◌<◌, IfErr, IfOk, IfSome, MatchOption, Some, None, ℕ, length, slice_index};
+ghost use Rattle.std.specs.Prelude.{◌≡◌, true, ◌%◌, ◌^◌, if◌then◌else◌, ◌≤◌, ◌+◌, ◌++◌, ◌∷◌, [], ◌<◌, IfErr, IfOk, IfSome, MatchOption, Some, None, ℕ, length, slice_index};
 ghost use Rattle.m161_order.specs.Delays.{delays_of};
 ghost use Rattle.m161_delays.specs.Lists.{times};
 ghost use Rattle.m161_delays.specs.helpers.Last.{last_from};
-ghost use Rattle.m161_delays.specs.Runs.{IsUsefulOf};
+ghost use Rattle.m161_delays.specs.Runs.{IsUsefulOf, StandsAt};
 ghost use Rattle.m161_delays.specs.helpers.Walking.{IsBehind, IsLonger, Walks, with_number};
 
 use crate::last::walk_last;
@@ -51,16 +51,18 @@ fn one_if(is_cut: bool) -> u32
     if is_cut { 1 } else { 0 }
 }
 
-// Makes the run of one list.
+// Makes the run of one list, from a point of it on.
 fn judge<T: Runs>(
     runs: &T,
     delays: Delays,
+    point: &T::Point,
     sums: &mut Sums,
 ) -> Result<Option<Found<T::Wrong>>, T::Error>
+    requires { T.is_on runs.now (delays_of delays) point.now }
     ensures ok { IfOk result (Walks (λ numbers. numbers ≡ delays_of delays) (T.right runs.now) (T.wrong runs.now) sums.old sums.new) }
     ensures err { IfErr result (T.fails runs.now) }
 {
-    match runs.judge(&delays)? {
+    match runs.judge_from(&delays, point)? {
         Tested::Right { is_cut } => {
             sums.add(1, one_if(is_cut));
             Ok(None)
@@ -156,8 +158,16 @@ pub(crate) fn useful_longer<T: Runs>(
     longer(delays, number, counts[number as usize])
 }
 
+// Whether several threads look at the lists with so many numbers more.
+fn is_batch(more: u32, jobs: u32) -> bool
+    ensures { result ≡ true → more ≡ 1 }
+{
+    more == 1 && jobs > 1
+}
+
 /// Makes the runs of the useful lists that go on behind one with so many numbers more, in their order,
-/// up to the first that goes wrong.
+/// up to the first that goes wrong. Each begins at this point, or further on: with one job, at the place
+/// of its last number.
 ///
 /// # Errors
 /// A run can't be made, or memory is refused.
@@ -167,10 +177,12 @@ pub(crate) fn walk<R: Threads + Sync, T: Runs>(
     runs: &T,
     class: Class,
     delays: Delays,
+    point: &T::Point,
     more: u32,
     jobs: u32,
     sums: &mut Sums,
 ) -> Result<Option<Found<T::Wrong>>, T::Error>
+    requires point { StandsAt (T.is_on runs.now) (delays_of delays) (last_from class.from (delays_of delays)) point.now }
     requires useful { IsUsefulOf class (T.offers runs.now) (delays_of delays) }
     requires room { length (delays_of delays) + more ≤ class.most }
     requires most { class.most ≤ 64 }
@@ -179,16 +191,18 @@ pub(crate) fn walk<R: Threads + Sync, T: Runs>(
     ensures err { IfErr result (T.fails runs.now) }
 {
     if more == 0 {
-        return judge(runs, delays, sums);
+        return judge(runs, delays, point, sums);
     }
     let mut counts = Vec::new(alloc);
     runs.offers(&delays, &mut counts)?;
-    if more == 1 {
-        return walk_last(rt, alloc, runs, class, &delays, &counts, jobs, sums);
+    if is_batch(more, jobs) {
+        return walk_last(rt, alloc, runs, class, &delays, point, &counts, jobs, sums);
     }
+    let mut on = runs.copy(point)?;
     for number in least_behind(class, &delays)..end_of_places(class, &counts) {
         if let Some(longer) = useful_longer(runs, class, &delays, &counts, number) {
-            if let Some(found) = walk(rt, alloc, runs, class, longer, more - 1, jobs, sums)? {
+            runs.advance(&delays, number, &mut on)?;
+            if let Some(found) = walk(rt, alloc, runs, class, longer, &on, more - 1, jobs, sums)? {
                 return Ok(Some(found));
             }
         }

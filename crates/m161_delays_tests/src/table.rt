@@ -24,6 +24,9 @@ impl Runs for Table {
 
     type Error = AllocError;
 
+    // The places that are behind.
+    type Point = u32;
+
     ghost offers = { λ table numbers. table.counts };
 
     ghost right = { λ table numbers is_cut. (length numbers ≢ table.wrong)
@@ -31,13 +34,28 @@ impl Runs for Table {
 
     ghost wrong = { λ table numbers what. (length numbers ≡ table.wrong) × (what ≡ length numbers) };
 
+    ghost is_on = { λ table numbers point. Unit {0} };
+
     ghost fails = { λ table error. Unit {0} };
 
     fn offers(&self, _delays: &Delays, counts: &mut Vec<u8>) -> Result<(), AllocError> {
         counts.extend_from_slice(&self.counts)
     }
 
-    fn judge(&self, delays: &Delays) -> Result<Tested<usize>, AllocError> {
+    fn start(&self) -> Result<u32, AllocError> {
+        Ok(0)
+    }
+
+    fn copy(&self, point: &u32) -> Result<u32, AllocError> {
+        Ok(*point)
+    }
+
+    fn advance(&self, _delays: &Delays, place: u32, point: &mut u32) -> Result<(), AllocError> {
+        *point = place;
+        Ok(())
+    }
+
+    fn judge_from(&self, delays: &Delays, _point: &u32) -> Result<Tested<usize>, AllocError> {
         let count = delays.as_slice().len();
         if count == self.wrong {
             return Ok(Tested::Wrong(count));

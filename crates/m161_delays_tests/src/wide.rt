@@ -32,11 +32,16 @@ impl Runs for Wide {
 
     type Error = AllocError;
 
+    // The places that are behind.
+    type Point = u32;
+
     ghost offers = { λ wide numbers. wide.counts };
 
     ghost right = { λ wide numbers is_cut. Unit {0} };
 
     ghost wrong = { λ wide numbers what. Unit {0} };
+
+    ghost is_on = { λ wide numbers point. Unit {0} };
 
     ghost fails = { λ wide error. Unit {0} };
 
@@ -44,7 +49,20 @@ impl Runs for Wide {
         counts.extend_from_slice(&self.counts)
     }
 
-    fn judge(&self, delays: &Delays) -> Result<Tested<u32>, AllocError> {
+    fn start(&self) -> Result<u32, AllocError> {
+        Ok(0)
+    }
+
+    fn copy(&self, point: &u32) -> Result<u32, AllocError> {
+        Ok(*point)
+    }
+
+    fn advance(&self, _delays: &Delays, place: u32, point: &mut u32) -> Result<(), AllocError> {
+        *point = place;
+        Ok(())
+    }
+
+    fn judge_from(&self, delays: &Delays, _point: &u32) -> Result<Tested<u32>, AllocError> {
         let numbers = delays.as_slice();
         if numbers.len() == 1 {
             let number = numbers[0];

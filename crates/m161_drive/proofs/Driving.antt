@@ -62,7 +62,7 @@ driving_more has rules s t u old mid new made more c d es so_far long turn noted
 }
 
 -- where it stops
-stops_so : (rules : Rules) (n made : ℕ) (c : Cursor) (s : State) (stop : Stop) → made < n → Rests rules (slice_get rules.keys c.typed) c s stop →
+pub stops_so : (rules : Rules) (n made : ℕ) (c : Cursor) (s : State) (stop : Stop) → made < n → Rests rules (slice_get rules.keys c.typed) c s stop →
     Stops rules n made c s stop
 stops_so rules n made c s Off less h = h
 stops_so rules n made c s End less h = absurd h

@@ -10,3 +10,4 @@ pub mod Stretched
 mod Rows
 pub mod Passing
 pub mod Planned
+pub mod Continuing

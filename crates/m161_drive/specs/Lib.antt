@@ -6,4 +6,5 @@ pub mod Delayed
 pub mod Orders
 pub mod Choice
 pub mod Drive
+pub mod GoingOn
 pub mod helpers

@@ -1,6 +1,10 @@
 //! The choice of the next event.
 
-ghost use Rattle.std.specs.Prelude.{◌≡◌, ◌⊎◌, ◌+◌, ◌-◌, ◌<◌, ◌≤◌, ◌^◌, IfSome, slice_get, length, Some};
+ghost use Rattle.std.specs.Prelude.{◌≡◌, ◌≢◌, ◌⊎◌, ◌+◌, ◌-◌, ◌<◌, ◌≤◌, ◌^◌, IfSome, MatchOption, slice_get, length, Some};
+ghost use Rattle.m161_order.specs.Delays.{delays_of};
+ghost use Rattle.m161_drive.specs.declared.orders.OrderState.TheVariants.{ByDelays};
+ghost use Rattle.m161_drive.specs.Delayed.{DelayState};
+ghost use Rattle.m161_drive.specs.GoingOn.{IsWithLeft};
 ghost use Rattle.m161_drive.specs.Choice.{chosen, chosen_with, cursor_at, filled_after, gap_is_over, key_is_due, next_step, since_filled, taken, transfer_ends, wants_key};
 ghost use Rattle.m161_drive.specs.helpers.Drive.{AreUnsent, IsPlan, IsUntyped, LeavesRoom, MayGoOnBy, with_more_steps};
 
@@ -9,6 +13,7 @@ use crate::policy::Policy;
 use crate::ready::{next_ticking, some_ready};
 use m161_bus::Console;
 use m161_machine::{Core, Event, PackedEntry};
+use m161_order::Delays;
 use m161_tlb::Tlb;
 
 /// What a policy has to know of the run so far. The policy and the machine are those that it was
@@ -54,6 +59,23 @@ impl Cursor {
             filled: filled_after(core.latch(), None, made),
             last: None,
             order: OrderState::start(policy.order(), core.processors()),
+        }
+    }
+
+    /// The same cursor with these delays, seen from the next choice; none if the order has no delays.
+    pub fn with_left(&self, left: Delays) -> Option<Cursor>
+        ensures { MatchOption result ((d : DelayState) → self.now.order ≢ ByDelays d)
+            (λ cursor. IsWithLeft self.now (delays_of left) cursor) }
+    {
+        match self.order.with_left(left) {
+            Some(order) => Some(Cursor {
+                typed: self.typed,
+                keyed: self.keyed,
+                filled: self.filled,
+                last: self.last,
+                order,
+            }),
+            None => None,
         }
     }
 

@@ -58,6 +58,16 @@ impl DelayedTurns {
         }
     }
 
+    /// The same turns with these delays, seen from the next choice.
+    pub(crate) fn with_left(&self, left: Delays) -> DelayedTurns
+        ensures { result ≡ record self.now { left = delays_of left } }
+    {
+        DelayedTurns {
+            turns: self.turns,
+            left,
+        }
+    }
+
     /// The next processor, if one is ready.
     pub(crate) fn choose<T: Tlb, D: Console>(
         &mut self,

@@ -4,6 +4,7 @@ ghost use Rattle.std.specs.Prelude.{ℕ, Option};
 ghost use Rattle.m161_machine.specs.State.{State};
 ghost use Rattle.m161_drive.specs.declared.cursor.Cursor.{Cursor};
 ghost use Rattle.m161_drive.specs.Drive.{ChoosesAccepted, KeyIsTyped, KeyIsUnread, KeysAreApart, NoKeyIsCounted, StaysAsleep};
+ghost use Rattle.m161_drive.specs.GoingOn.{GoesOnWhole};
 ghost use Rattle.m161_drive.specs.Policy.{Rules};
 
 /// The law of every choice: in a state that isn't off the chosen event is accepted, unless the
@@ -37,4 +38,9 @@ pub fn no_key_is_counted()
 /// A choice with a given key doesn't depend on the keys of the policy.
 pub fn keys_are_apart()
     ensures { (rules : Rules) (c : Cursor) (s : State) → KeysAreApart rules c s }
+{}
+
+/// The law of going on: a run goes on from where its first events led.
+pub fn goes_on_whole()
+    ensures { (rules : Rules) (n : ℕ) (s : State) → GoesOnWhole rules n s }
 {}

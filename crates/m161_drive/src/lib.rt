@@ -20,6 +20,7 @@ mod cursor;
 mod delayed;
 mod laws;
 mod notes;
+mod on;
 mod orders;
 mod policy;
 mod ranking;
@@ -30,11 +31,13 @@ mod words;
 
 pub use cursor::Cursor;
 pub use laws::{
-    chooses_accepted, key_is_typed, key_is_unread, keys_are_apart, no_key_is_counted, stays_asleep,
+    chooses_accepted, goes_on_whole, key_is_typed, key_is_unread, keys_are_apart,
+    no_key_is_counted, stays_asleep,
 };
 pub use m161_machine::{Core, Event, PackedEntry, Refusal};
 pub use m161_order::{DelayError, Delays, Order, OrderError};
 pub use notes::{Notes, Unnoted};
+pub use on::drive_on;
 pub use policy::Policy;
 pub use ready::is_asleep;
 pub use run::{Driven, Stop, drive, turn};

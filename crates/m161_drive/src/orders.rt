@@ -1,9 +1,12 @@
 //! The orders, as a run goes on.
 
-ghost use Rattle.std.specs.Prelude.{◌≡◌, ◌<◌, ◌≤◌, length, None, Some};
+ghost use Rattle.std.specs.Prelude.{◌≡◌, ◌≢◌, ◌<◌, ◌≤◌, length, MatchOption, None, Some};
+ghost use Rattle.m161_order.specs.Delays.{delays_of};
+ghost use Rattle.m161_drive.specs.Delayed.{DelayState};
+ghost use Rattle.m161_drive.specs.GoingOn.{HasLeft};
 ghost use Rattle.m161_drive.specs.Orders.{by_order, by_words, interrupted, one_of, order_at_start};
 ghost use Rattle.m161_drive.specs.Words.{after_words};
-ghost use Rattle.m161_drive.specs.declared.orders.OrderState.TheVariants.{AtRandom};
+ghost use Rattle.m161_drive.specs.declared.orders.OrderState.TheVariants.{AtRandom, ByDelays};
 ghost use Rattle.m161_drive.specs.helpers.Drive.{IsPlan, MayGoOnBy, MayPlanBehind, PlansBehind, gone_on};
 ghost use Rattle.m161_order.specs.Order.{order_fault};
 
@@ -14,7 +17,7 @@ use crate::turns::{CHOICES, Turns};
 use crate::words::{below, seeded};
 use m161_bus::Console;
 use m161_machine::{Core, PackedEntry};
-use m161_order::Order;
+use m161_order::{Delays, Order};
 use m161_tlb::Tlb;
 use rand_pcg::Pcg32;
 
@@ -107,6 +110,17 @@ impl OrderState {
                 changes,
                 within,
             } => OrderState::ByPriority(Ranking::new(seed, changes, within, processors)),
+        }
+    }
+
+    /// The same order with these delays, seen from the next choice; none if it has no delays.
+    pub(crate) fn with_left(&self, left: Delays) -> Option<OrderState>
+        ensures { MatchOption result ((d : DelayState) → self.now ≢ ByDelays d)
+            (λ order. HasLeft self.now (delays_of left) order) }
+    {
+        match self {
+            OrderState::ByDelays(delayed) => Some(OrderState::ByDelays(delayed.with_left(left))),
+            OrderState::InTurns(_) | OrderState::AtRandom(_) | OrderState::ByPriority(_) => None,
         }
     }
 

@@ -36,8 +36,8 @@ pub struct Driven {
     pub stop: Stop,
 }
 
-// So many events are made at once, at most: their entries are in the processor's nearest cache.
-const AT_ONCE: usize = 64;
+/// So many events are made at once, at most: their entries are in the processor's nearest cache.
+pub(crate) const AT_ONCE: usize = 64;
 
 // Makes the chosen input of a device, with its entry in the first place.
 fn make_input<T: Tlb, D: Console>(

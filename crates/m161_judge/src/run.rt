@@ -32,8 +32,8 @@ pub struct JudgedRun {
     pub is_cut: bool,
 }
 
-// Whether a run ended only because no more events were asked for.
-fn is_cut<T: Tlb, D: Console>(core: &Core<T, D>, stop: Stop, keys_left: bool) -> bool
+/// Whether a run ended only because no more events were asked for.
+pub(crate) fn is_cut<T: Tlb, D: Console>(core: &Core<T, D>, stop: Stop, keys_left: bool) -> bool
     ensures { result ≡ is_cut stop keys_left core.now.state }
 {
     match stop {

@@ -54,7 +54,7 @@ counted_one : (b : Bool) (x : ℕ) (c : Bool) (xs : List ℕ) → c ≡ nat_lt 0
 counted_one true x c xs h = grind (arith, nat_tests)
 counted_one false x c xs h = h
 
-any_counted : (test : ℕ → Bool) (xs : List ℕ) → list_any test xs ≡ nat_lt 0 (length (filter test xs))
+pub any_counted : (test : ℕ → Bool) (xs : List ℕ) → list_any test xs ≡ nat_lt 0 (length (filter test xs))
 any_counted test [] = refl
 any_counted test (x ∷ xs) = counted_one (test x) x (list_any test xs) (filter test xs) (any_counted test xs)
 

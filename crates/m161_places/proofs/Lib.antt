@@ -8,3 +8,5 @@ pub mod Moving
 mod Apart
 pub mod Differing
 pub mod Turning
+pub mod Exchanging
+mod Noting

@@ -19,8 +19,8 @@ fn is_ready<T: Tlb, D: Console>(core: &Core<T, D>, p: u32) -> bool
     p < core.processors() && !core.rests(p)
 }
 
-// How many processors are ready.
-fn count_ready<T: Tlb, D: Console>(core: &Core<T, D>) -> u8
+/// How many processors are ready.
+pub(crate) fn count_ready<T: Tlb, D: Console>(core: &Core<T, D>) -> u8
     ensures count { result ≡ length (ready core.now.state) }
     ensures few { result ≤ 32 }
 {
@@ -34,8 +34,8 @@ fn count_ready<T: Tlb, D: Console>(core: &Core<T, D>) -> u8
     count
 }
 
-// Whether an entry is of a Step.
-fn is_step(made: PackedEntry) -> bool
+/// Whether an entry is of a Step.
+pub(crate) fn is_step(made: PackedEntry) -> bool
     ensures { result ≡ is_step (Some made.event) }
 {
     match made.entry().event {

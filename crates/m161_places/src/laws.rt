@@ -9,6 +9,7 @@ ghost use Rattle.m161_delays.specs.Runs.{ChooseAlike};
 ghost use Rattle.m161_drive.specs.declared.cursor.Cursor.{Cursor};
 ghost use Rattle.m161_drive.specs.declared.turns.Turns.{Turns};
 ghost use Rattle.m161_drive.specs.Policy.{Rules};
+ghost use Rattle.m161_places.specs.Going.{GoAlike};
 ghost use Rattle.m161_places.specs.Laws.{HasRunOfPart, HaveDifferentRuns, IsByTurns, IsEffective, offered};
 
 /// Runs of lists that agree below a number are alike up to the place of that number.
@@ -38,4 +39,10 @@ pub fn have_different_runs()
 pub fn is_by_turns()
     ensures { (rules : Rules) (keys : ℕ → Option ℕ) (turns : Turns) (c : Cursor) (s : State)
         → IsByTurns rules keys turns c s }
+{}
+
+/// Runs of lists that agree below a number are the same until so many places are passed, but for the
+/// delays that are left then.
+pub fn go_alike()
+    ensures { (rules : Rules) (keys : ℕ → Option ℕ) (turns : Turns) (c : Cursor) (s : State) → GoAlike rules keys turns c s }
 {}

@@ -3,9 +3,11 @@
 #![tactic(auto)]
 
 mod counts;
+mod going;
 mod laws;
 
 pub use counts::offers;
+pub use going::advance;
 pub use laws::{
-    choose_alike, has_run_of_part, have_different_runs, have_effective_part, is_by_turns,
+    choose_alike, go_alike, has_run_of_part, have_different_runs, have_effective_part, is_by_turns,
 };

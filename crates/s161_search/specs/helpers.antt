@@ -6,3 +6,4 @@ pub mod Never
 pub mod Begun
 pub mod Delayed
 pub mod Offers
+pub mod Points

@@ -1,6 +1,9 @@
 //! The runs of a search by delays.
 
-ghost use Rattle.std.specs.Prelude.{◌≤◌, IfErr, IfOk};
+ghost use Rattle.std.specs.Prelude.{◌≡◌, ◌≤◌, IfErr, IfOk};
+ghost use Rattle.m161_order.specs.declared.order.Order.TheVariants.{Delayed};
+ghost use Rattle.s161_base.specs.declared.fault.Fault.TheVariants as faults;
+ghost use Rattle.s161_run.specs.Driven.{rules_of};
 ghost use Rattle.s161_search.specs.Delays.{class_of};
 ghost use Rattle.s161_search.specs.Seeds.{IsRunFault};
 ghost use Rattle.s161_search.specs.helpers.Begun.{BeginsAt};
@@ -8,9 +11,11 @@ ghost use Rattle.s161_search.specs.helpers.Inputs.{given_of};
 ghost use Rattle.s161_search.specs.helpers.Tried.{IsSearchedBy};
 
 use crate::inputs::Inputs;
-use crate::orders::{WrongRun, policy_of, run_order, tested};
+use crate::orders::{WrongRun, policy_of, run_from, tested};
+use crate::points::RunPoint;
 use m161::{Console, Tlb};
 use m161_delays::{Class, Delays, Runs, Searched, Tested, search_lists};
+use m161_drive::Policy;
 use m161_judge::Booted;
 use m161_order::Order;
 use s161_base::fault::Fault;
@@ -33,15 +38,35 @@ pub(crate) struct DelayedRuns<'a, 'b> {
     pub turns: u32,
 }
 
+impl<'a, 'b> DelayedRuns<'a, 'b> {
+    // The policy of a list's run.
+    fn policy(&self, delays: &Delays) -> Result<Policy<'b>, Fault<'a>>
+        ensures ok { IfOk result (λ policy. policy
+            ≡ rules_of (record self.now.task.drive { order = Delayed self.now.turns delays.now }) (given_of self.now.inputs.now).keys) }
+        ensures err { IfErr result (λ fault. fault ≡ faults.Memory) }
+    {
+        let order = Order::Delayed {
+            turns: self.turns,
+            delays: *delays,
+        };
+        policy_of(self.task, self.inputs, order)
+    }
+}
+
 impl<'a, 'b> Runs for DelayedRuns<'a, 'b> {
     ghost use Rattle.s161_search.specs.Delays.{offered_by};
     ghost use Rattle.s161_search.specs.helpers.Delayed.{IsFaultFrom, IsRightFrom, IsWrongFrom};
     ghost use Rattle.s161_search.specs.helpers.Inputs.{given_of};
     ghost use Rattle.s161_search.specs.helpers.Offers.{offers_alike};
+    ghost use Rattle.s161_search.specs.helpers.Points.{IsPointOf};
 
     type Wrong = WrongRun;
 
     type Error = Fault<'a>;
+
+    type Point = RunPoint;
+
+    ghost is_on = { λ r. IsPointOf r.booted.now r.task (given_of r.inputs.now) r.turns };
 
     ghost offers = { λ r. offered_by r.task (given_of r.inputs.now) r.turns r.booted.now };
 
@@ -52,22 +77,62 @@ impl<'a, 'b> Runs for DelayedRuns<'a, 'b> {
     ghost fails = { λ r. IsFaultFrom r.booted.now r.task (given_of r.inputs.now) };
 
     fn offers(&self, delays: &Delays, counts: &mut Vec<u8>) -> Result<(), Fault<'a>> {
-        let order = Order::Delayed {
-            turns: self.turns,
-            delays: *delays,
-        };
-        let policy = policy_of(self.task, self.inputs, order)?;
+        let policy = self.policy(delays)?;
         let mut core = self.booted.copy_core(self.alloc)?;
         m161_places::offers(&mut core, &policy, self.task.drive.events, counts)?;
         Ok(())
     }
 
-    fn judge(&self, delays: &Delays) -> Result<Tested<WrongRun>, Fault<'a>> {
-        let order = Order::Delayed {
-            turns: self.turns,
-            delays: *delays,
+    fn start(&self) -> Result<RunPoint, Fault<'a>> {
+        let policy = self.policy(&Delays::none())?;
+        Ok(RunPoint::start(self.alloc, self.booted, &policy)?)
+    }
+
+    fn copy(&self, point: &RunPoint) -> Result<RunPoint, Fault<'a>> {
+        let Some(cursor) = point.cursor_of(&Delays::none()) else {
+            return self.start();
         };
-        let run = run_order(self.alloc, self.booted, self.task, self.inputs, order)?;
+        let (core, events) = point.copy_run(self.alloc)?;
+        Ok(RunPoint {
+            core,
+            cursor,
+            events,
+            passed: point.passed,
+        })
+    }
+
+    fn advance(&self, delays: &Delays, place: u32, point: &mut RunPoint) -> Result<(), Fault<'a>> {
+        let policy = self.policy(delays)?;
+        let Some(cursor) = point.cursor_of(delays) else {
+            *point = self.start()?;
+            return Ok(());
+        };
+        point.cursor = cursor;
+        let RunPoint {
+            core,
+            cursor,
+            events,
+            passed,
+        } = point;
+        let left = self.task.drive.events.saturating_sub(events.len() as u64);
+        let more = place.saturating_sub(*passed);
+        match m161_places::advance(core, &policy, cursor, left, more, events)? {
+            Some(made) => *passed += made,
+            None => *point = self.start()?,
+        }
+        Ok(())
+    }
+
+    fn judge_from(&self, delays: &Delays, point: &RunPoint) -> Result<Tested<WrongRun>, Fault<'a>> {
+        let run = run_from(
+            self.alloc,
+            self.booted,
+            self.task,
+            self.inputs,
+            self.turns,
+            delays,
+            point,
+        )?;
         Ok(tested(run))
     }
 

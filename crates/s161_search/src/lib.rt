@@ -9,6 +9,7 @@ mod found;
 mod inputs;
 mod never;
 mod orders;
+mod points;
 pub mod search;
 mod seeds;
 mod texts;

@@ -1,18 +1,22 @@
 //! A run by an order.
 
 ghost use Rattle.std.specs.Prelude.{◌≡◌, IfErr, IfOk};
+ghost use Rattle.m161_order.specs.declared.order.Order.TheVariants.{Delayed};
+ghost use Rattle.m161_order.specs.Delays.{delays_of};
 ghost use Rattle.s161_base.specs.declared.fault.Fault.TheVariants as faults;
 ghost use Rattle.s161_run.specs.Driven.{rules_of};
 ghost use Rattle.s161_search.specs.helpers.Delayed.{IsFaultFrom, IsRunFrom, IsTested};
 ghost use Rattle.s161_search.specs.helpers.Inputs.{given_of};
+ghost use Rattle.s161_search.specs.helpers.Points.{IsPointOf};
 
 use crate::audit::fault_of_audit;
 use crate::inputs::Inputs;
+use crate::points::RunPoint;
 use m161::{Console, Tlb};
 use m161_drive::Policy;
 use m161_jobs::Tested;
-use m161_judge::{Booted, Judged, JudgedRun, judge_booted};
-use m161_order::Order;
+use m161_judge::{Booted, Judged, JudgedRun, judge_booted, judge_rest};
+use m161_order::{Delays, Order};
 use s161_base::fault::Fault;
 use s161_command::SearchTask;
 use std::alloc::Global;
@@ -71,6 +75,48 @@ pub(crate) fn run_order<'a>(
 {
     let policy = policy_of(task, inputs, order)?;
     match judge_booted(alloc, booted, &policy, task.drive.events, &inputs.goal()) {
+        Ok(run) => Ok(run),
+        Err(error) => Err(fault_of_audit(error)),
+    }
+}
+
+/// The same run by turns with delays, from one of its points on.
+///
+/// # Errors
+/// The run can't be made.
+pub(crate) fn run_from<'a>(
+    alloc: Global,
+    booted: &Booted<Tlb, Console>,
+    task: SearchTask<'a>,
+    inputs: &Inputs,
+    turns: u32,
+    delays: &Delays,
+    point: &RunPoint,
+) -> Result<JudgedRun, Fault<'a>>
+    requires { IsPointOf booted.now task (given_of inputs.now) turns (delays_of delays.now) point.now }
+    ensures ok { IfOk result (IsRunFrom booted.now task.entry (given_of inputs.now) (Delayed turns delays.now)) }
+    ensures fault { IfErr result (IsFaultFrom booted.now task.entry (given_of inputs.now)) }
+{
+    let order = Order::Delayed {
+        turns,
+        delays: *delays,
+    };
+    let policy = policy_of(task, inputs, order)?;
+    let Some(cursor) = point.cursor_of(delays) else {
+        return Err(Fault::Memory);
+    };
+    let (mut core, events) = point.copy_run(alloc)?;
+    let n = task.drive.events;
+    match judge_rest(
+        alloc,
+        booted,
+        &mut core,
+        &policy,
+        cursor,
+        n,
+        events,
+        &inputs.goal(),
+    ) {
         Ok(run) => Ok(run),
         Err(error) => Err(fault_of_audit(error)),
     }
