@@ -1,59 +1,34 @@
 use Rattle.std.proofs.Common.{◌≡◌, ◌∙◌, refl, sym, ap, subst, ℕ, suc, ◌+◌, ◌≤◌, ◌<◌, arith, append_assoc, ◌⊎◌, inl, inr, Bool, true, false, List, [], ◌∷◌, ◌++◌, length, take, drop, get_or, slice_index_or, Option, None, Some, Result, Ok, Err, slice_get}
-use Rattle.std.specs.Prelude.{IsSome, is_none, min, nat_le, ◌==◌, option_and_then}
+use Rattle.std.specs.Prelude.{min, not, ◌==◌, option_and_then}
 use Rattle.std.proofs.lemmas.Bool.Decides.{nat_tests}
 use Rattle.std.proofs.lemmas.List.{append-nil, at_drop_more, drop_all, length-map, take_more}
 use Rattle.std.proofs.lemmas.Option.{get_or_from_slice_get, slice_get_cases, slice_get_within}
-use Rattle.m161_isa.specs.Choice.{first_answer}
 use Rattle.m161_cpu.specs.declared.processor.Outcome.{Outcome}
 use Rattle.m161_machine.specs.declared.event.Event.{Event}
 use Rattle.m161_machine.specs.declared.event.Event.TheVariants as events
 use Rattle.m161_machine.specs.declared.event.Refusal.{Refusal}
-use Rattle.m161_machine.specs.declared.event.Refusal.TheVariants.{BadProcessor, Off, Worn}
 use Rattle.m161_cpu.specs.Processor.{Processor}
-use Rattle.m161_machine.specs.State.{State, counts, next, step_result, unless, with_step}
+use Rattle.m161_machine.specs.State.{State, answer, counts, next, refusal, unless}
 use Rattle.m161_machine.proofs.Counting.{counts_law}
 use Rattle.m161_machine.proofs.Counted.{same_length}
 use Rattle.m161_moves.specs.Course.{Course}
 use Rattle.m161_moves.specs.Threads.{last_processor, processor_or}
 use Rattle.m161_replay.specs.Seen.{step_seen}
-use Rattle.m161_replay.specs.Replays.{after, along, counted, course_of, event_seen, line_by, number_made, seen_by, state_at, trace_from}
-use Rattle.m161_replay.specs.Standing.{IsAt, Peeks}
+use Rattle.m161_replay.specs.Replays.{after, along, counted, course_of, event_seen, is_accepted, is_over, line_by, number_made, seen_by, state_at, trace_from}
+use Rattle.m161_replay.specs.Standing.{IsAt}
 use Rattle.m161_replay.specs.helpers.Standing.{last_after}
 
 -- Places of a run.
 
--- accepted Steps
-
-passed : (a b c : Bool) (x : Result (Outcome × State) Refusal) (r : Outcome × State) → unless (first_answer ((a, BadProcessor) ∷ (b, Off) ∷ (c, Worn) ∷ [])) x ≡ Ok r
-    → (a ≡ false) × (x ≡ Ok r)
-passed true b c x r h = absurd (let bad : ◌≡◌ {A = Result (Outcome × State) Refusal} (Err BadProcessor) (Ok r) = h in cc)
-passed false true c x r h = absurd (let bad : ◌≡◌ {A = Result (Outcome × State) Refusal} (Err Off) (Ok r) = h in cc)
-passed false false true x r h = absurd (let bad : ◌≡◌ {A = Result (Outcome × State) Refusal} (Err Worn) (Ok r) = h in cc)
-passed false false false x r h = (refl, h)
-
-pub accepted : (p : ℕ) (s : State) (o : Outcome) (t : State) → next s (events.Step p) ≡ Ok (o, t) → (p < length s.processors) × ((step_result p s).outcome ≡ o)
-unfolding next
-accepted p s o t h =
-    let tests = passed (nat_le (length s.processors) p) s.board.off (nat_le 9223372036854775807 s.made) _ (o, t) h in
-    let there : nat_le (length s.processors) p ≡ false = tests.0 in
-    let result : ◌≡◌ {A = Result (Outcome × State) Refusal} (Ok ((step_result p s).outcome, with_step p (step_result p s) s)) (Ok (o, t)) = tests.1 in
-    let pair : ◌≡◌ {A = Outcome × State} ((step_result p s).outcome, with_step p (step_result p s) s) (o, t) = cc in
-    (grind (arith, nat_tests, there), ap (λ (x : Outcome × State). x.0) pair)
-
--- the same answer
-pub same_after : (x : Result (Outcome × State) Refusal) (o o2 : Outcome) (t u : State) → x ≡ Ok (o, t) → x ≡ Ok (o2, u) → t ≡ u
-same_after x o o2 t u a b =
-    let e : ◌≡◌ {A = Result (Outcome × State) Refusal} (Ok (o, t)) (Ok (o2, u)) = sym a ∙ b in
-    let pair : ◌≡◌ {A = Outcome × State} (o, t) (o2, u) = cc in
-    ap (λ (x : Outcome × State). x.1) pair
-
 -- what is seen of an event
 
-pub seen_made : (p : ℕ) (s : State) (o : Outcome) (t : State) → next s (events.Step p) ≡ Ok (o, t) → Some (step_seen p s o) ≡ event_seen s (events.Step p)
-seen_made p s o t h = sym (ap (seen_by p s) h)
+pub step_unseen : (p : ℕ) (s : State) (r : Refusal) → refusal s (events.Step p) ≡ Some r → None ≡ event_seen s (events.Step p)
+unfolding next
+step_unseen p s r h = sym (ap (λ x. seen_by p s (unless x (answer s (events.Step p)))) h)
 
-pub seen_refused : (p : ℕ) (s : State) (r : Refusal) → next s (events.Step p) ≡ Err r → None ≡ event_seen s (events.Step p)
-seen_refused p s r h = sym (ap (seen_by p s) h)
+pub step_is_seen : (p : ℕ) (s : State) → refusal s (events.Step p) ≡ None → Some (step_seen p s) ≡ event_seen s (events.Step p)
+unfolding next
+step_is_seen p s h = sym (ap (λ x. seen_by p s (unless x (answer s (events.Step p)))) h)
 
 last_step : (e : Event) (s : State) (o : Outcome) (t : State) (last : ℕ) → next s e ≡ Ok (o, t) → processor_or (event_seen s e) last ≡ last_after e last
 unfolding step_seen
@@ -168,63 +143,57 @@ goes_on start list place last s d a o t more later at made one behind =
     subst (λ n. IsAt start list n later t) (sym one)
     (subst (λ n. IsAt start list (place + 1) n t) (sym behind) (is_at_next start list place last s (slice_index_or list place d) o t at here made))
 
--- where the event is peeked at
+-- the end: no event comes, or it is refused
 
-peeked_none : (s : State) (list : List Event) (place : ℕ) (here : Option Event) (outcome : Option Outcome) (t : State) → slice_get list place ≡ here → Peeks s here outcome t → outcome ≡ None →
-    number_made s (drop place list) ≡ 0
-peeked_none s list place None outcome t is peeks none = none_left s list place is
-peeked_none s list place (Some e) None t is peeks none = refused_left s list place e peeks.0 is peeks.1
-peeked_none s list place (Some e) (Some o) t is peeks none = absurd (let bad : ◌≡◌ {A = Option Outcome} (Some o) None = none in cc)
+over_none : (s : State) (list : List Event) (place : ℕ) (here : Option Event) → slice_get list place ≡ here → is_over s here ≡ true → number_made s (drop place list) ≡ 0
+over_none s list place None is over = none_left s list place is
+over_none s list place (Some e) is over = over_refused s list place e (next s e) is refl over
+  where
+    over_refused : (s : State) (list : List Event) (place : ℕ) (e : Event) (x : Result (Outcome × State) Refusal) → slice_get list place ≡ Some e → next s e ≡ x → not (is_accepted x) ≡ true →
+        number_made s (drop place list) ≡ 0
+    over_refused s list place e (Err r) is h over = refused_left s list place e r is h
+    over_refused s list place e (Ok made) is h over = absurd (let bad : false ≡ true = over in cc)
 
-peeked_some : (s : State) (list : List Event) (place : ℕ) (here : Option Event) (o : Outcome) (t : State) → slice_get list place ≡ here → Peeks s here (Some o) t →
-    0 < number_made s (drop place list)
-peeked_some s list place None o t is peeks = absurd peeks
-peeked_some s list place (Some e) o t is peeks = let n = some_left s list place e o t is peeks in omega (arith, n)
+over_some : (s : State) (list : List Event) (place : ℕ) (here : Option Event) → slice_get list place ≡ here → is_over s here ≡ false → 0 < number_made s (drop place list)
+over_some s list place None is over = absurd (let bad : true ≡ false = over in cc)
+over_some s list place (Some e) is over = over_made s list place e (next s e) is refl over
+  where
+    over_made : (s : State) (list : List Event) (place : ℕ) (e : Event) (x : Result (Outcome × State) Refusal) → slice_get list place ≡ Some e → next s e ≡ x → not (is_accepted x) ≡ false →
+        0 < number_made s (drop place list)
+    over_made s list place e (Err r) is h over = absurd (let bad : true ≡ false = over in cc)
+    over_made s list place e (Ok made) is h over = let n = some_left s list place e made.0 made.1 is h in omega (arith, n)
 
-pub is_end : (start : State) (list : List Event) (place last : ℕ) (s : State) (outcome : Option Outcome) (t : State) → IsAt start list place last s → Peeks s (slice_get list place) outcome t →
-    is_none outcome ≡ (min place (number_made start list) == number_made start list)
-is_end start list place last s None t at peeks =
-    let none = peeked_none s list place (slice_get list place) None t refl peeks refl in
+end_by : (start : State) (list : List Event) (place last : ℕ) (s : State) (over : Bool) → IsAt start list place last s → is_over s (slice_get list place) ≡ over →
+    over ≡ (min place (number_made start list) == number_made start list)
+end_by start list place last s true at over =
+    let none = over_none s list place (slice_get list place) refl over in
     let end = at.end_is in
     sym (grind (arith, nat_tests, none, end))
-is_end start list place last s (Some o) t at peeks =
-    let some = peeked_some s list place (slice_get list place) o t refl peeks in
+end_by start list place last s false at over =
+    let some = over_some s list place (slice_get list place) refl over in
     let end = at.end_is in
     sym (grind (arith, nat_tests, some, end))
 
--- the event that comes, and its outcome
-pub record Comes (s : State) (list : List Event) (place : ℕ) (outcome : Option Outcome) (t : State) : Type 0 where
-  pub event : Event
-  pub made : Outcome
-  pub event_is : slice_get list place ≡ Some event
-  pub outcome_is : outcome ≡ Some made
-  pub next_is : next s event ≡ Ok (made, t)
+pub is_end : (start : State) (list : List Event) (place last : ℕ) (s : State) → IsAt start list place last s →
+    is_over s (slice_get list place) ≡ (min place (number_made start list) == number_made start list)
+is_end start list place last s at = end_by start list place last s (is_over s (slice_get list place)) at refl
 
-comes_by : (s : State) (list : List Event) (place : ℕ) (here : Option Event) (outcome : Option Outcome) (t : State) → slice_get list place ≡ here → Peeks s here outcome t →
-    0 < number_made s (drop place list) → Comes s list place outcome t
-comes_by s list place here None t is peeks some =
-    absurd (let n = peeked_none s list place here None t is peeks refl in let bad : ⊥ = omega (arith, n, some) in bad)
-comes_by s list place None (Some o) t is peeks some = absurd peeks
-comes_by s list place (Some e) (Some o) t is peeks some = record { event = e; made = o; event_is = is; outcome_is = refl; next_is = peeks }
+-- the event that comes
 
-pub comes : (start : State) (list : List Event) (place last : ℕ) (s : State) (outcome : Option Outcome) (t : State) → IsAt start list place last s → Peeks s (slice_get list place) outcome t →
-    min place (number_made start list) < number_made start list → Comes s list place outcome t
-comes start list place last s outcome t at peeks lt =
+pub comes : (start : State) (list : List Event) (place last : ℕ) (s : State) → IsAt start list place last s →
+    min place (number_made start list) < number_made start list → Accepts s list place
+comes start list place last s at lt =
     let end = at.end_is in
-    comes_by s list place (slice_get list place) outcome t refl peeks (omega (arith, end, lt))
+    accepts start list place last s at (omega (arith, end, lt))
 
 pub place_is : (start : State) (list : List Event) (place last : ℕ) (s : State) → IsAt start list place last s → min place (number_made start list) ≡ place
 place_is start list place last s at = let end = at.end_is in omega (arith, end)
 
-pub made_by : (s : State) (e : Event) (outcome : Option Outcome) (t : State) → Peeks s (Some e) outcome t → IsSome outcome → (o : Outcome) × (u : State) × (next s e ≡ Ok (o, u))
-made_by s e None t peeks some = absurd (cc)
-made_by s e (Some o) t peeks some = (o, t, peeks)
-
-pub one_further : (start : State) (list : List Event) (place last : ℕ) (s : State) (outcome : Option Outcome) (t : State) → IsAt start list place last s → (c : Comes s list place outcome t) →
-    (e : Event) → e ≡ c.event → (o : Outcome) (u : State) → next s e ≡ Ok (o, u) → (later : ℕ) → later ≡ last_after e last → IsAt start list (place + 1) later u
-one_further start list place last s outcome t at c e is o u made later behind =
+pub one_further : (start : State) (list : List Event) (place last : ℕ) (s : State) → IsAt start list place last s → (k : Accepts s list place) →
+    (e : Event) → e ≡ k.event → (o : Outcome) (u : State) → next s e ≡ Ok (o, u) → (later : ℕ) → later ≡ last_after e last → IsAt start list (place + 1) later u
+one_further start list place last s at k e is o u made later behind =
     subst (λ n. IsAt start list (place + 1) n u) (sym behind)
-    (is_at_next start list place last s e o u at (c.event_is ∙ ap (λ x. Some x) (sym is)) made)
+    (is_at_next start list place last s e o u at (k.event_is ∙ ap (λ x. Some x) (sym is)) made)
 
 -- no event changes the number of processors
 

@@ -2,14 +2,15 @@
 //! back to any place.
 //!
 //! ```text
-//! here   the state at the place where it stands, and the one behind the next event with that event's
-//!        outcome: what a Step fetches is told by the two
+//! here   the state at the place where it stands: it tells what the next event is before that is made,
+//!        and whether it is refused
 //! kept   the state at an earlier place: the way back begins there, or else at boot. Then one is kept
 //!        anew, at most 65,536 events before the goal
 //! ```
 #![tactic(auto)]
 
 mod kept;
+mod load;
 mod replay;
 mod seen;
 mod standing;

@@ -4,7 +4,8 @@ ghost use Rattle.std.specs.Prelude.{◌≡◌, ◌≤◌, IfOk, length, slice_ge
 ghost use Rattle.m161_replay.specs.Replays.{number_made, place_of, state_at, trace_before};
 
 use crate::kept::{Kept, keep_near, last_after, state_at};
-use crate::standing::Standing;
+use crate::seen::event_seen;
+use crate::standing::{copied, is_over, make};
 use crate::traced::trace_from;
 use m161_bus::Console;
 use m161_machine::{Core, Event};
@@ -13,22 +14,22 @@ use m161_tlb::Tlb;
 use std::alloc::{AllocError, Global};
 use std::marker::Model;
 
-/// The run of a list of events from a state on, standing at one of its places. It holds five states:
-/// the first one, two where it stands and one that it has kept; a way back holds two more.
+/// The run of a list of events from a state on, standing at one of its places. It holds three states:
+/// the first one, the one where it stands and one that it has kept; a way back holds one more.
 #[derive(Drop)]
 pub struct Replay<T: Tlb, D: Console> {
     list: Vec<Event>,
     start: Box<Core<T, D>>,
     kept: Kept<T, D>,
-    here: Standing<T, D>,
+    here: Box<Core<T, D>>,
     place: usize,
     last: u32,
 }
 
 impl<T: Tlb, D: Console> Model for Replay<T, D> {
-    ghost use Rattle.std.specs.Prelude.{◌≡◌, ◌≤◌, length, slice_get};
+    ghost use Rattle.std.specs.Prelude.{◌≤◌, length};
     ghost use Rattle.m161_replay.specs.Replays.{Replay};
-    ghost use Rattle.m161_replay.specs.Standing.{IsAt, Peeks};
+    ghost use Rattle.m161_replay.specs.Standing.{IsAt};
 
     ghost Value = { Replay };
 
@@ -41,9 +42,7 @@ impl<T: Tlb, D: Console> Model for Replay<T, D> {
     ghost invariant = { λ r.
         (1 ≤ length r.start.value.state.processors)
         × IsAt r.start.value.state r.list.items r.kept.place r.kept.last r.kept.core.value.state
-        × IsAt r.start.value.state r.list.items r.place r.last r.here.core.value.state
-        × Peeks r.here.core.value.state (slice_get r.list.items r.place) r.here.outcome
-        r.here.ahead.value.state };
+        × IsAt r.start.value.state r.list.items r.place r.last r.here.value.state };
 }
 
 /// The event at a place, if there is one.
@@ -70,7 +69,7 @@ impl<T: Tlb + Drop, D: Console + Drop> Replay<T, D> {
     {
         let start = Box::new(alloc, start)?;
         let kept = Kept::at_start(alloc, &*start)?;
-        let here = Standing::of(alloc, &*start, event_at(events.as_slice(), 0))?;
+        let here = copied(alloc, &*start)?;
         Ok(Replay {
             list: events,
             start,
@@ -120,7 +119,7 @@ impl<T: Tlb, D: Console> Replay<T, D> {
     fn core(&self) -> &Core<T, D>
         ensures { result.now.state ≡ state_at self.now.start self.now.events self.now.place }
     {
-        &*self.here.core
+        &*self.here
     }
 
     /// The state at the place where it stands.
@@ -183,15 +182,13 @@ impl<T: Tlb + Drop, D: Console + Drop> Run for Replay<T, D> {
     }
 
     fn is_at_end(&self) -> bool {
-        match self.here.outcome() {
-            Some(_) => false,
-            None => true,
-        }
+        let event = event_at(self.list.as_slice(), self.place);
+        is_over(&*self.here, event)
     }
 
     fn next_step(&self) -> Option<StepSeen> {
         match event_at(self.list.as_slice(), self.place) {
-            Some(event) => self.here.seen(event),
+            Some(event) => event_seen(&*self.here, event),
             None => None,
         }
     }
@@ -203,8 +200,7 @@ impl<T: Tlb + Drop, D: Console + Drop> Run for Replay<T, D> {
     fn advance(&mut self) -> Result<(), AllocError> {
         let list = self.list.as_slice();
         let event = list[self.place];
-        let following = event_at(list, self.place + 1);
-        self.here.advance(event, following)?;
+        make(&mut *self.here, event)?;
         self.place += 1;
         self.last = last_after(event, self.last);
         Ok(())
@@ -219,8 +215,7 @@ impl<T: Tlb + Drop, D: Console + Drop> Run for Replay<T, D> {
             &mut self.kept,
             to,
         )?;
-        let event = event_at(self.list.as_slice(), self.kept.place);
-        self.here = Standing::of(alloc, &*self.kept.core, event)?;
+        self.here = copied(alloc, &*self.kept.core)?;
         self.place = self.kept.place;
         self.last = self.kept.last;
         Ok(())

@@ -1,27 +1,18 @@
-//! A state, and the one behind its next event.
+//! A state before its next event.
 
-ghost use Rattle.std.specs.Prelude.{◌≡◌, ◌≤◌, IfOk, OnErr, OnOk, Ok, Some};
+ghost use Rattle.std.specs.Prelude.{◌≡◌, IfOk, OnErr, OnOk, Ok};
 ghost use Rattle.m161_cpu.specs.declared.processor.Outcome.{Outcome};
+ghost use Rattle.m161_machine.specs.declared.event.Event.TheVariants as events;
 ghost use Rattle.m161_machine.specs.State.{State, next};
-ghost use Rattle.m161_replay.specs.Replays.{event_seen};
-ghost use Rattle.m161_replay.specs.Standing.{Peeks};
+ghost use Rattle.m161_replay.specs.Replays.{is_accepted, is_over};
 
-use crate::seen::event_seen;
 use m161_bus::Console;
-use m161_machine::{Core, Event, Outcome};
-use m161_moves::StepSeen;
+use m161_machine::{Core, Event};
 use m161_tlb::Tlb;
 use std::alloc::{AllocError, Global};
 
-/// A state, and the one behind its next event.
-#[derive(Drop)]
-pub(crate) struct Standing<T: Tlb, D: Console> {
-    /// The state.
-    pub core: Box<Core<T, D>>,
-    // The one behind the event, and the event's outcome, if it is accepted.
-    ahead: Box<Core<T, D>>,
-    outcome: Option<Outcome>,
-}
+/// How many events a machine accepts.
+const WORN: u64 = 0x7fff_ffff_ffff_ffff;
 
 /// Makes an event that is accepted.
 ///
@@ -42,86 +33,73 @@ pub(crate) fn make<T: Tlb, D: Console>(
     }
 }
 
-// Makes an event, if there is one and it is accepted.
-fn peek<T: Tlb, D: Console>(core: &mut Core<T, D>, event: Option<Event>) -> Option<Outcome>
-    requires { 1 ≤ core.old.room }
-    ensures { Peeks core.old.state event result core.new.state }
+/// The same state again.
+///
+/// # Errors
+/// Memory was refused.
+#[inline(never)]
+pub(crate) fn copied<T: Tlb + Drop, D: Console + Drop>(
+    alloc: Global,
+    core: &Core<T, D>,
+) -> Result<Box<Core<T, D>>, AllocError>
+    ensures { IfOk result (λ copy. copy.value.state ≡ core.now.state) }
 {
-    let event = event?;
-    match core.event(event) {
-        Ok(outcome) => Some(outcome),
-        Err(_) => None,
+    let copy = Box::new(alloc, core.copy(alloc)?)?;
+    Ok(copy)
+}
+
+// Whether a Step of processor `p` is accepted.
+#[tactic(auto, unfolding(m161_machine::specs::State::next))]
+fn accepts_step<T: Tlb, D: Console>(core: &Core<T, D>, p: u32) -> bool
+    ensures { result ≡ is_accepted (next core.now.state (events.Step p)) }
+{
+    match core.refusal(p) {
+        Some(_) => false,
+        None => true,
     }
 }
 
-impl<T: Tlb + Drop, D: Console + Drop> Standing<T, D> {
-    /// A state, before this event.
-    ///
-    /// # Errors
-    /// Memory was refused.
-    #[inline(never)]
-    pub(crate) fn of(
-        alloc: Global,
-        core: &Core<T, D>,
-        event: Option<Event>,
-    ) -> Result<Standing<T, D>, AllocError>
-        ensures state { IfOk result (λ s. s.core.value.state ≡ core.now.state) }
-        ensures peeks { IfOk result (λ s.
-            Peeks s.core.value.state event s.outcome s.ahead.value.state) }
-    {
-        let here = Box::new(alloc, core.copy(alloc)?)?;
-        let mut ahead = Box::new(alloc, core.copy(alloc)?)?;
-        ahead.reserve(1)?;
-        let outcome = peek(&mut *ahead, event);
-        Ok(Standing {
-            core: here,
-            ahead,
-            outcome,
-        })
+// Whether a typed byte is accepted.
+#[tactic(auto, unfolding(m161_machine::specs::State::next))]
+fn accepts_key<T: Tlb, D: Console>(core: &Core<T, D>, byte: u8) -> bool
+    ensures { result ≡ is_accepted (next core.now.state (events.Key byte)) }
+{
+    if core.is_off() {
+        return false;
+    }
+    if core.made() >= WORN {
+        return false;
+    }
+    core.waiting() < 256
+}
+
+// Whether the end of a sending is accepted.
+fn accepts_done<T: Tlb, D: Console>(core: &Core<T, D>) -> bool
+    ensures { result ≡ is_accepted (next core.now.state events.Done) }
+{
+    match core.refusal_of_done() {
+        Some(_) => false,
+        None => true,
     }
 }
 
-impl<T: Tlb, D: Console> Standing<T, D> {
-    /// The outcome of the next event, if there is one and it is accepted.
-    pub(crate) fn outcome(&self) -> Option<Outcome>
-        ensures { result ≡ self.now.outcome }
-    {
-        self.outcome
+/// Whether an event is accepted.
+pub(crate) fn accepts<T: Tlb, D: Console>(core: &Core<T, D>, event: Event) -> bool
+    ensures { result ≡ is_accepted (next core.now.state event) }
+{
+    match event {
+        Event::Step(p) => accepts_step(core, p),
+        Event::Key(byte) => accepts_key(core, byte),
+        Event::Done => accepts_done(core),
     }
+}
 
-    /// What moves see of the next event, which is this one.
-    pub(crate) fn seen(&self, event: Event) -> Option<StepSeen>
-        requires { Peeks self.now.core.value.state (Some event) self.now.outcome
-            self.now.ahead.value.state }
-        ensures { result ≡ event_seen self.now.core.value.state event }
-    {
-        event_seen(&*self.core, event, self.outcome)
-    }
-
-    /// Goes on by an event, which is accepted, to before this one.
-    ///
-    /// # Errors
-    /// Memory was refused. Nothing is changed then.
-    pub(crate) fn advance(
-        &mut self,
-        event: Event,
-        following: Option<Event>,
-    ) -> Result<(), AllocError>
-        requires peeks { Peeks self.old.core.value.state (Some event) self.old.outcome
-            self.old.ahead.value.state }
-        requires accepted { (o : Outcome) × (t : State)
-            × (next self.old.core.value.state event ≡ Ok (o, t)) }
-        ensures made { OnOk result ((o : Outcome)
-            × (next self.old.core.value.state event ≡ Ok (o, self.new.core.value.state))) }
-        ensures peeks { OnOk result (Peeks self.new.core.value.state following self.new.outcome
-            self.new.ahead.value.state) }
-        ensures err { OnErr result ((self.new.core.value.state ≡ self.old.core.value.state)
-            × (self.new.outcome ≡ self.old.outcome)
-            × (self.new.ahead.value.state ≡ self.old.ahead.value.state)) }
-    {
-        self.ahead.reserve(1)?;
-        make(&mut *self.core, event)?;
-        self.outcome = peek(&mut *self.ahead, following);
-        Ok(())
+/// Whether no event is made any more, where this one is next.
+pub(crate) fn is_over<T: Tlb, D: Console>(core: &Core<T, D>, event: Option<Event>) -> bool
+    ensures { result ≡ is_over core.now.state event }
+{
+    match event {
+        Some(event) => !accepts(core, event),
+        None => true,
     }
 }

@@ -30,8 +30,8 @@ fn activity_of(state: ProcessorState) -> Activity
     }
 }
 
-// Whether a processor is in user mode.
-fn is_user<T: Tlb, D: Console>(core: &Core<T, D>, p: u32) -> bool
+/// Whether a processor is in user mode.
+pub(crate) fn is_user<T: Tlb, D: Console>(core: &Core<T, D>, p: u32) -> bool
     requires { p < length core.now.state.processors }
     ensures { result ≡ is_user (processor_at p core.now.state.processors).control }
 {
