@@ -11,3 +11,5 @@ mod Decoded
 mod Telling
 mod Written
 mod Behaving
+mod Restoring
+mod RestoringMemory

@@ -3,4 +3,7 @@ pub mod View
 pub mod Law
 pub mod Words
 pub mod WordsLaw
+pub mod Restored
+pub mod RestoredMemory
+pub mod RestoredBoard
 pub mod helpers

@@ -1,7 +1,10 @@
 //! Tests of what a Step reads, and of views. The expected values were worked out by hand.
 
 use m161::Core;
-use m161_alike::{Known, Reads, next_reads, write_memory, write_processor};
+use m161_alike::{
+    Known, Reads, next_reads, read_board, read_memory, read_processor, write_board, write_memory,
+    write_processor,
+};
 use m161_machine::{Conf, LinkUnit};
 use m161_test_support::files::file_from;
 use m161_test_support::outcomes::ENTRY;
@@ -48,6 +51,22 @@ static STORES: [u32; 4] = [
     0, // nop
 ];
 
+/// How many Steps a processor has made that is made again.
+static STEPS: [u32; 7] = [0, 1, 2, 5, 7, 8, 70];
+
+/// Writes a word of CRAM, sends a byte, links itself, and spins.
+static BOARD: [u32; 9] = [
+    0x3c08_bfff, // lui $8, 0xbfff
+    0xad08_8300, // sw $8, -31,984($8): word 0 of its CRAM
+    0x3c09_bfe0, // lui $9, 0xbfe0
+    0xad28_0000, // sw $8, 0($9): CHAR
+    0xad28_0004, // sw $8, 4($9): WIRQ
+    0x3c0a_8000, // lui $10, 0x8000
+    0xc14b_0300, // ll $11, 768($10)
+    0x1000_ffff, // beq $0, $0, to itself
+    0, // nop
+];
+
 /// Fails the test where a value isn't the expected one.
 fn same<T: PartialEq + Debug + Copy>(rt: &impl Abort, found: T, expected: T) {
     assert_eq!(rt; found, expected);
@@ -90,6 +109,25 @@ fn check_alike(
     }
     same(rt, words.as_slice() == others.as_slice(), expected);
     Ok(())
+}
+
+/// Makes processor 0 of another state the one with the words of a state's. Returns whether it did.
+fn read_back(
+    rt: &impl AllocGlobal,
+    core: &Core,
+    other: &mut Core,
+    known: &Known,
+) -> Result<bool, Fail> {
+    let mut words = Vec::new(rt.alloc());
+    if core.processors() > 0 {
+        write_processor(core, known, 0, &mut words)?;
+    }
+    let can = other.processors() > 0 && other.made() >= 55 && !other.conf().strict;
+    if !can || words.len() != 245 {
+        return Ok(false);
+    }
+    read_processor(other, 0, &words);
+    Ok(true)
 }
 
 /// What is known if Random, Count of processor 0 are.
@@ -242,5 +280,82 @@ fn memory_is_what_differs(rt: HostRuntime) -> Result<(), Fail> {
         words.as_slice() == [0x300, 0x8000_0000].as_slice(),
         true,
     );
+    Ok(())
+}
+
+#[test]
+fn a_processor_comes_back(rt: HostRuntime) -> Result<(), Fail> {
+    let known = known_of(true, true);
+    for steps in STEPS.iter() {
+        let mut core = booted(&rt, &READS)?;
+        let mut other = booted(&rt, &READS)?;
+        make_steps(&rt, &mut core, *steps);
+        make_steps(&rt, &mut other, 60);
+        same(&rt, read_back(&rt, &core, &mut other, &known)?, true);
+        check_alike(&rt, &core, &other, &known, true)?;
+        make_steps(&rt, &mut core, 1);
+        make_steps(&rt, &mut other, 1);
+        check_alike(&rt, &core, &other, &known, true)?;
+    }
+    Ok(())
+}
+
+/// Writes the words of a state's board and memory.
+fn write_both(
+    core: &Core,
+    boot: &Core,
+    board: &mut Vec<u32>,
+    memory: &mut Vec<u32>,
+) -> Result<(), Fail> {
+    write_board(core, board)?;
+    if boot.memory().len() == core.memory().len() {
+        write_memory(core, boot.memory(), memory)?;
+    }
+    Ok(())
+}
+
+/// Makes a state's board and memory those with these words, if it can be.
+fn read_both(core: &mut Core, boot: &Core, board: &[u32], memory: &[u32]) {
+    if board.len() >= 11 + 68 * core.processors() as usize {
+        read_board(core, board);
+    }
+    if boot.memory().len() == core.memory().len() {
+        read_memory(core, boot.memory(), memory);
+    }
+}
+
+/// Fails the test where another state, with the words of a state's board and memory, has others.
+fn check_comes_back(
+    rt: &(impl Abort + AllocGlobal),
+    core: &Core,
+    other: &mut Core,
+    boot: &Core,
+) -> Result<(), Fail> {
+    let mut board = Vec::new(rt.alloc());
+    let mut memory = Vec::new(rt.alloc());
+    let mut boards = Vec::new(rt.alloc());
+    let mut memories = Vec::new(rt.alloc());
+    write_both(core, boot, &mut board, &mut memory)?;
+    read_both(other, boot, &board, &memory);
+    write_both(other, boot, &mut boards, &mut memories)?;
+    same(rt, boards.as_slice() == board.as_slice(), true);
+    same(rt, memories.as_slice() == memory.as_slice(), true);
+    Ok(())
+}
+
+#[test]
+fn the_board_and_memory_come_back(rt: HostRuntime) -> Result<(), Fail> {
+    for steps in STEPS.iter() {
+        let mut core = booted(&rt, &BOARD)?;
+        let mut other = booted(&rt, &STORES)?;
+        let boot = booted(&rt, &BOARD)?;
+        make_steps(&rt, &mut core, *steps);
+        make_steps(&rt, &mut other, 5);
+        same(&rt, core.key(65).is_ok(), true);
+        same(&rt, core.key(255).is_ok(), true);
+        same(&rt, other.key(66).is_ok(), true);
+        check_comes_back(&rt, &core, &mut other, &boot)?;
+        check_comes_back(&rt, &boot, &mut other, &core)?;
+    }
     Ok(())
 }

@@ -6,12 +6,14 @@ ghost use Rattle.m161_bus.specs.Console.{after_console_read, console_read, conso
 ghost use Rattle.m161_bus.specs.Outcome.{LeavesUnlessRefused};
 ghost use Rattle.m161_bus.specs.helpers.Registers.{IsThere};
 
+mod restore;
 mod views;
 
 use crate::console::{Console, ConsoleRegister};
 use crate::lines::{PLACES, lines_of_all};
 use crate::place::Place;
 use crate::register::{Register, register_of};
+pub use restore::{BoardParts, PlaceParts};
 use std::alloc::{AllocError, Global};
 use std::marker::Model;
 use thiserror::Error;

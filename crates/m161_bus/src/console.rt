@@ -4,7 +4,9 @@ ghost use Rattle.std.specs.Prelude.{◌≡◌, ◌≢◌, ℕ, ◌+◌, ◌<◌,
 ghost use Rattle.m161_bus.specs.Console.{ConsoleState, console_at_boot, console_read, after_console_read, console_written, with_key, done_of, is_line_up};
 ghost use Rattle.m161_bus.specs.declared.console.DoneError.TheVariants.{NoMemory};
 ghost use Rattle.m161_bus.specs.Outcome.{LeavesUnlessRefused, LeavesUnlessNoMemory};
+ghost use Rattle.m161_bus.specs.Restore.{restored_console};
 
+use crate::irq::IrqBits;
 use std::alloc::{AllocError, Global};
 use thiserror::Error;
 
@@ -35,6 +37,19 @@ pub enum DoneError {
     NoMemory,
 }
 
+/// What a console holds beside the bytes that wait to be read and those that were sent.
+#[derive(Clone, Copy)]
+pub struct ConsoleParts {
+    /// The byte that is being sent, if one is.
+    pub latch: Option<u8>,
+    /// The interrupt bits of sending.
+    pub write_irq: IrqBits,
+    /// ENABLE of the interrupt bits of typing.
+    pub read_enable: bool,
+    /// FORCE of the interrupt bits of typing.
+    pub read_force: bool,
+}
+
 /// A console: bytes that were typed and wait to be read, a latch for the byte that is being sent,
 /// and all bytes that were sent. It doesn't ask for `Drop`: with that, each family of crates that takes
 /// the machine would get a copy of the loop of Steps. A function that lets a machine go asks for it
@@ -53,6 +68,12 @@ pub trait Console {
     fn copy(&self, alloc: Global) -> Result<Self, AllocError>
         ensures content { IfOk result (λ console. content console ≡ content self.now) }
         ensures room { IfOk result (λ console. room self.now ≤ room console) };
+
+    /// Makes it a console that holds this, in which no byte waits and which has sent none. Does not
+    /// allocate.
+    fn restore(&mut self, parts: &ConsoleParts)
+        ensures content { content self.new ≡ restored_console parts.now }
+        ensures room { room self.old ≤ room self.new };
 
     /// Reads a register; reading CHAR removes the byte. Does not allocate.
     fn read(&mut self, register: ConsoleRegister) -> u32

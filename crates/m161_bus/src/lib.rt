@@ -43,7 +43,7 @@ mod lines;
 mod place;
 mod register;
 
-pub use board::{Board, BusFault, StartWords};
-pub use console::{Console, ConsoleRegister, DoneError, KeyFull};
+pub use board::{Board, BoardParts, BusFault, PlaceParts, StartWords};
+pub use console::{Console, ConsoleParts, ConsoleRegister, DoneError, KeyFull};
 pub use irq::IrqBits;
 pub use register::BoardWord;

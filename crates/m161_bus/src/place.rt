@@ -1,8 +1,10 @@
 //! What the controller keeps for each processor.
 
-ghost use Rattle.std.specs.Prelude.{◌≡◌, ◌<◌, slice_index, slice_set};
+ghost use Rattle.std.specs.Prelude.{◌≡◌, ◌<◌, length, slice_index, slice_set};
 ghost use Rattle.m161_bus.specs.Board.{PlaceState, place_at_boot, lines_at};
+ghost use Rattle.m161_bus.specs.Restore.{restored_place};
 
+use crate::board::PlaceParts;
 use std::marker::Model;
 
 /// Words of a processor's CRAM.
@@ -45,6 +47,16 @@ impl Place {
             cipi: false,
             cram: [0; CRAM_WORDS],
         }
+    }
+
+    /// Makes it one that holds this.
+    pub(crate) fn restore(&mut self, parts: &PlaceParts)
+        requires { length parts.now.cram ≡ 64 }
+        ensures { self.new ≡ restored_place parts.now }
+    {
+        self.cirqe = parts.cirqe;
+        self.cipi = parts.cipi;
+        self.cram = parts.cram;
     }
 
     /// CIRQE.

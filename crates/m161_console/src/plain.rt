@@ -4,7 +4,7 @@ ghost use Rattle.std.specs.Prelude.{◌≡◌, drop};
 ghost use Rattle.m161_bus.specs.Console.{bytes_wait, oldest};
 
 use crate::port::Port;
-use m161_bus::{Console, ConsoleRegister, DoneError, KeyFull};
+use m161_bus::{Console, ConsoleParts, ConsoleRegister, DoneError, KeyFull};
 use std::alloc::{AllocError, Global};
 use std::marker::Model;
 
@@ -83,6 +83,11 @@ impl Console for PlainConsole {
             waiting,
             port: self.port.copy(alloc)?,
         })
+    }
+
+    fn restore(&mut self, parts: &ConsoleParts) {
+        self.waiting.clear();
+        self.port.restore(parts);
     }
 
     fn read(&mut self, register: ConsoleRegister) -> u32 {

@@ -5,9 +5,10 @@ ghost use Rattle.std.specs.Prelude.{◌≡◌, ◌≢◌, ◌+◌, ◌≤◌, �
 ghost use Rattle.m161_bus.specs.Console.{console_at_boot, console_written, done_of, irq_word, is_up};
 ghost use Rattle.m161_bus.specs.Outcome.{LeavesUnlessNoMemory};
 ghost use Rattle.m161_bus.specs.declared.console.DoneError.TheVariants.{NoMemory};
+ghost use Rattle.m161_bus.specs.Restore.{restored_console};
 ghost use Rattle.m161_console.specs.helpers.Port.{read_irq_if};
 
-use m161_bus::{ConsoleRegister, DoneError, IrqBits};
+use m161_bus::{ConsoleParts, ConsoleRegister, DoneError, IrqBits};
 use std::alloc::{AllocError, Global};
 use std::marker::Model;
 
@@ -68,6 +69,18 @@ impl Port {
             read_enable: self.read_enable,
             read_force: self.read_force,
         })
+    }
+
+    /// Makes it one that holds this, and has sent no byte. Does not allocate.
+    pub(crate) fn restore(&mut self, parts: &ConsoleParts)
+        ensures content { self.new.content ≡ restored_console parts.now }
+        ensures room { self.old.room ≤ self.new.room }
+    {
+        self.latch = parts.latch;
+        self.sent.clear();
+        self.write_irq = parts.write_irq;
+        self.read_enable = parts.read_enable;
+        self.read_force = parts.read_force;
     }
 
     // RIRQ as it is read, if bytes wait or if none does: its ACTIVE says that.

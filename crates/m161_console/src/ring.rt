@@ -5,7 +5,7 @@ ghost use Rattle.m161_bus.specs.Console.{bytes_wait, oldest};
 
 use crate::port::Port;
 use circular_buffer::HeapCircularBuffer;
-use m161_bus::{Console, ConsoleRegister, DoneError, KeyFull};
+use m161_bus::{Console, ConsoleParts, ConsoleRegister, DoneError, KeyFull};
 use std::alloc::{AllocError, Global};
 use std::marker::Model;
 
@@ -86,6 +86,11 @@ impl Console for RingConsole {
             waiting,
             port: self.port.copy(alloc)?,
         })
+    }
+
+    fn restore(&mut self, parts: &ConsoleParts) {
+        self.waiting.clear();
+        self.port.restore(parts);
     }
 
     fn read(&mut self, register: ConsoleRegister) -> u32 {

@@ -5,10 +5,12 @@ ghost use Rattle.m161_cop0.specs.Control.{control_at_start, read_of, after_write
 
 mod clock;
 mod entry;
+mod restore;
 mod views;
 
 use crate::register::Register;
 use m161_isa::Reg;
+pub use restore::Cop0Parts;
 use std::marker::Model;
 
 /// The bits of Index that a write keeps.
@@ -237,7 +239,7 @@ impl Cop0 {
 }
 
 // IM in Cause's places if IEc is set, else 0.
-fn enabled_im(status: u32) -> u32
+pub(crate) fn enabled_im(status: u32) -> u32
     ensures { result ≡ enabled_im_of status }
 {
     if status % 2 == 1 {

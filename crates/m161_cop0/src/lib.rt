@@ -31,7 +31,7 @@ mod trap;
 
 pub use cause::CauseParts;
 pub use clock::random_after_ticks;
-pub use control::Cop0;
+pub use control::{Cop0, Cop0Parts};
 pub use exception::Exception;
 pub use register::{REGISTERS, Register, registers_in_order};
 pub use trap::Trap;

@@ -1,4 +1,5 @@
 pub mod Processor
+pub mod Restore
 pub mod Scene
 pub mod Links
 pub mod Fault

@@ -50,7 +50,7 @@ mod uses;
 mod uses_law;
 
 pub use links::Links;
-pub use processor::{Cpu, Outcome, ProcessorState};
+pub use processor::{Cpu, Outcome, ProcessorParts, ProcessorState};
 pub use row_number::RowNumber;
 pub use uses::{Uses, Via};
 pub use uses_law::uses_tell_the_step;

@@ -67,6 +67,27 @@ impl Links {
         }
     }
 
+    /// Makes a processor's link one to the unit with this first byte, or none. Does not allocate.
+    pub fn restore(&mut self, c: u32, link: Option<u32>)
+        requires { c < 32 }
+        ensures { self.new ≡ with_link c link self.old }
+    {
+        match link {
+            Some(first) => self.link_to_unit(c, first),
+            None => self.unlink(c),
+        }
+    }
+
+    // Links a processor to the unit with this first byte.
+    fn link_to_unit(&mut self, c: u32, first: u32)
+        requires { c < 32 }
+        ensures { self.new ≡ with_link c (Some first) self.old }
+    {
+        let bit = 1 << c;
+        self.linked[c as usize] = Some(first);
+        self.live |= bit;
+    }
+
     /// The first byte of the unit that a processor is linked to, if its link is live.
     pub fn linked_unit(&self, c: u32) -> Option<u32>
         requires { c < 32 }

@@ -9,6 +9,7 @@ ghost use Rattle.m161_cpu.specs.Fault.{vector, with_trap};
 ghost use Rattle.m161_cpu.specs.Step.{step_of, tick};
 ghost use Rattle.m161_cpu.specs.helpers.Execute.{idle_or_running};
 
+mod restore;
 mod views;
 
 use crate::fault::StepFault;
@@ -17,6 +18,7 @@ use m161_alu::HiLoPair;
 use m161_cop0::{Cop0, Exception, Trap};
 use m161_isa::Reg;
 use m161_tlb::Tlb;
+pub use restore::ProcessorParts;
 use std::marker::Model;
 
 /// What a processor is doing.

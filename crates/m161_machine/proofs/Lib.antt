@@ -22,3 +22,4 @@ mod Using
 mod Idle
 pub mod Stretching
 pub mod Modes
+mod Restoring

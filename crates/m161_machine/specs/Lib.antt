@@ -7,6 +7,7 @@ pub mod Fetched
 pub mod History
 pub mod StoreHistory
 pub mod Sound
+pub mod Restore
 pub mod Events
 pub mod Packed
 pub mod Stretch

@@ -17,6 +17,7 @@ ghost use Rattle.m161_machine.specs.declared.step.Pace.TheVariants.{Quiet};
 ghost use Rattle.m161_machine.specs.helpers.Pace.{outcome_of};
 
 mod again;
+mod restore;
 mod steps;
 mod views;
 

@@ -58,6 +58,15 @@ impl Ram {
         Ok(Ram { bytes })
     }
 
+    /// Makes its bytes these, of which there are as many. Does not allocate.
+    #[inline(never)]
+    pub fn restore(&mut self, bytes: &[u8])
+        requires { length bytes.now ≡ length self.old }
+        ensures { self.new ≡ bytes.now }
+    {
+        self.bytes.copy_from_slice(bytes);
+    }
+
     /// The number of bytes.
     #[inline(always)]
     pub fn size(&self) -> u32

@@ -50,7 +50,7 @@ impl Cop0 {
 }
 
 // The age at which a tick brings Count to Compare; 0 if Compare is zero or that age doesn't fit.
-fn fire(age: u64, offset: u32, compare: u32) -> u64
+pub(crate) fn fire(age: u64, offset: u32, compare: u32) -> u64
     ensures { IsFire age offset compare result }
 {
     if compare == 0 {

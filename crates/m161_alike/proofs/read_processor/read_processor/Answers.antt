@@ -1,0 +1,21 @@
+use Rattle.std.proofs.Common.{◌∙◌, ap}
+use Rattle.m161_cpu.specs.Restore.{restored_processor}
+use Rattle.m161_machine.specs.State.{State, processor_at}
+use Rattle.m161_machine.specs.Restore.{with_processor}
+use Rattle.m161_alike.specs.View.{processor_view}
+use Rattle.m161_alike.proofs.Restoring.{restored, view_is}
+use Rattle.m161_alike.proofs.read_processor.read_processor.Goals as goal
+
+pub returns-clause-view : goal.returns-clause-view
+returns-clause-view g c = λ known q h.
+    c.restore_processor.ensures.state
+    ∙ (λ i. with_processor c.args.p (restored_processor (c.parts_of.ensures i) (c.rows_of.ensures i)) c.args.core.now.state)
+    ∙ ap (λ x. with_processor c.args.p x c.args.core.now.state) (restored known q c.args.words.now h)
+
+pub returns-clause-same : goal.returns-clause-same
+returns-clause-same g c = λ known q h.
+    ap (λ (s : State). processor_view known (processor_at c.args.p s.processors))
+    (c.restore_processor.ensures.state
+    ∙ (λ i. with_processor c.args.p (restored_processor (c.parts_of.ensures i) (c.rows_of.ensures i)) c.args.core.now.state)
+    ∙ ap (λ x. with_processor c.args.p x c.args.core.now.state) (restored known q c.args.words.now h))
+    ∙ view_is known q c.args.core.now.state.processors c.args.p c.requires.place
