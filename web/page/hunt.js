@@ -1,0 +1,49 @@
+// ---- Find a bad interleaving
+
+const SEEDS = 20000; // of one search
+let hunting = false, hunted = 0; // hunted: the first seed that wasn't tried
+// What a run's end is judged by.
+function rules() {
+    const address = $('ifword').value.trim() ? physicalOf(run, $('ifword').value.trim()) : null;
+    if ($('ifword').value.trim() && (address === null || !/^(0x)?[0-9a-f]{1,8}$/i.test($('ifvalue').value.trim()))) throw new Error('The word needs an address, or a label, and a value in hexadecimal.');
+    return { stuck: $('ifstuck').checked, end: $('ifend').checked, output: $('ifoutput').checked ? unescaped($('output').value) : null,
+        word: address === null ? null : { address, value: parseInt($('ifvalue').value.replace(/^0x/i, ''), 16) >>> 0 } };
+}
+function sayRules() {
+    const parts = [$('ifstuck').checked && 'stuck', $('ifend').checked && 'not off', $('ifoutput').checked && `console isn't ${JSON.stringify(unescaped($('output').value))}`,
+        $('ifword').value && `[${$('ifword').value}] isn't ${$('ifvalue').value}`];
+    $('rules').textContent = parts.filter(x => x).join(', or ') || 'nothing yet';
+}
+const sayHunt = html => { $('hunted').innerHTML = html; };
+const orderOf = s => s.order === 'priorities' ? 'priorities' : 'random';
+async function hunt(from = 0) {
+    if (hunting) { machine.call('stop'); return; }
+    if (!machine.isThere) return;
+    hunting = true; sayHunt(''); $('hunt').textContent = 'Stop the search'; document.body.dataset.hunt = 'on';
+    try {
+        const s = settings(), file = await assembled(s);
+        if (file) {
+            if (!run.file || run.base.source !== s.source) run.symbols = readElf(file).symbols;
+            const plan = { ...planOf({ ...s, order: orderOf(s) }) };
+            const got = await machine.call('hunt', { file, size: sizeOf(s), plan, keys: keysOf(s), limit: s.limit, rules: rules(), from, most: from + SEEDS },
+                ({ tried }) => sayHunt(`${count(from + tried)} seeds tried`));
+            hunted = from + got.tried;
+            if (got.bad) await showFound(s, got); else sayNone(got);
+        }
+    } catch (error) { sayHunt(''); sayFault(error.message); }
+    hunting = false; $('hunt').textContent = 'Find a bad interleaving'; document.body.dataset.hunt = '';
+}
+function sayNone({ stopped }) {
+    const more = hunted ? ` <button data-hunt="${hunted}">Try ${count(SEEDS)} more</button>` : '';
+    sayHunt(`<b>${count(hunted)} seeds tried, none went wrong</b>${stopped ? ' (stopped)' : ''}. That is no proof: another order may.${more}`);
+}
+// Shows the run of these blocks, which goes on in turns, and puts its schedule in place.
+async function showFound(s, { seed, bad, blocks, before, then }) {
+    const plan = { kind: 0, turns: then.turns, transfer: s.transfer, gap: null };
+    if (!await assembleAndRun(undefined, { blocks, plan })) return;
+    const turns = parseSchedule($('schedule').value).length, words = { stuck: 'stuck', 'not off': `not off after ${count(s.limit)} events`, 'another output': 'the console has sent something else', 'another word': 'the word has another value' }[bad];
+    sayHunt(`<b class="warn">Seed ${seed} goes wrong: ${words}.</b> ${before > turns ? `Shortened from ${count(before)} turns to ${count(turns)}` : `${count(turns)} turns`}. `
+        + `<button data-found="${seed}" data-order="${orderOf(s)}">As it was found</button>`);
+    document.body.dataset.found = seed;
+}
+function asFound(seed, order) { $('order').value = order; $('number').value = seed; orderChanged(); assembleAndRun(); }
