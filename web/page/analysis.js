@@ -120,7 +120,7 @@ function verdict(run) {
     const by = e => `processor ${e.p}`, wrong = run.stop !== 'off' && run.stop !== 'hand', out = [];
     if (run.stop === 'off') out.push(`<b class="ok">Off</b> at ${linkTo(run.last)}: the kernel switched the machine off.`);
     else if (run.stop === 'stuck') out.push(`<b class="warn">Stuck</b> after ${linkTo(run.last)}: no processor can go on, and nothing will wake one.`);
-    else if (run.stop === 'hand') out.push(`<b>By hand</b>: ${count(run.events.length)} events. The digits step a processor, Go on lets the order choose.`);
+    else if (run.stop === 'hand') out.push(`<b>By hand</b>: ${count(run.events.length)} events. The digits step a processor, Go on goes on in turns.`);
     else out.push(`<b class="warn">Not over</b> after ${count(run.events.length)} events${run.stop && run.stop !== 'end' ? ` (${escape(run.stop)})` : ''}.`);
     for (const o of run.over.slice(0, 3))
         out.push(`<b class="warn">⚠ Stale store</b> ${linkTo(o.k)}: processor ${o.p} stores ${nameOf(run, o.a)} = ${short(run.events[o.k].store.v)}`

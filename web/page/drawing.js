@@ -40,7 +40,8 @@ function textOf(e) {
     if (e.kind === 'k') return `key ${hex(e.key, 2)}`;
     if (e.kind === 'o') return `console sends ${e.sent === undefined ? 'a byte' : e.sent === 10 ? '\\n' : JSON.stringify(String.fromCharCode(e.sent))}`;
     if (e.trap && e.word === null) return `↯ ${TRAPS[e.trap.code] || 'trap ' + e.trap.code}`;
-    const text = e.text.replace(/0x([89][0-9a-f]{7})$/, (all, at) => { const name = run.label(parseInt(at, 16)); return /^[0-9a-f]{8}$/.test(name) ? all : name; });
+    // a branch or a jump goes to a label, where the kernel has one
+    const text = e.text.replace(/0x([89][0-9a-f]{7})(?: <([^>]*)>)?$/, (all, at, name) => name || run.label(parseInt(at, 16)).replace(/^[0-9a-f]{8}$/, '0x$&'));
     return (e.idle ? 'idle' : text) + (e.trap ? ` ↯ ${TRAPS[e.trap.code]}` : '') + (e.failed !== undefined ? ' ✗ fails' : '') + (e.off ? ' → off' : '')
         + (e.ipi ? (e.ipi.up ? ` → IPI to ${e.ipi.to}` : ' → IPI back') : '') + (e.starts ? ' → starts ' + e.starts.join(', ') : '');
 }

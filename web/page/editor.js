@@ -67,11 +67,12 @@ function orderChanged() {
 function setSource(text, note) {
     elf = null; fault = null; $('source').readOnly = false; $('source').value = text; $('note').textContent = note; watched = []; sayHunt(''); hunted = 0;
 }
+const firstExample = () => EXAMPLES.findIndex(x => x.name === 'lost-update');
 function choose(i) {
     const x = EXAMPLES[i];
     if (!x) return;
     setSource(x.source, x.note); $('example').value = i;
     const set = { cpus: x.processors, order: 'turns', number: 1, keys: '', limit: 2000, ram: 1048576, unit: 'word' };
     for (const [id, value] of Object.entries(set)) $(id).value = value;
-    orderChanged(); return assembleAndRun();
+    orderChanged(); return assembleAndRun(undefined, undefined, x.name);
 }

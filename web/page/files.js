@@ -50,9 +50,10 @@ async function packed() {
     return '#run=' + base64Of(bytes).replace(/\+/g, '-').replace(/\//g, '_').replace(/=+$/, '');
 }
 let inAddress = '';
-async function keepInAddress() {
+// (An example that is as it was has its name there.)
+async function keepInAddress(name) {
     if (elf) return;
-    const hash = await packed();
+    const hash = name ? '#kernel=' + name : await packed();
     if (hash.length > 60000) return;
     inAddress = hash; location.replace(hash);
 }
@@ -62,11 +63,14 @@ async function makeLink() {
     try { await navigator.clipboard.writeText(location.href); say('The run is in the address, which is in the clipboard.'); } catch { /* the address is enough */ }
 }
 async function openLink() {
-    const m = /run=([\w-]+)/.exec(location.hash); if (!m) return false;
+    const kernel = /^#kernel=([\w-]+)$/.exec(location.hash), i = kernel ? EXAMPLES.findIndex(x => x.name === kernel[1]) : -1;
+    if (i >= 0) { await choose(i); return true; }
+    const m = /^#run=([\w-]+)$/.exec(location.hash); if (!m) return false;
     try {
         const bytes = await through(new DecompressionStream('deflate-raw'), bytesOf(m[1].replace(/-/g, '+').replace(/_/g, '/')));
-        await restore(JSON.parse(decoded(bytes))); return true;
-    } catch { sayFault('The address has no run that can be read.'); return false; }
+        await restore(JSON.parse(decoded(bytes)));
+    } catch { await choose(firstExample()); sayFault('The address has no run that can be read.'); }
+    return true;
 }
 function download(name, type, content) {
     const a = document.createElement('a');

@@ -6,7 +6,7 @@ const KEYS = {
     's': 'from a load to the store it sees; from a store to its first load', '0 to 9': 'a Step of that processor behind the selected event, by hand',
     'g': 'the run goes on', 'e': 'essentials, spins folded, each step', '/; n, N': 'search; next match, match before', 'r, m, t, a': 'registers, memory, TLB, watches',
     'i': 'the memory of the selected load or store', 'Space': 'plays', 'f': 'the drawing alone, larger, for a projector', 'b': 'finds a bad interleaving, or stops that',
-    'Ctrl+Enter': 'assembles and runs, also in the source', 'Escape': 'from a field back to the events', '?': 'this list' };
+    'Ctrl+Enter': 'assembles and runs, also in the source', 'Escape': 'from a field back to the events', '?': 'this help' };
 function toggleFold() {
     const row = rows[rowOf[sel]];
     if (!row) return;
@@ -112,11 +112,12 @@ function fillIn() {
     EXAMPLES.forEach((x, i) => groups.set(x.group, (groups.get(x.group) || '') + `<option value="${i}">${escape(x.name)}`));
     $('example').innerHTML = [...groups].map(([name, options]) => `<optgroup label="${escape(name)}">${options}</optgroup>`).join('');
     $('example').value = '';
+    $('cpus').innerHTML = Array.from({ length: 32 }, (_, i) => `<option${i === 1 ? ' selected' : ''}>${i + 1}`).join('');
 }
 async function start() {
     fillIn(); wireButtons(); wireDrawing(); wireFields(); sayRules(); orderChanged();
     await machine.start(); byMachine();
-    if (!machine.isThere) { await show(new Run()); sayFault(machine.why); } else if (!await openLink()) await choose(EXAMPLES.findIndex(x => x.name === 'lost-update'));
+    if (!machine.isThere) { await show(new Run()); sayFault(machine.why); } else if (!await openLink()) await choose(firstExample());
     $('scroll').focus(); document.body.dataset.ready = 'yes';
 }
 start();

@@ -135,7 +135,7 @@ function showMemory() {
             text += `<td class="${hit ? 'changed' : ''}"${style}>${v === undefined ? '········' : hex(v)}`;
             for (let b = 24; b >= 0; b -= 8) { const c = v === undefined ? 0 : v >>> b & 255; letters += c > 32 && c < 127 ? String.fromCharCode(c) : '·'; }
         }
-        out += `<tr><th>${hex(memoryAt + 16 * line)}${text}<td class="letters">${escape(letters)}`;
+        out += `<tr><th>${hex(memoryAt + 16 * line, 6)}${text}<td class="letters">${escape(letters)}`;
     }
     $('tabs').innerHTML = '<form class="row"><input id="address" class="grow mono" placeholder="address or label" aria-label="Memory from this address or label on"><button>Show</button>'
         + '<button type="button" data-page="-256" title="256 bytes before" aria-label="256 bytes before">▲</button><button type="button" data-page="256" title="256 bytes on" aria-label="256 bytes on">▼</button></form>'
@@ -175,7 +175,8 @@ function setTab(t) { tab = t; showTab(); }
 // ---- Selecting, and showing a run
 
 function showState() {
-    run.goTo(sel); showDetail(); showWords(); showTab();
+    run.goTo(sel); showDetail(); showWords();
+    if (!run.file || !machine.isThere) showTab(); // else once the machine has answered
     $('console').textContent = run.output(); $('console').scrollTop = 1e6; markLines();
 }
 function select(k, follow = true) {
@@ -208,5 +209,5 @@ function byMachine() {
     const has = machine.isThere && run.file !== null;
     $('more').disabled = !has || run.stop === 'off' || run.stop === 'stuck' || run.events.length >= MOST;
     for (const id of ['assemble', 'hunt']) $(id).disabled = !machine.isThere;
-    for (const id of ['type', 'key', 'sent']) $(id).disabled = !has;
+    for (const id of ['put', 'key', 'sent']) $(id).disabled = !has;
 }

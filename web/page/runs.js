@@ -151,7 +151,8 @@ async function doing(work) {
         if (mine === turn) { document.body.dataset.busy = ''; if ($('said').textContent === '…') say(''); }
     }
 }
-const assembleAndRun = (k, then) => doing(async isOn => {
+// Runs the kernel; then k is selected. A search gives the blocks that it found; an example has a name for the address.
+const assembleAndRun = (k, then, name) => doing(async isOn => {
     const s = settings(), file = await assembled(s);
     if (!file || !isOn()) return false;
     const schedule = s.order === 'schedule', blocks = then ? then.blocks : schedule ? parseSchedule(s.schedule) : null, plan = then ? then.plan : planOf(s);
@@ -159,9 +160,9 @@ const assembleAndRun = (k, then) => doing(async isOn => {
     const fresh = newRun(s, file);
     await takeLines(fresh, decoded(got.bytes));
     if (!isOn()) return false;
-    fresh.stop = got.stop; say('');
-    if (then) { fresh.base.order = 'schedule'; setSchedule(fresh); }
-    await show(fresh, k); keepInAddress();
+    fresh.stop = got.stop; fresh.version = got.version; say('');
+    if (then) setSchedule(fresh);
+    await show(fresh, k); keepInAddress(name);
 });
 function setSchedule(fresh) { $('order').value = 'schedule'; $('schedule').value = fresh.schedule(); fresh.base.order = 'schedule'; fresh.base.schedule = $('schedule').value; orderChanged(); }
 // The events of this run up to k, as a run of its own.
@@ -171,16 +172,18 @@ function upTo(k) {
     return fresh;
 }
 // An event behind the selected one, by hand: what came after that is dropped, and the run is a schedule's from then on.
-const byHand = (kind, value) => doing(async isOn => {
+let handing = Promise.resolve();
+const byHand = (kind, value) => handing = handing.then(() => doing(isOn => byHandNow(isOn, kind, value)));
+async function byHandNow(isOn, kind, value) {
     if (!machine.isThere || !run.file || kind === 0 && value >= run.processors) return;
     const got = await machine.call('hand', { k: sel + 1, kind, value });
     if (got.refusal) throw new Error(`Refused: ${got.refusal}.`);
     const fresh = upTo(sel);
     await takeLines(fresh, decoded(got.bytes));
     if (!isOn()) return;
-    fresh.stop = got.stop; setSchedule(fresh); say('');
+    fresh.stop = got.stop; fresh.version = got.version; setSchedule(fresh); say('');
     await show(fresh, fresh.last); keepInAddress();
-});
+}
 // The run goes on: the same order makes more events from the start, so that it is the same run; a schedule goes on in turns of one Step.
 function goOn() {
     if (!machine.isThere || !run.file || run.stop === 'off') return;
@@ -191,7 +194,7 @@ function goOn() {
         const got = await machine.call('more', { plan, keys: new Uint8Array(0), n: Math.min(2000, MOST - run.events.length) }), fresh = upTo(from);
         await takeLines(fresh, decoded(got.bytes));
         if (!isOn()) return;
-        fresh.stop = got.stop; setSchedule(fresh); say('');
+        fresh.stop = got.stop; fresh.version = got.version; setSchedule(fresh); say('');
         await show(fresh, Math.min(from + 1, fresh.last)); keepInAddress();
     });
 }
@@ -205,16 +208,24 @@ async function askView() {
     const of = run;
     for (let k = NaN, at = NaN; k !== sel || at !== memoryAt;) {
         k = sel; at = memoryAt;
-        try { const got = await machine.call('view', { k: k + 1, from: at, count: 64 }); if (of === run) view = got && { ...got, k, at }; } catch (error) { sayFault(error.message); break; }
+        try { const got = await machine.call('view', { k: k + 1, from: at, count: 64, version: run.version }); if (of === run) view = got && { ...got, k, at }; } catch (error) { sayFault(error.message); break; }
         if (of !== run) break;
     }
     asking = false;
-    if (of !== run) { view = null; askView(); } else if (view && view.k === sel) { checkView(); showTab(); }
+    if (of !== run) { view = null; askView(); return; }
+    if (isView()) checkView();
+    showTab();
 }
-// What the page read from the lines has to be what the machine has.
+// What the page read from the lines has to be what the machine has: registers, rows of the TLB, and the words that the memory shows.
 function checkView() {
-    for (const [p, it] of view.processors.entries()) for (let r = 1; r < 32; r++) {
-        const read = run.get(`${p}.r${r}`);
-        if (read !== undefined && read !== it.registers[r]) { run.mismatches++; document.body.dataset.mismatches = run.mismatches; sayFault(`The picture isn't the machine's: processor ${p}, register ${r}.`); return; }
+    const differs = [];
+    run.goTo(sel);
+    for (const [p, it] of view.processors.entries()) {
+        for (let r = 1; r < 32; r++) if ((run.get(`${p}.r${r}`) ?? it.registers[r]) !== it.registers[r]) differs.push(`processor ${p}, register ${r}`);
+        for (const [i, high, low] of it.rows) { const row = run.get(`${p}.tlb${i}`); if (row && (row[0] !== high || row[1] !== low)) differs.push(`processor ${p}, row ${i} of the TLB`); }
     }
+    view.words.forEach((w, i) => { if (w !== null && run.word(view.at + 4 * i) !== w) differs.push(`the word at ${hex(view.at + 4 * i)}`); });
+    if (!differs.length) return;
+    run.mismatches++; document.body.dataset.mismatches = run.mismatches;
+    sayFault(`Behind event ${number(sel)} the picture isn't the machine's: ${differs[0]}.`);
 }

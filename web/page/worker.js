@@ -3,7 +3,7 @@
 'use strict';
 const MOST = 100000; // events of a run
 const SNAPSHOTS_BYTES = 100 << 20; // for machines of places that were passed
-let moduleBytes = null, engine = null, made = null, hunting = 0;
+let moduleBytes = null, engine = null, made = null, hunting = 0, versions = 0;
 
 class Refused extends Error {}
 
@@ -28,8 +28,8 @@ class Made {
     constructor(file, size) {
         this.file = file; this.size = { ...size, log: MOST }; this.kinds = new Uint8Array(MOST); this.values = new Uint8Array(MOST); this.count = 0;
         this.session = booted(file, this.size); this.at = 0; // the machine, and behind how many events it stands
-        this.snapshots = [{ at: 0, session: copied(this.session) }]; this.interval = 1024;
-        if (!this.snapshots[0].session) throw new OutOfMemory();
+        this.snapshots = [{ at: 0, session: copied(this.session) }]; this.interval = 1024; this.version = 0;
+        if (!this.snapshots[0].session) { this.drop(); throw new OutOfMemory(); }
     }
     drop() { for (const it of [this, ...this.snapshots]) if (it.session) it.session.close(); }
     get room() { return Math.max(3, Math.min(40, Math.floor(SNAPSHOTS_BYTES / (4 * this.size.ram + 4 * MOST)))); }
@@ -272,6 +272,16 @@ function refusalOf(kind) {
         : made.at >= MOST ? `a run has at most ${MOST} events` : '';
 }
 
+function firstRun(blocks, plan, keys, limit) {
+    const first = blocks ? follow(blocks, limit) : { bytes: new Uint8Array(0), stop: 'end' };
+    if (!plan || first.stop !== 'end' || made.count >= limit) return first;
+    const then = made.trace(plan, keys, limit - made.count);
+    return { bytes: joined([first.bytes, then.bytes]), stop: then.stop };
+}
+// Each change of the run has a number, so that a question about another one isn't answered.
+function versioned(answer) { made.version = ++versions; return { ...answer, version: made.version }; }
+function there() { if (!made) throw new Refused('there is no machine any more: run again'); return made; }
+
 // ---- The messages
 
 const CALLS = {
@@ -283,30 +293,36 @@ const CALLS = {
         if (answer >= BAD) throw new Refused(REFUSALS[answer]);
         return file ? { file } : { fault: { name: FAULTS[answer], line, column: charactersOf(bytes, line, column) } };
     },
-    // A run from the boot on: by a plan, or by blocks and then by a plan.
+    // A run from the boot on: by a plan, or by blocks and then by a plan. Where it isn't made, the one before stays.
     run({ file, size, blocks, plan, keys, limit }) {
-        if (made) made.drop();
-        made = null; made = new Made(file, size);
-        const first = blocks ? follow(blocks, limit) : { bytes: new Uint8Array(0), stop: 'end' };
-        if (!plan || first.stop !== 'end' || made.count >= limit) return first;
-        const then = made.trace(plan, keys, limit - made.count);
-        return { bytes: joined([first.bytes, then.bytes]), stop: then.stop };
+        const before = made;
+        let fresh = null;
+        try {
+            made = fresh = new Made(file, size);
+            const got = firstRun(blocks, plan, keys, limit);
+            if (before) before.drop();
+            return versioned(got);
+        } catch (error) {
+            if (fresh && !engine.trapped) fresh.drop();
+            made = before;
+            throw error;
+        }
     },
     // The run goes on behind its end.
-    more({ plan, keys, n }) { made.bringTo(made.count); return made.trace(plan, keys, n); },
+    more({ plan, keys, n }) { there().bringTo(made.count); return versioned(made.trace(plan, keys, n)); },
     // An event by hand behind event k: what came after it is dropped.
     hand({ k, kind, value }) {
-        made.bringTo(k);
+        there().bringTo(k);
         const refusal = refusalOf(kind);
         if (refusal) return { refusal };
         made.cut(k);
         const out = [], got = kind === 0 ? { refusal: linesOfSteps(value, 1, out) } : lineOf(kind, value);
         const bytes = got.line ? new TextEncoder().encode(got.line) : joined(out);
-        return { bytes, refusal: got.refusal ? REFUSALS[got.refusal] : '', stop: stopHere('hand') };
+        return versioned({ bytes, refusal: got.refusal ? REFUSALS[got.refusal] : '', stop: stopHere('hand') });
     },
-    // The machine behind event k.
-    view({ k, from, count }) {
-        if (!made) return null;
+    // The machine behind event k, if the run is still that of this version.
+    view({ k, from, count, version }) {
+        if (!made || made.version !== version || k > made.count) return null;
         made.bringTo(k);
         const it = made.session, processors = [], words = [];
         for (let p = 0; p < made.size.processors; p++) {
