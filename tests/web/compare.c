@@ -128,8 +128,8 @@ static void searches(bool text) {
     talusdish_close(&slot);
 }
 
-/* The calls of a session in which one request of memory is refused. */
-static void refuse(long at) {
+/* The calls of a session in which one request of memory is refused; how many requests they make. */
+static long refuse(long at) {
     talusdish_slot slot = {0}, copy = {0};
     talusdish_fault fault = {0, 0};
     talusdish_size conf = {4096, 2, 50, false, false};
@@ -144,11 +144,13 @@ static void refuse(long at) {
     answers[n++] = talusdish_drive(&slot, &plans[2], typed, sizeof typed, 3000, &made), many(made);
     answers[n++] = talusdish_copy(&slot, &copy);
     answers[n++] = talusdish_search(&slot, &plans[2], typed, sizeof typed, 500, 3, &goal, &made), many(made);
+    long total = requests;
     refuse_at = 0;
     see(&slot), see(&copy), talusdish_close(&slot), talusdish_close(&copy);
-    printf("refused %ld of %ld:", at, requests);
+    printf("refused %ld of %ld:", at, total);
     for (int k = 0; k < n; k++) printf(" %d", answers[k]);
     say("");
+    return total;
 }
 
 static void assemble(const uint8_t *text, size_t n, const char *what) {
@@ -187,7 +189,7 @@ int main(int count, char **names) {
         printf("%s %zu\n", names[k], size);
         if (text) assemble(file, size, "file"); else memcpy(image, file, image_size = size);
         runs(text), events(text), searches(text);
-        if (k == 1) for (long at = 1; at == 1 || requests >= at - 1; at++) refuse(at);
+        if (k == 1) for (long at = 1, total = 0; at == 1 || total >= at - 1; at++) total = refuse(at);
     }
     faults();
 }
