@@ -75,7 +75,7 @@ class Browser:
         self.wait("document.readyState === 'complete' && document.body.dataset.ready === 'yes'")
 
     def key(self, key, shift=False, control=False):
-        code = {" ": 32, "Enter": 13, "Tab": 9, "Escape": 27}.get(key, ord(key.upper()) if len(key) == 1 and key.isalnum() else 0)
+        code = {" ": 32, "Enter": 13, "Tab": 9, "Escape": 27, "Delete": 46}.get(key, ord(key.upper()) if len(key) == 1 and key.isalnum() else 0)
         text = "" if control else {"Enter": "\r"}.get(key, key if len(key) == 1 else "")
         more = {"key": key, "modifiers": 8 * shift + 2 * control, "windowsVirtualKeyCode": code}
         self.call("Input.dispatchKeyEvent", type="keyDown", text=text, **more, **({"commands": ["selectAll"]} if control and key == "a" else {}))
@@ -105,12 +105,16 @@ class Browser:
         node = self.call("DOM.querySelector", nodeId=root, selector=selector)["nodeId"]
         self.call("DOM.setFileInputFiles", files=[str(path)], nodeId=node)
 
-    def downloaded(self, name, seconds=20):
+    def saved(self, what, name, seconds=30):
+        """Chooses this in the list of exports, and gives the file of this name that is downloaded then."""
         path, end = pathlib.Path(self.downloads.name) / name, time.time() + seconds
-        while not path.is_file():
+        path.unlink(missing_ok=True)
+        self.choose("#export", what)
+        size = -1
+        while not path.is_file() or path.stat().st_size != size:
+            size = path.stat().st_size if path.is_file() else -1
             assert time.time() < end, "no download " + name
-            time.sleep(0.05)
-        time.sleep(0.2)
+            time.sleep(0.15)
         return path
 
     def dark(self, yes):

@@ -73,16 +73,16 @@ function findArrows(run) {
 // For each processor, from which event on it is none, run, wait or spin, in kernel or user mode, and whether in a trap's handler.
 function findStates(run) {
     run.states = run.own.map((_, p) => [{ k: -1, kind: p === 0 || run.first ? 'run' : 'none', user: false, trap: false }]);
-    const change = (p, k, it) => {
-        const list = run.states[p], old = list[list.length - 1], neu = { ...old, ...it, k };
-        if (neu.kind !== old.kind || neu.user !== old.user || neu.trap !== old.trap) list.push(neu);
+    const change = (p, k, kind, user, trap) => {
+        const list = run.states[p], old = list[list.length - 1];
+        if (kind !== old.kind || user !== old.user || trap !== old.trap) list.push({ k, kind, user, trap });
     };
+    const last = p => run.states[p][run.states[p].length - 1];
     for (const e of run.events) {
-        for (const p of e.starts || []) change(p, e.k, { kind: 'run' });
+        if (e.starts) for (const p of e.starts) change(p, e.k, 'run', last(p).user, last(p).trap);
         if (e.kind !== 's') continue;
-        const fold = run.foldOf[e.k] >= 0, waits = e.state ? e.state === 'waiting' : e.idle;
-        change(e.p, e.k, { kind: waits ? 'wait' : fold ? 'spin' : 'run', user: e.user,
-            ...(e.trap ? { trap: true, user: false } : e.word === RFE ? { trap: false } : {}) });
+        const waits = e.state ? e.state === 'waiting' : e.idle, kind = waits ? (last(e.p).kind === 'none' ? 'none' : 'wait') : run.foldOf[e.k] >= 0 ? 'spin' : 'run';
+        change(e.p, e.k, kind, e.trap ? false : e.user, e.trap ? true : e.word === RFE ? false : last(e.p).trap);
     }
 }
 function stateAt(run, p, k) {

@@ -1,21 +1,22 @@
 // ---- Rows: which events have one, and which are folded
 
 let level = 2, rows = [], rowOf = new Int32Array(0), opened = new Set();
-const isShared = e => [e.load, e.store].some(x => x && run.laneOf.has(x.a)) || run.laneOf.has(e.failed);
+const isShared = e => e.load !== undefined && run.laneOf.has(e.load.a) || e.store !== undefined && run.laneOf.has(e.store.a)
+    || e.failed !== undefined && run.laneOf.has(e.failed);
 function makeRows() {
     rows = []; rowOf = new Int32Array(run.events.length); let quiet = [];
     const flush = () => {
-        const folded = quiet.length > 1 && !opened.has('q' + quiet[0]);
+        const folded = quiet.length > 1 && !(opened.size && opened.has('q' + quiet[0]));
         for (const k of quiet) { rowOf[k] = rows.length; if (!folded) rows.push({ kind: 'event', k, of: quiet.length > 1 ? 'q' + quiet[0] : '' }); }
         if (folded) rows.push({ kind: 'quiet', k: quiet[0], ks: quiet });
         quiet = [];
     };
-    const foldRow = new Map();
+    const foldRow = new Int32Array(run.folds.length).fill(-1);
     for (const e of run.events) {
-        const fold = level ? run.folds[run.foldOf[e.k]] : undefined;
-        if (fold && !opened.has('f' + fold.first)) {
-            if (!foldRow.has(fold.id)) { flush(); foldRow.set(fold.id, rows.length); rows.push({ kind: 'fold', k: fold.first, fold }); }
-            rowOf[e.k] = foldRow.get(fold.id);
+        const fold = level && run.foldOf[e.k] >= 0 ? run.folds[run.foldOf[e.k]] : undefined;
+        if (fold && !(opened.size && opened.has('f' + fold.first))) {
+            if (foldRow[fold.id] < 0) { flush(); foldRow[fold.id] = rows.length; rows.push({ kind: 'fold', k: fold.first, fold }); }
+            rowOf[e.k] = foldRow[fold.id];
         } else if (level === 2 && e.kind === 's' && !e.loud && !isShared(e)) quiet.push(e.k);
         else { flush(); rowOf[e.k] = rows.length; rows.push({ kind: 'event', k: e.k, of: fold ? 'f' + fold.first : '' }); }
     }
@@ -171,8 +172,9 @@ function drawBody(height) {
         }
         out += '</g>';
     }
-    for (const a of run.arrows) out += drawArrow(a, g, height);
-    for (const o of run.over) out += drawStale(o, g, height);
+    const isSeen = (a, b) => rowOf[b] >= from && rowOf[a] <= to; // of what goes from event a to event b
+    for (const a of run.arrows) if (isSeen(a.from, Math.max(a.from, a.to)) || isSeen(a.to, a.from)) out += drawArrow(a, g, height);
+    for (const o of run.over) if (isSeen(o.load, o.k)) out += drawStale(o, g, height);
     run.unseen.forEach((o, i) => { if (i === 0 || sel === o.load || sel === o.lost) out += drawStale(o, g, height); });
     const end = { off: '■ off', stuck: '■ stuck: no processor can go on', hand: '▸ step on by a digit' }[run.stop]
         || `■ not over after ${count(run.events.length)} events`;

@@ -8,12 +8,12 @@ async function openFile(bytes, name) {
     if (bytes[0] === 0x7f && bytes[1] === 0x45 && bytes[2] === 0x4c && bytes[3] === 0x46) return openElf(bytes, name);
     const text = decoded(bytes);
     if (text.trimStart()[0] === '{') { try { return await restore(JSON.parse(text)); } catch { return sayFault('This file has no saved run.'); } }
-    if (text.split('\n', 40).some(line => STEP.test(line) || OTHER.test(line))) return openTrace(text, name);
-    setSource(text, name); return assembleAndRun();
+    if (text.slice(0, 4000).split('\n').some(line => STEP.test(line) || OTHER.test(line))) return openTrace(text, name);
+    setSource(text, name); $('example').value = ''; return assembleAndRun();
 }
 function openElf(bytes, name) {
     setSource(`# The kernel is the file ${name}, of ${count(bytes.length)} bytes: it has no source here.\n`, `The ELF file ${name}.`);
-    elf = { file: bytes, name }; $('source').readOnly = true; $('order').value = 'turns'; $('number').value = 1; orderChanged();
+    elf = { file: bytes, name }; $('source').readOnly = true; $('example').value = ''; $('order').value = 'turns'; $('number').value = 1; orderChanged();
     return assembleAndRun();
 }
 const openTrace = (text, name = '') => doing(async isOn => {

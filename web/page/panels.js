@@ -79,8 +79,8 @@ const after = () => sel < 0 ? 'after boot' : `after #${number(sel)}`;
 
 // ---- The tabs: of the machine itself where it is there, and else what the lines tell
 
-const CONTROLS = ['status', 'cause', 'epc', 'badvaddr', 'entryhi', 'entrylo', 'index', 'context', 'compare', 'count'];
-const NARROW = { status: 'stat', cause: 'caus', badvaddr: 'badv', entryhi: 'ehi', entrylo: 'elo', index: 'idx', context: 'ctx', compare: 'cmp', count: 'cnt' };
+const CONTROLS = ['status', 'cause', 'epc', 'badvaddr', 'entryhi', 'entrylo', 'index', 'context', 'compare'];
+const NARROW = { status: 'stat', cause: 'caus', badvaddr: 'badv', entryhi: 'ehi', entrylo: 'elo', index: 'idx', context: 'ctx', compare: 'cmp' };
 const isView = () => view !== null && view.k === sel && run.file !== null;
 const source = () => `<div class="soft">${isView() ? 'The machine’s own' : 'As the lines tell it'}, ${after()}.</div>`;
 let zeros = false;
@@ -187,8 +187,9 @@ function select(k, follow = true) {
     }
     drawSoon();
 }
-function refresh() {
-    chooseLanes(run); makeRows(); search(); mapImage = null; select(sel);
+function refresh() { chooseLanes(run); makeRows(); settle(); }
+function settle() {
+    search(); mapImage = null; select(sel);
     for (const b of document.querySelectorAll('[data-level]')) b.setAttribute('aria-pressed', +b.dataset.level === level);
 }
 // Shows a run, with event k selected, or what is suspicious in it.
@@ -202,7 +203,9 @@ async function show(fresh, k) {
     Object.assign(document.body.dataset,
         { events: run.events.length, stop: run.stop, mismatches: run.mismatches, stale: run.over.length, folds: run.folds.length });
     if (k === undefined) $('scroll').scrollTop = 0;
-    refresh(); byMachine();
+    chooseLanes(run); makeRows();
+    await breathe();
+    if (run === fresh) { settle(); byMachine(); }
 }
 // What needs the machine, and a run that it has.
 function byMachine() {
