@@ -1,5 +1,6 @@
 #!/usr/bin/env python3
-"""ir.py OUT.bc [CRATE [TOP]]: the LLVM module that rattle makes of a proved static library, m161_c, before LLVM has compiled it.
+"""ir.py OUT.bc: the LLVM module that rattle makes of the proved static library m161_c, before LLVM has compiled it.
+ir.py --current: whether that library and all crates below it are built of today's sources, by the times of their files.
 
 `rattle build` checks the crate (over the work that `rt lib` kept) and has the clang of its toolchain folder compile the module. It is
 called here with a folder whose clang keeps a copy of the module first; else that folder has the kit's own files."""
@@ -61,10 +62,27 @@ def toolchain(room, kit, keep):
     return room
 
 
+def is_current(crate, top):
+    library = top / f"crates/{crate}/out/lib{crate}.a"
+    if not library.is_file():
+        return False
+    known = uses(top)
+    for name in [crate, *below(crate, known)]:
+        built = library if name == crate else top / f"crates/{name}/out/rlib/stamp"
+        if not built.is_file() or built.stat().st_mtime > library.stat().st_mtime:
+            return False
+        for part in ("src", "specs", "proofs"):
+            for it in (top / f"crates/{name}/{part}").rglob("*"):
+                if it.is_file() and it.stat().st_mtime > built.stat().st_mtime:
+                    return False
+    return True
+
+
 def main():
-    out, crate, top = pathlib.Path(sys.argv[1]).resolve(), "m161_c", pathlib.Path(__file__).resolve().parent.parent
-    if len(sys.argv) > 2:
-        crate, top = sys.argv[2], pathlib.Path(sys.argv[3]).resolve()
+    crate, top = "m161_c", pathlib.Path(__file__).resolve().parent.parent
+    if sys.argv[1] == "--current":
+        sys.exit(not is_current(crate, top))
+    out = pathlib.Path(sys.argv[1]).resolve()
     kit = pathlib.Path(os.path.realpath(shutil.which("rt"))).parent.parent
     folder = top / f"crates/{crate}"
     with tempfile.TemporaryDirectory() as room:

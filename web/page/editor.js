@@ -72,7 +72,7 @@ function choose(i) {
     const x = EXAMPLES[i];
     if (!x) return;
     setSource(x.source, x.note); $('example').value = i;
-    const set = { cpus: x.processors, order: 'turns', number: 1, keys: '', limit: 2000, ram: 1048576, unit: 'word' };
+    const set = { cpus: x.processors, order: 'turns', number: 1, keys: '', limit: 2000, ram: 65536, unit: 'word' };
     for (const [id, value] of Object.entries(set)) $(id).value = value;
     orderChanged(); return assembleAndRun(undefined, undefined, x.name);
 }

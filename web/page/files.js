@@ -13,7 +13,7 @@ async function openFile(bytes, name) {
 }
 function openElf(bytes, name) {
     setSource(`# The kernel is the file ${name}, of ${count(bytes.length)} bytes: it has no source here.\n`, `The ELF file ${name}.`);
-    elf = { file: bytes, name }; $('source').readOnly = true; $('example').value = ''; $('order').value = 'turns'; $('number').value = 1; orderChanged();
+    elf = { file: bytes, name }; $('source').readOnly = true; $('example').value = ''; $('order').value = 'turns'; $('number').value = 1; $('ram').value = 1048576; orderChanged();
     return assembleAndRun();
 }
 const openTrace = (text, name = '') => doing(async isOn => {
@@ -77,7 +77,7 @@ function download(name, type, content) {
     a.href = URL.createObjectURL(new Blob([content], { type })); a.download = name; a.click();
     setTimeout(() => URL.revokeObjectURL(a.href), 10000);
 }
-const headOfSchedule = () => `# ${count(run.events.length)} events, ${run.processors} processors: s161 run IMAGE --cpus ${run.processors} < THIS\n`;
+const headOfSchedule = () => `# ${count(run.events.length)} events: ${run.file ? commandOf({ ...run.base, order: 'schedule' }) : `s161 trace IMAGE --cpus ${run.processors} < SCHEDULE`}\n`;
 const traceText = () => run.events.map(e => e.line + '\n').join('') + `stop: ${run.stop}\n`;
 function pictureText() {
     const w = $('scroll').clientWidth / zoom, h = $('scroll').clientHeight / zoom, size = `width="${w}" height="${h + 40}"`;

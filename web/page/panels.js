@@ -210,6 +210,7 @@ async function show(fresh, k) {
 // What needs the machine, and a run that it has.
 function byMachine() {
     const has = machine.isThere && run.file !== null;
+    $('same').textContent = has ? 'The same run: ' + commandOf(run.base) : '';
     $('more').disabled = !has || run.stop === 'off' || run.stop === 'stuck' || run.events.length >= MOST;
     for (const id of ['assemble', 'hunt']) $(id).disabled = !machine.isThere;
     for (const id of ['put', 'key', 'sent']) $(id).disabled = !has;
