@@ -5,6 +5,8 @@ The last line is `N passed, M failed`."""
 import argparse
 import os
 import pathlib
+import re
+import subprocess
 import tempfile
 import time
 import traceback
@@ -108,6 +110,7 @@ class Page:
         assert "✗ lost" in self.text("view") and "⚠ stale" in self.text("view")
         assert "line 17" in self.text("detail") and self.b.js("document.querySelector('#gutter .at').textContent") == "01▸17"
         assert self.b.js("document.querySelectorAll('#head rect').length") == 2
+        assert self.b.js("location.hash") == "#kernel=lost-update" and "--turns 1" in self.text("same"), self.text("same")
 
     def document(self):
         """Each control has a name, each id is there once, and the page may ask for nothing."""
@@ -334,7 +337,6 @@ class Page:
         assert self.data("events") == "2300" and self.b.js("$('limit').value") == "2300" and self.b.js("sel") == 300
 
     def s161(self, words):
-        import subprocess
         program = TOP / "release/s161"
         if not program.is_file():
             return None
@@ -357,7 +359,7 @@ class Page:
         self.b.wait("/address/.test($('said').textContent)")
         url = self.b.js("location.href")
         assert len(url) < 4000, len(url)
-        self.b.open("about:blank#" if False else url)
+        self.b.open(url)
         self.idle()
         assert self.b.js("run.events.map(e => e.line).join('|')") == lines and self.b.js("sel") == 12
         path = self.b.saved("save", "run.json")
@@ -366,9 +368,14 @@ class Page:
         self.b.put_file("#file", path)
         self.idle()
         assert self.b.js("run.events.map(e => e.line).join('|')") == lines
+        self.b.open(self.url + "#kernel=sum")
+        assert self.b.js("EXAMPLES[$('example').value].name") == "sum"
+        self.b.js("location.hash = '#kernel=torn-pair'")
+        self.b.wait("EXAMPLES[$('example').value].name === 'torn-pair'"), self.idle()
         self.b.open(self.url + "#run=AAAA")
         assert "no run" in self.text("said"), self.text("said")
         self.b.open(self.url)
+        self.b.wait("location.hash === '#kernel=lost-update'")
 
     def exports(self):
         """Schedule, trace, kernel and drawings are saved as files."""
@@ -528,7 +535,6 @@ class Page:
     def without_machine(self):
         """The page as it is written, without a module, opens a trace."""
         with tempfile.TemporaryDirectory() as folder:
-            import re
             path = pathlib.Path(folder) / "index.html"
             path.write_text(re.sub(r'(id="module">)[^<]*', r"\1", pathlib.Path(self.url[7:]).read_text()))
             self.b.open(path.as_uri())
