@@ -80,6 +80,8 @@ def is_current(crate, top):
 
 def main():
     crate, top = "m161_c", pathlib.Path(__file__).resolve().parent.parent
+    if len(sys.argv) != 2:
+        sys.exit(__doc__)
     if sys.argv[1] == "--current":
         sys.exit(not is_current(crate, top))
     out = pathlib.Path(sys.argv[1]).resolve()

@@ -7,6 +7,7 @@ page.py packed PAGE               prints how many bytes the module takes in the 
 page.py table32 IN OUT            clears the 64-bit flag of a module's table, which no call uses, for Binaryen's lowering"""
 
 import base64
+import hashlib
 import json
 import pathlib
 import re
@@ -57,7 +58,10 @@ def page(module, made):
         "WORKER": joined(WORKER), "EXAMPLES": examples(), "PAGE": joined(PAGE).replace("'use strict';\n", ""),
     }
     assert not any("</script" in it for it in parts.values())
-    return re.sub(r"/\*([A-Z]+)\*/", lambda it: parts[it[1]], text)
+    whole = re.sub(r"/\*(?!SCRIPT)([A-Z]+)\*/", lambda it: parts[it[1]], text)
+    script = re.search(r"<script>(.*?)</script>", whole, re.S)[1]
+    # the one script that the page may run is known by its sum, so that no text that is opened in it can bring another
+    return whole.replace("/*SCRIPT*/", "sha256-" + base64.b64encode(hashlib.sha256(script.encode()).digest()).decode(), 1)
 
 
 MODULE = re.compile(r'(<script type="application/base64" id="module">)([^<]*)(</script>)')

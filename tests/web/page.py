@@ -123,7 +123,12 @@ class Page:
         assert not bare, [(it["role"]["value"], it.get("value")) for it in bare]
         assert self.b.js("document.querySelector('meta[http-equiv]').content").startswith("default-src 'none'")
         assert self.b.js("fetch('data:text/plain,x').then(() => 'asked', () => 'refused')") == "refused"
+        # no text that is opened can bring a script
+        self.b.js("document.body.dataset.script = ''; $('note').innerHTML = '<img src=x onerror=\"document.body.dataset.script = 1\">'")
+        time.sleep(0.3)
+        assert self.data("script") == ""
         self.b.events = [it for it in self.b.events if it.get("method") != "Log.entryAdded"]  # which said so
+        self.choose("lost-update")
 
     def contrast(self):
         """Texts stand out from their grounds, in light and in dark: at least 4.5 to 1."""
@@ -393,12 +398,12 @@ class Page:
         self.b.click('[data-tab="watch"]')
         self.b.type("#watch", "over")
         self.b.key("Enter")
-        assert "over" in self.text("tabs") and "c16c1040" in self.text("tabs"), self.text("tabs")
+        self.b.wait("/over.*c16c1040/.test($('tabs').textContent)")
         self.b.click("[data-drop]")
         self.b.click('[data-tab="memory"]')
         self.b.type("#address", "over")
         self.b.key("Enter")
-        assert "c16c1040" in self.text("tabs"), self.text("tabs")
+        self.b.wait("/c16c1040/.test($('tabs').textContent)")
         self.b.click('[data-tab="regs"]')
 
     def typed(self):

@@ -42,7 +42,8 @@ async function showFound(s, { seed, bad, blocks, before, then }) {
     const plan = { kind: 0, turns: then.turns, transfer: s.transfer, gap: null };
     if (!await assembleAndRun(undefined, { blocks, plan })) return;
     const turns = blocks.length, words = { stuck: 'stuck', 'not off': `not off after ${count(s.limit)} events`, 'another output': 'the console has sent something else', 'another word': 'the word has another value' }[bad];
-    sayHunt(`<b class="warn">Seed ${seed} goes wrong: ${words}.</b> ${before > turns ? `Shortened from ${count(before)} turns to ${count(turns)}` : `${count(turns)} turns`}${bad === 'not off' ? `, then turns of ${count(then.turns)}` : ''}. `
+    const fair = bad === 'not off' ? `turns of ${then.turns}` : '', shorter = before > turns ? `Shortened from ${count(before)} turns to ${count(turns)}` : `${count(turns)} turns`;
+    sayHunt(`<b class="warn">Seed ${seed} goes wrong: ${words}.</b> ${turns ? shorter + (fair && `, then ${fair}`) : `So do ${fair || 'long turns'} alone, which are shown`}. `
         + `<button data-found="${seed}" data-order="${orderOf(s)}">As it was found</button>`);
     document.body.dataset.found = seed;
 }
