@@ -1,6 +1,7 @@
 #!/bin/sh
 # examples/grade.sh FILE.s ..: grades solutions of the lab lost-update (examples/labs). For each it prints why the text isn't
-# assembled, or what a search of every run with at most two delays answers; FILE.schedule has the run that goes wrong.
+# assembled, or what a search of the runs with at most two delays answers; FILE.schedule has the run that goes wrong. The
+# program is ./s161, or $S161.
 s161=${S161:-./s161}
 for source; do
     file=${source%.s}
