@@ -2,7 +2,6 @@ use Rattle.std.specs.Prelude.{◌≡◌, ℕ, ◌+◌, ◌≤◌, List, ◌++◌
 use Rattle.m161_machine.specs.declared.event.Entry.{Entry}
 use Rattle.m161_machine.specs.State.{State}
 use Rattle.m161_drive.specs.declared.cursor.Cursor.{Cursor}
-use Rattle.m161_drive.specs.declared.orders.OrderState.{OrderState}
 use Rattle.m161_drive.specs.declared.orders.OrderState.TheVariants.{ByDelays}
 use Rattle.m161_drive.specs.declared.run.Driven.{Driven}
 use Rattle.m161_drive.specs.Choice.{cursor_at}
@@ -12,11 +11,7 @@ use Rattle.m161_drive.specs.Policy.{Rules}
 
 -- Driven runs that go on from where another one came.
 
--- an order by turns with delays; another one is the same but for the delays that are left
-abbrev pub HasLeft : OrderState → List ℕ → OrderState → Type 0
-HasLeft o left new = (d : DelayState) × (o ≡ ByDelays d) × (new ≡ ByDelays (record d { left = left }))
-
--- the same of cursors
+-- a cursor by turns with delays; another one is the same but for the delays that are left
 abbrev pub IsWithLeft : Cursor → List ℕ → Cursor → Type 0
 IsWithLeft c left new =
     (d : DelayState) × (c.order ≡ ByDelays d) × (new ≡ record c { order = ByDelays (record d { left = left }) })

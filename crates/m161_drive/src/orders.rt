@@ -3,7 +3,7 @@
 ghost use Rattle.std.specs.Prelude.{◌≡◌, ◌≢◌, ◌<◌, ◌≤◌, length, MatchOption, None, Some};
 ghost use Rattle.m161_order.specs.Delays.{delays_of};
 ghost use Rattle.m161_drive.specs.Delayed.{DelayState};
-ghost use Rattle.m161_drive.specs.GoingOn.{HasLeft};
+ghost use Rattle.m161_drive.specs.helpers.Left.{HasLeft};
 ghost use Rattle.m161_drive.specs.Orders.{by_order, by_words, interrupted, one_of, order_at_start};
 ghost use Rattle.m161_drive.specs.Words.{after_words};
 ghost use Rattle.m161_drive.specs.declared.orders.OrderState.TheVariants.{AtRandom, ByDelays};

@@ -8,7 +8,8 @@ use Rattle.m161_drive.specs.declared.cursor.Cursor.{Cursor}
 use Rattle.m161_drive.specs.Drive.{Chooses, Goes}
 use Rattle.m161_drive.specs.Policy.{Rules}
 use Rattle.m161_drive.specs.Ready.{is_ready, ready}
-use Rattle.m161_places.specs.Going.{GoesNoting, place_number}
+use Rattle.m161_places.specs.Going.{place_number}
+use Rattle.m161_places.specs.helpers.Noting.{GoesNoting}
 use Rattle.m161_places.specs.Places.{is_place, is_step}
 use Rattle.m161_places.proofs.Along.{any_counted}
 

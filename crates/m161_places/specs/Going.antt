@@ -27,13 +27,7 @@ Passes rules keys c s (e ∷ es) d t k =
     (b : Cursor) × (u : State) × (j : ℕ) × Goes rules (keys c.typed) c s e b u × Passes rules keys b u es d t j
     × (k ≡ place_number e.event s + j)
 
--- an event was chosen and made, and is noted behind others
-abbrev pub GoesNoting :
-    Rules → (ℕ → Option ℕ) → Cursor → State → List Event → ℕ → Cursor → State → List Event → Type 0
-GoesNoting rules keys c s old places d t new =
-    (e : Entry) × Goes rules (keys c.typed) c s e d t × (places ≡ place_number e.event s) × (new ≡ old ++ e.event ∷ [])
-
--- at most n events were, and passed at most so many places
+-- at most n events were chosen and made, passed at most so many places, and are noted behind others
 abbrev pub PassesNoting :
     Rules → (ℕ → Option ℕ) → ℕ → ℕ → Cursor → State → List Event → ℕ → Cursor → State → List Event → Type 0
 PassesNoting rules keys n most c s old passed d t new =

@@ -1,3 +1,4 @@
 pub mod Places
 pub mod Laws
 pub mod Going
+pub mod helpers

@@ -1,7 +1,8 @@
 //! Going on along the run of a list of delays.
 
 ghost use Rattle.std.specs.Prelude.{◌≡◌, ◌++◌, ◌∷◌, [], ◌&&◌, nat_lt, if◌then◌else◌, IfOk, IfSome, Some, slice_get};
-ghost use Rattle.m161_places.specs.Going.{GoesNoting, PassesNoting};
+ghost use Rattle.m161_places.specs.Going.{PassesNoting};
+ghost use Rattle.m161_places.specs.helpers.Noting.{GoesNoting};
 ghost use Rattle.m161_places.specs.Places.{is_step};
 
 use crate::counts::{count_ready, is_step};

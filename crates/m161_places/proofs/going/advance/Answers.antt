@@ -3,7 +3,8 @@ use Rattle.std.specs.Prelude.{IfSome, slice_get}
 use Rattle.std.proofs.lemmas.List.{length-append, map_push}
 use Rattle.m161_machine.specs.declared.event.Entry.{Entry}
 use Rattle.m161_machine.specs.History.{events_of}
-use Rattle.m161_places.specs.Going.{GoesNoting, Passes}
+use Rattle.m161_places.specs.Going.{Passes}
+use Rattle.m161_places.specs.helpers.Noting.{GoesNoting}
 use Rattle.m161_places.proofs.Exchanging.{passes_more}
 use Rattle.m161_places.proofs.Noting.{place_few}
 use Rattle.m161_places.proofs.going.advance.Goals as goal
