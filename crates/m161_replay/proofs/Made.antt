@@ -1,5 +1,5 @@
-use Rattle.std.proofs.Common.{◌≡◌, ◌⊎◌, inl, inr, ◌∙◌, refl, sym, ap, subst, ℕ, ◌+◌, ◌*◌, ◌/◌, Bool, true, false, List, [], ◌∷◌, length, Option, None, Some, Result, Ok, Err}
-use Rattle.std.specs.Prelude.{IfOk, if◌then◌else◌, is_some, nat_le, not, ◌==◌, ◌&&◌, option_and_then, unwrap_or}
+use Rattle.std.proofs.Common.{◌≡◌, inl, inr, ◌∙◌, refl, sym, ap, subst, ℕ, ◌+◌, ◌*◌, ◌/◌, Bool, true, false, List, [], ◌∷◌, length, Option, None, Some, Result, Ok, Err}
+use Rattle.std.specs.Prelude.{IfOk, if◌then◌else◌, is_some, nat_le, not, ◌&&◌, option_and_then, unwrap_or}
 use Rattle.m161_isa.specs.declared.effect.Effect.{Effect}
 use Rattle.m161_isa.specs.declared.table.Row.{Row as TableRow}
 use Rattle.m161_isa.specs.Table.{numbers_of, row_that_fits, table}
@@ -11,15 +11,15 @@ use Rattle.m161_cpu.specs.Effect.{Argument, arguments, effect_of, with_three}
 use Rattle.m161_cpu.specs.Fault.{exception_of}
 use Rattle.m161_cpu.specs.Fetch.{fetched_word, word_found}
 use Rattle.m161_cpu.specs.Processor.{Processor}
-use Rattle.m161_cpu.specs.Scene.{Change, Scene, Store, and_then, around, around_after, result_map, scene, stored_by}
-use Rattle.m161_cpu.specs.Step.{Stepped, change_by_row, change_in, conflict_of, executable_word, is_unusable, outcome_after, step_of, step_of_change, step_of_fault, step_of_result, switches_off, usable, word_at_pc}
+use Rattle.m161_cpu.specs.Scene.{Change, Scene, Store, and_then, around_after, stored_by}
+use Rattle.m161_cpu.specs.Step.{Stepped, change_by_row, change_in, conflict_of, executable_word, is_unusable, outcome_after, step_of, step_of_change, step_of_result, switches_off, usable, word_at_pc}
 use Rattle.m161_cpu.specs.Translation.{is_store}
 use Rattle.m161_cpu.specs.Uses.{Reference, fetches, reference_after, reference_of_step, uses_of}
 use Rattle.m161_cpu.specs.UsesLaw.{address_of, awake}
 use Rattle.m161_cpu.proofs.Awake.{NoFetch, fetched_change, step_doesnt_fetch, step_fetches}
 use Rattle.m161_machine.specs.declared.event.Event.TheVariants.{Step}
 use Rattle.m161_machine.specs.Fetched.{fetched, fetches_none}
-use Rattle.m161_machine.specs.State.{State, next, processor_at, step_result, with_step}
+use Rattle.m161_machine.specs.State.{State, next, processor_at, step_result}
 use Rattle.m161_machine.specs.Uses.{uses_in}
 use Rattle.m161_trace.specs.helpers.Far.{is_far}
 use Rattle.m161_trace.specs.Loads.{loaded, loaded_address, loads_by, loads_from, physical_if, word_around}
@@ -27,7 +27,7 @@ use Rattle.m161_trace.proofs.Near.{accepted, none_written}
 use Rattle.m161_trace.proofs.NearEffects.{NearChange, near_effect}
 use Rattle.m161_replay.specs.Law.{SeenIsMade, loaded_by}
 use Rattle.m161_replay.specs.Seen.{fetched_next, loaded_next, scene_in}
-use Rattle.m161_replay.proofs.Effects.{IsTrap, Runs, RunsBy, Traps, instruction_runs, instruction_traps, reach_traps, mapped_traps, then_traps}
+use Rattle.m161_replay.proofs.Effects.{Runs, RunsBy, Traps, instruction_runs, instruction_traps, reach_traps, mapped_traps, then_traps}
 use Rattle.m161_replay.proofs.Loading.{no_word, refers_if, word_loads}
 
 -- What is seen of a Step before it is made is what is told of it once it was made.
