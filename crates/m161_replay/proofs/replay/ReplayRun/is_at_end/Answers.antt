@@ -1,7 +1,7 @@
 use Rattle.std.proofs.Common.{◌≡◌, ◌∙◌, ap, slice_get, List}
 use Rattle.m161_machine.specs.declared.event.Event.{Event}
 use Rattle.m161_machine.specs.State.{CoreValue, State}
-use Rattle.m161_replay.specs.Replays.{is_over}
+use Rattle.m161_replay.specs.helpers.Over.{is_over}
 use Rattle.m161_replay.proofs.Places.{is_end}
 use Rattle.m161_replay.proofs.replay.ReplayRun.is_at_end.Goals as goal
 
