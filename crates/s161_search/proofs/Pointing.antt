@@ -1,4 +1,4 @@
-use Rattle.std.proofs.Common.{◌≡◌, ◌∙◌, refl, ap, sym, subst, ℕ, zero, suc, ◌+◌, ◌-◌, ◌≤◌, List, [], ◌++◌, length, arith}
+use Rattle.std.proofs.Common.{◌≡◌, ◌∙◌, ap, sym, subst, ℕ, zero, suc, ◌+◌, ◌-◌, ◌≤◌, List, [], ◌++◌, length, arith}
 use Rattle.std.proofs.lemmas.List.{length-append, length-map, map-append}
 use Rattle.std.specs.Prelude.{slice_get}
 use Rattle.m161_delays.specs.Lists.{AgreeBelow, times}
@@ -18,7 +18,6 @@ use Rattle.m161_machine.specs.declared.event.Event.{Event}
 use Rattle.m161_machine.specs.History.{events_of}
 use Rattle.m161_machine.specs.State.{State}
 use Rattle.m161_order.specs.declared.delays.Delays.{Delays}
-use Rattle.m161_order.specs.declared.order.Order.{Order}
 use Rattle.m161_order.specs.declared.order.Order.TheVariants.{Delayed}
 use Rattle.m161_order.specs.Delays.{behind, delays_of}
 use Rattle.m161_places.specs.Going.{Passes, PassesNoting}

@@ -25,8 +25,8 @@ returns-in-Ok-clause-ok c = λ begins.
     (as_given task given drive c.in_ok-policy.policy c.goal.result (Ok c.in-Ok.run') c.in_ok-policy.ensures.ok c.goal.ensures
     (c.in-Ok.ensures given.file (conf_of task.size) begins))
 
-pub returns-in-Err-clause-fault : goal.returns-in-Err-clause-fault
-returns-in-Err-clause-fault c = λ begins.
+pub returns-clause-fault : goal.returns-clause-fault
+returns-clause-fault c = λ begins.
     let task = c.args.task in
     let given = given_of c.args.inputs.now in
     let drive = record task.drive { order = Delayed c.args.turns c.args.delays.now } in
