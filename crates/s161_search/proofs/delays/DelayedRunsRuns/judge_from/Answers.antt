@@ -1,6 +1,6 @@
 use Rattle.s161_search.specs.helpers.Inputs.{given_of}
 use Rattle.s161_search.proofs.Judging.{list_judged}
-use Rattle.s161_search.proofs.delays.DelayedRunsRuns.judge.Goals as goal
+use Rattle.s161_search.proofs.delays.DelayedRunsRuns.judge_from.Goals as goal
 
 pub returns-clause-ok : goal.returns-clause-ok
 returns-clause-ok c =
