@@ -26,7 +26,7 @@ use Rattle.s161_command.specs.declared.task.RunTask.{RunTask}
 use Rattle.s161_command.specs.declared.task.ScheduleTask.{ScheduleTask}
 use Rattle.s161_command.specs.declared.task.SearchTask.{SearchTask}
 use Rattle.s161_command.specs.declared.task.Shown.{Shown}
-use Rattle.s161_command.specs.declared.task.Shown.TheVariants.{Summary, SummaryAndLog, Log}
+use Rattle.s161_command.specs.declared.task.Shown.TheVariants.{Summary, SummaryAndLog, Log, Output}
 use Rattle.s161_command.specs.declared.task.Size.{Size}
 use Rattle.s161_command.specs.declared.task.Source.{Source}
 use Rattle.s161_command.specs.declared.task.Source.TheVariants.{File, Driven}
@@ -100,10 +100,11 @@ on_image name = with_rule (new_app name) (file_rule (codes "image"))
 -- the arguments of `run`, without those of an order: an image and options
 abbrev pub plain_run_line : App
 plain_run_line =
-    with_rule (with_rule (with_rule (with_rule
+    with_rule (with_rule (with_rule (with_rule (with_rule
     (with_size_rules (codes "65536") (on_image (codes "run")))
     (flag_rule (codes "show-log")))
     (flag_rule (codes "only-log")))
+    (flag_rule (codes "only-output")))
     threads_rule)
     burst_rule
 
@@ -259,7 +260,8 @@ pub record IsSize (kept : ℕ) (rows : List Row) (size : Size) : Type 0 where
 -- what `run` is asked to print
 abbrev pub shown_of : List Row → Shown
 shown_of rows =
-    if is_set (codes "only-log") rows then Log
+    if is_set (codes "only-output") rows then Output
+    else if is_set (codes "only-log") rows then Log
     else if is_set (codes "show-log") rows then SummaryAndLog else Summary
 
 -- `run` asks for this

@@ -7,7 +7,7 @@ use Rattle.m161_order.specs.declared.order.Order.{Order}
 use Rattle.m161_order.specs.declared.order.Order.TheVariants.{Turns, Delayed, Random, Priorities}
 use Rattle.m161_order.specs.Order.{order_fault}
 use Rattle.s161_command.specs.declared.drive.Clash.{Clash}
-use Rattle.s161_command.specs.declared.drive.Clash.TheVariants.{TwoOrders, HalfPriorities, ChangesWithoutSeed, DelayedWithoutTurns, NoOrder, PaceWithoutOrder, OrderInThreads, LogTwice, FileAndOrder, NoEvents, DelaysAndSeeds, NoRuns, TurnsWithoutDelays, BadOrder, BadGap, BadDelays, BadClass, BadLink, ManyNever}
+use Rattle.s161_command.specs.declared.drive.Clash.TheVariants.{TwoOrders, HalfPriorities, ChangesWithoutSeed, DelayedWithoutTurns, NoOrder, PaceWithoutOrder, OrderInThreads, ShownTwice, FileAndOrder, NoEvents, DelaysAndSeeds, NoRuns, TurnsWithoutDelays, BadOrder, BadGap, BadDelays, BadClass, BadLink, ManyNever}
 use Rattle.s161_command.specs.declared.drive.OrderUse.{OrderUse}
 use Rattle.s161_command.specs.declared.drive.OrderUse.TheVariants.{Optional, Needed, Assumed, Seeded, OrFile}
 use Rattle.s161_command.specs.declared.drive.Drive.{Drive}
@@ -144,9 +144,12 @@ abbrev pub order_in_threads : List Row → Bool
 order_in_threads rows =
     has_order rows && (is_given (codes "threads") rows || is_given (codes "burst") rows)
 
--- both ways to print the log are asked for
-abbrev pub shows_log_twice : List Row → Bool
-shows_log_twice rows = is_set (codes "show-log") rows && is_set (codes "only-log") rows
+-- two ways to say what is printed are given
+abbrev pub shows_twice : List Row → Bool
+shows_twice rows =
+    (is_set (codes "show-log") rows && is_set (codes "only-log") rows)
+    || (is_set (codes "show-log") rows && is_set (codes "only-output") rows)
+    || (is_set (codes "only-log") rows && is_set (codes "only-output") rows)
 
 -- a file and an order both give the events
 abbrev pub file_and_order : OrderUse → List Row → Bool
@@ -165,7 +168,7 @@ go_together orders rows =
     && not (turns_without_delays orders rows) && not (half_priorities rows)
     && not (changes_without_seed orders rows) && not (delayed_without_turns rows)
     && not (lacks_order orders rows) && not (pace_without_order orders rows)
-    && not (order_in_threads rows) && not (shows_log_twice rows)
+    && not (order_in_threads rows) && not (shows_twice rows)
     && not (file_and_order orders rows) && not (lacks_events orders rows)
 
 -- a number of 64 bits in decimal digits, optionally after a plus
@@ -284,6 +287,6 @@ Clashes orders rows BadDelays = IsBadDelays (first_of (codes "delayed") rows)
 Clashes orders rows BadClass = IsBadClass rows
 Clashes orders rows ManyNever = AreTooMany (texts_of (codes "never") rows)
 Clashes orders rows BadLink = IsBadLink (first_of (codes "link") rows)
-Clashes orders rows LogTwice = shows_log_twice rows ≡ true
+Clashes orders rows ShownTwice = shows_twice rows ≡ true
 Clashes orders rows FileAndOrder = file_and_order orders rows ≡ true
 Clashes orders rows NoEvents = lacks_events orders rows ≡ true

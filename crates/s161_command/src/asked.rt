@@ -39,6 +39,9 @@ fn size_given<'a>(given: &ArgMatches<'a>, log: u32, link: Option<LinkUnit>) -> S
 fn shown_given<'a>(given: &ArgMatches<'a>) -> Shown
     ensures { result ≡ shown_of (rows_of (found_of given.now)) }
 {
+    if is_set(given, "only-output") {
+        return Shown::Output;
+    }
     if is_set(given, "only-log") {
         return Shown::Log;
     }

@@ -3,7 +3,7 @@
 ghost use Rattle.std.specs.Prelude.{◌≡◌, true, None, MatchOption, codes, option_map};
 ghost use Rattle.clap.specs.Words.{first_of, found_of, rows_of};
 ghost use Rattle.s161_command.specs.Delays.{IsBadDelays};
-ghost use Rattle.s161_command.specs.Drives.{AsksDrive, Clashes, IsBadGap, IsGap, IsGivenOrder, IsOrder, IsSearched, IsSeeded, changes_without_seed, delayed_without_turns, delays_and_seeds, events_by_default, file_and_order, gap_by_default, go_together, half_priorities, has_order, has_pace, has_seed, is_driven, lacks_events, lacks_order, lacks_runs, order_in_threads, pace_without_order, shows_log_twice, turns_without_delays, two_orders};
+ghost use Rattle.s161_command.specs.Drives.{AsksDrive, Clashes, IsBadGap, IsGap, IsGivenOrder, IsOrder, IsSearched, IsSeeded, changes_without_seed, delayed_without_turns, delays_and_seeds, events_by_default, file_and_order, gap_by_default, go_together, half_priorities, has_order, has_pace, has_seed, is_driven, lacks_events, lacks_order, lacks_runs, order_in_threads, pace_without_order, shows_twice, turns_without_delays, two_orders};
 ghost use Rattle.s161_command.specs.Numbers.{is_given};
 ghost use Rattle.s161_command.specs.helpers.Settings.{HasSettings};
 
@@ -70,8 +70,8 @@ pub enum Clash {
     PaceWithoutOrder,
     #[error("--threads and --burst leave the order to the host: --turns and --random are for runs without threads")]
     OrderInThreads,
-    #[error("--only-log prints the log alone, and --show-log the rest too: give one of them")]
-    LogTwice,
+    #[error("--show-log prints the log too, --only-log the log alone, --only-output the console's bytes alone: give one of them")]
+    ShownTwice,
     #[error("the file and the order both give the events: give one of them")]
     FileAndOrder,
     #[error("events are wanted: a schedule's or a log's file, or --turns N or --random SEED")]
@@ -220,10 +220,13 @@ fn order_in_threads<'a>(given: &ArgMatches<'a>) -> bool
     has_order(given) && (is_given(given, "threads") || is_given(given, "burst"))
 }
 
-fn shows_log_twice<'a>(given: &ArgMatches<'a>) -> bool
-    ensures { result ≡ shows_log_twice (rows_of (found_of given.now)) }
+fn shows_twice<'a>(given: &ArgMatches<'a>) -> bool
+    ensures { result ≡ shows_twice (rows_of (found_of given.now)) }
 {
-    is_set(given, "show-log") && is_set(given, "only-log")
+    let shows_log = is_set(given, "show-log");
+    let only_log = is_set(given, "only-log");
+    let only_output = is_set(given, "only-output");
+    (shows_log && only_log) || (shows_log && only_output) || (only_log && only_output)
 }
 
 /// Why the options don't go together, if so. Judged here and not by rules of clap, whose contract is
@@ -262,8 +265,8 @@ pub(crate) fn clash_of<'a>(given: &ArgMatches<'a>, orders: OrderUse) -> Option<C
     if order_in_threads(given) {
         return Some(Clash::OrderInThreads);
     }
-    if shows_log_twice(given) {
-        return Some(Clash::LogTwice);
+    if shows_twice(given) {
+        return Some(Clash::ShownTwice);
     }
     if file_and_order(given, orders) {
         return Some(Clash::FileAndOrder);

@@ -43,12 +43,14 @@ after it was written; a key of --keys is typed once --gap events were accepted
 after the last one; both also where no processor is ready.
 
 The log keeps the last N entries (--log). --show-log prints it before the last
-line, --only-log prints it alone; its first line names the machine and the
-image. The next one is `m161 log 2 word` or `m161 log 2 line`, by --link, and
-with --strict `m161 log 3 word strict` or the same with line; where entries
-before them were dropped, it says tail in place of log, and then their number,
-as `m161 tail 2 word DROPPED`. A log can be replayed, and its tail can't: the
-same run with a greater --log has the whole log.
+line, --only-log prints it alone, and --only-output the console's bytes alone;
+with these two the `stop:` line goes to standard error. The log's first line
+names the machine and the image. The next one is `m161 log 2 word` or
+`m161 log 2 line`, by --link, and with --strict `m161 log 3 word strict` or the
+same with line; where entries before them were dropped, it says tail in place
+of log, and then their number, as `m161 tail 2 word DROPPED`. A log can be
+replayed, and its tail can't: the same run with a greater --log has the whole
+log.
 
 With --strict a tlbwi or tlbwr of a row that would overlap another one isn't
 done: it is a conflict, and switches the machine off. Two rows overlap where

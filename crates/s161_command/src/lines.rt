@@ -13,9 +13,9 @@ use crate::help::{
 use crate::options::{
     ASKED_CPUS, ASKED_LINK, ASKED_RAM, ASKED_STRICT, BURST, CHANGES, COUNT, CPUS, DEBUG_LOG,
     DELAYED, DELAYED_TURNS, DELAYS, ENTRIES, EVENTS, FILE, FIRST_EVENT, FIRST_RUN, GAP, IMAGE,
-    JOBS, KEYS, LABELS, LINK, LISTED_EVENTS, LOADS, LOG, NAMES, NEVER, ONLY, ONLY_LOG, OUTCOMES,
-    OUTPUT, RAM, RANDOM, SEARCH_WITHIN, SEEDS, SHOW_LOG, STRICT, SYMBOLS, THREADS, TRANSFER, TURNS,
-    WATCHES, WATCHES_FILE, WHOLE, WITHIN,
+    JOBS, KEYS, LABELS, LINK, LISTED_EVENTS, LOADS, LOG, NAMES, NEVER, ONLY, ONLY_LOG, ONLY_OUTPUT,
+    OUTCOMES, OUTPUT, RAM, RANDOM, SEARCH_WITHIN, SEEDS, SHOW_LOG, STRICT, SYMBOLS, THREADS,
+    TRANSFER, TURNS, WATCHES, WATCHES_FILE, WHOLE, WITHIN,
 };
 
 /// The name of a command of the program.
@@ -72,8 +72,26 @@ static RUN: Line = Line {
     name: "run",
     about: "Runs an image under a schedule of events, or by an order that chooses them",
     arguments: &[
-        IMAGE, RAM, CPUS, LOG, LINK, STRICT, SHOW_LOG, ONLY_LOG, THREADS, BURST, TURNS, DELAYED,
-        RANDOM, CHANGES, WITHIN, EVENTS, TRANSFER, KEYS, GAP,
+        IMAGE,
+        RAM,
+        CPUS,
+        LOG,
+        LINK,
+        STRICT,
+        SHOW_LOG,
+        ONLY_LOG,
+        ONLY_OUTPUT,
+        THREADS,
+        BURST,
+        TURNS,
+        DELAYED,
+        RANDOM,
+        CHANGES,
+        WITHIN,
+        EVENTS,
+        TRANSFER,
+        KEYS,
+        GAP,
     ],
 };
 

@@ -147,6 +147,16 @@ pub(crate) const ONLY_LOG: Argument = Argument {
     required: false,
 };
 
+/// Whether `run` prints the console's bytes alone.
+pub(crate) const ONLY_OUTPUT: Argument = Argument {
+    name: "only-output",
+    kind: Kind::Flag,
+    shown: "",
+    help: "Prints the console's bytes alone",
+    default: None,
+    required: false,
+};
+
 /// How many Steps each processor makes in a thread of its own.
 pub(crate) const THREADS: Argument = Argument {
     name: "threads",

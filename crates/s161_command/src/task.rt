@@ -60,8 +60,10 @@ pub enum Shown {
     Summary,
     /// The same, with the log before the last line.
     SummaryAndLog,
-    /// The log alone.
+    /// The log alone; why the run stopped goes to standard error.
     Log,
+    /// The bytes that the console sent alone; why the run stopped goes to standard error.
+    Output,
 }
 
 /// The arguments of `run`.

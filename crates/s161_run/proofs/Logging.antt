@@ -15,7 +15,7 @@ use Rattle.m161_machine.specs.State.{State}
 use Rattle.m161_machine.proofs.Made.{conf_stays, counted}
 use Rattle.m161_machine.proofs.Modes.{run_fits}
 use Rattle.s161_command.specs.declared.task.Shown.{Shown}
-use Rattle.s161_command.specs.declared.task.Shown.TheVariants.{Summary, SummaryAndLog, Log}
+use Rattle.s161_command.specs.declared.task.Shown.TheVariants.{Summary, SummaryAndLog, Log, Output}
 use Rattle.s161_run.specs.declared.events.RunStop.{RunStop}
 use Rattle.s161_run.specs.Runs.{log_of_run, shown_log, summary_text}
 use Rattle.s161_run.specs.helpers.Shown.{IsShown, room_of}
@@ -38,6 +38,7 @@ shown_kept SummaryAndLog conf file entries items made s stop count is =
 shown_kept Log conf file entries items made s stop count is =
     let d = dropped_are conf.log entries items made count is in
     λ i. summary_text (shown_log conf file (d i) (is i)) s stop Log
+shown_kept Output conf file entries items made s stop count is = refl
 
 -- a text that is shown stands for the log
 pub shown_text : (shown : Shown) (text log : List ℕ) (s : State) (stop : RunStop) → IsShown shown text log →
@@ -45,6 +46,7 @@ pub shown_text : (shown : Shown) (text log : List ℕ) (s : State) (stop : RunSt
 shown_text Summary text log s stop h = refl
 shown_text SummaryAndLog text log s stop h = ap (λ l. summary_text l s stop SummaryAndLog) h
 shown_text Log text log s stop h = h
+shown_text Output text log s stop h = refl
 
 -- the outcomes of a run fit the mode of its machine
 pub kept_fit : (room : ℕ) (entries items : List Entry) (s t : State) → Leads s entries t → items ≡ keep_last room entries →

@@ -15,7 +15,7 @@ use Rattle.s161_command.specs.declared.drive.Drive.{Drive}
 use Rattle.s161_command.specs.declared.task.DrivenTask.{DrivenTask}
 use Rattle.s161_run.specs.declared.events.RunStop.{RunStop}
 use Rattle.s161_run.specs.declared.events.RunStop.TheVariants.{End, Stuck, Refused}
-use Rattle.s161_run.specs.Runs.{log_of_run, status_of, stop_off, summary_text}
+use Rattle.s161_run.specs.Runs.{log_of_run, stop_off, summary_text}
 use Rattle.s161_base.specs.Asked.{image_files, option_files}
 use Rattle.s161_base.specs.declared.fault.Fault.{Fault}
 use Rattle.s161_base.specs.declared.fault.Fault.TheVariants.{Conf, File, Image, Memory}
@@ -56,11 +56,11 @@ told made conflict (drive.Refused refusal) = Refused made refusal
 abbrev pub stop_of : Driven → State → RunStop
 stop_of driven s = told driven.made s.conflict driven.stop
 
--- a finished driven run: what it prints and its exit status; the files have these bytes, and that of
+-- a finished driven run: what it prints and why it stopped; the files have these bytes, and that of
 -- the image, as far as they are known
 pub record IsDriven
     (task : DrivenTask) (files : List ℕ → Option (List ℕ)) (known : Option (List ℕ))
-    (text : List ℕ) (status : ℕ) : Type 0 where
+    (text : List ℕ) (stop : RunStop) : Type 0 where
   pub file : List ℕ
   pub is_file : IfSome known (λ bytes. file ≡ bytes)
   pub keys : List ℕ
@@ -71,10 +71,9 @@ pub record IsDriven
   pub entries : List Entry
   pub state : State
   pub drives : Drives (rules_of task.drive keys) task.drive.events booted driven entries state
+  pub stop_is : stop ≡ stop_of driven state
   pub text_is :
-      text ≡ summary_text (log_of_run (conf_of task.run.size) file entries) state
-      (stop_of driven state) task.run.shown
-  pub status_is : status ≡ status_of (stop_of driven state)
+      text ≡ summary_text (log_of_run (conf_of task.run.size) file entries) state stop task.run.shown
 
 -- a fault is that of the file of the keys
 abbrev pub IsKeysFile : Option (Bor (List ℕ)) → Fault → Type 0

@@ -143,6 +143,14 @@ abbrev pub summary_text : List ℕ → State → RunStop → Shown → List ℕ
 summary_text log s stop shown.Summary = summary_with [] s stop
 summary_text log s stop shown.SummaryAndLog = summary_with log s stop
 summary_text log s stop shown.Log = log
+summary_text log s stop shown.Output = s.board.console.output
+
+-- what it says on standard error: why the run stopped, where what it prints doesn't say it
+abbrev pub told_text : RunStop → Shown → List ℕ
+told_text stop shown.Summary = []
+told_text stop shown.SummaryAndLog = []
+told_text stop shown.Log = with_line_end (stop_line stop)
+told_text stop shown.Output = with_line_end (stop_line stop)
 
 abbrev pub status_of : RunStop → ℕ
 status_of Off = 0
@@ -151,11 +159,11 @@ status_of End = 3
 status_of (ConflictStop conflict) = 4
 status_of Stuck = 5
 
--- a finished run: what it prints and its exit status; the image's file and standard input have
--- these bytes, as far as they are known
+-- a finished run: what it prints and why it stopped; the image's file and standard input have these
+-- bytes, as far as they are known
 pub record IsRun
     (task : RunTask) (known : Option (List ℕ)) (input : Option (List ℕ))
-    (text : List ℕ) (status : ℕ) : Type 0 where
+    (text : List ℕ) (stop : RunStop) : Type 0 where
   pub file : List ℕ
   pub is_file : IfSome known (λ bytes. file ≡ bytes)
   pub booted : State
@@ -165,13 +173,11 @@ pub record IsRun
   pub is_text : IsText schedule
   pub events : List Event
   pub is_schedule : IsSchedule (lines_of schedule) events
-  pub stop : RunStop
   pub entries : List Entry
   pub state : State
   pub makes : MakesEvents booted events stop entries state
   pub text_is :
       text ≡ summary_text (log_of_run (conf_of task.size) file entries) state stop task.shown
-  pub status_is : status ≡ status_of stop
 
 -- what a fault that ends a run says of its inputs: of a file, that it is the image's; of the
 -- schedule, its first bad line; of the configuration or the image, that the schedule had no fault.

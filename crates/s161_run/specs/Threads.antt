@@ -10,7 +10,7 @@ use Rattle.s161_run.specs.declared.events.RunStop.{RunStop}
 use Rattle.s161_run.specs.declared.events.RunStop.TheVariants.{End}
 use Rattle.s161_base.specs.declared.fault.Fault.{Fault}
 use Rattle.s161_base.specs.declared.fault.Fault.TheVariants.{Conf, File, Image, Memory, Threads}
-use Rattle.s161_run.specs.Runs.{shown_log, status_of, stop_off, summary_text}
+use Rattle.s161_run.specs.Runs.{shown_log, stop_off, summary_text}
 use Rattle.s161_base.specs.Faults.{BootsTo}
 use Rattle.s161_base.specs.Known.{OfKnown}
 use Rattle.s161_base.specs.Reading.{IsOfBytes}
@@ -23,10 +23,10 @@ use Rattle.s161_base.specs.Sizes.{conf_of}
 abbrev pub stop_of : Bool → Option Conflict → RunStop
 stop_of off conflict = if off then stop_off conflict else End
 
--- a finished run in threads: what it prints and its exit status; the image's file has these bytes,
+-- a finished run in threads: what it prints and why it stopped; the image's file has these bytes,
 -- as far as they are known
 pub record IsRunInThreads
-    (task : ThreadsTask) (known : Option (List ℕ)) (text : List ℕ) (status : ℕ) : Type 0 where
+    (task : ThreadsTask) (known : Option (List ℕ)) (text : List ℕ) (stop : RunStop) : Type 0 where
   pub file : List ℕ
   pub is_file : IfSome known (λ bytes. file ≡ bytes)
   pub booted : History
@@ -37,11 +37,11 @@ pub record IsRunInThreads
   pub machine : History
   pub interleaves :
       Interleaves booted (replicate task.run.size.processors task.quota) made off machine
+  pub stop_is : stop ≡ stop_of off machine.state.conflict
   pub text_is :
       text ≡ summary_text
-      (shown_log (conf_of task.run.size) file machine.base.made machine.log) machine.state
-      (stop_of off machine.state.conflict) task.run.shown
-  pub status_is : status ≡ status_of (stop_of off machine.state.conflict)
+      (shown_log (conf_of task.run.size) file machine.base.made machine.log) machine.state stop
+      task.run.shown
 
 -- the cause of a run that doesn't begin for this reason; or of one that began
 abbrev pub IsCause : Option Cause → Cause → Type 0

@@ -9,12 +9,11 @@ ghost use Rattle.s161_run.specs.Driven.{IsDriven, IsDrivenFault, driven_files, s
 use crate::events::{RunStop, stop_off};
 use crate::log::new_log;
 use crate::policy::{make_driven, read_keys};
-use crate::summary::finish_run;
+use crate::summary::{Ran, finish_run};
 use m161::Core;
 use m161_drive::Driven;
 use s161_base::fault::Fault;
 use s161_base::files::FileSource;
-use s161_base::finished::Finished;
 use s161_base::sample::read_image;
 use s161_base::sizes::conf_of;
 use s161_command::DrivenTask;
@@ -31,10 +30,10 @@ pub fn run_driven<'a, F: FileSource>(
     alloc: Global,
     files: &mut F,
     task: DrivenTask<'a>,
-) -> Result<Finished, Fault<'a>>
+) -> Result<Ran, Fault<'a>>
     requires { order_fault task.drive.order ≡ None }
     ensures ok { IfOk result (λ done. IsDriven task.entry (F.known files.old)
-        (image_file (F.known files.old) task.entry.run.image.now) done.text.items done.status) }
+        (image_file (F.known files.old) task.entry.run.image.now) done.text.items done.stop) }
     ensures fault { IfErr result (IsDrivenFault task.entry
         (image_file (F.known files.old) task.entry.run.image.now)) }
     ensures asks { AsksFor (driven_files task.entry) result (F.asked files.old)

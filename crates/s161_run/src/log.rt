@@ -27,7 +27,7 @@ pub(crate) fn new_log(
     ensures { IfOk result (λ log. (log.capacity ≡ room_of shown conf.log) × (log.items ≡ [])) }
 {
     let room = match shown {
-        Shown::Summary => 0,
+        Shown::Summary | Shown::Output => 0,
         Shown::SummaryAndLog | Shown::Log => conf.log as usize,
     };
     HeapCircularBuffer::with_capacity(alloc, room)
@@ -99,8 +99,9 @@ pub(crate) fn log_of_run(
         (shown_log core.now.state.conf file.now (core.now.state.made - length log.now.items)
         log.now.items)) }
 {
-    if let Shown::Summary = shown {
-        return Ok(String::new(alloc));
+    match shown {
+        Shown::Summary | Shown::Output => return Ok(String::new(alloc)),
+        Shown::SummaryAndLog | Shown::Log => {}
     }
     let entries = entries_of(alloc, log)?;
     let dropped = core.made().saturating_sub(entries.len() as u64);
@@ -120,8 +121,9 @@ pub(crate) fn log_of_machine(
     ensures { IfOk result (λ text. IsShown shown (string_bytes text)
         (shown_log machine.now.start.conf file.now machine.now.base.made machine.now.log)) }
 {
-    if let Shown::Summary = shown {
-        return Ok(String::new(alloc));
+    match shown {
+        Shown::Summary | Shown::Output => return Ok(String::new(alloc)),
+        Shown::SummaryAndLog | Shown::Log => {}
     }
     // So that the proof knows that only a strict machine's log has conflicts.
     machine.replay();

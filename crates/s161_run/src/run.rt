@@ -7,11 +7,10 @@ ghost use Rattle.s161_base.specs.Samples.{image_file};
 
 use crate::events::make_events;
 use crate::log::new_log;
-use crate::summary::finish_run;
+use crate::summary::{Ran, finish_run};
 use m161::Core;
 use s161_base::fault::Fault;
 use s161_base::files::FileSource;
-use s161_base::finished::Finished;
 use s161_base::input::read_input;
 use s161_base::sample::read_image;
 use s161_base::sizes::conf_of;
@@ -32,10 +31,10 @@ pub fn run<'a, F: FileSource, I: Read>(
     files: &mut F,
     input: &mut I,
     task: RunTask<'a>,
-) -> Result<Finished, Fault<'a>>
+) -> Result<Ran, Fault<'a>>
     ensures ok { IfOk result (λ done. IsRun task.entry
         (image_file (F.known files.old) task.entry.image.now) (I.remaining input.old)
-        done.text.items done.status) }
+        done.text.items done.stop) }
     ensures fault { IfErr result (IsFaultOf task.entry
         (image_file (F.known files.old) task.entry.image.now) (I.remaining input.old)) }
     ensures asks { AsksFor (image_files task.entry.image.now) result (F.asked files.old)

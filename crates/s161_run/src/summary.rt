@@ -1,10 +1,10 @@
 //! The text that `run` prints.
 
-ghost use Rattle.std.specs.Prelude.{◌≡◌, ◌++◌, ◌-◌, ◌<◌, length, IfOk, OnOk};
+ghost use Rattle.std.specs.Prelude.{◌≡◌, ◌++◌, ◌-◌, ◌<◌, length, string_bytes, IfOk, OnOk};
 ghost use Rattle.std.specs.List.{All};
 ghost use Rattle.m161_machine.specs.History.{FitsMode};
 ghost use Rattle.m161_machine.specs.declared.event.Entry.{Entry};
-ghost use Rattle.s161_run.specs.Runs.{output_text, shown_log, started_text, status_of, summary_text, summary_with};
+ghost use Rattle.s161_run.specs.Runs.{output_text, shown_log, started_text, status_of, summary_text, summary_with, told_text};
 
 use crate::events::RunStop;
 use crate::log::log_of_run;
@@ -12,13 +12,21 @@ use circular_buffer::HeapCircularBuffer;
 use m161::Core;
 use m161_display::show_regs;
 use m161_machine::{PackedEntry, ProcessorState};
-use s161_base::finished::Finished;
 use s161_command::Shown;
 use std::alloc::{AllocError, Global};
 
+/// A finished run.
+#[derive(Drop)]
+pub struct Ran {
+    /// What it prints.
+    pub text: Vec<u8>,
+    /// Why it stopped.
+    pub stop: RunStop,
+}
+
 /// What is shown of a run that ended in this state: the console's output, each started processor, and
 /// why the events ended, with this text of its log before that line if it is asked for; or the log
-/// alone.
+/// alone, or the console's bytes alone.
 pub(crate) fn summary(
     alloc: Global,
     core: &Core,
@@ -32,10 +40,24 @@ pub(crate) fn summary(
         Shown::Summary => summary_with(alloc, b"", core, stop),
         Shown::SummaryAndLog => summary_with(alloc, log, core, stop),
         Shown::Log => log.to_vec(alloc),
+        Shown::Output => core.output().to_vec(alloc),
     }
 }
 
-/// The text and the exit status of a run from a boot of this file, with this log of it.
+/// What a run says on standard error: why it stopped, where what it prints doesn't say it.
+///
+/// # Errors
+/// Memory was refused.
+pub fn told(alloc: Global, stop: RunStop, shown: Shown) -> Result<String, AllocError>
+    ensures { IfOk result (λ text. string_bytes text ≡ told_text stop shown) }
+{
+    match shown {
+        Shown::Summary | Shown::SummaryAndLog => Ok(String::new(alloc)),
+        Shown::Log | Shown::Output => format!(in alloc; "{stop}\n"),
+    }
+}
+
+/// What is printed of a run from a boot of this file, with this log of it, and why it stopped.
 ///
 /// # Errors
 /// Memory was refused.
@@ -46,18 +68,16 @@ pub(crate) fn finish_run(
     file: &[u8],
     stop: RunStop,
     shown: Shown,
-) -> Result<Finished, AllocError>
+) -> Result<Ran, AllocError>
     requires { All (λ (e : Entry). FitsMode core.now.state.conf.strict e.outcome) log.now.items }
     ensures text { IfOk result (λ done. done.text.items ≡ summary_text
         (shown_log core.now.state.conf file.now (core.now.state.made - length log.now.items)
         log.now.items) core.now.state stop shown) }
-    ensures status { IfOk result (λ done. done.status ≡ status_of stop) }
+    ensures stop { IfOk result (λ done. done.stop ≡ stop) }
 {
     let log = log_of_run(alloc, core, log, file, shown)?;
-    Ok(Finished {
-        text: summary(alloc, core, log.as_bytes(), stop, shown)?,
-        status: status(stop),
-    })
+    let text = summary(alloc, core, log.as_bytes(), stop, shown)?;
+    Ok(Ran { text, stop })
 }
 
 /// The exit status of a run.

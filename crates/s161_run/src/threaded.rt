@@ -1,7 +1,7 @@
 //! Running an image in threads.
 
 ghost use Rattle.std.specs.Prelude.{◌≡◌, IfErr, IfOk, replicate};
-ghost use Rattle.s161_run.specs.Runs.{shown_log, status_of, summary_text};
+ghost use Rattle.s161_run.specs.Runs.{shown_log, summary_text};
 ghost use Rattle.s161_base.specs.Asked.{AsksFor, image_files};
 ghost use Rattle.s161_base.specs.Samples.{image_file};
 ghost use Rattle.s161_run.specs.Threads.{IsRunInThreads, IsThreadsFault, stop_of};
@@ -9,13 +9,12 @@ ghost use Rattle.s161_run.specs.helpers.Threads.{FailsBooted, RunsBooted};
 
 use crate::events::{RunStop, stop_off};
 use crate::log::log_of_machine;
-use crate::summary::{status, summary};
+use crate::summary::{Ran, summary};
 use m161::{Console, Machine, Tlb};
 use m161_machine::Conflict;
 use m161_threads::{Gate, Report, run_bursts};
 use s161_base::fault::Fault;
 use s161_base::files::FileSource;
-use s161_base::finished::Finished;
 use s161_base::sample::read_image;
 use s161_base::sizes::conf_of;
 use s161_command::{Shown, ThreadsTask};
@@ -44,10 +43,10 @@ pub fn run_in_threads<'a, R: Threads + Wait + Sync, F: FileSource>(
     alloc: Global,
     files: &mut F,
     task: ThreadsTask<'a>,
-) -> Result<Finished, Fault<'a>>
+) -> Result<Ran, Fault<'a>>
     ensures ok { IfOk result (λ done. IsRunInThreads task.entry
         (image_file (F.known files.old) task.entry.run.image.now)
-        done.text.items done.status) }
+        done.text.items done.stop) }
     ensures fault { IfErr result (IsThreadsFault task.entry
         (image_file (F.known files.old) task.entry.run.image.now)) }
     ensures asks { AsksFor (image_files task.entry.run.image.now) result (F.asked files.old)
@@ -100,19 +99,19 @@ fn stop_of(off: bool, conflict: Option<Conflict>) -> RunStop
     }
 }
 
-// The text that a report prints, and its exit status.
+// What is printed of a report, and why the run stopped.
 fn finish<'a>(
     alloc: Global,
     report: Report<Tlb, Console>,
     file: &[u8],
     shown: Shown,
-) -> Result<Finished, Fault<'a>>
+) -> Result<Ran, Fault<'a>>
     ensures text { IfOk result (λ done.
         done.text.items ≡ summary_text
         (shown_log report.machine.start.conf file.now report.machine.base.made report.machine.log)
         report.machine.state (stop_of report.off report.machine.state.conflict) shown) }
-    ensures status { IfOk result (λ done.
-        done.status ≡ status_of (stop_of report.off report.machine.state.conflict)) }
+    ensures stop { IfOk result (λ done.
+        done.stop ≡ stop_of report.off report.machine.state.conflict) }
     ensures err { IfErr result (λ fault. fault ≡ Fault.Memory) }
 {
     let Report {
@@ -122,8 +121,6 @@ fn finish<'a>(
     } = report;
     let stop = stop_of(off, machine.conflict());
     let log = log_of_machine(alloc, &machine, file, shown)?;
-    Ok(Finished {
-        text: summary(alloc, machine.core(), log.as_bytes(), stop, shown)?,
-        status: status(stop),
-    })
+    let text = summary(alloc, machine.core(), log.as_bytes(), stop, shown)?;
+    Ok(Ran { text, stop })
 }

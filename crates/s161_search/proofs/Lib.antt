@@ -6,3 +6,4 @@ pub mod Failing
 pub mod Judging
 pub mod Delaying
 pub mod Numbers
+pub mod Pointing

@@ -31,7 +31,7 @@ pub(crate) struct RunPoint {
 fn copy_events(alloc: Global, events: &[Event]) -> Result<Vec<Event>, AllocError>
     ensures { IfOk result (λ copy. copy.items ≡ events.now) }
 {
-    let mut copy = Vec::with_capacity(events.len(), alloc)?;
+    let mut copy = Vec::with_capacity(alloc, events.len())?;
     copy.extend_from_slice(events)?;
     Ok(copy)
 }

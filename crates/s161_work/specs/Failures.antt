@@ -1,4 +1,5 @@
 use Rattle.std.specs.Prelude.{◌≡◌, ◌⊎◌, ℕ, List, Option, None, Some}
+use Rattle.std.specs.Io.KnownBytes.{Appends}
 use Rattle.clap.specs.Words.{Text, subcommand_of}
 use Rattle.m161_text.specs.Lines.{with_line_end}
 use Rattle.s161_command.specs.declared.task.ConsoleTask.{ConsoleTask}
@@ -58,18 +59,26 @@ IsTaskFault never (Assemble task) files input fault = IsAssemblyFault input faul
 IsTaskFault never (Disassemble task) files input fault =
     IsListingFault task.image.now (image_file files task.image.now) fault
 
--- there is such a text with an exit status, and some of it was written
-abbrev pub PrintsSome :
-    (List ℕ → ℕ → Type 0) → Option (List ℕ) → Option (List ℕ) → Type 0
-PrintsSome IsResult before after =
-    (text : List ℕ) × (status : ℕ) × IsResult text status × AppendsSome before after text
+-- of these texts some of the first was written to standard output, and nothing to standard error; or
+-- all of it, and some of the second
+abbrev pub WritesSome : List ℕ → List ℕ → Standard → Standard → Type 0
+WritesSome text told before after =
+    (AppendsSome before.output after.output text × (after.errors ≡ before.errors))
+    ⊎ (Appends before.output after.output text × AppendsSome before.errors after.errors told)
 
--- there was such a text, and the output failed, which has some of it; or there was this fault before,
--- and the output is unchanged
+-- there are such texts with an exit status, and some of them was written
+abbrev pub PrintsSome : (List ℕ → List ℕ → ℕ → Type 0) → Standard → Standard → Type 0
+PrintsSome IsResult before after =
+    (text : List ℕ) × (told : List ℕ) × (status : ℕ) × IsResult text told status
+    × WritesSome text told before after
+
+-- there were such texts, and an output failed, which has some of its text; or there was this fault
+-- before, and the outputs are unchanged
 abbrev pub Fails :
-    (List ℕ → ℕ → Type 0) → (Fault → Type 0) → Option (List ℕ) → Option (List ℕ) → Fault → Type 0
+    (List ℕ → List ℕ → ℕ → Type 0) → (Fault → Type 0) → Standard → Standard → Fault → Type 0
 Fails IsResult IsFault before after fault =
-    ((fault ≡ Output) × PrintsSome IsResult before after) ⊎ (IsFault fault × (after ≡ before))
+    ((fault ≡ Output) × PrintsSome IsResult before after)
+    ⊎ (IsFault fault × (after.output ≡ before.output) × (after.errors ≡ before.errors))
 
 -- why a kernel at the terminal stopped wasn't told: memory was refused; or standard error failed, which
 -- has some of it
@@ -110,8 +119,7 @@ FailsToAnswer task files before after fault =
     IsGdbFault task files (image_file files task.image.now) (streams_of before after) fault
     × (after.errors ≡ before.errors)
 
--- a task is ended by this fault: one that writes as it goes on; or before or while its text is printed,
--- and nothing was written to standard error
+-- a task is ended by this fault: one that writes as it goes on; or before or while its texts are written
 abbrev pub FailsAs :
     Option Going → List Text → Task → (Text → Option (List ℕ)) → Standard → Standard → Fault → Type 0
 FailsAs (Some (serving console)) never task files before after fault =
@@ -124,8 +132,8 @@ FailsAs (Some (answering gdb)) never task files before after fault =
     FailsToAnswer gdb files before after fault
 FailsAs None never task files before after fault =
     Fails (IsResultOf never task files before.input) (IsTaskFault never task files before.input)
-    before.output after.output fault
-    × (after.errors ≡ before.errors) × LeavesInput task before.input after.input
+    before after fault
+    × LeavesInput task before.input after.input
 
 -- the line of a fault was written to standard error, as far as that took it
 abbrev pub IsTold : Fault → Option (List ℕ) → Option (List ℕ) → Type 0

@@ -6,6 +6,7 @@ use Rattle.s161_command.specs.declared.drive.Clash.{Clash}
 use Rattle.s161_command.specs.declared.task.ConsoleTask.{ConsoleTask}
 use Rattle.s161_command.specs.declared.task.DebugTask.{DebugTask}
 use Rattle.s161_command.specs.declared.task.GdbTask.{GdbTask}
+use Rattle.s161_command.specs.declared.task.Shown.{Shown}
 use Rattle.s161_command.specs.declared.task.TraceTask.{TraceTask}
 use Rattle.s161_command.specs.declared.task.Task.{Task}
 use Rattle.s161_command.specs.declared.task.Task.TheVariants.{Assemble, Audit, Console, Debug, Demo, Disassemble, Gdb, Replay, Run, RunDriven, RunInThreads, Schedule, Search, Trace}
@@ -23,7 +24,7 @@ use Rattle.s161_run.specs.Schedules.{IsScheduled, schedule_files}
 use Rattle.s161_run.specs.Demos.{IsDemo}
 use Rattle.s161_texts.specs.Listings.{IsDisassembled}
 use Rattle.s161_run.specs.Replays.{IsReplayed, replay_files}
-use Rattle.s161_run.specs.Runs.{IsRun, status_of, stop_line}
+use Rattle.s161_run.specs.Runs.{IsRun, status_of, stop_line, told_text}
 use Rattle.s161_run.specs.declared.events.RunStop.{RunStop}
 use Rattle.s161_search.specs.Given.{search_files}
 use Rattle.s161_search.specs.Searches.{IsSearched}
@@ -75,42 +76,59 @@ file_use known before after = record { known = known; before = before; after = a
 abbrev pub IsUnasked : FileUse → Type 0
 IsUnasked files = files.after ≡ files.before
 
--- there is such a text with this exit status, and it was written to an output, which had the first
--- bytes and has the second
-abbrev pub Prints :
-    (List ℕ → ℕ → Type 0) → Option (List ℕ) → Option (List ℕ) → ℕ → Type 0
+-- a text was written to an output, which had the first bytes and has the second; where it is empty,
+-- nothing was written
+abbrev pub Tells : List ℕ → Option (List ℕ) → Option (List ℕ) → Type 0
+Tells told before after = Appends before after told × (told ≡ [] → after ≡ before)
+
+-- there are such texts with this exit status; the first was written to standard output, and the second
+-- to standard error
+abbrev pub Prints : (List ℕ → List ℕ → ℕ → Type 0) → Standard → Standard → ℕ → Type 0
 Prints IsResult before after status =
-    (text : List ℕ) × IsResult text status × Appends before after text
+    (text : List ℕ) × (told : List ℕ) × IsResult text told status
+    × Appends before.output after.output text × Tells told before.errors after.errors
 
 -- the same of commands whose only exit status is 0
 abbrev pub WithZero : (List ℕ → Type 0) → List ℕ → ℕ → Type 0
 WithZero IsResult text status = (status ≡ 0) × IsResult text
 
--- a finished task's text and exit status, over files and a standard input with these bytes, and with
--- these words for the addresses of `--never`; a task that writes as it goes on has no such text
+-- the same of commands that say nothing on standard error
+abbrev pub Silently : (List ℕ → ℕ → Type 0) → List ℕ → List ℕ → ℕ → Type 0
+Silently IsResult text told status = (told ≡ []) × IsResult text status
+
+-- the same of a run: why it stopped is its exit status, and is said on standard error where what it
+-- prints doesn't say it
+abbrev pub OfRun : Shown → (List ℕ → RunStop → Type 0) → List ℕ → List ℕ → ℕ → Type 0
+OfRun shown IsRan text told status =
+    (stop : RunStop) × IsRan text stop × (told ≡ told_text stop shown) × (status ≡ status_of stop)
+
+-- a finished task's text, what it says on standard error, and its exit status, over files and a standard
+-- input with these bytes, and with these words for the addresses of `--never`; a task that writes as it
+-- goes on has no such text
 abbrev pub IsResultOf :
-    List Text → Task → (Text → Option (List ℕ)) → Option (List ℕ) → List ℕ → ℕ → Type 0
-IsResultOf never Demo files input = WithZero IsDemo
-IsResultOf never (Run task) files input = IsRun task (image_file files task.image.now) input
+    List Text → Task → (Text → Option (List ℕ)) → Option (List ℕ) → List ℕ → List ℕ → ℕ → Type 0
+IsResultOf never Demo files input = Silently (WithZero IsDemo)
+IsResultOf never (Run task) files input =
+    OfRun task.shown (IsRun task (image_file files task.image.now) input)
 IsResultOf never (RunInThreads task) files input =
-    IsRunInThreads task (image_file files task.run.image.now)
+    OfRun task.run.shown (IsRunInThreads task (image_file files task.run.image.now))
 IsResultOf never (RunDriven task) files input =
-    IsDriven task files (image_file files task.run.image.now)
+    OfRun task.run.shown (IsDriven task files (image_file files task.run.image.now))
 IsResultOf never (Schedule task) files input =
-    WithZero (IsScheduled task files (image_file files task.image.now))
-IsResultOf never (Console task) files input = λ text status. ⊥
-IsResultOf never (Trace task) files input = λ text status. ⊥
-IsResultOf never (Debug task) files input = λ text status. ⊥
-IsResultOf never (Gdb task) files input = λ text status. ⊥
+    Silently (WithZero (IsScheduled task files (image_file files task.image.now)))
+IsResultOf never (Console task) files input = λ text told status. ⊥
+IsResultOf never (Trace task) files input = λ text told status. ⊥
+IsResultOf never (Debug task) files input = λ text told status. ⊥
+IsResultOf never (Gdb task) files input = λ text told status. ⊥
 IsResultOf never (Search task) files input =
-    IsSearched task never files (image_file files task.image.now)
+    Silently (IsSearched task never files (image_file files task.image.now))
 IsResultOf never (Replay task) files input =
-    IsReplayed task (image_file files task.image.now) (files task.text.now)
+    Silently (IsReplayed task (image_file files task.image.now) (files task.text.now))
 IsResultOf never (Audit task) files input =
-    IsAudited task (image_file files task.image.now) (files task.text.now) input
-IsResultOf never (Assemble task) files input = WithZero (IsAssembled task input)
+    Silently (IsAudited task (image_file files task.image.now) (files task.text.now) input)
+IsResultOf never (Assemble task) files input = Silently (WithZero (IsAssembled task input))
 IsResultOf never (Disassemble task) files input =
-    WithZero (IsDisassembled task (image_file files task.image.now))
+    Silently (WithZero (IsDisassembled task (image_file files task.image.now)))
 
 -- a kernel ran at the terminal, and why it stopped was written to standard error
 pub record IsServed
@@ -187,8 +205,8 @@ ReadsNoInput (Disassemble task) = Unit {0}
 abbrev pub LeavesInput : Task → Option (List ℕ) → Option (List ℕ) → Type 0
 LeavesInput task before after = ReadsNoInput task → after ≡ before
 
--- a task was finished with this exit status: one that writes as it goes on; or it printed its text,
--- and nothing was written to standard error
+-- a task was finished with this exit status: one that writes as it goes on; or it printed its text, and
+-- said what it says on standard error
 abbrev pub FinishesAs :
     Option Going → List Text → Task → (Text → Option (List ℕ)) → Standard → Standard → ℕ → Type 0
 FinishesAs (Some (serving console)) never task files before after status =
@@ -200,8 +218,8 @@ FinishesAs (Some (debugging debug)) never task files before after status =
 FinishesAs (Some (answering gdb)) never task files before after status =
     IsGdbOut gdb files before after status
 FinishesAs None never task files before after status =
-    Prints (IsResultOf never task files before.input) before.output after.output status
-    × (after.errors ≡ before.errors) × LeavesInput task before.input after.input
+    Prints (IsResultOf never task files before.input) before after status
+    × LeavesInput task before.input after.input
 
 abbrev pub Finishes :
     List Text → Task → (Text → Option (List ℕ)) → Standard → Standard → ℕ → Type 0

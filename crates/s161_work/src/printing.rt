@@ -1,18 +1,22 @@
 //! The tasks whose text is complete before it is written.
 
-ghost use Rattle.std.specs.Prelude.{◌≡◌, ◌≢◌, ◌≤◌, IfErr, IfOk, None, map};
+ghost use Rattle.std.specs.Prelude.{◌≡◌, ◌≢◌, ◌≤◌, [], IfErr, IfOk, None, OnOk, map, string_bytes};
 ghost use Rattle.m161_order.specs.Order.{order_fault};
 ghost use Rattle.s161_base.specs.Asked.{AsksFor, IsBeforeInput, image_files};
 ghost use Rattle.s161_base.specs.Samples.{image_file};
+ghost use Rattle.s161_base.specs.Streams.{AppendsSome};
 ghost use Rattle.s161_command.specs.Commands.{HasLimits};
-ghost use Rattle.s161_run.specs.Schedules.{IsScheduled, IsScheduledFault, schedule_files};
 ghost use Rattle.s161_run.specs.Demos.{IsDemo};
+ghost use Rattle.s161_run.specs.Driven.{IsDriven, IsDrivenFault, driven_files};
+ghost use Rattle.s161_run.specs.Runs.{IsFaultOf, IsRun, status_of, told_text};
+ghost use Rattle.s161_run.specs.Schedules.{IsScheduled, IsScheduledFault, schedule_files};
+ghost use Rattle.s161_run.specs.Threads.{IsRunInThreads, IsThreadsFault};
 ghost use Rattle.s161_texts.specs.Assemblies.{IsAssembled};
 ghost use Rattle.s161_texts.specs.Listings.{IsDisassembled};
 ghost use Rattle.s161_work.specs.Assemblies.{IsAssemblyFault};
 ghost use Rattle.s161_work.specs.Failures.{Fails, IsTaskFault};
 ghost use Rattle.s161_work.specs.Listings.{IsListingFault};
-ghost use Rattle.s161_work.specs.Works.{IsResultOf, LeavesInput, Prints, WithZero, files_of, going_of};
+ghost use Rattle.s161_work.specs.Works.{IsResultOf, LeavesInput, OfRun, Prints, Tells, WithZero, files_of, going_of, standard};
 
 use s161_base::fault::Fault;
 use s161_base::files::FileSource;
@@ -20,12 +24,15 @@ use s161_base::finished::Finished;
 use s161_base::input::read_input;
 use s161_base::sample::read_image;
 use s161_base::streams::send;
-use s161_command::{AssemblyTask, ListingTask, ScheduleTask, Task};
+use s161_command::{
+    AssemblyTask, DrivenTask, ListingTask, RunTask, ScheduleTask, Shown, Task, ThreadsTask,
+};
 use s161_run::demo::demo;
 use s161_run::driven::run_driven;
 use s161_run::replay::replay;
 use s161_run::run::run;
 use s161_run::schedule::schedule;
+use s161_run::summary::{Ran, status, told};
 use s161_run::threaded::run_in_threads;
 use s161_search::audit::audit;
 use s161_search::search::search;
@@ -36,8 +43,9 @@ use std::io::{Read, Write};
 use std::sync::Wait;
 use std::thread::Threads;
 
-/// Prints the text of a task that writes it at once. Returns the exit status.
-pub(crate) fn print_task<'a, R: Threads + Wait + Sync, F: FileSource, I: Read, O: Write>(
+/// Prints the text of a task that writes it at once, and then what the task says on standard error.
+/// Returns the exit status.
+pub(crate) fn print_task<'a, R: Threads + Wait + Sync, F: FileSource, I: Read, O: Write, E: Write>(
     rt: &R,
     alloc: Global,
     task: Task<'a>,
@@ -45,15 +53,19 @@ pub(crate) fn print_task<'a, R: Threads + Wait + Sync, F: FileSource, I: Read, O
     files: &mut F,
     input: &mut I,
     output: &mut O,
+    errors: &mut E,
 ) -> Result<u8, Fault<'a>>
     requires limits { HasLimits task }
     requires text { going_of task ≡ None }
     ensures finished { IfOk result (Prints (IsResultOf (map (λ word. word.now) never.now) task.entry (F.known files.old)
-        (I.remaining input.old)) (O.contents output.old) (O.contents output.new)) }
+        (I.remaining input.old))
+        (standard (I.remaining input.old) (O.contents output.old) (E.contents errors.old))
+        (standard (I.remaining input.new) (O.contents output.new) (E.contents errors.new))) }
     ensures fault { IfErr result (Fails
         (IsResultOf (map (λ word. word.now) never.now) task.entry (F.known files.old) (I.remaining input.old))
         (IsTaskFault (map (λ word. word.now) never.now) task.entry (F.known files.old) (I.remaining input.old))
-        (O.contents output.old) (O.contents output.new)) }
+        (standard (I.remaining input.old) (O.contents output.old) (E.contents errors.old))
+        (standard (I.remaining input.new) (O.contents output.new) (E.contents errors.new))) }
     ensures unread { LeavesInput task.entry (I.remaining input.old) (I.remaining input.new) }
     ensures asks { AsksFor (files_of task.entry) result (F.asked files.old)
         (F.asked files.new) }
@@ -61,12 +73,26 @@ pub(crate) fn print_task<'a, R: Threads + Wait + Sync, F: FileSource, I: Read, O
         (I.remaining input.new)) }
     ensures within { IfOk result (λ status. (status ≤ 5) × (status ≢ 2)) }
 {
-    let finished = finish(rt, alloc, task, never, files, input)?;
+    let mut said = String::new(alloc);
+    let finished = finish(rt, alloc, task, never, files, input, &mut said)?;
     send(output, &finished.text)?;
+    tell(errors, said.as_str())?;
     Ok(finished.status)
 }
 
-// The text that a task prints, and its exit status.
+// Writes a text, if it isn't empty.
+fn tell<'a, E: Write>(errors: &mut E, said: &str) -> Result<(), Fault<'a>>
+    ensures ok { OnOk result (Tells said.now (E.contents errors.old) (E.contents errors.new)) }
+    ensures err { IfErr result (λ fault. (fault ≡ Fault.Output)
+        × AppendsSome (E.contents errors.old) (E.contents errors.new) said.now) }
+{
+    if said.is_empty() {
+        return Ok(());
+    }
+    send(errors, said.as_bytes())
+}
+
+// The text that a task prints, and its exit status; and what it says on standard error.
 fn finish<'a, R: Threads + Wait + Sync, F: FileSource, I: Read>(
     rt: &R,
     alloc: Global,
@@ -74,11 +100,13 @@ fn finish<'a, R: Threads + Wait + Sync, F: FileSource, I: Read>(
     never: &[&'a str],
     files: &mut F,
     input: &mut I,
+    said: &mut String,
 ) -> Result<Finished, Fault<'a>>
     requires limits { HasLimits task }
     requires text { going_of task ≡ None }
+    requires empty { string_bytes said.old ≡ [] }
     ensures ok { IfOk result (λ done. IsResultOf (map (λ word. word.now) never.now) task.entry (F.known files.old)
-        (I.remaining input.old) done.text.items done.status) }
+        (I.remaining input.old) done.text.items (string_bytes said.new) done.status) }
     ensures fault { IfErr result (IsTaskFault (map (λ word. word.now) never.now) task.entry (F.known files.old)
         (I.remaining input.old)) }
     ensures unread { LeavesInput task.entry (I.remaining input.old) (I.remaining input.new) }
@@ -90,9 +118,9 @@ fn finish<'a, R: Threads + Wait + Sync, F: FileSource, I: Read>(
 {
     match task {
         Task::Demo => finish_demo(alloc),
-        Task::Run(task) => run(alloc, files, input, task),
-        Task::RunInThreads(task) => run_in_threads(rt, alloc, files, task),
-        Task::RunDriven(task) => run_driven(alloc, files, task),
+        Task::Run(task) => finish_scheduled(alloc, files, input, task, said),
+        Task::RunInThreads(task) => finish_threads(rt, alloc, files, task, said),
+        Task::RunDriven(task) => finish_driven(alloc, files, task, said),
         Task::Schedule(task) => finish_schedule(alloc, files, task),
         Task::Console(_) | Task::Trace(_) | Task::Debug(_) | Task::Gdb(_) => unreachable!(),
         Task::Search(task) => search(rt, alloc, files, task, never),
@@ -101,6 +129,87 @@ fn finish<'a, R: Threads + Wait + Sync, F: FileSource, I: Read>(
         Task::Assemble(task) => finish_assembly(alloc, input, task),
         Task::Disassemble(task) => finish_listing(alloc, files, task),
     }
+}
+
+// The text and the exit status of a run; and what it says on standard error.
+fn finish_run<'a>(
+    alloc: Global,
+    ran: Ran,
+    shown: Shown,
+    said: &mut String,
+) -> Result<Finished, Fault<'a>>
+    ensures text { IfOk result (λ done. done.text.items ≡ ran.text.items) }
+    ensures status { IfOk result (λ done. done.status ≡ status_of ran.stop) }
+    ensures said { IfOk result (λ done. string_bytes said.new ≡ told_text ran.stop shown) }
+    ensures err { IfErr result (λ fault. fault ≡ Fault.Memory) }
+{
+    *said = told(alloc, ran.stop, shown)?;
+    Ok(Finished {
+        text: ran.text,
+        status: status(ran.stop),
+    })
+}
+
+// A run under a schedule.
+fn finish_scheduled<'a, F: FileSource, I: Read>(
+    alloc: Global,
+    files: &mut F,
+    input: &mut I,
+    task: RunTask<'a>,
+    said: &mut String,
+) -> Result<Finished, Fault<'a>>
+    ensures ok { IfOk result (λ done. OfRun task.entry.shown (IsRun task.entry
+        (image_file (F.known files.old) task.entry.image.now) (I.remaining input.old))
+        done.text.items (string_bytes said.new) done.status) }
+    ensures fault { IfErr result (IsFaultOf task.entry
+        (image_file (F.known files.old) task.entry.image.now) (I.remaining input.old)) }
+    ensures asks { AsksFor (image_files task.entry.image.now) result (F.asked files.old)
+        (F.asked files.new) }
+    ensures unread { IfErr result (λ fault. IsBeforeInput fault (I.remaining input.old)
+        (I.remaining input.new)) }
+{
+    let ran = run(alloc, files, input, task)?;
+    finish_run(alloc, ran, task.shown, said)
+}
+
+// A run in threads.
+fn finish_threads<'a, R: Threads + Wait + Sync, F: FileSource>(
+    rt: &R,
+    alloc: Global,
+    files: &mut F,
+    task: ThreadsTask<'a>,
+    said: &mut String,
+) -> Result<Finished, Fault<'a>>
+    ensures ok { IfOk result (λ done. OfRun task.entry.run.shown (IsRunInThreads task.entry
+        (image_file (F.known files.old) task.entry.run.image.now))
+        done.text.items (string_bytes said.new) done.status) }
+    ensures fault { IfErr result (IsThreadsFault task.entry
+        (image_file (F.known files.old) task.entry.run.image.now)) }
+    ensures asks { AsksFor (image_files task.entry.run.image.now) result (F.asked files.old)
+        (F.asked files.new) }
+{
+    let ran = run_in_threads(rt, alloc, files, task)?;
+    finish_run(alloc, ran, task.run.shown, said)
+}
+
+// A run by a policy.
+fn finish_driven<'a, F: FileSource>(
+    alloc: Global,
+    files: &mut F,
+    task: DrivenTask<'a>,
+    said: &mut String,
+) -> Result<Finished, Fault<'a>>
+    requires { order_fault task.drive.order ≡ None }
+    ensures ok { IfOk result (λ done. OfRun task.entry.run.shown (IsDriven task.entry (F.known files.old)
+        (image_file (F.known files.old) task.entry.run.image.now))
+        done.text.items (string_bytes said.new) done.status) }
+    ensures fault { IfErr result (IsDrivenFault task.entry
+        (image_file (F.known files.old) task.entry.run.image.now)) }
+    ensures asks { AsksFor (driven_files task.entry) result (F.asked files.old)
+        (F.asked files.new) }
+{
+    let ran = run_driven(alloc, files, task)?;
+    finish_run(alloc, ran, task.run.shown, said)
 }
 
 // The registers that `demo` shows.

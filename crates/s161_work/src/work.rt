@@ -148,6 +148,6 @@ fn do_task<'a, R: Threads + Wait + Sync, F: FileSource, I: Read, O: Write, E: Wr
         | Task::Replay(_)
         | Task::Audit(_)
         | Task::Assemble(_)
-        | Task::Disassemble(_) => print_task(rt, alloc, task, never, files, input, output),
+        | Task::Disassemble(_) => print_task(rt, alloc, task, never, files, input, output, errors),
     }
 }

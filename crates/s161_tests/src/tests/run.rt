@@ -338,7 +338,7 @@ static EMPTY_SCHEDULES: [Case; 2] = [
     },
 ];
 
-static OUTPUTS: [Case; 7] = [
+static OUTPUTS: [Case; 8] = [
     // the log alone, and a schedule
     Case {
         words: &["s161", "run", "image", "--only-log"],
@@ -346,7 +346,7 @@ static OUTPUTS: [Case; 7] = [
         schedule: "s 0 2\n",
         status: 0,
         output: &[&[POWER_OFF_MACHINE, "m161 log 2 word\ns 0 ran\ns 0 off\n"]],
-        errors: "",
+        errors: "stop: off\n",
     },
     Case {
         words: &["s161", "schedule", "image", "--turns", "1"],
@@ -380,6 +380,15 @@ static OUTPUTS: [Case; 7] = [
             &["stop: end\n"],
         ],
         errors: "",
+    },
+    // the console's bytes alone
+    Case {
+        words: &["s161", "run", "image", "--only-output"],
+        program: &SEND_H,
+        schedule: "s 0 3\no\n",
+        status: 3,
+        output: &[&["H"]],
+        errors: "stop: end\n",
     },
     // two processors, and one that isn't started yet
     Case {
@@ -424,7 +433,7 @@ static UNITS: [Case; 6] = [
         schedule: "s 0 7\n",
         status: 3,
         output: &[&[LINKED_MACHINE, "m161 log 2 word\n", SIX, "s 0 ran\n"]],
-        errors: "",
+        errors: "stop: end\n",
     },
     Case {
         words: &["s161", "run", "image", "--link", "word", "--only-log"],
@@ -432,7 +441,7 @@ static UNITS: [Case; 6] = [
         schedule: "s 0 7\n",
         status: 3,
         output: &[&[LINKED_MACHINE, "m161 log 2 word\n", SIX, "s 0 ran\n"]],
-        errors: "",
+        errors: "stop: end\n",
     },
     Case {
         words: &["s161", "run", "image", "--link=line", "--only-log"],
@@ -445,7 +454,7 @@ static UNITS: [Case; 6] = [
             SIX,
             "s 0 trap 9 80000080\n",
         ]],
-        errors: "",
+        errors: "stop: end\n",
     },
     Case {
         words: &[
@@ -461,7 +470,7 @@ static UNITS: [Case; 6] = [
         schedule: "",
         status: 3,
         output: &[&[LINKED_MACHINE, "m161 tail 2 line 6\ns 0 trap 9 80000080\n"]],
-        errors: "",
+        errors: "stop: end\n",
     },
     Case {
         words: &[
@@ -482,7 +491,7 @@ static UNITS: [Case; 6] = [
             SIX,
             "s 0 trap 9 80000080\n",
         ]],
-        errors: "",
+        errors: "stop: end\n",
     },
     Case {
         words: &["s161", "trace", "image", "--link=line", "--from=6"],

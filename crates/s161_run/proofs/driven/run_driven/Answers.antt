@@ -11,7 +11,7 @@ use Rattle.s161_base.specs.Samples.{image_file}
 use Rattle.s161_base.specs.Sizes.{conf_of}
 use Rattle.s161_run.specs.declared.events.RunStop.{RunStop}
 use Rattle.s161_run.specs.Driven.{AreKeys}
-use Rattle.s161_run.specs.Runs.{log_of_run, status_of, summary_text}
+use Rattle.s161_run.specs.Runs.{log_of_run, summary_text}
 use Rattle.s161_run.specs.helpers.Shown.{room_of}
 use Rattle.s161_run.proofs.Keeping.{keys_are, last_unread}
 use Rattle.s161_run.proofs.Logging.{kept_fit, logged, run_leads, run_shown}
@@ -56,8 +56,8 @@ returns-clause-ok g c =
           (ap (λ (s : State). s.made) boots.1.state_is) (ap (λ (s : State). s.conf) boots.1.state_is ∙ boots.1.conf_is) (run_leads made.1)
           (logged (room_of shown conf.log) c.in_ok-log.log c.make_driven.new.notes made.0
           (c.in_ok-log.ensures.0 ∙ ap (λ (x : Conf). room_of shown x.log) c.conf_of-conf.ensures) c.in_ok-log.ensures.1 made.2)
-          ∙ ap (λ (stop : RunStop). summary_text log state stop shown) c.stop_of-stop.ensures;
-      status_is = c.in_ok-done.ensures.status ∙ ap status_of c.stop_of-stop.ensures;
+          ∙ ap (λ (stop : RunStop). summary_text log state stop shown) (sym c.in_ok-done.ensures.stop);
+      stop_is = c.in_ok-done.ensures.stop ∙ c.stop_of-stop.ensures;
     }
 
 pub returns-in_err-file-clause-asks : goal.returns-in_err-file-clause-asks

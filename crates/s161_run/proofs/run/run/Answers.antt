@@ -12,7 +12,8 @@ use Rattle.s161_base.proofs.Failing.{schedule_failed, state_booted, state_failed
 use Rattle.s161_base.specs.Known.{IsText}
 use Rattle.s161_base.specs.Samples.{image_file}
 use Rattle.s161_base.specs.Sizes.{conf_of}
-use Rattle.s161_run.specs.Runs.{IsFaultOf}
+use Rattle.s161_run.specs.declared.events.RunStop.{RunStop}
+use Rattle.s161_run.specs.Runs.{IsFaultOf, MakesEvents, log_of_run, summary_text}
 use Rattle.s161_run.specs.helpers.Shown.{room_of}
 use Rattle.s161_run.proofs.Logging.{kept_fit, logged, run_shown}
 use Rattle.s161_run.proofs.run.run.Goals as goal
@@ -46,17 +47,16 @@ returns-clause-ok g c =
       is_text = subst IsText (sym c.as_str.ensures.value) c.in_ok-schedule.schedule.ok;
       events = c.in_ok-events.events;
       is_schedule = c.in_ok-events.ensures.found;
-      stop = c.in_ok-stop.stop;
       entries = made.0;
       state = c.make_events.new.core.state;
-      makes = made.1;
+      makes = subst (λ stop. MakesEvents booted c.in_ok-events.events stop made.0 c.make_events.new.core.state) (sym c.in_ok-done.ensures.stop) made.1;
       text_is =
           c.in_ok-done.ensures.text
           ∙ run_shown c.args.task.shown conf file made.0 c.make_events.new.notes.items booted c.make_events.new.core.state c.in_ok-stop.stop
           (ap (λ (s : State). s.made) boots.1.state_is) (ap (λ (s : State). s.conf) boots.1.state_is ∙ boots.1.conf_is) made.1.leads
           (logged (room_of c.args.task.shown conf.log) c.in_ok-log.log c.make_events.new.notes made.0
-          (c.in_ok-log.ensures.0 ∙ ap (λ (x : Conf). room_of c.args.task.shown x.log) c.conf_of-conf.ensures) c.in_ok-log.ensures.1 made.2);
-      status_is = c.in_ok-done.ensures.status;
+          (c.in_ok-log.ensures.0 ∙ ap (λ (x : Conf). room_of c.args.task.shown x.log) c.conf_of-conf.ensures) c.in_ok-log.ensures.1 made.2)
+          ∙ ap (λ (stop : RunStop). summary_text (log_of_run conf file made.0) c.make_events.new.core.state stop c.args.task.shown) (sym c.in_ok-done.ensures.stop);
     }
 
 pub returns-in_err-events-clause-fault : goal.returns-in_err-events-clause-fault

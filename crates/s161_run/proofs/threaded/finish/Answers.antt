@@ -15,7 +15,7 @@ returns-clause-text c =
     let log = shown_log m.start.conf c.args.file.now m.base.made m.log in
     let shown = c.args.shown in
     let is = subst (λ text. IsShown shown text log) (sym c.as_bytes.ensures.value) c.in_ok-log.ensures in
-    c.in_ok-summary.ensures
+    c.in_ok-text.ensures
     ∙ ap (λ (s : State). summary_text c.as_bytes.result.now s c.stop_of-stop.result shown) c.core.ensures
     ∙ shown_text shown c.as_bytes.result.now log m.state c.stop_of-stop.result is
     ∙ ap (λ (stop : RunStop). summary_text log m.state stop shown) c.stop_of-stop.ensures

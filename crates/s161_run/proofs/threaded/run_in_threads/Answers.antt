@@ -8,6 +8,7 @@ use Rattle.s161_base.specs.Asked.{image_files}
 use Rattle.s161_base.specs.Faults.{BootsTo, fault_of_boot}
 use Rattle.s161_base.specs.Samples.{image_file}
 use Rattle.s161_base.specs.Sizes.{conf_of}
+use Rattle.s161_run.specs.declared.events.RunStop.{RunStop}
 use Rattle.s161_run.specs.Runs.{shown_log, summary_text}
 use Rattle.s161_run.specs.Threads.{IsThreadsFault, stop_of}
 use Rattle.s161_run.specs.helpers.Threads.{number_of}
@@ -40,8 +41,10 @@ returns-clause-ok g c =
       text_is =
           c.in_ok-done.ensures.text
           ∙ ap (λ (conf : Conf). summary_text (shown_log conf file report.machine.base.made report.machine.log) report.machine.state
-          (stop_of report.off report.machine.state.conflict) c.args.task.run.shown) same;
-      status_is = c.in_ok-done.ensures.status;
+          (stop_of report.off report.machine.state.conflict) c.args.task.run.shown) same
+          ∙ ap (λ (stop : RunStop). summary_text (shown_log conf file report.machine.base.made report.machine.log) report.machine.state stop c.args.task.run.shown)
+          (sym c.in_ok-done.ensures.stop);
+      stop_is = c.in_ok-done.ensures.stop;
     }
 
 pub returns-in_err-report-clause-fault : goal.returns-in_err-report-clause-fault

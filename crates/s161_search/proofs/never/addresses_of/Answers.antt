@@ -1,4 +1,4 @@
-use Rattle.std.proofs.Common.{arith, length}
+use Rattle.std.proofs.Common.{arith}
 use Rattle.std.proofs.lemmas.Result.{err_from_is_err_and}
 use Rattle.s161_search.proofs.Failing.{word_unknown, words_all, words_more}
 use Rattle.s161_search.proofs.never.addresses_of.Goals as goal

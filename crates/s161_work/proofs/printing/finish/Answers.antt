@@ -3,13 +3,13 @@ use Rattle.s161_work.proofs.printing.finish.Goals as goal
 
 -- the task is the arm's
 pub returns-in-Run-clause-ok : goal.returns-in-Run-clause-ok
-returns-in-Run-clause-ok g c = rw c.in-Run.is c.run.ensures.ok
+returns-in-Run-clause-ok g c = rw c.in-Run.is c.finish_scheduled.ensures.ok
 
 pub returns-in-RunInThreads-clause-ok : goal.returns-in-RunInThreads-clause-ok
-returns-in-RunInThreads-clause-ok g c = rw c.in-RunInThreads.is c.run_in_threads.ensures.ok
+returns-in-RunInThreads-clause-ok g c = rw c.in-RunInThreads.is c.finish_threads.ensures.ok
 
 pub returns-in-RunDriven-clause-ok : goal.returns-in-RunDriven-clause-ok
-returns-in-RunDriven-clause-ok g c = rw c.in-RunDriven.is c.run_driven.ensures.ok
+returns-in-RunDriven-clause-ok g c = rw c.in-RunDriven.is c.finish_driven.ensures.ok
 
 pub returns-in-Replay-clause-ok : goal.returns-in-Replay-clause-ok
 returns-in-Replay-clause-ok g c = rw c.in-Replay.is c.replay.ensures.ok
@@ -30,13 +30,13 @@ pub returns-in-Demo-clause-asks : goal.returns-in-Demo-clause-asks
 returns-in-Demo-clause-asks g c = rw c.in-Demo.is (demo_asks c.finish_demo.result (g.F.FileSource.asked c.args.files.now) c.finish_demo.ensures.fault)
 
 pub returns-in-Run-clause-asks : goal.returns-in-Run-clause-asks
-returns-in-Run-clause-asks g c = rw c.in-Run.is c.run.ensures.asks
+returns-in-Run-clause-asks g c = rw c.in-Run.is c.finish_scheduled.ensures.asks
 
 pub returns-in-RunInThreads-clause-asks : goal.returns-in-RunInThreads-clause-asks
-returns-in-RunInThreads-clause-asks g c = rw c.in-RunInThreads.is c.run_in_threads.ensures.asks
+returns-in-RunInThreads-clause-asks g c = rw c.in-RunInThreads.is c.finish_threads.ensures.asks
 
 pub returns-in-RunDriven-clause-asks : goal.returns-in-RunDriven-clause-asks
-returns-in-RunDriven-clause-asks g c = rw c.in-RunDriven.is c.run_driven.ensures.asks
+returns-in-RunDriven-clause-asks g c = rw c.in-RunDriven.is c.finish_driven.ensures.asks
 
 pub returns-in-Schedule-clause-asks : goal.returns-in-Schedule-clause-asks
 returns-in-Schedule-clause-asks g c = rw c.in-Schedule.is c.finish_schedule.ensures.asks
@@ -66,10 +66,10 @@ pub returns-in-Demo-clause-before : goal.returns-in-Demo-clause-before
 returns-in-Demo-clause-before g c = result_before c.finish_demo.result (g.I.Read.remaining c.args.input.now)
 
 pub returns-in-RunInThreads-clause-before : goal.returns-in-RunInThreads-clause-before
-returns-in-RunInThreads-clause-before g c = result_before c.run_in_threads.result (g.I.Read.remaining c.args.input.now)
+returns-in-RunInThreads-clause-before g c = result_before c.finish_threads.result (g.I.Read.remaining c.args.input.now)
 
 pub returns-in-RunDriven-clause-before : goal.returns-in-RunDriven-clause-before
-returns-in-RunDriven-clause-before g c = result_before c.run_driven.result (g.I.Read.remaining c.args.input.now)
+returns-in-RunDriven-clause-before g c = result_before c.finish_driven.result (g.I.Read.remaining c.args.input.now)
 
 pub returns-in-Schedule-clause-before : goal.returns-in-Schedule-clause-before
 returns-in-Schedule-clause-before g c = result_before c.finish_schedule.result (g.I.Read.remaining c.args.input.now)

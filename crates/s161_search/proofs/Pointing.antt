@@ -1,0 +1,177 @@
+use Rattle.std.proofs.Common.{◌≡◌, ◌∙◌, ap, sym, subst, ℕ, zero, suc, ◌+◌, ◌-◌, ◌≤◌, List, [], ◌++◌, length, arith}
+use Rattle.std.proofs.lemmas.List.{length-append, length-map, map-append}
+use Rattle.std.specs.Prelude.{slice_get}
+use Rattle.m161_delays.specs.Lists.{AgreeBelow, times}
+use Rattle.m161_drive.specs.declared.cursor.Cursor.{Cursor}
+use Rattle.m161_drive.specs.declared.orders.OrderState.TheVariants.{ByDelays}
+use Rattle.m161_drive.specs.declared.turns.Turns.{Turns}
+use Rattle.m161_drive.specs.Choice.{cursor_at}
+use Rattle.m161_drive.specs.Delayed.{DelayState}
+use Rattle.m161_drive.specs.Drive.{Chooses}
+use Rattle.m161_drive.specs.GoingOn.{IsWithLeft}
+use Rattle.m161_drive.specs.Policy.{Rules}
+use Rattle.m161_drive.proofs.Driving.{chooses_append}
+use Rattle.m161_drive.proofs.Passing.{behind_all, behind_more, count_behind}
+use Rattle.m161_judge.specs.Begun.{IsBegun}
+use Rattle.m161_machine.specs.declared.event.Entry.{Entry}
+use Rattle.m161_machine.specs.declared.event.Event.{Event}
+use Rattle.m161_machine.specs.History.{events_of}
+use Rattle.m161_machine.specs.State.{State}
+use Rattle.m161_order.specs.declared.delays.Delays.{Delays}
+use Rattle.m161_order.specs.declared.order.Order.TheVariants.{Delayed}
+use Rattle.m161_order.specs.Delays.{behind, delays_of}
+use Rattle.m161_places.specs.Going.{Passes, PassesNoting}
+use Rattle.m161_places.specs.Laws.{with_delays}
+use Rattle.m161_places.proofs.Exchanging.{go_alike}
+use Rattle.m161_places.proofs.Moving.{other_order}
+use Rattle.s161_command.specs.declared.task.SearchTask.{SearchTask}
+use Rattle.s161_run.specs.Driven.{rules_of}
+use Rattle.s161_search.specs.Given.{Given}
+use Rattle.s161_search.specs.declared.points.RunPoint.{RunPoint}
+use Rattle.s161_search.specs.helpers.Points.{IsPointOf}
+
+-- Points of the runs of lists of delays.
+
+-- the delays that are left further on
+
+behind_sum : (m k : ℕ) (ns : List ℕ) → behind k (behind m ns) ≡ behind (m + k) ns
+behind_sum zero k ns = let same : k ≡ zero + k = omega arith in ap (behind k) (behind_all ns) ∙ ap (λ j. behind j ns) same
+behind_sum (suc m) k ns =
+    let next : suc (m + k) ≡ suc m + k = omega arith in
+    ap (behind k) (sym (behind_more m ns)) ∙ behind_sum m k (behind 1 ns) ∙ behind_more (m + k) ns ∙ ap (λ j. behind j ns) next
+
+times_behind : (m i : ℕ) (ns : List ℕ) → times i (behind m ns) ≡ times (m + i) ns
+times_behind zero i ns = let same : i ≡ zero + i = omega arith in ap (times i) (behind_all ns) ∙ ap (λ j. times j ns) same
+times_behind (suc m) i ns =
+    let next : m + i + 1 ≡ suc m + i = omega arith in
+    ap (times i) (sym (behind_more m ns)) ∙ times_behind m i (behind 1 ns) ∙ count_behind (m + i) ns ∙ ap (λ j. times j ns) next
+
+agree_behind : (m k place : ℕ) (a b : List ℕ) → k ≤ place - m → AgreeBelow place a b → AgreeBelow k (behind m a) (behind m b)
+agree_behind m k place a b few h i less = times_behind m i a ∙ h (m + i) (omega (arith, few, less)) ∙ sym (times_behind m i b)
+
+-- an order by delays has one state
+same_state : (c : Cursor) (d e : DelayState) → c.order ≡ ByDelays d → c.order ≡ ByDelays e → d ≡ e
+same_state c d e h k = let same : ByDelays d ≡ ByDelays e = sym h ∙ k in cc
+
+-- the cursor at the start of a run by delays
+delayed_start : (task : SearchTask) (given : Given) (steps : ℕ) (delays : Delays) (s : State) (rules : Rules) →
+    rules ≡ rules_of (record task.drive { order = Delayed steps delays }) given.keys →
+    cursor_at rules s ≡ with_delays (record { steps = steps; made = 0 }) (delays_of delays) (cursor_at (rules_of task.drive given.keys) s)
+delayed_start task given steps delays s rules rules_are = ap (λ r. cursor_at r s) rules_are
+
+-- the point before the first event is one of each list's run
+pub starts_all : (s : State) (task : SearchTask) (given : Given) (steps : ℕ) (delays : Delays) (rules : Rules) (point : RunPoint) →
+    rules ≡ rules_of (record task.drive { order = Delayed steps delays }) given.keys → point.core.state ≡ s → point.cursor ≡ cursor_at rules s →
+    point.events.items ≡ [] → point.passed ≡ 0 → (numbers : List ℕ) → IsPointOf s task given steps numbers point
+starts_all s task given steps delays rules point rules_are state_is cursor_is none passed_is numbers =
+    let turns : Turns = record { steps = steps; made = 0 } in
+    let start = cursor_at (rules_of task.drive given.keys) s in
+    let at : point.cursor ≡ with_delays turns (delays_of delays) start = cursor_is ∙ delayed_start task given steps delays s rules rules_are in
+    let left : behind point.passed numbers ≡ numbers = ap (λ k. behind k numbers) passed_is ∙ behind_all numbers in
+    record {
+      order = record { turns = turns; left = delays_of delays };
+      order_is = ap (λ (c : Cursor). c.order) at;
+      entries = [];
+      few = omega arith;
+      events_are = none;
+      chosen_are = (λ i. with_delays turns (left i) (at i), state_is);
+    }
+
+-- a copy is one of the same runs
+pub copied : (s : State) (task : SearchTask) (given : Given) (steps : ℕ) (left : List ℕ) (old new : RunPoint) →
+    IsWithLeft old.cursor left new.cursor → new.core.state ≡ old.core.state → new.events.items ≡ old.events.items → new.passed ≡ old.passed →
+    (numbers : List ℕ) → IsPointOf s task given steps numbers old → IsPointOf s task given steps numbers new
+copied s task given steps left old new has_left state_is events_are passed_is numbers h =
+    let rules = rules_of task.drive given.keys in
+    let keys = slice_get given.keys in
+    let start = with_delays (record { steps = steps; made = 0 }) numbers (cursor_at rules s) in
+    let d = has_left.0 in
+    let same : h.order ≡ d = same_state old.cursor h.order d h.order_is has_left.1 in
+    let cursor : with_delays h.order.turns (behind old.passed numbers) old.cursor ≡ with_delays d.turns (behind new.passed numbers) new.cursor =
+    (λ i. with_delays (same i).turns (behind (sym passed_is i) numbers) old.cursor)
+    ∙ ap (with_delays d.turns (behind new.passed numbers)) (sym has_left.2) in
+    record {
+      order = record d { left = left };
+      order_is = ap (λ (c : Cursor). c.order) has_left.2;
+      entries = h.entries;
+      few = h.few;
+      events_are = events_are ∙ h.events_are;
+      chosen_are =
+          subst (λ t. Chooses rules keys start s h.entries (with_delays d.turns (behind new.passed numbers) new.cursor) t) (sym state_is)
+          (subst (λ c. Chooses rules keys start s h.entries c old.core.state) cursor h.chosen_are);
+    }
+
+-- the first events of a list's run, and where they led
+pub begun : (s t : State) (task : SearchTask) (given : Given) (steps : ℕ) (delays : Delays) (rules : Rules) (point : RunPoint) (c : Cursor)
+    (events : List Event) → rules ≡ rules_of (record task.drive { order = Delayed steps delays }) given.keys →
+    IsWithLeft point.cursor (behind point.passed (delays_of delays)) c → t ≡ point.core.state → events ≡ point.events.items →
+    IsPointOf s task given steps (delays_of delays) point → IsBegun rules task.drive.events s c t events
+begun s t task given steps delays rules point c events rules_are has_left state_is events_are h =
+    let plain = rules_of task.drive given.keys in
+    let listed = rules_of (record task.drive { order = Delayed steps delays }) given.keys in
+    let keys = slice_get given.keys in
+    let left = behind point.passed (delays_of delays) in
+    let start = with_delays (record { steps = steps; made = 0 }) (delays_of delays) (cursor_at plain s) in
+    let there = with_delays h.order.turns left point.cursor in
+    let same : h.order ≡ has_left.0 = same_state point.cursor h.order has_left.0 h.order_is has_left.1 in
+    let cursor : there ≡ c = (λ i. with_delays (same i).turns left point.cursor) ∙ sym has_left.2 in
+    let run : Chooses listed keys start s h.entries there point.core.state =
+    other_order plain plain.order (Delayed steps delays) keys h.entries start there s point.core.state h.chosen_are in
+    subst (λ r. IsBegun r task.drive.events s c t events) (sym rules_are) (record {
+      entries = h.entries;
+      few = h.few;
+      events_are = events_are ∙ h.events_are;
+      chosen_are =
+          subst (λ u. Chooses listed keys start s h.entries c u) (sym state_is)
+          (subst (λ y. Chooses listed keys start s h.entries y point.core.state) cursor run);
+    })
+
+-- further on along the run of a list, a point is one of each list's that agrees with it below the place
+pub gone_on : (s : State) (task : SearchTask) (given : Given) (steps place n most made : ℕ) (delays : Delays) (rules : Rules) (old new : RunPoint)
+    (c : Cursor) → rules ≡ rules_of (record task.drive { order = Delayed steps delays }) given.keys →
+    IsWithLeft old.cursor (behind old.passed (delays_of delays)) c →
+    PassesNoting rules (slice_get rules.keys) n most c old.core.state old.events.items made new.cursor new.core.state new.events.items →
+    n ≡ task.drive.events - length old.events.items → most ≡ place - old.passed → new.passed ≡ old.passed + made →
+    (others : List ℕ) → AgreeBelow place (delays_of delays) others → IsPointOf s task given steps others old → IsPointOf s task given steps others new
+gone_on s task given steps place n most made delays rules old new c rules_are has_left went n_is most_is passed_is others agree h =
+    let plain = rules_of task.drive given.keys in
+    let listed = rules_of (record task.drive { order = Delayed steps delays }) given.keys in
+    let keys = slice_get given.keys in
+    let start = with_delays (record { steps = steps; made = 0 }) others (cursor_at plain s) in
+    let a = behind old.passed (delays_of delays) in
+    let b = behind old.passed others in
+    let turns = h.order.turns in
+    let same : has_left.0 ≡ h.order = same_state old.cursor has_left.0 h.order has_left.1 h.order_is in
+    let from : c ≡ with_delays turns a old.cursor = has_left.2 ∙ (λ i. with_delays (same i).turns a old.cursor) in
+    let es = went.0 in
+    let passes : Passes listed keys (with_delays turns a old.cursor) old.core.state es new.cursor new.core.state made =
+    subst (λ x. Passes listed keys x old.core.state es new.cursor new.core.state made) from
+    (subst (λ r. Passes r (slice_get r.keys) c old.core.state es new.cursor new.core.state made) rules_are went.1) in
+    let few : made ≤ place - old.passed = let few = went.3 in omega (arith, few, most_is) in
+    let on = go_alike listed keys turns old.cursor old.core.state a b es new.cursor new.core.state made
+    (agree_behind old.passed made place (delays_of delays) others few agree) passes in
+    let end = on.0 in
+    let x = on.1 in
+    let run : Chooses plain keys (with_delays turns b old.cursor) old.core.state es (with_delays end (behind made b) x) new.core.state =
+    other_order plain (Delayed steps delays) plain.order keys es (with_delays turns b old.cursor) (with_delays end (behind made b) x) old.core.state
+    new.core.state on.3 in
+    let left : behind made b ≡ behind new.passed others = behind_sum old.passed made others ∙ ap (λ m. behind m others) (sym passed_is) in
+    let there : with_delays end (behind made b) x ≡ with_delays end (behind new.passed others) new.cursor =
+    ap (λ ns. with_delays end ns x) left ∙ ap (with_delays end (behind new.passed others)) (sym on.2) in
+    record {
+      order = record { turns = end; left = behind made a };
+      order_is = ap (λ (y : Cursor). y.order) on.2;
+      entries = h.entries ++ es;
+      few =
+          let before = h.few in
+          let more = went.2 in
+          let sum = length-append h.entries es in
+          let size = ap length h.events_are ∙ length-map h.entries (λ (e : Entry). e.event) in
+          omega (arith, before, more, sum, size, n_is);
+      events_are =
+          went.4 ∙ ap (λ xs. xs ++ events_of es) h.events_are ∙ sym (map-append (λ (e : Entry). e.event) h.entries es);
+      chosen_are =
+          subst (λ y. Chooses plain keys start s (h.entries ++ es) y new.core.state) there
+          (chooses_append plain keys h.entries es start (with_delays turns b old.cursor) (with_delays end (behind made b) x) s old.core.state
+          new.core.state h.chosen_are run);
+    }

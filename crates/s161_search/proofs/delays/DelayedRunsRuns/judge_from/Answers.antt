@@ -1,0 +1,9 @@
+use Rattle.s161_search.specs.helpers.Inputs.{given_of}
+use Rattle.s161_search.proofs.Judging.{list_judged}
+use Rattle.s161_search.proofs.delays.DelayedRunsRuns.judge_from.Goals as goal
+
+pub returns-clause-ok : goal.returns-clause-ok
+returns-clause-ok c =
+    let self = c.args.self.now in
+    list_judged self.booted.now self.task (given_of self.inputs.now) self.turns c.args.delays.now c.in_ok-run.run' c.tested.result
+    c.in_ok-run.ensures.ok c.tested.ensures
