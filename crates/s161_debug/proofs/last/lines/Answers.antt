@@ -1,0 +1,1 @@
+use Rattle.s161_debug.proofs.last.lines.Goals as goal
