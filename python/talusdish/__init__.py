@@ -19,11 +19,12 @@ from ._machine import (
     Conflict, Console, Doing, Entries, Entry, Event, Image, Kind, Machine, Memory, Outcome, Processor, Processors, Run, Stop, assemble,
 )
 from ._orders import Order, Priorities, Random, Seeded, Turns
+from ._trace import TraceLine
 
 __all__ = [
     "AssemblyError", "BadConf", "BadEntry", "BadHeaderTable", "BadProcessor", "BootError", "Conflict", "Console", "Doing", "Entries", "Entry",
     "Event", "FileLargerThanMemory", "Image",
     "KeyFull", "Kind", "Machine", "Memory", "NoStretch", "NoTurn", "NotElf32Big", "NotExecutable", "NotMips", "NothingSent", "Off",
     "Order", "Outcome", "PlanError", "Priorities", "Processor", "Processors", "Random", "Refusal", "Run", "Seeded", "SegmentOutsideFile",
-    "SegmentOutsideRam", "Stop", "TalusdishError", "TooManyChanges", "Truncated", "Turns", "Worn", "assemble",
+    "SegmentOutsideRam", "Stop", "TalusdishError", "TooManyChanges", "TraceLine", "Truncated", "Turns", "Worn", "assemble",
 ]

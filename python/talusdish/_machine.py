@@ -15,6 +15,7 @@ from ._library import (
     ALL_RIGHT, NO_MEMORY, RUN_OFF, RUN_STUCK, BoardView, Clash, Fault, Goal, Logged, RowWords, Shown, Size, Slot, Told, lib,
 )
 from ._orders import Order, Turns, Seeded, plan_of, within
+from ._trace import TraceLine
 
 
 class Doing(Enum):
@@ -320,9 +321,10 @@ class Machine:
 
     def trace(
         self, order: Order = Turns(1), events: int = 1000, keys: bytes = b"", gap: int | None = None, transfer: int = 4, names: bool = False
-    ) -> Iterator[str]:
-        """Runs as `run` does, and gives a line for each event, as `s161 trace` prints it; with `names` registers have their
-        names. The run is made by this call, before the first line is asked for. Raises also MemoryError: no event is made then."""
+    ) -> Iterator[TraceLine]:
+        """Runs as `run` does, and gives a line for each event, as `s161 trace` prints it, with its parts by name; with `names`
+        registers have their names. The run is made by this call, before the first line is asked for. Raises also MemoryError: no
+        event is made then."""
         made, plan = c.c_uint64(), plan_of(order, transfer, gap)
         with _alone(self._lock):
             answer = lib.talusdish_trace(self._slot, plan, keys, len(keys), names, within("events", events, 64), made)
@@ -330,7 +332,7 @@ class Machine:
                 raise MemoryError("talusdish")
             _run(made.value, answer)
             text = _bytes(self._slot)
-        return iter(text.decode().splitlines())
+        return map(TraceLine, text.decode().splitlines())
 
     def search(
         self, order: Seeded, address: int, word: int, count: int = 1000, events: int = 10000, keys: bytes = b"", gap: int | None = None,

@@ -8,8 +8,10 @@ mod TimelessStep
 mod Looking
 mod Viewed
 mod Decoded
-mod Telling
-mod Written
-mod Behaving
+pub mod Telling
+pub mod Written
+pub mod Behaving
 mod Restoring
 mod RestoringMemory
+mod RestoringBoard
+mod Bounding

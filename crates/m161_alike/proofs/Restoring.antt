@@ -1,4 +1,4 @@
-use Rattle.std.proofs.Common.{◌≡◌, ◌∙◌, refl, ap, sym, ℕ, zero, suc, ◌+◌, ◌*◌, ◌/◌, ◌%◌, ◌^◌, ◌<◌, ◌≤◌, arith, Bool, true, false, List, [], ◌∷◌, ◌++◌, length, take, map, get_or, set, append_assoc, ◌-◌, max}
+use Rattle.std.proofs.Common.{◌≡◌, ◌∙◌, refl, ap, sym, ℕ, zero, suc, ◌+◌, ◌*◌, ◌/◌, ◌%◌, ◌^◌, ◌<◌, ◌≤◌, arith, Bool, true, false, List, [], ◌∷◌, ◌++◌, length, take, get_or, set, append_assoc, ◌-◌, max}
 use Rattle.std.specs.Prelude.{◌==◌, ◌||◌, not, All, flat_map, if◌then◌else◌, slice_index, slice_set}
 use Rattle.std.specs.List.{range_with_len}
 use Rattle.std.proofs.lemmas.List.{get_or-append_right, get_or-set_same, length-set, length-take-le}
@@ -25,7 +25,7 @@ use Rattle.m161_alike.proofs.Written.{small_flag}
 
 -- values by their words
 
-flag_back : (b : Bool) → (flag b == 1) ≡ b
+pub flag_back : (b : Bool) → (flag b == 1) ≡ b
 flag_back true = refl
 flag_back false = refl
 
@@ -103,7 +103,7 @@ in_two v =
     ∙ ap (λ l. register_words v ++ l) (append_assoc (place_words v) (control_words v.control) (rows_words v)))
 
 -- word j of row k
-word_of_row : (v : Processor) (k j i : ℕ) → k < 64 → j < 3 → i ≡ 53 + (3 * k + j) →
+pub word_of_row : (v : Processor) (k j i : ℕ) → k < 64 → j < 3 → i ≡ 53 + (3 * k + j) →
     slice_index (processor_words v) i ≡ get_or (row_words (get_or v.rows k blank_row)) j 0
 word_of_row v k j i below small is =
     let inside : 53 ≤ i = omega (arith, is) in
@@ -177,7 +177,7 @@ parts v = record {
   control = control_parts v.control;
 }
 
-small_byte : (n : ℕ) → n < 2 ^ 8 → n % 2 ^ 8 ≡ n
+pub small_byte : (n : ℕ) → n < 2 ^ 8 → n % 2 ^ 8 ≡ n
 small_byte n small = omega (arith, small)
 
 control_back : (v : Processor) → CanBeHeld v → control_in (processor_words v) ≡ control_parts v.control

@@ -76,7 +76,7 @@ same_irq a b e =
 
 -- the parts of the processors
 
-part_size : (s : State) (p : ℕ) → length (part_words s p) ≡ 68
+pub part_size : (s : State) (p : ℕ) → length (part_words s p) ≡ 68
 part_size s p =
     let link = optional (get_or s.links.live p None) in
     let long : length (link ++ cram_words (place_of p s.board)) ≡ 66 =

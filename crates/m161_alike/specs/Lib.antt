@@ -6,4 +6,5 @@ pub mod WordsLaw
 pub mod Restored
 pub mod RestoredMemory
 pub mod RestoredBoard
+pub mod Bounds
 pub mod helpers

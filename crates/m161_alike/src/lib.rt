@@ -15,23 +15,25 @@
 #![tactic(auto)]
 
 mod board;
+mod bounds;
 mod known;
 mod laws;
 mod processor;
-mod read_board;
-mod read_memory;
-mod read_processor;
 mod reads;
+mod restored_board;
+mod restored_memory;
+mod restored_processor;
 mod view_words;
 mod words;
 
 pub use board::write_board;
+pub use bounds::{bounded_words_can_be_held, is_board_bounded, is_bounded};
 pub use known::Known;
 pub use laws::alike_states_behave_alike;
 pub use processor::{words_tell_a_processor, write_processor};
-pub use read_board::read_board;
-pub use read_memory::read_memory;
-pub use read_processor::read_processor;
 pub use reads::{Reads, next_reads};
+pub use restored_board::read_board;
+pub use restored_memory::read_memory;
+pub use restored_processor::read_processor;
 pub use view_words::words_tell_a_view;
 pub use words::{words_tell_memory, write_memory};

@@ -2,8 +2,8 @@
 
 use m161::Core;
 use m161_alike::{
-    Known, Reads, next_reads, read_board, read_memory, read_processor, write_board, write_memory,
-    write_processor,
+    Known, Reads, is_board_bounded, is_bounded, next_reads, read_board, read_memory,
+    read_processor, write_board, write_memory, write_processor,
 };
 use m161_machine::{Conf, LinkUnit};
 use m161_test_support::files::file_from;
@@ -356,6 +356,66 @@ fn the_board_and_memory_come_back(rt: HostRuntime) -> Result<(), Fail> {
         same(&rt, other.key(66).is_ok(), true);
         check_comes_back(&rt, &core, &mut other, &boot)?;
         check_comes_back(&rt, &boot, &mut other, &core)?;
+    }
+    Ok(())
+}
+
+/// Words of a processor that are past its bounds: a place, and the first word there that is.
+static PAST: [(usize, u32); 8] = [
+    (0, 1), // register 0
+    (39, 64), // Random
+    (49, 4), // CE
+    (50, 256), // ExcCode
+    (52, 4), // software's bits of IP
+    (53, 1 << 20), // row 0's page
+    (243, 1 << 20), // row 63's frame
+    (244, 1 << 10), // its identifier and flags
+];
+
+/// Fails the test where words, but for one, aren't found to be past their bounds.
+fn check_past(rt: &impl Abort, words: &mut [u32], place: usize, word: u32) {
+    if words.len() == 245 && place < words.len() {
+        let before = words[place];
+        same(rt, is_bounded(words), true);
+        words[place] = word;
+        same(rt, is_bounded(words), false);
+        words[place] = before;
+    }
+}
+
+#[test]
+fn words_of_a_processor_have_bounds(rt: HostRuntime) -> Result<(), Fail> {
+    for steps in STEPS.iter() {
+        let mut core = booted(&rt, &READS)?;
+        make_steps(&rt, &mut core, *steps);
+        let mut words = Vec::new(rt.alloc());
+        if core.processors() > 0 {
+            write_processor(&core, &known_of(true, true), 0, &mut words)?;
+        }
+        same(&rt, words.len(), 245);
+        for (place, word) in PAST.iter() {
+            check_past(&rt, &mut words, *place, *word);
+        }
+        check_past(&rt, &mut words, 39, 7);
+    }
+    Ok(())
+}
+
+#[test]
+fn words_of_a_board_have_bounds(rt: HostRuntime) -> Result<(), Fail> {
+    let mut core = booted(&rt, &BOARD)?;
+    make_steps(&rt, &mut core, 7);
+    same(&rt, core.key(255).is_ok(), true);
+    let mut words = Vec::new(rt.alloc());
+    write_board(&core, &mut words)?;
+    same(&rt, words.len(), 148);
+    if words.len() == 148 {
+        same(&rt, is_board_bounded(&words, 2), true);
+        words[147] = 256;
+        same(&rt, is_board_bounded(&words, 2), false);
+        words[147] = 255;
+        words[6] = 256;
+        same(&rt, is_board_bounded(&words, 2), false);
     }
     Ok(())
 }

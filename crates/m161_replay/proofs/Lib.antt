@@ -1,3 +1,5 @@
+pub mod Effects
 pub mod Loading
+pub mod Made
 pub mod Places
 pub mod Seeing

@@ -129,7 +129,7 @@ load_found p r width address o whole load is found =
 
 -- the reference of a Step, by the word that it fetches
 
-refers_if : (s : Scene) (t : Bool) → fetches s ≡ t → reference_of_step s ≡ (if t then reference_after s.processor (executable_word s.around.memory s.processor) else None)
+pub refers_if : (s : Scene) (t : Bool) → fetches s ≡ t → reference_of_step s ≡ (if t then reference_after s.processor (executable_word s.around.memory s.processor) else None)
 refers_if s t h = ap (λ (x : Bool). if x then reference_after s.processor (executable_word s.around.memory s.processor) else None) h
 
 found : (p : Processor) (w : _) (word : ℕ) → word_found w ≡ Some word → reference_after p (and_then w (usable p.control)) ≡ reference_after p (usable p.control word)

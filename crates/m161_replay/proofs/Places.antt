@@ -14,7 +14,8 @@ use Rattle.m161_machine.proofs.Counted.{same_length}
 use Rattle.m161_moves.specs.Course.{Course}
 use Rattle.m161_moves.specs.Threads.{last_processor, processor_or}
 use Rattle.m161_replay.specs.Seen.{step_seen}
-use Rattle.m161_replay.specs.Replays.{after, along, counted, course_of, event_seen, is_accepted, is_over, line_by, number_made, seen_by, state_at, trace_from}
+use Rattle.m161_replay.specs.Replays.{after, along, counted, course_of, event_seen, line_by, number_made, seen_by, state_at, trace_from}
+use Rattle.m161_replay.specs.helpers.Over.{is_accepted, is_over}
 use Rattle.m161_replay.specs.Standing.{IsAt}
 use Rattle.m161_replay.specs.helpers.Standing.{last_after}
 

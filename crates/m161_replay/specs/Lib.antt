@@ -1,4 +1,5 @@
 pub mod Seen
+pub mod Law
 pub mod Views
 pub mod Replays
 pub mod Standing

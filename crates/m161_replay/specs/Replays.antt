@@ -1,4 +1,4 @@
-use Rattle.std.specs.Prelude.{ℕ, ◌+◌, ◌-◌, min, Bool, true, false, not, List, [], ◌∷◌, ◌++◌, drop, length, slice_get, take, Option, None, Some, option_and_then, Result, Ok, Err}
+use Rattle.std.specs.Prelude.{ℕ, ◌+◌, ◌-◌, min, List, [], ◌∷◌, ◌++◌, drop, length, slice_get, take, Option, None, Some, option_and_then, Result, Ok, Err}
 use Rattle.m161_cpu.specs.declared.processor.Outcome.{Outcome}
 use Rattle.m161_dis.specs.Style.{plain}
 use Rattle.m161_display.specs.Shows.{show_cop0_text, show_regs_text, show_tlb_text, show_where_text}
@@ -45,16 +45,6 @@ counted (Err refusal) rest = 0
 abbrev pub number_made : State → List Event → ℕ
 number_made s [] = 0
 number_made s (e ∷ es) = counted (next s e) (λ t. number_made t es)
-
--- whether an event was accepted
-abbrev pub is_accepted : Result (Outcome × State) Refusal → Bool
-is_accepted (Ok made) = true
-is_accepted (Err refusal) = false
-
--- whether no event is made any more, where this one is next
-abbrev pub is_over : State → Option Event → Bool
-is_over s None = true
-is_over s (Some e) = not (is_accepted (next s e))
 
 -- what moves see of an event
 abbrev pub seen_by : ℕ → State → Result (Outcome × State) Refusal → Option StepSeen

@@ -9,7 +9,8 @@ use Rattle.m161_moves.specs.declared.run.Access.{Access}
 use Rattle.m161_moves.specs.declared.run.StepSeen.{StepSeen}
 use Rattle.m161_trace.specs.Loads.{loads_from, word_around}
 
--- What moves see of the next Step of processor p, told by the state before it alone.
+-- What moves see of the next Step of processor p, told by the state before it alone. The law
+-- `SeenIsMade` says that it is what the Step's outcome tells.
 
 abbrev pub scene_in : ℕ → State → Scene
 scene_in p s =
@@ -24,8 +25,8 @@ fetched_next p s =
 
 -- Its load or store.
 
--- The word of RAM that it loads from, by the reference of its instruction. No outcome is needed: a
--- load whose address has a translation, to a word in RAM, doesn't trap.
+-- The word of RAM that it loads from, by the reference of its instruction: a load whose address has a
+-- translation, to a word in RAM, doesn't trap.
 unfoldable pub loaded_next : ℕ → State → Option ℕ
 loaded_next p s =
     option_and_then (word_around (length s.memory))

@@ -10,6 +10,7 @@
 #![tactic(auto)]
 
 mod kept;
+mod laws;
 mod load;
 mod replay;
 mod seen;
@@ -18,6 +19,7 @@ mod target;
 mod traced;
 mod views;
 
+pub use laws::seen_is_made;
 pub use m161_moves::{Access, Run, StepSeen};
 pub use m161_server::Target;
 pub use replay::Replay;

@@ -4,7 +4,7 @@ ghost use Rattle.std.specs.Prelude.{◌≡◌, IfOk, OnErr, OnOk, Ok};
 ghost use Rattle.m161_cpu.specs.declared.processor.Outcome.{Outcome};
 ghost use Rattle.m161_machine.specs.declared.event.Event.TheVariants as events;
 ghost use Rattle.m161_machine.specs.State.{State, next};
-ghost use Rattle.m161_replay.specs.Replays.{is_accepted, is_over};
+ghost use Rattle.m161_replay.specs.helpers.Over.{is_accepted, is_over};
 
 use m161_bus::Console;
 use m161_machine::{Core, Event};

@@ -1,7 +1,7 @@
-use Rattle.std.proofs.Common.{◌∙◌, ◌<◌, ap, min, sym, subst, slice_index_or, List}
+use Rattle.std.proofs.Common.{◌≡◌, ◌∙◌, ◌<◌, ap, min, sym, subst, slice_index_or, List}
 use Rattle.m161_machine.specs.declared.event.Event.{Event}
 use Rattle.m161_machine.specs.declared.event.Event.TheVariants.{Step}
-use Rattle.m161_machine.specs.State.{next}
+use Rattle.m161_machine.specs.State.{CoreValue, State, next}
 use Rattle.m161_replay.specs.Replays.{Replay, number_made, place_of}
 use Rattle.m161_replay.proofs.Places.{comes, indexed, one_further}
 use Rattle.m161_replay.proofs.replay.ReplayRun.advance.Goals as goal
@@ -14,7 +14,9 @@ make-requires g c =
     subst (λ (r : Replay). place_of r < number_made r.start r.events) (sym c.self.view_is) c.requires in
     let k = comes x.start.value.state x.list.items x.place x.last x.here.value.state i.2 lt in
     let event = ap (λ (l : List Event). slice_index_or l x.place (Step 0)) c.as_slice-list.ensures.value ∙ indexed x.here.value.state x.list.items x.place (Step 0) k in
-    (k.outcome, k.state, ap (next x.here.value.state) event ∙ k.made)
+    let here : c.deref_mut.result.now.state ≡ x.here.value.state = ap (λ (b : CoreValue). b.state) c.deref_mut.ensures.value in
+    let first = slice_index_or c.as_slice-list.result.now x.place (Step 0) in
+    (k.outcome, k.state, ap (λ (s : State). next s first) here ∙ ap (next x.here.value.state) event ∙ k.made)
 
 pub invariant_of-self-2 : goal.invariant_of-self-2
 invariant_of-self-2 g c =
@@ -24,9 +26,11 @@ invariant_of-self-2 g c =
     subst (λ (r : Replay). place_of r < number_made r.start r.events) (sym c.self.view_is) c.requires in
     let k = comes x.start.value.state x.list.items x.place x.last x.here.value.state i.2 lt in
     let event = ap (λ (l : List Event). slice_index_or l x.place (Step 0)) c.as_slice-list.ensures.value ∙ indexed x.here.value.state x.list.items x.place (Step 0) k in
+    let here : c.deref_mut.result.now.state ≡ x.here.value.state = ap (λ (b : CoreValue). b.state) c.deref_mut.ensures.value in
+    let first = slice_index_or c.as_slice-list.result.now x.place (Step 0) in
     let made = c.in_ok-make.ensures.made in (
       i.0,
       i.1,
       one_further x.start.value.state x.list.items x.place x.last x.here.value.state i.2 k
-          (slice_index_or c.as_slice-list.result.now x.place (Step 0)) event made.0 c.make.new.core.state made.1 c.last_after-self-inside.result c.last_after-self-inside.ensures,
+          first event made.0 c.make.new.core.state (ap (λ (s : State). next s first) (sym here) ∙ made.1) c.last_after-self-inside.result c.last_after-self-inside.ensures,
     )

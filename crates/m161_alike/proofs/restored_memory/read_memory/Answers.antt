@@ -2,7 +2,7 @@ use Rattle.std.proofs.Common.{◌∙◌, ap}
 use Rattle.m161_machine.specs.Restore.{with_memory}
 use Rattle.m161_alike.specs.RestoredMemory.{with_changes}
 use Rattle.m161_alike.proofs.RestoringMemory.{memory_is}
-use Rattle.m161_alike.proofs.read_memory.read_memory.Goals as goal
+use Rattle.m161_alike.proofs.restored_memory.read_memory.Goals as goal
 
 pub returns-clause-view : goal.returns-clause-view
 returns-clause-view g c = λ m h.

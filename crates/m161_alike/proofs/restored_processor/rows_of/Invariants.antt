@@ -1,7 +1,7 @@
 use Rattle.std.proofs.Common.{◌≡◌, ℕ, ◌<◌, length, get_or}
 use Rattle.m161_tlb.specs.Rows.{blank_row}
 use Rattle.m161_alike.specs.Restored.{row_in}
-use Rattle.m161_alike.proofs.read_processor.rows_of.Given as goal
+use Rattle.m161_alike.proofs.restored_processor.rows_of.Given as goal
 
 -- the rows so far
 abbrev pub invariant-loop-i : goal.invariant-loop-i

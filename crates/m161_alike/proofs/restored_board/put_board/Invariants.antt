@@ -1,7 +1,7 @@
 use Rattle.std.proofs.Common.{◌≡◌, ◌≤◌, drop, length, take}
 use Rattle.m161_machine.specs.Restore.{with_board_parts}
 use Rattle.m161_alike.specs.RestoredBoard.{board_in, conflict_in, part_at, waiting_in, with_places}
-use Rattle.m161_alike.proofs.read_board.read_board.Given as goal
+use Rattle.m161_alike.proofs.restored_board.put_board.Given as goal
 
 -- the parts so far are those of the words
 abbrev pub invariant-loop-p : goal.invariant-loop-p

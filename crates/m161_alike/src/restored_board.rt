@@ -1,7 +1,8 @@
 //! The board and the links, made anew from the words of a view.
 
 ghost use Rattle.std.specs.Prelude.{◌≡◌, ◌+◌, ◌*◌, ◌<◌, ◌≤◌, length, take};
-ghost use Rattle.m161_alike.specs.RestoredBoard.{board_in, conflict_in, link_in, place_in, restored_board, waiting_in};
+ghost use Rattle.m161_machine.specs.State.{State};
+ghost use Rattle.m161_alike.specs.RestoredBoard.{AreWordsOfBoard, board_in, conflict_in, link_in, place_in, restored_board, waiting_in, with_board_of};
 
 use m161_bus::{BoardParts, Console, ConsoleParts, IrqBits, PlaceParts};
 use m161_machine::{Conflict, Core};
@@ -17,8 +18,21 @@ const PART: usize = 68;
 const MOST_WAITING: usize = 256;
 
 /// Makes the board, the links, and what switched a strict machine off those with these words, as
-/// `write_board` writes them. The console has sent nothing then. Does not allocate.
+/// `write_board` writes them. The console has sent nothing then. Words that are those of no board are
+/// brought within their bounds, and of bytes that wait the first 256 are taken. Does not allocate.
 pub fn read_board<T: Tlb, D: Console>(core: &mut Core<T, D>, words: &[u32])
+    requires { 11 + 68 * length core.old.state.processors ≤ length words.now }
+    ensures state { core.new.state ≡ restored_board words.now core.old.state }
+    ensures view { (s : State) → AreWordsOfBoard words.now s core.old.state
+        → core.new.state ≡ with_board_of s core.old.state }
+    ensures room { core.old.room ≤ core.new.room }
+{
+    core.law();
+    put_board(core, words);
+}
+
+// The same, for any words.
+fn put_board<T: Tlb, D: Console>(core: &mut Core<T, D>, words: &[u32])
     requires { 11 + 68 * length core.old.state.processors ≤ length words.now }
     ensures state { core.new.state ≡ restored_board words.now core.old.state }
     ensures room { core.old.room ≤ core.new.room }

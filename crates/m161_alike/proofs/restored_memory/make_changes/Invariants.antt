@@ -1,7 +1,7 @@
 use Rattle.std.proofs.Common.{◌≡◌, ◌-◌, ◌≤◌, drop, length}
 use Rattle.m161_machine.specs.Restore.{with_memory}
 use Rattle.m161_alike.specs.RestoredMemory.{with_changes}
-use Rattle.m161_alike.proofs.read_memory.make_changes.Given as goal
+use Rattle.m161_alike.proofs.restored_memory.make_changes.Given as goal
 
 -- the words that are left give the same memory
 abbrev pub invariant-loop-place : goal.invariant-loop-place
