@@ -8,12 +8,12 @@ use Rattle.m161_machine.specs.declared.event.Entry.{Entry}
 use Rattle.m161_machine.specs.declared.event.Event.{Event}
 use Rattle.m161_machine.specs.declared.event.Event.TheVariants as events
 use Rattle.m161_machine.specs.declared.event.Refusal.{Refusal}
-use Rattle.m161_machine.specs.State.{State, next, processor_at}
+use Rattle.m161_machine.specs.State.{State, next}
 use Rattle.m161_machine.specs.History.{History, Answers, Continues, Leads, Refuses, events_of}
 use Rattle.m161_machine.proofs.Continuing.{continues_more}
 use Rattle.m161_debug.specs.declared.stop.StopReason.{StopReason}
 use Rattle.m161_debug.specs.declared.stop.StopReason.TheVariants.{Break, Conflict, End, Off, Refused, Until}
-use Rattle.m161_debug.specs.Stops.{breaks, never, off_stop, place_of, HasReason, IsBefore, NoneBefore, Stops, StopsIn}
+use Rattle.m161_debug.specs.Stops.{breaks, never, off_stop, place_of, IsBefore, NoneBefore, Stops, StopsIn}
 
 -- A run without breakpoints, which waits for nothing, one event after the other.
 

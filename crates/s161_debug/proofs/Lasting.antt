@@ -1,4 +1,4 @@
-use Rattle.std.proofs.Common.{◌≡◌, ◌∙◌, ℕ, zero, suc, ◌+◌, ◌-◌, ◌≤◌, List, [], ◌∷◌, ◌++◌, Some, append-nil, arith, ap, length, refl, slice_get, sym, take}
+use Rattle.std.proofs.Common.{◌≡◌, ◌∙◌, ℕ, zero, suc, ◌+◌, ◌-◌, List, [], ◌∷◌, ◌++◌, Some, append-nil, arith, ap, length, refl, slice_get, sym, take}
 use Rattle.std.specs.Prelude.{min}
 use Rattle.std.specs.List.{flat_map, range_with_len}
 use Rattle.std.proofs.lemmas.List.{length-map, take_more}
@@ -30,7 +30,7 @@ state_more start events k e s t is here made =
 pub event_is : (log : List Entry) (k : ℕ) (e : Entry) → slice_get log k ≡ Some e → slice_get (events_of log) k ≡ Some e.event
 event_is log k e is = slice_get-map (λ (x : Entry). x.event) log k ∙ ap (option_map (λ (x : Entry). x.event)) is
 
-range_more : (a n j : ℕ) → a + n ≡ j → range_with_len a (n + 1) ≡ range_with_len a n ++ j ∷ []
+range_more : (a n j : ℕ) → a + n ≡ j → range_with_len a (suc n) ≡ range_with_len a n ++ j ∷ []
 range_more a zero j e = ap (λ x. x ∷ []) (omega (arith, e))
 range_more a (suc n) j e = ap (λ x. a ∷ x) (range_more (a + 1) n j (omega (arith, e)))
 
@@ -39,7 +39,7 @@ abbrev pub lines_from : Style → State → List Event → ℕ → ℕ → List 
 lines_from style start events a n = flat_map (line_at style start events) (range_with_len a n)
 
 pub lines_more : (style : Style) (start : State) (events : List Event) (a n m j : ℕ) (e : Event) (s : State) (text more : List ℕ) →
-    a + n ≡ j → n + 1 ≡ m → slice_get events j ≡ Some e → s ≡ state_at start events j →
+    a + n ≡ j → suc n ≡ m → slice_get events j ≡ Some e → s ≡ state_at start events j →
     text ≡ lines_from style start events a n → more ≡ text ++ line_by style j e s (next s e) → more ≡ lines_from style start events a m
 lines_more style start events a n m j e s text more at last is here so_far adds =
     let f = line_at style start events in

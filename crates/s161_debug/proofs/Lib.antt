@@ -2,7 +2,6 @@ pub mod Asking
 mod Faults
 mod Going
 mod Jumping
-mod Keeping
 mod Lasting
 mod Numbers
 mod Passing

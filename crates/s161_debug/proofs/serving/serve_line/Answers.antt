@@ -2,7 +2,6 @@ use Rattle.std.proofs.Common.{ℕ, Bool, List, Option, Some, Result, Ok, Err, in
 use Rattle.s161_base.specs.declared.fault.Fault.{Fault}
 use Rattle.s161_debug.specs.declared.line.Line.{Line}
 use Rattle.s161_debug.specs.helpers.Sessions.{DoesTurn, Place, ReadsLine, Turns}
-use Rattle.s161_debug.proofs.serving.serve_line.Goals as goal
 
 -- a line was read and done
 taken : (input left : Option (List ℕ)) (p q : Place) (line : Line) (r : Result Bool Fault) → ReadsLine input (Some line) left →
