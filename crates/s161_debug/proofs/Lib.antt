@@ -1,9 +1,12 @@
 pub mod Asking
 mod Faults
+mod Going
 mod Jumping
+mod Lasting
 mod Numbers
 mod Passing
 mod Reading
 mod Results
+mod Spaces
 mod Texts
 mod Words

@@ -12,6 +12,7 @@ use Rattle.s161_base.specs.declared.fault.Fault.TheVariants.{Conf, File, Image, 
 use Rattle.s161_base.specs.declared.fault.Unread.TheVariants.{Failed, NotUtf8, TooLong}
 use Rattle.s161_base.specs.Known.{IsText}
 use Rattle.s161_base.specs.Streams.{AppendsSome, streams}
+use Rattle.s161_debug.specs.Blanks.{spaced}
 use Rattle.s161_debug.specs.Lines.{Does, DoesLines, asked_by}
 use Rattle.s161_debug.specs.Sessions.{Breaks, Ends, IsBehind, IsLast, IsPassed, IsWritten}
 use Rattle.s161_debug.specs.helpers.Sessions.{Answers, FailsTurn, IsUnread, Place, Rests, Turns, bytes_of, place}
@@ -87,7 +88,7 @@ module _ (s : SessionState) (events : List Event) (input before left : Option (L
     lines_here : lines_of (bytes ++ bytes_of ended line) ≡ so_far.lines ++ line ∷ []
     lines_here = lines_behind so_far.lines (bytes_of ended line) so_far.are_lines ∙ ap (λ ls. so_far.lines ++ ls) here
 
-    does_here : (printed : List ℕ) → Does (asked_by line) line p.session p.events q.session q.events printed →
+    does_here : (printed : List ℕ) → Does (asked_by (spaced line)) (spaced line) p.session p.events q.session q.events printed →
         DoesLines (so_far.lines ++ line ∷ []) s events [] (so_far.text ++ printed)
     does_here printed does =
         so_far.does (line ∷ []) (so_far.text ++ printed) (q.session, q.events, so_far.text ++ printed, (printed, does, refl), refl)
@@ -96,13 +97,13 @@ module _ (s : SessionState) (events : List Event) (input before left : Option (L
     written_here printed written = Appends-trans before p.output q.output so_far.text printed so_far.are_written written
 
     -- the session goes on
-    goes_on : ended ≡ true → bytes_eq line (codes "quit") ≡ false → Answers line p q Appends → Serving s events input before l q
+    goes_on : ended ≡ true → bytes_eq (spaced line) (codes "quit") ≡ false → Answers (spaced line) p q Appends → Serving s events input before l q
     goes_on is other x = record {
       lines = so_far.lines ++ line ∷ [];
       are_lines = all_more (Lacks 10) so_far.lines line so_far.are_lines lacks;
       are_passed =
           all_more IsPassed so_far.lines line so_far.are_passed
-          (x.utf8, λ same. let bad : false ≡ true = sym other ∙ (bytes_eq-Decides line (codes "quit")).1 same in absurd (cc));
+          (x.utf8, λ same. let bad : false ≡ true = sym other ∙ (bytes_eq-Decides (spaced line) (codes "quit")).1 same in absurd (cc));
       are_read =
           subst (Consumes input l) (sym (text_more so_far.lines line))
           (subst (λ e. Consumes input l (bytes ++ bytes_of e line)) is read_here);
@@ -114,19 +115,19 @@ module _ (s : SessionState) (events : List Event) (input before left : Option (L
     }
 
     -- it ends
-    last_here : (quits : Bool) → bytes_eq line (codes "quit") ≡ quits → IsText line → false ≡ (ended && not quits) →
+    last_here : (quits : Bool) → bytes_eq (spaced line) (codes "quit") ≡ quits → IsText (spaced line) → false ≡ (ended && not quits) →
         IsLast (lines_of (bytes ++ bytes_of ended line)) l
     last_here true is utf8 ends =
-        inr (so_far.lines, so_far.are_passed, lines_here ∙ ap (λ x. so_far.lines ++ x ∷ []) ((bytes_eq-Decides line (codes "quit")).0 is))
+        inr (so_far.lines, line, so_far.are_passed, (bytes_eq-Decides (spaced line) (codes "quit")).0 is, lines_here)
     last_here false is utf8 ends =
-        let passed : IsPassed line = (utf8, λ same. let bad : false ≡ true = sym is ∙ (bytes_eq-Decides line (codes "quit")).1 same in absurd (cc)) in
+        let passed : IsPassed line = (utf8, λ same. let bad : false ≡ true = sym is ∙ (bytes_eq-Decides (spaced line) (codes "quit")).1 same in absurd (cc)) in
         inl (subst (AllByRecursion IsPassed) (sym lines_here) (all_more IsPassed so_far.lines line so_far.are_passed passed), (last (unended ended ends)).1)
 
-    ends_here : false ≡ (ended && not (bytes_eq line (codes "quit"))) → Answers line p q Appends → Ends s events (streams input l before q.output)
+    ends_here : false ≡ (ended && not (bytes_eq (spaced line) (codes "quit"))) → Answers (spaced line) p q Appends → Ends s events (streams input l before q.output)
     ends_here is x = record {
       bytes = bytes ++ bytes_of ended line;
       are_read = read_here;
-      last = last_here (bytes_eq line (codes "quit")) refl x.utf8 is;
+      last = last_here (bytes_eq (spaced line) (codes "quit")) refl x.utf8 is;
       text = so_far.text ++ x.printed;
       does = subst (λ lines. DoesLines lines s events [] (so_far.text ++ x.printed)) (sym lines_here) (does_here x.printed x.does);
       are_written = written_here x.printed x.written;
@@ -150,7 +151,7 @@ module _ (s : SessionState) (events : List Event) (input before left : Option (L
     unwritten : q.output ≡ p.output → Appends before q.output so_far.text
     unwritten same = subst (λ output. Appends before output so_far.text) (sym same) so_far.are_written
 
-    output_fails : Answers line p q AppendsSome → Breaks s events (streams input l before q.output) Output
+    output_fails : Answers (spaced line) p q AppendsSome → Breaks s events (streams input l before q.output) Output
     output_fails x =
         breaks_here Output (line, here, x.utf8) (
           x.printed,
@@ -158,7 +159,7 @@ module _ (s : SessionState) (events : List Event) (input before left : Option (L
           (x.written.0, Appends-trans before p.output q.output so_far.text (take x.written.0 x.printed) so_far.are_written x.written.1),
         )
 
-    fails_here : (fault : Fault) → FailsTurn fault line p q → Breaks s events (streams input l before q.output) fault
+    fails_here : (fault : Fault) → FailsTurn fault (spaced line) p q → Breaks s events (streams input l before q.output) fault
     fails_here (Input NotUtf8) x = breaks_here (Input NotUtf8) (line, here, x.0) (unwritten x.1)
     fails_here Output x = output_fails x
     fails_here Memory x = absurd x
@@ -219,7 +220,7 @@ module _ (s : SessionState) (events : List Event) (input before left : Option (L
   pub turned : (l : Option (List ℕ)) (q : Place) → Turns left p (Ok true) l q → Serving s events input before l q
   turned l q (inl x) = let bad : true ≡ false = x.1 in absurd (cc)
   turned l q (inr x) =
-      let both = parts x.ended (bytes_eq x.line (codes "quit")) x.turn.1 in
+      let both = parts x.ended (bytes_eq (spaced x.line) (codes "quit")) x.turn.1 in
       goes_on l q x.ended x.line x.reads.0 x.reads.1 x.reads.2 both.0 both.1 x.turn.0
 
   pub stopped : (l : Option (List ℕ)) (q : Place) → Turns left p (Ok false) l q → Ends s events (streams input l before q.output)

@@ -16,7 +16,7 @@ help_text = text_of (
     codes "u r P N                    g, and stops once its register N is another" ∷
     codes "u i P I                    g, and stops once its TLB row I is another" ∷
     codes "u o                        g, and stops once a byte is sent" ∷
-    codes "j K                        goes to the state before event K; the later ones are left again" ∷
+    codes "j K                        goes back to the state before event K, or on, whatever the breakpoints" ∷
     codes "w                          where the started processors are" ∷
     codes "a                          how many events were made, and how many with those that are left" ∷
     codes "r P                        the registers of processor P" ∷
@@ -26,6 +26,7 @@ help_text = text_of (
     codes "m ADDR N                   N words of RAM" ∷
     codes "x ADDR N | x ADDR N P      N instructions; as processor P fetches them" ∷
     codes "l N                        the last N entries of the log" ∷
+    codes "y N                        the last N events that were made, as trace shows them" ∷
     codes "help                       prints this" ∷
     codes "quit                       ends" ∷
     [])

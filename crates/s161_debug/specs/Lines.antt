@@ -1,18 +1,25 @@
-use Rattle.std.specs.Prelude.{◌≡◌, ℕ, ◌<◌, ◌^◌, Bool, true, ◌==◌, if◌then◌else◌, bytes_eq, List, [], ◌∷◌, ◌++◌, drop, Option, None, Some, Result, Ok, Err, Vec, codes, decimal}
+use Rattle.std.specs.Prelude.{◌≡◌, ◌⊎◌, ℕ, ◌+◌, ◌-◌, ◌<◌, ◌^◌, nat_le, nat_lt, Bool, true, false, ◌==◌, ◌&&◌, if◌then◌else◌, bytes_eq, List, [], ◌∷◌, ◌++◌, drop, length, take, Option, None, Some, Result, Ok, Err, Vec, codes, decimal}
 use Rattle.std.specs.Global.{Global}
+use Rattle.m161_machine.specs.declared.event.Conflict.{Conflict as Told}
 use Rattle.m161_machine.specs.declared.event.Event.{Event}
+use Rattle.m161_machine.specs.History.{boot_state, events_of}
 use Rattle.m161_text.specs.Lines.{with_line_end}
 use Rattle.m161_text.specs.Parts.{◌␣◌, Reads}
 use Rattle.m161_debug.specs.declared.command.CommandError.{CommandError}
 use Rattle.m161_debug.specs.declared.jump.JumpError.{JumpError}
 use Rattle.m161_debug.specs.declared.jump.JumpError.TheVariants as jump
+use Rattle.m161_debug.specs.declared.stop.StopReason.{StopReason}
+use Rattle.m161_debug.specs.declared.stop.StopReason.TheVariants.{Break, Refused, Off, Conflict, Until, End}
 use Rattle.m161_debug.specs.Breakpoints.{SessionState}
 use Rattle.m161_debug.specs.Commands.{first_word, name_of_error}
 use Rattle.m161_debug.specs.Jumps.{Jumps, jump_fault}
-use Rattle.m161_debug.specs.Obeys.{Commands}
+use Rattle.m161_debug.specs.Obeys.{Commands, stop_text, used_by}
+use Rattle.m161_debug.specs.Stops.{Stops}
 use Rattle.s161_debug.specs.declared.asked.Asked.{Asked}
-use Rattle.s161_debug.specs.declared.asked.Asked.TheVariants.{Nothing, Help, Quit, Jump, Command}
+use Rattle.s161_debug.specs.declared.asked.Asked.TheVariants.{Nothing, Help, Quit, Jump, Trace, Command}
+use Rattle.s161_debug.specs.Blanks.{spaced}
 use Rattle.s161_debug.specs.Helps.{help_text}
+use Rattle.s161_debug.specs.Traces.{last_lines, trace_fault}
 
 -- What a session's lines do: the program's own, and the commands of the session.
 
@@ -27,7 +34,8 @@ asked_by line =
     if is_silent line then Nothing
     else if bytes_eq line (codes "help") then Help
     else if bytes_eq line (codes "quit") then Quit
-    else if bytes_eq (first_word line) (codes "j") then Jump else Command
+    else if bytes_eq (first_word line) (codes "j") then Jump
+    else if bytes_eq (first_word line) (codes "y") then Trace else Command
 
 -- the line of an error
 abbrev pub error_line : List ℕ → List ℕ
@@ -78,7 +86,7 @@ abbrev pub jump_shown : ℕ → Result (Vec Event Global) JumpError → List ℕ
 jump_shown k (Ok undone) = with_line_end (codes "at" ␣ decimal k)
 jump_shown k (Err e) = error_line (name_of_jump_error e)
 
--- the session goes to the state before event k
+-- the session goes back to the state before event k
 pub record DoesJump
     (k : ℕ) (s : SessionState) (events : List Event)
     (t : SessionState) (left : List Event) (printed : List ℕ) : Type 0 where
@@ -92,12 +100,71 @@ abbrev pub OnlyPrints :
     List ℕ → SessionState → List Event → SessionState → List Event → List ℕ → Type 0
 OnlyPrints text s events t left printed = (t ≡ s) × (left ≡ events) × (printed ≡ text)
 
+-- the state before event k lies ahead, where so many events were accepted: some of the remaining ones,
+-- or all, are to be made first
+abbrev pub is_ahead : ℕ → ℕ → List Event → Bool
+is_ahead k made events = nat_lt made k && nat_le k (made + length events)
+
+-- what going there prints: that the session is there; or why it stopped, as a run says it
+abbrev pub ahead_text : ℕ → StopReason → Option Told → List ℕ
+ahead_text k (Break i) told = stop_text (Break i) told
+ahead_text k (Refused i refusal) told = stop_text (Refused i refusal) told
+ahead_text k (Off i) told = stop_text (Off i) told
+ahead_text k (Conflict i) told = stop_text (Conflict i) told
+ahead_text k (Until i) told = stop_text (Until i) told
+ahead_text k (End n) told = codes "at" ␣ decimal k
+
+-- the session goes on to the state before event k: a run over the remaining events up to there, as if
+-- there were no breakpoints
+pub record GoesAhead
+    (k : ℕ) (s : SessionState) (events : List Event)
+    (t : SessionState) (left : List Event) (printed : List ℕ) : Type 0 where
+  pub stop : StopReason
+  pub stops : Stops [] s.machine (take (k - s.machine.state.made) events) stop t.machine
+  pub breakpoints : t.breakpoints ≡ s.breakpoints
+  pub style : t.style ≡ s.style
+  pub left_is : left ≡ drop (used_by stop) events
+  pub printed_is : printed ≡ with_line_end (ahead_text k stop t.machine.state.conflict)
+
+-- the session goes to the state before event k: on, if that lies ahead, unless memory is refused for
+-- what that prints; else back
+abbrev pub GoesTo :
+    Bool → ℕ → SessionState → List Event → SessionState → List Event → List ℕ → Type 0
+GoesTo true k s events t left printed =
+    GoesAhead k s events t left printed
+    ⊎ OnlyPrints (error_line (name_of_jump_error jump.NoMemory)) s events t left printed
+GoesTo false k s events t left printed = DoesJump k s events t left printed
+
 -- a line whose first word is `j`: a jump, or else a bad argument
 abbrev pub DoesJumpIf :
     Option ℕ → SessionState → List Event → SessionState → List Event → List ℕ → Type 0
 DoesJumpIf None s events t left printed =
     OnlyPrints (error_line (name_of_jump_error jump.BadArgument)) s events t left printed
-DoesJumpIf (Some k) s events t left printed = DoesJump k s events t left printed
+DoesJumpIf (Some k) s events t left printed =
+    GoesTo (is_ahead k s.machine.state.made events) k s events t left printed
+
+-- the line that shows the last n events
+abbrev pub trace_text : ℕ → List ℕ
+trace_text n = codes "y" ␣ decimal n
+
+-- they are shown, made again from the state at boot, unless memory is refused; or there is a first
+-- reason not to
+abbrev pub ShowsLast :
+    Option JumpError → ℕ → SessionState → List Event → SessionState → List Event → List ℕ → Type 0
+ShowsLast (Some fault) n s events t left printed =
+    OnlyPrints (error_line (name_of_jump_error fault)) s events t left printed
+ShowsLast None n s events t left printed =
+    OnlyPrints (last_lines s.style (boot_state s.machine.start) (events_of s.machine.log) n) s events
+    t left printed
+    ⊎ OnlyPrints (error_line (name_of_jump_error jump.NoMemory)) s events t left printed
+
+-- a line whose first word is `y`: that, or else a bad argument
+abbrev pub DoesTraceIf :
+    Option ℕ → SessionState → List Event → SessionState → List Event → List ℕ → Type 0
+DoesTraceIf None s events t left printed =
+    OnlyPrints (error_line (name_of_jump_error jump.BadArgument)) s events t left printed
+DoesTraceIf (Some n) s events t left printed =
+    ShowsLast (trace_fault n s.machine) n s events t left printed
 
 -- what is done for a line, by what it asks for
 abbrev pub Does :
@@ -107,14 +174,16 @@ Does Help line s events t left printed = OnlyPrints help_text s events t left pr
 Does Quit line s events t left printed = OnlyPrints [] s events t left printed
 Does Jump line s events t left printed =
     (k : Option ℕ) × Reads IsLong jump_text line k × DoesJumpIf k s events t left printed
+Does Trace line s events t left printed =
+    (n : Option ℕ) × Reads IsLong trace_text line n × DoesTraceIf n s events t left printed
 Does Command line s events t left printed = DoesCommand line s events t left printed
 
--- a line is done over the remaining events; these are the session and the events after it, and the
--- text grows to this one
+-- a line, as what it counts as, is done over the remaining events; these are the session and the
+-- events after it, and the text grows to this one
 abbrev pub DoesLine :
     List ℕ → SessionState → List Event → SessionState → List Event → List ℕ → List ℕ → Type 0
 DoesLine line s events t left before after =
-    (printed : List ℕ) × Does (asked_by line) line s events t left printed
+    (printed : List ℕ) × Does (asked_by (spaced line)) (spaced line) s events t left printed
     × (after ≡ before ++ printed)
 
 -- these lines are done, one after the other, and the text grows to this one

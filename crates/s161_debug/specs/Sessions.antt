@@ -12,6 +12,7 @@ use Rattle.s161_base.specs.declared.fault.Fault.TheVariants.{Input, Memory, Outp
 use Rattle.s161_base.specs.declared.fault.Unread.TheVariants.{Failed, NotUtf8, TooLong}
 use Rattle.s161_base.specs.Known.{IsText}
 use Rattle.s161_base.specs.Streams.{Streams}
+use Rattle.s161_debug.specs.Blanks.{spaced}
 use Rattle.s161_debug.specs.Lines.{DoesLines}
 
 -- How a session ends, which reads its lines and writes what they print.
@@ -20,16 +21,20 @@ use Rattle.s161_debug.specs.Lines.{DoesLines}
 abbrev pub session_of : History → Style → SessionState
 session_of m style = record { machine = m; breakpoints = []; style = style }
 
--- the session goes on after a line, which is UTF-8: it isn't `quit`
+-- a line is `quit`, with blanks around it or none
+abbrev pub IsQuit : List ℕ → Type 0
+IsQuit line = spaced line ≡ codes "quit"
+
+-- the session goes on after a line: it isn't `quit`, and what it counts as is UTF-8
 abbrev pub IsPassed : List ℕ → Type 0
-IsPassed line = IsText line × (line ≢ codes "quit")
+IsPassed line = IsText (spaced line) × (spaced line ≢ codes "quit")
 
 -- all of these lines are passed, and the input is at its end; or `quit` follows them
 abbrev pub IsLast : List (List ℕ) → Option (List ℕ) → Type 0
 IsLast lines left =
     (AllByRecursion IsPassed lines × IsAtEnd left)
-    ⊎ ((passed : List (List ℕ)) × AllByRecursion IsPassed passed
-    × (lines ≡ passed ++ codes "quit" ∷ []))
+    ⊎ ((passed : List (List ℕ)) × (last : List ℕ) × AllByRecursion IsPassed passed × IsQuit last
+    × (lines ≡ passed ++ last ∷ []))
 
 -- a session that has ended. The bytes that were read are its lines; all that these print was written
 pub record Ends (s : SessionState) (events : List Event) (x : Streams) : Type 0 where
@@ -50,9 +55,9 @@ IsOneLine IsSo text = (line : List ℕ) × (lines_of text ≡ line ∷ []) × Is
 abbrev pub IsBehind : Fault → List ℕ → Type 0
 IsBehind (Input Failed) part = Lacks 10 part
 IsBehind (Input TooLong) part = Lacks 10 part × (402_653_184 < length part)
-IsBehind (Input NotUtf8) part = IsOneLine (λ line. ¬ IsText line) part
+IsBehind (Input NotUtf8) part = IsOneLine (λ line. ¬ IsText (spaced line)) part
 IsBehind Memory part = Lacks 10 part
-IsBehind Output part = IsOneLine IsText part
+IsBehind Output part = IsOneLine (λ line. IsText (spaced line)) part
 IsBehind _ part = ⊥
 
 -- what was written: all that the lines print that were passed; where the output failed, also the

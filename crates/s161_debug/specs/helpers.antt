@@ -1,4 +1,5 @@
 -- Definitions that only contracts of private functions, or proofs, use.
+pub mod Blanks
 pub mod Debugs
 pub mod Lines
 pub mod Sessions

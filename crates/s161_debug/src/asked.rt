@@ -3,7 +3,7 @@
 ghost use Rattle.std.specs.Prelude.{◌≡◌, decimal};
 ghost use Rattle.m161_text.specs.Parts.{Reads};
 ghost use Rattle.m161_debug.specs.Commands.{first_word};
-ghost use Rattle.s161_debug.specs.Lines.{asked_by, is_silent, jump_text, IsLong};
+ghost use Rattle.s161_debug.specs.Lines.{asked_by, is_silent, jump_text, trace_text, IsLong};
 
 use m161_text::cut_at_space;
 
@@ -18,6 +18,8 @@ pub(crate) enum Asked {
     Quit,
     /// The state before an event.
     Jump,
+    /// The last events that were made.
+    Trace,
     /// A command of the session.
     Command,
 }
@@ -34,6 +36,8 @@ pub(crate) fn asked_by(line: &str) -> Asked
         Asked::Quit
     } else if first_word(line) == "j" {
         Asked::Jump
+    } else if first_word(line) == "y" {
+        Asked::Trace
     } else {
         Asked::Command
     }
@@ -64,6 +68,13 @@ pub(crate) fn event_of_jump(line: &str) -> Option<u64>
     ensures { Reads IsLong jump_text line.now result }
 {
     parse_long(line.strip_prefix("j ")?)
+}
+
+/// How many of the last events a line shows; `None` of a line that isn't `y N`.
+pub(crate) fn number_to_trace(line: &str) -> Option<u64>
+    ensures { Reads IsLong trace_text line.now result }
+{
+    parse_long(line.strip_prefix("y ")?)
 }
 
 // The number of a decimal text below 2^64 without leading zeros.

@@ -7,7 +7,7 @@ ghost use Rattle.s161_base.specs.Samples.{image_file};
 ghost use Rattle.s161_base.specs.Streams.{streams};
 ghost use Rattle.s161_debug.specs.Debugs.{IsDebug, IsDebugFault, debug_files};
 
-use crate::Session;
+use crate::debugged::Debugged;
 use crate::left::Left;
 use crate::opening::open;
 use crate::serving::serve;
@@ -49,7 +49,7 @@ pub fn debug<'a, F: FileSource, I: Read, O: Write>(
         (F.asked files.new) }
 {
     let opened = open(alloc, files, task)?;
-    let session = Session::with_style(opened.machine, opened.style);
+    let session = Debugged::new(opened.machine, opened.style, opened.again);
     let left = Left::new(opened.events);
     serve(alloc, session, left, input, output)
 }

@@ -16,7 +16,7 @@ u t P                      g, and stops at a trap of processor P
 u r P N                    g, and stops once its register N is another
 u i P I                    g, and stops once its TLB row I is another
 u o                        g, and stops once a byte is sent
-j K                        goes to the state before event K; the later ones are left again
+j K                        goes back to the state before event K, or on, whatever the breakpoints
 w                          where the started processors are
 a                          how many events were made, and how many with those that are left
 r P                        the registers of processor P
@@ -26,6 +26,7 @@ t P                        its TLB
 m ADDR N                   N words of RAM
 x ADDR N | x ADDR N P      N instructions; as processor P fetches them
 l N                        the last N entries of the log
+y N                        the last N events that were made, as trace shows them
 help                       prints this
 quit                       ends
 ";

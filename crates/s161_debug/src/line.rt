@@ -1,9 +1,10 @@
 //! Reading the lines of an input byte by byte, so that none is read before the line is done that
 //! stands before it.
 
-ghost use Rattle.std.specs.Prelude.{◌≡◌, ◌<◌, [], false, length, IfErr, IfNone, IfOk, IfSome};
+ghost use Rattle.std.specs.Prelude.{◌≡◌, ◌<◌, false, IfErr, IfNone, IfOk, IfSome};
 ghost use Rattle.s161_debug.specs.helpers.Sessions.{IsUnfinished, ReadsLine};
 
+use crate::blanks::keep;
 use s161_base::fault::{Fault, Unread};
 use s161_base::streams::read_byte;
 use std::alloc::Global;
@@ -15,7 +16,7 @@ const LIMIT: usize = 402_653_184;
 /// A line of an input, without its end.
 #[derive(Drop)]
 pub(crate) struct Line {
-    /// Its bytes.
+    /// Its words, with one space between two.
     pub(crate) bytes: Vec<u8>,
     /// Whether it has an end; only the last line may lack it.
     pub(crate) ended: bool,
@@ -34,25 +35,25 @@ pub(crate) fn read_line<'a, I: Read>(
     ensures err { IfErr result (IsUnfinished (I.remaining input.old) (I.remaining input.new)) }
 {
     let mut bytes = Vec::new(alloc);
-    for _byte in 0..LIMIT + 1 {
+    let mut apart = false;
+    for many in 0..LIMIT + 1 {
         let Some(byte) = read_byte(input)? else {
-            return Ok(last_line(bytes));
+            return Ok(last_line(bytes, many));
         };
         if byte == b'\n' {
             return Ok(Some(Line { bytes, ended: true }));
         }
-        bytes.extend_from_slice(&[byte])?;
+        apart = keep(&mut bytes, apart, byte)?;
     }
     Err(Fault::Input(Unread::TooLong))
 }
 
-// The last line, without an end, if it has a byte.
-fn last_line(bytes: Vec<u8>) -> Option<Line>
-    ensures none { IfNone result (bytes.items ≡ []) }
-    ensures some { IfSome result (λ line. (line.bytes ≡ bytes) × (line.ended ≡ false)
-        × (0 < length bytes.items)) }
+// The last line, without an end, if so many bytes of it, at least one, were read.
+fn last_line(bytes: Vec<u8>, many: usize) -> Option<Line>
+    ensures none { IfNone result (many ≡ 0) }
+    ensures some { IfSome result (λ line. (line.bytes ≡ bytes) × (line.ended ≡ false) × (0 < many)) }
 {
-    if bytes.is_empty() {
+    if many == 0 {
         return None;
     }
     Some(Line {

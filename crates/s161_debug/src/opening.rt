@@ -32,12 +32,13 @@ use s161_run::policy::read_keys;
 use s161_run::schedule::{chosen_events, events_made};
 use std::alloc::Global;
 
-/// The machine of a session, its events, and how it shows registers and addresses.
+/// The machine of a session, its events, and how it shows registers and addresses, twice.
 #[derive(Drop)]
 pub(crate) struct Opened {
     pub(crate) machine: Machine,
     pub(crate) events: Vec<Event>,
     pub(crate) style: Style,
+    pub(crate) again: Style,
 }
 
 /// The machine of a session, and its events.
@@ -55,7 +56,8 @@ struct Listed {
 }
 
 /// Reads the image and then the file of the events, or of the keys of the driven run that chooses
-/// them; boots the image; makes the driven run on a copy of the state; and reads the image's symbols.
+/// them; boots the image; makes the driven run on a copy of the state; and reads the image's symbols,
+/// twice.
 ///
 /// # Errors
 /// The first fault.
@@ -68,6 +70,7 @@ pub(crate) fn open<'a, F: FileSource>(
     ensures ok { IfOk result (λ opened. Opens task.entry (F.known files.old)
         (image_file (F.known files.old) task.entry.image.now) opened.machine opened.events.items
         opened.style) }
+    ensures again { IfOk result (λ opened. opened.again ≡ opened.style) }
     ensures fault { IfErr result (IsEarlyFault task.entry (F.known files.old)
         (image_file (F.known files.old) task.entry.image.now)) }
     ensures asks { AsksFor (debug_files task.entry) result (F.asked files.old)
@@ -77,10 +80,12 @@ pub(crate) fn open<'a, F: FileSource>(
     let image = file.as_slice();
     let booted = open_image(alloc, files, image, task.size, task.source)?;
     let style = style_of(alloc, task.registers, task.symbols, task.image, image)?;
+    let again = style_of(alloc, task.registers, task.symbols, task.image, image)?;
     Ok(Opened {
         machine: booted.machine,
         events: booted.events,
         style,
+        again,
     })
 }
 

@@ -5,8 +5,8 @@ ghost use Rattle.s161_base.specs.Streams.{streams};
 ghost use Rattle.s161_debug.specs.Sessions.{Breaks, Ends};
 ghost use Rattle.s161_debug.specs.helpers.Sessions.{DoesTurn, Turns, place};
 
-use crate::Session;
 use crate::answer::answer;
+use crate::debugged::Debugged;
 use crate::left::Left;
 use crate::line::{Line, read_line};
 use s161_base::fault::{Fault, Unread};
@@ -22,7 +22,7 @@ use std::io::{Read, Write};
 /// refused for the bytes of a line.
 pub(crate) fn serve<'a, I: Read, O: Write>(
     alloc: Global,
-    session: Session,
+    session: Debugged,
     left: Left,
     input: &mut I,
     output: &mut O,
@@ -46,7 +46,7 @@ pub(crate) fn serve<'a, I: Read, O: Write>(
 // Does the next line of an input, if there is one. Returns whether another may follow.
 fn serve_line<'a, I: Read, O: Write>(
     alloc: Global,
-    session: &mut Session,
+    session: &mut Debugged,
     left: &mut Left,
     input: &mut I,
     output: &mut O,
@@ -63,7 +63,7 @@ fn serve_line<'a, I: Read, O: Write>(
 // Does a line, and writes what it prints. Returns whether another may follow.
 fn do_line<'a, O: Write>(
     alloc: Global,
-    session: &mut Session,
+    session: &mut Debugged,
     left: &mut Left,
     line: &Line,
     output: &mut O,

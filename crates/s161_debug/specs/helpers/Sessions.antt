@@ -10,6 +10,7 @@ use Rattle.s161_base.specs.declared.fault.Unread.TheVariants.{Failed, NotUtf8, T
 use Rattle.s161_base.specs.Known.{IsText}
 use Rattle.s161_base.specs.Streams.{AppendsSome}
 use Rattle.s161_debug.specs.declared.line.Line.{Line}
+use Rattle.s161_debug.specs.Blanks.{spaced}
 use Rattle.s161_debug.specs.Lines.{Does, asked_by}
 
 -- The next line of a session.
@@ -27,7 +28,8 @@ ReadsBytes input ended line left =
 
 abbrev pub ReadsLine : Option (List ℕ) → Option Line → Option (List ℕ) → Type 0
 ReadsLine input None left = IsAtEnd left × Consumes input left []
-ReadsLine input (Some line) left = ReadsBytes input line.ended line.bytes.items left
+ReadsLine input (Some line) left =
+    (bytes : List ℕ) × ReadsBytes input line.ended bytes left × (line.bytes.items ≡ spaced bytes)
 
 -- why a line isn't read to its end
 abbrev pub IsUnread : Fault → List ℕ → Type 0
@@ -50,7 +52,7 @@ pub record Place : Type 0 where
 abbrev pub place : SessionState → List Event → Option (List ℕ) → Place
 place session events output = record { session = session; events = events; output = output }
 
--- a line is done, and a part of what it prints is written
+-- a line is done, whose blanks are spaced, and a part of what it prints is written
 pub record Answers
     (line : List ℕ) (p : Place) (q : Place)
     (IsWritten : Option (List ℕ) → Option (List ℕ) → List ℕ → Type 0) : Type 0 where
@@ -85,7 +87,7 @@ pub record TakesLine
   pub ended : Bool
   pub line : List ℕ
   pub reads : ReadsBytes input ended line left
-  pub turn : DoesTurn ended line p result q
+  pub turn : DoesTurn ended (spaced line) p result q
 
 -- the result of asking for the next line
 abbrev pub Turns :

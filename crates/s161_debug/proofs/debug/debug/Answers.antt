@@ -19,13 +19,13 @@ returns-clause-ok g c =
     let opened = c.in_ok-opened.opened in
     let x = streams (g.I.Read.remaining c.args.input.now) (g.I.Read.remaining c.serve.new.input) (g.O.Write.contents c.args.output.now) (g.O.Write.contents c.serve.new.output) in
     let S : SessionState → Type 0 = λ s. Ends s opened.events.items x in
-    let L : List Event → Type 0 = λ left. Ends c.with_style-session.result left x in
+    let L : List Event → Type 0 = λ left. Ends c.new-session.result left x in
     on_ok c.serve.result (λ ends. record {
       booted = opened.machine;
       events = opened.events.items;
       style = opened.style;
       opens = c.in_ok-opened.ensures.ok;
-      ends = subst S c.with_style-session.ensures (subst L c.new-left.ensures ends);
+      ends = subst S c.new-session.ensures (subst L c.new-left.ensures ends);
     }) c.serve.ensures.ok
 
 pub returns-clause-fault : goal.returns-clause-fault
@@ -34,8 +34,8 @@ returns-clause-fault g c =
     let x = streams (g.I.Read.remaining c.args.input.now) (g.I.Read.remaining c.serve.new.input) (g.O.Write.contents c.args.output.now) (g.O.Write.contents c.serve.new.output) in
     if_err c.serve.result (λ fault breaks.
     let S : SessionState → Type 0 = λ s. Breaks s opened.events.items x fault in
-    let L : List Event → Type 0 = λ left. Breaks c.with_style-session.result left x fault in
-    inr (opened.machine, opened.events.items, opened.style, c.in_ok-opened.ensures.ok, subst S c.with_style-session.ensures (subst L c.new-left.ensures breaks)))
+    let L : List Event → Type 0 = λ left. Breaks c.new-session.result left x fault in
+    inr (opened.machine, opened.events.items, opened.style, c.in_ok-opened.ensures.ok, subst S c.new-session.ensures (subst L c.new-left.ensures breaks)))
     c.serve.ensures.err
 
 pub returns-in_err-opened-clause-asks : goal.returns-in_err-opened-clause-asks
@@ -47,5 +47,5 @@ pub returns-clause-asks : goal.returns-clause-asks
 returns-clause-asks g c =
     let asked = g.F.FileSource.asked in
     let x = streams (g.I.Read.remaining c.args.input.now) (g.I.Read.remaining c.serve.new.input) (g.O.Write.contents c.args.output.now) (g.O.Write.contents c.serve.new.output) in
-    session_asks c.with_style-session.result c.new-left.result x c.serve.result c.serve.ensures.err (debug_files c.args.task) (asked c.args.files.now) (asked c.open.new.files)
+    session_asks c.new-session.result c.new-left.result x c.serve.result c.serve.ensures.err (debug_files c.args.task) (asked c.args.files.now) (asked c.open.new.files)
     c.in_ok-opened.ensures.asks

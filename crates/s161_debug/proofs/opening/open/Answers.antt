@@ -33,6 +33,11 @@ returns-in_err-style-clause-fault g c =
     let made = err_from_is_err_and c.from_residual-in_err-style.result c.from_residual-in_err-style.ensures.1 in
     rw (made.1, made.2) (inl refl)
 
+pub returns-in_err-again-clause-fault : goal.returns-in_err-again-clause-fault
+returns-in_err-again-clause-fault g c =
+    let made = err_from_is_err_and c.from_residual-in_err-again.result c.from_residual-in_err-again.ensures.1 in
+    rw (made.1, made.2) (inl refl)
+
 pub returns-clause-ok : goal.returns-clause-ok
 returns-clause-ok g c =
     let known = g.F.FileSource.known c.args.files.now in
@@ -71,6 +76,15 @@ returns-in_err-style-clause-asks g c =
     let from = source_files c.args.task.source in
     let all = asks_both image from (asked c.args.files.now) (asked c.read_image.new.files) (asked c.open_image.new.files) c.in_ok-file.ensures.asks c.in_ok-booted.ensures.asks in
     let made = err_from_is_err_and c.from_residual-in_err-style.result c.from_residual-in_err-style.ensures.1 in
+    rw (made.1, made.2) (after_all (debug_files c.args.task) (asked c.args.files.now) (asked c.open_image.new.files) Memory all tt)
+
+pub returns-in_err-again-clause-asks : goal.returns-in_err-again-clause-asks
+returns-in_err-again-clause-asks g c =
+    let asked = g.F.FileSource.asked in
+    let image = image_files c.args.task.image.now in
+    let from = source_files c.args.task.source in
+    let all = asks_both image from (asked c.args.files.now) (asked c.read_image.new.files) (asked c.open_image.new.files) c.in_ok-file.ensures.asks c.in_ok-booted.ensures.asks in
+    let made = err_from_is_err_and c.from_residual-in_err-again.result c.from_residual-in_err-again.ensures.1 in
     rw (made.1, made.2) (after_all (debug_files c.args.task) (asked c.args.files.now) (asked c.open_image.new.files) Memory all tt)
 
 pub returns-clause-asks : goal.returns-clause-asks

@@ -1,11 +1,7 @@
-use Rattle.std.proofs.Common.{None, refl, subst, sym}
+use Rattle.std.proofs.Common.{None, refl, subst}
 use Rattle.std.proofs.lemmas.Result.{err_from_is_err_and}
 use Rattle.m161_machine.specs.declared.conf.Conf.{Conf}
-use Rattle.m161_machine.specs.State.{State}
-use Rattle.s161_run.specs.Driven.{rules_of}
-use Rattle.s161_run.specs.Schedules.{Chose}
 use Rattle.s161_debug.specs.helpers.Debugs.{IsBootFault}
-use Rattle.s161_debug.specs.Debugs.{IsMachineFault}
 use Rattle.s161_debug.proofs.Faults.{not_booted}
 use Rattle.s161_debug.proofs.opening.open_chosen.Goals as goal
 

@@ -1,4 +1,4 @@
-use Rattle.std.proofs.Common.{◌≡◌, inl, inr, refl, subst, sym, List, ℕ, IfSome}
+use Rattle.std.proofs.Common.{◌≡◌, inl, inr, subst, sym, List, ℕ, IfSome}
 use Rattle.std.proofs.lemmas.Result.{err_from_is_err_and}
 use Rattle.s161_base.proofs.Asking.{asks_both, image_unread, later}
 use Rattle.s161_base.specs.Asked.{image_files}
