@@ -191,7 +191,7 @@ read:
   u m ADDR  u r P N  u i P I  u t P  u o
                        as g, and stops after the first event that changes the word of RAM, register
                        N of P or row I of its TLB, that traps P, or that sends a byte
-  j K                  goes back to the state before event K of those that were made
+  j K                  goes back to the state before event K, or on, whatever the breakpoints
   s P  s P N  k HH  o  makes an event, or N Steps, that aren't FILE's
   w                    shows where each processor is
   a                    shows how many events were made, and how many with the others
@@ -200,9 +200,11 @@ read:
   m ADDR N  x ADDR N   shows N words of memory or of code, 1 to 1024
   x ADDR N P           the same as processor P would fetch them
   l N                  shows the log's last N entries, 1 to 1024, or all that it keeps
+  y N                  shows the last N events that were made, 1 to 1024, as trace does
   help  quit
 ADDR has one to eight hexadecimal digits, behind 0x or not; with --symbols it may be a name too, or
-NAME+N, N being written so. An error of a command is printed as `? Name`, and the next one is done.
+NAME+N, N being written so. Spaces and tabs count as one space between words, and as none around them.
+An error of a command is printed as `? Name`, and the next one is done.
 The image, FILE and keys have at most 402653184 bytes each, and so has a line of the input.
 
 Exit status:

@@ -316,7 +316,7 @@ static COMMANDS: [Case; 6] = [
         words: &["s161", "debug", "image", "text"],
         program: &POWER_OFF,
         text: &["s 0 3\n"],
-        input: "\nz\nr  0\nr 1\ng 2\ng\ng\n",
+        input: "\nz\nr 00\nr 1\ng 2\ng\ng\n",
         status: 0,
         output: &[
             "? Unknown\n? BadArgument\n? BadProcessor\n",
