@@ -5,7 +5,7 @@ _s161_of_command() {
     case $1 in
     '') options='-h --help -V --version' arguments=(commands) ;;
     demo) options='-h --help' arguments=() ;;
-    run) options='--ram --cpus --log --link --strict --show-log --only-log --threads --burst --turns --delayed --random --changes --within --events --transfer --keys --gap -h --help' arguments=('files @sample') ;;
+    run) options='--ram --cpus --log --link --strict --show-log --only-log --only-output --threads --burst --turns --delayed --random --changes --within --events --transfer --keys --gap -h --help' arguments=('files @sample') ;;
     console) options='--ram --cpus --log --link --strict --turns --delayed --random --changes --within --events --transfer --gap -h --help' arguments=('files @sample') ;;
     schedule) options='--ram --cpus --log --link --strict --turns --delayed --random --changes --within --events --transfer --keys --gap -h --help' arguments=('files @sample') ;;
     search) options='--ram --cpus --log --link --strict --seeds --delays --turns --from --jobs --watches --never --output --whole --changes --within --events --transfer --keys --gap -h --help' arguments=('files @sample') ;;
