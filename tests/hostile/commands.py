@@ -266,6 +266,7 @@ def small(make):
         Command(["run", "hello.elf"], "scheduled", hello),
         Command(["run", "hello.elf", *one, "--show-log"], "scheduled", hello),
         Command(["run", "hello.elf", *one, "--only-log"], "scheduled", hello),
+        Command(["run", "hello.elf", *one, "--only-output"], "scheduled", hello),
         Command(["run", "hello.elf", *one, "--log", "3", "--show-log"], "scheduled", hello),
         Command(["run", "@sample", *two, "--show-log"], "scheduled", shootdown),
         Command(["run", "hello.elf", *one, "--turns", "1"], "driven"),

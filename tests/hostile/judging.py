@@ -103,9 +103,14 @@ def option(words, name, value):
     return words + [name, value]
 
 
+def says_stop_apart(command):
+    """Whether why a run stopped is said on standard error."""
+    return command.kind == "console" or "--only-log" in command.words or "--only-output" in command.words
+
+
 def judge_stop(command, answer, usual):
     """A run that ended as memory was refused to event K: what it printed is that of the events before."""
-    stop = answer.errors if command.kind == "console" else answer.output
+    stop = answer.errors if says_stop_apart(command) else answer.output
     if "--only-log" in command.words:
         k = entries_of(answer.output)
     else:
@@ -130,9 +135,7 @@ def wanted_of_stop(command, k, line):
     """Both streams of a run whose event K is refused for memory."""
     words, text = first_events(command, k)
     first = running.place.undisturbed(words, text)
-    if "--only-log" in command.words:
-        return (first.output, b"")
-    if command.kind == "console":
+    if says_stop_apart(command):
         return (first.output, line)
     if not first.output.endswith(b"stop: end\n"):
         raise Wrong(f"the first {k} events don't end")
@@ -180,7 +183,7 @@ def without(words):
             skip -= 1
         elif word in ("--from", "--count"):
             skip = 1
-        elif word not in ("--show-log", "--only-log", "--names", "--symbols"):
+        elif word not in ("--show-log", "--only-log", "--only-output", "--names", "--symbols"):
             kept.append(word)
     return kept
 
