@@ -2,14 +2,12 @@ use Rattle.std.proofs.Common.{◌≡◌, ◌∙◌, refl, ap, sym, subst, ℕ, �
 use Rattle.std.specs.Prelude.{flat_map, slice_index}
 use Rattle.std.specs.List.{range_with_len}
 use Rattle.std.proofs.lemmas.List.{append-nil, length-append}
-use Rattle.m161_machine.specs.State.{State}
-use Rattle.m161_alike.specs.declared.known.Known.{Known}
 use Rattle.m161_alike.specs.View.{known_of, processor_view}
 use Rattle.m161_alike.specs.Words.{board_words, memory_words, optional}
 use Rattle.m161_alike.specs.WordsLaw.{words_at}
 use Rattle.m161_machine.specs.State.{processor_at}
 use Rattle.m161_states.specs.Question.{Question, booted, processors_of}
-use Rattle.m161_states.specs.System.{Explored, Flags}
+use Rattle.m161_states.specs.System.{Explored}
 use Rattle.m161_states.specs.Views.{beside_words, counted, flag_words, view}
 use Rattle.m161_reach.specs.Reach.{IsMet}
 use Rattle.m161_reach.specs.helpers.Restore.{AreWordsFrom, again, agreed_in}

@@ -1,5 +1,5 @@
-use Rattle.std.proofs.Common.{◌≡◌, ◌∙◌, refl, ap, sym, subst, ℕ, zero, suc, ◌+◌, ◌<◌, ◌≤◌, arith, Bool, true, false, List, [], ◌∷◌, ◌++◌, length, get_or, map}
-use Rattle.std.specs.Prelude.{◌==◌, ◌||◌, not, All, flat_map, if◌then◌else◌}
+use Rattle.std.proofs.Common.{◌≡◌, ◌∙◌, refl, ap, sym, subst, ℕ, zero, suc, ◌+◌, ◌<◌, arith, Bool, true, false, List, ◌++◌, length}
+use Rattle.std.specs.Prelude.{◌==◌, ◌||◌, not, flat_map, if◌then◌else◌}
 use Rattle.std.specs.List.{range_with_len}
 use Rattle.std.proofs.lemmas.List.FromFn.{get_or-map-range_with_len, length-map-range_with_len}
 use Rattle.m161_cpu.specs.Processor.{Processor, stopped_processor}
@@ -8,7 +8,7 @@ use Rattle.m161_alike.specs.declared.known.Known.{Known}
 use Rattle.m161_alike.specs.declared.reads.Reads.{Reads}
 use Rattle.m161_alike.specs.Restored.{with_ticks}
 use Rattle.m161_alike.specs.RestoredBoard.{HasParts, with_board_of}
-use Rattle.m161_alike.specs.View.{count_in, known_of, processor_view, random_in}
+use Rattle.m161_alike.specs.View.{known_of, processor_view}
 use Rattle.m161_alike.specs.Words.{HasSizes, board_words, memory_words, processor_words}
 use Rattle.m161_machine.specs.Restore.{with_made, with_memory}
 use Rattle.m161_alike.specs.WordsLaw.{AreOfOneConf, words_at}

@@ -1,5 +1,5 @@
-use Rattle.std.proofs.Common.{◌≡◌, ◌∙◌, refl, ap, sym, ℕ, zero, suc, ◌+◌, ◌*◌, ◌<◌, arith, Bool, true, false, List, [], ◌∷◌, length, get_or, map, Option, None, Some}
-use Rattle.std.specs.Prelude.{◌==◌, flat_map, if◌then◌else◌, slice_index}
+use Rattle.std.proofs.Common.{◌≡◌, ◌∙◌, refl, sym, ℕ, zero, suc, ◌+◌, ◌*◌, ◌<◌, arith, Bool, true, false, List, [], ◌∷◌, length, get_or, map, Option, None, Some}
+use Rattle.std.specs.Prelude.{◌==◌, flat_map, slice_index}
 use Rattle.std.specs.List.{range_with_len}
 use Rattle.std.proofs.lemmas.List.FromFn.{fill_by_all}
 use Rattle.m161_alike.specs.Words.{flag, optional}

@@ -1,10 +1,8 @@
-use Rattle.std.proofs.Common.{◌≡◌, ◌∙◌, ap, sym, [], ◌∷◌, ◌++◌, ◌+◌, ◌*◌, ◌/◌, arith, length, map}
-use Rattle.std.specs.Prelude.{flat_map}
+use Rattle.std.proofs.Common.{◌≡◌, ◌∙◌, ap, sym, [], ◌∷◌, ◌++◌, ◌+◌, arith, length, map}
 use Rattle.std.specs.List.{range_with_len}
 use Rattle.std.proofs.lemmas.List.{length-append}
 use Rattle.std.proofs.lemmas.List.FromFn.{map-range_with_len_more}
 use Rattle.m161_states.specs.System.{Flags}
-use Rattle.m161_states.specs.Views.{flag_words}
 use Rattle.m161_reach.specs.helpers.Restore.{flags_in}
 use Rattle.m161_reach.proofs.Encoding.{flags_size}
 use Rattle.m161_reach.proofs.RemakingKept.{flags_back}

@@ -1,4 +1,4 @@
-use Rattle.std.proofs.Common.{◌≡◌, ◌∙◌, ap, sym, List, ◌++◌, drop, get_or}
+use Rattle.std.proofs.Common.{◌∙◌, ap, List, drop, get_or}
 use Rattle.std.specs.Prelude.{flat_map, slice_index}
 use Rattle.m161_states.specs.Views.{counted, flag_words}
 use Rattle.m161_reach.specs.helpers.Restore.{agreed_in}

@@ -1,6 +1,6 @@
-use Rattle.std.proofs.Common.{◌≡◌, ◌∙◌, ap, sym, subst, ◌%◌, arith, length}
+use Rattle.std.proofs.Common.{◌≡◌, ◌∙◌, ap, sym, subst, ◌%◌, length}
 use Rattle.m161_machine.specs.State.{State}
-use Rattle.m161_machine.specs.Restore.{with_made, with_memory}
+use Rattle.m161_machine.specs.Restore.{with_made}
 use Rattle.m161_alike.specs.RestoredBoard.{with_board_of}
 use Rattle.m161_states.specs.System.{fresh}
 use Rattle.m161_reach.specs.helpers.Restore.{with_remade}

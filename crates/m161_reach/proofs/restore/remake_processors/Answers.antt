@@ -1,14 +1,13 @@
-use Rattle.std.proofs.Common.{◌≡◌, ◌∙◌, ap, sym, subst, ℕ, ◌+◌, ◌-◌, ◌*◌, ◌<◌, arith, drop, get_or, length, take}
-use Rattle.std.specs.Prelude.{slice_set}
+use Rattle.std.proofs.Common.{◌≡◌, ◌∙◌, ap, sym, ◌+◌, ◌-◌, ◌*◌, ◌<◌, arith, drop, length, take}
 use Rattle.std.proofs.lemmas.List.{length-set}
 use Rattle.std.proofs.lemmas.List.Edits.{fill_by_more}
 use Rattle.std.proofs.lemmas.List.FromFn.{fill_by_all}
-use Rattle.m161_cpu.specs.Processor.{Processor, stopped_processor}
+use Rattle.m161_cpu.specs.Processor.{stopped_processor}
 use Rattle.m161_cpu.specs.Restore.{restored_processor}
 use Rattle.m161_machine.specs.State.{State, processor_at}
 use Rattle.m161_alike.specs.Restored.{processor_in, rows_in}
 use Rattle.m161_alike.specs.View.{known_of}
-use Rattle.m161_reach.specs.helpers.Restore.{remade, with_remade}
+use Rattle.m161_reach.specs.helpers.Restore.{remade}
 use Rattle.m161_reach.proofs.restore.remake_processors.Goals as goal
 
 pub loop-p-preserved : goal.loop-p-preserved

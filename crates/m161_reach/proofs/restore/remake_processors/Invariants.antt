@@ -1,4 +1,4 @@
-use Rattle.std.proofs.Common.{◌≡◌, ℕ, ◌<◌, ◌≤◌, length}
+use Rattle.std.proofs.Common.{◌≡◌, ℕ, ◌<◌, length}
 use Rattle.m161_machine.specs.State.{State, processor_at}
 use Rattle.m161_alike.specs.declared.known.Known.{Known}
 use Rattle.m161_states.specs.Shape.{IsShaped}

@@ -1,4 +1,3 @@
-use Rattle.std.proofs.Common.{◌≡◌, ◌∙◌, ap, sym, ◌++◌, drop, take}
 use Rattle.m161_reach.proofs.Splitting.{split_is}
 use Rattle.m161_reach.proofs.restore.split.Goals as goal
 

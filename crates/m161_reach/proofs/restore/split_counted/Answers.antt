@@ -1,4 +1,4 @@
-use Rattle.std.proofs.Common.{◌≡◌, ◌∙◌, ap, sym, subst, List, ◌++◌, arith, drop, get_or, length}
+use Rattle.std.proofs.Common.{◌∙◌, ap, sym, List, arith, drop, get_or, length}
 use Rattle.std.proofs.lemmas.List.{length-append}
 use Rattle.m161_reach.proofs.Splitting.{rest_all}
 use Rattle.m161_reach.proofs.restore.split_counted.Goals as goal

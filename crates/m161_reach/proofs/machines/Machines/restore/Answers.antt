@@ -9,7 +9,7 @@ use Rattle.m161_states.specs.Shape.{IsShaped}
 use Rattle.m161_states.specs.System.{Explored, fresh, start}
 use Rattle.m161_states.specs.Views.{beside_words, counted}
 use Rattle.m161_states.proofs.Shapes.{valid_start}
-use Rattle.m161_reach.specs.helpers.Restore.{AreWordsFrom, again}
+use Rattle.m161_reach.specs.helpers.Restore.{AreWordsFrom}
 use Rattle.m161_reach.proofs.Asked.{bytes_are, processors_are, state_is}
 use Rattle.m161_reach.proofs.Placing.{beside_size, board_long, board_part, first_size, first_words, memory_part, placed, rest_size, words_from}
 use Rattle.m161_reach.proofs.machines.Machines.restore.Goals as goal
