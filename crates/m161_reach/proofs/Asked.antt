@@ -5,7 +5,7 @@ use Rattle.m161_machine.specs.State.{State}
 use Rattle.m161_judge.specs.Verdict.{Criteria}
 use Rattle.m161_alike.specs.declared.known.Known.{Known}
 use Rattle.m161_states.specs.Question.{booted, least, processors_of}
-use Rattle.m161_states.specs.System.{fresh}
+use Rattle.m161_states.specs.System.{fresh, start}
 use Rattle.m161_reach.specs.Reach.{CanBeAsked, question_of, start_in}
 
 -- What is asked of a machine that is at boot.
@@ -22,3 +22,6 @@ start_is boot goal known h = ap fresh h.is_boot ∙ sym (ap boot_state (booted_i
 
 pub bytes_are : (boot : State) (goal : Criteria) (known : Known) → CanBeAsked boot goal → boot.memory ≡ (booted (question_of boot goal known)).bytes
 bytes_are boot goal known h = sym (ap (λ (s : Start). s.bytes) (booted_is boot goal known h))
+
+pub state_is : (boot : State) (goal : Criteria) (known : Known) → CanBeAsked boot goal → boot ≡ (start (question_of boot goal known)).state
+state_is boot goal known h = h.is_boot ∙ sym (ap boot_state (booted_is boot goal known h))

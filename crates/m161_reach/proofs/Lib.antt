@@ -5,3 +5,9 @@ mod Encoding
 mod Advancing
 mod Asked
 mod Meeting
+mod Splitting
+mod Remaking
+mod RemakingKept
+mod RemakingMemory
+mod Placing
+mod Laws

@@ -1,7 +1,8 @@
 //! What is kept of the watches.
 
-ghost use Rattle.std.specs.Prelude.{◌≡◌, IfOk, length, map};
-ghost use Rattle.m161_states.specs.System.{all_after, flags_after, no_flags};
+ghost use Rattle.std.specs.Prelude.{◌≡◌, IfOk, List, flat_map, length, map};
+ghost use Rattle.m161_states.specs.System.{Flags, all_after, flags_after, no_flags};
+ghost use Rattle.m161_states.specs.Views.{flag_words};
 
 use m161_audit::Watch;
 use std::alloc::{AllocError, Global};
@@ -40,6 +41,17 @@ pub fn keep_watches(alloc: Global, watches: &[Watch]) -> Result<Vec<Kept>, Alloc
     let mut kept = Vec::with_capacity(alloc, watches.len())?;
     for i in 0..watches.len() {
         kept.push_reserved(kept_of(false, false));
+    }
+    Ok(kept)
+}
+
+/// What is kept, by its words.
+pub fn keep_again(alloc: Global, words: &[u32]) -> Result<Vec<Kept>, AllocError>
+    ensures { IfOk result (λ kept. (flags : List Flags) → words.now ≡ flat_map flag_words flags → kept.items ≡ flags) }
+{
+    let mut kept = Vec::with_capacity(alloc, words.len() / 2)?;
+    for i in 0..words.len() / 2 {
+        kept.push_reserved(kept_of(words[2 * i] == 1, words[2 * i + 1] == 1));
     }
     Ok(kept)
 }

@@ -16,6 +16,7 @@ mod judge;
 mod kept;
 mod machines;
 mod place;
+mod restore;
 
 pub use machines::Machines;
 pub use place::Place;

@@ -3,7 +3,7 @@
 ghost use Rattle.std.specs.Prelude.{◌≡◌, ◌+◌, ◌<◌, ◌++◌, IfOk, OnOk};
 ghost use Rattle.m161_explore.specs.Rules.{Advances};
 ghost use Rattle.m161_states.specs.Question.{processors_of};
-ghost use Rattle.m161_states.specs.System.{agreed_at_boot, start};
+ghost use Rattle.m161_states.specs.System.{Explored, agreed_at_boot, start};
 ghost use Rattle.m161_states.specs.Verdicts.{is_end};
 ghost use Rattle.m161_states.specs.Views.{view};
 ghost use Rattle.m161_judge.specs.Judge.{bytes_of};
@@ -14,6 +14,7 @@ use crate::encode::{push_beside, push_board, push_processors};
 use crate::judge::is_end_of;
 use crate::kept::keep_watches;
 use crate::place::Place;
+use crate::restore::{read_beside, remake, split, split_counted};
 use m161_alike::write_memory;
 use m161_bus::Console;
 use m161_explore::Advanced;
@@ -27,6 +28,7 @@ use std::marker::Model;
 /// A machine at boot, and what is asked of it. Contracts see the question.
 #[derive(Drop)]
 pub struct Machines<'a, T: Tlb, D: Console> {
+    alloc: Global,
     boot: &'a Core<T, D>,
     goal: &'a Goal<'a>,
     known: Known,
@@ -55,11 +57,21 @@ fn agreed_at_boot(output: Option<&[u8]>) -> Option<u32>
 
 impl<'a, T: Tlb + Drop, D: Console + Drop> Machines<'a, T, D> {
     /// The machine that is at boot, and what is asked of it, with this known of time.
-    pub fn new(boot: &'a Core<T, D>, goal: &'a Goal<'a>, known: Known) -> Machines<'a, T, D>
+    pub fn new(
+        alloc: Global,
+        boot: &'a Core<T, D>,
+        goal: &'a Goal<'a>,
+        known: Known,
+    ) -> Machines<'a, T, D>
         requires { CanBeAsked boot.now.state goal.now }
         ensures { result ≡ question_of boot.now.state goal.now known }
     {
-        Machines { boot, goal, known }
+        Machines {
+            alloc,
+            boot,
+            goal,
+            known,
+        }
     }
 
     /// How many events there are.
@@ -129,5 +141,33 @@ impl<'a, T: Tlb + Drop, D: Console + Drop> Machines<'a, T, D> {
         push_beside(place, words)?;
         push_board(&place.core, words)?;
         write_memory(&place.core, self.boot.memory(), words)
+    }
+
+    /// Makes a state one with this view, whatever it was before. Allocates a machine.
+    ///
+    /// # Errors
+    /// Memory is refused; or the words are those of a state that no machine can hold, such as one in
+    /// which Random has another row than 8 to 63. The definition of a Step has no bounds, so it is
+    /// known by reading alone that no such state is met.
+    pub fn restore(&self, place: &mut Place<T, D>, words: &[u32]) -> Result<(), AllocError>
+        requires { (x : Explored) × IsMet self.now x × (view self.now x ≡ words.now) }
+        ensures { OnOk result (IsMet self.now place.new × (view self.now place.new ≡ words.now)) }
+    {
+        self.boot.law();
+        let goal = self.goal;
+        let number = self.boot.processors() as usize;
+        let first = split(words, 245 * number);
+        let second = split(first.1, 4 + 2 * goal.watches.len());
+        let third = split_counted(second.1);
+        let (typed, agreed, kept) = read_beside(self.alloc, second.0)?;
+        let mut core = self.boot.copy(self.alloc)?;
+        remake(&mut core, self.boot.memory(), first.0, third.0, third.1)?;
+        *place = Place {
+            core,
+            typed,
+            kept,
+            agreed,
+        };
+        Ok(())
     }
 }
