@@ -10,4 +10,3 @@ mod Remaking
 mod RemakingKept
 mod RemakingMemory
 mod Placing
-mod Laws

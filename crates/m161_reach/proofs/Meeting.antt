@@ -19,35 +19,9 @@ use Rattle.m161_states.specs.Verdicts.{stop_by}
 use Rattle.m161_states.proofs.Shapes.{valid_next}
 use Rattle.m161_reach.specs.Reach.{IsMet, rules_of}
 use Rattle.m161_reach.specs.helpers.Advance.{AdvancesBy, asked, unmade}
+use Rattle.m161_reach.specs.helpers.Laws.{met_next}
 
 -- The states that are met.
-
-all_size : (word : ℕ) (ws : List Watch) (fs : List Flags) → length fs ≡ length ws → length (all_after word ws fs) ≡ length ws
-all_size word [] fs h = refl
-all_size word (w ∷ ws) [] h = absurd (let bad : ⊥ = omega (arith, h) in bad)
-all_size word (w ∷ ws) (f ∷ fs) h = ap (λ n. suc n) (all_size word ws fs (omega (arith, h)))
-
-behind_size : (stored : Option ℕ) (ws : List Watch) (fs : List Flags) → length fs ≡ length ws → length (flags_behind stored ws fs) ≡ length ws
-behind_size None ws fs h = h
-behind_size (Some word) ws fs h = all_size word ws fs h
-
-same_some : (u v : Explored) → ◌≡◌ {A = Option Explored} (Some u) (Some v) → u ≡ v
-same_some u v h = cc
-
-accepted_size : (goal : Criteria) (x u : Explored) (e : Event) (r : Result (Outcome × State) Refusal) → length x.flags ≡ length goal.watches →
-    accepted goal x e r ≡ Some u → length u.flags ≡ length goal.watches
-accepted_size goal x u e (Ok given) h is =
-    subst (λ (y : Explored). length y.flags ≡ length goal.watches) (same_some (behind goal x e given.1) u is)
-    (behind_size (stored_by e x.state) goal.watches x.flags h)
-accepted_size goal x u e (Err r) h is = absurd (let bad : ◌≡◌ {A = Option Explored} None (Some u) = is in cc)
-
-next_size : (goal : Criteria) (x u : Explored) (e : Option Event) → length x.flags ≡ length goal.watches → next_by goal x e ≡ Some u →
-    length u.flags ≡ length goal.watches
-next_size goal x u None h is = absurd (let bad : ◌≡◌ {A = Option Explored} None (Some u) = is in cc)
-next_size goal x u (Some e) h is = accepted_size goal x u e (result_of (fresh x.state) e) h is
-
-pub met_next : (q : Question) (x u : Explored) (n : ℕ) → IsMet q x → next q x n ≡ Some u → IsMet q u
-met_next q x u n h is = record { valid = valid_next q x u n h.valid is; kept = next_size q.goal x u (event_of q x n) h.kept is }
 
 unmade_met : (q : Question) (u : Explored) → IsMet q u → IsMet q (unmade u)
 unmade_met q u h = record {

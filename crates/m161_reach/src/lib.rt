@@ -17,6 +17,7 @@ mod kept;
 mod machines;
 mod place;
 mod restore;
+mod system;
 
 pub use machines::Machines;
 pub use place::Place;
