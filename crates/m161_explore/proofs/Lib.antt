@@ -6,6 +6,7 @@ pub mod Laws
 pub mod Links
 pub mod Order
 pub mod Parts
+pub mod Pieces
 pub mod Runs
 pub mod Spreading
 pub mod Steps

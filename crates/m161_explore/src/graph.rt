@@ -2,7 +2,7 @@
 ghost use Rattle.std.specs.Prelude.{◌≡◌, ℕ, ◌<◌, List, [], ◌∷◌, length, reverse, IfOk};
 ghost use Rattle.m161_explore.specs.helpers.Search.{AreEarlier, IsTrail};
 
-use super::keys::Keys;
+use super::views::Views;
 use std::alloc::{AllocError, Global};
 
 /// How a state was found: by an event from an earlier one.
@@ -15,7 +15,7 @@ pub struct Node {
 /// The states by number: their views, and how they were found.
 #[derive(Drop)]
 pub struct Graph {
-    pub keys: Keys,
+    pub keys: Views,
     pub nodes: Vec<Node>,
     /// For each state and event, one more than the number of the next state, or 0.
     pub links: Vec<u32>,
@@ -27,7 +27,7 @@ pub fn start_alone(alloc: Global, words: &[u32]) -> Result<Graph, AllocError>
     ensures nodes { IfOk result (λ graph. graph.nodes.items ≡ record { parent = 0; event = 0 } ∷ []) }
     ensures links { IfOk result (λ graph. graph.links.items ≡ []) }
 {
-    let mut keys = Keys::new(alloc)?;
+    let mut keys = Views::new(alloc)?;
     keys.push(alloc, words)?;
     let mut nodes = Vec::new(alloc);
     nodes.push(Node {

@@ -1,6 +1,6 @@
 //! Lists of words, each once, by number: one behind the other in memory, found by a hash, and compared
 //! in full.
-ghost use Rattle.std.specs.Prelude.{◌≡◌, ℕ, ◌+◌, ◌-◌, ◌*◌, ◌<◌, ◌++◌, ◌^◌, List, [], ◌∷◌, length, slice_index_or, IfOk, MatchOption, OnOk};
+ghost use Rattle.std.specs.Prelude.{◌≡◌, ℕ, ◌+◌, ◌-◌, ◌*◌, ◌<◌, ◌++◌, ◌^◌, List, [], ◌∷◌, length, slice_index_or, IfOk, MatchOption, OnErr, OnOk};
 ghost use Rattle.m161_explore.specs.helpers.Keys.{AreChained, AreCuts, parts};
 
 use super::hash::bucket_of;
@@ -131,10 +131,10 @@ impl Keys {
         find_in(&self.words, &self.cuts, &self.heads, &self.before, words)
     }
 
-    /// Makes twice as many buckets.
+    /// Makes twice as many buckets, if there is memory.
     fn grow(&mut self, alloc: Global) -> Result<(), AllocError>
         requires { length self.old < 2 ^ 32 }
-        ensures { OnOk result (self.new ≡ self.old) }
+        ensures { self.new ≡ self.old }
     {
         let mut heads = empty_heads(alloc, self.heads.len().saturating_mul(2))?;
         relink(&self.words, &self.cuts, &mut heads, &mut self.before);
@@ -144,7 +144,8 @@ impl Keys {
 
     fn add(&mut self, words: &[u32]) -> Result<(), AllocError>
         requires { length self.old + 1 < 2 ^ 32 }
-        ensures { OnOk result (self.new ≡ self.old ++ words.now ∷ []) }
+        ensures ok { OnOk result (self.new ≡ self.old ++ words.now ∷ []) }
+        ensures err { OnErr result (self.new ≡ self.old) }
     {
         let number = self.before.len() as u32 + 1;
         let place = bucket_of(words, self.heads.len());
@@ -159,10 +160,11 @@ impl Keys {
         Ok(())
     }
 
-    /// Puts a list behind the others.
+    /// Puts a list behind the others. Where memory is refused, nothing is changed.
     pub fn push(&mut self, alloc: Global, words: &[u32]) -> Result<(), AllocError>
         requires { length self.old + 1 < 2 ^ 32 }
-        ensures { OnOk result (self.new ≡ self.old ++ words.now ∷ []) }
+        ensures ok { OnOk result (self.new ≡ self.old ++ words.now ∷ []) }
+        ensures err { OnErr result (self.new ≡ self.old) }
     {
         if self.before.len() >= self.heads.len() {
             self.grow(alloc)?;

@@ -9,6 +9,9 @@
 //! order    the shorter list first; of two as long, the one that is less where they first differ
 //! ```
 //!
+//! A view is kept as the numbers of its pieces, and each different piece once: views of a few hundred
+//! words that are much alike take about a hundred bytes a state.
+//!
 //! What the system is, its caller says. This is a search in breadth over views, as explicit-state
 //! checkers make it; the rest is this project's own.
 #![tactic(auto)]
@@ -19,6 +22,7 @@ mod hash;
 mod keys;
 mod search;
 mod system;
+mod views;
 mod whole;
 
 pub use system::{Advanced, System};

@@ -50,7 +50,8 @@ fn arrive<S: System>(
 {
     words.clear();
     system.encode(state, words)?;
-    if let Some(known) = graph.keys.find(words) {
+    let found = graph.keys.find(alloc, words)?;
+    if let Some(known) = found {
         graph.links.push(known as u32 + 1)?;
         return Ok(Visit::Went);
     }
@@ -84,7 +85,8 @@ fn try_event<S: System>(
     ensures few { OnOk result (length graph.new.keys ≤ limit) }
     ensures visits { IfOk result (Visits (S.rules system.now) (S.is_valid system.now) limit graph.new.keys graph.new.nodes.items graph.new.links.items from (event + 1)) }
 {
-    system.restore(state, graph.keys.get(from as usize))?;
+    graph.keys.get(from as usize, words)?;
+    system.restore(state, words)?;
     let advanced = system.advance(state, event)?;
     match advanced {
         Advanced::Stopped(reason) => Ok(Visit::StoppedBy(reason)),

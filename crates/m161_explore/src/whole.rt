@@ -54,8 +54,10 @@ fn ends_of<S: System>(
         AreEnds (S.rules system.now) (S.is_valid system.now) graph.now.keys ends.items) }
 {
     let mut ends = Vec::new(alloc);
+    let mut words = Vec::new(alloc);
     for at in 0..graph.keys.len() {
-        system.restore(state, graph.keys.get(at))?;
+        graph.keys.get(at, &mut words)?;
+        system.restore(state, &words)?;
         ends.push(system.is_end(state))?;
     }
     Ok(ends)

@@ -1,4 +1,4 @@
-use Rattle.std.specs.Prelude.{◌≡◌, ℕ, ◌==◌, ◌&&◌, nat_lt, List, [], ◌∷◌, slice_index_or, Option, None, Some, if◌then◌else◌}
+use Rattle.std.specs.Prelude.{◌≡◌, ℕ, ◌==◌, ◌&&◌, nat_lt, [], ◌∷◌, slice_index_or, Option, None, Some, if◌then◌else◌}
 use Rattle.m161_explore.specs.Rules.{Rules}
 use Rattle.m161_explore_tests.specs.declared.table.Table.{Table}
 

@@ -22,7 +22,7 @@ pub struct Table {
 }
 
 /// Where an event of a state leads.
-fn behind(table: &Table, state: u32, event: u32) -> u32
+pub fn behind(table: &Table, state: u32, event: u32) -> u32
     ensures { result ≡ place_behind table.now state event }
 {
     let at = state as usize;

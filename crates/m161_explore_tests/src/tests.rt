@@ -1,5 +1,6 @@
 //! Explorations of small tables. What is expected was counted by hand.
 
+use crate::long::{Long, Shape};
 use crate::table::Table;
 use m161_explore::{Answer, explore};
 use std::test::Fail;
@@ -21,6 +22,33 @@ const TRAP: Table = Table {
     wrong: 9,
     stop: 9,
 };
+
+/// From each state to the next one, and from the last one to the first by either event.
+const RING: Table = Table {
+    first: [1, 2, 3, 4, 5, 6, 7, 0],
+    second: [8, 8, 8, 8, 8, 8, 8, 0],
+    end: 0,
+    wrong: 9,
+    stop: 9,
+};
+
+/// Views that are kept as pieces of 64 words: those of a shape differ in a word of the first, the second or
+/// the last of three pieces, or in their number of words alone, where one may have no words, and one may
+/// be the beginning of the next up to where a piece ends, or a word before or behind that.
+static SHAPES: [Shape; 12] = [
+    Shape::Marked(0, 191),
+    Shape::Marked(63, 128),
+    Shape::Marked(64, 127),
+    Shape::Marked(100, 91),
+    Shape::Marked(128, 63),
+    Shape::Marked(191, 0),
+    Shape::Marked(64, 0),
+    Shape::Counted(0, false),
+    Shape::Counted(61, false),
+    Shape::Counted(125, false),
+    Shape::Counted(0, true),
+    Shape::Counted(63, true),
+];
 
 #[test]
 fn each_list_comes_to_an_end(rt: HostRuntime) -> Result<(), Fail> {
@@ -119,5 +147,57 @@ fn the_limit_leaves_it_open(rt: HostRuntime) -> Result<(), Fail> {
 fn the_system_stops_it(rt: HostRuntime) -> Result<(), Fail> {
     let table = Table { stop: 3, ..DIAMOND };
     assert!(rt; matches!(explore(rt.alloc(), &table, 9)?, Answer::Ended(0)));
+    Ok(())
+}
+
+#[test]
+fn long_views_are_known_again(rt: HostRuntime) -> Result<(), Fail> {
+    for shape in SHAPES.iter() {
+        let diamond = Long {
+            table: DIAMOND,
+            shape: *shape,
+        };
+        assert!(rt;
+            matches!(
+                explore(rt.alloc(), &diamond, 9)?,
+                Answer::Clean { states: 4 }
+            )
+        );
+    }
+    Ok(())
+}
+
+#[test]
+fn long_views_are_told_apart(rt: HostRuntime) -> Result<(), Fail> {
+    for shape in SHAPES.iter() {
+        let ring = Long {
+            table: RING,
+            shape: *shape,
+        };
+        assert!(rt; matches!(explore(rt.alloc(), &ring, 8)?, Answer::Clean { states: 8 }));
+        assert!(rt; matches!(explore(rt.alloc(), &ring, 7)?, Answer::Open { size: 6 }));
+    }
+    Ok(())
+}
+
+#[test]
+fn states_with_long_views_are_made_again(rt: HostRuntime) -> Result<(), Fail> {
+    for shape in SHAPES.iter() {
+        let ring = Long {
+            table: Table { wrong: 7, ..RING },
+            shape: *shape,
+        };
+        match explore(rt.alloc(), &ring, 9)? {
+            Answer::Found {
+                events,
+                verdict,
+                states,
+            } => {
+                assert_eq!(rt; events.as_slice(), [0, 0, 0, 0, 0, 0, 0, 1].as_slice());
+                assert!(rt; verdict == 7 && states == 8);
+            }
+            _ => assert!(rt; false),
+        }
+    }
     Ok(())
 }

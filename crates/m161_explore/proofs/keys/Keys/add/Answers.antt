@@ -28,8 +28,10 @@ invariant_of-self-2 c =
     }
 
 pub returns : goal.returns
-returns c =
-    pushed_parts c.self.inside.cuts.items c.reserve.new.self.items c.push_reserved.new.self.items c.self.inside.words.items
-    c.extend_from_slice.new.self.items c.args.words.now c.len-end.result c.self.invariant.cuts c.reserve.ensures.items
-    c.in_ok-extend_from_slice.ensures.items c.push_reserved.ensures.items (omega arith)
-    ∙ ap (λ x. x ++ c.args.words.now ∷ []) c.self.view_is
+returns c = record {
+  ok = pushed_parts c.self.inside.cuts.items c.reserve.new.self.items c.push_reserved.new.self.items c.self.inside.words.items
+      c.extend_from_slice.new.self.items c.args.words.now c.len-end.result c.self.invariant.cuts c.reserve.ensures.items
+      c.in_ok-extend_from_slice.ensures.items c.push_reserved.ensures.items (omega arith)
+      ∙ ap (λ x. x ++ c.args.words.now ∷ []) c.self.view_is;
+  err = tt;
+}
