@@ -94,6 +94,21 @@ pub(crate) fn find_reach<T: Tlb + Drop, D: Console + Drop>(
     if never.is_empty() {
         return Ok(None);
     }
+    reach_copy(alloc, core, events, never)
+}
+
+// The same, of a state that stays as it is.
+// For LLVM: where there are no addresses, no room for a machine is cleared.
+#[inline(never)]
+fn reach_copy<T: Tlb + Drop, D: Console + Drop>(
+    alloc: Global,
+    core: &Core<T, D>,
+    events: &[Event],
+    never: &[u32],
+) -> Result<Option<Reach>, AuditError>
+    ensures found { FindsReach never.now core.now.state events.now result }
+    ensures within { IfOk result (λ reach. IfSome reach (λ r. r.place < length events.now)) }
+{
     let mut copy = core.copy(alloc)?;
     reach_along(&mut copy, events, never)
 }

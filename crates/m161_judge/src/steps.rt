@@ -29,6 +29,21 @@ fn find_stale<T: Tlb + Drop, D: Console + Drop>(
     if watches.is_empty() {
         return Ok(Finding::Clean);
     }
+    audit_copy(alloc, core, events, watches)
+}
+
+// The first stale use of a run from a state, which stays as it is.
+// For LLVM: where there are no watches, no room for a machine is cleared.
+#[inline(never)]
+fn audit_copy<T: Tlb + Drop, D: Console + Drop>(
+    alloc: Global,
+    core: &Core<T, D>,
+    events: &[Event],
+    watches: &[Watch],
+) -> Result<Finding, AuditError>
+    ensures found { AuditsState core.now.state events.now watches.now result }
+    ensures within { IfOk result (IsBelow (2 ^ 64 - 1)) }
+{
     let mut copy = core.copy(alloc)?;
     audit_core(alloc, &mut copy, events, watches)
 }

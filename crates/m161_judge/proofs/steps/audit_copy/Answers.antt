@@ -1,6 +1,6 @@
 use Rattle.std.proofs.Common.{arith, length}
 use Rattle.m161_judge.proofs.Finding.{found_below, result_below}
-use Rattle.m161_judge.proofs.steps.find_stale.Goals as goal
+use Rattle.m161_judge.proofs.steps.audit_copy.Goals as goal
 
 pub returns-clause-within : goal.returns-clause-within
 returns-clause-within g c =
