@@ -10,4 +10,5 @@ mod Remaking
 mod RemakingKept
 mod RemakingMemory
 mod Placing
-mod Laws
+mod Knowing
+mod Asking

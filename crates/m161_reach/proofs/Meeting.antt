@@ -1,53 +1,21 @@
-use Rattle.std.proofs.Common.{◌≡◌, ◌∙◌, refl, ap, sym, subst, ℕ, suc, ◌<◌, arith, Bool, true, false, List, [], ◌∷◌, length, Option, None, Some, Result, Ok, Err}
+use Rattle.std.proofs.Common.{◌≡◌, ◌∙◌, refl, ap, sym, subst, ℕ, ◌<◌, arith, Bool, true, false, Option, None, Some}
 use Rattle.std.specs.Prelude.{◌==◌, if◌then◌else◌, nat_lt, option_map, slice_get}
 use Rattle.std.proofs.lemmas.Bool.Decides.{nat_tests}
-use Rattle.m161_cpu.specs.declared.processor.Outcome.{Outcome}
 use Rattle.m161_machine.specs.declared.event.Event.{Event}
 use Rattle.m161_machine.specs.declared.event.Event.TheVariants.{Done, Key, Step}
-use Rattle.m161_machine.specs.declared.event.Refusal.{Refusal}
-use Rattle.m161_machine.specs.State.{State, next as result_of}
-use Rattle.m161_audit.specs.declared.watch.Watch.{Watch}
-use Rattle.m161_judge.specs.Verdict.{Criteria}
 use Rattle.m161_explore.specs.declared.system.Advanced.{Advanced}
 use Rattle.m161_explore.specs.declared.system.Advanced.TheVariants.{Judged, Passed, Refused, Stopped}
 use Rattle.m161_explore.specs.Rules.{Advances}
 use Rattle.m161_states.specs.declared.verdict.Unknown.{Unknown}
 use Rattle.m161_states.specs.declared.verdict.Verdict.{Verdict}
 use Rattle.m161_states.specs.Question.{Question, processors_of}
-use Rattle.m161_states.specs.System.{Explored, Flags, accepted, all_after, behind, event_of, flags_behind, fresh, next, next_by, stored_by}
+use Rattle.m161_states.specs.System.{Explored, event_of}
 use Rattle.m161_states.specs.Verdicts.{stop_by}
-use Rattle.m161_states.proofs.Shapes.{valid_next}
 use Rattle.m161_reach.specs.Reach.{IsMet, rules_of}
 use Rattle.m161_reach.specs.helpers.Advance.{AdvancesBy, asked, unmade}
+use Rattle.m161_reach.specs.helpers.Laws.{met_next}
 
 -- The states that are met.
-
-all_size : (word : ℕ) (ws : List Watch) (fs : List Flags) → length fs ≡ length ws → length (all_after word ws fs) ≡ length ws
-all_size word [] fs h = refl
-all_size word (w ∷ ws) [] h = absurd (let bad : ⊥ = omega (arith, h) in bad)
-all_size word (w ∷ ws) (f ∷ fs) h = ap (λ n. suc n) (all_size word ws fs (omega (arith, h)))
-
-behind_size : (stored : Option ℕ) (ws : List Watch) (fs : List Flags) → length fs ≡ length ws → length (flags_behind stored ws fs) ≡ length ws
-behind_size None ws fs h = h
-behind_size (Some word) ws fs h = all_size word ws fs h
-
-same_some : (u v : Explored) → ◌≡◌ {A = Option Explored} (Some u) (Some v) → u ≡ v
-same_some u v h = cc
-
-accepted_size : (goal : Criteria) (x u : Explored) (e : Event) (r : Result (Outcome × State) Refusal) → length x.flags ≡ length goal.watches →
-    accepted goal x e r ≡ Some u → length u.flags ≡ length goal.watches
-accepted_size goal x u e (Ok given) h is =
-    subst (λ (y : Explored). length y.flags ≡ length goal.watches) (same_some (behind goal x e given.1) u is)
-    (behind_size (stored_by e x.state) goal.watches x.flags h)
-accepted_size goal x u e (Err r) h is = absurd (let bad : ◌≡◌ {A = Option Explored} None (Some u) = is in cc)
-
-next_size : (goal : Criteria) (x u : Explored) (e : Option Event) → length x.flags ≡ length goal.watches → next_by goal x e ≡ Some u →
-    length u.flags ≡ length goal.watches
-next_size goal x u None h is = absurd (let bad : ◌≡◌ {A = Option Explored} None (Some u) = is in cc)
-next_size goal x u (Some e) h is = accepted_size goal x u e (result_of (fresh x.state) e) h is
-
-pub met_next : (q : Question) (x u : Explored) (n : ℕ) → IsMet q x → next q x n ≡ Some u → IsMet q u
-met_next q x u n h is = record { valid = valid_next q x u n h.valid is; kept = next_size q.goal x u (event_of q x n) h.kept is }
 
 unmade_met : (q : Question) (u : Explored) → IsMet q u → IsMet q (unmade u)
 unmade_met q u h = record {
@@ -84,6 +52,7 @@ same_stop q x (Some Done) = refl
 
 came_by : (q : Question) (x t : Explored) (n : ℕ) (came : Advanced Verdict Unknown) → IsMet q x →
     AdvancesBy (asked q.goal q.known) x (event_of q x n) t came → Advances (rules_of q) (IsMet q) x n t came
+unfolding rules_of
 came_by q x t n Refused met h = (sym (same_stop q x (event_of q x n)) ∙ h.0, h.1)
 came_by q x t n Passed met h =
     let u = h.0 in

@@ -1,3 +1,4 @@
+pub use Rattle.m161_explore.specs.Answers
 pub use Rattle.m161_explore.specs.Rules
 pub use Rattle.m161_states.specs.Question
 pub use Rattle.m161_states.specs.System

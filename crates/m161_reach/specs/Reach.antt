@@ -10,12 +10,14 @@ use Rattle.m161_states.specs.System.{Explored, next, start}
 use Rattle.m161_states.specs.Verdicts.{is_end, stop, verdict}
 use Rattle.m161_states.specs.Laws.{IsValid}
 use Rattle.m161_states.specs.Views.{view}
+use Rattle.m161_explore.specs.declared.whole.Answer.{Answer}
+use Rattle.m161_explore.specs.declared.whole.Answer.TheVariants.{Clean, Found, Hung, Open, Ended}
 use Rattle.m161_explore.specs.Rules.{Rules}
 
 -- The states that a machine can reach, in the form in which an exploration asks for them.
 
 -- the events are a Step of each processor, Done, and the next key
-abbrev pub rules_of : Question → Rules Explored Verdict Unknown
+unfoldable pub rules_of : Question → Rules Explored Verdict Unknown
 rules_of q = record {
   width = processors_of q + 2;
   start = start q;
@@ -33,6 +35,10 @@ start_in s = record { bytes = s.memory; entry = (processor_at 0 s.processors).pc
 abbrev pub question_of : State → Criteria → Known → Question
 question_of boot goal known = record { start = start_in boot; goal = goal; known = known }
 
+-- a machine that has accepted no event
+abbrev pub IsAtBoot : State → Type 0
+IsAtBoot s = (start : Start) × (s ≡ boot_state start)
+
 -- a machine is at boot, and the numbers of what is asked of it fit words
 pub record CanBeAsked (boot : State) (goal : Criteria) : Type 0 where
   pub is_boot : boot ≡ boot_state (start_in boot)
@@ -45,3 +51,11 @@ pub record CanBeAsked (boot : State) (goal : Criteria) : Type 0 where
 pub record IsMet (q : Question) (x : Explored) : Type 0 where
   pub valid : IsValid q x
   pub kept : length x.flags ≡ length q.goal.watches
+
+-- an exploration ended for a reason, before its answer
+abbrev pub HasEnded : {V R : Type 0} → Answer V R → Type 0
+HasEnded (Clean states) = ⊥
+HasEnded (Found events what states) = ⊥
+HasEnded (Hung events states) = ⊥
+HasEnded (Open size) = ⊥
+HasEnded (Ended reason) = Unit {0}

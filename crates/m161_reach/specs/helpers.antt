@@ -1,3 +1,4 @@
 -- Definitions that only contracts of private functions or proofs use.
 pub mod Advance
 pub mod Restore
+pub mod Laws

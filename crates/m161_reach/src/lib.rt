@@ -16,7 +16,12 @@ mod judge;
 mod kept;
 mod machines;
 mod place;
+mod question;
 mod restore;
+mod system;
+mod whole;
 
 pub use machines::Machines;
 pub use place::Place;
+pub use question::can_be_asked;
+pub use whole::{Exploration, explore_machine};

@@ -1,0 +1,64 @@
+//! Machines as a system that is explored.
+
+use crate::machines::Machines;
+use crate::place::Place;
+use m161_bus::Console;
+use m161_explore::{Advanced, System};
+use m161_states::{Unknown, Verdict};
+use m161_tlb::Tlb;
+use std::alloc::{AllocError, Global};
+
+impl<'a, T: Tlb + Drop, D: Console + Drop> System for Machines<'a, T, D> {
+    ghost use Rattle.m161_reach.specs.Reach.{IsMet, rules_of};
+    ghost use Rattle.m161_reach.specs.helpers.Laws.{alike_end, alike_next, alike_stop, alike_verdict, met_next, met_start};
+
+    type State = Place<T, D>;
+
+    type Verdict = Verdict;
+
+    type Reason = Unknown;
+
+    ghost rules = { rules_of };
+
+    ghost is_valid = { IsMet };
+
+    fn width(&self) -> u32 {
+        Machines::width(self)
+    }
+
+    fn start(&self, alloc: Global) -> Result<Place<T, D>, AllocError> {
+        self.first(alloc)
+    }
+
+    fn advance(
+        &self,
+        state: &mut Place<T, D>,
+        event: u32,
+    ) -> Result<Advanced<Verdict, Unknown>, AllocError> {
+        Machines::advance(self, state, event)
+    }
+
+    fn encode(&self, state: &Place<T, D>, words: &mut Vec<u32>) -> Result<(), AllocError> {
+        self.write(state, words)
+    }
+
+    fn restore(&self, state: &mut Place<T, D>, words: &[u32]) -> Result<(), AllocError> {
+        Machines::restore(self, state, words)
+    }
+
+    fn is_end(&self, state: &Place<T, D>) -> bool {
+        self.ends_at(state)
+    }
+
+    ghost valid_start = { met_start };
+
+    ghost valid_next = { met_next };
+
+    ghost alike_stop = { alike_stop };
+
+    ghost alike_next = { alike_next };
+
+    ghost alike_verdict = { alike_verdict };
+
+    ghost alike_end = { alike_end };
+}

@@ -1,0 +1,52 @@
+//! The whole exploration of a machine.
+
+ghost use Rattle.std.specs.Prelude.{◌<◌, IfOk};
+ghost use Rattle.m161_explore.specs.Answers.{Answers};
+ghost use Rattle.m161_reach.specs.Reach.{CanBeAsked, HasEnded, question_of, rules_of};
+
+use crate::machines::Machines;
+use m161_bus::Console;
+use m161_explore::{Answer, explore};
+use m161_judge::Goal;
+use m161_machine::Core;
+use m161_states::{Known, Unknown, Verdict};
+use m161_tlb::Tlb;
+use std::alloc::{AllocError, Global};
+
+/// What an exploration of a machine found.
+#[derive(Drop)]
+pub struct Exploration {
+    /// What was known of time: the states are told apart by it.
+    pub known: Known,
+    /// What holds of all lists of events.
+    pub answer: Answer<Verdict, Unknown>,
+}
+
+/// Explores all states of a machine at boot, as long as they are no more than the limit. At first
+/// nothing is known of time; where a Step reads of it, that is known from then on, and the exploration
+/// begins anew, so it never ends for what isn't known.
+///
+/// # Errors
+/// Memory is refused.
+pub fn explore_machine<'a, T: Tlb + Drop, D: Console + Drop>(
+    alloc: Global,
+    boot: &'a Core<T, D>,
+    goal: &'a Goal<'a>,
+    limit: u32,
+) -> Result<Exploration, AllocError>
+    requires asked { CanBeAsked boot.now.state goal.now }
+    requires some { 0 < limit }
+    ensures answers { IfOk result (λ found.
+        Answers (rules_of (question_of boot.now.state goal.now found.known)) limit found.answer) }
+    ensures whole { IfOk result (λ found. HasEnded found.answer → ⊥) }
+{
+    boot.law();
+    let mut known = Known::nothing();
+    loop {
+        let machines = Machines::new(alloc, boot, goal, known);
+        match explore(alloc, &machines, limit)? {
+            Answer::Ended(unknown) => known.insert(unknown.processor, unknown.reads),
+            answer => return Ok(Exploration { known, answer }),
+        }
+    }
+}

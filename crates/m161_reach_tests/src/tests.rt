@@ -1,0 +1,146 @@
+//! Explorations of a machine. The expected values were worked out by hand from the kernels' words.
+
+ghost use Rattle.std.specs.Prelude.{IfOk};
+ghost use Rattle.m161_reach.specs.Reach.{IsAtBoot};
+
+use m161::Core;
+use m161_explore::Answer;
+use m161_judge::Goal;
+use m161_machine::{Conf, LinkUnit};
+use m161_reach::{Exploration, can_be_asked, explore_machine};
+use m161_states::{Known, Reads, Unknown, Verdict};
+use m161_test_support::files::file_at;
+use m161_test_support::outcomes::ENTRY;
+use std::alloc::AllocGlobal;
+use std::fmt::Debug;
+use std::process::Abort;
+use std::test::Fail;
+
+/// Spins: two states, and no end.
+static SPINS: [u32; 2] = [
+    0x1000_ffff, // beq $0, $0, to itself
+    0, // nop
+];
+
+/// Waits for an interrupt.
+static WAITS: [u32; 1] = [
+    0x4200_0020, // wait
+];
+
+/// Reads Random, which goes round 56 rows, and spins. Each place in the circle has every other row.
+static READS_RANDOM: [u32; 3] = [
+    0x4008_0800, // mfc0 $8, $1: Random
+    0x1000_ffff, // beq $0, $0, to itself
+    0, // nop
+];
+
+/// Fails the test where a value isn't the expected one.
+fn same<T: PartialEq + Debug + Copy>(rt: &impl Abort, found: T, expected: T) {
+    assert_eq!(rt; found, expected);
+}
+
+/// A machine of one processor at boot with a kernel.
+#[inline(never)]
+fn booted(rt: &impl AllocGlobal, words: &[u32]) -> Result<Core, Fail>
+    ensures { IfOk result (λ core. IsAtBoot core.state) }
+{
+    let file = file_at(rt.alloc(), ENTRY, words)?;
+    let conf = Conf {
+        ram: 4096,
+        processors: 1,
+        log: 1,
+        link: LinkUnit::Word,
+        strict: false,
+    };
+    Ok(Core::boot(rt.alloc(), &file, conf)?)
+}
+
+/// What is found of a kernel, if this output is asked for.
+#[inline(never)]
+fn found(
+    rt: &(impl Abort + AllocGlobal),
+    words: &[u32],
+    output: Option<&[u8]>,
+    limit: u32,
+) -> Result<Exploration, Fail> {
+    let core = booted(rt, words)?;
+    let goal = Goal {
+        watches: &[],
+        never: &[],
+        output,
+        keys: &[],
+    };
+    let is_asked = 0 < limit && can_be_asked(&core, &goal);
+    same(rt, is_asked, true);
+    if is_asked {
+        Ok(explore_machine(rt.alloc(), &core, &goal, limit)?)
+    } else {
+        Ok(Exploration {
+            known: Known::nothing(),
+            answer: Answer::Clean { states: 0 },
+        })
+    }
+}
+
+/// An answer by numbers: which one, the number of events, and the number of states.
+fn numbers(answer: &Answer<Verdict, Unknown>) -> (u32, usize, u32) {
+    match answer {
+        Answer::Clean { states } => (0, 0, *states),
+        Answer::Found { events, states, .. } => (1, events.len(), *states),
+        Answer::Hung { events, states } => (2, events.len(), *states),
+        Answer::Open { size } => (3, *size, 0),
+        Answer::Ended(_) => (4, 0, 0),
+    }
+}
+
+/// Fails the test where an answer has other numbers.
+fn check(rt: &impl Abort, found: &Exploration, expected: (u32, usize, u32)) {
+    same(rt, numbers(&found.answer), expected);
+}
+
+#[test]
+fn a_circle_hangs(rt: HostRuntime) -> Result<(), Fail> {
+    check(&rt, &found(&rt, &SPINS, None, 1)?, (3, 0, 0));
+    check(&rt, &found(&rt, &SPINS, None, 2)?, (2, 0, 2));
+    check(&rt, &found(&rt, &SPINS, None, 100)?, (2, 0, 2));
+    Ok(())
+}
+
+#[test]
+fn a_machine_that_waits_is_stuck(rt: HostRuntime) -> Result<(), Fail> {
+    match &found(&rt, &WAITS, None, 100)?.answer {
+        Answer::Found {
+            events,
+            verdict,
+            states,
+        } => {
+            same(&rt, events.as_slice() == [0].as_slice(), true);
+            same(&rt, *verdict, Verdict::Stuck);
+            same(&rt, *states, 1);
+        }
+        _ => same(&rt, "another answer", "a verdict"),
+    }
+    Ok(())
+}
+
+#[test]
+fn a_machine_that_waits_may_have_sent_all(rt: HostRuntime) -> Result<(), Fail> {
+    check(&rt, &found(&rt, &WAITS, Some(&[]), 100)?, (0, 0, 2));
+    check(&rt, &found(&rt, &WAITS, Some(&[65]), 100)?, (1, 1, 1));
+    Ok(())
+}
+
+#[test]
+fn random_is_known_where_it_is_read(rt: HostRuntime) -> Result<(), Fail> {
+    let found = found(&rt, &READS_RANDOM, None, 100)?;
+    check(&rt, &found, (2, 0, 57));
+    same(
+        &rt,
+        found.known.of(0),
+        Reads {
+            random: true,
+            count: false,
+        },
+    );
+    Ok(())
+}
