@@ -10,6 +10,7 @@
 //! s161 console IMAGE      runs an ELF file by a policy, with the terminal as its console
 //! s161 schedule IMAGE     prints the events that a policy chooses
 //! s161 search IMAGE       looks for a seed whose run goes wrong, and prints a schedule of it
+//! s161 explore IMAGE      looks at every state that any order of events can reach
 //! s161 replay IMAGE LOG   boots an ELF file, makes the events of a log, and prints whether their
 //!                         outcomes are the log's
 //! s161 trace IMAGE        prints a line for each event of a run

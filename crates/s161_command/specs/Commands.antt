@@ -7,6 +7,7 @@ use Rattle.clap.specs.declared.error.kind.ErrorKind.{ErrorKind}
 use Rattle.clap.specs.declared.error.kind.ErrorKind.TheVariants.{DisplayHelp, DisplayVersion, OutOfMemory}
 use Rattle.m161_order.specs.Order.{order_fault}
 use Rattle.s161_command.specs.declared.drive.Clash.{Clash}
+use Rattle.s161_command.specs.declared.drive.Clash.TheVariants.{ManyNever}
 use Rattle.s161_command.specs.declared.drive.OrderUse.{OrderUse}
 use Rattle.s161_command.specs.declared.drive.OrderUse.TheVariants.{Optional, Needed, Assumed, Seeded, OrFile}
 use Rattle.s161_command.specs.declared.task.AskedSize.{AskedSize}
@@ -14,6 +15,7 @@ use Rattle.s161_command.specs.declared.task.AssemblyTask.{AssemblyTask}
 use Rattle.s161_command.specs.declared.task.ConsoleTask.{ConsoleTask}
 use Rattle.s161_command.specs.declared.task.DebugTask.{DebugTask}
 use Rattle.s161_command.specs.declared.task.DrivenTask.{DrivenTask}
+use Rattle.s161_command.specs.declared.task.ExploreTask.{ExploreTask}
 use Rattle.s161_command.specs.declared.task.FilesTask.{FilesTask}
 use Rattle.s161_command.specs.declared.task.GdbTask.{GdbTask}
 use Rattle.s161_command.specs.declared.task.ListingTask.{ListingTask}
@@ -33,11 +35,11 @@ use Rattle.s161_command.specs.declared.task.Source.TheVariants.{File, Driven}
 use Rattle.s161_command.specs.declared.task.ThreadsTask.{ThreadsTask}
 use Rattle.s161_command.specs.declared.task.TraceTask.{TraceTask}
 use Rattle.s161_command.specs.declared.task.Task.{Task}
-use Rattle.s161_command.specs.declared.task.Task.TheVariants.{Assemble, Audit, Console, Debug, Demo, Disassemble, Gdb, Replay, Run, RunDriven, RunInThreads, Schedule, Search, Trace}
+use Rattle.s161_command.specs.declared.task.Task.TheVariants.{Assemble, Audit, Console, Debug, Demo, Disassemble, Explore, Gdb, Replay, Run, RunDriven, RunInThreads, Schedule, Search, Trace}
 use Rattle.s161_command.specs.Classes.{HasClassLimits, IsClassIf, IsSeeds}
 use Rattle.s161_command.specs.Drives.{AsksDrive, AsksDriveIf, Clashes, IsLongNumberOf, go_together, has_order, long_rule, optional_rule, text_rule, texts_rule, with_console_pace_rules, with_order_rules, with_pace_rules, with_priority_rules}
 use Rattle.s161_command.specs.Links.{IsLink, IsLinkIf, RefusesLink}
-use Rattle.s161_command.specs.Repeated.{texts_of}
+use Rattle.s161_command.specs.Repeated.{AreTooMany, texts_of}
 use Rattle.s161_command.specs.Numbers.{IsNumberIf, IsNumberOf, is_set}
 
 -- The command line, in clap's own words.
@@ -137,6 +139,21 @@ plain_search_line =
 abbrev pub search_line : App
 search_line = with_pace_rules 16_777_216 (with_priority_rules plain_search_line)
 
+-- the arguments of `explore`: an image and options
+abbrev pub explore_line : App
+explore_line =
+    with_rule (with_rule (with_rule (with_rule (with_rule (with_rule (with_rule (with_rule (with_rule
+    (on_image (codes "explore"))
+    (number_rule (codes "ram") (codes "1048576")))
+    (number_rule (codes "cpus") (codes "1")))
+    link_rule)
+    strict_rule)
+    (text_rule (codes "watches")))
+    (texts_rule (codes "never")))
+    (text_rule (codes "output")))
+    (text_rule (codes "keys")))
+    (optional_rule (codes "states") 1 4_294_967_295)
+
 -- the arguments of `schedule`: an image and options; a schedule has at most 16,777,216 events
 abbrev pub schedule_line : App
 schedule_line =
@@ -223,11 +240,12 @@ abbrev pub command_line : App
 command_line =
     with_subcommand (with_subcommand (with_subcommand (with_subcommand (with_subcommand
     (with_subcommand (with_subcommand (with_subcommand (with_subcommand (with_subcommand
-    (with_subcommand program_line
+    (with_subcommand (with_subcommand program_line
     run_line.top)
     console_line.top)
     schedule_line.top)
     search_line.top)
+    explore_line.top)
     trace_line.top)
     replay_line.top)
     debug_line.top)
@@ -318,6 +336,16 @@ pub record AsksSearch (rows : List Row) (task : SearchTask) : Type 0 where
   pub output : option_map (λ name. name.now) task.output ≡ first_of (codes "output") rows
   pub whole : task.whole ≡ is_set (codes "whole") rows
 
+-- `explore` asks for all states of this machine
+pub record AsksExplore (rows : List Row) (task : ExploreTask) : Type 0 where
+  pub image : task.image.now ≡ given_of (codes "image") rows
+  pub size : IsSize 65_536 rows task.size
+  pub keys : option_map (λ name. name.now) task.keys ≡ first_of (codes "keys") rows
+  pub watches : option_map (λ name. name.now) task.watches ≡ first_of (codes "watches") rows
+  pub few : length (texts_of (codes "never") rows) ≤ 64
+  pub output : option_map (λ name. name.now) task.output ≡ first_of (codes "output") rows
+  pub states : IsNumberOf 1_000_000 (one_of (codes "states") rows) task.states
+
 -- a machine of this size is asked for; a log may say what isn't given, and how many entries its own
 -- log keeps has this default
 pub record IsAskedSize (kept : ℕ) (rows : List Row) (size : AskedSize) : Type 0 where
@@ -397,7 +425,7 @@ pub record AsksFiles (name : Text) (log : ℕ) (rows : List Row) (task : FilesTa
 abbrev pub IsOther : Text → Type 0
 IsOther word =
     (word ≡ codes "run") ⊎ (word ≡ codes "console") ⊎ (word ≡ codes "schedule")
-    ⊎ (word ≡ codes "search") ⊎ (word ≡ codes "trace") ⊎ (word ≡ codes "replay")
+    ⊎ (word ≡ codes "search") ⊎ (word ≡ codes "explore") ⊎ (word ≡ codes "trace") ⊎ (word ≡ codes "replay")
     ⊎ (word ≡ codes "debug") ⊎ (word ≡ codes "gdb")
     ⊎ (word ≡ codes "audit") ⊎ (word ≡ codes "as") ⊎ (word ≡ codes "dis")
 
@@ -416,6 +444,8 @@ IsTask command (Console task) =
     IsSomeAnd command (λ given. (given.0 ≡ codes "console") × AsksConsole given.1 task)
 IsTask command (Search task) =
     IsSomeAnd command (λ given. (given.0 ≡ codes "search") × AsksSearch given.1 task)
+IsTask command (Explore task) =
+    IsSomeAnd command (λ given. (given.0 ≡ codes "explore") × AsksExplore given.1 task)
 IsTask command (Trace task) =
     IsSomeAnd command (λ given. (given.0 ≡ codes "trace") × AsksTrace given.1 task)
 IsTask command (Replay task) =
@@ -449,9 +479,14 @@ GoTogether command =
     IfSome command (λ given.
     IfSome (order_use given.0) (λ orders. go_together orders given.1 ≡ true))
 
+-- the options of a command that takes no order can't be followed: why
+abbrev pub ClashesPlainly : List Row → Clash → Type 0
+ClashesPlainly rows ManyNever = AreTooMany (texts_of (codes "never") rows)
+ClashesPlainly rows clash = RefusesLink rows clash
+
 -- the options of a command that takes an order in this way, or none, can't be followed: why
 abbrev pub ClashesAs : Option OrderUse → List Row → Clash → Type 0
-ClashesAs None rows clash = RefusesLink rows clash
+ClashesAs None rows clash = ClashesPlainly rows clash
 ClashesAs (Some orders) rows clash = Clashes orders rows clash
 
 -- the options of a command can't be followed: why

@@ -2,11 +2,11 @@
 
 ghost use Rattle.std.specs.Prelude.{◌≡◌, IfErr, IfOk, None, Some, codes, false};
 ghost use Rattle.clap.specs.Words.{first_of, found_of, rows_of, subcommand_rows_of};
-ghost use Rattle.s161_command.specs.Commands.{AsksAssembly, AsksFiles, AsksListing, AsksReplay, AsksRun, ClashesIn, GoTogether, HasLimits, HasSourceLimits, IsAskedSize, IsSize, IsSource, IsTask, order_use, registers_of, shown_of};
+ghost use Rattle.s161_command.specs.Commands.{AsksAssembly, AsksExplore, AsksFiles, AsksListing, AsksReplay, AsksRun, ClashesIn, GoTogether, HasLimits, HasSourceLimits, IsAskedSize, IsSize, IsSource, IsTask, order_use, registers_of, shown_of};
 ghost use Rattle.s161_command.specs.Drives.{AsksDriveIf, has_order};
 ghost use Rattle.s161_command.specs.Links.{IsLinkIf};
 ghost use Rattle.s161_command.specs.declared.drive.OrderUse.TheVariants.{Assumed, Needed, Optional, OrFile, Seeded};
-ghost use Rattle.s161_command.specs.helpers.Settings.{HasSettings, HasSettingsIf};
+ghost use Rattle.s161_command.specs.helpers.Settings.{HasPlainSettings, HasSettings, HasSettingsIf};
 
 use crate::class::seeds_given;
 use crate::drive::{Clash, Drive, OrderUse, drive_given, has_order};
@@ -14,9 +14,9 @@ use crate::given::{file_given, is_set, long_given, number_given, number_if_given
 use crate::link::link_or_word;
 use crate::settings::{Settings, order_use, settings_given};
 use crate::task::{
-    AskedSize, AssemblyTask, ConsoleTask, DebugTask, DrivenTask, FilesTask, GdbTask, ListingTask,
-    Registers, ReplayTask, RunTask, ScheduleTask, SearchTask, Shown, Size, Source, Task,
-    ThreadsTask, TraceTask,
+    AskedSize, AssemblyTask, ConsoleTask, DebugTask, DrivenTask, ExploreTask, FilesTask, GdbTask,
+    ListingTask, Registers, ReplayTask, RunTask, ScheduleTask, SearchTask, Shown, Size, Source,
+    Task, ThreadsTask, TraceTask,
 };
 use clap::ArgMatches;
 use m161_isa::LinkUnit;
@@ -139,6 +139,22 @@ fn task_of_search<'a>(given: &ArgMatches<'a>, settings: Settings) -> Task<'a>
         output: text_given(given, "output"),
         whole: is_set(given, "whole"),
     })
+}
+
+// The arguments of `explore`.
+fn explore_task_of<'a>(given: &ArgMatches<'a>, settings: Settings) -> ExploreTask<'a>
+    requires { HasPlainSettings (rows_of (found_of given.now)) settings }
+    ensures { AsksExplore (rows_of (found_of given.now)) result }
+{
+    let watches = text_given(given, "watches");
+    ExploreTask {
+        image: file_given(given, "image"),
+        size: size_given(given, 65_536, settings.link),
+        keys: text_given(given, "keys"),
+        watches,
+        output: text_given(given, "output"),
+        states: number_given(given, "states", 1_000_000),
+    }
 }
 
 // The size of a machine, of which a log may say what isn't given; how many entries its own log keeps
@@ -308,6 +324,7 @@ fn task_named<'a>(name: &str, given: &ArgMatches<'a>, settings: Settings) -> Tas
         "console" => task_of_console(given, settings),
         "schedule" => task_of_schedule(given, settings),
         "search" => task_of_search(given, settings),
+        "explore" => Task::Explore(explore_task_of(given, settings)),
         "trace" => task_of_trace(given, settings),
         "replay" => Task::Replay(replay_task_of(given)),
         "debug" => task_of_debug(given, settings),

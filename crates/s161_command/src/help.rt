@@ -8,14 +8,15 @@ pub(crate) const IMAGE_HELP: &str =
 pub(crate) const AFTER_HELP: &str = "\
 Exit status:
   0  a finished demo, schedule, debug, gdb, as or dis, a machine that switched
-     itself off, a log that agrees, a clean run or search, or help
+     itself off, a log that agrees, a clean run, search or exploration, or help
   1  a fault, named on standard error, or a refused event of run, trace or
      console
   2  a rejected command line
   3  the schedule, the events or the Steps of the threads ended
-  4  a log that differs, a stale use, a run that goes wrong in search, or a
-     strict machine that a conflict switched off
-  5  no processor can go on, and no byte or key is left";
+  4  a log that differs, a stale use, a run that goes wrong in search or explore,
+     or a strict machine that a conflict switched off
+  5  no processor can go on, and no byte or key is left
+  6  explore found more states than it may";
 
 /// The end of the help of `run`.
 pub(crate) const AFTER_RUN_HELP: &str = "\
@@ -129,6 +130,30 @@ Exit status:
 Example:
   s161 schedule kernel.elf --cpus 2 --random 7 > seed-7.schedule
   s161 run kernel.elf --cpus 2 < seed-7.schedule";
+
+/// The end of the help of `explore`.
+pub(crate) const AFTER_EXPLORE_HELP: &str = "\
+Every order of events is looked at: at any time each processor may make a Step, a byte that the
+console is sending may be sent, and the next key be typed. States that differ in time alone are one,
+as long as no Step reads time. The answers:
+  clean N      no order, however long, goes wrong, and each can be gone on with to an end; N states
+  open N L     there are more than N states; nothing goes wrong in the first L events
+or, as search prints it, `# states S`, S states being found before, then
+  # stale ..   # reached ..   # conflict ..   # stuck   # output
+and a shortest schedule of what goes wrong; or
+  # hung       and a shortest schedule to a state from which no order leads to an end
+An end is a machine that is off, or one in which nothing is left to do and the console has sent the
+bytes of --output. An ADDRESS of --never is written as in debug, or is a name of the image's symbols.
+A file has at most 402653184 bytes.
+
+Exit status:
+  0  clean
+  1  a fault, named on standard error
+  4  something goes wrong, or hangs
+  6  open: there are more states than --states
+
+Example:
+  s161 explore kernel.elf --cpus 2 --ram 65536";
 
 /// The end of the help of `trace`.
 pub(crate) const AFTER_TRACE_HELP: &str = "\

@@ -21,7 +21,7 @@ pub use command::{never_words, parse};
 pub use drive::{Clash, Drive, OrderUse};
 pub use m161_order::{Order, OrderError};
 pub use task::{
-    AskedSize, AssemblyTask, ConsoleTask, DebugTask, DrivenTask, FilesTask, GdbTask, ListingTask,
-    Registers, Rejection, ReplayTask, RunTask, ScheduleTask, SearchTask, Shown, Size, Source, Task,
-    ThreadsTask, TraceTask,
+    AskedSize, AssemblyTask, ConsoleTask, DebugTask, DrivenTask, ExploreTask, FilesTask, GdbTask,
+    ListingTask, Registers, Rejection, ReplayTask, RunTask, ScheduleTask, SearchTask, Shown, Size,
+    Source, Task, ThreadsTask, TraceTask,
 };

@@ -1,20 +1,20 @@
 //! The table of commands: the arguments of each.
 
 ghost use Rattle.std.specs.Prelude.{◌≡◌};
-ghost use Rattle.s161_command.specs.Commands.{as_line, audit_line, console_line, debug_line, dis_line, gdb_line, replay_line, run_line, schedule_line, search_line, trace_line};
+ghost use Rattle.s161_command.specs.Commands.{as_line, audit_line, console_line, debug_line, dis_line, explore_line, gdb_line, replay_line, run_line, schedule_line, search_line, trace_line};
 ghost use Rattle.s161_command.specs.helpers.Lines.{app_named, demo_line, line_app};
 
 use crate::argument::Argument;
 use crate::help::{
     AFTER_AS_HELP, AFTER_AUDIT_HELP, AFTER_CONSOLE_HELP, AFTER_DEBUG_HELP, AFTER_DIS_HELP,
-    AFTER_GDB_HELP, AFTER_REPLAY_HELP, AFTER_RUN_HELP, AFTER_SCHEDULE_HELP, AFTER_SEARCH_HELP,
+    AFTER_EXPLORE_HELP, AFTER_GDB_HELP, AFTER_REPLAY_HELP, AFTER_RUN_HELP, AFTER_SCHEDULE_HELP, AFTER_SEARCH_HELP,
     AFTER_TRACE_HELP,
 };
 use crate::options::{
     ASKED_CPUS, ASKED_LINK, ASKED_RAM, ASKED_STRICT, BURST, CHANGES, COUNT, CPUS, DEBUG_LOG,
-    DELAYED, DELAYED_TURNS, DELAYS, ENTRIES, EVENTS, FILE, FIRST_EVENT, FIRST_RUN, GAP, IMAGE,
+    DELAYED, DELAYED_TURNS, DELAYS, ENTRIES, EVENTS, EXPLORED_KEYS, FILE, FIRST_EVENT, FIRST_RUN, GAP, IMAGE,
     JOBS, KEYS, LABELS, LINK, LISTED_EVENTS, LOADS, LOG, NAMES, NEVER, ONLY, ONLY_LOG, ONLY_OUTPUT,
-    OUTCOMES, OUTPUT, RAM, RANDOM, SEARCH_WITHIN, SEEDS, SHOW_LOG, STRICT, SYMBOLS, THREADS,
+    OUTCOMES, OUTPUT, RAM, RANDOM, SEARCH_WITHIN, SEEDS, SHOW_LOG, STATES, STRICT, SYMBOLS, THREADS,
     TRANSFER, TURNS, WATCHES, WATCHES_FILE, WHOLE, WITHIN,
 };
 
@@ -26,6 +26,7 @@ pub(crate) enum CommandName {
     Console,
     Schedule,
     Search,
+    Explore,
     Trace,
     Replay,
     Debug,
@@ -47,12 +48,13 @@ pub(crate) struct Line {
 }
 
 /// The commands; help shows them in this order.
-pub(crate) static COMMANDS: [CommandName; 12] = [
+pub(crate) static COMMANDS: [CommandName; 13] = [
     CommandName::Demo,
     CommandName::Run,
     CommandName::Console,
     CommandName::Schedule,
     CommandName::Search,
+    CommandName::Explore,
     CommandName::Trace,
     CommandName::Replay,
     CommandName::Debug,
@@ -151,6 +153,23 @@ static SEARCH: Line = Line {
         TRANSFER,
         KEYS,
         GAP,
+    ],
+};
+
+static EXPLORE: Line = Line {
+    name: "explore",
+    about: "Looks at every state that any order of events can reach, for a kernel that is right in each",
+    arguments: &[
+        IMAGE,
+        RAM,
+        CPUS,
+        LINK,
+        STRICT,
+        WATCHES,
+        NEVER,
+        OUTPUT,
+        EXPLORED_KEYS,
+        STATES,
     ],
 };
 
@@ -291,6 +310,13 @@ fn search_command() -> &'static Line
     &SEARCH
 }
 
+// The line of `explore`.
+fn explore_command() -> &'static Line
+    ensures { line_app result.now ≡ explore_line }
+{
+    &EXPLORE
+}
+
 // The line of `trace`.
 fn trace_command() -> &'static Line
     ensures { line_app result.now ≡ trace_line }
@@ -350,6 +376,7 @@ pub(crate) fn line_of(name: CommandName) -> &'static Line
         CommandName::Console => console_command(),
         CommandName::Schedule => schedule_command(),
         CommandName::Search => search_command(),
+        CommandName::Explore => explore_command(),
         CommandName::Trace => trace_command(),
         CommandName::Replay => replay_command(),
         CommandName::Debug => debug_command(),
@@ -369,6 +396,7 @@ pub(crate) fn after_help_of(name: CommandName) -> Option<&'static str> {
         CommandName::Console => Some(AFTER_CONSOLE_HELP),
         CommandName::Schedule => Some(AFTER_SCHEDULE_HELP),
         CommandName::Search => Some(AFTER_SEARCH_HELP),
+        CommandName::Explore => Some(AFTER_EXPLORE_HELP),
         CommandName::Trace => Some(AFTER_TRACE_HELP),
         CommandName::Replay => Some(AFTER_REPLAY_HELP),
         CommandName::Debug => Some(AFTER_DEBUG_HELP),

@@ -367,6 +367,26 @@ pub(crate) const OUTPUT: Argument = Argument {
     required: false,
 };
 
+/// How many states `explore` may find.
+pub(crate) const STATES: Argument = Argument {
+    name: "states",
+    kind: Kind::Number(ValueParser::Signed(1, 4_294_967_295)),
+    shown: "N",
+    help: "How many states there may be, 1 to 4294967295; 1000000 where it is left out",
+    default: None,
+    required: false,
+};
+
+/// Which keys are typed while all states are looked at.
+pub(crate) const EXPLORED_KEYS: Argument = Argument {
+    name: "keys",
+    kind: Kind::Text,
+    shown: "FILE",
+    help: "The bytes of this file are typed, in their order, each at any time",
+    default: None,
+    required: false,
+};
+
 /// Whether `search` leaves a schedule as it was found.
 pub(crate) const WHOLE: Argument = Argument {
     name: "whole",

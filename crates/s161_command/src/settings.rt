@@ -2,12 +2,11 @@
 //! is copied, so that tasks are read by functions without a fault: each way out of a function costs the
 //! prover more, the more is alive there.
 
-ghost use Rattle.std.specs.Prelude.{◌≡◌, MatchResult, codes};
-ghost use Rattle.clap.specs.Words.{first_of, found_of, rows_of};
-ghost use Rattle.s161_command.specs.Commands.{ClashesAs, order_use};
+ghost use Rattle.std.specs.Prelude.{◌≡◌, MatchResult};
+ghost use Rattle.clap.specs.Words.{found_of, rows_of};
+ghost use Rattle.s161_command.specs.Commands.{ClashesAs, ClashesPlainly, order_use};
 ghost use Rattle.s161_command.specs.Drives.{Clashes};
-ghost use Rattle.s161_command.specs.Links.{IsLinkIf, RefusesLink};
-ghost use Rattle.s161_command.specs.helpers.Settings.{HasSettings, HasSettingsIf};
+ghost use Rattle.s161_command.specs.helpers.Settings.{HasPlainSettings, HasSettings, HasSettingsIf};
 
 use crate::class::{DelayClass, class_given};
 use crate::drive::{Clash, OrderUse, clash_of, gap_given, order_of};
@@ -82,10 +81,12 @@ fn settings_with_order<'a>(given: &ArgMatches<'a>, orders: OrderUse) -> Result<S
 
 // The settings of a command that takes no order.
 fn settings_without_order<'a>(given: &ArgMatches<'a>) -> Result<Settings, Clash>
-    ensures { MatchResult result
-        (λ settings. IsLinkIf (first_of (codes "link") (rows_of (found_of given.now))) settings.link)
-        (RefusesLink (rows_of (found_of given.now))) }
+    ensures { MatchResult result (HasPlainSettings (rows_of (found_of given.now)))
+        (ClashesPlainly (rows_of (found_of given.now))) }
 {
+    if has_too_many(given, "never") {
+        return Err(Clash::ManyNever);
+    }
     match link_if_given(given) {
         Some(link) => Ok(Settings {
             order: Order::Turns(1),

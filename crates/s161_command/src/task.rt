@@ -22,6 +22,8 @@ pub enum Task<'a> {
     Console(ConsoleTask<'a>),
     /// Look for a run that goes wrong, by seeds or by delays.
     Search(SearchTask<'a>),
+    /// Look at every state that an image can reach.
+    Explore(ExploreTask<'a>),
     /// Print a line for each event of a run.
     Trace(TraceTask<'a>),
     /// Replay an image against a log.
@@ -141,6 +143,23 @@ pub struct SearchTask<'a> {
     pub output: Option<&'a str>,
     /// Whether a schedule that is found stays as it is, and isn't shortened.
     pub whole: bool,
+}
+
+/// The arguments of `explore`.
+#[derive(Clone, Copy)]
+pub struct ExploreTask<'a> {
+    /// The image's name.
+    pub image: &'a str,
+    /// The machine's size.
+    pub size: Size,
+    /// The name of the file whose bytes are typed, if there is one.
+    pub keys: Option<&'a str>,
+    /// The name of the watches' file, if there is one.
+    pub watches: Option<&'a str>,
+    /// The name of the file whose bytes the console should send, if there is one.
+    pub output: Option<&'a str>,
+    /// How many states there may be; 0 is no number that is asked for.
+    pub states: u32,
 }
 
 /// How registers are shown in instructions.

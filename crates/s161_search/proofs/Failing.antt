@@ -166,7 +166,7 @@ search_failed task never files image given Output is h = absurd h
 search_failed task never files image given (Source e) is h = absurd h
 
 -- what was read, with other addresses
-read_with : (task : SearchTask) (files : List ℕ → Option (List ℕ)) (image : Option (List ℕ)) (given : Given) (addresses : List ℕ) →
+pub read_with : (task : SearchTask) (files : List ℕ → Option (List ℕ)) (image : Option (List ℕ)) (given : Given) (addresses : List ℕ) →
     IsRead task files image given → IsRead task files image (with_addresses given addresses)
 read_with task files image given addresses is = record {
   is_file = is.is_file;

@@ -7,3 +7,4 @@ pub mod Judging
 pub mod Delaying
 pub mod Numbers
 pub mod Pointing
+pub mod Exploring

@@ -61,7 +61,7 @@ delayed_start task given steps delays s rules rules_are = ap (λ r. cursor_at r 
 
 -- the point before the first event is one of each list's run
 pub starts_all : (s : State) (task : SearchTask) (given : Given) (steps : ℕ) (delays : Delays) (rules : Rules) (point : RunPoint) →
-    rules ≡ rules_of (record task.drive { order = Delayed steps delays }) given.keys → point.core.state ≡ s → point.cursor ≡ cursor_at rules s →
+    rules ≡ rules_of (record task.drive { order = Delayed steps delays }) given.keys → point.core.value.state ≡ s → point.cursor ≡ cursor_at rules s →
     point.events.items ≡ [] → point.passed ≡ 0 → (numbers : List ℕ) → IsPointOf s task given steps numbers point
 starts_all s task given steps delays rules point rules_are state_is cursor_is none passed_is numbers =
     let turns : Turns = record { steps = steps; made = 0 } in
@@ -79,7 +79,7 @@ starts_all s task given steps delays rules point rules_are state_is cursor_is no
 
 -- a copy is one of the same runs
 pub copied : (s : State) (task : SearchTask) (given : Given) (steps : ℕ) (left : List ℕ) (old new : RunPoint) →
-    IsWithLeft old.cursor left new.cursor → new.core.state ≡ old.core.state → new.events.items ≡ old.events.items → new.passed ≡ old.passed →
+    IsWithLeft old.cursor left new.cursor → new.core.value.state ≡ old.core.value.state → new.events.items ≡ old.events.items → new.passed ≡ old.passed →
     (numbers : List ℕ) → IsPointOf s task given steps numbers old → IsPointOf s task given steps numbers new
 copied s task given steps left old new has_left state_is events_are passed_is numbers h =
     let rules = rules_of task.drive given.keys in
@@ -98,13 +98,13 @@ copied s task given steps left old new has_left state_is events_are passed_is nu
       events_are = events_are ∙ h.events_are;
       chosen_are =
           subst (λ t. Chooses rules keys start s h.entries (with_delays d.turns (behind new.passed numbers) new.cursor) t) (sym state_is)
-          (subst (λ c. Chooses rules keys start s h.entries c old.core.state) cursor h.chosen_are);
+          (subst (λ c. Chooses rules keys start s h.entries c old.core.value.state) cursor h.chosen_are);
     }
 
 -- the first events of a list's run, and where they led
 pub begun : (s t : State) (task : SearchTask) (given : Given) (steps : ℕ) (delays : Delays) (rules : Rules) (point : RunPoint) (c : Cursor)
     (events : List Event) → rules ≡ rules_of (record task.drive { order = Delayed steps delays }) given.keys →
-    IsWithLeft point.cursor (behind point.passed (delays_of delays)) c → t ≡ point.core.state → events ≡ point.events.items →
+    IsWithLeft point.cursor (behind point.passed (delays_of delays)) c → t ≡ point.core.value.state → events ≡ point.events.items →
     IsPointOf s task given steps (delays_of delays) point → IsBegun rules task.drive.events s c t events
 begun s t task given steps delays rules point c events rules_are has_left state_is events_are h =
     let plain = rules_of task.drive given.keys in
@@ -115,22 +115,22 @@ begun s t task given steps delays rules point c events rules_are has_left state_
     let there = with_delays h.order.turns left point.cursor in
     let same : h.order ≡ has_left.0 = same_state point.cursor h.order has_left.0 h.order_is has_left.1 in
     let cursor : there ≡ c = (λ i. with_delays (same i).turns left point.cursor) ∙ sym has_left.2 in
-    let run : Chooses listed keys start s h.entries there point.core.state =
-    other_order plain plain.order (Delayed steps delays) keys h.entries start there s point.core.state h.chosen_are in
+    let run : Chooses listed keys start s h.entries there point.core.value.state =
+    other_order plain plain.order (Delayed steps delays) keys h.entries start there s point.core.value.state h.chosen_are in
     subst (λ r. IsBegun r task.drive.events s c t events) (sym rules_are) (record {
       entries = h.entries;
       few = h.few;
       events_are = events_are ∙ h.events_are;
       chosen_are =
           subst (λ u. Chooses listed keys start s h.entries c u) (sym state_is)
-          (subst (λ y. Chooses listed keys start s h.entries y point.core.state) cursor run);
+          (subst (λ y. Chooses listed keys start s h.entries y point.core.value.state) cursor run);
     })
 
 -- further on along the run of a list, a point is one of each list's that agrees with it below the place
 pub gone_on : (s : State) (task : SearchTask) (given : Given) (steps place n most made : ℕ) (delays : Delays) (rules : Rules) (old new : RunPoint)
     (c : Cursor) → rules ≡ rules_of (record task.drive { order = Delayed steps delays }) given.keys →
     IsWithLeft old.cursor (behind old.passed (delays_of delays)) c →
-    PassesNoting rules (slice_get rules.keys) n most c old.core.state old.events.items made new.cursor new.core.state new.events.items →
+    PassesNoting rules (slice_get rules.keys) n most c old.core.value.state old.events.items made new.cursor new.core.value.state new.events.items →
     n ≡ task.drive.events - length old.events.items → most ≡ place - old.passed → new.passed ≡ old.passed + made →
     (others : List ℕ) → AgreeBelow place (delays_of delays) others → IsPointOf s task given steps others old → IsPointOf s task given steps others new
 gone_on s task given steps place n most made delays rules old new c rules_are has_left went n_is most_is passed_is others agree h =
@@ -144,17 +144,17 @@ gone_on s task given steps place n most made delays rules old new c rules_are ha
     let same : has_left.0 ≡ h.order = same_state old.cursor has_left.0 h.order has_left.1 h.order_is in
     let from : c ≡ with_delays turns a old.cursor = has_left.2 ∙ (λ i. with_delays (same i).turns a old.cursor) in
     let es = went.0 in
-    let passes : Passes listed keys (with_delays turns a old.cursor) old.core.state es new.cursor new.core.state made =
-    subst (λ x. Passes listed keys x old.core.state es new.cursor new.core.state made) from
-    (subst (λ r. Passes r (slice_get r.keys) c old.core.state es new.cursor new.core.state made) rules_are went.1) in
+    let passes : Passes listed keys (with_delays turns a old.cursor) old.core.value.state es new.cursor new.core.value.state made =
+    subst (λ x. Passes listed keys x old.core.value.state es new.cursor new.core.value.state made) from
+    (subst (λ r. Passes r (slice_get r.keys) c old.core.value.state es new.cursor new.core.value.state made) rules_are went.1) in
     let few : made ≤ place - old.passed = let few = went.3 in omega (arith, few, most_is) in
-    let on = go_alike listed keys turns old.cursor old.core.state a b es new.cursor new.core.state made
+    let on = go_alike listed keys turns old.cursor old.core.value.state a b es new.cursor new.core.value.state made
     (agree_behind old.passed made place (delays_of delays) others few agree) passes in
     let end = on.0 in
     let x = on.1 in
-    let run : Chooses plain keys (with_delays turns b old.cursor) old.core.state es (with_delays end (behind made b) x) new.core.state =
-    other_order plain (Delayed steps delays) plain.order keys es (with_delays turns b old.cursor) (with_delays end (behind made b) x) old.core.state
-    new.core.state on.3 in
+    let run : Chooses plain keys (with_delays turns b old.cursor) old.core.value.state es (with_delays end (behind made b) x) new.core.value.state =
+    other_order plain (Delayed steps delays) plain.order keys es (with_delays turns b old.cursor) (with_delays end (behind made b) x) old.core.value.state
+    new.core.value.state on.3 in
     let left : behind made b ≡ behind new.passed others = behind_sum old.passed made others ∙ ap (λ m. behind m others) (sym passed_is) in
     let there : with_delays end (behind made b) x ≡ with_delays end (behind new.passed others) new.cursor =
     ap (λ ns. with_delays end ns x) left ∙ ap (with_delays end (behind new.passed others)) (sym on.2) in
@@ -171,7 +171,7 @@ gone_on s task given steps place n most made delays rules old new c rules_are ha
       events_are =
           went.4 ∙ ap (λ xs. xs ++ events_of es) h.events_are ∙ sym (map-append (λ (e : Entry). e.event) h.entries es);
       chosen_are =
-          subst (λ y. Chooses plain keys start s (h.entries ++ es) y new.core.state) there
-          (chooses_append plain keys h.entries es start (with_delays turns b old.cursor) (with_delays end (behind made b) x) s old.core.state
-          new.core.state h.chosen_are run);
+          subst (λ y. Chooses plain keys start s (h.entries ++ es) y new.core.value.state) there
+          (chooses_append plain keys h.entries es start (with_delays turns b old.cursor) (with_delays end (behind made b) x) s old.core.value.state
+          new.core.value.state h.chosen_are run);
     }

@@ -5,4 +5,5 @@ pub mod Seeds
 pub mod Delays
 pub mod Texts
 pub mod Searches
+pub mod Explores
 pub mod helpers

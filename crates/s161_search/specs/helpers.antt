@@ -7,3 +7,4 @@ pub mod Begun
 pub mod Delayed
 pub mod Offers
 pub mod Points
+pub mod Explored

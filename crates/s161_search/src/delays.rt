@@ -12,7 +12,7 @@ ghost use Rattle.s161_search.specs.helpers.Tried.{IsSearchedBy};
 
 use crate::inputs::Inputs;
 use crate::orders::{WrongRun, policy_of, run_from, tested};
-use crate::points::RunPoint;
+use crate::points::{RunPoint, go_along};
 use m161::{Console, Tlb};
 use m161_delays::{Class, Delays, Runs, Searched, Tested, search_lists};
 use m161_drive::Policy;
@@ -116,7 +116,7 @@ impl<'a, 'b> Runs for DelayedRuns<'a, 'b> {
         } = point;
         let left = self.task.drive.events.saturating_sub(events.len() as u64);
         let more = place.saturating_sub(*passed);
-        match m161_places::advance(core, &policy, cursor, left, more, events)? {
+        match go_along(core, &policy, cursor, left, more, events)? {
             Some(made) => *passed += made,
             None => *point = self.start()?,
         }

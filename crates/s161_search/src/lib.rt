@@ -1,10 +1,13 @@
-//! The commands that look for what goes wrong: `audit`, which finds stale uses of the TLB in a run; and
-//! `search`, which looks for a seed whose run goes wrong, and prints its schedule, shortened.
+//! The commands that look for what goes wrong: `audit`, which finds stale uses of the TLB in a run;
+//! `search`, which looks for a seed whose run goes wrong, and prints its schedule, shortened; and
+//! `explore`, which looks at every state that any order of events can reach.
 #![tactic(auto)]
 
 mod again;
+mod answers;
 pub mod audit;
 mod delays;
+pub mod explore;
 mod found;
 mod inputs;
 mod never;

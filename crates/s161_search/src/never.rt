@@ -20,8 +20,11 @@ use s161_base::naming::image_symbols;
 use s161_command::SearchTask;
 use std::alloc::{AllocError, Global};
 
-// Looks whether a watch is bad: the audit of no event says so.
-fn check_watches<'a>(
+/// Looks whether a watch is bad: the audit of no event says so.
+///
+/// # Errors
+/// One is; or memory was refused.
+pub(crate) fn check_watches<'a>(
     alloc: Global,
     booted: &Booted<Tlb, Console>,
     task: SearchTask<'a>,

@@ -110,7 +110,7 @@ pub(crate) fn run_from<'a>(
     match judge_rest(
         alloc,
         booted,
-        &mut core,
+        &mut *core,
         &policy,
         cursor,
         n,

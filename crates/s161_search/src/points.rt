@@ -1,11 +1,12 @@
 //! Points of the runs of lists of delays.
 
-ghost use Rattle.std.specs.Prelude.{◌≡◌, ◌≢◌, [], IfOk, MatchOption};
+ghost use Rattle.std.specs.Prelude.{◌≡◌, ◌≢◌, [], IfOk, IfSome, MatchOption, slice_get};
 ghost use Rattle.m161_drive.specs.declared.orders.OrderState.TheVariants.{ByDelays};
 ghost use Rattle.m161_drive.specs.Choice.{cursor_at};
 ghost use Rattle.m161_drive.specs.Delayed.{DelayState};
 ghost use Rattle.m161_drive.specs.GoingOn.{IsWithLeft};
 ghost use Rattle.m161_order.specs.Delays.{behind, delays_of};
+ghost use Rattle.m161_places.specs.Going.{PassesNoting};
 
 use m161::{Console, Tlb};
 use m161_drive::{Cursor, Policy};
@@ -17,14 +18,33 @@ use std::alloc::{AllocError, Global};
 /// A point of a run: the first events, and where they led.
 #[derive(Drop)]
 pub(crate) struct RunPoint {
-    /// The machine.
-    pub core: Core<Tlb, Console>,
+    /// The machine. In a box, since a point is given from call to call.
+    pub core: Box<Core<Tlb, Console>>,
     /// The cursor of the policy.
     pub cursor: Cursor,
     /// The events that were made.
     pub events: Vec<Event>,
     /// How many places they passed.
     pub passed: u32,
+}
+
+/// Goes on along a run, as `m161_places::advance` does.
+///
+/// # Errors
+/// Memory was refused.
+pub(crate) fn go_along(
+    core: &mut Box<Core<Tlb, Console>>,
+    policy: &Policy,
+    cursor: &mut Cursor,
+    n: u64,
+    places: u32,
+    events: &mut Vec<Event>,
+) -> Result<Option<u32>, AllocError>
+    ensures { IfOk result (λ made. IfSome made (λ passed.
+        PassesNoting policy.now (slice_get policy.now.keys) n places cursor.old core.old.value.state events.old.items passed
+        cursor.new core.new.value.state events.new.items)) }
+{
+    m161_places::advance(&mut **core, policy, cursor, n, places, events)
 }
 
 // The same events again.
@@ -46,11 +66,11 @@ impl RunPoint {
         booted: &Booted<Tlb, Console>,
         policy: &Policy,
     ) -> Result<RunPoint, AllocError>
-        ensures { IfOk result (λ point. (point.core.state ≡ booted.now) × (point.cursor ≡ cursor_at policy.now booted.now)
+        ensures { IfOk result (λ point. (point.core.value.state ≡ booted.now) × (point.cursor ≡ cursor_at policy.now booted.now)
             × (point.events.items ≡ []) × (point.passed ≡ 0)) }
     {
-        let core = booted.copy_core(alloc)?;
-        let cursor = Cursor::new(policy, &core);
+        let core = Box::new(alloc, booted.copy_core(alloc)?)?;
+        let cursor = Cursor::new(policy, &*core);
         Ok(RunPoint {
             core,
             cursor,
@@ -76,10 +96,10 @@ impl RunPoint {
     pub(crate) fn copy_run(
         &self,
         alloc: Global,
-    ) -> Result<(Core<Tlb, Console>, Vec<Event>), AllocError>
-        ensures { IfOk result (λ run. (run.0.state ≡ self.now.core.state) × (run.1.items ≡ self.now.events.items)) }
+    ) -> Result<(Box<Core<Tlb, Console>>, Vec<Event>), AllocError>
+        ensures { IfOk result (λ run. (run.0.value.state ≡ self.now.core.value.state) × (run.1.items ≡ self.now.events.items)) }
     {
-        let core = self.core.copy(alloc)?;
+        let core = Box::new(alloc, self.core.copy(alloc)?)?;
         let events = copy_events(alloc, &self.events)?;
         Ok((core, events))
     }

@@ -7,7 +7,7 @@ use Rattle.s161_command.specs.declared.task.DebugTask.{DebugTask}
 use Rattle.s161_command.specs.declared.task.GdbTask.{GdbTask}
 use Rattle.s161_command.specs.declared.task.TraceTask.{TraceTask}
 use Rattle.s161_command.specs.declared.task.Task.{Task}
-use Rattle.s161_command.specs.declared.task.Task.TheVariants.{Assemble, Audit, Console, Debug, Demo, Disassemble, Gdb, Replay, Run, RunDriven, RunInThreads, Schedule, Search, Trace}
+use Rattle.s161_command.specs.declared.task.Task.TheVariants.{Assemble, Audit, Console, Debug, Demo, Disassemble, Explore, Gdb, Replay, Run, RunDriven, RunInThreads, Schedule, Search, Trace}
 use Rattle.s161_command.specs.Commands.{GoTogether, IsAccepted, IsTask, command_line, never_of}
 use Rattle.s161_base.specs.Asked.{AsksUntil, IsBeforeInput}
 use Rattle.s161_base.specs.declared.fault.Fault.{Fault}
@@ -24,6 +24,7 @@ use Rattle.s161_run.specs.Schedules.{IsScheduledFault}
 use Rattle.s161_run.specs.Replays.{IsReplayFault}
 use Rattle.s161_run.specs.Runs.{IsFaultOf, stop_line}
 use Rattle.s161_run.specs.declared.events.RunStop.{RunStop}
+use Rattle.s161_search.specs.Explores.{as_search}
 use Rattle.s161_search.specs.Searches.{IsSearchFault}
 use Rattle.s161_run.specs.Threads.{IsThreadsFault}
 use Rattle.s161_trace.specs.Traces.{IsTraceFault}
@@ -51,6 +52,8 @@ IsTaskFault never (Debug task) files input fault = ⊥
 IsTaskFault never (Gdb task) files input fault = ⊥
 IsTaskFault never (Search task) files input fault =
     IsSearchFault task never files (image_file files task.image.now) fault
+IsTaskFault never (Explore task) files input fault =
+    IsSearchFault (as_search task) never files (image_file files task.image.now) fault
 IsTaskFault never (Replay task) files input fault =
     IsReplayFault task (image_file files task.image.now) (files task.text.now) fault
 IsTaskFault never (Audit task) files input fault =

@@ -9,7 +9,7 @@ use Rattle.s161_command.specs.declared.task.GdbTask.{GdbTask}
 use Rattle.s161_command.specs.declared.task.Shown.{Shown}
 use Rattle.s161_command.specs.declared.task.TraceTask.{TraceTask}
 use Rattle.s161_command.specs.declared.task.Task.{Task}
-use Rattle.s161_command.specs.declared.task.Task.TheVariants.{Assemble, Audit, Console, Debug, Demo, Disassemble, Gdb, Replay, Run, RunDriven, RunInThreads, Schedule, Search, Trace}
+use Rattle.s161_command.specs.declared.task.Task.TheVariants.{Assemble, Audit, Console, Debug, Demo, Disassemble, Explore, Gdb, Replay, Run, RunDriven, RunInThreads, Schedule, Search, Trace}
 use Rattle.m161_text.specs.Lines.{with_line_end}
 use Rattle.s161_texts.specs.Assemblies.{IsAssembled}
 use Rattle.s161_search.specs.Audits.{IsAudited, audit_files}
@@ -26,6 +26,7 @@ use Rattle.s161_texts.specs.Listings.{IsDisassembled}
 use Rattle.s161_run.specs.Replays.{IsReplayed, replay_files}
 use Rattle.s161_run.specs.Runs.{IsRun, status_of, stop_line, told_text}
 use Rattle.s161_run.specs.declared.events.RunStop.{RunStop}
+use Rattle.s161_search.specs.Explores.{IsExplored, as_search}
 use Rattle.s161_search.specs.Given.{search_files}
 use Rattle.s161_search.specs.Searches.{IsSearched}
 use Rattle.s161_base.specs.Samples.{image_file}
@@ -56,6 +57,7 @@ files_of (Trace task) = trace_files task
 files_of (Debug task) = debug_files task
 files_of (Gdb task) = gdb_files task
 files_of (Search task) = search_files task
+files_of (Explore task) = search_files (as_search task)
 files_of (Replay task) = replay_files task
 files_of (Audit task) = audit_files task
 files_of (Assemble task) = []
@@ -122,6 +124,8 @@ IsResultOf never (Debug task) files input = λ text told status. ⊥
 IsResultOf never (Gdb task) files input = λ text told status. ⊥
 IsResultOf never (Search task) files input =
     Silently (IsSearched task never files (image_file files task.image.now))
+IsResultOf never (Explore task) files input =
+    Silently (IsExplored task never files (image_file files task.image.now))
 IsResultOf never (Replay task) files input =
     Silently (IsReplayed task (image_file files task.image.now) (files task.text.now))
 IsResultOf never (Audit task) files input =
@@ -196,6 +200,7 @@ ReadsNoInput (Trace task) = ⊥
 ReadsNoInput (Debug task) = ⊥
 ReadsNoInput (Gdb task) = ⊥
 ReadsNoInput (Search task) = Unit {0}
+ReadsNoInput (Explore task) = Unit {0}
 ReadsNoInput (Replay task) = Unit {0}
 ReadsNoInput (Audit task) = ⊥
 ReadsNoInput (Assemble task) = ⊥
@@ -243,7 +248,7 @@ HasMore before after = (text : List ℕ) × Appends before after text
 
 -- the exit status of a command that finished without a fault and without a refused event
 abbrev pub IsDone : ℕ → Type 0
-IsDone status = (status ≡ 0) ⊎ (status ≡ 3) ⊎ (status ≡ 4) ⊎ (status ≡ 5)
+IsDone status = (status ≡ 0) ⊎ (status ≡ 3) ⊎ (status ≡ 4) ⊎ (status ≡ 5) ⊎ (status ≡ 6)
 
 -- a command line was followed, and its task finished as `Does` says; or it asks for help or for the
 -- version: clap's text, of which nothing is known, was printed, with the status 0, no file was asked

@@ -35,6 +35,7 @@ use s161_run::schedule::schedule;
 use s161_run::summary::{Ran, status, told};
 use s161_run::threaded::run_in_threads;
 use s161_search::audit::audit;
+use s161_search::explore::explore;
 use s161_search::search::search;
 use s161_texts::assembly::assembly;
 use s161_texts::disassembly::disassembly;
@@ -71,7 +72,7 @@ pub(crate) fn print_task<'a, R: Threads + Wait + Sync, F: FileSource, I: Read, O
         (F.asked files.new) }
     ensures before { IfErr result (λ fault. IsBeforeInput fault (I.remaining input.old)
         (I.remaining input.new)) }
-    ensures within { IfOk result (λ status. (status ≤ 5) × (status ≢ 2)) }
+    ensures within { IfOk result (λ status. (status ≤ 6) × (status ≢ 2)) }
 {
     let mut said = String::new(alloc);
     let finished = finish(rt, alloc, task, never, files, input, &mut said)?;
@@ -114,7 +115,7 @@ fn finish<'a, R: Threads + Wait + Sync, F: FileSource, I: Read>(
         (F.asked files.new) }
     ensures before { IfErr result (λ fault. IsBeforeInput fault (I.remaining input.old)
         (I.remaining input.new)) }
-    ensures within { IfOk result (λ done. (done.status ≤ 5) × (done.status ≢ 2)) }
+    ensures within { IfOk result (λ done. (done.status ≤ 6) × (done.status ≢ 2)) }
 {
     match task {
         Task::Demo => finish_demo(alloc),
@@ -124,6 +125,7 @@ fn finish<'a, R: Threads + Wait + Sync, F: FileSource, I: Read>(
         Task::Schedule(task) => finish_schedule(alloc, files, task),
         Task::Console(_) | Task::Trace(_) | Task::Debug(_) | Task::Gdb(_) => unreachable!(),
         Task::Search(task) => search(rt, alloc, files, task, never),
+        Task::Explore(task) => explore(alloc, files, task, never),
         Task::Replay(task) => replay(alloc, files, task),
         Task::Audit(task) => audit(alloc, files, input, task),
         Task::Assemble(task) => finish_assembly(alloc, input, task),

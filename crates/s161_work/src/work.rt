@@ -52,7 +52,7 @@ where
         × (I.remaining input.new ≡ I.remaining input.old)
         × (O.contents output.new ≡ O.contents output.old)
         × IsTold fault (E.contents errors.old) (E.contents errors.new)) }
-    ensures within { result ≤ 5 }
+    ensures within { result ≤ 6 }
 {
     match words {
         Ok(words) => work(rt, words.as_slice(), files, input, output, errors),
@@ -61,11 +61,11 @@ where
 }
 
 /// Does the work of a command line. Returns the exit status: 0 for a finished demo, schedule, debug,
-/// gdb, as or dis, a machine that switched itself off, a log that agrees, a clean run or search, or help;
-/// 1 for a fault, or a refused event of a run; 2 for a command line that isn't followed; 3 if the
-/// schedule, the events or the Steps of the threads ended; 4 for a log that differs, a stale use, a
-/// run that goes wrong in a search or a conflict that switched a strict machine off; 5 if a policy is
-/// stuck. The output is complete in memory before it is written, but for that of `console`, `trace`,
+/// gdb, as or dis, a machine that switched itself off, a log that agrees, a clean run, search or
+/// exploration, or help; 1 for a fault, or a refused event of a run; 2 for a command line that isn't
+/// followed; 3 if the schedule, the events or the Steps of the threads ended; 4 for a log that differs, a
+/// stale use, a run that goes wrong in a search or an exploration, or a conflict that switched a strict
+/// machine off; 5 if a policy is stuck; 6 if an exploration finds more states than it may. The output is complete in memory before it is written, but for that of `console`, `trace`,
 /// `debug` and `gdb`.
 pub fn work<A, S, F, I, O, E>(
     rt: &A,
@@ -94,7 +94,7 @@ where
         (file_use (F.known files.old) (F.asked files.old) (F.asked files.new))
         (standard (I.remaining input.old) (O.contents output.old) (E.contents errors.old))
         (standard (I.remaining input.new) (O.contents output.new) (E.contents errors.new)) }
-    ensures within { result ≤ 5 }
+    ensures within { result ≤ 6 }
 {
     let alloc = rt.alloc();
     let task = match parse(alloc, words) {
@@ -132,7 +132,7 @@ fn do_task<'a, R: Threads + Wait + Sync, F: FileSource, I: Read, O: Write, E: Wr
     ensures asks { AsksFor (files_of task.entry) result (F.asked files.old) (F.asked files.new) }
     ensures before { IfErr result (λ fault. IsBeforeInput fault (I.remaining input.old)
         (I.remaining input.new)) }
-    ensures within { IfOk result (λ status. (status ≤ 5) × (status ≢ 2)) }
+    ensures within { IfOk result (λ status. (status ≤ 6) × (status ≢ 2)) }
 {
     match task {
         Task::Console(task) => serve(alloc, task, files, input, output, errors),
@@ -145,6 +145,7 @@ fn do_task<'a, R: Threads + Wait + Sync, F: FileSource, I: Read, O: Write, E: Wr
         | Task::RunDriven(_)
         | Task::Schedule(_)
         | Task::Search(_)
+        | Task::Explore(_)
         | Task::Replay(_)
         | Task::Audit(_)
         | Task::Assemble(_)

@@ -8,7 +8,7 @@ use Rattle.s161_command.specs.declared.argument.Kind.TheVariants as kinds
 use Rattle.s161_command.specs.declared.lines.CommandName.{CommandName}
 use Rattle.s161_command.specs.declared.lines.CommandName.TheVariants as names
 use Rattle.s161_command.specs.declared.lines.Line.{Line}
-use Rattle.s161_command.specs.Commands.{as_line, audit_line, console_line, debug_line, dis_line, gdb_line, replay_line, run_line, schedule_line, search_line, trace_line}
+use Rattle.s161_command.specs.Commands.{as_line, audit_line, console_line, debug_line, dis_line, explore_line, gdb_line, replay_line, run_line, schedule_line, search_line, trace_line}
 use Rattle.clap.specs.Simple.{on_top}
 
 -- What a line of the table of commands says, in clap's own words.
@@ -54,6 +54,7 @@ app_named names.Run = run_line
 app_named names.Console = console_line
 app_named names.Schedule = schedule_line
 app_named names.Search = search_line
+app_named names.Explore = explore_line
 app_named names.Trace = trace_line
 app_named names.Replay = replay_line
 app_named names.Debug = debug_line

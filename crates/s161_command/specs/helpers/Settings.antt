@@ -20,7 +20,12 @@ pub record HasSettings (orders : OrderUse) (rows : List Row) (settings : Setting
   pub gap : IsGap (gap_by_default orders) (first_of (codes "gap") rows) settings.gap
   pub link : IsLinkIf (first_of (codes "link") rows) settings.link
 
+-- those of a command that takes no order
+pub record HasPlainSettings (rows : List Row) (settings : Settings) : Type 0 where
+  pub few : length (texts_of (codes "never") rows) ≤ 64
+  pub link : IsLinkIf (first_of (codes "link") rows) settings.link
+
 -- the same of a command that takes an order in this way, or none
 abbrev pub HasSettingsIf : Option OrderUse → List Row → Settings → Type 0
-HasSettingsIf None rows settings = IsLinkIf (first_of (codes "link") rows) settings.link
+HasSettingsIf None rows settings = HasPlainSettings rows settings
 HasSettingsIf (Some orders) rows settings = HasSettings orders rows settings

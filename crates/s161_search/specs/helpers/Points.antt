@@ -27,4 +27,4 @@ pub record IsPointOf (s : State) (task : SearchTask) (given : Given) (steps : â„
   pub chosen_are :
       Chooses (rules_of task.drive given.keys) (slice_get given.keys)
       (with_delays (record { steps = steps; made = 0 }) numbers (cursor_at (rules_of task.drive given.keys) s)) s entries
-      (with_delays order.turns (behind point.passed numbers) point.cursor) point.core.state
+      (with_delays order.turns (behind point.passed numbers) point.cursor) point.core.value.state

@@ -1,6 +1,6 @@
 use Rattle.std.proofs.Common.{refl}
 use Rattle.clap.specs.Words.{found_of, rows_of}
-use Rattle.s161_command.specs.declared.task.Task.TheVariants.{Assemble, Audit, Disassemble, Replay}
+use Rattle.s161_command.specs.declared.task.Task.TheVariants.{Assemble, Audit, Disassemble, Explore, Replay}
 use Rattle.s161_command.proofs.Naming.{settings_as, task_as}
 use Rattle.s161_command.proofs.asked.task_named.Goals as goal
 
@@ -26,7 +26,10 @@ pub task_of_gdb-requires : goal.task_of_gdb-requires
 task_of_gdb-requires c = settings_as (rows_of (found_of c.args.given.now)) c.args.settings c.in-gdb.is c.requires
 
 pub files_task_of-requires : goal.files_task_of-requires
-files_task_of-requires c = settings_as (rows_of (found_of c.args.given.now)) c.args.settings c.in-audit.is c.requires
+files_task_of-requires c = (settings_as (rows_of (found_of c.args.given.now)) c.args.settings c.in-audit.is c.requires).link
+
+pub explore_task_of-requires : goal.explore_task_of-requires
+explore_task_of-requires c = settings_as (rows_of (found_of c.args.given.now)) c.args.settings c.in-explore.is c.requires
 
 pub returns-in-run-clause-task : goal.returns-in-run-clause-task
 returns-in-run-clause-task c = task_as (rows_of (found_of c.args.given.now)) c.task_of_run.result c.in-run.is c.task_of_run.ensures.task
@@ -69,6 +72,9 @@ returns-in-gdb-clause-task c = task_as (rows_of (found_of c.args.given.now)) c.t
 
 pub returns-in-gdb-clause-limits : goal.returns-in-gdb-clause-limits
 returns-in-gdb-clause-limits c = c.task_of_gdb.ensures.limits
+
+pub returns-in-explore-clause-task : goal.returns-in-explore-clause-task
+returns-in-explore-clause-task c = task_as (rows_of (found_of c.args.given.now)) (Explore c.explore_task_of.result) c.in-explore.is (refl, c.explore_task_of.ensures)
 
 pub returns-in-replay-clause-task : goal.returns-in-replay-clause-task
 returns-in-replay-clause-task c = task_as (rows_of (found_of c.args.given.now)) (Replay c.replay_task_of.result) c.in-replay.is (refl, c.replay_task_of.ensures)

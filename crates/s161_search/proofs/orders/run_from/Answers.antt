@@ -1,5 +1,7 @@
 use Rattle.std.proofs.Common.{Err, Ok, refl, subst, sym}
+use Rattle.m161_judge.specs.Begun.{IsBegun}
 use Rattle.m161_machine.specs.History.{boot_fault}
+use Rattle.m161_machine.specs.State.{CoreValue}
 use Rattle.m161_order.specs.declared.order.Order.TheVariants.{Delayed}
 use Rattle.s161_base.specs.Sizes.{conf_of}
 use Rattle.s161_run.specs.Driven.{rules_of}
@@ -12,9 +14,11 @@ use Rattle.s161_search.proofs.orders.run_from.Goals as goal
 
 pub judge_rest-requires : goal.judge_rest-requires
 judge_rest-requires c =
-    begun c.args.booted.now c.in_ok-core.core.state c.args.task (given_of c.args.inputs.now) c.args.turns c.args.delays.now c.in_ok-policy.policy
+    subst (λ (k : CoreValue). IsBegun c.in_ok-policy.policy c.args.task.drive.events c.args.booted.now c.in-Some.cursor k.state c.in_ok-core.events.items)
+    (sym c.deref_mut.ensures.value)
+    (begun c.args.booted.now c.in_ok-core.core.value.state c.args.task (given_of c.args.inputs.now) c.args.turns c.args.delays.now c.in_ok-policy.policy
     c.args.point.now c.in-Some.cursor c.in_ok-core.events.items c.in_ok-policy.ensures.ok c.in-Some.ensures c.in_ok-core.ensures.0 c.in_ok-core.ensures.1
-    c.requires
+    c.requires)
 
 pub returns-in-Ok-clause-ok : goal.returns-in-Ok-clause-ok
 returns-in-Ok-clause-ok c = λ begins.

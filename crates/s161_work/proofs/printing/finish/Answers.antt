@@ -45,6 +45,9 @@ returns-in-Schedule-clause-asks g c = rw c.in-Schedule.is c.finish_schedule.ensu
 pub returns-in-Search-clause-asks : goal.returns-in-Search-clause-asks
 returns-in-Search-clause-asks g c = rw c.in-Search.is c.search.ensures.asks
 
+pub returns-in-Explore-clause-asks : goal.returns-in-Explore-clause-asks
+returns-in-Explore-clause-asks g c = rw c.in-Explore.is c.explore.ensures.asks
+
 pub returns-in-Replay-clause-asks : goal.returns-in-Replay-clause-asks
 returns-in-Replay-clause-asks g c = rw c.in-Replay.is c.replay.ensures.asks
 
@@ -77,6 +80,9 @@ returns-in-Schedule-clause-before g c = result_before c.finish_schedule.result (
 
 pub returns-in-Search-clause-before : goal.returns-in-Search-clause-before
 returns-in-Search-clause-before g c = result_before c.search.result (g.I.Read.remaining c.args.input.now)
+
+pub returns-in-Explore-clause-before : goal.returns-in-Explore-clause-before
+returns-in-Explore-clause-before g c = result_before c.explore.result (g.I.Read.remaining c.args.input.now)
 
 pub returns-in-Replay-clause-before : goal.returns-in-Replay-clause-before
 returns-in-Replay-clause-before g c = result_before c.replay.result (g.I.Read.remaining c.args.input.now)

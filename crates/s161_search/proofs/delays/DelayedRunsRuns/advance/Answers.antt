@@ -18,15 +18,15 @@ returns-clause-ok c =
     elim c.match-branch-4.branch [
       | in-Some-2 w ↦ λ others agree.
           (let new : RunPoint = record {
-            core = c.advance.new.core;
-            cursor = c.advance.new.cursor;
-            events = c.advance.new.events;
+            core = c.go_along.new.core;
+            cursor = c.go_along.new.cursor;
+            events = c.go_along.new.events;
             passed = old.passed + w.in-Some-2.made;
           } in
-          let went : PassesNoting rules (slice_get rules.keys) c.saturating_sub-left.result c.saturating_sub-more.result c.in-Some.cursor old.core.state
-          old.events.items w.in-Some-2.made new.cursor new.core.state new.events.items =
+          let went : PassesNoting rules (slice_get rules.keys) c.saturating_sub-left.result c.saturating_sub-more.result c.in-Some.cursor old.core.value.state
+          old.events.items w.in-Some-2.made new.cursor new.core.value.state new.events.items =
           subst (λ o. IfSome o (λ made. PassesNoting rules (slice_get rules.keys) c.saturating_sub-left.result c.saturating_sub-more.result c.in-Some.cursor
-          old.core.state old.events.items made new.cursor new.core.state new.events.items)) w.in-Some-2.is c.in_ok-made.ensures in
+          old.core.value.state old.events.items made new.cursor new.core.value.state new.events.items)) w.in-Some-2.is c.in_ok-made.ensures in
           let left : c.saturating_sub-left.result ≡ self.task.drive.events - length old.events.items =
           omega (arith, c.saturating_sub-left.ensures, c.len.ensures, size) in
           subst (IsPointOf self.booted.now self.task given self.turns others) (sym w.point-is)

@@ -1,0 +1,43 @@
+use Rattle.std.proofs.Common.{ℕ, List, Option, None, Some, Ok, Err, subst}
+use Rattle.std.specs.Prelude.{IfOk, Result}
+use Rattle.m161_judge.specs.Judge.{BootsState}
+use Rattle.m161_machine.specs.declared.conf.BootError.{BootError}
+use Rattle.m161_machine.specs.declared.conf.Conf.{Conf}
+use Rattle.m161_machine.specs.History.{IsBootState, boot_fault}
+use Rattle.m161_machine.specs.State.{State}
+use Rattle.s161_base.specs.declared.fault.Fault.{Fault}
+use Rattle.s161_base.specs.declared.finished.Finished.{Finished}
+use Rattle.s161_base.specs.Sizes.{conf_of}
+use Rattle.s161_command.specs.declared.task.SearchTask.{SearchTask}
+use Rattle.s161_search.specs.Explores.{IsExploredBy, PrintsExplored}
+use Rattle.s161_search.specs.Given.{Given, IsRead}
+use Rattle.s161_search.specs.declared.inputs.Inputs.{Inputs}
+use Rattle.s161_search.specs.helpers.Begun.{BeginsAt}
+use Rattle.s161_search.specs.helpers.Explored.{PrintsExploredFor}
+use Rattle.s161_search.specs.helpers.Inputs.{given_of}
+use Rattle.s161_search.specs.helpers.Never.{HasNever, with_addresses}
+use Rattle.s161_search.proofs.Failing.{read_with}
+
+-- What an exploration begins with, and what it comes to.
+
+begun : (file : List ℕ) (conf : Conf) (s : State) (fault : Option BootError) → BootsState file conf fault (Ok s) → IsBootState file conf s
+begun file conf s (Some first) h = absurd h
+begun file conf s None h = h
+
+-- the state at boot
+pub begins : (task : SearchTask) (given : Given) (s : State) → BeginsAt task given s → IsBootState given.file (conf_of task.size) s
+begins task given s h = begun given.file (conf_of task.size) s (boot_fault given.file (conf_of task.size)) h
+
+pub explored_so : (task : SearchTask) (limit : ℕ) (never : List (List ℕ)) (files : List ℕ → Option (List ℕ)) (image : Option (List ℕ)) (given : Given)
+    (r : Result Finished Fault) → IsRead task files image given → IfOk r (λ done. PrintsExploredFor task limit never given done.text.items done.status) →
+    IfOk r (λ done. IsExploredBy task limit never files image done.text.items done.status)
+explored_so task limit never files image given (Ok done) is h =
+    (with_addresses given h.0, (read_with task files image given h.0 is, h.1), h.2)
+explored_so task limit never files image given (Err fault) is h = tt
+
+pub explored_for : (task : SearchTask) (limit : ℕ) (words : List (List ℕ)) (given : Given) (inputs : Inputs) (r : Result Finished Fault) → HasNever task words given inputs →
+    IfOk r (λ done. PrintsExplored task limit (given_of inputs) done.text.items done.status) →
+    IfOk r (λ done. PrintsExploredFor task limit words given done.text.items done.status)
+explored_for task limit words given inputs (Ok done) has h =
+    (inputs.never.items, has.1, subst (λ g. PrintsExplored task limit g done.text.items done.status) has.0 h)
+explored_for task limit words given inputs (Err fault) has h = tt

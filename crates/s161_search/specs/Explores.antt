@@ -1,0 +1,131 @@
+use Rattle.std.specs.Prelude.{◌≡◌, ℕ, ◌-◌, ◌==◌, nat_lt, false, if◌then◌else◌, List, [], ◌∷◌, ◌++◌, length, slice_get, Option, None, Some, option_map, codes, decimal}
+use Rattle.m161_alike.specs.declared.known.Known.{Known}
+use Rattle.m161_audit.specs.Watch.{AreGood}
+use Rattle.m161_explore.specs.declared.whole.Answer.{Answer}
+use Rattle.m161_explore.specs.declared.whole.Answer.TheVariants.{Clean, Found, Hung, Open, Ended}
+use Rattle.m161_explore.specs.Answers.{Answers}
+use Rattle.m161_judge.specs.declared.verdict.Verdict.{Verdict as RunVerdict}
+use Rattle.m161_judge.specs.declared.verdict.Verdict.TheVariants as run
+use Rattle.m161_machine.specs.declared.event.Event.{Event}
+use Rattle.m161_machine.specs.declared.event.Event.TheVariants.{Step, Key, Done}
+use Rattle.m161_machine.specs.History.{IsBootState}
+use Rattle.m161_machine.specs.State.{State}
+use Rattle.m161_order.specs.declared.order.Order.TheVariants.{Turns}
+use Rattle.m161_reach.specs.Reach.{question_of, rules_of}
+use Rattle.m161_states.specs.declared.verdict.Unknown.{Unknown}
+use Rattle.m161_states.specs.declared.verdict.Verdict.{Verdict}
+use Rattle.m161_states.specs.declared.verdict.Verdict.TheVariants.{Stale, Reached, Conflict, Stuck, Output}
+use Rattle.m161_states.specs.System.{typed_after}
+use Rattle.m161_steplog.specs.Written.{schedule_text}
+use Rattle.m161_text.specs.Lines.{with_line_end}
+use Rattle.m161_text.specs.Parts.{◌␣◌}
+use Rattle.s161_base.specs.Sizes.{conf_of}
+use Rattle.s161_command.specs.declared.task.ExploreTask.{ExploreTask}
+use Rattle.s161_command.specs.declared.task.SearchTask.{SearchTask}
+use Rattle.s161_search.specs.Given.{Given, criteria_of}
+use Rattle.s161_search.specs.Searches.{IsGiven}
+use Rattle.s161_search.specs.Texts.{clean_text, found_text}
+
+-- The output and the exit status of `explore`.
+
+-- the search that reads what an exploration does: the same files, in the same order
+abbrev pub as_search : ExploreTask → SearchTask
+as_search task = record {
+  image = task.image;
+  size = task.size;
+  drive = record { order = Turns 1; events = 1; transfer = 0; gap = None; keys = task.keys };
+  delays = None;
+  seeds = 1;
+  jobs = 1;
+  watches = task.watches;
+  output = task.output;
+  whole = false;
+}
+
+-- how many states there may be: at least one
+abbrev pub limit_of : ExploreTask → ℕ
+limit_of task = if task.states == 0 then 1 else task.states
+
+-- an event by its number, where so many keys are typed: a number below that of the processors is a Step,
+-- the next one Done, and any other the next key; there is none where all are typed
+abbrev pub event_named : ℕ → List ℕ → ℕ → ℕ → Option Event
+event_named processors keys typed n =
+    if nat_lt n processors then Some (Step n)
+    else if n == processors then Some Done
+    else option_map (λ byte. Key byte) (slice_get keys typed)
+
+abbrev pub with_event : Option Event → (Event → List Event) → List Event
+with_event None rest = []
+with_event (Some e) rest = e ∷ rest e
+
+-- the events of a list of their numbers
+abbrev pub events_named : ℕ → List ℕ → ℕ → List ℕ → List Event
+events_named processors keys typed [] = []
+events_named processors keys typed (n ∷ ns) =
+    with_event (event_named processors keys typed n)
+    (λ e. events_named processors keys (typed_after e typed) ns)
+
+-- a verdict of the last event of a list, as `search` has it: with the event's place
+abbrev pub at_place : ℕ → Verdict → RunVerdict
+at_place place (Stale processor address row) = run.Stale place processor address row
+at_place place (Reached processor address) = run.Reached place processor address
+at_place place (Conflict conflict) = run.Conflict conflict
+at_place place Stuck = run.Stuck
+at_place place Output = run.Output
+
+-- how many states were found before
+abbrev pub states_text : ℕ → List ℕ
+states_text n = codes "# states" ␣ decimal n
+
+-- a list that can't be gone on with to an end
+abbrev pub hung_text : ℕ → List Event → List ℕ
+hung_text states events =
+    with_line_end (states_text states) ++ with_line_end (codes "# hung") ++ schedule_text events
+
+-- there are more states than this, and nothing goes wrong in so many events
+abbrev pub open_text : ℕ → ℕ → List ℕ
+open_text limit size = codes "open" ␣ decimal limit ␣ decimal size
+
+-- what is printed of an answer, with the exit status, where there are so many processors, these keys, and
+-- at most so many states
+abbrev pub PrintsAnswer :
+    ℕ → ℕ → List ℕ → Answer Verdict Unknown → List ℕ → ℕ → Type 0
+PrintsAnswer processors limit keys (Clean states) text status =
+    (status ≡ 0) × (text ≡ with_line_end (clean_text states 0))
+PrintsAnswer processors limit keys (Found events what states) text status =
+    (status ≡ 4)
+    × (text
+    ≡ found_text (states_text states) (at_place (length events.items - 1) what)
+    (events_named processors keys 0 events.items))
+PrintsAnswer processors limit keys (Hung events states) text status =
+    (status ≡ 4) × (text ≡ hung_text states (events_named processors keys 0 events.items))
+PrintsAnswer processors limit keys (Open size) text status =
+    (status ≡ 6) × (text ≡ with_line_end (open_text limit size))
+PrintsAnswer processors limit keys (Ended reason) text status = ⊥
+
+-- what a search would read is explored: from the state at boot, with some of time being known, the answer
+-- says what it says of all lists of events
+pub record PrintsExplored (search : SearchTask) (limit : ℕ) (given : Given) (text : List ℕ) (status : ℕ)
+    : Type 0 where
+  pub good : (k : ℕ) → AreGood search.size.ram given.watches k
+  pub boot : State
+  pub is_boot : IsBootState given.file (conf_of search.size) boot
+  pub known : Known
+  pub answer : Answer Verdict Unknown
+  pub answers : Answers (rules_of (question_of boot (criteria_of given) known)) limit answer
+  pub prints : PrintsAnswer search.size.processors limit given.keys answer text status
+
+-- the same behind reading, with these words for the addresses of `--never`
+abbrev pub IsExploredBy :
+    SearchTask → ℕ → List (List ℕ) → (List ℕ → Option (List ℕ)) → Option (List ℕ) → List ℕ → ℕ
+    → Type 0
+IsExploredBy search limit never files image text status =
+    (given : Given) × IsGiven search never files image given
+    × PrintsExplored search limit given text status
+
+-- a finished exploration: what it prints and its exit status
+abbrev pub IsExplored :
+    ExploreTask → List (List ℕ) → (List ℕ → Option (List ℕ)) → Option (List ℕ) → List ℕ → ℕ
+    → Type 0
+IsExplored task never files image text status =
+    IsExploredBy (as_search task) (limit_of task) never files image text status

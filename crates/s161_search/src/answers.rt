@@ -1,0 +1,201 @@
+//! What an exploration prints.
+
+ghost use Rattle.std.specs.Prelude.{◌≡◌, ◌≢◌, ◌<◌, ◌≤◌, ◌++◌, ◌-◌, ◌∷◌, [], ℕ, IfOk, OnOk, Some, length, option_map, string_bytes};
+ghost use Rattle.m161_states.specs.System.{typed_after};
+ghost use Rattle.m161_text.specs.Lines.{with_line_end};
+ghost use Rattle.m161_reach.specs.Reach.{HasEnded};
+ghost use Rattle.s161_search.specs.Explores.{PrintsAnswer, at_place, event_named, events_named, hung_text, limit_of, open_text, states_text};
+ghost use Rattle.s161_search.specs.Texts.{found_text};
+
+use crate::texts::{clean_line, found_lines};
+use m161_explore::Answer;
+use m161_judge::Verdict as RunVerdict;
+use m161_machine::Event;
+use m161_states::{Unknown, Verdict};
+use m161_steplog::write_schedule;
+use s161_base::fault::Fault;
+use s161_base::finished::Finished;
+use s161_command::ExploreTask;
+use std::alloc::{AllocError, Global};
+use std::fmt;
+
+// An event by its number, where so many keys are typed, and how many are typed behind it.
+fn event_named(processors: u32, keys: &[u8], typed: usize, number: u32) -> Option<(Event, usize)>
+    ensures { result ≡ option_map (λ e. (e, typed_after e typed)) (event_named processors keys.now typed number) }
+{
+    if number < processors {
+        return Some((Event::Step(number), typed));
+    }
+    if number == processors {
+        return Some((Event::Done, typed));
+    }
+    if typed >= keys.len() {
+        return None;
+    }
+    Some((Event::Key(keys[typed]), typed + 1))
+}
+
+// Adds an event behind the others.
+fn push_event(events: &mut Vec<Event>, event: Event) -> Result<(), AllocError>
+    ensures { OnOk result (events.new.items ≡ events.old.items ++ event ∷ []) }
+{
+    events.push(event)?;
+    Ok(())
+}
+
+// The events of a list of their numbers.
+fn events_named(
+    alloc: Global,
+    processors: u32,
+    keys: &[u8],
+    numbers: &[u32],
+) -> Result<Vec<Event>, AllocError>
+    ensures { IfOk result (λ events. events.items ≡ events_named processors keys.now 0 numbers.now) }
+{
+    let mut events = Vec::new(alloc);
+    let mut typed = 0;
+    for number in numbers {
+        let Some((event, behind)) = event_named(processors, keys, typed, *number) else {
+            return Ok(events);
+        };
+        push_event(&mut events, event)?;
+        typed = behind;
+    }
+    Ok(events)
+}
+
+// A verdict of the last event of a list, with the event's place.
+fn at_place(place: usize, verdict: Verdict) -> RunVerdict
+    ensures { result ≡ at_place place verdict }
+{
+    match verdict {
+        Verdict::Stale {
+            processor,
+            address,
+            row,
+        } => RunVerdict::Stale {
+            place,
+            processor,
+            address,
+            row,
+        },
+        Verdict::Reached { processor, address } => RunVerdict::Reached {
+            place,
+            processor,
+            address,
+        },
+        Verdict::Conflict(conflict) => RunVerdict::Conflict(conflict),
+        Verdict::Stuck => RunVerdict::Stuck,
+        Verdict::Output => RunVerdict::Output,
+    }
+}
+
+// The line that tells how many states were found before.
+fn states_line(alloc: Global, states: u32) -> Result<String, AllocError>
+    ensures { IfOk result (λ line. string_bytes line ≡ with_line_end (states_text states)) }
+{
+    format!(in alloc; "# states {states}\n")
+}
+
+// That there are more states than this, as text.
+#[derive(Drop)]
+struct ShownOpen {
+    limit: u32,
+    size: usize,
+}
+
+impl fmt::Display for ShownOpen {
+    ghost output = { λ shown. Some (open_text shown.limit shown.size) };
+
+    fn fmt<W: fmt::Write>(&self, f: &mut fmt::Formatter<W>) -> fmt::Result {
+        let limit = self.limit;
+        let size = self.size;
+        write!(f, "open {limit} {size}")
+    }
+}
+
+// The line where there are more states than this.
+fn open_line(alloc: Global, limit: u32, size: usize) -> Result<String, AllocError>
+    ensures { IfOk result (λ line. string_bytes line ≡ with_line_end (open_text limit size)) }
+{
+    let shown = ShownOpen { limit, size };
+    format!(in alloc; "{shown}\n")
+}
+
+// The schedule of a list that can't be gone on with to an end.
+fn hung_lines(alloc: Global, states: u32, events: &[Event]) -> Result<String, AllocError>
+    ensures { IfOk result (λ lines. string_bytes lines ≡ hung_text states events.now) }
+{
+    let mut text = states_line(alloc, states)?;
+    let schedule = write_schedule(alloc, events)?;
+    text.push_str("# hung\n")?;
+    text.push_str(schedule.as_str())?;
+    Ok(text)
+}
+
+// The schedule of a list that goes wrong.
+fn wrong_lines(
+    alloc: Global,
+    states: u32,
+    verdict: RunVerdict,
+    events: &[Event],
+) -> Result<String, AllocError>
+    ensures { IfOk result (λ lines. string_bytes lines ≡ found_text (states_text states) verdict events.now) }
+{
+    let line = states_line(alloc, states)?;
+    found_lines(alloc, line, verdict, events)
+}
+
+// A text and an exit status.
+fn finished(text: String, status: u8) -> Finished
+    ensures text { result.text.items ≡ string_bytes text }
+    ensures status { result.status ≡ status }
+{
+    Finished {
+        text: text.into_bytes(),
+        status,
+    }
+}
+
+/// How many states there may be.
+pub(crate) fn limit_of(task: ExploreTask<'_>) -> u32
+    ensures value { result ≡ limit_of task.entry }
+    ensures some { 0 < result }
+{
+    if task.states == 0 { 1 } else { task.states }
+}
+
+/// What is printed of an answer, and the exit status.
+///
+/// # Errors
+/// Memory was refused.
+pub(crate) fn print_answer(
+    alloc: Global,
+    processors: u32,
+    limit: u32,
+    keys: &[u8],
+    answer: Answer<Verdict, Unknown>,
+) -> Result<Finished, AllocError>
+    requires { HasEnded answer → ⊥ }
+    ensures prints { IfOk result (λ done. PrintsAnswer processors limit keys.now answer done.text.items done.status) }
+    ensures within { IfOk result (λ done. (done.status ≤ 6) × (done.status ≢ 2)) }
+{
+    match answer {
+        Answer::Clean { states } => Ok(finished(clean_line(alloc, u64::from(states), 0)?, 0)),
+        Answer::Found {
+            events,
+            verdict,
+            states,
+        } => {
+            let verdict = at_place(events.len().saturating_sub(1), verdict);
+            let events = events_named(alloc, processors, keys, &events)?;
+            Ok(finished(wrong_lines(alloc, states, verdict, &events)?, 4))
+        }
+        Answer::Hung { events, states } => {
+            let events = events_named(alloc, processors, keys, &events)?;
+            Ok(finished(hung_lines(alloc, states, &events)?, 4))
+        }
+        Answer::Open { size } => Ok(finished(open_line(alloc, limit, size)?, 6)),
+        Answer::Ended(_) => unreachable!(),
+    }
+}

@@ -1,0 +1,144 @@
+//! Looking at every state that a kernel can reach.
+
+ghost use Rattle.std.specs.Prelude.{◌≢◌, ◌≡◌, ◌≤◌, ◌<◌, IfErr, IfOk, map};
+ghost use Rattle.s161_base.specs.Asked.{AsksFor};
+ghost use Rattle.s161_base.specs.Samples.{image_file};
+ghost use Rattle.s161_search.specs.Explores.{IsExplored, IsExploredBy, PrintsExplored, as_search};
+ghost use Rattle.s161_search.specs.Given.{search_files};
+ghost use Rattle.s161_search.specs.Searches.{IsSearchFault};
+ghost use Rattle.s161_search.specs.Seeds.{IsRunFault};
+ghost use Rattle.s161_search.specs.helpers.Begun.{BeginsAt};
+ghost use Rattle.s161_search.specs.helpers.Explored.{PrintsExploredFor};
+ghost use Rattle.s161_search.specs.helpers.Inputs.{given_of};
+ghost use Rattle.s161_search.specs.helpers.Never.{IsNeverFault};
+
+use crate::answers::{limit_of, print_answer};
+use crate::inputs::{Inputs, read_inputs};
+use crate::never::{check_watches, with_never};
+use crate::seeds::boot;
+use m161::{Console, Tlb};
+use m161_judge::Booted;
+use m161_order::Order;
+use m161_reach::{can_be_asked, explore_machine};
+use s161_base::fault::Fault;
+use s161_base::files::FileSource;
+use s161_base::finished::Finished;
+use s161_command::{Drive, ExploreTask, SearchTask};
+use std::alloc::Global;
+
+// The search that reads what an exploration does.
+fn as_search(task: ExploreTask<'_>) -> SearchTask<'_>
+    ensures { result ≡ as_search task.entry }
+{
+    SearchTask {
+        image: task.image,
+        size: task.size,
+        drive: Drive {
+            order: Order::Turns(1),
+            events: 1,
+            transfer: 0,
+            gap: None,
+            keys: task.keys,
+        },
+        delays: None,
+        seeds: 1,
+        jobs: 1,
+        watches: task.watches,
+        output: task.output,
+        whole: false,
+    }
+}
+
+/// Reads the image, the keys, the watches and then the output, and looks at every state that any order
+/// of events can reach, up to the number that is asked for.
+///
+/// # Errors
+/// The first fault.
+// For LLVM: a stack frame of its own.
+#[inline(never)]
+pub fn explore<'a, F: FileSource>(
+    alloc: Global,
+    files: &mut F,
+    task: ExploreTask<'a>,
+    never: &[&'a str],
+) -> Result<Finished, Fault<'a>>
+    ensures ok { IfOk result (λ done. IsExplored task.entry (map (λ word. word.now) never.now) (F.known files.old)
+        (image_file (F.known files.old) task.entry.image.now) done.text.items done.status) }
+    ensures fault { IfErr result (IsSearchFault (as_search task.entry) (map (λ word. word.now) never.now) (F.known files.old)
+        (image_file (F.known files.old) task.entry.image.now)) }
+    ensures asks { AsksFor (search_files (as_search task.entry)) result (F.asked files.old)
+        (F.asked files.new) }
+    ensures within { IfOk result (λ done. (done.status ≤ 6) × (done.status ≢ 2)) }
+{
+    explore_by(alloc, files, as_search(task), limit_of(task), never)
+}
+
+// Reads what a search would, and explores it.
+fn explore_by<'a, F: FileSource>(
+    alloc: Global,
+    files: &mut F,
+    search: SearchTask<'a>,
+    limit: u32,
+    never: &[&'a str],
+) -> Result<Finished, Fault<'a>>
+    requires { 0 < limit }
+    ensures ok { IfOk result (λ done. IsExploredBy search.entry limit (map (λ word. word.now) never.now) (F.known files.old)
+        (image_file (F.known files.old) search.entry.image.now) done.text.items done.status) }
+    ensures fault { IfErr result (IsSearchFault search.entry (map (λ word. word.now) never.now) (F.known files.old)
+        (image_file (F.known files.old) search.entry.image.now)) }
+    ensures asks { AsksFor (search_files search.entry) result (F.asked files.old)
+        (F.asked files.new) }
+    ensures within { IfOk result (λ done. (done.status ≤ 6) × (done.status ≢ 2)) }
+{
+    let inputs = read_inputs(alloc, files, search)?;
+    explore_in(alloc, search, limit, never, inputs)
+}
+
+// Explores what was read.
+fn explore_in<'a>(
+    alloc: Global,
+    search: SearchTask<'a>,
+    limit: u32,
+    never: &[&'a str],
+    inputs: Inputs,
+) -> Result<Finished, Fault<'a>>
+    requires { 0 < limit }
+    ensures ok { IfOk result (λ done. PrintsExploredFor search.entry limit (map (λ word. word.now) never.now) (given_of inputs) done.text.items done.status) }
+    ensures fault { IfErr result (IsNeverFault search.entry (map (λ word. word.now) never.now) (given_of inputs)) }
+    ensures within { IfOk result (λ done. (done.status ≤ 6) × (done.status ≢ 2)) }
+{
+    let booted = boot(alloc, search, &inputs)?;
+    let inputs = with_never(alloc, &booted, search, never, inputs)?;
+    explore_from(alloc, &booted, search, limit, &inputs)
+}
+
+// Explores from the state at boot.
+fn explore_from<'a>(
+    alloc: Global,
+    booted: &Booted<Tlb, Console>,
+    search: SearchTask<'a>,
+    limit: u32,
+    inputs: &Inputs,
+) -> Result<Finished, Fault<'a>>
+    requires booted { BeginsAt search (given_of inputs.now) booted.now }
+    requires some { 0 < limit }
+    ensures ok { IfOk result (λ done. PrintsExplored search.entry limit (given_of inputs.now) done.text.items done.status) }
+    ensures fault { IfErr result (IsRunFault search.entry (given_of inputs.now)) }
+    ensures within { IfOk result (λ done. (done.status ≤ 6) × (done.status ≢ 2)) }
+{
+    check_watches(alloc, booted, search, inputs)?;
+    let core = booted.copy_core(alloc)?;
+    let goal = inputs.goal();
+    // Only files that are larger than those that are read can't be asked for.
+    if !can_be_asked(&core, &goal) {
+        return Err(Fault::Memory);
+    }
+    let found = explore_machine(alloc, &core, &goal, limit)?;
+    Ok(print_answer(
+        alloc,
+        search.size.processors,
+        limit,
+        &inputs.keys,
+        found.answer,
+    )?)
+}
