@@ -1,8 +1,8 @@
-use Rattle.std.proofs.Common.{◌≡◌, ◌∙◌, refl, ap, sym, subst, ℕ, zero, suc, ◌+◌, ◌*◌, ◌/◌, ◌%◌, ◌^◌, ◌<◌, ◌≤◌, arith, Bool, true, false, List, [], ◌∷◌, ◌++◌, length, get_or, ext_get_or}
+use Rattle.std.proofs.Common.{◌≡◌, ◌∙◌, refl, ap, sym, subst, ℕ, zero, suc, ◌+◌, ◌-◌, ◌*◌, ◌/◌, ◌%◌, ◌^◌, ◌<◌, ◌≤◌, arith, Bool, true, false, List, [], ◌∷◌, ◌++◌, length, drop, get_or, ext_get_or}
 use Rattle.std.specs.Prelude.{◌==◌, flat_map, if◌then◌else◌}
-use Rattle.std.specs.List.{range_with_len}
+use Rattle.std.specs.List.{range_with_len, slice_range}
 use Rattle.std.proofs.lemmas.Bool.Decides.{nat_tests}
-use Rattle.std.proofs.lemmas.List.{flat_map_more}
+use Rattle.std.proofs.lemmas.List.{append-nil, flat_map_more, get_or-drop, get_or-take}
 use Rattle.m161_ram.specs.Word.{word_at}
 use Rattle.m161_alike.specs.Words.{AreBytes, MemoryLaw, word_change}
 
@@ -24,6 +24,47 @@ changes_more f before now n so_far =
     ap (λ l. l ++ f n) so_far
     ∙ flat_map_more f before (range_with_len 0 n) n
     ∙ ap (λ l. before ++ flat_map f l) (sym (range_more 0 n ∙ ap (λ x. range_with_len 0 n ++ x ∷ []) here))
+
+-- places that have no change more
+pub changes_none : (f : ℕ → List ℕ) (before now : List ℕ) (n k : ℕ) → now ≡ before ++ flat_map f (range_with_len 0 n) → ((i : ℕ) → i < k → f (n + i) ≡ []) →
+    now ≡ before ++ flat_map f (range_with_len 0 (n + k))
+changes_none f before now n zero so_far none =
+    let same : n ≡ n + 0 = omega arith in so_far ∙ ap (λ m. before ++ flat_map f (range_with_len 0 m)) same
+changes_none f before now n (suc k) so_far none =
+    let next : n + k + 1 ≡ n + suc k = omega arith in
+    let rest = changes_none f before now n k so_far (λ i less. none i (omega (arith, less))) in
+    sym (append-nil now)
+    ∙ ap (λ l. now ++ l) (sym (none k (omega arith)))
+    ∙ changes_more f before now (n + k) rest
+    ∙ ap (λ m. before ++ flat_map f (range_with_len 0 m)) next
+
+-- parts that are the same
+
+byte_in : (xs : List ℕ) (a b j : ℕ) → a ≤ j → j < b → get_or (slice_range xs a b) (j - a) 0 ≡ get_or xs j 0
+byte_in xs a b j from less =
+    let here : a + (j - a) ≡ j = omega (arith, from) in
+    get_or-take (b - a) (drop a xs) (j - a) 0 (omega (arith, from, less)) ∙ get_or-drop a xs (j - a) 0 ∙ ap (λ i. get_or xs i 0) here
+
+byte_same : (xs ys : List ℕ) (a b j : ℕ) → slice_range xs a b ≡ slice_range ys a b → a ≤ j → j < b → get_or xs j 0 ≡ get_or ys j 0
+byte_same xs ys a b j same from less = sym (byte_in xs a b j from less) ∙ ap (λ zs. get_or zs (j - a) 0) same ∙ byte_in ys a b j from less
+
+word_same : (xs ys : List ℕ) (a b at : ℕ) → slice_range xs a b ≡ slice_range ys a b → a ≤ at → at + 4 ≤ b → word_at xs at ≡ word_at ys at
+word_same xs ys a b at same from less =
+    let p = byte_same xs ys a b at same from (omega (arith, less)) in
+    let q = byte_same xs ys a b (at + 1) same (omega (arith, from)) (omega (arith, less)) in
+    let r = byte_same xs ys a b (at + 2) same (omega (arith, from)) (omega (arith, less)) in
+    let s = byte_same xs ys a b (at + 3) same (omega (arith, from)) (omega (arith, less)) in
+    λ i. p i * 2 ^ 24 + q i * 2 ^ 16 + r i * 2 ^ 8 + s i
+
+no_change : (boot memory : List ℕ) (at : ℕ) → word_at memory at ≡ word_at boot at → word_change boot memory at ≡ []
+no_change boot memory at same =
+    let yes : (word_at memory at == word_at boot at) ≡ true = grind (arith, nat_tests, same) in
+    ap (λ t. if t then [] else at ∷ word_at memory at ∷ []) yes
+
+pub block_unchanged : (boot memory : List ℕ) (place : ℕ) → slice_range memory (4 * place) (4 * place + 256) ≡ slice_range boot (4 * place) (4 * place + 256) →
+    (i : ℕ) → i < 64 → word_change boot memory (4 * (place + i)) ≡ []
+block_unchanged boot memory place same i less =
+    no_change boot memory (4 * (place + i)) (word_same memory boot (4 * place) (4 * place + 256) (4 * (place + i)) same (omega arith) (omega (arith, less)))
 
 -- the law
 

@@ -1,6 +1,6 @@
 //! The words of a view: a state is known again by them.
 
-ghost use Rattle.std.specs.Prelude.{◌≡◌, ◌≤◌, ◌+◌, ◌*◌, ◌^◌, ◌++◌, length, take, OnOk, OnErr};
+ghost use Rattle.std.specs.Prelude.{◌≡◌, ◌<◌, ◌≤◌, ℕ, true, [], ◌+◌, ◌*◌, ◌^◌, ◌++◌, length, take, OnOk, OnErr};
 ghost use Rattle.m161_ram.specs.Word.{word_at};
 ghost use Rattle.m161_alike.specs.Words.{MemoryLaw, memory_words, word_change};
 
@@ -8,6 +8,9 @@ use m161_bus::Console;
 use m161_machine::Core;
 use m161_tlb::Tlb;
 use std::alloc::AllocError;
+
+/// How many words are looked at together.
+const BLOCK: usize = 64;
 
 /// Writes the words of memory that differ from boot's behind the words that are there, each behind its
 /// address.
@@ -43,10 +46,30 @@ fn push_changes(memory: &[u8], boot: &[u8], out: &mut Vec<u32>) -> Result<(), Al
     ensures ok { OnOk result (out.new.items ≡ out.old.items ++ memory_words boot.now memory.now) }
     ensures err { OnErr result (take (length out.old.items) out.new.items ≡ out.old.items) }
 {
-    for place in 0..memory.len() / 4 {
-        push_change(memory, boot, place, out)?;
+    let count = memory.len() / 4;
+    let mut place = 0;
+    while place < count {
+        if is_same_block(memory, boot, place) {
+            place += BLOCK;
+        } else {
+            push_change(memory, boot, place, out)?;
+            place += 1;
+        }
     }
     Ok(())
+}
+
+// Whether so many words from a place on are there, and none of them differs from boot's.
+fn is_same_block(memory: &[u8], boot: &[u8], place: usize) -> bool
+    requires size { length boot.now ≡ length memory.now }
+    requires few { length memory.now ≤ 2 ^ 29 }
+    requires within { 4 * place ≤ length memory.now }
+    ensures there { result ≡ true → 4 * (place + 64) ≤ length memory.now }
+    ensures same { result ≡ true → (i : ℕ) → i < 64 → word_change boot.now memory.now (4 * (place + i)) ≡ [] }
+{
+    let start = 4 * place;
+    let end = start + 4 * BLOCK;
+    end <= memory.len() && memory[start..end] == boot[start..end]
 }
 
 // One of them.

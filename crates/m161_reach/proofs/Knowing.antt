@@ -1,4 +1,4 @@
-use Rattle.std.proofs.Common.{◌≡◌, ◌≢◌, ◌∙◌, refl, ap, sym, subst, ℕ, zero, suc, ◌+◌, ◌<◌, ◌≤◌, arith, Bool, true, false, Option, None, Some, ◌⊎◌, inl, inr}
+use Rattle.std.proofs.Common.{◌≡◌, ◌≢◌, ◌∙◌, refl, ap, sym, subst, ℕ, zero, suc, ◌+◌, ◌<◌, ◌≤◌, arith, Bool, true, false, List, [], ◌∷◌, Option, None, Some, ◌⊎◌, inl, inr}
 use Rattle.std.specs.Prelude.{not, nat_lt, option_map, slice_get, ◌&&◌, ◌||◌, ◌==◌, if◌then◌else◌}
 use Rattle.std.proofs.lemmas.Bool.Decides.{nat_tests}
 use Rattle.m161_machine.specs.declared.event.Event.{Event}
@@ -7,16 +7,18 @@ use Rattle.m161_machine.specs.State.{State}
 use Rattle.m161_judge.specs.Verdict.{Criteria}
 use Rattle.m161_alike.specs.declared.known.Known.{Known}
 use Rattle.m161_alike.specs.declared.reads.Reads.{Reads}
+use Rattle.m161_alike.specs.Reads.{no_reads}
 use Rattle.m161_alike.specs.View.{joined, known_of}
 use Rattle.m161_explore.specs.declared.whole.Answer.{Answer}
 use Rattle.m161_explore.specs.declared.whole.Answer.TheVariants.{Ended}
 use Rattle.m161_explore.specs.Answers.{Answers, IsStopped}
+use Rattle.m161_explore.specs.Lists.{Leads}
 use Rattle.m161_states.specs.declared.verdict.Unknown.{Unknown}
 use Rattle.m161_states.specs.declared.verdict.Verdict.{Verdict}
 use Rattle.m161_states.specs.Question.{Question, processors_of}
-use Rattle.m161_states.specs.System.{Explored, event_of}
+use Rattle.m161_states.specs.System.{Explored, event_of, start}
 use Rattle.m161_states.specs.Verdicts.{is_outside, reads_next, stop_by}
-use Rattle.m161_reach.specs.Reach.{CanBeAsked, question_of, rules_of}
+use Rattle.m161_reach.specs.Reach.{CanBeAsked, IsLearnt, ReadsBehind, question_of, rules_of}
 use Rattle.m161_reach.proofs.Asked.{processors_are}
 
 -- How much of the time of 32 processors isn't known: it is less behind each thing that is learnt.
@@ -177,6 +179,86 @@ stopped q u h = let s = h.1 in by_event q s.from s.last u (event_of q s.from s.l
 
 pub ended : (q r : Question) (limit : ℕ) (answer : Answer Verdict Unknown) (u : Unknown) → Answers (rules_of q) limit answer → answer ≡ Ended u → q ≡ r → IsNews r u
 ended q r limit answer u h is same = subst (λ x. IsNews x u) same (stopped q u (subst (λ a. Answers (rules_of q) limit a) is h))
+
+-- what is read then
+
+read_as : (q : Question) (p : ℕ) (read : Reads) (u : Unknown) (b : Bool) → (if b then Some (record { processor = p; reads = read }) else None) ≡ Some u →
+    (p ≡ u.processor) × (read ≡ u.reads)
+read_as q p read u true h =
+    let same = same_unknown (record { processor = p; reads = read }) u h in (ap (λ (x : Unknown). x.processor) same, ap (λ (x : Unknown). x.reads) same)
+read_as q p read u false h = let bad : ◌≡◌ {A = Option Unknown} None (Some u) = h in absurd (cc)
+
+event_reads : (q : Question) (x : Explored) (n : ℕ) (u : Unknown) (e : Option Event) → event_of q x n ≡ e → stop_by q x e ≡ Some u → reads_next u.processor x.state ≡ u.reads
+event_reads q x n u None is h = let bad : ◌≡◌ {A = Option Unknown} None (Some u) = h in absurd (cc)
+event_reads q x n u (Some (Step p)) is h =
+    let told = read_as q p (reads_next p x.state) u (is_outside (reads_next p x.state) (known_of q.known p)) h in
+    ap (λ m. reads_next m x.state) (sym told.0) ∙ told.1
+event_reads q x n u (Some (Key byte)) is h = let bad : ◌≡◌ {A = Option Unknown} None (Some u) = h in absurd (cc)
+event_reads q x n u (Some Done) is h = let bad : ◌≡◌ {A = Option Unknown} None (Some u) = h in absurd (cc)
+
+-- lists lead as before, whatever is known
+leads_as : (boot : State) (goal : Criteria) (old new : Known) (s t : Explored) (es : List ℕ) → Leads (rules_of (question_of boot goal old)) s es t →
+    Leads (rules_of (question_of boot goal new)) s es t
+unfolding rules_of
+leads_as boot goal old new s t [] h = h
+leads_as boot goal old new s t (e ∷ es) h = (h.0, h.1, h.2, leads_as boot goal old new h.0 t es h.3)
+
+reads_as : (boot : State) (goal : Criteria) (old new : Known) (p : ℕ) (which : Reads → Bool) → ReadsBehind (question_of boot goal old) p which →
+    ReadsBehind (question_of boot goal new) p which
+reads_as boot goal old new p which h = (h.0, h.1, leads_as boot goal old new (start (question_of boot goal old)) h.1 h.0 h.2, h.3)
+
+-- the list at which an exploration stopped
+stopped_reads : (q : Question) (u : Unknown) (which : Reads → Bool) → IsStopped (rules_of q) u → which u.reads ≡ true → ReadsBehind q u.processor which
+unfolding rules_of
+stopped_reads q u which h on =
+    let s = h.1 in
+    let reads = event_reads q s.from s.last u (event_of q s.from s.last) refl s.stop in
+    (s.followed.before, s.from, s.followed.leads, ap which reads ∙ on)
+
+ended_reads : (q r : Question) (limit : ℕ) (answer : Answer Verdict Unknown) (u : Unknown) (which : Reads → Bool) → Answers (rules_of q) limit answer → answer ≡ Ended u →
+    q ≡ r → which u.reads ≡ true → ReadsBehind r u.processor which
+ended_reads q r limit answer u which h is same on =
+    subst (λ x. ReadsBehind x u.processor which) same (stopped_reads q u which (subst (λ a. Answers (rules_of q) limit a) is h) on)
+
+either : (a b : Bool) → (a || b) ≡ true → (a ≡ true) ⊎ (b ≡ true)
+either true b h = inl refl
+either false b h = inr h
+
+-- of one register
+register_learnt : (boot : State) (goal : Criteria) (old new : Known) (u : Unknown) (which : Reads → Bool) (limit : ℕ) (q : Question) (answer : Answer Verdict Unknown) →
+    Answers (rules_of q) limit answer → answer ≡ Ended u → q ≡ question_of boot goal old →
+    which (joined u.reads (known_of old u.processor)) ≡ (which u.reads || which (known_of old u.processor)) →
+    known_of new u.processor ≡ joined u.reads (known_of old u.processor) → ((p : ℕ) → p < 32 → p ≢ u.processor → known_of new p ≡ known_of old p) →
+    ((p : ℕ) → p < 32 → which (known_of old p) ≡ true → ReadsBehind (question_of boot goal old) p which) →
+    (p : ℕ) → p < 32 → which (known_of new p) ≡ true → ReadsBehind (question_of boot goal new) p which
+register_learnt boot goal old new u which limit q answer h is same splits mine others learnt p below on =
+    elim (same_or_other p u.processor (p == u.processor) refl) [
+      | inl here ↦
+          let both = sym splits ∙ ap which (sym mine) ∙ ap (λ m. which (known_of new m)) (sym here) ∙ on in
+          elim (either (which u.reads) (which (known_of old u.processor)) both) [
+            | inl read ↦
+                subst (λ m. ReadsBehind (question_of boot goal new) m which) (sym here)
+                (reads_as boot goal old new u.processor which (ended_reads q (question_of boot goal old) limit answer u which h is same read))
+            | inr known ↦ reads_as boot goal old new p which (learnt p below (ap (λ m. which (known_of old m)) here ∙ known))
+          ]
+      | inr other ↦ reads_as boot goal old new p which (learnt p below (sym (ap which (others p below other)) ∙ on))
+    ]
+
+pub still_learnt : (boot : State) (goal : Criteria) (old new : Known) (u : Unknown) (limit : ℕ) (q : Question) (answer : Answer Verdict Unknown) →
+    Answers (rules_of q) limit answer → answer ≡ Ended u → q ≡ question_of boot goal old →
+    known_of new u.processor ≡ joined u.reads (known_of old u.processor) → ((p : ℕ) → p < 32 → p ≢ u.processor → known_of new p ≡ known_of old p) →
+    IsLearnt (question_of boot goal old) → IsLearnt (question_of boot goal new)
+still_learnt boot goal old new u limit q answer h is same mine others learnt = record {
+  random = register_learnt boot goal old new u (λ r. r.random) limit q answer h is same refl mine others learnt.random;
+  count = register_learnt boot goal old new u (λ r. r.count) limit q answer h is same refl mine others learnt.count;
+}
+
+-- at first nothing is known
+pub nothing_learnt : (boot : State) (goal : Criteria) (known : Known) → ((p : ℕ) → known_of known p ≡ no_reads) → IsLearnt (question_of boot goal known)
+nothing_learnt boot goal known none = record {
+  random = λ p below on. absurd (let bad : false ≡ true = sym (ap (λ (r : Reads). r.random) (none p)) ∙ on in cc);
+  count = λ p below on. absurd (let bad : false ≡ true = sym (ap (λ (r : Reads). r.count) (none p)) ∙ on in cc);
+}
 
 -- there are 32 processors at most
 pub news_below : (boot : State) (goal : Criteria) (known : Known) (u : Unknown) → CanBeAsked boot goal → boot.board.processors ≤ 32 →

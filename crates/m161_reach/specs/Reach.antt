@@ -1,17 +1,20 @@
-use Rattle.std.specs.Prelude.{◌≡◌, ◌+◌, ◌^◌, ◌<◌, true, length, IfSome}
+use Rattle.std.specs.Prelude.{◌≡◌, ℕ, ◌+◌, ◌^◌, ◌<◌, Bool, true, List, length, IfSome}
 use Rattle.m161_machine.specs.History.{Start, boot_state}
 use Rattle.m161_machine.specs.State.{State, processor_at}
 use Rattle.m161_judge.specs.Verdict.{Criteria}
 use Rattle.m161_alike.specs.declared.known.Known.{Known}
+use Rattle.m161_alike.specs.declared.reads.Reads.{Reads}
+use Rattle.m161_alike.specs.View.{known_of}
 use Rattle.m161_states.specs.declared.verdict.Unknown.{Unknown}
 use Rattle.m161_states.specs.declared.verdict.Verdict.{Verdict}
 use Rattle.m161_states.specs.Question.{Question, can_start, processors_of}
 use Rattle.m161_states.specs.System.{Explored, next, start}
-use Rattle.m161_states.specs.Verdicts.{is_end, stop, verdict}
+use Rattle.m161_states.specs.Verdicts.{is_end, reads_next, stop, verdict}
 use Rattle.m161_states.specs.Laws.{IsValid}
 use Rattle.m161_states.specs.Views.{view}
 use Rattle.m161_explore.specs.declared.whole.Answer.{Answer}
 use Rattle.m161_explore.specs.declared.whole.Answer.TheVariants.{Clean, Found, Hung, Open, Ended}
+use Rattle.m161_explore.specs.Lists.{Leads}
 use Rattle.m161_explore.specs.Rules.{Rules}
 
 -- The states that a machine can reach, in the form in which an exploration asks for them.
@@ -51,6 +54,17 @@ pub record CanBeAsked (boot : State) (goal : Criteria) : Type 0 where
 pub record IsMet (q : Question) (x : Explored) : Type 0 where
   pub valid : IsValid q x
   pub kept : length x.flags ≡ length q.goal.watches
+
+-- behind some list of events the next Step of a processor reads one of the two registers of its time
+abbrev pub ReadsBehind : Question → ℕ → (Reads → Bool) → Type 0
+ReadsBehind q p which =
+    (events : List ℕ) × (x : Explored) × Leads (rules_of q) (start q) events x
+    × (which (reads_next p x.state) ≡ true)
+
+-- nothing is known of time that no Step reads
+pub record IsLearnt (q : Question) : Type 0 where
+  pub random : (p : ℕ) → p < 32 → (known_of q.known p).random ≡ true → ReadsBehind q p (λ reads. reads.random)
+  pub count : (p : ℕ) → p < 32 → (known_of q.known p).count ≡ true → ReadsBehind q p (λ reads. reads.count)
 
 -- an exploration ended for a reason, before its answer
 abbrev pub HasEnded : {V R : Type 0} → Answer V R → Type 0

@@ -2,7 +2,7 @@
 
 ghost use Rattle.std.specs.Prelude.{◌<◌, IfOk};
 ghost use Rattle.m161_explore.specs.Answers.{Answers};
-ghost use Rattle.m161_reach.specs.Reach.{CanBeAsked, HasEnded, question_of, rules_of};
+ghost use Rattle.m161_reach.specs.Reach.{CanBeAsked, HasEnded, IsLearnt, question_of, rules_of};
 
 use crate::machines::Machines;
 use m161_bus::Console;
@@ -39,6 +39,7 @@ pub fn explore_machine<'a, T: Tlb + Drop, D: Console + Drop>(
     ensures answers { IfOk result (λ found.
         Answers (rules_of (question_of boot.now.state goal.now found.known)) limit found.answer) }
     ensures whole { IfOk result (λ found. HasEnded found.answer → ⊥) }
+    ensures learnt { IfOk result (λ found. IsLearnt (question_of boot.now.state goal.now found.known)) }
 {
     boot.law();
     let mut known = Known::nothing();

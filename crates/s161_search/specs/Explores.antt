@@ -11,7 +11,7 @@ use Rattle.m161_machine.specs.declared.event.Event.TheVariants.{Step, Key, Done}
 use Rattle.m161_machine.specs.History.{IsBootState}
 use Rattle.m161_machine.specs.State.{State}
 use Rattle.m161_order.specs.declared.order.Order.TheVariants.{Turns}
-use Rattle.m161_reach.specs.Reach.{question_of, rules_of}
+use Rattle.m161_reach.specs.Reach.{IsLearnt, question_of, rules_of}
 use Rattle.m161_states.specs.declared.verdict.Unknown.{Unknown}
 use Rattle.m161_states.specs.declared.verdict.Verdict.{Verdict}
 use Rattle.m161_states.specs.declared.verdict.Verdict.TheVariants.{Stale, Reached, Conflict, Stuck, Output}
@@ -103,14 +103,15 @@ PrintsAnswer processors limit keys (Open size) text status =
     (status ≡ 6) × (text ≡ with_line_end (open_text limit size))
 PrintsAnswer processors limit keys (Ended reason) text status = ⊥
 
--- what a search would read is explored: from the state at boot, with some of time being known, the answer
--- says what it says of all lists of events
+-- what a search would read is explored: from the state at boot, with so much of time being known as Steps
+-- read, the answer says what it says of all lists of events
 pub record PrintsExplored (search : SearchTask) (limit : ℕ) (given : Given) (text : List ℕ) (status : ℕ)
     : Type 0 where
   pub good : (k : ℕ) → AreGood search.size.ram given.watches k
   pub boot : State
   pub is_boot : IsBootState given.file (conf_of search.size) boot
   pub known : Known
+  pub learnt : IsLearnt (question_of boot (criteria_of given) known)
   pub answer : Answer Verdict Unknown
   pub answers : Answers (rules_of (question_of boot (criteria_of given) known)) limit answer
   pub prints : PrintsAnswer search.size.processors limit given.keys answer text status

@@ -1,6 +1,6 @@
 use Rattle.std.proofs.Common.{arith}
 use Rattle.m161_reach.specs.Reach.{question_of}
-use Rattle.m161_reach.proofs.Knowing.{ended, less_left, news_below}
+use Rattle.m161_reach.proofs.Knowing.{ended, less_left, news_below, nothing_learnt, still_learnt}
 use Rattle.m161_reach.proofs.whole.explore_machine.Goals as goal
 
 pub loop-unknown-smaller : goal.loop-unknown-smaller
@@ -25,3 +25,11 @@ insert-requires g c =
     let number = c.law.ensures.number in
     let few = c.law.ensures.few in
     news_below boot goal known u c.requires.asked (omega (arith, number, few)) news
+
+pub loop-unknown-init : goal.loop-unknown-init
+loop-unknown-init g c = nothing_learnt c.args.boot.now.state c.args.goal.now c.nothing-known.result c.nothing-known.ensures
+
+pub loop-unknown-preserved : goal.loop-unknown-preserved
+loop-unknown-preserved g c =
+    still_learnt c.args.boot.now.state c.args.goal.now c.loop-unknown.known c.insert.new.self c.in-Ended.unknown _ c.new-machines.result c.in_ok-answer.answer
+    c.in_ok-answer.ensures c.in-Ended.is c.new-machines.ensures c.insert.ensures.same c.insert.ensures.others c.loop-unknown.invariant

@@ -2,7 +2,7 @@ use Rattle.std.proofs.Common.{◌∙◌, List, ℕ, subst, sym}
 use Rattle.m161_explore.specs.Answers.{Answers}
 use Rattle.m161_judge.specs.Verdict.{Criteria}
 use Rattle.m161_machine.specs.History.{IsBootState}
-use Rattle.m161_reach.specs.Reach.{question_of, rules_of}
+use Rattle.m161_reach.specs.Reach.{IsLearnt, question_of, rules_of}
 use Rattle.s161_base.specs.Sizes.{conf_of}
 use Rattle.s161_search.specs.Explores.{PrintsAnswer}
 use Rattle.s161_search.specs.helpers.Inputs.{given_of}
@@ -27,6 +27,7 @@ returns-clause-ok c =
           subst (IsBootState given.file (conf_of c.args.search.size)) (sym c.in_ok-core.ensures)
           (begins c.args.search given c.args.booted.now c.requires.booted);
       known = found.known;
+      learnt = subst (λ (k : Criteria). IsLearnt (question_of boot k found.known)) c.goal-goal.ensures c.in_ok-found.ensures.learnt;
       answer = found.answer;
       answers = subst (λ (k : Criteria). Answers (rules_of (question_of boot k found.known)) c.args.limit found.answer) c.goal-goal.ensures c.in_ok-found.ensures.answers;
       prints =
