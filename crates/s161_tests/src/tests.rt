@@ -1,5 +1,6 @@
 //! Tests of the program's commands, of the assembler and of the debugger. `program`, `run`,
-//! `faulty`, `going`, `over_files` and `texts` try the commands, over the streams of `streams`.
+//! `sample`, `faulty`, `going`, `over_files` and `texts` try the commands, over the streams of
+//! `streams`.
 
 mod asm;
 mod debug;
@@ -8,6 +9,7 @@ mod going;
 mod over_files;
 mod program;
 mod run;
+mod sample;
 mod streams;
 mod texts;
 
