@@ -13,7 +13,7 @@ use Rattle.m161_states.specs.System.{Explored, event_of}
 use Rattle.m161_states.specs.Verdicts.{stop_by}
 use Rattle.m161_reach.specs.Reach.{IsMet, rules_of}
 use Rattle.m161_reach.specs.helpers.Advance.{AdvancesBy, asked, unmade}
-use Rattle.m161_reach.specs.helpers.Laws.{met_next}
+use Rattle.m161_reach.specs.Met.{met_next}
 
 -- The states that are met.
 

@@ -5,5 +5,6 @@ pub use Rattle.m161_states.specs.System
 pub use Rattle.m161_states.specs.Verdicts
 pub use Rattle.m161_states.specs.Views
 pub use Rattle.m161_states.specs.Laws
+pub mod Met
 pub mod Reach
 pub mod helpers

@@ -1,4 +1,3 @@
 -- Definitions that only contracts of private functions or proofs use.
 pub mod Advance
 pub mod Restore
-pub mod Laws

@@ -10,7 +10,7 @@ use std::alloc::{AllocError, Global};
 
 impl<'a, T: Tlb + Drop, D: Console + Drop> System for Machines<'a, T, D> {
     ghost use Rattle.m161_reach.specs.Reach.{IsMet, rules_of};
-    ghost use Rattle.m161_reach.specs.helpers.Laws.{alike_end, alike_next, alike_stop, alike_verdict, met_next, met_start};
+    ghost use Rattle.m161_reach.specs.Met.{alike_end, alike_next, alike_stop, alike_verdict, met_next, met_start};
 
     type State = Place<T, D>;
 
