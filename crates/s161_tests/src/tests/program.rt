@@ -35,6 +35,7 @@ Commands:
   console   Runs a kernel at the terminal: its console is standard input and output
   schedule  Prints the events that an order chooses, as a schedule
   search    Looks for a seed whose run goes wrong, and prints a short schedule of it
+  explore   Looks at every state that any order of events can reach, for a kernel that is right in each
   trace     Prints a line for each event of a run: the instruction, and what it changed
   replay    Makes a log's events once more, and compares their outcomes
   debug     Does a debugger's commands on an image under a list of events
@@ -50,14 +51,15 @@ Options:
 
 Exit status:
   0  a finished demo, schedule, debug, gdb, as or dis, a machine that switched
-     itself off, a log that agrees, a clean run or search, or help
+     itself off, a log that agrees, a clean run, search or exploration, or help
   1  a fault, named on standard error, or a refused event of run, trace or
      console
   2  a rejected command line
   3  the schedule, the events or the Steps of the threads ended
-  4  a log that differs, a stale use, a run that goes wrong in search, or a
-     strict machine that a conflict switched off
+  4  a log that differs, a stale use, a run that goes wrong in search or explore,
+     or a strict machine that a conflict switched off
   5  no processor can go on, and no byte or key is left
+  6  explore found more states than it may
 ";
 
 /// What clap writes on standard error for the word `foo`.
