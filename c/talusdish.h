@@ -64,7 +64,7 @@ typedef struct {
     uint32_t transfer; /* a byte of the console is sent once so many events came after it; or where no processor is ready */
     uint32_t gap;      /* with gaps: a key is typed once so many events came after the last one */
     bool gaps;         /* without: a key is typed only where no processor is ready */
-} talusdish_plan;
+} talusdish_order;
 
 /* How a run of a search has to end: the machine off, and with this word in RAM. */
 typedef struct {
@@ -72,26 +72,58 @@ typedef struct {
     uint32_t word;
 } talusdish_goal;
 
+/* A page of an address space, whose shootdown is watched: once the initiator has stored to `pte` and then to `done`, no
+ * processor uses the page through an old row of its TLB. */
+typedef struct {
+    uint32_t id;   /* the identifier of the address space: 0 to 63 */
+    uint32_t page; /* the page: a virtual address divided by 4,096 */
+    uint32_t pte;  /* the physical address in bytes of the word with the page table's entry, as EntryLo has it */
+    uint32_t done; /* the physical address of the word that is stored to when the shootdown is over: another one */
+} talusdish_watch;
+
+/* What is wrong with a list of events. What isn't named is 0. */
+typedef struct {
+    uint32_t kind;      /* TALUSDISH_VERDICT_NONE to TALUSDISH_VERDICT_END */
+    uint32_t processor; /* stale, reached, conflict */
+    uint32_t address;   /* stale, reached: the virtual address in bytes */
+    uint32_t row;       /* stale: the old row of its TLB, 0 to 63; conflict: the row that it was to write */
+    uint32_t other;     /* conflict: the row that it would have overlapped */
+} talusdish_verdict;
+
+/* A verdict on the events of a machine, and up to which it needs them: cut behind so many, they have it too. Zeros for none. */
+typedef struct {
+    talusdish_verdict verdict;
+    uint64_t events; /* stale, reached: the last of these is the Step that is it */
+} talusdish_judgement;
+
+/* What an exploration found. */
+typedef struct {
+    uint32_t kind;   /* TALUSDISH_CLEAN to TALUSDISH_OPEN */
+    uint32_t states; /* clean, hung: how many different states there are; found: before the list; open: 0 */
+    uint64_t events; /* found, hung: how many events the list has; open: up to how many events nothing goes wrong; clean: 0 */
+    talusdish_verdict verdict; /* found: what goes wrong; else zeros */
+} talusdish_exploration;
+
 /* An event's outcome. */
 typedef struct {
     uint32_t kind;   /* TALUSDISH_RAN to TALUSDISH_TAKEN */
     uint32_t first;  /* trapped: the code, as in Cause; conflict: the row, 0 to 63 */
     uint32_t second; /* trapped: the vector's address; conflict: the other row */
-} talusdish_told;
+} talusdish_outcome;
 
 /* An entry of the log: an event that was made, and its outcome. */
 typedef struct {
     uint32_t kind;  /* TALUSDISH_STEP, TALUSDISH_KEY or TALUSDISH_DONE */
     uint32_t value; /* the processor, the key (0 to 255), or 0 */
-    talusdish_told told;
-} talusdish_logged;
+    talusdish_outcome outcome;
+} talusdish_entry_view;
 
 /* What switched a strict machine off. */
 typedef struct {
     uint32_t processor; /* which was to write a row of its TLB */
     uint32_t row;       /* that row, 0 to 63, which stays as it was */
     uint32_t other;     /* the lowest other row that it would have overlapped */
-} talusdish_clash;
+} talusdish_conflict_view;
 
 /* A processor. */
 typedef struct {
@@ -102,7 +134,7 @@ typedef struct {
     uint32_t state; /* 0 stopped, 1 running, 2 waiting */
     bool in_slot;   /* whether its instruction is in a delay slot */
     uint64_t count; /* its Steps, idle ones included */
-} talusdish_shown;
+} talusdish_processor_view;
 
 /* A row of a TLB. */
 typedef struct {
@@ -120,6 +152,23 @@ typedef struct {
 } talusdish_board_view;
 
 enum { TALUSDISH_TURNS = 0, TALUSDISH_RANDOM = 1, TALUSDISH_PRIORITIES = 2 };
+
+enum {
+    TALUSDISH_VERDICT_NONE = 0,
+    TALUSDISH_VERDICT_STALE = 1,    /* a Step used a watched page through an old row of the TLB */
+    TALUSDISH_VERDICT_REACHED = 2,  /* a Step fetched a word at an address that is never to be reached */
+    TALUSDISH_VERDICT_CONFLICT = 3, /* a strict machine was to write a row that overlaps another one */
+    TALUSDISH_VERDICT_STUCK = 4,    /* nothing is left to do, and the console hasn't sent what is asked for, if anything is */
+    TALUSDISH_VERDICT_OUTPUT = 5,   /* the machine is off, and the console hasn't sent what is asked for */
+    TALUSDISH_VERDICT_END = 6       /* output is asked for, the machine isn't off, and was never stuck; not of an exploration */
+};
+
+enum {
+    TALUSDISH_CLEAN = 0, /* in whatever order and for however long, nothing goes wrong, and each list of events can come to its end */
+    TALUSDISH_FOUND = 1, /* a shortest list of events that goes wrong */
+    TALUSDISH_HUNG = 2,  /* nothing goes wrong, and this is a shortest list that no events continue to an end */
+    TALUSDISH_OPEN = 3   /* there are more states than the limit */
+};
 
 enum { TALUSDISH_STEP = 0, TALUSDISH_KEY = 1, TALUSDISH_DONE = 2 };
 
@@ -144,13 +193,16 @@ enum {
     TALUSDISH_EVENT_MEMORY = 6,  /* memory was refused; only of TALUSDISH_DONE */
     /* why a driven run has no more events */
     TALUSDISH_RUN_OFF = 16,   /* the machine is off */
-    TALUSDISH_RUN_STUCK = 17, /* the plan chooses no event: no processor is ready, and no key is left */
-    /* a plan's first number that is outside its limits */
+    TALUSDISH_RUN_STUCK = 17, /* the order chooses no event: no processor is ready, and no key is left */
+    /* an order's first number that is outside its limits */
     TALUSDISH_NO_TURN = 18,
     TALUSDISH_NO_STRETCH = 19,
     TALUSDISH_TOO_MANY_CHANGES = 20,
     /* of a search */
     TALUSDISH_ALL_RIGHT = 21, /* each run ends right */
+    TALUSDISH_BAD_WATCH = 22, /* a watch has an identifier, a page or a word that there isn't, or one word for both */
+    TALUSDISH_NO_SYMBOL = 24, /* there is no such symbol */
+    TALUSDISH_DROPPED = 23,   /* the log doesn't have all events since the machine's boot: it had no room for them */
     /* of any call */
     TALUSDISH_BAD = 253,       /* a text isn't UTF-8, or a number means nothing */
     TALUSDISH_NO_MEMORY = 254, /* memory was refused */
@@ -179,39 +231,74 @@ uint8_t talusdish_boot(talusdish_slot *slot, const uint8_t *file, size_t size, c
 
 /* Makes one event: a Step of processor `value`, the key `value` (0 to 255), or the end of the console's transfer. 0, and the
  * outcome is told; BAD where the numbers mean no event; or why it is refused (1 to 8). Nothing is changed or told then. */
-uint8_t talusdish_event(talusdish_slot *slot, uint8_t kind, uint32_t value, talusdish_told *told);
+uint8_t talusdish_event(talusdish_slot *slot, uint8_t kind, uint32_t value, talusdish_outcome *outcome);
 
 /* The same of a Step of processor `p`, of a typed byte, and of the end of the console's transfer. */
-uint8_t talusdish_step(talusdish_slot *slot, uint32_t p, talusdish_told *told);
-uint8_t talusdish_key(talusdish_slot *slot, uint8_t byte, talusdish_told *told);
-uint8_t talusdish_done(talusdish_slot *slot, talusdish_told *told);
+uint8_t talusdish_step(talusdish_slot *slot, uint32_t p, talusdish_outcome *outcome);
+uint8_t talusdish_key(talusdish_slot *slot, uint8_t byte, talusdish_outcome *outcome);
+uint8_t talusdish_done(talusdish_slot *slot, talusdish_outcome *outcome);
 
 /* Makes Steps of processor `p` until `n` are made, which is answered by 0, or one is refused (1, 2 or 8). `made` is how many
  * were. As many calls of talusdish_event in less time. */
 uint8_t talusdish_steps(talusdish_slot *slot, uint32_t p, uint32_t n, uint32_t *made);
 
-/* Makes the events that a plan chooses, from a new beginning of its order and with `size` bytes of keys, until the machine is
+/* Makes the events that an order chooses, from a new beginning of it and with `size` bytes of keys, until the machine is
  * off (RUN_OFF), `n` are made (0), none is chosen (RUN_STUCK), or the chosen one is refused (WORN, EVENT_MEMORY). `made` is
- * how many were. NO_TURN to TOO_MANY_CHANGES or BAD for a plan that can't be followed: nothing is changed then. Two calls
- * are two runs: each begins the plan's order and the keys anew. */
-uint8_t talusdish_drive(talusdish_slot *slot, const talusdish_plan *plan, const uint8_t *keys, size_t size, uint64_t n, uint64_t *made);
+ * how many were. NO_TURN to TOO_MANY_CHANGES or BAD for an order that can't be followed: nothing is changed then. Two calls
+ * are two runs: each begins the order and the keys anew. */
+uint8_t talusdish_drive(talusdish_slot *slot, const talusdish_order *order, const uint8_t *keys, size_t size, uint64_t n, uint64_t *made);
 
 /* The same, and the lines of its events, each with a line feed, become the session's bytes: the same lines as those of
  * `s161 trace`, numbered from the events of the machine. With `names` registers are shown by their names. Works on a copy of
  * the machine; where memory is refused (NO_MEMORY), no event is made. */
-uint8_t talusdish_trace(talusdish_slot *slot, const talusdish_plan *plan, const uint8_t *keys, size_t size, bool names, uint64_t n, uint64_t *made);
+uint8_t talusdish_trace(talusdish_slot *slot, const talusdish_order *order, const uint8_t *keys, size_t size, bool names, uint64_t n, uint64_t *made);
 
-/* Looks for a run that ends wrong. The runs are those that the plan chooses with `count` seeds, its own and those behind it
+/* Looks for a run that ends wrong. The runs are those that the order chooses with `count` seeds, its own and those behind it
  * (modulo 2^64), each of at most `n` events from the machine as it is, with `size` bytes of keys. Each is made on a copy, in
  * this order, up to the first that doesn't end right; the session stays as it is. 0 where one ends wrong; ALL_RIGHT where
  * none does; NO_TURN to TOO_MANY_CHANGES, BAD or NO_MEMORY where one isn't made. `right` is how many end right before it:
- * the wrong run is that of the seed `plan->seed + right`, and talusdish_drive or talusdish_trace with that seed makes it. A
+ * the wrong run is that of the seed `order->seed + right`, and talusdish_drive or talusdish_trace with that seed makes it. A
  * copy takes the machine's RAM once. */
-uint8_t talusdish_search(talusdish_slot *slot, const talusdish_plan *plan, const uint8_t *keys, size_t size, uint64_t n, uint64_t count,
+uint8_t talusdish_search(talusdish_slot *slot, const talusdish_order *order, const uint8_t *keys, size_t size, uint64_t n, uint64_t count,
                          const talusdish_goal *goal, uint64_t *right);
 
+/* Looks at every state that the machine can reach from its boot, whatever events it has made since, by any order of Steps, ends of
+ * transfers and the `keys_size` keys in their order; as long as there are no more than `limit` states, which is at least 1. What goes
+ * wrong is a stale use of one of the `watches`, a fetch at one of the `never_size` virtual addresses `never`, a conflict on a strict
+ * machine, that nothing is left to do, and, where output is asked for, that the machine is off and the console hasn't sent exactly
+ * these `output_size` bytes. 0, and the exploration is told; the events of its list become the session's bytes, each a byte: a
+ * number below that of the processors is a Step of that processor, the next one the end of a transfer, and the one behind it the
+ * next key. Else nothing is changed or told: BAD for a limit of 0 (or 2^32 keys or bytes of output, or 2^31 watches), BAD_WATCH or
+ * NO_MEMORY. It takes about a hundred bytes a state, and as long as `s161 explore`. */
+uint8_t talusdish_explore(talusdish_slot *slot, uint32_t limit, const uint8_t *keys, size_t keys_size, const talusdish_watch *watches,
+                          size_t watches_size, const uint32_t *never, size_t never_size, bool asked, const uint8_t *output,
+                          size_t output_size, talusdish_exploration *found);
+
+/* The value of the first symbol of an ELF `file` with this name of `name_size` bytes of UTF-8. 0, and it is told; else nothing is:
+ * NO_SYMBOL, BAD for a name that isn't UTF-8, or NO_MEMORY. */
+uint8_t talusdish_symbol(const uint8_t *file, size_t file_size, const uint8_t *name, size_t name_size, uint32_t *value);
+
+/* The symbol of an ELF `file` that is nearest below an address: the first one with the greatest value that isn't above it. Its name
+ * becomes the session's bytes, `distance` is how many bytes the address is behind it, and the answer is 0. Else nothing is changed or
+ * told: NO_SYMBOL where each value is above the address, or NO_MEMORY. */
+uint8_t talusdish_nearest(talusdish_slot *slot, const uint8_t *file, size_t size, uint32_t address, uint32_t *distance);
+
+/* Audits the machine's events since its boot, as its log has them: whether one is a stale use of one of the `size` watches' pages, and
+ * which is the first. 0, and it is told: TALUSDISH_VERDICT_NONE or TALUSDISH_VERDICT_STALE. Else nothing is told: BAD_WATCH, DROPPED
+ * or NO_MEMORY. The session stays as it is. */
+uint8_t talusdish_audit(talusdish_slot *slot, const talusdish_watch *watches, size_t size, talusdish_judgement *judgement);
+
+/* Judges the machine's events since its boot, as its log has them, as they would be made on a machine of its size that is booted from
+ * this `file`: the one that it was booted from. What goes wrong is what talusdish_explore says, and that the events end with the
+ * machine neither off nor stuck where output is asked for; the first of these in the order of their numbers is told, or
+ * TALUSDISH_VERDICT_NONE. `keys` are all that could be typed: while some are left, the machine isn't stuck. 0; or what talusdish_boot
+ * answers of a file that can't be booted; BAD_WATCH, DROPPED or NO_MEMORY, and nothing is told. The session stays as it is. */
+uint8_t talusdish_judge(talusdish_slot *slot, const uint8_t *file, size_t file_size, const uint8_t *keys, size_t keys_size,
+                        const talusdish_watch *watches, size_t watches_size, const uint32_t *never, size_t never_size, bool asked,
+                        const uint8_t *output, size_t output_size, talusdish_judgement *judgement);
+
 /* Shows a processor. False where there is no such one: nothing is told then. */
-bool talusdish_processor(talusdish_slot *slot, uint32_t p, talusdish_shown *shown);
+bool talusdish_processor(talusdish_slot *slot, uint32_t p, talusdish_processor_view *view);
 
 /* How many events the machine has accepted; 0 with no machine. */
 uint64_t talusdish_made(talusdish_slot *slot);
@@ -240,7 +327,7 @@ bool talusdish_row(talusdish_slot *slot, uint32_t p, uint32_t i, talusdish_row_w
 bool talusdish_link(talusdish_slot *slot, uint32_t p, uint32_t *at);
 
 /* What switched a strict machine off. False where nothing did: nothing is told then. */
-bool talusdish_conflict(talusdish_slot *slot, talusdish_clash *clash);
+bool talusdish_conflict(talusdish_slot *slot, talusdish_conflict_view *conflict);
 
 /* Whether the machine is off, its console, and which processors were started. False with no machine: nothing is told then. */
 bool talusdish_board(talusdish_slot *slot, talusdish_board_view *board);
@@ -254,7 +341,7 @@ size_t talusdish_entries(talusdish_slot *slot);
 
 /* An entry of the log by its number, from 0, the oldest one that is kept. False where there is no such entry: nothing is told
  * then. */
-bool talusdish_entry(talusdish_slot *slot, size_t i, talusdish_logged *entry);
+bool talusdish_entry(talusdish_slot *slot, size_t i, talusdish_entry_view *entry);
 
 /* Copies the session, its machine and its bytes, into the slot `to`, which is another one; what that held is freed then. 0; or
  * NO_MEMORY or NOTHING (`slot` is empty), and `to` is as it was. */

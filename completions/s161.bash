@@ -10,7 +10,7 @@ _s161_of_command() {
     schedule) options='--ram --cpus --log --link --strict --turns --delayed --random --changes --within --events --transfer --keys --gap -h --help' arguments=('files @sample') ;;
     search) options='--ram --cpus --log --link --strict --seeds --delays --turns --from --jobs --watches --never --output --whole --changes --within --events --transfer --keys --gap -h --help' arguments=('files @sample') ;;
     explore) options='--ram --cpus --link --strict --watches --never --output --keys --states -h --help' arguments=('files @sample') ;;
-    trace) options='--ram --cpus --log --link --strict --from --count --names --symbols --only --outcomes --loads --turns --delayed --random --changes --within --events --transfer --keys --gap -h --help' arguments=('files @sample') ;;
+    trace) options='--ram --cpus --log --link --strict --from --count --names --symbols --only --touches --outcomes --shared --loads --turns --delayed --random --changes --within --events --transfer --keys --gap -h --help' arguments=('files @sample') ;;
     replay) options='--ram --cpus --log -h --help' arguments=('files @sample' 'files') ;;
     debug) options='--ram --cpus --log --link --strict --names --symbols --turns --delayed --random --changes --within --events --transfer --keys --gap -h --help' arguments=('files @sample' 'files') ;;
     gdb) options='--ram --cpus --log --link --strict --turns --delayed --random --changes --within --events --transfer --keys --gap -h --help' arguments=('files @sample' 'files') ;;
@@ -25,7 +25,7 @@ _s161_of_command() {
 # Of which kind an option's value is; a flag has none.
 _s161_of_option() {
     case $1 in
-    --ram | --cpus | --log | --threads | --burst | --turns | --delayed | --random | --changes | --within | --events | --transfer | --seeds | --delays | --from | --jobs | --never | --states | --count | --only) kind='number' ;;
+    --ram | --cpus | --log | --threads | --burst | --turns | --delayed | --random | --changes | --within | --events | --transfer | --seeds | --delays | --from | --jobs | --never | --states | --count | --only | --touches) kind='number' ;;
     --link) kind='words word line' ;;
     --keys | --watches | --output) kind='files' ;;
     --gap) kind='words none' ;;

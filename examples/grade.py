@@ -1,36 +1,47 @@
 #!/usr/bin/env python3
-"""examples/grade.py FILE.s ..: grades solutions of the lab lost-update (examples/labs). Two processors each add one to the word at
-1000; a solution is right if that word is 2 and the machine off in the end, in each of a thousand orders. Says for each file how many
-orders fail, and the first one, whose lines `s161 trace --random SEED` prints. The exit status is 1 where one fails."""
+"""examples/grade.py LAB FILE.s ..: grades solutions of a lab of examples/labs, `lost-update` or `two-locks`, on two processors. A
+solution is right if it is so in every order of events: the machine can always come to its end, which is off, and by a thousand seeds
+the words of RAM are there then that the lab asks for. Says of each file whether it is, or the events that go wrong. The exit status
+is 1 where one isn't right, 2 for another lab."""
 
+import itertools
 import sys
 from pathlib import Path
 
-from talusdish import AssemblyError, Machine, Random, Stop, assemble
+from talusdish import AssemblyError, Clean, Found, Machine, Open, Random, Stop, assemble, explore
 
-ORDERS = 1000
+RAM = 28672
+WORDS = {"lost-update": {0x1000: 2}, "two-locks": {}}
 
 
-def is_right(image, seed):
-    machine = Machine(image, ram=65536, cpus=2, log=1)
+def is_right(image, seed, words):
+    machine = Machine(image, RAM, cpus=2, log=1)
     run = machine.run(Random(seed), events=10_000)
-    return run.stop == Stop.OFF and machine.memory[0x1000] == 2
+    return run.stop == Stop.OFF and all(machine.memory[address] == word for address, word in words.items())
 
 
-def grade(path):
-    try:
-        image = assemble(path.read_text())
-    except AssemblyError as error:
-        print(f"{path.stem}: isn't assembled: {error}")
-        return False
-    wrong = [seed for seed in range(ORDERS) if not is_right(image, seed)]
-    if wrong:
-        print(f"{path.stem}: wrong in {len(wrong)} of {ORDERS} orders, first by seed {wrong[0]}")
-    else:
-        print(f"{path.stem}: right in {ORDERS} orders")
-    return not wrong
+def grade(image, words):
+    found = explore(image, RAM, cpus=2, states=100_000)
+    if isinstance(found, Open):
+        return False, f"isn't known: it has more than {found.limit} states"
+    if not isinstance(found, Clean):
+        steps = itertools.groupby(found.events, lambda event: f"{event[0].name.lower()} {event[1]}")
+        events = ", ".join(f"{event} x {len(list(times))}" for event, times in steps)
+        return False, f"{found.verdict.wrong.name.lower() if isinstance(found, Found) else 'hung'} after {events}"
+    wrong = next((seed for seed in range(1000) if not is_right(image, seed, words)), None)
+    return wrong is None, f"right in every order: {found.states} states" if wrong is None else f"wrong words by seed {wrong}"
+
+
+def main(lab, *files):
+    results = []
+    for path in map(Path, files):
+        try:
+            results.append(grade(assemble(path.read_text()), WORDS[lab]))
+        except AssemblyError as error:
+            results.append((False, f"isn't assembled: {error}"))
+        print(f"{path.stem}: {results[-1][1]}")
+    return not all(right for right, _ in results)
 
 
 if __name__ == "__main__":
-    results = [grade(Path(name)) for name in sys.argv[1:]]
-    sys.exit(not all(results))
+    sys.exit(main(*sys.argv[1:]) if len(sys.argv) > 1 and sys.argv[1] in WORDS else __doc__)

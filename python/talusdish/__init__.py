@@ -11,20 +11,25 @@ A machine belongs to one thread at a time. Words are of 32 bits, addresses in by
 """
 
 from ._errors import (
-    AssemblyError, BadConf, BadEntry, BadHeaderTable, BadProcessor, BootError, FileLargerThanMemory, KeyFull, NoStretch, NotElf32Big,
-    NotExecutable, NothingSent, NotMips, NoTurn, Off, PlanError, Refusal, SegmentOutsideFile, SegmentOutsideRam, TalusdishError,
+    AssemblyError, BadConf, BadEntry, BadHeaderTable, BadProcessor, BadWatch, BootError, Dropped, FileLargerThanMemory, GoalError, KeyFull, NoStretch, NotElf32Big,
+    NotExecutable, NothingSent, NotMips, NoTurn, Off, OrderError, Refusal, SegmentOutsideFile, SegmentOutsideRam, TalusdishError,
     TooManyChanges, Truncated, Worn,
 )
+from ._judging import (
+    Clean, Event, Explored, Found, Hung, Judgement, Made, Open, Verdict, Watch, Wrong,
+)
 from ._machine import (
-    Conflict, Console, Doing, Entries, Entry, Event, Image, Kind, Machine, Memory, Outcome, Processor, Processors, Run, Stop, assemble,
+    Conflict, Console, Doing, Entries, Entry, Image, Kind, Machine, Memory, Outcome, Processor, Processors, Run, Stop, assemble, explore,
 )
 from ._orders import Order, Priorities, Random, Seeded, Turns
 from ._trace import TraceLine
 
 __all__ = [
-    "AssemblyError", "BadConf", "BadEntry", "BadHeaderTable", "BadProcessor", "BootError", "Conflict", "Console", "Doing", "Entries", "Entry",
-    "Event", "FileLargerThanMemory", "Image",
-    "KeyFull", "Kind", "Machine", "Memory", "NoStretch", "NoTurn", "NotElf32Big", "NotExecutable", "NotMips", "NothingSent", "Off",
-    "Order", "Outcome", "PlanError", "Priorities", "Processor", "Processors", "Random", "Refusal", "Run", "Seeded", "SegmentOutsideFile",
-    "SegmentOutsideRam", "Stop", "TalusdishError", "TooManyChanges", "TraceLine", "Truncated", "Turns", "Worn", "assemble",
+    "AssemblyError", "BadConf", "BadEntry", "BadHeaderTable", "BadProcessor", "BadWatch", "BootError", "Clean",
+    "Conflict", "Console", "Doing", "Dropped", "Entries", "Entry", "Event", "Explored", "FileLargerThanMemory", "Found",
+    "GoalError", "Hung", "Image", "Judgement", "KeyFull", "Kind", "Machine", "Made", "Memory", "NoStretch", "NoTurn",
+    "NotElf32Big", "NotExecutable", "NotMips", "NothingSent", "Off", "Open", "Order", "OrderError", "Outcome", "Priorities",
+    "Processor", "Processors", "Random", "Refusal", "Run", "Seeded", "SegmentOutsideFile", "SegmentOutsideRam",
+    "Stop", "TalusdishError", "TooManyChanges", "TraceLine", "Truncated", "Turns", "Verdict", "Watch", "Worn", "Wrong",
+    "assemble", "explore",
 ]

@@ -27,8 +27,12 @@ class Refusal(TalusdishError):
     """Why an event is refused. The machine is as it was."""
 
 
-class PlanError(TalusdishError, ValueError):
+class OrderError(TalusdishError, ValueError):
     """A number of an order that is outside its limits."""
+
+
+class GoalError(TalusdishError, ValueError):
+    """What a run is to be judged by can't be asked of this machine."""
 
 
 def _kind(base: type[TalusdishError], name: str, number: int, text: str) -> type[TalusdishError]:
@@ -52,13 +56,18 @@ Worn = _kind(Refusal, "Worn", 8, "The machine has accepted 2^63 - 1 events.")
 KeyFull = _kind(Refusal, "KeyFull", 4, "256 typed bytes are waiting.")
 NothingSent = _kind(Refusal, "NothingSent", 5, "The console isn't sending a byte.")
 
-NoTurn = _kind(PlanError, "NoTurn", 18, "A turn has at least 1 Step.")
-NoStretch = _kind(PlanError, "NoStretch", 19, "A stretch has at least 1 Step.")
-TooManyChanges = _kind(PlanError, "TooManyChanges", 20, "A stretch has at most 64 changes.")
+NoTurn = _kind(OrderError, "NoTurn", 18, "A turn has at least 1 Step.")
+NoStretch = _kind(OrderError, "NoStretch", 19, "A stretch has at least 1 Step.")
+TooManyChanges = _kind(OrderError, "TooManyChanges", 20, "A stretch has at most 64 changes.")
+
+BadWatch = _kind(GoalError, "BadWatch", 22, "A watch has an identifier, a page or a word that there isn't, or one word for both.")
+
+Dropped = _kind(GoalError, "Dropped", 23, "The log has no room for all events since the boot.")
 
 BOOT = {it.number: it for it in (BadConf, Truncated, NotElf32Big, NotExecutable, NotMips, BadHeaderTable, SegmentOutsideFile, SegmentOutsideRam, FileLargerThanMemory, BadEntry)}
 REFUSALS = {it.number: it for it in (BadProcessor, Off, Worn, KeyFull, NothingSent)}
-PLANS = {it.number: it for it in (NoTurn, NoStretch, TooManyChanges)}
+ORDERS = {it.number: it for it in (NoTurn, NoStretch, TooManyChanges)}
+GOALS = {it.number: it for it in (BadWatch, Dropped)}
 KINDS = ["", "BadToken", "UnknownWord", "BadOperand", "OutOfRange", "UnknownLabel", "DoubleLabel", "BranchTooFar", "Overlap"]
 
 

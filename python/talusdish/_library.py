@@ -8,7 +8,8 @@ from pathlib import Path
 from typing import Any
 
 OK, NOTHING, NO_MEMORY, BAD = 0, 255, 254, 253
-RUN_OFF, RUN_STUCK, ALL_RIGHT = 16, 17, 21
+RUN_OFF, RUN_STUCK, ALL_RIGHT, BAD_WATCH, DROPPED = 16, 17, 21, 22, 23
+NO_SYMBOL = 24
 
 
 class Slot(c.Structure):
@@ -23,7 +24,7 @@ class Size(c.Structure):
     _fields_ = [("ram", c.c_uint32), ("processors", c.c_uint32), ("log", c.c_uint32), ("line", c.c_bool), ("strict", c.c_bool)]
 
 
-class Plan(c.Structure):
+class OrderNumbers(c.Structure):
     _fields_ = [
         ("kind", c.c_uint32), ("turns", c.c_uint32), ("seed", c.c_uint64), ("changes", c.c_uint32), ("within", c.c_uint32),
         ("transfer", c.c_uint32), ("gap", c.c_uint32), ("gaps", c.c_bool),
@@ -34,19 +35,35 @@ class Goal(c.Structure):
     _fields_ = [("address", c.c_uint32), ("word", c.c_uint32)]
 
 
-class Told(c.Structure):
+class WatchNumbers(c.Structure):
+    _fields_ = [("id", c.c_uint32), ("page", c.c_uint32), ("pte", c.c_uint32), ("done", c.c_uint32)]
+
+
+class VerdictNumbers(c.Structure):
+    _fields_ = [("kind", c.c_uint32), ("processor", c.c_uint32), ("address", c.c_uint32), ("row", c.c_uint32), ("other", c.c_uint32)]
+
+
+class JudgementNumbers(c.Structure):
+    _fields_ = [("verdict", VerdictNumbers), ("events", c.c_uint64)]
+
+
+class Exploration(c.Structure):
+    _fields_ = [("kind", c.c_uint32), ("states", c.c_uint32), ("events", c.c_uint64), ("verdict", VerdictNumbers)]
+
+
+class OutcomeNumbers(c.Structure):
     _fields_ = [("kind", c.c_uint32), ("first", c.c_uint32), ("second", c.c_uint32)]
 
 
-class Logged(c.Structure):
-    _fields_ = [("kind", c.c_uint32), ("value", c.c_uint32), ("told", Told)]
+class EntryView(c.Structure):
+    _fields_ = [("kind", c.c_uint32), ("value", c.c_uint32), ("outcome", OutcomeNumbers)]
 
 
-class Clash(c.Structure):
+class ConflictView(c.Structure):
     _fields_ = [("processor", c.c_uint32), ("row", c.c_uint32), ("other", c.c_uint32)]
 
 
-class Shown(c.Structure):
+class ProcessorView(c.Structure):
     _fields_ = [
         ("registers", c.c_uint32 * 32), ("hi", c.c_uint32), ("lo", c.c_uint32), ("pc", c.c_uint32), ("state", c.c_uint32),
         ("in_slot", c.c_bool), ("count", c.c_uint64),
@@ -81,15 +98,25 @@ def _load() -> Any:
         "close": (None, slot),
         "assemble": (u8, slot, c.c_char_p, size, c.c_bool, point(Fault)),
         "boot": (u8, slot, c.c_char_p, size, point(Size)),
-        "event": (u8, slot, u8, u32, point(Told)),
-        "step": (u8, slot, u32, point(Told)),
-        "key": (u8, slot, u8, point(Told)),
-        "done": (u8, slot, point(Told)),
+        "event": (u8, slot, u8, u32, point(OutcomeNumbers)),
+        "step": (u8, slot, u32, point(OutcomeNumbers)),
+        "key": (u8, slot, u8, point(OutcomeNumbers)),
+        "done": (u8, slot, point(OutcomeNumbers)),
         "steps": (u8, slot, u32, u32, point(u32)),
-        "drive": (u8, slot, point(Plan), c.c_char_p, size, u64, point(u64)),
-        "trace": (u8, slot, point(Plan), c.c_char_p, size, c.c_bool, u64, point(u64)),
-        "search": (u8, slot, point(Plan), c.c_char_p, size, u64, u64, point(Goal), point(u64)),
-        "processor": (c.c_bool, slot, u32, point(Shown)),
+        "drive": (u8, slot, point(OrderNumbers), c.c_char_p, size, u64, point(u64)),
+        "trace": (u8, slot, point(OrderNumbers), c.c_char_p, size, c.c_bool, u64, point(u64)),
+        "search": (u8, slot, point(OrderNumbers), c.c_char_p, size, u64, u64, point(Goal), point(u64)),
+        "explore": (
+            u8, slot, u32, c.c_char_p, size, point(WatchNumbers), size, point(u32), size, c.c_bool, c.c_char_p, size, point(Exploration),
+        ),
+        "symbol": (u8, c.c_char_p, size, c.c_char_p, size, point(u32)),
+        "nearest": (u8, slot, c.c_char_p, size, u32, point(u32)),
+        "audit": (u8, slot, point(WatchNumbers), size, point(JudgementNumbers)),
+        "judge": (
+            u8, slot, c.c_char_p, size, c.c_char_p, size, point(WatchNumbers), size, point(u32), size, c.c_bool, c.c_char_p, size,
+            point(JudgementNumbers),
+        ),
+        "processor": (c.c_bool, slot, u32, point(ProcessorView)),
         "made": (u64, slot),
         "output": (u8, slot),
         "length": (size, slot),
@@ -98,9 +125,9 @@ def _load() -> Any:
         "row": (c.c_bool, slot, u32, u32, point(RowWords)),
         "board": (c.c_bool, slot, point(BoardView)),
         "link": (c.c_bool, slot, u32, point(u32)),
-        "conflict": (c.c_bool, slot, point(Clash)),
+        "conflict": (c.c_bool, slot, point(ConflictView)),
         "entries": (size, slot),
-        "entry": (c.c_bool, slot, size, point(Logged)),
+        "entry": (c.c_bool, slot, size, point(EntryView)),
         "log": (u8, slot),
         "copy": (u8, slot, slot),
         "word": (c.c_bool, slot, u32, point(u32)),

@@ -8,13 +8,17 @@ import weakref
 from contextlib import contextmanager
 from dataclasses import dataclass, replace
 from enum import Enum
-from typing import Callable, Iterator, Optional, Sequence
+from typing import Callable, Iterable, Iterator, Optional, Sequence
 
-from ._errors import KINDS, PLANS, AssemblyError, BadProcessor, boot_error, refusal
+from ._errors import GOALS, KINDS, ORDERS, AssemblyError, BadProcessor, boot_error, refusal
 from ._library import (
-    ALL_RIGHT, NO_MEMORY, RUN_OFF, RUN_STUCK, BoardView, Clash, Fault, Goal, Logged, RowWords, Shown, Size, Slot, Told, lib,
+    ALL_RIGHT, NO_MEMORY, NO_SYMBOL, RUN_OFF, RUN_STUCK, BoardView, ConflictView, EntryView, Exploration, Fault, Goal, JudgementNumbers, OutcomeNumbers,
+    ProcessorView, RowWords, Size, Slot, lib,
 )
-from ._orders import Order, Turns, Seeded, plan_of, within
+from ._judging import (
+    Clean, Event, Explored, Found, Hung, Judgement, Made, Open, Watch, events_of, goal_of, judgement_of, verdict_of, watches_of,
+)
+from ._orders import Order, Seeded, Turns, numbers_of, within
 from ._trace import TraceLine
 
 
@@ -45,14 +49,6 @@ class Outcome:
     kind: Kind
     first: int
     second: int
-
-
-class Event(Enum):
-    """The kind of an event: a Step of a processor, a typed byte, or the end of the console's transfer."""
-
-    STEP = 0
-    KEY = 1
-    DONE = 2
 
 
 @dataclass(frozen=True)
@@ -98,6 +94,26 @@ class Image:
 
     file: bytes
 
+    def symbol(self, name: str) -> Optional[int]:
+        """The value of the first symbol with this name, if there is one. Raises MemoryError."""
+        value, text = c.c_uint32(), name.encode()
+        answer = lib.talusdish_symbol(self.file, len(self.file), text, len(text), value)
+        if answer == NO_MEMORY:
+            raise MemoryError("talusdish")
+        return None if answer == NO_SYMBOL else value.value
+
+    def nearest(self, address: int) -> Optional[tuple[str, int]]:
+        """The name of the symbol that is nearest below an address, and how many bytes the address is behind it; None where each value
+        is above it. Raises MemoryError."""
+        distance, slot = c.c_uint32(), _slot()
+        try:
+            answer = lib.talusdish_nearest(slot, self.file, len(self.file), within("address", address), distance)
+            if answer == NO_MEMORY:
+                raise MemoryError("talusdish")
+            return None if answer == NO_SYMBOL else (_bytes(slot).decode(errors="replace"), distance.value)
+        finally:
+            lib.talusdish_close(slot)
+
 
 @contextmanager
 def _alone(lock: threading.Lock) -> Iterator[None]:
@@ -110,8 +126,8 @@ def _alone(lock: threading.Lock) -> Iterator[None]:
         lock.release()
 
 
-def _outcome(told: Told) -> Outcome:
-    return Outcome(Kind(told.kind), told.first, told.second)
+def _outcome(outcome: OutcomeNumbers) -> Outcome:
+    return Outcome(Kind(outcome.kind), outcome.first, outcome.second)
 
 
 def _processor(p: int) -> int:
@@ -121,9 +137,19 @@ def _processor(p: int) -> int:
 
 
 def _run(made: int, answer: int) -> Run:
-    if answer in PLANS:
-        raise PLANS[answer](PLANS[answer].__doc__)
+    if answer in ORDERS:
+        raise ORDERS[answer](ORDERS[answer].__doc__)
     return Run(made, Stop(answer))
+
+
+def _judged(answer: int) -> None:
+    """Raises why nothing is judged."""
+    if answer == NO_MEMORY:
+        raise MemoryError("talusdish")
+    if answer in GOALS:
+        raise GOALS[answer](GOALS[answer].__doc__)
+    if answer:
+        raise ValueError("the goal is too long")
 
 
 def _slot() -> Slot:
@@ -191,12 +217,12 @@ class Processors(Sequence[Processor]):
         if isinstance(p, slice):
             return [self[q] for q in range(*p.indices(self._count))]
         q = p + self._count if p < 0 else p
-        shown = Shown()
+        view = ProcessorView()
         with _alone(self._machine._lock):
-            if not 0 <= q < self._count or not lib.talusdish_processor(self._machine._slot, q, shown):
+            if not 0 <= q < self._count or not lib.talusdish_processor(self._machine._slot, q, view):
                 raise IndexError(f"there is no processor {p}")
         return Processor(
-            tuple(shown.registers), shown.hi, shown.lo, shown.pc, Doing(shown.state), bool(shown.in_slot), shown.count
+            tuple(view.registers), view.hi, view.lo, view.pc, Doing(view.state), bool(view.in_slot), view.count
         )
 
 
@@ -215,11 +241,11 @@ class Entries(Sequence[Entry]):
         if isinstance(i, slice):
             return [self[k] for k in range(*i.indices(count))]
         k = i + count if i < 0 else i
-        logged = Logged()
+        entry = EntryView()
         with _alone(self._machine._lock):
-            if not 0 <= k < count or not lib.talusdish_entry(self._machine._slot, k, logged):
+            if not 0 <= k < count or not lib.talusdish_entry(self._machine._slot, k, entry):
                 raise IndexError(f"the log has no entry {i}")
-        return Entry(Event(logged.kind), logged.value, _outcome(logged.told))
+        return Entry(Event(entry.kind), entry.value, _outcome(entry.outcome))
 
 
 class Memory:
@@ -255,12 +281,13 @@ class Machine:
         self, image: Image, ram: int = 1048576, cpus: int = 1, log: int = 4096, line: bool = False, strict: bool = False
     ) -> None:
         size = Size(within("ram", ram), within("cpus", cpus), within("log", log), line, strict)
-        self._own(_slot(), ram, cpus)
+        self._own(_slot(), image, ram, cpus)
         answer = lib.talusdish_boot(self._slot, image.file, len(image.file), size)
         if answer:
             raise boot_error(answer)
 
-    def _own(self, slot: Slot, ram: int, cpus: int) -> None:
+    def _own(self, slot: Slot, image: Image, ram: int, cpus: int) -> None:
+        self._image = image
         self._lock = threading.Lock()
         self._slot = slot
         weakref.finalize(self, lib.talusdish_close, slot)
@@ -275,18 +302,18 @@ class Machine:
             if lib.talusdish_copy(self._slot, slot):
                 raise MemoryError("talusdish")
         other = Machine.__new__(Machine)
-        other._own(slot, len(self.memory), len(self.processors))
+        other._own(slot, self._image, len(self.memory), len(self.processors))
         return other
 
     __copy__ = copy
 
     def _event(self, call: Callable[..., int], *value: int) -> Outcome:
-        told = Told()
+        outcome = OutcomeNumbers()
         with _alone(self._lock):
-            answer = call(self._slot, *value, told)
+            answer = call(self._slot, *value, outcome)
         if answer:
             raise refusal(answer)
-        return _outcome(told)
+        return _outcome(outcome)
 
     def step(self, p: int = 0) -> Outcome:
         """Makes one Step of processor `p`. Raises BadProcessor, Off or Worn; the machine is as it was then."""
@@ -299,6 +326,12 @@ class Machine:
     def done(self) -> Outcome:
         """The console has sent its byte. Raises Off, Worn, NothingSent or MemoryError."""
         return self._event(lib.talusdish_done)
+
+    def make(self, events: Iterable[Made]) -> list[Outcome]:
+        """Makes these events, one after the other, as `explore` gives them, and gives their outcomes. Raises what `step`, `key` and
+        `done` do; the events before the refused one are made then."""
+        calls = {Event.STEP: self.step, Event.KEY: self.key, Event.DONE: lambda _: self.done()}
+        return [calls[event](value) for event, value in events]
 
     def steps(self, n: int, p: int = 0) -> int:
         """Makes Steps of processor `p` until `n` are made, at most 2^32 - 1, or one is refused because the machine went off.
@@ -314,9 +347,9 @@ class Machine:
         """Makes the events that an order chooses, at most `events`. A byte of the console is sent once `transfer` events came
         after it. A key is typed where no processor is ready, and with a `gap` once so many events came after the last one.
         Each call begins the order and the keys anew. Raises NoTurn, NoStretch or TooManyChanges."""
-        made, plan = c.c_uint64(), plan_of(order, transfer, gap)
+        made, numbers = c.c_uint64(), numbers_of(order, transfer, gap)
         with _alone(self._lock):
-            answer = lib.talusdish_drive(self._slot, plan, keys, len(keys), within("events", events, 64), made)
+            answer = lib.talusdish_drive(self._slot, numbers, keys, len(keys), within("events", events, 64), made)
         return _run(made.value, answer)
 
     def trace(
@@ -325,9 +358,9 @@ class Machine:
         """Runs as `run` does, and gives a line for each event, as `s161 trace` prints it, with its parts by name; with `names`
         registers have their names. The run is made by this call, before the first line is asked for. Raises also MemoryError: no
         event is made then."""
-        made, plan = c.c_uint64(), plan_of(order, transfer, gap)
+        made, numbers = c.c_uint64(), numbers_of(order, transfer, gap)
         with _alone(self._lock):
-            answer = lib.talusdish_trace(self._slot, plan, keys, len(keys), names, within("events", events, 64), made)
+            answer = lib.talusdish_trace(self._slot, numbers, keys, len(keys), names, within("events", events, 64), made)
             if answer == NO_MEMORY:
                 raise MemoryError("talusdish")
             _run(made.value, answer)
@@ -341,19 +374,62 @@ class Machine:
         """Looks for a run that ends wrong: one after which the machine isn't off, or the word at a physical address isn't `word`.
         Tries the order with `count` seeds, its own and those behind it, each from the machine as it is, which stays so. Gives the
         first order whose run ends wrong, or None. Raises NoStretch, TooManyChanges, or MemoryError."""
-        right, plan = c.c_uint64(), plan_of(order, transfer, gap)
+        right, numbers = c.c_uint64(), numbers_of(order, transfer, gap)
         goal = Goal(within("address", address), within("word", word))
         with _alone(self._lock):
             answer = lib.talusdish_search(
-                self._slot, plan, keys, len(keys), within("events", events, 64), within("count", count, 64), goal, right
+                self._slot, numbers, keys, len(keys), within("events", events, 64), within("count", count, 64), goal, right
             )
         if answer == ALL_RIGHT:
             return None
         if answer == NO_MEMORY:
             raise MemoryError("talusdish")
         if answer:
-            raise PLANS[answer](PLANS[answer].__doc__)
+            raise ORDERS[answer](ORDERS[answer].__doc__)
         return replace(order, seed=(order.seed + right.value) % 2**64)
+
+    def explore(
+        self, states: int = 1000000, keys: bytes = b"", watches: Iterable[Watch] = (), never: Iterable[int] = (),
+        output: Optional[bytes] = None,
+    ) -> Explored:
+        """Looks at every state that the machine can reach from its boot by any order of events with these keys, as long as there are
+        no more than `states` of them: whether a watched page is used through an old row of a TLB, a Step fetches a word at one of
+        the virtual addresses `never`, a strict machine would have rows that overlap, nothing is left to do, or, with `output`, the
+        machine is off and the console hasn't sent just that. The machine stays as it is. Gives Clean, Found, Hung or Open. Raises
+        BadWatch, ValueError for no states, or MemoryError."""
+        found = Exploration()
+        limit = within("states", states)
+        if limit == 0:
+            raise ValueError("states is 0; it is at least 1")
+        with _alone(self._lock):
+            answer = lib.talusdish_explore(self._slot, limit, *goal_of(keys, watches, never, output), found)
+            numbers = b"" if answer else _bytes(self._slot)
+        _judged(answer)
+        events = events_of(numbers, len(self.processors), keys)
+        if found.kind == 0:
+            return Clean(found.states)
+        if found.kind == 1:
+            return Found(verdict_of(found.verdict), events, found.states)
+        return Hung(events, found.states) if found.kind == 2 else Open(limit, found.events)
+
+    def audit(self, watches: Iterable[Watch]) -> Optional[Judgement]:
+        """Audits the machine's events since its boot: the first stale use of one of the watches' pages, or None. Raises BadWatch, Dropped
+        where the log has no room for all events, or MemoryError."""
+        found = JudgementNumbers()
+        with _alone(self._lock):
+            _judged(lib.talusdish_audit(self._slot, *watches_of(watches), found))
+        return judgement_of(found)
+
+    def judge(
+        self, keys: bytes = b"", watches: Iterable[Watch] = (), never: Iterable[int] = (), output: Optional[bytes] = None
+    ) -> Optional[Judgement]:
+        """Judges the machine's events since its boot: the first verdict that holds, in the order of `Wrong`, or None. `keys` are all that
+        could be typed: while some are left, the machine isn't stuck. Raises BadWatch, Dropped where the log has no room for all
+        events, or MemoryError."""
+        found, file = JudgementNumbers(), self._image.file
+        with _alone(self._lock):
+            _judged(lib.talusdish_judge(self._slot, file, len(file), *goal_of(keys, watches, never, output), found))
+        return judgement_of(found)
 
     @property
     def made(self) -> int:
@@ -398,11 +474,11 @@ class Machine:
     @property
     def conflict(self) -> Optional[Conflict]:
         """What switched a strict machine off, if something did."""
-        clash = Clash()
+        conflict = ConflictView()
         with _alone(self._lock):
-            if not lib.talusdish_conflict(self._slot, clash):
+            if not lib.talusdish_conflict(self._slot, conflict):
                 return None
-        return Conflict(clash.processor, clash.row, clash.other)
+        return Conflict(conflict.processor, conflict.row, conflict.other)
 
     def link(self, p: int) -> Optional[int]:
         """The physical address of the first byte of the word, or of the line, that processor `p`'s link of `ll` is to; None where
@@ -434,3 +510,12 @@ class Machine:
             if not (0 <= p < 2**32 and 0 <= i < 64) or not lib.talusdish_row(self._slot, p, i, words):
                 raise IndexError(f"processor {p} has no row {i}")
         return words.high, words.low
+
+
+def explore(
+    image: Image, ram: int = 1048576, cpus: int = 1, states: int = 1000000, keys: bytes = b"", watches: Iterable[Watch] = (),
+    never: Iterable[int] = (), output: Optional[bytes] = None, line: bool = False, strict: bool = False,
+) -> Explored:
+    """Looks at every state that an image can reach, as `Machine.explore` does: `explore(image, cpus=2)` gives `Clean(527)`, say. The
+    less RAM, the faster. Raises also what `Machine` does."""
+    return Machine(image, ram, cpus, 1, line, strict).explore(states, keys, watches, never, output)

@@ -5,7 +5,7 @@ from __future__ import annotations
 from dataclasses import dataclass
 from typing import Union
 
-from ._library import Plan
+from ._library import OrderNumbers
 
 
 @dataclass(frozen=True)
@@ -43,15 +43,15 @@ def within(name: str, number: int, bits: int = 32) -> int:
     return number
 
 
-def plan_of(order: Order, transfer: int, gap: int | None) -> Plan:
-    plan = Plan(transfer=within("transfer", transfer), gap=within("gap", gap or 0), gaps=gap is not None)
+def numbers_of(order: Order, transfer: int, gap: int | None) -> OrderNumbers:
+    numbers = OrderNumbers(transfer=within("transfer", transfer), gap=within("gap", gap or 0), gaps=gap is not None)
     if isinstance(order, Turns):
-        plan.kind, plan.turns = 0, within("steps", order.steps)
+        numbers.kind, numbers.turns = 0, within("steps", order.steps)
     elif isinstance(order, Random):
-        plan.kind, plan.seed = 1, within("seed", order.seed, 64)
+        numbers.kind, numbers.seed = 1, within("seed", order.seed, 64)
     elif isinstance(order, Priorities):
-        plan.kind, plan.seed = 2, within("seed", order.seed, 64)
-        plan.changes, plan.within = within("changes", order.changes), within("within", order.within)
+        numbers.kind, numbers.seed = 2, within("seed", order.seed, 64)
+        numbers.changes, numbers.within = within("changes", order.changes), within("within", order.within)
     else:
         raise TypeError(f"{order!r} is no order")
-    return plan
+    return numbers

@@ -272,6 +272,13 @@ class Runs(unittest.TestCase):
         self.assertEqual(list(machine.trace(events=1, names=True)), ["2 0 80000208 3c0a8000 lui $t2, 0x8000  t2=80000000"])
         self.assertEqual(machine.made, 3)
 
+    def test_names(self):
+        image = assemble(SUM, symbols=True)
+        self.assertEqual((image.symbol("main"), image.symbol("last"), image.symbol("lost")), (0x80000200, 0x80000210, None))
+        self.assertEqual((image.nearest(0x8000020c), image.nearest(0x80000210), image.nearest(0x800001fc)), (("main", 12), ("last", 0), None))
+        self.assertIsNone(assemble(SUM).symbol("main"))
+        self.assertIsNone(Image(b"no file").nearest(2**32 - 1))
+
     def test_threads(self):
         machine = Machine(assemble("loop: beq $0, $0, loop\n nop\n"), ram=65536)
         seen, begun = [], threading.Event()

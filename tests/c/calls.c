@@ -59,7 +59,7 @@ static bool has_bytes(talusdish_slot *slot, const char *want) {
 }
 
 static const talusdish_size small = {65536, 1, 16, false, false};
-static const talusdish_plan turns = {TALUSDISH_TURNS, 1, 0, 0, 0, 4, 0, false};
+static const talusdish_order turns = {TALUSDISH_TURNS, 1, 0, 0, 0, 4, 0, false};
 
 static uint8_t boot(talusdish_slot *slot, const char *text, talusdish_size conf) {
     talusdish_fault fault;
@@ -84,16 +84,16 @@ static const char *echo =
 
 /* Each view of a slot without a session. */
 static void views_of_empty(talusdish_slot *slot) {
-    talusdish_shown shown;
+    talusdish_processor_view processor;
     talusdish_row_words row = {1, 2};
     talusdish_board_view board = {true, true, 9, 9, 9};
-    talusdish_clash clash = {7, 8, 9};
-    talusdish_logged entry = {7, 8, {9, 9, 9}};
+    talusdish_conflict_view conflict = {7, 8, 9};
+    talusdish_entry_view entry = {7, 8, {9, 9, 9}};
     uint32_t word = 5;
     uint8_t byte = 3;
-    memset(&shown, 0x5a, sizeof shown);
-    talusdish_shown same = shown;
-    CHECK(!talusdish_processor(slot, 0, &shown) && memcmp(&shown, &same, sizeof shown) == 0);
+    memset(&processor, 0x5a, sizeof processor);
+    talusdish_processor_view same = processor;
+    CHECK(!talusdish_processor(slot, 0, &processor) && memcmp(&processor, &same, sizeof processor) == 0);
     CHECK(talusdish_made(slot) == 0);
     CHECK(talusdish_length(slot) == 0);
     CHECK(talusdish_read(slot, 0, &byte, 1) == 0 && byte == 3);
@@ -102,15 +102,15 @@ static void views_of_empty(talusdish_slot *slot) {
     CHECK(!talusdish_row(slot, 0, 0, &row) && row.high == 1 && row.low == 2);
     CHECK(!talusdish_board(slot, &board) && board.latch == 9);
     CHECK(!talusdish_link(slot, 0, &word) && word == 5);
-    CHECK(!talusdish_conflict(slot, &clash) && clash.processor == 7 && clash.row == 8 && clash.other == 9);
+    CHECK(!talusdish_conflict(slot, &conflict) && conflict.processor == 7 && conflict.row == 8 && conflict.other == 9);
     CHECK(talusdish_entries(slot) == 0);
-    CHECK(!talusdish_entry(slot, 0, &entry) && entry.kind == 7 && entry.value == 8 && entry.told.kind == 9);
+    CHECK(!talusdish_entry(slot, 0, &entry) && entry.kind == 7 && entry.value == 8 && entry.outcome.kind == 9);
 }
 
 /* Each call on a slot without a session. */
 static void on_empty(talusdish_slot *slot) {
     talusdish_fault fault = {7, 9};
-    talusdish_told told = {1, 2, 3};
+    talusdish_outcome outcome = {1, 2, 3};
     talusdish_goal goal = {0, 0};
     talusdish_slot to = {0};
     uint64_t made = 5;
@@ -119,7 +119,7 @@ static void on_empty(talusdish_slot *slot) {
     views_of_empty(slot);
     CHECK(talusdish_assemble(slot, &byte, 0, true, &fault) == TALUSDISH_NOTHING);
     CHECK(talusdish_boot(slot, &byte, 1, &small) == TALUSDISH_NOTHING);
-    CHECK(talusdish_event(slot, TALUSDISH_STEP, 0, &told) == TALUSDISH_NOTHING);
+    CHECK(talusdish_event(slot, TALUSDISH_STEP, 0, &outcome) == TALUSDISH_NOTHING);
     CHECK(talusdish_steps(slot, 0, 10, &few) == TALUSDISH_NOTHING && few == 0);
     CHECK(talusdish_drive(slot, &turns, &byte, 1, 10, &made) == TALUSDISH_NOTHING && made == 0);
     made = 5;
@@ -127,11 +127,11 @@ static void on_empty(talusdish_slot *slot) {
     CHECK(talusdish_output(slot) == TALUSDISH_NOTHING);
     CHECK(talusdish_log(slot) == TALUSDISH_NOTHING);
     made = 5;
-    CHECK(talusdish_step(slot, 0, &told) == TALUSDISH_NOTHING && talusdish_key(slot, 1, &told) == TALUSDISH_NOTHING);
-    CHECK(talusdish_done(slot, &told) == TALUSDISH_NOTHING);
+    CHECK(talusdish_step(slot, 0, &outcome) == TALUSDISH_NOTHING && talusdish_key(slot, 1, &outcome) == TALUSDISH_NOTHING);
+    CHECK(talusdish_done(slot, &outcome) == TALUSDISH_NOTHING);
     CHECK(talusdish_search(slot, &turns, &byte, 0, 10, 10, &goal, &made) == TALUSDISH_NOTHING && made == 0);
     CHECK(talusdish_copy(slot, &to) == TALUSDISH_NOTHING && !to.full && !to.at);
-    CHECK(fault.line == 7 && fault.column == 9 && told.kind == 1 && told.first == 2 && told.second == 3);
+    CHECK(fault.line == 7 && fault.column == 9 && outcome.kind == 1 && outcome.first == 2 && outcome.second == 3);
     CHECK(slot->at == NULL && !slot->full);
 }
 
@@ -193,29 +193,29 @@ static void boots(void) {
 
 static void events(void) {
     talusdish_slot slot = {0};
-    talusdish_told told = {9, 9, 9};
-    talusdish_shown shown;
+    talusdish_outcome outcome = {9, 9, 9};
+    talusdish_processor_view processor;
     uint32_t made, word = 5;
     CHECK(talusdish_open(&slot));
-    CHECK(talusdish_event(&slot, TALUSDISH_STEP, 0, &told) == TALUSDISH_NOTHING);
+    CHECK(talusdish_event(&slot, TALUSDISH_STEP, 0, &outcome) == TALUSDISH_NOTHING);
     CHECK(boot(&slot, sum, small) == 0);
-    CHECK(talusdish_processor(&slot, 0, &shown) && shown.pc == 0x80000200 && shown.state == 1 && shown.count == 0 && !shown.in_slot);
-    CHECK(!talusdish_processor(&slot, 1, &shown));
-    CHECK(talusdish_event(&slot, TALUSDISH_STEP, 1, &told) == TALUSDISH_BAD_PROCESSOR && told.kind == 9);
-    CHECK(talusdish_event(&slot, TALUSDISH_DONE, 0, &told) == TALUSDISH_NOTHING_SENT && told.kind == 9);
-    CHECK(talusdish_event(&slot, TALUSDISH_KEY, 256, &told) == TALUSDISH_BAD && told.kind == 9);
-    CHECK(talusdish_event(&slot, 3, 0, &told) == TALUSDISH_BAD && told.kind == 9);
+    CHECK(talusdish_processor(&slot, 0, &processor) && processor.pc == 0x80000200 && processor.state == 1 && processor.count == 0 && !processor.in_slot);
+    CHECK(!talusdish_processor(&slot, 1, &processor));
+    CHECK(talusdish_event(&slot, TALUSDISH_STEP, 1, &outcome) == TALUSDISH_BAD_PROCESSOR && outcome.kind == 9);
+    CHECK(talusdish_event(&slot, TALUSDISH_DONE, 0, &outcome) == TALUSDISH_NOTHING_SENT && outcome.kind == 9);
+    CHECK(talusdish_event(&slot, TALUSDISH_KEY, 256, &outcome) == TALUSDISH_BAD && outcome.kind == 9);
+    CHECK(talusdish_event(&slot, 3, 0, &outcome) == TALUSDISH_BAD && outcome.kind == 9);
     CHECK(talusdish_made(&slot) == 0);
-    CHECK(talusdish_event(&slot, TALUSDISH_STEP, 0, &told) == 0 && told.kind == TALUSDISH_RAN && told.first == 0 && told.second == 0);
-    CHECK(talusdish_processor(&slot, 0, &shown) && shown.pc == 0x80000204 && shown.registers[8] == 5 && shown.count == 1);
+    CHECK(talusdish_event(&slot, TALUSDISH_STEP, 0, &outcome) == 0 && outcome.kind == TALUSDISH_RAN && outcome.first == 0 && outcome.second == 0);
+    CHECK(talusdish_processor(&slot, 0, &processor) && processor.pc == 0x80000204 && processor.registers[8] == 5 && processor.count == 1);
     CHECK(talusdish_steps(&slot, 0, 3, &made) == 0 && made == 3);
     CHECK(talusdish_word(&slot, 0x1000, &word) && word == 12);
     CHECK(!talusdish_word(&slot, 0x1001, &word) && !talusdish_word(&slot, 65536, &word) && word == 12);
     CHECK(talusdish_steps(&slot, 1, 3, &made) == TALUSDISH_BAD_PROCESSOR && made == 0);
-    for (int k = 0; k < 256; k++) CHECK(talusdish_event(&slot, TALUSDISH_KEY, (uint32_t)k, &told) == 0 && told.kind == TALUSDISH_TAKEN);
-    CHECK(talusdish_event(&slot, TALUSDISH_KEY, 0, &told) == TALUSDISH_KEY_FULL);
+    for (int k = 0; k < 256; k++) CHECK(talusdish_event(&slot, TALUSDISH_KEY, (uint32_t)k, &outcome) == 0 && outcome.kind == TALUSDISH_TAKEN);
+    CHECK(talusdish_event(&slot, TALUSDISH_KEY, 0, &outcome) == TALUSDISH_KEY_FULL);
     CHECK(talusdish_made(&slot) == 260);
-    CHECK(talusdish_processor(&slot, 0, &shown) && shown.count == 4 && shown.registers[9] == 12);
+    CHECK(talusdish_processor(&slot, 0, &processor) && processor.count == 4 && processor.registers[9] == 12);
     talusdish_close(&slot);
 }
 
@@ -223,29 +223,29 @@ static void events(void) {
 static void single_events(void) {
     static const char *text = " lui $8, 0xbfe0\n ori $9, $0, 65\n sw $9, 0($8)\n syscall\n nop\n";
     talusdish_slot slot = {0};
-    talusdish_told told = {9, 9, 9};
-    talusdish_logged entry = {7, 8, {9, 9, 9}};
+    talusdish_outcome outcome = {9, 9, 9};
+    talusdish_entry_view entry = {7, 8, {9, 9, 9}};
     talusdish_size conf = small;
     conf.log = 4;
     CHECK(talusdish_open(&slot));
-    CHECK(talusdish_step(&slot, 0, &told) == TALUSDISH_NOTHING && told.kind == 9);
+    CHECK(talusdish_step(&slot, 0, &outcome) == TALUSDISH_NOTHING && outcome.kind == 9);
     CHECK(boot(&slot, text, conf) == 0);
     CHECK(talusdish_entries(&slot) == 0 && !talusdish_entry(&slot, 0, &entry) && entry.kind == 7);
-    CHECK(talusdish_step(&slot, 1, &told) == TALUSDISH_BAD_PROCESSOR && told.kind == 9);
-    CHECK(talusdish_done(&slot, &told) == TALUSDISH_NOTHING_SENT && told.kind == 9);
-    CHECK(talusdish_step(&slot, 0, &told) == 0 && told.kind == TALUSDISH_RAN);
-    CHECK(talusdish_key(&slot, 200, &told) == 0 && told.kind == TALUSDISH_TAKEN);
-    CHECK(talusdish_step(&slot, 0, &told) == 0 && talusdish_step(&slot, 0, &told) == 0);
+    CHECK(talusdish_step(&slot, 1, &outcome) == TALUSDISH_BAD_PROCESSOR && outcome.kind == 9);
+    CHECK(talusdish_done(&slot, &outcome) == TALUSDISH_NOTHING_SENT && outcome.kind == 9);
+    CHECK(talusdish_step(&slot, 0, &outcome) == 0 && outcome.kind == TALUSDISH_RAN);
+    CHECK(talusdish_key(&slot, 200, &outcome) == 0 && outcome.kind == TALUSDISH_TAKEN);
+    CHECK(talusdish_step(&slot, 0, &outcome) == 0 && talusdish_step(&slot, 0, &outcome) == 0);
     CHECK(talusdish_entries(&slot) == 4);
-    CHECK(talusdish_entry(&slot, 0, &entry) && entry.kind == TALUSDISH_STEP && entry.value == 0 && entry.told.kind == TALUSDISH_RAN);
-    CHECK(talusdish_entry(&slot, 1, &entry) && entry.kind == TALUSDISH_KEY && entry.value == 200 && entry.told.kind == TALUSDISH_TAKEN);
-    CHECK(talusdish_done(&slot, &told) == 0 && told.kind == TALUSDISH_TAKEN);
+    CHECK(talusdish_entry(&slot, 0, &entry) && entry.kind == TALUSDISH_STEP && entry.value == 0 && entry.outcome.kind == TALUSDISH_RAN);
+    CHECK(talusdish_entry(&slot, 1, &entry) && entry.kind == TALUSDISH_KEY && entry.value == 200 && entry.outcome.kind == TALUSDISH_TAKEN);
+    CHECK(talusdish_done(&slot, &outcome) == 0 && outcome.kind == TALUSDISH_TAKEN);
     CHECK(talusdish_output(&slot) == 0 && has_bytes(&slot, "A"));
-    CHECK(talusdish_step(&slot, 0, &told) == 0 && told.kind == TALUSDISH_TRAPPED && told.first == 8 && told.second == 0x80000080);
+    CHECK(talusdish_step(&slot, 0, &outcome) == 0 && outcome.kind == TALUSDISH_TRAPPED && outcome.first == 8 && outcome.second == 0x80000080);
     /* the log keeps the last four */
     CHECK(talusdish_entries(&slot) == 4 && talusdish_made(&slot) == 6);
-    CHECK(talusdish_entry(&slot, 2, &entry) && entry.kind == TALUSDISH_DONE && entry.value == 0 && entry.told.kind == TALUSDISH_TAKEN);
-    CHECK(talusdish_entry(&slot, 3, &entry) && entry.told.kind == TALUSDISH_TRAPPED && entry.told.first == 8 && entry.told.second == 0x80000080);
+    CHECK(talusdish_entry(&slot, 2, &entry) && entry.kind == TALUSDISH_DONE && entry.value == 0 && entry.outcome.kind == TALUSDISH_TAKEN);
+    CHECK(talusdish_entry(&slot, 3, &entry) && entry.outcome.kind == TALUSDISH_TRAPPED && entry.outcome.first == 8 && entry.outcome.second == 0x80000080);
     entry.kind = 7;
     CHECK(!talusdish_entry(&slot, 4, &entry) && !talusdish_entry(&slot, SIZE_MAX, &entry) && entry.kind == 7);
     talusdish_close(&slot);
@@ -261,7 +261,7 @@ static const char *race =
 static void searches(void) {
     talusdish_slot slot = {0}, other = {0};
     talusdish_goal goal = {0x1000, 2};
-    talusdish_plan plan = {TALUSDISH_RANDOM, 0, 0, 0, 0, 100, 0, false};
+    talusdish_order order = {TALUSDISH_RANDOM, 0, 0, 0, 0, 100, 0, false};
     talusdish_size two = {65536, 2, 16, false, false};
     talusdish_board_view board;
     uint64_t right = 9, made;
@@ -269,31 +269,240 @@ static void searches(void) {
     const uint8_t *none = (const uint8_t *)"";
     CHECK(talusdish_open(&slot));
     CHECK(boot(&slot, race, two) == 0);
-    CHECK(talusdish_search(&slot, &plan, none, 0, 10000, 100, &goal, &right) == 0);
+    CHECK(talusdish_search(&slot, &order, none, 0, 10000, 100, &goal, &right) == 0);
     CHECK(talusdish_made(&slot) == 0);
     /* the runs of the seeds before it end right, and its own doesn't */
     for (uint64_t k = 0; k <= right; k++) {
-        talusdish_plan one = plan;
+        talusdish_order one = order;
         one.seed = k;
         CHECK(talusdish_copy(&slot, &other) == 0);
         uint8_t answer = talusdish_drive(&other, &one, none, 0, 10000, &made);
         CHECK(talusdish_word(&other, 0x1000, &word));
         CHECK((answer == TALUSDISH_RUN_OFF && word == 2) == (k < right));
     }
-    CHECK(talusdish_search(&slot, &plan, none, 0, 10000, right, &goal, &made) == TALUSDISH_ALL_RIGHT && made == right);
-    plan.seed = UINT64_MAX;
-    CHECK(talusdish_search(&slot, &plan, none, 0, 10000, 0, &goal, &made) == TALUSDISH_ALL_RIGHT && made == 0);
-    plan.seed = right;
-    CHECK(talusdish_search(&slot, &plan, none, 0, 10000, 5, &goal, &made) == 0 && made == 0);
+    CHECK(talusdish_search(&slot, &order, none, 0, 10000, right, &goal, &made) == TALUSDISH_ALL_RIGHT && made == right);
+    order.seed = UINT64_MAX;
+    CHECK(talusdish_search(&slot, &order, none, 0, 10000, 0, &goal, &made) == TALUSDISH_ALL_RIGHT && made == 0);
+    order.seed = right;
+    CHECK(talusdish_search(&slot, &order, none, 0, 10000, 5, &goal, &made) == 0 && made == 0);
     goal.address = 65536;
     CHECK(talusdish_search(&slot, &turns, none, 0, 10000, 5, &goal, &made) == 0 && made == 0);
-    plan.kind = 9;
-    CHECK(talusdish_search(&slot, &plan, none, 0, 10, 5, &goal, &made) == TALUSDISH_BAD && made == 0);
-    plan.kind = TALUSDISH_PRIORITIES;
-    CHECK(talusdish_search(&slot, &plan, none, 0, 10, 5, &goal, &made) == TALUSDISH_NO_STRETCH && made == 0);
+    order.kind = 9;
+    CHECK(talusdish_search(&slot, &order, none, 0, 10, 5, &goal, &made) == TALUSDISH_BAD && made == 0);
+    order.kind = TALUSDISH_PRIORITIES;
+    CHECK(talusdish_search(&slot, &order, none, 0, 10, 5, &goal, &made) == TALUSDISH_NO_STRETCH && made == 0);
     CHECK(talusdish_board(&slot, &board) && board.started == 1);
     CHECK(talusdish_board(&other, &board) && board.started == 3);
     talusdish_close(&other);
+    talusdish_close(&slot);
+}
+
+/* Polls for a key, and goes on behind it. */
+static const char *poll =
+    " lui $8, 0xbfe0\nread: lw $9, 8($8)\n andi $9, $9, 2\n beq $9, $0, read\n nop\ngot: nop\n";
+
+typedef struct {
+    const char *keys, *output; /* output: NULL where none is asked for */
+    talusdish_watch watch[1];
+    size_t watches;
+    uint32_t never[2];
+    size_t nevers;
+} goal_of_run;
+
+static uint8_t explore(talusdish_slot *slot, uint32_t limit, const goal_of_run *goal, talusdish_exploration *found) {
+    const char *output = goal->output ? goal->output : "";
+    uint8_t *keys = exact(goal->keys, strlen(goal->keys)), *sent = exact(output, strlen(output));
+    uint8_t *watches = exact(goal->watch, goal->watches * sizeof *goal->watch), *never = exact(goal->never, goal->nevers * sizeof *goal->never);
+    uint8_t answer = talusdish_explore(slot, limit, keys, strlen(goal->keys), (talusdish_watch *)(void *)watches, goal->watches,
+                                       (uint32_t *)(void *)never, goal->nevers, goal->output != NULL, sent, strlen(output), found);
+    free(keys), free(sent), free(watches), free(never);
+    return answer;
+}
+
+/* The events are those of the text: 0 to 9 each. */
+static bool has_events(talusdish_slot *slot, const char *want) {
+    size_t size;
+    uint8_t *all = bytes_of(slot, &size);
+    bool same = size == strlen(want);
+    for (size_t k = 0; same && k < size; k++) same = all[k] == want[k] - '0';
+    free(all);
+    return same;
+}
+
+static void explorations(void) {
+    talusdish_slot slot = {0};
+    talusdish_exploration found = {9, 9, 9, {9, 9, 9, 9, 9}}, same = found;
+    talusdish_board_view board;
+    talusdish_size two = {8192, 2, 16, false, false};
+    goal_of_run goal = {"", NULL, {{0, 0, 0, 0}}, 0, {0, 0}, 0};
+    uint64_t made;
+    CHECK(explore(&slot, 9, &goal, &found) == TALUSDISH_NOTHING);
+    CHECK(talusdish_open(&slot));
+    CHECK(explore(&slot, 9, &goal, &found) == TALUSDISH_NOTHING && memcmp(&found, &same, sizeof found) == 0);
+    /* four instructions and wait: five Steps, then nothing is left to do */
+    CHECK(boot(&slot, sum, small) == 0);
+    uint32_t file = (uint32_t)talusdish_length(&slot);
+    CHECK(explore(&slot, 0, &goal, &found) == TALUSDISH_BAD && memcmp(&found, &same, sizeof found) == 0 && talusdish_length(&slot) == file);
+    goal.watches = 1;
+    goal.watch[0] = (talusdish_watch){64, 0, 0x1000, 0x1004};
+    CHECK(explore(&slot, 9, &goal, &found) == TALUSDISH_BAD_WATCH && memcmp(&found, &same, sizeof found) == 0);
+    goal.watch[0] = (talusdish_watch){63, 0xfffff, 0x1000, 65536};
+    CHECK(explore(&slot, 9, &goal, &found) == TALUSDISH_BAD_WATCH && memcmp(&found, &same, sizeof found) == 0);
+    goal.watch[0].done = 65532;
+    CHECK(explore(&slot, 99, &goal, &found) == 0 && found.kind == TALUSDISH_FOUND && found.states == 5 && found.events == 5);
+    CHECK(found.verdict.kind == TALUSDISH_VERDICT_STUCK && found.verdict.processor == 0 && found.verdict.address == 0);
+    CHECK(has_events(&slot, "00000") && talusdish_made(&slot) == 0);
+    goal.watches = 0;
+    goal.output = "";
+    CHECK(explore(&slot, 6, &goal, &found) == 0 && found.kind == TALUSDISH_CLEAN && found.states == 6 && found.events == 0);
+    CHECK(has_events(&slot, "") && found.verdict.kind == TALUSDISH_VERDICT_NONE);
+    CHECK(explore(&slot, 3, &goal, &found) == 0 && found.kind == TALUSDISH_OPEN && found.states == 0 && found.events == 2 && has_events(&slot, ""));
+    goal.never[0] = 4;
+    goal.never[1] = 0x80000208;
+    goal.nevers = 2;
+    /* what the machine has done since its boot is no matter, and it stays so */
+    CHECK(talusdish_drive(&slot, &turns, (const uint8_t *)"", 0, 3, &made) == 0);
+    CHECK(explore(&slot, 99, &goal, &found) == 0 && found.kind == TALUSDISH_FOUND && found.states == 3 && found.events == 3);
+    CHECK(found.verdict.kind == TALUSDISH_VERDICT_REACHED && found.verdict.processor == 0 && found.verdict.address == 0x80000208);
+    CHECK(found.verdict.row == 0 && found.verdict.other == 0 && has_events(&slot, "000") && talusdish_made(&slot) == 3);
+    /* the key comes where it has to, before the load, and no sooner: event 2 behind the processor's 0 and the transfer's 1 */
+    CHECK(boot(&slot, poll, small) == 0);
+    goal.keys = "k";
+    goal.never[0] = 0x80000214;
+    goal.nevers = 1;
+    CHECK(explore(&slot, 99, &goal, &found) == 0 && found.kind == TALUSDISH_FOUND && found.verdict.kind == TALUSDISH_VERDICT_REACHED);
+    CHECK(found.verdict.address == 0x80000214 && found.events == 7 && has_events(&slot, "0200000"));
+    /* a byte has to be sent before the machine is off */
+    CHECK(boot(&slot, hi, small) == 0);
+    goal.keys = "";
+    goal.nevers = 0;
+    goal.output = "x";
+    CHECK(explore(&slot, 99, &goal, &found) == 0 && found.kind == TALUSDISH_FOUND && found.verdict.kind == TALUSDISH_VERDICT_OUTPUT);
+    CHECK(found.events == 10 && has_events(&slot, "0001000000"));
+    goal.output = "h";
+    CHECK(explore(&slot, 99, &goal, &found) == 0 && found.kind == TALUSDISH_CLEAN);
+    /* spins for ever: two states, and no end */
+    CHECK(boot(&slot, "here: beq $0, $0, here\n nop\n", small) == 0);
+    CHECK(explore(&slot, 99, &goal, &found) == 0 && found.kind == TALUSDISH_HUNG && found.states == 2 && found.events == 0 && has_events(&slot, ""));
+    /* two processors: the found list loses an increment, and leaves nothing to do */
+    CHECK(boot(&slot, race, two) == 0);
+    goal.output = NULL;
+    CHECK(explore(&slot, 9999, &goal, &found) == 0 && found.kind == TALUSDISH_FOUND && found.verdict.kind == TALUSDISH_VERDICT_STUCK);
+    size_t size;
+    uint8_t *events = bytes_of(&slot, &size);
+    CHECK(size == found.events);
+    talusdish_outcome outcome;
+    uint32_t word;
+    for (size_t k = 0; k < size; k++) CHECK(talusdish_step(&slot, events[k], &outcome) == 0);
+    free(events);
+    CHECK(talusdish_word(&slot, 0x1000, &word) && word == 1);
+    CHECK(talusdish_board(&slot, &board) && !board.off);
+    CHECK(talusdish_drive(&slot, &turns, (const uint8_t *)"", 0, 9, &made) == TALUSDISH_RUN_STUCK && made == 0);
+    talusdish_close(&slot);
+}
+
+static uint8_t symbol(const uint8_t *file, size_t size, const char *name, uint32_t *value) {
+    uint8_t *own = exact(name, strlen(name)), *bytes = exact(file, size);
+    uint8_t answer = talusdish_symbol(bytes, size, own, strlen(name), value);
+    free(own), free(bytes);
+    return answer;
+}
+
+/* Labels: main at 80000200, last at 80000210. */
+static void symbols(void) {
+    talusdish_slot slot = {0};
+    talusdish_fault fault;
+    uint32_t value = 7, distance = 9;
+    size_t size;
+    CHECK(talusdish_nearest(&slot, (const uint8_t *)"", 0, 0, &distance) == TALUSDISH_NOTHING && distance == 9);
+    CHECK(talusdish_open(&slot));
+    CHECK(talusdish_assemble(&slot, (const uint8_t *)sum, strlen(sum), true, &fault) == 0);
+    uint8_t *file = bytes_of(&slot, &size);
+    CHECK(symbol(file, size, "main", &value) == 0 && value == 0x80000200);
+    CHECK(symbol(file, size, "last", &value) == 0 && value == 0x80000210);
+    value = 7;
+    CHECK(symbol(file, size, "las", &value) == TALUSDISH_NO_SYMBOL && symbol(file, size, "", &value) == TALUSDISH_NO_SYMBOL && value == 7);
+    CHECK(symbol(file, size, "\xff", &value) == TALUSDISH_BAD && symbol(file, 0, "main", &value) == TALUSDISH_NO_SYMBOL && value == 7);
+    CHECK(talusdish_nearest(&slot, file, size, 0x8000020f, &distance) == 0 && distance == 15 && has_bytes(&slot, "main"));
+    CHECK(talusdish_nearest(&slot, file, size, 0x80000210, &distance) == 0 && distance == 0 && has_bytes(&slot, "last"));
+    CHECK(talusdish_nearest(&slot, file, size, UINT32_MAX, &distance) == 0 && distance == 0x7ffffdef && has_bytes(&slot, "last"));
+    CHECK(talusdish_nearest(&slot, file, size, 0x800001ff, &distance) == TALUSDISH_NO_SYMBOL && distance == 0x7ffffdef && has_bytes(&slot, "last"));
+    free(file);
+    talusdish_close(&slot);
+}
+
+static uint8_t judge(talusdish_slot *slot, const uint8_t *file, size_t size, const goal_of_run *goal, talusdish_judgement *judgement) {
+    const char *output = goal->output ? goal->output : "";
+    uint8_t *keys = exact(goal->keys, strlen(goal->keys)), *sent = exact(output, strlen(output)), *own = exact(file, size);
+    uint8_t *watches = exact(goal->watch, goal->watches * sizeof *goal->watch), *never = exact(goal->never, goal->nevers * sizeof *goal->never);
+    uint8_t answer = talusdish_judge(slot, own, size, keys, strlen(goal->keys), (talusdish_watch *)(void *)watches, goal->watches,
+                                     (uint32_t *)(void *)never, goal->nevers, goal->output != NULL, sent, strlen(output), judgement);
+    free(keys), free(sent), free(own), free(watches), free(never);
+    return answer;
+}
+
+static void judgements(void) {
+    talusdish_slot slot = {0};
+    talusdish_judgement found = {{9, 9, 9, 9, 9}, 9}, same = found;
+    talusdish_watch watch = {63, 0xfffff, 0, 65532};
+    goal_of_run goal = {"", NULL, {{64, 0, 0, 4}}, 0, {0x80000208, 4}, 0};
+    talusdish_size short_log = {65536, 1, 2, false, false};
+    uint32_t made;
+    uint64_t many;
+    size_t size;
+    CHECK(talusdish_audit(&slot, &watch, 1, &found) == TALUSDISH_NOTHING && judge(&slot, NULL, 0, &goal, &found) == TALUSDISH_NOTHING);
+    CHECK(talusdish_open(&slot));
+    CHECK(talusdish_audit(&slot, &watch, 1, &found) == TALUSDISH_NOTHING && judge(&slot, NULL, 0, &goal, &found) == TALUSDISH_NOTHING);
+    CHECK(boot(&slot, sum, small) == 0);
+    CHECK(assemble(&slot, sum, &(talusdish_fault){0, 0}) == 0);
+    uint8_t *file = bytes_of(&slot, &size);
+    watch.done = 65536;
+    CHECK(talusdish_audit(&slot, &watch, 1, &found) == TALUSDISH_BAD_WATCH && memcmp(&found, &same, sizeof found) == 0);
+    watch.done = 65532;
+    goal.watches = 1;
+    CHECK(judge(&slot, file, size, &goal, &found) == TALUSDISH_BAD_WATCH && memcmp(&found, &same, sizeof found) == 0);
+    goal.watches = 0;
+    CHECK(judge(&slot, file, 51, &goal, &found) == 2 && memcmp(&found, &same, sizeof found) == 0);
+    CHECK(talusdish_audit(&slot, &watch, 1, &found) == 0 && found.verdict.kind == TALUSDISH_VERDICT_NONE && found.events == 0);
+    found = same;
+    CHECK(judge(&slot, file, size, &goal, &found) == 0 && found.verdict.kind == TALUSDISH_VERDICT_NONE && found.events == 0);
+    /* three events: not at its end, which is wrong where output is asked for */
+    CHECK(talusdish_steps(&slot, 0, 3, &made) == 0);
+    CHECK(judge(&slot, file, size, &goal, &found) == 0 && found.verdict.kind == TALUSDISH_VERDICT_NONE);
+    goal.output = "";
+    CHECK(judge(&slot, file, size, &goal, &found) == 0 && found.verdict.kind == TALUSDISH_VERDICT_END && found.events == 3);
+    goal.nevers = 2;
+    CHECK(judge(&slot, file, size, &goal, &found) == 0 && found.verdict.kind == TALUSDISH_VERDICT_REACHED && found.events == 3);
+    CHECK(found.verdict.processor == 0 && found.verdict.address == 0x80000208 && found.verdict.row == 0 && found.verdict.other == 0);
+    goal.nevers = 0;
+    /* the fifth waits, and nothing is left to do, unless a key is; an idle Step behind it isn't needed */
+    CHECK(talusdish_steps(&slot, 0, 3, &made) == 0);
+    CHECK(judge(&slot, file, size, &goal, &found) == 0 && found.verdict.kind == TALUSDISH_VERDICT_NONE);
+    goal.output = NULL;
+    CHECK(judge(&slot, file, size, &goal, &found) == 0 && found.verdict.kind == TALUSDISH_VERDICT_STUCK && found.events == 5);
+    goal.keys = "k";
+    CHECK(judge(&slot, file, size, &goal, &found) == 0 && found.verdict.kind == TALUSDISH_VERDICT_NONE && talusdish_made(&slot) == 6);
+    goal.keys = "";
+    free(file);
+    CHECK(boot(&slot, hi, small) == 0);
+    CHECK(assemble(&slot, hi, &(talusdish_fault){0, 0}) == 0);
+    file = bytes_of(&slot, &size);
+    CHECK(talusdish_drive(&slot, &turns, (const uint8_t *)"", 0, 99, &many) == TALUSDISH_RUN_OFF);
+    goal.output = "x";
+    CHECK(judge(&slot, file, size, &goal, &found) == 0 && found.verdict.kind == TALUSDISH_VERDICT_OUTPUT && found.events == many);
+    goal.output = "h";
+    CHECK(judge(&slot, file, size, &goal, &found) == 0 && found.verdict.kind == TALUSDISH_VERDICT_NONE && found.events == 0);
+    free(file);
+    /* a log of two entries has two events, and no more */
+    CHECK(boot(&slot, sum, short_log) == 0);
+    CHECK(assemble(&slot, sum, &(talusdish_fault){0, 0}) == 0);
+    file = bytes_of(&slot, &size);
+    CHECK(talusdish_steps(&slot, 0, 2, &made) == 0 && talusdish_audit(&slot, &watch, 1, &found) == 0);
+    CHECK(talusdish_steps(&slot, 0, 1, &made) == 0);
+    found = same;
+    CHECK(talusdish_audit(&slot, &watch, 1, &found) == TALUSDISH_DROPPED && judge(&slot, file, size, &goal, &found) == TALUSDISH_DROPPED);
+    CHECK(memcmp(&found, &same, sizeof found) == 0);
+    free(file);
     talusdish_close(&slot);
 }
 
@@ -303,8 +512,8 @@ static void links_and_conflicts(void) {
         " lui $8, 0x8000\n ll $9, 0x1004($8)\n lui $10, 0x0040\n mtc0 $10, $10\n ori $11, $0, 0x0300\n mtc0 $11, $0\n tlbwi\n"
         " ori $11, $0, 0x0500\n mtc0 $11, $0\n sw $0, 0x1004($8)\n tlbwi\n nop\n";
     talusdish_slot slot = {0};
-    talusdish_told told;
-    talusdish_clash clash = {7, 8, 9};
+    talusdish_outcome outcome;
+    talusdish_conflict_view conflict = {7, 8, 9};
     uint32_t at = 5, made;
     talusdish_size conf = small;
     conf.strict = true;
@@ -315,16 +524,16 @@ static void links_and_conflicts(void) {
     at = 5;
     CHECK(!talusdish_link(&slot, 1, &at) && !talusdish_link(&slot, UINT32_MAX, &at) && at == 5);
     CHECK(talusdish_steps(&slot, 0, 8, &made) == 0 && made == 8 && !talusdish_link(&slot, 0, &at) && at == 5);
-    CHECK(!talusdish_conflict(&slot, &clash) && clash.row == 8);
-    CHECK(talusdish_step(&slot, 0, &told) == 0 && told.kind == TALUSDISH_CONFLICT && told.first == 5 && told.second == 3);
-    CHECK(talusdish_conflict(&slot, &clash) && clash.processor == 0 && clash.row == 5 && clash.other == 3);
-    CHECK(talusdish_step(&slot, 0, &told) == TALUSDISH_OFF);
+    CHECK(!talusdish_conflict(&slot, &conflict) && conflict.row == 8);
+    CHECK(talusdish_step(&slot, 0, &outcome) == 0 && outcome.kind == TALUSDISH_CONFLICT && outcome.first == 5 && outcome.second == 3);
+    CHECK(talusdish_conflict(&slot, &conflict) && conflict.processor == 0 && conflict.row == 5 && conflict.other == 3);
+    CHECK(talusdish_step(&slot, 0, &outcome) == TALUSDISH_OFF);
     talusdish_close(&slot);
 }
 
 static void runs(void) {
     talusdish_slot slot = {0};
-    talusdish_told told;
+    talusdish_outcome outcome;
     uint64_t made;
     uint32_t few;
     CHECK(talusdish_open(&slot));
@@ -332,54 +541,54 @@ static void runs(void) {
     CHECK(talusdish_drive(&slot, &turns, (const uint8_t *)"", 0, 1000, &made) == TALUSDISH_RUN_OFF && made > 8 && made < 40);
     CHECK(talusdish_made(&slot) == made);
     CHECK(talusdish_output(&slot) == 0 && has_bytes(&slot, "h"));
-    CHECK(talusdish_event(&slot, TALUSDISH_STEP, 0, &told) == TALUSDISH_OFF);
+    CHECK(talusdish_event(&slot, TALUSDISH_STEP, 0, &outcome) == TALUSDISH_OFF);
     CHECK(talusdish_steps(&slot, 0, 1, &few) == TALUSDISH_OFF && few == 0);
     CHECK(talusdish_drive(&slot, &turns, (const uint8_t *)"", 0, 9, &made) == TALUSDISH_RUN_OFF && made == 0);
     talusdish_close(&slot);
 }
 
 /* Plans outside their limits, and the other orders. */
-static void plans(void) {
+static void orders(void) {
     talusdish_slot slot = {0};
-    talusdish_plan plan = turns;
+    talusdish_order order = turns;
     uint64_t made;
     CHECK(talusdish_open(&slot));
     CHECK(boot(&slot, hi, small) == 0);
-    plan.turns = 0;
-    CHECK(talusdish_drive(&slot, &plan, (const uint8_t *)"", 0, 9, &made) == TALUSDISH_NO_TURN && made == 0);
-    plan.kind = TALUSDISH_PRIORITIES;
-    CHECK(talusdish_drive(&slot, &plan, (const uint8_t *)"", 0, 9, &made) == TALUSDISH_NO_STRETCH);
-    plan.within = 8;
-    plan.changes = 65;
-    CHECK(talusdish_drive(&slot, &plan, (const uint8_t *)"", 0, 9, &made) == TALUSDISH_TOO_MANY_CHANGES);
-    plan.kind = 3;
-    CHECK(talusdish_drive(&slot, &plan, (const uint8_t *)"", 0, 9, &made) == TALUSDISH_BAD);
+    order.turns = 0;
+    CHECK(talusdish_drive(&slot, &order, (const uint8_t *)"", 0, 9, &made) == TALUSDISH_NO_TURN && made == 0);
+    order.kind = TALUSDISH_PRIORITIES;
+    CHECK(talusdish_drive(&slot, &order, (const uint8_t *)"", 0, 9, &made) == TALUSDISH_NO_STRETCH);
+    order.within = 8;
+    order.changes = 65;
+    CHECK(talusdish_drive(&slot, &order, (const uint8_t *)"", 0, 9, &made) == TALUSDISH_TOO_MANY_CHANGES);
+    order.kind = 3;
+    CHECK(talusdish_drive(&slot, &order, (const uint8_t *)"", 0, 9, &made) == TALUSDISH_BAD);
     CHECK(talusdish_made(&slot) == 0);
-    plan.kind = TALUSDISH_PRIORITIES;
-    plan.changes = 2;
-    CHECK(talusdish_drive(&slot, &plan, (const uint8_t *)"", 0, 9, &made) == 0 && made == 9);
-    plan.kind = TALUSDISH_RANDOM;
-    plan.seed = 7;
-    CHECK(talusdish_drive(&slot, &plan, (const uint8_t *)"", 0, 1, &made) == 0 && made == 1 && talusdish_made(&slot) == 10);
-    CHECK(talusdish_drive(&slot, &plan, (const uint8_t *)"", 0, 0, &made) == 0 && made == 0);
+    order.kind = TALUSDISH_PRIORITIES;
+    order.changes = 2;
+    CHECK(talusdish_drive(&slot, &order, (const uint8_t *)"", 0, 9, &made) == 0 && made == 9);
+    order.kind = TALUSDISH_RANDOM;
+    order.seed = 7;
+    CHECK(talusdish_drive(&slot, &order, (const uint8_t *)"", 0, 1, &made) == 0 && made == 1 && talusdish_made(&slot) == 10);
+    CHECK(talusdish_drive(&slot, &order, (const uint8_t *)"", 0, 0, &made) == 0 && made == 0);
     talusdish_close(&slot);
 }
 
 /* A sleeping machine, and keys. */
 static void waits(void) {
     talusdish_slot slot = {0};
-    talusdish_plan plan = turns;
-    talusdish_shown shown;
+    talusdish_order order = turns;
+    talusdish_processor_view processor;
     uint64_t made;
     CHECK(talusdish_open(&slot));
     CHECK(boot(&slot, sum, small) == 0);
     CHECK(talusdish_drive(&slot, &turns, (const uint8_t *)"", 0, 1000, &made) == TALUSDISH_RUN_STUCK && made == 5);
-    CHECK(talusdish_processor(&slot, 0, &shown) && shown.state == 2);
+    CHECK(talusdish_processor(&slot, 0, &processor) && processor.state == 2);
     CHECK(boot(&slot, echo, small) == 0);
-    plan.gap = 50;
-    plan.gaps = true;
+    order.gap = 50;
+    order.gaps = true;
     uint8_t *keys = exact("ab!", 3);
-    CHECK(talusdish_drive(&slot, &plan, keys, 3, 400, &made) == 0 && made == 400);
+    CHECK(talusdish_drive(&slot, &order, keys, 3, 400, &made) == 0 && made == 400);
     free(keys);
     CHECK(talusdish_output(&slot) == 0 && has_bytes(&slot, "ab!"));
     talusdish_close(&slot);
@@ -387,7 +596,7 @@ static void waits(void) {
 
 static void traces(void) {
     talusdish_slot slot = {0}, other = {0};
-    talusdish_shown a, b;
+    talusdish_processor_view a, b;
     uint64_t made, as_many;
     CHECK(talusdish_open(&slot) && talusdish_open(&other));
     CHECK(talusdish_trace(&slot, &turns, (const uint8_t *)"", 0, false, 3, &made) == TALUSDISH_NOTHING && made == 0);
@@ -396,7 +605,7 @@ static void traces(void) {
     CHECK(has_bytes(&slot, "0 0 80000200 24080005 addiu $8, $0, 5  r8=00000005\n1 0 80000204 25090007 addiu $9, $8, 7  r9=0000000c\n"));
     CHECK(talusdish_trace(&slot, &turns, (const uint8_t *)"", 0, true, 1, &made) == 0 && made == 1);
     CHECK(has_bytes(&slot, "2 0 80000208 3c0a8000 lui $t2, 0x8000  t2=80000000\n"));
-    talusdish_plan none = turns;
+    talusdish_order none = turns;
     none.turns = 0;
     CHECK(talusdish_trace(&slot, &none, (const uint8_t *)"", 0, true, 1, &made) == TALUSDISH_NO_TURN && made == 0);
     CHECK(talusdish_made(&slot) == 3);
@@ -419,7 +628,7 @@ static void views(void) {
     talusdish_slot slot = {0};
     talusdish_row_words row = {1, 2};
     talusdish_board_view board;
-    talusdish_told told;
+    talusdish_outcome outcome;
     uint32_t word = 5, made;
     CHECK(talusdish_open(&slot));
     CHECK(!talusdish_board(&slot, &board) && talusdish_log(&slot) == TALUSDISH_NOTHING);
@@ -437,7 +646,7 @@ static void views(void) {
     CHECK(talusdish_cop(&slot, 0, 10, &word) && word == 0x00400140);
     CHECK(!talusdish_cop(&slot, 0, 3, &word) && !talusdish_cop(&slot, 0, 32, &word) && !talusdish_cop(&slot, 1, 0, &word) && word == 0x00400140);
     CHECK(talusdish_board(&slot, &board) && !board.off && !board.sending && board.latch == 0 && board.waiting == 0);
-    CHECK(talusdish_steps(&slot, 0, 4, &made) == 0 && talusdish_event(&slot, TALUSDISH_KEY, 66, &told) == 0);
+    CHECK(talusdish_steps(&slot, 0, 4, &made) == 0 && talusdish_event(&slot, TALUSDISH_KEY, 66, &outcome) == 0);
     CHECK(talusdish_board(&slot, &board) && !board.off && board.sending && board.latch == 65 && board.waiting == 1);
     CHECK(talusdish_log(&slot) == 0 && has_bytes(&slot, "m161 tail 2 word 10\ns 0 ran\ns 0 ran\nk 42 taken\n"));
     talusdish_close(&slot);
@@ -446,23 +655,23 @@ static void views(void) {
 /* A copy goes its own way. */
 static void copies(void) {
     talusdish_slot slot = {0}, copy = {0};
-    talusdish_told told;
-    talusdish_shown a, b;
+    talusdish_outcome outcome;
+    talusdish_processor_view a, b;
     uint32_t made;
     talusdish_size conf = small;
     conf.log = 3;
     CHECK(talusdish_open(&slot));
     CHECK(talusdish_copy(&slot, &copy) == 0 && copy.full && talusdish_length(&copy) == 0);
     CHECK(boot(&slot, text_of_views, conf) == 0);
-    CHECK(talusdish_steps(&slot, 0, 12, &made) == 0 && talusdish_event(&slot, TALUSDISH_KEY, 66, &told) == 0 && talusdish_log(&slot) == 0);
+    CHECK(talusdish_steps(&slot, 0, 12, &made) == 0 && talusdish_event(&slot, TALUSDISH_KEY, 66, &outcome) == 0 && talusdish_log(&slot) == 0);
     CHECK(talusdish_copy(&slot, &copy) == 0 && has_bytes(&copy, "m161 tail 2 word 10\ns 0 ran\ns 0 ran\nk 42 taken\n"));
-    CHECK(talusdish_event(&copy, TALUSDISH_DONE, 0, &told) == 0 && talusdish_output(&copy) == 0 && has_bytes(&copy, "A"));
+    CHECK(talusdish_event(&copy, TALUSDISH_DONE, 0, &outcome) == 0 && talusdish_output(&copy) == 0 && has_bytes(&copy, "A"));
     CHECK(talusdish_output(&slot) == 0 && has_bytes(&slot, "") && talusdish_made(&slot) == 13 && talusdish_made(&copy) == 14);
     CHECK(talusdish_steps(&copy, 0, 1, &made) == 0);
     CHECK(talusdish_processor(&slot, 0, &a) && talusdish_processor(&copy, 0, &b) && a.count + 1 == b.count);
     CHECK(talusdish_copy(&slot, &copy) == 0 && talusdish_made(&copy) == 13);
     talusdish_close(&slot);
-    CHECK(talusdish_made(&slot) == 0 && talusdish_made(&copy) == 13 && talusdish_event(&copy, TALUSDISH_DONE, 0, &told) == 0);
+    CHECK(talusdish_made(&slot) == 0 && talusdish_made(&copy) == 13 && talusdish_event(&copy, TALUSDISH_DONE, 0, &outcome) == 0);
     CHECK(talusdish_copy(&slot, &copy) == TALUSDISH_NOTHING && talusdish_made(&copy) == 14);
     talusdish_close(&copy);
 }
@@ -481,9 +690,12 @@ int main(void) {
     events();
     single_events();
     searches();
+    symbols();
+    explorations();
+    judgements();
     links_and_conflicts();
     runs();
-    plans();
+    orders();
     waits();
     traces();
     views();

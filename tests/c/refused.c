@@ -33,18 +33,18 @@ static void note(uint64_t word) { sum = (sum ^ word) * 1099511628211u; }
 
 /* All that is seen of a session. */
 static void view(talusdish_slot *slot) {
-    talusdish_shown shown;
+    talusdish_processor_view processor;
     uint8_t bytes[65536];
     uint32_t word;
     size_t n = talusdish_read(slot, 0, bytes, sizeof bytes);
     note(talusdish_made(slot));
     note(talusdish_length(slot));
     for (size_t k = 0; k < n; k++) note(bytes[k]);
-    memset(&shown, 0, sizeof shown);
-    if (talusdish_processor(slot, 0, &shown)) {
-        for (int k = 0; k < 32; k++) note(shown.registers[k]);
-        note(shown.pc);
-        note(shown.count);
+    memset(&processor, 0, sizeof processor);
+    if (talusdish_processor(slot, 0, &processor)) {
+        for (int k = 0; k < 32; k++) note(processor.registers[k]);
+        note(processor.pc);
+        note(processor.count);
     }
     for (uint32_t at = 0; at < 8192; at += 4) note(talusdish_word(slot, at, &word) ? word : 1);
 }
@@ -76,12 +76,12 @@ static bool all_same = true;
 static uint64_t whole(long at) {
     talusdish_slot slot = {0};
     talusdish_fault fault;
-    talusdish_told told;
+    talusdish_outcome outcome;
     uint64_t made = 0;
     uint32_t few = 0;
     static uint8_t file[65536];
     talusdish_size conf = {8192, 2, 8, false, false};
-    talusdish_plan plan = {TALUSDISH_TURNS, 1, 0, 0, 0, 4, 0, false};
+    talusdish_order order = {TALUSDISH_TURNS, 1, 0, 0, 0, 4, 0, false};
     requests = 0;
     refuse_at = at;
     sum = 1;
@@ -89,22 +89,41 @@ static uint64_t whole(long at) {
     AGAIN(9, talusdish_assemble(&slot, (const uint8_t *)hi, strlen(hi), true, &fault));
     size_t size = talusdish_read(&slot, 0, file, sizeof file);
     AGAIN(254, talusdish_boot(&slot, file, size, &conf));
-    AGAIN(254, talusdish_trace(&slot, &plan, (const uint8_t *)"k", 1, true, 2, &made));
+    AGAIN(254, talusdish_trace(&slot, &order, (const uint8_t *)"k", 1, true, 2, &made));
     note(made);
-    AGAIN(6, talusdish_event(&slot, TALUSDISH_STEP, 0, &told));
-    note(told.kind);
-    AGAIN(6, talusdish_event(&slot, TALUSDISH_DONE, 0, &told));
-    note(told.kind);
+    AGAIN(6, talusdish_event(&slot, TALUSDISH_STEP, 0, &outcome));
+    note(outcome.kind);
+    AGAIN(6, talusdish_event(&slot, TALUSDISH_DONE, 0, &outcome));
+    note(outcome.kind);
     AGAIN(254, talusdish_output(&slot));
     AGAIN(6, talusdish_steps(&slot, 0, 2, &few));
     note(few);
-    AGAIN(254, talusdish_trace(&slot, &plan, (const uint8_t *)"", 0, false, 100, &made));
+    AGAIN(254, talusdish_trace(&slot, &order, (const uint8_t *)"", 0, false, 100, &made));
     note(made);
     AGAIN(254, talusdish_output(&slot));
     AGAIN(254, talusdish_log(&slot));
     talusdish_goal goal = {0x1000, 0};
-    AGAIN(254, talusdish_search(&slot, &plan, (const uint8_t *)"", 0, 100, 3, &goal, &made));
+    AGAIN(254, talusdish_search(&slot, &order, (const uint8_t *)"", 0, 100, 3, &goal, &made));
     note(made);
+    talusdish_exploration found = {0, 0, 0, {0, 0, 0, 0, 0}};
+    talusdish_watch watch = {1, 0x400, 0x1000, 0x1004};
+    uint32_t never = 0x80000300;
+    AGAIN(254, talusdish_explore(&slot, 99, (const uint8_t *)"", 0, &watch, 1, &never, 1, true, (const uint8_t *)"x", 1, &found));
+    note(found.kind);
+    note(found.states);
+    note(found.events);
+    note(found.verdict.kind);
+    uint32_t value = 0, distance = 0;
+    AGAIN(254, talusdish_symbol(file, size, (const uint8_t *)"sent", 4, &value));
+    note(value);
+    AGAIN(254, talusdish_nearest(&slot, file, size, 0x80000210, &distance));
+    note(distance);
+    talusdish_judgement judgement = {{0, 0, 0, 0, 0}, 0};
+    AGAIN(254, talusdish_audit(&slot, &watch, 1, &judgement));
+    note(judgement.events);
+    AGAIN(254, talusdish_judge(&slot, file, size, (const uint8_t *)"", 0, &watch, 1, &never, 1, true, (const uint8_t *)"x", 1, &judgement));
+    note(judgement.verdict.kind);
+    note(judgement.events);
     talusdish_slot copy = {0};
     AGAIN(254, talusdish_copy(&slot, &copy));
     note(seen(&copy) == seen(&slot));

@@ -39,7 +39,7 @@ static void see_bytes(talusdish_slot *slot) {
     for (size_t k = 0; k < n; k++) byte(bytes[k]);
 }
 static void see_processor(talusdish_slot *slot, uint32_t p) {
-    talusdish_shown it;
+    talusdish_processor_view it;
     talusdish_row_words row;
     uint32_t w;
     if (!talusdish_processor(slot, p, &it)) { byte(7); return; }
@@ -52,21 +52,21 @@ static void see_processor(talusdish_slot *slot, uint32_t p) {
 /* All that is seen of a session. */
 static void see(talusdish_slot *slot) {
     talusdish_board_view board;
-    talusdish_clash clash;
-    talusdish_logged it;
+    talusdish_conflict_view conflict;
+    talusdish_entry_view it;
     uint32_t w;
     many(talusdish_made(slot)), many(talusdish_entries(slot));
     for (uint32_t p = 0; p < 6; p++) see_processor(slot, p);
     if (talusdish_board(slot, &board)) byte(board.off), byte(board.sending), byte(board.latch), word(board.waiting), word(board.started); else byte(6);
-    if (talusdish_conflict(slot, &clash)) word(clash.processor), word(clash.row), word(clash.other); else byte(8);
+    if (talusdish_conflict(slot, &conflict)) word(conflict.processor), word(conflict.row), word(conflict.other); else byte(8);
     for (size_t i = 0; i < 101; i++)
-        if (talusdish_entry(slot, i, &it)) word(it.kind), word(it.value), word(it.told.kind), word(it.told.first), word(it.told.second); else byte(9);
+        if (talusdish_entry(slot, i, &it)) word(it.kind), word(it.value), word(it.outcome.kind), word(it.outcome.first), word(it.outcome.second); else byte(9);
     for (uint32_t at = 0; at < 65540; at += 4) if (talusdish_word(slot, at, &w)) word(w); else byte(1);
     byte(talusdish_output(slot)), see_bytes(slot), byte(talusdish_log(slot)), see_bytes(slot);
 }
 static void say(const char *what) { printf("%s %08x%08x\n", what, first, second); }
 
-static const talusdish_plan plans[] = {
+static const talusdish_order orders[] = {
     {TALUSDISH_TURNS, 1, 0, 0, 0, 100, 0, false},           {TALUSDISH_TURNS, 3, 0, 0, 0, 10, 50, true},
     {TALUSDISH_RANDOM, 0, 7, 0, 0, 100, 1000, true},        {TALUSDISH_RANDOM, 0, 123456789012345678u, 0, 0, 0, 0, false},
     {TALUSDISH_PRIORITIES, 0, 5, 3, 100, 100, 1000, true},
@@ -85,9 +85,9 @@ static void runs(bool text) {
             uint64_t made = 0, more = 0;
             begin(), talusdish_open(&slot);
             int booted = talusdish_boot(&slot, image, image_size, &conf);
-            int traced = talusdish_trace(&slot, &plans[k], typed, sizeof typed, k & 1, 3000, &made);
+            int traced = talusdish_trace(&slot, &orders[k], typed, sizeof typed, k & 1, 3000, &made);
             see_bytes(&slot);
-            int driven = talusdish_drive(&slot, &plans[k], typed, sizeof typed, 20000, &more);
+            int driven = talusdish_drive(&slot, &orders[k], typed, sizeof typed, 20000, &more);
             see(&slot), talusdish_close(&slot);
             snprintf(what, sizeof what, "run %u %d boot %d trace %d %llu drive %d %llu", cpus, k, booted, traced, (unsigned long long)made, driven, (unsigned long long)more);
             say(what);
@@ -101,11 +101,11 @@ static void events(bool text) {
     begin(), talusdish_open(&slot), talusdish_open(&copy);
     talusdish_boot(&slot, image, image_size, &conf);
     for (int k = 0; k < 600; k++) {
-        talusdish_told told = {0, 0, 0};
+        talusdish_outcome outcome = {0, 0, 0};
         g = g * 1664525u + 1013904223u;
         uint8_t kind = g >> 30 == 3 ? (uint8_t)(g >> 28 & 3) : 0;
-        int answer = talusdish_event(&slot, kind, g >> 8 & (kind == 1 ? 255 : 3), &told);
-        byte((uint8_t)answer), word(told.kind), word(told.first), word(told.second);
+        int answer = talusdish_event(&slot, kind, g >> 8 & (kind == 1 ? 255 : 3), &outcome);
+        byte((uint8_t)answer), word(outcome.kind), word(outcome.first), word(outcome.second);
         answers += (uint32_t)answer;
         if (k == 300) byte(talusdish_copy(&slot, &copy));
         if (k > 300) byte(talusdish_steps(&copy, k % 3, 7, &made)), word(made);
@@ -122,10 +122,26 @@ static void searches(bool text) {
     uint64_t right = 0;
     talusdish_open(&slot), talusdish_boot(&slot, image, image_size, &conf);
     for (int k = 2; k < 5; k++) {
-        int answer = talusdish_search(&slot, &plans[k], typed, sizeof typed, 2000, 40, &goal, &right);
+        int answer = talusdish_search(&slot, &orders[k], typed, sizeof typed, 2000, 40, &goal, &right);
         printf("search %d answer %d right %llu\n", k, answer, (unsigned long long)right);
     }
     talusdish_close(&slot);
+}
+
+static void explorations(bool text) {
+    static const uint32_t limits[] = {1, 40, 300};
+    talusdish_size conf = size_of(text, 2, false);
+    for (int k = 0; k < 3; k++) {
+        talusdish_slot slot = {0};
+        talusdish_exploration found = {0, 0, 0, {0, 0, 0, 0, 0}};
+        talusdish_watch none = {0, 0, 0, 0};
+        uint32_t never = 0;
+        begin(), talusdish_open(&slot), talusdish_boot(&slot, image, image_size, &conf);
+        int answer = talusdish_explore(&slot, limits[k], (const uint8_t *)"ab", 2, &none, 0, &never, 0, k == 2, (const uint8_t *)"hi", 2, &found);
+        see_bytes(&slot);
+        printf("explore %u answer %d kind %u states %u events %llu verdict %u", limits[k], answer, found.kind, found.states, (unsigned long long)found.events, found.verdict.kind), say("");
+        talusdish_close(&slot);
+    }
 }
 
 /* The calls of a session in which one request of memory is refused; how many requests they make. */
@@ -140,10 +156,10 @@ static long refuse(long at) {
     answers[n++] = talusdish_open(&slot), answers[n++] = talusdish_open(&copy);
     answers[n++] = talusdish_assemble(&slot, file, size, true, &fault), see_bytes(&slot);
     answers[n++] = talusdish_boot(&slot, image, image_size, &conf);
-    answers[n++] = talusdish_trace(&slot, &plans[0], typed, sizeof typed, true, 60, &made), many(made), see_bytes(&slot);
-    answers[n++] = talusdish_drive(&slot, &plans[2], typed, sizeof typed, 3000, &made), many(made);
+    answers[n++] = talusdish_trace(&slot, &orders[0], typed, sizeof typed, true, 60, &made), many(made), see_bytes(&slot);
+    answers[n++] = talusdish_drive(&slot, &orders[2], typed, sizeof typed, 3000, &made), many(made);
     answers[n++] = talusdish_copy(&slot, &copy);
-    answers[n++] = talusdish_search(&slot, &plans[2], typed, sizeof typed, 500, 3, &goal, &made), many(made);
+    answers[n++] = talusdish_search(&slot, &orders[2], typed, sizeof typed, 500, 3, &goal, &made), many(made);
     long total = requests;
     refuse_at = 0;
     see(&slot), see(&copy), talusdish_close(&slot), talusdish_close(&copy);
@@ -188,7 +204,7 @@ int main(int count, char **names) {
         size = fread(file, 1, sizeof file, from), fclose(from);
         printf("%s %zu\n", names[k], size);
         if (text) assemble(file, size, "file"); else memcpy(image, file, image_size = size);
-        runs(text), events(text), searches(text);
+        runs(text), events(text), searches(text), explorations(text);
         if (k == 1) for (long at = 1, total = 0; at == 1 || total >= at - 1; at++) total = refuse(at);
     }
     faults();

@@ -1,6 +1,6 @@
 // node compare.js MODULE FILE..: what compare.c prints of the native library, of a module.
 'use strict';
-const fs = require('fs'), { Talusdish, Session } = require('../../web/page/machine.js');
+const fs = require('fs'), { Talusdish, Session, VERDICTS } = require('../../web/page/machine.js');
 let first, second;
 const begin = () => { first = 2166136261; second = 40503; };
 const byte = b => { first = Math.imul(first ^ b, 16777619) >>> 0; second = (Math.imul(second + b, 2654435761) ^ second >>> 15) >>> 0; };
@@ -78,6 +78,18 @@ function searches(text) {
     it.close();
 }
 
+function explorations(text) {
+    for (const [k, limit] of [1, 40, 300].entries()) {
+        begin();
+        const it = new Session(engine);
+        it.boot(image, sizeOf(text, 2, false));
+        const found = it.explore(limit, new TextEncoder().encode('ab'), k === 2 ? new TextEncoder().encode('hi') : null);
+        seeBytes(it);
+        say(`explore ${limit} answer ${found.answer} kind ${found.kind} states ${found.states} events ${found.events} verdict ${VERDICTS.indexOf(found.verdict)}`);
+        it.close();
+    }
+}
+
 // A slot that may stay empty: the session of `new Session` is closed, and opened again by hand.
 function slotOf() { const it = new Session(engine); it.call('close'); return it; }
 function refuse(at) {
@@ -128,7 +140,7 @@ async function main([wasm, ...names]) {
         file = new Uint8Array(fs.readFileSync(name));
         console.log(`${name} ${file.length}`);
         if (text) assemble(file, 'file'); else image = file;
-        runs(text); events(text); searches(text);
+        runs(text); events(text); searches(text); explorations(text);
         if (k === 0) for (let at = 1, requests = 0; at === 1 || requests >= at - 1; at++) requests = refuse(at);
     }
     faults();

@@ -20,10 +20,10 @@ UNFAIR = {"barrier-reuse"}  # found by few seeds alone
 TWO = """0 0 80000200 <main> 34090005 ori $9, $0, 0x0005  r9=00000005
 1 0 80000204 <main+4> 3c088000 lui $8, 0x8000  r8=80000000
 2 0 80000208 <main+8> 8d0a1000 lw $10, 4096($8)  (00001000)=00000004 r10=00000004
-3 0 8000020c <main+c> ad091000 sw $9, 4096($8)  [00001000]=00000005
+3 0 8000020c <main+c> ad091000 sw $9, 4096($8)  [00001000 <other+d80>]=00000005
 4 0 80000210 <main+10> ad097e14 sw $9, 32276($8)  cpue=00000003 starts 1
 5 1 80000280 <other> 3c088000 lui $8, 0x8000  r8=80000000
-6 1 80000284 <other+4> 8d0a1000 lw $10, 4096($8)  (00001000)=00000005 r10=00000005
+6 1 80000284 <other+4> 8d0a1000 lw $10, 4096($8)  (00001000 <other+d80>)=00000005 r10=00000005
 7 k 41
 not a line
 8 1 80000288 <other+8> ad001000 sw $0, 4096($8)  [00001000]=00000000
@@ -247,13 +247,14 @@ class Page:
         assert self.text("said") == "" and self.b.js("!document.querySelector('#bands .caret')")
 
     def labs(self):
-        """A bad interleaving of each lab, and none of its fixed one; the shortened schedule goes wrong again."""
+        """A bad interleaving of each lab, and none of its fixed one, in any order where that has few states; the schedule goes wrong again."""
+        right = 0
         for name in LABS:
             self.choose(name)
             said = self.find()
             if name in UNFAIR and "none went wrong" in said:
                 continue
-            assert "goes wrong" in said, (name, said)
+            assert "goes wrong" in said or "No shorter run is so" in said, (name, said)
             stop, events = self.data("stop"), self.data("events")
             assert self.b.js("$('order').value") == "schedule" and self.data("mismatches") == "0"
             turns = self.b.js("parseSchedule($('schedule').value).length")
@@ -263,16 +264,30 @@ class Page:
             print(f"  {name}: {said} {events} events, {turns} turns, {warned} hints", flush=True)
             self.choose(name + "-fixed")
             self.b.click("#hunt")
-            self.b.wait("/^[3-9]\\d\\d |^\\d+,/.test($('hunted').textContent)", 60)
-            self.b.click("#hunt")
-            self.b.wait("!hunting")
-            assert "none went wrong" in self.text("hunted") and "no proof" in self.text("hunted"), (name, self.text("hunted"))
+            self.b.wait("!hunting || /^[3-9]\\d\\d seeds|^\\d+,\\d+ seeds/.test($('hunted').textContent)", 60)
+            if self.b.js("hunting"):
+                self.b.click("#hunt")
+                self.b.wait("!hunting")
+            said = self.text("hunted")
+            print(f"  {name}-fixed: {said}", flush=True)
+            if "Right in every order" in said:
+                right += 1
+            else:
+                assert "none went wrong" in said and "no proof" in said and "There are more than" in said, (name, said)
+            if name == "lost-update":
+                assert self.data("states") == "527", said
+        assert right >= 6, right
 
     def as_found(self):
         """The run of the seed itself is there, too."""
         self.choose("two-locks")
         said = self.find()
+        assert "After 19 events: no order comes to an end any more" in said and self.data("found") == "hung", said
+        self.b.js("document.querySelectorAll('#left details')[1].open = true")
+        self.b.click("#ifstuck")  # without that rule nothing is explored
+        said = self.find()
         assert "not off after 2,000 events" in said, said
+        self.b.click("#ifstuck")
         self.b.click("#hunted [data-found]")
         self.idle()
         assert self.b.js("$('order').value") == "random" and self.b.js("$('number').value") == self.data("found") and self.data("stop") == "end"
@@ -489,6 +504,8 @@ class Page:
     def busy(self):
         """A search leaves the page free: an arrow is answered meanwhile; a new run ends no search wrongly."""
         self.choose("peterson-fixed")
+        self.b.js("document.querySelectorAll('#left details')[1].open = true")
+        self.b.click("#ifstuck")
         self.b.click("#hunt")
         self.b.wait("/seeds tried/.test($('hunted').textContent)")
         self.b.js("$('scroll').focus(); select(3)")
@@ -499,6 +516,7 @@ class Page:
         self.b.key("b")
         self.b.wait("!hunting")
         assert "(stopped)" in self.text("hunted")
+        self.b.click("#ifstuck")
 
     def trap(self):
         """After a trap of the engine the machine is dropped, the page says so, and goes on with a new one."""

@@ -26,16 +26,25 @@ async function hunt(from = 0) {
             if (!run.file || run.base.source !== s.source) run.symbols = readElf(file).symbols;
             const plan = { ...planOf({ ...s, order: orderOf(s) }) };
             const got = await machine.call('hunt', { file, size: sizeOf(s), plan, keys: keysOf(s), limit: s.limit, rules: rules(), from, most: from + SEEDS },
-                ({ tried }) => sayHunt(`${count(from + tried)} seeds tried`));
+                ({ tried, states }) => sayHunt(states ? `more than ${count(states)} states` : `${count(from + tried)} seeds tried`));
             hunted = from + got.tried;
-            if (got.bad) await showFound(s, got); else sayNone(got);
+            if (got.first) await showFirst(s, got); else if (got.bad) await showFound(s, got); else if (got.right) sayRight(got); else sayNone(got);
         }
     } catch (error) { sayHunt(''); sayFault(error.message); }
     hunting = false; $('hunt').textContent = 'Find a bad interleaving'; document.body.dataset.hunt = '';
 }
-function sayNone({ stopped }) {
+function sayRight({ right }) { sayHunt(`<b>Right in every order: ${count(right)} states.</b> In whatever order and for however long, nothing goes wrong, and it can always come to its end.`); document.body.dataset.states = right; }
+// Shows the first list of events that goes wrong: no shorter one does.
+async function showFirst(s, { bad, states, events, blocks, then }) {
+    if (!await assembleAndRun(undefined, { blocks, plan: { kind: 0, turns: then.turns, transfer: s.transfer, gap: null } })) return;
+    const words = { hung: 'no order comes to an end any more', stuck: 'stuck', conflict: 'two rows of a TLB would overlap', 'another output': 'the console has sent something else' }[bad];
+    sayHunt(`<b class="warn">After ${count(events)} events: ${words}.</b> No shorter run is so; ${count(states)} states ${bad === 'hung' ? 'in all' : 'come before it'}.`);
+    document.body.dataset.found = bad;
+}
+function sayNone({ stopped, open, states }) {
     const more = hunted ? ` <button data-hunt="${hunted}">Try ${count(SEEDS)} more</button>` : '';
-    sayHunt(`<b>${count(hunted)} seeds tried, none went wrong</b>${stopped ? ' (stopped)' : ''}. That is no proof: another order may.${more}`);
+    const closed = open ? `There are more than ${count(open.limit)} states, too many to look at all here; up to ${count(open.events)} events nothing goes wrong. ` : states ? `${count(states)} states: nothing but the word can go wrong. ` : '';
+    sayHunt(`${closed}<b>${count(hunted)} seeds tried, none went wrong</b>${stopped ? ' (stopped)' : ''}. That is no proof: another order may.${more}`);
 }
 // Shows the run of these blocks, which goes on in turns, and puts its schedule in place.
 async function showFound(s, { seed, bad, blocks, before, then }) {

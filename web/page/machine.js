@@ -3,6 +3,8 @@
 'use strict';
 const OK = 0, OFF = 16, STUCK = 17, ALL_RIGHT = 21, BAD = 253, NO_MEMORY = 254, NOTHING = 255;
 const TURNS = 0, RANDOM = 1, PRIORITIES = 2, NEVER = 0xffffffff;
+const CLEAN = 0, FOUND = 1, HUNG = 2, OPEN = 3;
+const VERDICTS = ['', 'stale', 'reached', 'conflict', 'stuck', 'output', 'end'];
 const REFUSALS = { 1: 'BadProcessor', 2: 'Off', 4: 'KeyFull', 5: 'NothingSent', 6: 'NoMemory', 8: 'Worn', 16: 'off', 17: 'stuck', 18: 'NoTurn',
     19: 'NoStretch', 20: 'TooManyChanges', 253: 'Bad', 254: 'out of memory', 255: 'no machine' };
 const FAULTS = ['', 'BadToken', 'UnknownWord', 'BadOperand', 'OutOfRange', 'UnknownLabel', 'DoubleLabel', 'BranchTooFar', 'Overlap', 'NoMemory'];
@@ -109,6 +111,12 @@ class Session {
             this.call('search', this.plan(plan), at, size, BigInt(n), BigInt(count), BigInt(goal), this.place) & 255);
         return { answer, right: this.many() };
     }
+    // Every state from the boot on, if they are no more than the limit. Without an output null; the events of a list are the session's bytes.
+    explore(limit, keys, output) {
+        const answer = this.module.lend(keys, (at, n) => this.module.lend(output || new Uint8Array(0), (sent, m) =>
+            this.call('explore', limit, at, n, this.place, 0n, this.place, 0n, output ? 1 : 0, sent, m, this.place) & 255)), v = this.module.told();
+        return { answer, kind: v.getUint32(0, true), states: v.getUint32(4, true), events: Number(v.getBigUint64(8, true)), verdict: VERDICTS[v.getUint32(16, true)] };
+    }
     made() { return Number(this.call('made')); }
     output() { return this.call('output') & 255; }
     log() { return this.call('log') & 255; }
@@ -138,4 +146,4 @@ class Session {
 
 class OutOfMemory extends Error { constructor() { super('out of memory'); } }
 
-if (typeof module !== 'undefined') module.exports = { Talusdish, Session, CONTROL, REFUSALS, FAULTS };
+if (typeof module !== 'undefined') module.exports = { Talusdish, Session, CONTROL, REFUSALS, FAULTS, VERDICTS };

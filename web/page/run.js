@@ -27,7 +27,7 @@ const breathe = () => new Promise(go => { const { port1, port2 } = new MessageCh
 
 const STEP = /^(\d+) (\d+) ([0-9a-f]{8})(?: <([^>]*)>)? ([0-9a-f]{8}|-)(.*)$/;
 const OTHER = /^(\d+) (?:k ([0-9a-f]{2})|(o))(?:  (.*))?$/;
-const ITEM = /tlb \d+=\w+ \w+|(?:unlink|starts) \d+|(?:cirqe|cipi) \d+=\w+|cram \d+ \d+=\w+|trap \d+ \w+|conflict \d+ \d+|\[\w+\]=\w+|\(\w+\)=\w+|\w+=\w+|idle|off/g;
+const ITEM = /tlb \d+=\w+ \w+|(?:unlink|starts) \d+|(?:cirqe|cipi) \d+=\w+|cram \d+ \d+=\w+|trap \d+ \w+|conflict \d+ \d+|\[\w+(?: <[^>]*>)?\]=\w+|\(\w+(?: <[^>]*>)?\)=\w+|\w+=\w+|idle|off/g;
 const LOADS = { 0x20: 'lb', 0x21: 'lh', 0x22: 'lwl', 0x23: 'lw', 0x24: 'lbu', 0x25: 'lhu', 0x26: 'lwr', 0x30: 'll' };
 
 class Run {

@@ -178,7 +178,7 @@ function joined(parts) {
     return bytes;
 }
 
-// ---- The search: runs of seeds, judged at their ends
+// ---- The search: all states, where they are few enough; then runs of seeds, judged at their ends
 
 // What is wrong with a run that ended so; '' for nothing.
 function judged(rules, session, stop) {
@@ -212,14 +212,44 @@ function merged(list) {
     return out;
 }
 
+// The events of a list, by their numbers, as blocks.
+function blocksNamed(numbers, processors, keys) {
+    let typed = 0;
+    return merged(Array.from(numbers, n => n < processors ? { kind: 0, value: n, n: 1 } : n === processors ? { kind: 2, value: 0, n: 1 } : { kind: 1, value: keys[typed++], n: 1 }));
+}
+
+const EXPLORE_MS = 6000, MOST_STATES = 1 << 20; // how long and how far is explored, before the seeds
+
 class Hunt {
     constructor({ file, size, plan, keys, limit, rules, from, most }, tell) {
-        Object.assign(this, { plan, keys, limit, rules, from, most, tell, id: ++hunting, bad: '', seed: from });
+        Object.assign(this, { plan, keys, limit, rules, from, most, tell, id: ++hunting, bad: '', seed: from, processors: size.processors });
         this.base = booted(file, { ...size, log: limit }); this.tried = new Session(engine);
     }
     get isOn() { return this.id === hunting; }
     again() { if (this.base.copyTo(this.tried) !== OK) throw new OutOfMemory(); }
     try(plan) { this.again(); return judged(this.rules, this.tried, this.tried.drive(plan, this.keys, this.limit).answer); }
+    // All states, up to twice as many each time, as long as the next try fits the time.
+    async exploreFor(output) {
+        for (let limit = 512, until = performance.now() + EXPLORE_MS; ; limit *= 2) {
+            const start = performance.now(), found = this.base.explore(limit, this.keys, output);
+            if (found.answer === NO_MEMORY) throw new OutOfMemory();
+            if (found.answer !== OK) throw new Refused(REFUSALS[found.answer]);
+            const end = performance.now();
+            if (found.kind !== OPEN || !this.isOn || limit >= MOST_STATES || end + 3 * (end - start) > until) return { ...found, limit };
+            this.tell({ states: limit });
+            await breathe();
+        }
+    }
+    // What that says of the rules: what goes wrong; or that nothing does, of the rules that an exploration can judge; or that it is open. A
+    // run that is stuck excuses its output there, so output is asked for once nothing is stuck. null where a run may be stuck.
+    async explore() {
+        if (!this.rules.stuck) return null;
+        let found = await this.exploreFor(null);
+        if (found.kind === CLEAN && this.rules.output !== null) found = await this.exploreFor(Uint8Array.from(this.rules.output, c => c.charCodeAt(0)));
+        if (found.kind === HUNG && !this.rules.end) return { ...found, kind: CLEAN };
+        if (found.kind === FOUND || found.kind === HUNG) found.blocks = blocksNamed(this.base.read(), this.processors, this.keys);
+        return found;
+    }
     async seeds() {
         while (this.isOn && this.seed < this.most && !this.bad) {
             for (const end = performance.now() + 25; performance.now() < end && this.seed < this.most && !this.bad; this.seed++)
@@ -252,8 +282,14 @@ class Hunt {
         return best;
     }
     async go() {
+        // A search that goes on has only more seeds to try.
+        const explored = this.from ? null : await this.explore();
+        if (explored && (explored.kind === FOUND || explored.kind === HUNG)) return this.first(explored);
+        const right = explored && explored.kind === CLEAN;
+        if (right && !this.rules.word) return { right: explored.states, tried: 0 };
         await this.seeds();
-        const answer = { tried: this.seed - this.from, stopped: !this.isOn, bad: this.bad };
+        const answer = { tried: this.seed - this.from, stopped: !this.isOn, bad: this.bad,
+            open: explored && explored.kind === OPEN ? explored : null, states: right ? explored.states : 0 };
         if (!this.bad) return answer;
         // A run that is to be stuck goes on in turns of a million; one that isn't over in turns of 60, since it has to be fair: else a
         // processor would spin only because the other one makes no Step.
@@ -261,6 +297,10 @@ class Hunt {
         const then = { kind: TURNS, turns, transfer: this.plan.transfer, gap: null };
         const blocks = this.isWrong(whole, then) ? await this.shorten(whole, then) : whole;
         return { ...answer, stopped: false, seed: this.seed - 1, blocks, then: { turns }, before: whole.length };
+    }
+    // The first list of events that goes wrong, or has no end: that goes on in turns of 60, which is as fair as it gets.
+    first({ kind, verdict, states, events, blocks }) {
+        return { bad: kind === HUNG ? 'hung' : verdict === 'output' ? 'another output' : verdict, states, events, blocks, first: true, then: { turns: kind === HUNG ? 60 : 1000000 } };
     }
     close() { if (!this.base.module.trapped) { this.base.close(); this.tried.close(); } }
 }

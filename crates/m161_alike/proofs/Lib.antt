@@ -1,5 +1,6 @@
 mod Bits
-mod Memory
+pub mod Memory
+pub mod Covering
 mod Cop0
 mod Heard
 mod HeardStep

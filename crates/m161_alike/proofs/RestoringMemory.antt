@@ -1,11 +1,12 @@
-use Rattle.std.proofs.Common.{◌≡◌, ◌∙◌, refl, ap, sym, subst, inl, inr, ℕ, zero, suc, ◌+◌, ◌-◌, ◌*◌, ◌/◌, ◌%◌, ◌^◌, ◌<◌, ◌≤◌, arith, Bool, true, false, List, [], ◌∷◌, ◌++◌, length, drop, get_or, set, ext_get_or}
-use Rattle.std.specs.Prelude.{◌≢◌, ◌==◌, flat_map, if◌then◌else◌, nat_le}
-use Rattle.std.specs.List.{range_with_len}
+use Rattle.std.proofs.Common.{◌≡◌, ◌∙◌, refl, ap, sym, subst, ◌⊎◌, inl, inr, ℕ, zero, suc, ◌+◌, ◌-◌, ◌*◌, ◌/◌, ◌%◌, ◌^◌, ◌<◌, ◌≤◌, arith, Bool, true, false, List, [], ◌∷◌, ◌++◌, length, drop, get_or, set, ext_get_or, Fits, w8}
+use Rattle.std.specs.Prelude.{◌≢◌, ◌==◌, All, flat_map, if◌then◌else◌, nat_le}
+use Rattle.std.specs.List.{Contains, range_with_len}
 use Rattle.std.proofs.lemmas.Bool.{cases_lt}
 use Rattle.std.proofs.lemmas.Bool.Decides.{nat_tests}
 use Rattle.std.proofs.lemmas.List.{drop_more, get_or-set_other, get_or-set_same, length-drop, length-set}
 use Rattle.m161_ram.specs.Word.{with_word, word_at}
 use Rattle.m161_alike.specs.Words.{AreBytes, memory_words, word_change}
+use Rattle.m161_alike.proofs.Covering.{any_default, split_at}
 use Rattle.m161_alike.specs.RestoredMemory.{AreWordsOfMemory, with_change, with_changes}
 
 -- Memory that is made anew from its words.
@@ -215,3 +216,91 @@ short (x ∷ y ∷ xs) memory few = absurd (let bad : ⊥ = omega (arith, few) i
 pub none_left : (ws memory : List ℕ) (i : ℕ) → length ws - i < 2 → with_changes (drop i ws) memory ≡ memory
 none_left ws memory i few =
     let long = length-drop i ws in short (drop i ws) memory (omega (arith, few, long))
+
+-- memory whose words at some addresses are made boot's
+
+-- the words but those at these addresses are boot's
+abbrev pub AreLeft : List ℕ → List ℕ → List ℕ → Type 0
+AreLeft boot memory places =
+    (at : ℕ) → at % 4 ≡ 0 → at + 4 ≤ length boot → (Contains places at → ⊥) → word_at memory at ≡ word_at boot at
+
+again : (a b c d w : ℕ) → a ≡ w / 2 ^ 24 → b ≡ w / 2 ^ 16 % 2 ^ 8 → c ≡ w / 2 ^ 8 % 2 ^ 8 → d ≡ w % 2 ^ 8 →
+    a * 2 ^ 24 + b * 2 ^ 16 + c * 2 ^ 8 + d ≡ w
+again a b c d w ha hb hc hd = omega (arith, ha, hb, hc, hd)
+
+written_word : (l : List ℕ) (at w : ℕ) → at + 4 ≤ length l → word_at (with_word l at w) at ≡ w
+written_word l at w within =
+    let h = has_written l at w within in
+    let m = with_word l at w in
+    again (get_or m at 0) (get_or m (at + 1) 0) (get_or m (at + 2) 0) (get_or m (at + 3) 0) w h.b0 h.b1 h.b2 h.b3
+
+other_byte : (l : List ℕ) (at w k : ℕ) → (k < at) ⊎ (at + 4 ≤ k) → get_or (with_word l at w) k 0 ≡ get_or l k 0
+other_byte l at w k (inl before) =
+    others_stay l at w k
+    (less k at before, less k (at + 1) (omega (arith, before)), less k (at + 2) (omega (arith, before)), less k (at + 3) (omega (arith, before)))
+other_byte l at w k (inr behind) =
+    others_stay l at w k
+    (more k at (omega (arith, behind)), more k (at + 1) (omega (arith, behind)), more k (at + 2) (omega (arith, behind)), more k (at + 3) (omega (arith, behind)))
+
+apart : (at other j : ℕ) → at % 4 ≡ 0 → other % 4 ≡ 0 → at ≢ other → j < 4 → (other + j < at) ⊎ (at + 4 ≤ other + j)
+apart at other j al whole ne small = elim (cases_lt (other + j) at) [
+  | inl before ↦ inl before
+  | inr behind ↦ inr (omega (arith, al, whole, ne, small, behind))
+]
+
+other_word : (l : List ℕ) (at w other : ℕ) → at % 4 ≡ 0 → other % 4 ≡ 0 → at ≢ other → word_at (with_word l at w) other ≡ word_at l other
+other_word l at w other al whole ne =
+    let zero_more : other + 0 ≡ other = omega arith in
+    let p = other_byte l at w other (subst (λ x. (x < at) ⊎ (at + 4 ≤ x)) zero_more (apart at other 0 al whole ne (omega arith))) in
+    let q = other_byte l at w (other + 1) (apart at other 1 al whole ne (omega arith)) in
+    let r = other_byte l at w (other + 2) (apart at other 2 al whole ne (omega arith)) in
+    let s = other_byte l at w (other + 3) (apart at other 3 al whole ne (omega arith)) in
+    λ i. p i * 2 ^ 24 + q i * 2 ^ 16 + r i * 2 ^ 8 + s i
+
+left_by : (test : Bool) (boot memory ps : List ℕ) (p at : ℕ) → (p == at) ≡ test → AreLeft boot memory (p ∷ ps) → length memory ≡ length boot → p % 4 ≡ 0 →
+    p + 4 ≤ length boot → at % 4 ≡ 0 → at + 4 ≤ length boot → (Contains ps at → ⊥) → word_at (with_word memory p (word_at boot p)) at ≡ word_at boot at
+left_by true boot memory ps p at is h size al within whole inside out =
+    let same : p ≡ at = grind (arith, nat_tests, is) in
+    subst (λ x. word_at (with_word memory p (word_at boot p)) x ≡ word_at boot x) same
+    (written_word memory p (word_at boot p) (omega (arith, within, size)))
+left_by false boot memory ps p at is h size al within whole inside out =
+    let ne : p ≢ at = grind (arith, nat_tests, is) in
+    other_word memory p (word_at boot p) at al whole ne
+    ∙ h at whole inside (λ c. elim (split_at p at ps c.0 c.1 c.2) [
+      | inl same ↦ ne same
+      | inr there ↦ out there
+    ])
+
+pub left_less : (boot memory places : List ℕ) (i : ℕ) → i < length places → AreLeft boot memory (drop i places) → length memory ≡ length boot →
+    get_or places i 0 % 4 ≡ 0 → get_or places i 0 + 4 ≤ length boot →
+    AreLeft boot (with_word memory (get_or places i 0) (word_at boot (get_or places i 0))) (drop (i + 1) places)
+left_less boot memory places i inside h size al within =
+    let p = get_or places i 0 in
+    let first = subst (AreLeft boot memory) (drop_more places i 0 inside) h in
+    λ at whole there out. left_by (p == at) boot memory (drop (i + 1) places) p at refl first size al within whole there out
+
+pub same_length : (l : List ℕ) (at w : ℕ) → length (with_word l at w) ≡ length l
+same_length = same_size
+
+-- bytes of which all words are the same
+pub all_same : (a b : List ℕ) → AreBytes a → AreBytes b → length b ≡ length a → ((at : ℕ) → at % 4 ≡ 0 → at + 4 ≤ length a → word_at a at ≡ word_at b at) → a ≡ b
+all_same a b p q size same =
+    let whole = p.1 in
+    ext_get_or 0 a b (sym size) (λ k inside.
+    let at = k / 4 * 4 in
+    let within : at + 4 ≤ length a = omega (arith, inside, whole) in
+    let x = has_word a at p within in
+    let y = has_word b at q (omega (arith, within, size)) in
+    same_at a b at (word_at a at) k (k % 4) (omega arith) (omega arith) x
+    (subst (HasWord b at) (sym (same at (omega arith) within)) y))
+
+pub bytes_fit : (bytes : List ℕ) → ((i : ℕ) → Fits w8 (get_or bytes i 0)) → All (λ byte. byte < 2 ^ 8) bytes
+bytes_fit bytes fit = λ k d inside.
+    let small : get_or bytes k 0 < 2 ^ 8 = (fit k).fits in
+    let same = any_default bytes k d 0 inside in
+    omega (arith, small, same)
+
+pub none_more : (at : ℕ) (ps : List ℕ) (i : ℕ) → length ps ≤ i → Contains (drop i ps) at → ⊥
+none_more at ps i past h =
+    let long = length-drop i ps in
+    let inside = h.1 in omega (arith, past, long, inside)

@@ -2,6 +2,7 @@ pub mod Reads
 pub mod View
 pub mod Law
 pub mod Words
+pub mod Addresses
 pub mod WordsLaw
 pub mod Restored
 pub mod RestoredMemory

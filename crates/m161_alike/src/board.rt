@@ -134,7 +134,7 @@ fn push_cram<T: Tlb, D: Console>(
     ensures err { OnErr result (Begins out.old.items out.new.items) }
 {
     for i in 0..64u32 {
-        out.extend_from_slice(&[core.board_word(BoardWord::Cram(p, i))])?;
+        out.push(core.board_word(BoardWord::Cram(p, i)))?;
     }
     Ok(())
 }

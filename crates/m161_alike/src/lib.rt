@@ -14,6 +14,7 @@
 //! is this project's own.
 #![tactic(auto)]
 
+mod addresses;
 mod board;
 mod bounds;
 mod known;
@@ -26,6 +27,7 @@ mod restored_processor;
 mod view_words;
 mod words;
 
+pub use addresses::{add_address, read_addresses, words_tell_their_addresses};
 pub use board::write_board;
 pub use bounds::{bounded_words_can_be_held, is_board_bounded, is_bounded};
 pub use known::Known;
@@ -36,4 +38,4 @@ pub use restored_board::read_board;
 pub use restored_memory::read_memory;
 pub use restored_processor::read_processor;
 pub use view_words::words_tell_a_view;
-pub use words::{words_tell_memory, write_memory};
+pub use words::{scan_memory, words_tell_memory, write_memory};

@@ -74,7 +74,7 @@ fn push_registers<T: Tlb, D: Console>(
     ensures err { OnErr result (Begins out.old.items out.new.items) }
 {
     for r in 0..32u8 {
-        out.extend_from_slice(&[core.reg(p, Reg::new(r))])?;
+        out.push(core.reg(p, Reg::new(r)))?;
     }
     Ok(())
 }
@@ -192,7 +192,11 @@ fn push_row(row: Row, out: &mut Vec<u32>) -> Result<(), AllocError>
     ensures ok { OnOk result (out.new.items ≡ out.old.items ++ row_words row) }
     ensures err { OnErr result (out.new.items ≡ out.old.items) }
 {
-    out.extend_from_slice(&[row.page.number(), row.frame.number(), row_flags(row)])
+    out.reserve(3)?;
+    out.push_reserved(row.page.number());
+    out.push_reserved(row.frame.number());
+    out.push_reserved(row_flags(row));
+    Ok(())
 }
 
 // A row's identifier, and its flags below it.

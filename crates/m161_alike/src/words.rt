@@ -3,6 +3,7 @@
 ghost use Rattle.std.specs.Prelude.{◌≡◌, ◌<◌, ◌≤◌, ℕ, true, [], ◌+◌, ◌*◌, ◌^◌, ◌++◌, length, take, OnOk, OnErr};
 ghost use Rattle.m161_ram.specs.Word.{word_at};
 ghost use Rattle.m161_alike.specs.Words.{MemoryLaw, memory_words, word_change};
+ghost use Rattle.m161_alike.specs.Addresses.{Cover};
 
 use m161_bus::Console;
 use m161_machine::Core;
@@ -13,11 +14,38 @@ use std::alloc::AllocError;
 const BLOCK: usize = 64;
 
 /// Writes the words of memory that differ from boot's behind the words that are there, each behind its
-/// address.
+/// address. All of them are at these addresses, so no other word is looked at.
 ///
 /// # Errors
 /// Memory is refused. Nothing is changed then.
 pub fn write_memory<T: Tlb, D: Console>(
+    core: &Core<T, D>,
+    boot: &[u8],
+    addresses: &[u32],
+    out: &mut Vec<u32>,
+) -> Result<(), AllocError>
+    requires size { length boot.now ≡ length core.now.state.memory }
+    requires cover { Cover boot.now core.now.state.memory addresses.now }
+    ensures ok { OnOk result
+        (out.new.items ≡ out.old.items ++ memory_words boot.now core.now.state.memory) }
+    ensures err { OnErr result (out.new.items ≡ out.old.items) }
+{
+    core.law();
+    let before = out.len();
+    match push_changes(core.memory(), boot, addresses, out) {
+        Ok(()) => Ok(()),
+        Err(error) => {
+            out.truncate(before);
+            Err(error)
+        }
+    }
+}
+
+/// Writes the same words, where it isn't known at which addresses they are: all of memory is looked at.
+///
+/// # Errors
+/// Memory is refused. Nothing is changed then.
+pub fn scan_memory<T: Tlb, D: Console>(
     core: &Core<T, D>,
     boot: &[u8],
     out: &mut Vec<u32>,
@@ -29,7 +57,7 @@ pub fn write_memory<T: Tlb, D: Console>(
 {
     core.law();
     let before = out.len();
-    match push_changes(core.memory(), boot, out) {
+    match push_all_changes(core.memory(), boot, out) {
         Ok(()) => Ok(()),
         Err(error) => {
             out.truncate(before);
@@ -40,7 +68,25 @@ pub fn write_memory<T: Tlb, D: Console>(
 
 // The words of memory that differ from boot's, each behind its address. After an error some of them
 // are there.
-fn push_changes(memory: &[u8], boot: &[u8], out: &mut Vec<u32>) -> Result<(), AllocError>
+fn push_changes(
+    memory: &[u8],
+    boot: &[u8],
+    addresses: &[u32],
+    out: &mut Vec<u32>,
+) -> Result<(), AllocError>
+    requires size { length boot.now ≡ length memory.now }
+    requires cover { Cover boot.now memory.now addresses.now }
+    ensures ok { OnOk result (out.new.items ≡ out.old.items ++ memory_words boot.now memory.now) }
+    ensures err { OnErr result (take (length out.old.items) out.new.items ≡ out.old.items) }
+{
+    for i in 0..addresses.len() {
+        push_change(memory, boot, addresses[i], out)?;
+    }
+    Ok(())
+}
+
+// The same for all of memory.
+fn push_all_changes(memory: &[u8], boot: &[u8], out: &mut Vec<u32>) -> Result<(), AllocError>
     requires size { length boot.now ≡ length memory.now }
     requires few { length memory.now ≤ 2 ^ 29 }
     ensures ok { OnOk result (out.new.items ≡ out.old.items ++ memory_words boot.now memory.now) }
@@ -52,7 +98,7 @@ fn push_changes(memory: &[u8], boot: &[u8], out: &mut Vec<u32>) -> Result<(), Al
         if is_same_block(memory, boot, place) {
             place += BLOCK;
         } else {
-            push_change(memory, boot, place, out)?;
+            push_change(memory, boot, 4 * place as u32, out)?;
             place += 1;
         }
     }
@@ -72,31 +118,25 @@ fn is_same_block(memory: &[u8], boot: &[u8], place: usize) -> bool
     end <= memory.len() && memory[start..end] == boot[start..end]
 }
 
-// One of them.
-fn push_change(
-    memory: &[u8],
-    boot: &[u8],
-    place: usize,
-    out: &mut Vec<u32>,
-) -> Result<(), AllocError>
+// The word at an address, if it differs from boot's.
+fn push_change(memory: &[u8], boot: &[u8], at: u32, out: &mut Vec<u32>) -> Result<(), AllocError>
     requires size { length boot.now ≡ length memory.now }
-    requires few { length memory.now ≤ 2 ^ 29 }
-    requires within { 4 * place + 4 ≤ length memory.now }
-    ensures ok { OnOk result (out.new.items ≡ out.old.items ++ word_change boot.now memory.now (4 * place)) }
+    requires within { at + 4 ≤ length memory.now }
+    ensures ok { OnOk result (out.new.items ≡ out.old.items ++ word_change boot.now memory.now at) }
     ensures err { OnErr result (out.new.items ≡ out.old.items) }
 {
-    let word = word_of(memory, 4 * place);
-    if word == word_of(boot, 4 * place) {
+    let word = word_of(memory, at as usize);
+    if word == word_of(boot, at as usize) {
         return Ok(());
     }
     out.reserve(2)?;
-    out.push_reserved(4 * place as u32);
+    out.push_reserved(at);
     out.push_reserved(word);
     Ok(())
 }
 
-// The word whose first byte has this place.
-fn word_of(bytes: &[u8], at: usize) -> u32
+/// The word whose first byte has this place.
+pub fn word_of(bytes: &[u8], at: usize) -> u32
     requires { at + 4 ≤ length bytes.now }
     ensures { result ≡ word_at bytes.now at }
 {

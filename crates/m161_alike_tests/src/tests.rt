@@ -1,14 +1,18 @@
 //! Tests of what a Step reads, and of views. The expected values were worked out by hand.
 
+ghost use Rattle.std.specs.Prelude.{◌≡◌, OnOk, length};
+ghost use Rattle.m161_alike.specs.Addresses.{Cover};
+
 use m161::Core;
 use m161_alike::{
-    Known, Reads, is_board_bounded, is_bounded, next_reads, read_board, read_memory,
-    read_processor, write_board, write_memory, write_processor,
+    Known, Reads, add_address, is_board_bounded, is_bounded, next_reads, read_board, read_memory,
+    read_addresses, read_processor, scan_memory, words_tell_their_addresses, write_board, write_memory,
+    write_processor,
 };
 use m161_machine::{Conf, LinkUnit};
 use m161_test_support::files::file_from;
 use m161_test_support::outcomes::ENTRY;
-use std::alloc::AllocGlobal;
+use std::alloc::{AllocError, AllocGlobal, Global};
 use std::fmt::Debug;
 use std::process::Abort;
 use std::test::Fail;
@@ -268,18 +272,63 @@ fn memory_is_what_differs(rt: HostRuntime) -> Result<(), Fail> {
     let mut core = booted(&rt, &STORES)?;
     let mut words = Vec::new(rt.alloc());
     if boot.memory().len() == core.memory().len() {
-        write_memory(&core, boot.memory(), &mut words)?;
+        scan_memory(&core, boot.memory(), &mut words)?;
     }
     same(&rt, words.len(), 0);
     make_steps(&rt, &mut core, 2);
     if boot.memory().len() == core.memory().len() {
-        write_memory(&core, boot.memory(), &mut words)?;
+        scan_memory(&core, boot.memory(), &mut words)?;
+        write_by_addresses(rt.alloc(), &core, boot.memory(), &mut words)?;
     }
     same(
         &rt,
-        words.as_slice() == [0x300, 0x8000_0000].as_slice(),
+        words.as_slice() == [0x300, 0x8000_0000, 0x300, 0x8000_0000].as_slice(),
         true,
     );
+    Ok(())
+}
+
+/// Finds where memory differs from boot's.
+fn find_addresses(
+    alloc: Global,
+    core: &Core,
+    boot: &[u8],
+    addresses: &mut Vec<u32>,
+) -> Result<(), AllocError>
+    requires { length boot.now ≡ length core.now.state.memory }
+    ensures { OnOk result (Cover boot.now core.now.state.memory addresses.new.items) }
+{
+    words_tell_their_addresses();
+    let mut words = Vec::new(alloc);
+    scan_memory(core, boot, &mut words)?;
+    read_addresses(&words, addresses)
+}
+
+/// Writes the words of memory that differ from boot's, once it is known where they are.
+fn write_by_addresses(
+    alloc: Global,
+    core: &Core,
+    boot: &[u8],
+    out: &mut Vec<u32>,
+) -> Result<(), AllocError>
+    requires { length boot.now ≡ length core.now.state.memory }
+{
+    let mut addresses = Vec::new(alloc);
+    find_addresses(alloc, core, boot, &mut addresses)?;
+    write_memory(core, boot, &addresses, out)
+}
+
+/// Three addresses, one of them twice.
+static PLACES: [u32; 4] = [8, 0, 4, 8];
+
+#[test]
+fn addresses_ascend(rt: HostRuntime) -> Result<(), Fail> {
+    let mut addresses = Vec::new(rt.alloc());
+    add_address(&mut addresses, PLACES[0])?;
+    add_address(&mut addresses, PLACES[1])?;
+    add_address(&mut addresses, PLACES[2])?;
+    add_address(&mut addresses, PLACES[3])?;
+    same(&rt, addresses.as_slice() == [0, 4, 8].as_slice(), true);
     Ok(())
 }
 
@@ -302,6 +351,7 @@ fn a_processor_comes_back(rt: HostRuntime) -> Result<(), Fail> {
 
 /// Writes the words of a state's board and memory.
 fn write_both(
+    alloc: Global,
     core: &Core,
     boot: &Core,
     board: &mut Vec<u32>,
@@ -309,19 +359,28 @@ fn write_both(
 ) -> Result<(), Fail> {
     write_board(core, board)?;
     if boot.memory().len() == core.memory().len() {
-        write_memory(core, boot.memory(), memory)?;
+        write_by_addresses(alloc, core, boot.memory(), memory)?;
     }
     Ok(())
 }
 
 /// Makes a state's board and memory those with these words, if it can be.
-fn read_both(core: &mut Core, boot: &Core, board: &[u32], memory: &[u32]) {
+fn read_both(
+    alloc: Global,
+    core: &mut Core,
+    boot: &Core,
+    board: &[u32],
+    memory: &[u32],
+    addresses: &mut Vec<u32>,
+) -> Result<(), AllocError> {
     if board.len() >= 11 + 68 * core.processors() as usize {
         read_board(core, board);
     }
-    if boot.memory().len() == core.memory().len() {
-        read_memory(core, boot.memory(), memory);
+    if boot.memory().len() == core.memory().len() && boot.memory().len() % 4 == 0 {
+        find_addresses(alloc, core, boot.memory(), addresses)?;
+        read_memory(core, boot.memory(), addresses, memory);
     }
+    Ok(())
 }
 
 /// Fails the test where another state, with the words of a state's board and memory, has others.
@@ -335,9 +394,10 @@ fn check_comes_back(
     let mut memory = Vec::new(rt.alloc());
     let mut boards = Vec::new(rt.alloc());
     let mut memories = Vec::new(rt.alloc());
-    write_both(core, boot, &mut board, &mut memory)?;
-    read_both(other, boot, &board, &memory);
-    write_both(other, boot, &mut boards, &mut memories)?;
+    let mut addresses = Vec::new(rt.alloc());
+    write_both(rt.alloc(), core, boot, &mut board, &mut memory)?;
+    read_both(rt.alloc(), other, boot, &board, &memory, &mut addresses)?;
+    write_both(rt.alloc(), other, boot, &mut boards, &mut memories)?;
     same(rt, boards.as_slice() == board.as_slice(), true);
     same(rt, memories.as_slice() == memory.as_slice(), true);
     Ok(())

@@ -14,13 +14,14 @@ use Rattle.m161_audit.specs.declared.shootdown.Shootdown.{Shootdown}
 use Rattle.m161_audit.specs.declared.watch.Watch.{Watch}
 use Rattle.m161_audit.specs.Audit.{Audits, AuditsBooted, AuditsState}
 use Rattle.m161_audit.specs.Watch.{AreGood}
-use Rattle.m161_audit.specs.helpers.Progress.{tracked}
-use Rattle.m161_audit.specs.helpers.Run.{Begins, BeginsBooted, FindsIn, IsAt}
+use Rattle.m161_audit.specs.Tracking.{tracked}
+use Rattle.m161_audit.specs.Tracking.{IsAt}
+use Rattle.m161_audit.specs.helpers.Run.{Begins, BeginsBooted, FindsIn}
 
 -- From the boot on.
 
 -- the state at boot, in which nothing was stored
-at_boot : (watches : List Watch) (b core : State) (items : List Shootdown) → core ≡ b → items ≡ tracked watches [] → IsAt watches (without_stores b) core items
+pub at_boot : (watches : List Watch) (b core : State) (items : List Shootdown) → core ≡ b → items ≡ tracked watches [] → IsAt watches (without_stores b) core items
 at_boot watches b core items core_is items_are = record {
   core_is = core_is ∙ sym (image b.links.unit [] (map first_link b.links.live) b (links_first b.links));
   items_are = items_are;

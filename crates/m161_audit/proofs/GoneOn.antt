@@ -5,7 +5,7 @@ use Rattle.m161_audit.specs.declared.watch.Watch.{Watch}
 use Rattle.m161_audit.specs.declared.shootdown.Progress.{Progress}
 use Rattle.m161_audit.specs.declared.shootdown.Progress.TheVariants.{Before, Changed, GoneOn}
 use Rattle.m161_audit.specs.Stale.{HasGoneOn, touches}
-use Rattle.m161_audit.specs.helpers.Progress.{if_changed, progress_after, progress_from, progress_of}
+use Rattle.m161_audit.specs.Tracking.{if_changed, progress_after, progress_from, progress_of}
 
 -- The code's progress says whether the initiator has gone on.
 

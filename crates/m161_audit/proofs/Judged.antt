@@ -11,8 +11,9 @@ use Rattle.m161_audit.specs.declared.shootdown.Progress.{Progress}
 use Rattle.m161_audit.specs.declared.shootdown.Progress.TheVariants.{Before, Changed, GoneOn}
 use Rattle.m161_audit.specs.declared.shootdown.Shootdown.{Shootdown}
 use Rattle.m161_audit.specs.Stale.{IsStaleFor, IsStaleVia, UsesStale, entry_in, is_old}
-use Rattle.m161_audit.specs.helpers.Progress.{has_gone_on, is_old_in, is_stale_for, progress_of, shootdown_at}
-use Rattle.m161_audit.specs.helpers.Run.{IsAt}
+use Rattle.m161_audit.specs.Tracking.{progress_of, shootdown_at}
+use Rattle.m161_audit.specs.helpers.Progress.{has_gone_on, is_old_in, is_stale_for}
+use Rattle.m161_audit.specs.Tracking.{IsAt}
 use Rattle.m161_audit.proofs.GoneOn.{equal, gone_on_progress, progress_gone_on, same}
 use Rattle.m161_audit.proofs.Tracked.{at_place, of_place}
 

@@ -5,5 +5,6 @@ mod Ranged
 mod Judged
 mod Made
 mod Begun
+mod Parts
 mod WatchLines
 mod WatchTexts

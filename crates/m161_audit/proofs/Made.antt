@@ -16,8 +16,9 @@ use Rattle.m161_audit.specs.declared.finding.Finding.TheVariants.{Clean, Stale}
 use Rattle.m161_audit.specs.declared.shootdown.Shootdown.{Shootdown}
 use Rattle.m161_audit.specs.declared.watch.Watch.{Watch}
 use Rattle.m161_audit.specs.Stale.{IsFinding, IsStale, IsStaleAt, UsesStale, after_event, after_events, state_given}
-use Rattle.m161_audit.specs.helpers.Progress.{tracked}
-use Rattle.m161_audit.specs.helpers.Run.{Finds, IsAt, IsInput, NoneStale, Passes}
+use Rattle.m161_audit.specs.Tracking.{tracked}
+use Rattle.m161_audit.specs.Tracking.{IsAt}
+use Rattle.m161_audit.specs.helpers.Run.{Finds, IsInput, NoneStale, Passes}
 
 -- One event on a machine's state, and runs of them.
 

@@ -3,7 +3,8 @@ use Rattle.std.proofs.lemmas.Option.{slice_get-map}
 use Rattle.std.specs.Prelude.{slice_get, option_map}
 use Rattle.m161_audit.specs.declared.watch.Watch.{Watch}
 use Rattle.m161_audit.specs.declared.shootdown.Shootdown.{Shootdown}
-use Rattle.m161_audit.specs.helpers.Progress.{after_word, tracked, shootdown_at}
+use Rattle.m161_audit.specs.Tracking.{tracked, shootdown_at}
+use Rattle.m161_audit.specs.helpers.Progress.{after_word}
 use Rattle.m161_audit.proofs.GoneOn.{progress_more}
 
 -- one store more

@@ -11,7 +11,8 @@ use Rattle.m161_audit.specs.declared.shootdown.Shootdown.{Shootdown}
 use Rattle.m161_audit.specs.Watch.{AreGood, is_bad}
 use Rattle.m161_audit.specs.declared.shootdown.Progress.{Progress}
 use Rattle.m161_audit.specs.declared.shootdown.Progress.TheVariants.{Changed}
-use Rattle.m161_audit.specs.helpers.Progress.{IsWithin, after_word, if_changed}
+use Rattle.m161_audit.specs.Tracking.{if_changed}
+use Rattle.m161_audit.specs.helpers.Progress.{IsWithin, after_word}
 
 -- Walks along a list.
 

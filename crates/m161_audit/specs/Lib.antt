@@ -1,5 +1,7 @@
 pub mod Watch
 pub mod WatchText
 pub mod Stale
+pub mod Tracking
 pub mod Audit
+pub mod Going
 pub mod helpers

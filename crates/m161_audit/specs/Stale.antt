@@ -103,3 +103,8 @@ IsFinding s events watches Clean = NoneBefore s events watches (length events)
 IsFinding s events watches (Stale place p address row) =
     NoneBefore s events watches place
     × ((v : Via) × (v.address ≡ address) × (v.row ≡ row) × IsStaleAt s events watches place p v)
+
+-- the place of a finding is below n
+abbrev pub IsBelow : ℕ → Finding → Type 0
+IsBelow n Clean = Unit {0}
+IsBelow n (Stale place p address row) = place < n

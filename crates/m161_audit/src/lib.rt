@@ -16,6 +16,8 @@
 #![tactic(auto)]
 
 mod finding;
+mod going;
+mod laws;
 mod run;
 mod shootdown;
 mod stale;
@@ -23,6 +25,8 @@ mod text;
 mod watch;
 
 pub use finding::{AuditError, Finding};
+pub use going::Auditor;
+pub use laws::is_found_in_parts;
 pub use m161_machine::{BootError, Conf, Event, Events, LinkUnit};
 pub use m161_steplog::TextFault;
 pub use run::{audit, audit_core, audit_events};

@@ -1,6 +1,6 @@
 //! The audit of a run.
 
-ghost use Rattle.std.specs.Prelude.{◌≡◌, ◌<◌, ℕ, List, true, false, [], ◌∷◌, None, Some, IfOk, IfSome, MatchOption, length, replicate};
+ghost use Rattle.std.specs.Prelude.{◌≡◌, ◌<◌, ℕ, List, true, false, [], ◌∷◌, None, Some, IfOk, IfSome, MatchOption, length, replicate, take};
 ghost use Rattle.m161_machine.specs.declared.event.Event.TheVariants as events;
 ghost use Rattle.m161_machine.specs.History.{boot_fault};
 ghost use Rattle.m161_machine.specs.State.{refusal};
@@ -9,9 +9,11 @@ ghost use Rattle.m161_machine.specs.Uses.{MakesStep};
 ghost use Rattle.m161_audit.specs.declared.shootdown.Shootdown.{Shootdown};
 ghost use Rattle.m161_audit.specs.declared.watch.Watch.{Watch};
 ghost use Rattle.m161_audit.specs.Audit.{Audits, AuditsState};
+ghost use Rattle.m161_audit.specs.Stale.{IsBelow};
 ghost use Rattle.m161_audit.specs.Watch.{AreGood, IsBad};
-ghost use Rattle.m161_audit.specs.helpers.Progress.{tracked};
-ghost use Rattle.m161_audit.specs.helpers.Run.{AuditsEvent, AuditsEvents, AuditsInputs, AuditsStep, AuditsSteps, Begins, FindsIn, IsAt, IsInput};
+ghost use Rattle.m161_audit.specs.Tracking.{tracked};
+ghost use Rattle.m161_audit.specs.Tracking.{IsAt};
+ghost use Rattle.m161_audit.specs.helpers.Run.{AuditsEvent, AuditsEvents, AuditsInputs, AuditsStep, AuditsSteps, Begins, FindsIn, FindsOn, IsInput, Passes};
 
 use crate::finding::{AuditError, Finding};
 use crate::shootdown::Shootdowns;
@@ -23,8 +25,8 @@ use m161_machine::{BootError, Conf, Core, Event, Events, Machine, Refusal};
 use m161_tlb::Tlb;
 use std::alloc::Global;
 
-// The first bad watch.
-fn first_bad(ram: u32, watches: &[Watch]) -> Option<usize>
+/// The first bad watch.
+pub(crate) fn first_bad(ram: u32, watches: &[Watch]) -> Option<usize>
     ensures { MatchOption result ((k : ℕ) → AreGood ram watches.now k)
         (λ k. IsBad ram watches.now k × AreGood ram watches.now k) }
 {
@@ -257,19 +259,22 @@ fn audit_event<T: Tlb, D: Console>(
     }
 }
 
-// Audits a list of events from a state on. `find` does the same with runs of alike events, as a
-// schedule has them; a search has its events one by one, and runs of them would take memory.
-fn find_in<T: Tlb, D: Console>(
+/// Audits the events of a list from a place on; those before it are made. `find` does the same with runs
+/// of alike events, as a schedule has them; a search has its events one by one, and runs of them would
+/// take memory.
+pub(crate) fn find_from<T: Tlb, D: Console>(
     core: &mut Core<T, D>,
     events: &[Event],
+    from: usize,
     shootdowns: &mut Shootdowns,
 ) -> Result<Finding, AuditError>
-    ensures { (watches : List Watch) (s : StoreState)
-        → IsAt watches s core.old.state shootdowns.old
-        → FindsIn watches s events.now result }
+    ensures found { (watches : List Watch) (s : StoreState)
+        → Passes watches s (take from events.now) core.old.state shootdowns.old
+        → FindsOn watches s events.now result core.new.state shootdowns.new }
+    ensures within { IfOk result (IsBelow (length events.now)) }
 {
-    for (place, event) in events.iter().enumerate() {
-        if let Some((processor, via)) = audit_event(core, *event, shootdowns)? {
+    for place in from..events.len() {
+        if let Some((processor, via)) = audit_event(core, events[place], shootdowns)? {
             return Ok(Finding::Stale {
                 place,
                 processor,
@@ -279,6 +284,19 @@ fn find_in<T: Tlb, D: Console>(
         }
     }
     Ok(Finding::Clean)
+}
+
+// Audits a list of events from a state on.
+fn find_in<T: Tlb, D: Console>(
+    core: &mut Core<T, D>,
+    events: &[Event],
+    shootdowns: &mut Shootdowns,
+) -> Result<Finding, AuditError>
+    ensures { (watches : List Watch) (s : StoreState)
+        → IsAt watches s core.old.state shootdowns.old
+        → FindsIn watches s events.now result }
+{
+    find_from(core, events, 0, shootdowns)
 }
 
 // The state of a machine that is booted from a file, and the shootdowns of watches that aren't bad.

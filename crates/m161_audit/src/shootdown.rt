@@ -2,7 +2,8 @@
 
 ghost use Rattle.std.specs.Prelude.{◌≡◌, ℕ, ◌≤◌, ◌<◌, ◌%◌, List, [], false, Some, IfOk, All, length, map, slice_get};
 ghost use Rattle.m161_machine.specs.StoreHistory.{stores_after};
-ghost use Rattle.m161_audit.specs.helpers.Progress.{AreInRanges, IsAtMost, IsWithin, after_word, has_gone_on, progress_after, tracked};
+ghost use Rattle.m161_audit.specs.Tracking.{progress_after, tracked};
+ghost use Rattle.m161_audit.specs.helpers.Progress.{AreInRanges, IsAtMost, IsWithin, after_word, has_gone_on};
 
 use crate::watch::Watch;
 use std::alloc::{AllocError, Global};
@@ -139,6 +140,15 @@ fn from_start(alloc: Global, watches: &[Watch]) -> Result<Vec<Shootdown>, AllocE
     Ok(items)
 }
 
+// The same shootdowns again.
+fn copied(alloc: Global, items: &[Shootdown]) -> Result<Vec<Shootdown>, AllocError>
+    ensures { IfOk result (λ copy. copy.items ≡ items.now) }
+{
+    let mut copy = Vec::with_capacity(alloc, items.len())?;
+    copy.extend_from_slice(items)?;
+    Ok(copy)
+}
+
 // Bounds, and the words of a shootdown.
 fn widened(low: u32, high: u32, item: &Shootdown) -> (u32, u32)
     ensures wider { (result.0 ≤ low) × (high ≤ result.1) }
@@ -177,6 +187,20 @@ impl Shootdowns {
             items,
             low,
             high,
+            ranges,
+        })
+    }
+
+    /// The same shootdowns, as far as these are.
+    pub(crate) fn copy(&self, alloc: Global) -> Result<Shootdowns, AllocError>
+        ensures { IfOk result (λ copy. copy ≡ self.now) }
+    {
+        let items = copied(alloc, self.items.as_slice())?;
+        let ranges = ranges_of(items.as_slice());
+        Ok(Shootdowns {
+            items,
+            low: self.low,
+            high: self.high,
             ranges,
         })
     }

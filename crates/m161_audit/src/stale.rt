@@ -8,7 +8,7 @@ ghost use Rattle.m161_audit.specs.declared.shootdown.Shootdown.{Shootdown};
 ghost use Rattle.m161_audit.specs.declared.watch.Watch.{Watch};
 ghost use Rattle.m161_audit.specs.Stale.{IsStaleVia, UsesStale, entry_in, is_old};
 ghost use Rattle.m161_audit.specs.helpers.Progress.{is_stale_for};
-ghost use Rattle.m161_audit.specs.helpers.Run.{IsAt};
+ghost use Rattle.m161_audit.specs.Tracking.{IsAt};
 
 use crate::shootdown::{Progress, Shootdown, Shootdowns};
 use m161_bus::Console;

@@ -16,25 +16,25 @@ use Rattle.m161_drive.specs.Policy.{Rules}
 use Rattle.m161_dis.specs.declared.naming.Style.{Style}
 use Rattle.m161_text.specs.Lines.{with_line_end}
 use Rattle.m161_trace.specs.Line.{event_line}
-use Rattle.m161_c.specs.declared.answer.Plan.{Plan}
+use Rattle.m161_c.specs.declared.answer.OrderNumbers.{OrderNumbers}
 
 -- Driven runs of a machine, whose events its log keeps.
 
--- the order of a plan, if its kind is one
-abbrev pub order_in : Plan → Option Order
-order_in plan =
-    if plan.kind == 0 then Some (Turns plan.turns)
-    else if plan.kind == 1 then Some (Random plan.seed)
-    else if plan.kind == 2 then Some (Priorities plan.seed plan.changes plan.within)
+-- the order of these numbers, if their kind is one
+abbrev pub order_in : OrderNumbers → Option Order
+order_in numbers =
+    if numbers.kind == 0 then Some (Turns numbers.turns)
+    else if numbers.kind == 1 then Some (Random numbers.seed)
+    else if numbers.kind == 2 then Some (Priorities numbers.seed numbers.changes numbers.within)
     else None
 
-abbrev pub gap_in : Plan → Option ℕ
-gap_in plan = if plan.gaps then Some plan.gap else None
+abbrev pub gap_in : OrderNumbers → Option ℕ
+gap_in numbers = if numbers.gaps then Some numbers.gap else None
 
--- the policy of a plan with this order
-abbrev pub rules_in : Plan → Order → List ℕ → Rules
-rules_in plan order keys =
-    record { order = order; transfer = plan.transfer; gap = gap_in plan; keys = keys }
+-- the policy of these numbers with this order
+abbrev pub rules_in : OrderNumbers → Order → List ℕ → Rules
+rules_in numbers order keys =
+    record { order = order; transfer = numbers.transfer; gap = gap_in numbers; keys = keys }
 
 -- the numbers of the reasons why a run has no more events
 
@@ -54,7 +54,7 @@ abbrev pub DrivesOn : Rules → ℕ → History → Driven → History → Type 
 DrivesOn rules n m driven k =
     (entries : List Entry) × Drives rules n m.state driven entries k.state × Slides m entries k
 
--- a run of at most n events by a plan, of which so many were made, with this answer
+-- a run of at most n events by an order, of which so many were made, with this answer
 
 abbrev pub DrivesBy : Option OrderError → Rules → ℕ → ℕ → ℕ → History → History → Type 0
 DrivesBy (Some fault) rules n made answer m k =
@@ -63,13 +63,13 @@ DrivesBy None rules n made answer m k =
     (stop : Stop) × (answer ≡ number_of_stop stop)
     × DrivesOn rules n m (record { made = made; stop = stop }) k
 
-abbrev pub DrivesIn : Option Order → Plan → List ℕ → ℕ → ℕ → ℕ → History → History → Type 0
-DrivesIn None plan keys n made answer m k = (answer ≡ 253) × (made ≡ 0) × (k ≡ m)
-DrivesIn (Some order) plan keys n made answer m k =
-    DrivesBy (order_fault order) (rules_in plan order keys) n made answer m k
+abbrev pub DrivesIn : Option Order → OrderNumbers → List ℕ → ℕ → ℕ → ℕ → History → History → Type 0
+DrivesIn None numbers keys n made answer m k = (answer ≡ 253) × (made ≡ 0) × (k ≡ m)
+DrivesIn (Some order) numbers keys n made answer m k =
+    DrivesBy (order_fault order) (rules_in numbers order keys) n made answer m k
 
-abbrev pub DrivesAs : Plan → List ℕ → ℕ → ℕ → ℕ → History → History → Type 0
-DrivesAs plan keys n made answer m k = DrivesIn (order_in plan) plan keys n made answer m k
+abbrev pub DrivesAs : OrderNumbers → List ℕ → ℕ → ℕ → ℕ → History → History → Type 0
+DrivesAs numbers keys n made answer m k = DrivesIn (order_in numbers) numbers keys n made answer m k
 
 -- Traces.
 

@@ -12,14 +12,14 @@ use Rattle.m161_drive.specs.declared.run.Stop.TheVariants.{Off, End, Stuck, Refu
 use Rattle.m161_drive.specs.Drive.{Drives}
 use Rattle.m161_drive.specs.Policy.{Rules}
 use Rattle.m161_c.specs.declared.answer.Goal.{Goal}
-use Rattle.m161_c.specs.declared.answer.Plan.{Plan}
+use Rattle.m161_c.specs.declared.answer.OrderNumbers.{OrderNumbers}
 use Rattle.m161_c.specs.Driven.{number_of_order, order_in, rules_in}
 
 -- A search for a run that ends wrong.
 
--- the same plan with the seed so many places on, modulo 2^64
-abbrev pub plan_at : Plan → ℕ → Plan
-plan_at plan k = record plan { seed = (plan.seed + k) % 2 ^ 64 }
+-- the same numbers with the seed so many places on, modulo 2^64
+abbrev pub order_at : OrderNumbers → ℕ → OrderNumbers
+order_at numbers k = record numbers { seed = (numbers.seed + k) % 2 ^ 64 }
 
 abbrev pub is_word : Option ℕ → ℕ → Bool
 is_word None word = false
@@ -50,23 +50,23 @@ TriesBy None rules n goal answer s =
     (answer ≡ Some 254)
     ⊎ ((t : State) × EndsIn rules n s t × (answer ≡ (if is_right goal t then None else Some 0)))
 
-abbrev pub TriesIn : Option Order → Plan → List ℕ → ℕ → Goal → Option ℕ → State → Type 0
-TriesIn None plan keys n goal answer s = answer ≡ Some 253
-TriesIn (Some order) plan keys n goal answer s =
-    TriesBy (order_fault order) (rules_in plan order keys) n goal answer s
+abbrev pub TriesIn : Option Order → OrderNumbers → List ℕ → ℕ → Goal → Option ℕ → State → Type 0
+TriesIn None numbers keys n goal answer s = answer ≡ Some 253
+TriesIn (Some order) numbers keys n goal answer s =
+    TriesBy (order_fault order) (rules_in numbers order keys) n goal answer s
 
-abbrev pub TriesAs : Plan → List ℕ → ℕ → Goal → Option ℕ → State → Type 0
-TriesAs plan keys n goal answer s = TriesIn (order_in plan) plan keys n goal answer s
+abbrev pub TriesAs : OrderNumbers → List ℕ → ℕ → Goal → Option ℕ → State → Type 0
+TriesAs numbers keys n goal answer s = TriesIn (order_in numbers) numbers keys n goal answer s
 
 -- the runs of so many seeds from a state are tried in order: the first of them end right; the next
 -- one doesn't, or there is none
-abbrev pub SearchesAs : Plan → List ℕ → ℕ → ℕ → Goal → ℕ → ℕ → State → Type 0
-SearchesAs plan keys n count goal right answer s =
-    ((j : ℕ) → j < right → TriesAs (plan_at plan j) keys n goal None s)
+abbrev pub SearchesAs : OrderNumbers → List ℕ → ℕ → ℕ → Goal → ℕ → ℕ → State → Type 0
+SearchesAs numbers keys n count goal right answer s =
+    ((j : ℕ) → j < right → TriesAs (order_at numbers j) keys n goal None s)
     × ((right ≡ count) × (answer ≡ 21)
-    ⊎ (right < count) × TriesAs (plan_at plan right) keys n goal (Some answer) s)
+    ⊎ (right < count) × TriesAs (order_at numbers right) keys n goal (Some answer) s)
 
-abbrev pub SearchesOf : Option History → Plan → List ℕ → ℕ → ℕ → Goal → ℕ → ℕ → Type 0
-SearchesOf None plan keys n count goal right answer = (answer ≡ 255) × (right ≡ 0)
-SearchesOf (Some m) plan keys n count goal right answer =
-    SearchesAs plan keys n count goal right answer m.state
+abbrev pub SearchesOf : Option History → OrderNumbers → List ℕ → ℕ → ℕ → Goal → ℕ → ℕ → Type 0
+SearchesOf None numbers keys n count goal right answer = (answer ≡ 255) × (right ≡ 0)
+SearchesOf (Some m) numbers keys n count goal right answer =
+    SearchesAs numbers keys n count goal right answer m.state

@@ -16,12 +16,12 @@ use Rattle.m161_tlb.specs.declared.row.Row.{Row}
 use Rattle.m161_tlb.specs.Row.{hi_word, lo_word}
 use Rattle.m161_trace.specs.Items.{control_word}
 use Rattle.m161_c.specs.declared.answer.Board.{Board}
-use Rattle.m161_c.specs.declared.answer.Clash.{Clash}
-use Rattle.m161_c.specs.declared.answer.Logged.{Logged}
+use Rattle.m161_c.specs.declared.answer.ConflictView.{ConflictView}
+use Rattle.m161_c.specs.declared.answer.EntryView.{EntryView}
 use Rattle.m161_c.specs.declared.answer.RowWords.{RowWords}
-use Rattle.m161_c.specs.declared.answer.Shown.{Shown}
-use Rattle.m161_c.specs.declared.answer.Told.{Told}
-use Rattle.m161_c.specs.Runs.{told_of}
+use Rattle.m161_c.specs.declared.answer.ProcessorView.{ProcessorView}
+use Rattle.m161_c.specs.declared.answer.OutcomeNumbers.{OutcomeNumbers}
+use Rattle.m161_c.specs.Runs.{outcome_numbers}
 
 -- What is shown of a processor.
 
@@ -30,24 +30,24 @@ number_of_state Stopped = 0
 number_of_state Running = 1
 number_of_state Waiting = 2
 
-pub record Shows (x : Processor) (shown : Shown) : Type 0 where
-  pub registers : (r : ℕ) → r < 32 → slice_index shown.registers r ≡ slice_index x.registers r
-  pub hi : shown.hi ≡ x.hi
-  pub lo : shown.lo ≡ x.lo
-  pub pc : shown.pc ≡ x.pc
-  pub state : shown.state ≡ number_of_state x.state
-  pub slot : shown.in_slot ≡ x.slot
-  pub count : shown.count ≡ x.count
+pub record Shows (x : Processor) (view : ProcessorView) : Type 0 where
+  pub registers : (r : ℕ) → r < 32 → slice_index view.registers r ≡ slice_index x.registers r
+  pub hi : view.hi ≡ x.hi
+  pub lo : view.lo ≡ x.lo
+  pub pc : view.pc ≡ x.pc
+  pub state : view.state ≡ number_of_state x.state
+  pub slot : view.in_slot ≡ x.slot
+  pub count : view.count ≡ x.count
 
-abbrev pub ShowsProcessor : ℕ → State → Shown → Type 0
+abbrev pub ShowsProcessor : ℕ → State → ProcessorView → Type 0
 ShowsProcessor p s shown = Shows (processor_at p s.processors) shown
 
 -- a processor is shown where there is one; else nothing is told
-abbrev pub ShowsAnswer : Bool → ℕ → State → Shown → Shown → Type 0
+abbrev pub ShowsAnswer : Bool → ℕ → State → ProcessorView → ProcessorView → Type 0
 ShowsAnswer true p s before after = (p < length s.processors) × ShowsProcessor p s after
 ShowsAnswer false p s before after = (length s.processors ≤ p) × (after ≡ before)
 
-abbrev pub ShowsOf : Option History → ℕ → Bool → Shown → Shown → Type 0
+abbrev pub ShowsOf : Option History → ℕ → Bool → ProcessorView → ProcessorView → Type 0
 ShowsOf None p answer before after = (answer ≡ false) × (after ≡ before)
 ShowsOf (Some m) p answer before after = ShowsAnswer answer p m.state before after
 
@@ -95,23 +95,23 @@ link_of (Some m) p =
     if nat_lt p (length m.state.processors) then slice_index_or m.state.links.live p None else None
 
 -- what switched a strict machine off
-abbrev pub clash_in : Option Conflict → Option Clash
-clash_in None = None
-clash_in (Some c) = Some (record { processor = c.processor; row = c.row; other = c.other })
+abbrev pub conflict_in : Option Conflict → Option ConflictView
+conflict_in None = None
+conflict_in (Some c) = Some (record { processor = c.processor; row = c.row; other = c.other })
 
-abbrev pub clash_of : Option History → Option Clash
-clash_of None = None
-clash_of (Some m) = clash_in m.state.conflict
+abbrev pub conflict_of : Option History → Option ConflictView
+conflict_of None = None
+conflict_of (Some m) = conflict_in m.state.conflict
 
--- the numbers of an event with what is told of its outcome
-abbrev pub logged_with : Event → Told → Logged
-logged_with (Step p) told = record { kind = 0; value = p; told = told }
-logged_with (Key byte) told = record { kind = 1; value = byte; told = told }
-logged_with Done told = record { kind = 2; value = 0; told = told }
+-- the numbers of an event with its outcome
+abbrev pub entry_with : Event → OutcomeNumbers → EntryView
+entry_with (Step p) outcome = record { kind = 0; value = p; outcome = outcome }
+entry_with (Key byte) outcome = record { kind = 1; value = byte; outcome = outcome }
+entry_with Done outcome = record { kind = 2; value = 0; outcome = outcome }
 
-abbrev pub logged_in : Option Entry → Option Logged
-logged_in None = None
-logged_in (Some e) = Some (logged_with e.event (told_of e.outcome))
+abbrev pub entry_in : Option Entry → Option EntryView
+entry_in None = None
+entry_in (Some e) = Some (entry_with e.event (outcome_numbers e.outcome))
 
 -- how many entries the log has
 abbrev pub entries_of : Option History → ℕ
@@ -119,9 +119,9 @@ entries_of None = 0
 entries_of (Some m) = length m.log
 
 -- an entry of the log; the oldest is the first
-abbrev pub entry_of : Option History → ℕ → Option Logged
+abbrev pub entry_of : Option History → ℕ → Option EntryView
 entry_of None i = None
-entry_of (Some m) i = if nat_lt i (length m.log) then logged_in (slice_get m.log i) else None
+entry_of (Some m) i = if nat_lt i (length m.log) then entry_in (slice_get m.log i) else None
 
 -- the text of a machine's log
 abbrev pub mode_of : History → Mode

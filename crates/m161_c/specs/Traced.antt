@@ -7,7 +7,7 @@ use Rattle.m161_dis.specs.declared.naming.Style.{Style}
 use Rattle.m161_dis.specs.declared.naming.Naming.TheVariants.{Names, Numbers}
 use Rattle.m161_drive.specs.declared.run.Stop.{Stop}
 use Rattle.m161_drive.specs.Policy.{Rules}
-use Rattle.m161_c.specs.declared.answer.Plan.{Plan}
+use Rattle.m161_c.specs.declared.answer.OrderNumbers.{OrderNumbers}
 use Rattle.m161_c.specs.declared.session.Session.{Session}
 use Rattle.m161_c.specs.Driven.{TracesOn, number_of_order, number_of_stop, order_in, rules_in}
 
@@ -36,17 +36,17 @@ TracesBy style None rules n made answer m s t =
     × TracesOn style rules n m (record { made = made; stop = stop }) k [] text × Leaves t k text)
 
 abbrev pub TracesIn :
-    Style → Option Order → Plan → List ℕ → ℕ → ℕ → ℕ → History → Session → Session → Type 0
-TracesIn style None plan keys n made answer m s t = Stays answer made s 253 t
-TracesIn style (Some order) plan keys n made answer m s t =
-    TracesBy style (order_fault order) (rules_in plan order keys) n made answer m s t
+    Style → Option Order → OrderNumbers → List ℕ → ℕ → ℕ → ℕ → History → Session → Session → Type 0
+TracesIn style None numbers keys n made answer m s t = Stays answer made s 253 t
+TracesIn style (Some order) numbers keys n made answer m s t =
+    TracesBy style (order_fault order) (rules_in numbers order keys) n made answer m s t
 
 abbrev pub TracesOf :
-    Style → Option History → Plan → List ℕ → ℕ → ℕ → ℕ → Session → Session → Type 0
-TracesOf style None plan keys n made answer s t = Stays answer made s 255 t
-TracesOf style (Some m) plan keys n made answer s t =
-    TracesIn style (order_in plan) plan keys n made answer m s t
+    Style → Option History → OrderNumbers → List ℕ → ℕ → ℕ → ℕ → Session → Session → Type 0
+TracesOf style None numbers keys n made answer s t = Stays answer made s 255 t
+TracesOf style (Some m) numbers keys n made answer s t =
+    TracesIn style (order_in numbers) numbers keys n made answer m s t
 
-abbrev pub TracesAs : Bool → Plan → List ℕ → ℕ → ℕ → ℕ → Session → Session → Type 0
-TracesAs names plan keys n made answer s t =
-    TracesOf (style_of names) s.machine plan keys n made answer s t
+abbrev pub TracesAs : Bool → OrderNumbers → List ℕ → ℕ → ℕ → ℕ → Session → Session → Type 0
+TracesAs names numbers keys n made answer s t =
+    TracesOf (style_of names) s.machine numbers keys n made answer s t

@@ -5,7 +5,7 @@ ghost use Rattle.m161_drive.specs.declared.cursor.Cursor.{Cursor};
 ghost use Rattle.m161_c.specs.Driven.{DrivesAs, DrivesOn, TracesOn, gap_in, number_of_order, number_of_stop, order_in};
 ghost use Rattle.m161_c.specs.helpers.Turns.{MakesNext, TracesNext};
 
-use crate::answer::Plan;
+use crate::answer::OrderNumbers;
 use crate::{BAD, OFF, STUCK};
 use m161::{Console, Machine, Tlb};
 use m161_dis::Style;
@@ -13,26 +13,26 @@ use m161_drive::{Cursor, Driven, Order, OrderError, Policy, Stop};
 use m161_trace::Tracer;
 use std::alloc::{AllocError, Global};
 
-// The order of a plan, if its kind is one.
-pub(crate) fn order_of(plan: &Plan) -> Option<Order>
-    ensures { result ≡ order_in plan.now }
+// The order of these numbers, if their kind is one.
+pub(crate) fn order_of(order: &OrderNumbers) -> Option<Order>
+    ensures { result ≡ order_in order.now }
 {
-    match plan.kind {
-        0 => Some(Order::Turns(plan.turns)),
-        1 => Some(Order::Random(plan.seed)),
+    match order.kind {
+        0 => Some(Order::Turns(order.turns)),
+        1 => Some(Order::Random(order.seed)),
         2 => Some(Order::Priorities {
-            seed: plan.seed,
-            changes: plan.changes,
-            within: plan.within,
+            seed: order.seed,
+            changes: order.changes,
+            within: order.within,
         }),
         _ => None,
     }
 }
 
-pub(crate) fn gap_of(plan: &Plan) -> Option<u32>
-    ensures { result ≡ gap_in plan.now }
+pub(crate) fn gap_of(order: &OrderNumbers) -> Option<u32>
+    ensures { result ≡ gap_in order.now }
 {
-    if plan.gaps { Some(plan.gap) } else { None }
+    if order.gaps { Some(order.gap) } else { None }
 }
 
 pub(crate) fn order_number(error: OrderError) -> u8
@@ -95,15 +95,20 @@ fn drive(machine: &mut Machine, policy: &Policy, n: u64) -> Driven
     Driven { made: n, stop }
 }
 
-/// Makes the events that a plan chooses, at most so many. Returns how many, and the number of why no
+/// Makes the events that an order chooses, at most so many. Returns how many, and the number of why no
 /// more were.
-pub(crate) fn drive_by(machine: &mut Machine, plan: &Plan, keys: &[u8], n: u64) -> (u64, u8)
-    ensures { DrivesAs plan.now keys.now n result.0 result.1 machine.old machine.new }
+pub(crate) fn drive_by(
+    machine: &mut Machine,
+    order: &OrderNumbers,
+    keys: &[u8],
+    n: u64,
+) -> (u64, u8)
+    ensures { DrivesAs order.now keys.now n result.0 result.1 machine.old machine.new }
 {
-    let Some(order) = order_of(plan) else {
+    let Some(steps) = order_of(order) else {
         return (0, BAD);
     };
-    match Policy::new(order, plan.transfer, gap_of(plan), keys) {
+    match Policy::new(steps, order.transfer, gap_of(order), keys) {
         Ok(policy) => {
             let driven = drive(machine, &policy, n);
             (driven.made, stop_number(driven.stop))

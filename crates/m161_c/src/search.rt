@@ -1,27 +1,27 @@
 //! Runs of many seeds, up to the first that ends wrong.
 
 ghost use Rattle.std.specs.Prelude.{◌≡◌, None, Some, IfOk};
-ghost use Rattle.m161_c.specs.Search.{EndsIn, SearchesAs, TriesAs, TriesBy, is_right, plan_at};
+ghost use Rattle.m161_c.specs.Search.{EndsIn, SearchesAs, TriesAs, TriesBy, is_right, order_at};
 
-use crate::answer::{Goal, Plan};
+use crate::answer::{Goal, OrderNumbers};
 use crate::driven::{gap_of, order_number, order_of};
 use crate::{ALL_RIGHT, BAD, NO_MEMORY};
 use m161::{Core, Refusal};
 use m161_drive::{Policy, Stop, Unnoted, drive};
 use std::alloc::{AllocError, Global};
 
-fn plan_at(plan: &Plan, k: u64) -> Plan
-    ensures { result ≡ plan_at plan.now k }
+fn order_at(order: &OrderNumbers, k: u64) -> OrderNumbers
+    ensures { result ≡ order_at order.now k }
 {
-    Plan {
-        kind: plan.kind,
-        turns: plan.turns,
-        seed: plan.seed.wrapping_add(k),
-        changes: plan.changes,
-        within: plan.within,
-        transfer: plan.transfer,
-        gap: plan.gap,
-        gaps: plan.gaps,
+    OrderNumbers {
+        kind: order.kind,
+        turns: order.turns,
+        seed: order.seed.wrapping_add(k),
+        changes: order.changes,
+        within: order.within,
+        transfer: order.transfer,
+        gap: order.gap,
+        gaps: order.gaps,
     }
 }
 
@@ -58,36 +58,43 @@ fn try_policy(alloc: Global, core: &Core, policy: &Policy, n: u64, goal: &Goal) 
     }
 }
 
-// Tries the run of a plan: nothing where it ends right, 0 where it ends wrong, and else why it isn't
+// Tries the run of an order: nothing where it ends right, 0 where it ends wrong, and else why it isn't
 // made.
-fn try_plan(alloc: Global, core: &Core, plan: &Plan, keys: &[u8], n: u64, goal: &Goal) -> Option<u8>
-    ensures { TriesAs plan.now keys.now n goal.now result core.now.state }
+fn try_order(
+    alloc: Global,
+    core: &Core,
+    order: &OrderNumbers,
+    keys: &[u8],
+    n: u64,
+    goal: &Goal,
+) -> Option<u8>
+    ensures { TriesAs order.now keys.now n goal.now result core.now.state }
 {
-    let Some(order) = order_of(plan) else {
+    let Some(steps) = order_of(order) else {
         return Some(BAD);
     };
-    match Policy::new(order, plan.transfer, gap_of(plan), keys) {
+    match Policy::new(steps, order.transfer, gap_of(order), keys) {
         Ok(policy) => try_policy(alloc, core, &policy, n, goal),
         Err(error) => Some(order_number(error)),
     }
 }
 
-/// Tries the runs of a plan with `count` seeds from its own on, each on a copy of a state, up to the
+/// Tries the runs of an order with `count` seeds from its own on, each on a copy of a state, up to the
 /// first that doesn't end right. Says how many end right before it, and what it is: 0 wrong, or the
 /// number of why it isn't made.
 pub(crate) fn search(
     alloc: Global,
     core: &Core,
-    plan: &Plan,
+    order: &OrderNumbers,
     keys: &[u8],
     n: u64,
     count: u64,
     goal: &Goal,
 ) -> (u64, u8)
-    ensures { SearchesAs plan.now keys.now n count goal.now result.0 result.1 core.now.state }
+    ensures { SearchesAs order.now keys.now n count goal.now result.0 result.1 core.now.state }
 {
     for k in 0..count {
-        let other = try_plan(alloc, core, &plan_at(plan, k), keys, n, goal);
+        let other = try_order(alloc, core, &order_at(order, k), keys, n, goal);
         if let Some(answer) = other {
             return (k, answer);
         }

@@ -2,10 +2,10 @@
 
 ghost use Rattle.std.specs.Prelude.{◌≡◌, ◌<◌, ◌≤◌, ℕ, length, slice_index};
 ghost use Rattle.m161_machine.specs.State.{processor_at};
-ghost use Rattle.m161_c.specs.Runs.{event_of, told_of};
+ghost use Rattle.m161_c.specs.Runs.{event_of, outcome_numbers};
 ghost use Rattle.m161_c.specs.Shown.{ShowsProcessor, number_of_state};
 
-use crate::answer::{Shown, Told};
+use crate::answer::{OutcomeNumbers, ProcessorView};
 use m161::{Event, Machine, Outcome, ProcessorState, Reg};
 
 /// The event of these numbers.
@@ -21,8 +21,8 @@ pub(crate) fn event_of(kind: u8, value: u32) -> Option<Event>
 }
 
 /// The numbers of an outcome.
-pub(crate) fn told_of(outcome: Outcome) -> Told
-    ensures { result ≡ told_of outcome }
+pub(crate) fn outcome_numbers(outcome: Outcome) -> OutcomeNumbers
+    ensures { result ≡ outcome_numbers outcome }
 {
     let (kind, first, second) = match outcome {
         Outcome::Ran => (0, 0, 0),
@@ -32,7 +32,7 @@ pub(crate) fn told_of(outcome: Outcome) -> Told
         Outcome::Conflict { row, other } => (4, u32::from(row), u32::from(other)),
         Outcome::Taken => (5, 0, 0),
     };
-    Told {
+    OutcomeNumbers {
         kind,
         first,
         second,
@@ -63,11 +63,11 @@ fn registers_of(machine: &Machine, p: u32) -> [u32; 32]
 }
 
 /// What is shown of a processor.
-pub(crate) fn shown_of(machine: &Machine, p: u32) -> Shown
+pub(crate) fn view_of(machine: &Machine, p: u32) -> ProcessorView
     requires { p < length machine.now.state.processors }
     ensures { ShowsProcessor p machine.now.state result }
 {
-    Shown {
+    ProcessorView {
         registers: registers_of(machine, p),
         hi: machine.hi(p),
         lo: machine.lo(p),

@@ -1,14 +1,22 @@
 //! The views of a session's machine, and its log's text.
 
-ghost use Rattle.std.specs.Prelude.{◌≡◌, ◌<◌, None, Some, IfOk, length, string_bytes};
-ghost use Rattle.m161_c.specs.Runs.{HoldsOf, told_of};
+ghost use Rattle.std.specs.Prelude.{◌≡◌, ◌<◌, None, Some, IfOk, length, map, string_bytes};
+ghost use Rattle.m161_judge.specs.Judge.{bytes_of};
+ghost use Rattle.m161_c.specs.Explored.{ExploresAs, criteria_of, watch_of};
+ghost use Rattle.m161_c.specs.Judged.{AuditsAs, JudgesAs};
+ghost use Rattle.m161_c.specs.Runs.{HoldsOf, outcome_numbers};
 ghost use Rattle.m161_c.specs.Search.{SearchesOf};
-ghost use Rattle.m161_c.specs.Shown.{board_of, board_with, clash_in, clash_of, control_of, cop_of, entries_of, entry_of, link_of, log_of, logged_with, row_of, words_of};
+ghost use Rattle.m161_c.specs.Shown.{board_of, board_with, conflict_in, conflict_of, control_of, cop_of, entries_of, entry_of, entry_with, link_of, log_of, row_of, words_of};
 
-use crate::answer::{Board, Clash, Goal, Logged, Plan, RowWords};
+use crate::answer::{
+    Board, ConflictView, EntryView, Exploration, Goal, Judgement, OrderNumbers, RowWords,
+    WatchNumbers,
+};
+use crate::explored::explore;
+use crate::judged::{audit, judge};
 use crate::search::search;
 use crate::session::Session;
-use crate::shown::told_of;
+use crate::shown::outcome_numbers;
 use crate::{NO_MEMORY, NOTHING};
 use m161::{BoardWord, Conflict, Entry, Event, Machine, Reg, Register};
 use m161_steplog::{Mode, write_log, write_tail};
@@ -59,11 +67,11 @@ fn board_with(off: bool, latch: Option<u8>, waiting: u32, started: u32) -> Board
     }
 }
 
-fn clash_in(conflict: Option<Conflict>) -> Option<Clash>
-    ensures { result ≡ clash_in conflict }
+fn conflict_in(conflict: Option<Conflict>) -> Option<ConflictView>
+    ensures { result ≡ conflict_in conflict }
 {
     match conflict {
-        Some(conflict) => Some(Clash {
+        Some(conflict) => Some(ConflictView {
             processor: conflict.processor,
             row: u32::from(conflict.row),
             other: u32::from(conflict.other),
@@ -73,25 +81,25 @@ fn clash_in(conflict: Option<Conflict>) -> Option<Clash>
 }
 
 // An entry of a log as numbers.
-fn logged(entry: Entry) -> Logged
-    ensures { result ≡ logged_with entry.event (told_of entry.outcome) }
+fn entry_view(entry: Entry) -> EntryView
+    ensures { result ≡ entry_with entry.event (outcome_numbers entry.outcome) }
 {
-    let told = told_of(entry.outcome);
+    let outcome = outcome_numbers(entry.outcome);
     match entry.event {
-        Event::Step(p) => Logged {
+        Event::Step(p) => EntryView {
             kind: 0,
             value: p,
-            told,
+            outcome,
         },
-        Event::Key(byte) => Logged {
+        Event::Key(byte) => EntryView {
             kind: 1,
             value: u32::from(byte),
-            told,
+            outcome,
         },
-        Event::Done => Logged {
+        Event::Done => EntryView {
             kind: 2,
             value: 0,
-            told,
+            outcome,
         },
     }
 }
@@ -160,17 +168,78 @@ impl Session {
     pub(crate) fn search(
         &self,
         alloc: Global,
-        plan: &Plan,
+        order: &OrderNumbers,
         keys: &[u8],
         n: u64,
         count: u64,
         goal: &Goal,
     ) -> (u64, u8)
-        ensures { SearchesOf self.now.machine plan.now keys.now n count goal.now result.0 result.1 }
+        ensures { SearchesOf self.now.machine order.now keys.now n count goal.now result.0 result.1 }
     {
         match &self.machine {
-            Some(machine) => search(alloc, machine.core(), plan, keys, n, count, goal),
+            Some(machine) => search(alloc, machine.core(), order, keys, n, count, goal),
             None => (0, NOTHING),
+        }
+    }
+
+    pub(crate) fn explore(
+        &mut self,
+        alloc: Global,
+        limit: u32,
+        keys: &[u8],
+        watches: &[WatchNumbers],
+        never: &[u32],
+        output: Option<&[u8]>,
+        found: &mut Exploration,
+    ) -> u8
+        ensures { ExploresAs limit (criteria_of keys.now watches.now never.now (bytes_of output.entry))
+            result found.old found.new self.old self.new }
+    {
+        let Some(machine) = &self.machine else {
+            return NOTHING;
+        };
+        match explore(alloc, machine, limit, keys, watches, never, output) {
+            Ok((what, events)) => {
+                *found = what;
+                self.bytes = events;
+                0
+            }
+            Err(answer) => answer,
+        }
+    }
+
+    pub(crate) fn audit(
+        &self,
+        alloc: Global,
+        watches: &[WatchNumbers],
+        judgement: &mut Judgement,
+    ) -> u8
+        ensures { AuditsAs self.now.machine (map watch_of watches.now) result judgement.old judgement.new }
+    {
+        match &self.machine {
+            Some(machine) => audit(alloc, machine, watches, judgement),
+            None => NOTHING,
+        }
+    }
+
+    pub(crate) fn judge(
+        &self,
+        alloc: Global,
+        file: &[u8],
+        keys: &[u8],
+        watches: &[WatchNumbers],
+        never: &[u32],
+        output: Option<&[u8]>,
+        judgement: &mut Judgement,
+    ) -> u8
+        ensures { JudgesAs self.now.machine file.now (criteria_of keys.now watches.now never.now (bytes_of output.entry))
+            result judgement.old judgement.new }
+    {
+        match &self.machine {
+            Some(machine) => judge(
+                alloc, machine, file, keys, watches, never, output, judgement,
+            ),
+            None => NOTHING,
         }
     }
 
@@ -187,11 +256,11 @@ impl Session {
         }
     }
 
-    pub(crate) fn clash(&self) -> Option<Clash>
-        ensures { result ≡ clash_of self.now.machine }
+    pub(crate) fn conflict(&self) -> Option<ConflictView>
+        ensures { result ≡ conflict_of self.now.machine }
     {
         match &self.machine {
-            Some(machine) => clash_in(machine.conflict()),
+            Some(machine) => conflict_in(machine.conflict()),
             None => None,
         }
     }
@@ -205,14 +274,14 @@ impl Session {
         }
     }
 
-    pub(crate) fn entry(&self, i: usize) -> Option<Logged>
+    pub(crate) fn entry(&self, i: usize) -> Option<EntryView>
         ensures { result ≡ entry_of self.now.machine i }
     {
         let Some(machine) = &self.machine else {
             return None;
         };
         if i < machine.log_len() {
-            Some(logged(machine.log_at(i)))
+            Some(entry_view(machine.log_at(i)))
         } else {
             None
         }

@@ -35,16 +35,18 @@ pub enum Outcome<V, R> {
 fn arrive<S: System>(
     alloc: Global,
     system: &S,
-    state: &S::State,
+    state: &mut S::State,
     words: &mut Vec<u32>,
     graph: &mut Graph,
     from: u32,
     event: u32,
     limit: u32,
 ) -> Result<Visit<S::Verdict, S::Reason>, AllocError>
+    requires ready { S.is_ready system.now state.old }
     requires at { IsAt (S.rules system.now) (S.is_valid system.now) graph.old.keys graph.old.nodes.items graph.old.links.items from event }
     requires few { length graph.old.keys ≤ limit }
-    requires passed { HasPassed (S.rules system.now) (S.is_valid system.now) graph.old.keys from event state.now }
+    requires passed { HasPassed (S.rules system.now) (S.is_valid system.now) graph.old.keys from event (S.seen state.old) }
+    ensures ready { OnOk result (S.is_ready system.now state.new) }
     ensures few { OnOk result (length graph.new.keys ≤ limit) }
     ensures visits { IfOk result (Visits (S.rules system.now) (S.is_valid system.now) limit graph.new.keys graph.new.nodes.items graph.new.links.items from (event + 1)) }
 {
@@ -79,9 +81,11 @@ fn try_event<S: System>(
     event: u32,
     limit: u32,
 ) -> Result<Visit<S::Verdict, S::Reason>, AllocError>
+    requires ready { S.is_ready system.now state.old }
     requires at { IsAt (S.rules system.now) (S.is_valid system.now) graph.old.keys graph.old.nodes.items graph.old.links.items from event }
     requires event { event < (S.rules system.now).width }
     requires few { length graph.old.keys ≤ limit }
+    ensures ready { OnOk result (S.is_ready system.now state.new) }
     ensures few { OnOk result (length graph.new.keys ≤ limit) }
     ensures visits { IfOk result (Visits (S.rules system.now) (S.is_valid system.now) limit graph.new.keys graph.new.nodes.items graph.new.links.items from (event + 1)) }
 {
@@ -109,8 +113,10 @@ fn expand<S: System>(
     from: u32,
     limit: u32,
 ) -> Result<Visit<S::Verdict, S::Reason>, AllocError>
+    requires ready { S.is_ready system.now state.old }
     requires at { IsAt (S.rules system.now) (S.is_valid system.now) graph.old.keys graph.old.nodes.items graph.old.links.items from 0 }
     requires few { length graph.old.keys ≤ limit }
+    ensures ready { OnOk result (S.is_ready system.now state.new) }
     ensures few { OnOk result (length graph.new.keys ≤ limit) }
     ensures visits { IfOk result (Visits (S.rules system.now) (S.is_valid system.now) limit graph.new.keys graph.new.nodes.items graph.new.links.items from (S.rules system.now).width) }
 {
@@ -134,8 +140,10 @@ pub fn search<S: System>(
     graph: &mut Graph,
     limit: u32,
 ) -> Result<Outcome<S::Verdict, S::Reason>, AllocError>
+    requires ready { S.is_ready system.now state.old }
     requires before { IsBefore (S.rules system.now) (S.is_valid system.now) graph.old.keys graph.old.nodes.items graph.old.links.items 0 }
     requires few { length graph.old.keys ≤ limit }
+    ensures ready { OnOk result (S.is_ready system.now state.new) }
     ensures few { OnOk result (length graph.new.keys ≤ limit) }
     ensures finds { IfOk result (Finds (S.rules system.now) (S.is_valid system.now) limit graph.new.keys graph.new.nodes.items graph.new.links.items) }
 {

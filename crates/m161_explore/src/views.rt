@@ -1,11 +1,12 @@
 //! Views, each once, by number. The views of a system are much alike, so each is cut into pieces, a piece
 //! that stands in many of them is kept once, and a view is kept as the list of its pieces' numbers.
-ghost use Rattle.std.specs.Prelude.{◌≡◌, ℕ, ◌+◌, ◌<◌, ◌++◌, ◌^◌, List, [], ◌∷◌, length, slice_index_or, IfOk, MatchOption, OnOk};
+ghost use Rattle.std.specs.Prelude.{◌≡◌, ℕ, ◌+◌, ◌<◌, ◌++◌, ◌^◌, List, [], ◌∷◌, length, slice_index_or, IfOk, MatchOption, OnOk, true};
 ghost use Rattle.m161_explore.specs.helpers.Pieces.{AreKept, ArePieces, Spells, joined, piece_at, piece_size};
 
 use super::keys::Keys;
 use std::alloc::{AllocError, Global};
 use std::marker::Model;
+use std::mem::swap;
 
 /// How many words a piece has; the last one of a view may have fewer.
 const PIECE: usize = 64;
@@ -19,6 +20,8 @@ pub struct Views {
     lists: Keys,
     /// Room for the numbers of one view.
     numbers: Vec<u32>,
+    /// The numbers of the view that was cut before.
+    before: Vec<u32>,
 }
 
 impl Model for Views {
@@ -35,13 +38,25 @@ impl Model for Views {
     } };
 }
 
-/// The number of a piece, which is put behind the others where it isn't there.
-fn number_of(alloc: Global, pieces: &mut Keys, piece: &[u32]) -> Result<u32, AllocError>
+/// Whether a piece has this number.
+fn has_number(pieces: &Keys, piece: &[u32], number: u32) -> bool
+    ensures { result ≡ true → (number < length pieces.now) × (piece_at pieces.now number ≡ piece.now) }
+{
+    let at = number as usize;
+    at < pieces.len() && pieces.get(at) == piece
+}
+
+/// The number of a piece, which is put behind the others where it isn't there. It is looked for at the
+/// guessed number first.
+fn number_of(alloc: Global, pieces: &mut Keys, piece: &[u32], guess: u32) -> Result<u32, AllocError>
     requires { ArePieces pieces.old }
     ensures pieces { ArePieces pieces.new }
     ensures kept { AreKept pieces.old pieces.new }
     ensures found { IfOk result (λ n. (n < length pieces.new) × (piece_at pieces.new n ≡ piece.now)) }
 {
+    if has_number(pieces, piece, guess) {
+        return Ok(guess);
+    }
     if let Some(known) = pieces.find(piece) {
         return Ok(known as u32);
     }
@@ -54,11 +69,18 @@ fn number_of(alloc: Global, pieces: &mut Keys, piece: &[u32]) -> Result<u32, All
     Ok(count as u32)
 }
 
-/// Cuts words into pieces, and writes the pieces' numbers.
+/// The number that stands at a place, or 0 where none does.
+fn number_at(numbers: &[u32], at: usize) -> u32 {
+    if at < numbers.len() { numbers[at] } else { 0 }
+}
+
+/// Cuts words into pieces, and writes the pieces' numbers. The guesses are the numbers of other words,
+/// of which many are the same.
 fn cut(
     alloc: Global,
     pieces: &mut Keys,
     words: &[u32],
+    guesses: &[u32],
     numbers: &mut Vec<u32>,
 ) -> Result<(), AllocError>
     requires { ArePieces pieces.old }
@@ -70,7 +92,8 @@ fn cut(
     let mut at = 0;
     while at < words.len() {
         let end = at + PIECE.min(words.len() - at);
-        numbers.push(number_of(alloc, pieces, &words[at..end])?)?;
+        let guess = number_at(guesses, numbers.len());
+        numbers.push(number_of(alloc, pieces, &words[at..end], guess)?)?;
         at = end;
     }
     Ok(())
@@ -99,6 +122,7 @@ impl Views {
             pieces,
             lists,
             numbers: Vec::new(alloc),
+            before: Vec::new(alloc),
         })
     }
 
@@ -123,7 +147,14 @@ impl Views {
             ((j : ℕ) → j < length self.old → slice_index_or self.old j [] ≡ words.now → ⊥)
             (λ i. (i < length self.old) × (slice_index_or self.old i [] ≡ words.now))) }
     {
-        cut(alloc, &mut self.pieces, words, &mut self.numbers)?;
+        swap(&mut self.numbers, &mut self.before);
+        cut(
+            alloc,
+            &mut self.pieces,
+            words,
+            &self.before,
+            &mut self.numbers,
+        )?;
         Ok(self.lists.find(&self.numbers))
     }
 
@@ -132,7 +163,14 @@ impl Views {
         requires { length self.old + 1 < 2 ^ 32 }
         ensures { OnOk result (self.new ≡ self.old ++ words.now ∷ []) }
     {
-        cut(alloc, &mut self.pieces, words, &mut self.numbers)?;
+        swap(&mut self.numbers, &mut self.before);
+        cut(
+            alloc,
+            &mut self.pieces,
+            words,
+            &self.before,
+            &mut self.numbers,
+        )?;
         self.lists.push(alloc, &self.numbers)
     }
 }

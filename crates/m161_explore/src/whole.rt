@@ -49,7 +49,8 @@ fn ends_of<S: System>(
     state: &mut S::State,
     graph: &Graph,
 ) -> Result<Vec<bool>, AllocError>
-    requires { IsBefore (S.rules system.now) (S.is_valid system.now) graph.now.keys graph.now.nodes.items graph.now.links.items (length graph.now.keys) }
+    requires ready { S.is_ready system.now state.old }
+    requires before { IsBefore (S.rules system.now) (S.is_valid system.now) graph.now.keys graph.now.nodes.items graph.now.links.items (length graph.now.keys) }
     ensures { IfOk result (λ ends.
         AreEnds (S.rules system.now) (S.is_valid system.now) graph.now.keys ends.items) }
 {
@@ -71,6 +72,7 @@ fn judge<S: System>(
     graph: &Graph,
     limit: u32,
 ) -> Result<Answer<S::Verdict, S::Reason>, AllocError>
+    requires ready { S.is_ready system.now state.old }
     requires before { IsBefore (S.rules system.now) (S.is_valid system.now) graph.now.keys graph.now.nodes.items graph.now.links.items (length graph.now.keys) }
     requires few { length graph.now.keys ≤ limit }
     ensures { IfOk result (Answers (S.rules system.now) limit) }
@@ -101,7 +103,7 @@ pub fn explore<S: System>(
 {
     let mut state = system.start(alloc)?;
     let mut words = Vec::new(alloc);
-    system.encode(&state, &mut words)?;
+    system.encode(&mut state, &mut words)?;
     let mut graph = start_alone(alloc, &words)?;
     match search(alloc, system, &mut state, &mut words, &mut graph, limit)? {
         Outcome::Whole => judge(alloc, system, &mut state, &graph, limit),

@@ -78,7 +78,7 @@ fn read_view(shape: Shape, words: &[u32]) -> u32
 }
 
 impl System for Long {
-    ghost use Rattle.std.specs.Prelude.{◌≡◌, ◌<◌, ◌==◌, refl};
+    ghost use Rattle.std.specs.Prelude.{◌≡◌, ℕ, ◌<◌, ◌==◌, refl};
     ghost use Rattle.std.proofs.Common.{ap, sym, ◌∙◌};
     ghost use Rattle.m161_explore_tests.specs.Long.{long_rules, next_below, same_view, zero_below};
     ghost use Rattle.m161_explore_tests.specs.Table.{next_of, stop_of, verdict_of};
@@ -91,9 +91,15 @@ impl System for Long {
     /// The event.
     type Reason = u32;
 
+    ghost Seen = { ℕ };
+
+    ghost seen = { λ s. s };
+
     ghost rules = { long_rules };
 
     ghost is_valid = { λ m s. s < 8 };
+
+    ghost is_ready = { λ m s. Unit {0} };
 
     fn width(&self) -> u32 {
         2
@@ -119,7 +125,7 @@ impl System for Long {
         Ok(Advanced::Passed)
     }
 
-    fn encode(&self, state: &u32, words: &mut Vec<u32>) -> Result<(), AllocError> {
+    fn encode(&self, state: &mut u32, words: &mut Vec<u32>) -> Result<(), AllocError> {
         write_view(self.shape, *state, words)
     }
 

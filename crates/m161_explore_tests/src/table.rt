@@ -37,7 +37,7 @@ pub fn behind(table: &Table, state: u32, event: u32) -> u32
 }
 
 impl System for Table {
-    ghost use Rattle.std.specs.Prelude.{◌≡◌, ◌==◌, refl};
+    ghost use Rattle.std.specs.Prelude.{◌≡◌, ℕ, ◌==◌, refl};
     ghost use Rattle.std.proofs.Common.{ap, sym, ◌∙◌};
     ghost use Rattle.m161_explore_tests.specs.Table.{next_of, same_place, stop_of, table_rules, verdict_of};
 
@@ -49,9 +49,15 @@ impl System for Table {
     /// The event.
     type Reason = u32;
 
+    ghost Seen = { ℕ };
+
+    ghost seen = { λ s. s };
+
     ghost rules = { table_rules };
 
     ghost is_valid = { λ m s. Unit {0} };
+
+    ghost is_ready = { λ m s. Unit {0} };
 
     fn width(&self) -> u32 {
         2
@@ -77,7 +83,7 @@ impl System for Table {
         Ok(Advanced::Passed)
     }
 
-    fn encode(&self, state: &u32, words: &mut Vec<u32>) -> Result<(), AllocError> {
+    fn encode(&self, state: &mut u32, words: &mut Vec<u32>) -> Result<(), AllocError> {
         words.push(*state)?;
         Ok(())
     }

@@ -12,7 +12,7 @@ use Rattle.m161_machine.specs.State.{State, next}
 use Rattle.m161_machine.specs.StoreHistory.{without_stores}
 use Rattle.m161_audit.specs.declared.finding.Finding.{Finding}
 use Rattle.m161_audit.specs.declared.finding.Finding.TheVariants as finding
-use Rattle.m161_audit.specs.Stale.{IsFinding}
+use Rattle.m161_audit.specs.Stale.{IsBelow, IsFinding}
 use Rattle.m161_judge.specs.declared.seen.Seen.{Seen}
 use Rattle.m161_judge.specs.declared.verdict.Judged.{Judged}
 use Rattle.m161_judge.specs.declared.verdict.Verdict.{Verdict}
@@ -20,8 +20,8 @@ use Rattle.m161_judge.specs.declared.verdict.Verdict.TheVariants.{Stale, Reached
 use Rattle.m161_judge.specs.Judge.{bytes_of}
 use Rattle.m161_judge.specs.Verdict.{Criteria, HasSent, Holds, IsRefused, IsStuckAfter, IsStuckBadly, LeadsTo, rank}
 use Rattle.m161_judge.specs.declared.reach.Reach.{Reach}
-use Rattle.m161_judge.specs.helpers.Reach.{IsFirstReach}
-use Rattle.m161_judge.specs.helpers.Walk.{Ends, HasSeen, IsBelow, IsConflictOff, IsFirstBad, IsJudgedBehind, IsJudgedBeside, Joins, JoinsSteps, WasStuck, judged_reach}
+use Rattle.m161_judge.specs.Memory.{IsFirstReach}
+use Rattle.m161_judge.specs.helpers.Walk.{Ends, HasSeen, IsConflictOff, IsFirstBad, IsJudgedBehind, IsJudgedBeside, Joins, JoinsSteps, WasStuck, judged_reach}
 use Rattle.m161_judge.proofs.Running.{leads_to_one, made_within, none_past_off}
 
 -- Verdicts of runs that have ended.

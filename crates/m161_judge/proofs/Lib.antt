@@ -9,3 +9,4 @@ mod Unique
 mod Cutting
 mod Exact
 mod Reaching
+mod Keeping

@@ -1,5 +1,6 @@
-use Rattle.std.proofs.Common.{◌≡◌, ◌∙◌, refl, sym, ap, subst, ℕ, ◌+◌, ◌-◌, ◌<◌, ◌⊎◌, inl, inr, Bool, true, false, List, [], ◌∷◌, length, get_or, arith}
-use Rattle.std.specs.Prelude.{Option, None, Some, Result, Ok, Err, MatchOption, if◌then◌else◌, is_some, nat_le, slice_get}
+use Rattle.std.proofs.Common.{◌≡◌, ◌∙◌, refl, sym, ap, subst, ℕ, zero, suc, ◌+◌, ◌-◌, ◌<◌, ◌≤◌, ◌⊎◌, inl, inr, Bool, true, false, List, [], ◌∷◌, ◌++◌, length, take, get_or, append-nil, arith}
+use Rattle.std.proofs.lemmas.List.{get_or_append_left, length-append, take-append-le}
+use Rattle.std.specs.Prelude.{Option, None, Some, Result, Ok, Err, IfSome, MatchOption, if◌then◌else◌, is_some, nat_le, slice_get}
 use Rattle.std.proofs.lemmas.Bool.Decides.{eqb_tells, nat_tests}
 use Rattle.std.proofs.lemmas.Option.{slice_get-get_or, slice_get_within}
 use Rattle.m161_cpu.specs.declared.processor.Outcome.{Outcome}
@@ -12,8 +13,11 @@ use Rattle.m161_machine.specs.declared.event.Refusal.TheVariants.{BadProcessor, 
 use Rattle.m161_machine.specs.Fetched.{fetched, fetches_none}
 use Rattle.m161_machine.specs.State.{State, answer, is_worn, next, processor_at, unless}
 use Rattle.m161_judge.specs.declared.reach.Reach.{Reach}
-use Rattle.m161_judge.specs.Verdict.{IsReachAt, LeadsTo, NoneReachBefore}
-use Rattle.m161_judge.specs.helpers.Reach.{IsFirstReach, IsReachBy, WouldReach, reach_at}
+use Rattle.m161_judge.specs.declared.reach.Sought.{Sought}
+use Rattle.m161_judge.specs.declared.reach.Sought.TheVariants.{Open, Over}
+use Rattle.m161_judge.specs.Verdict.{IsReachAt, LeadsTo, NoneReachBefore, after}
+use Rattle.m161_judge.specs.Memory.{IsFirstReach, IsSought, Reaching}
+use Rattle.m161_judge.specs.helpers.Reach.{IsReachBy, IsSoughtBelow, WouldReach, reach_at, reach_in}
 use Rattle.m161_judge.specs.helpers.Walk.{MakesWith}
 use Rattle.m161_judge.proofs.Running.{leads_more, leads_to_one, made_within, some_is_one}
 
@@ -124,9 +128,6 @@ reach_here never s events k e o t u (Some would) found at event made w by =
     (ap (λ (r : Reach). r.place) is.1, subst (λ (r : Reach). IsReachAt never s events r.place r.processor r.address) (sym is.1) here)
 
 -- a walk so far
-pub record Reaching (never : List ℕ) (s : State) (events : List Event) (n : ℕ) (t : State) : Type 0 where
-  pub leads : LeadsTo s events n t
-  pub none : NoneReachBefore never s events n
 
 pub reaching_none : (never : List ℕ) (s : State) (events : List Event) → Reaching never s events 0 s
 reaching_none never s events = record {
@@ -232,3 +233,77 @@ walk_refused never s events n d t u made less r makes is =
     let event : slice_get events n ≡ Some e = slice_get-get_or events n d less in
     let refused : MakesWith t e (Ok None) u = subst (λ m. MakesWith t e (Ok m) u) is makes in
     none_refused never s events n e t refused.0 event refused.1 r
+
+-- whatever comes behind
+
+within_longer : (xs ys : List Event) (k : ℕ) → k < length xs → slice_get (xs ++ ys) k ≡ slice_get xs k
+within_longer [] ys k less = absurd (omega (arith, less))
+within_longer (x ∷ xs) ys zero less = refl
+within_longer (x ∷ xs) ys (suc k) less = within_longer xs ys k (omega (arith, less))
+
+reach_shorter : (never : List ℕ) (s : State) (xs ys : List Event) (k p address : ℕ) → k < length xs → IsReachAt never s (xs ++ ys) k p address →
+    IsReachAt never s xs k p address
+reach_shorter never s xs ys k p address less h =
+    let few : k ≤ length xs = omega (arith, less) in
+    let first = take-append-le k xs ys few in
+    record {
+      event_is = sym (within_longer xs ys k less) ∙ h.event_is;
+      state = h.state;
+      leads = (few, subst (λ es. after s es ≡ Some h.state) first h.leads.1);
+      given = h.given;
+      accepted = h.accepted;
+      fetches = h.fetches;
+      address_is = h.address_is;
+      is_among = h.is_among;
+    }
+
+pub reaching_longer : (never : List ℕ) (s : State) (xs ys : List Event) (n : ℕ) (t : State) → Reaching never s xs n t → Reaching never s (xs ++ ys) n t
+reaching_longer never s xs ys n t r =
+    let few : n ≤ length xs = r.leads.0 in
+    let long = length-append xs ys in
+    record {
+      leads = (omega (arith, few, long), subst (λ es. after s es ≡ Some t) (sym (take-append-le n xs ys few)) r.leads.1);
+      none = λ j p address less h. r.none j p address less (reach_shorter never s xs ys j p address (omega (arith, few, less)) h);
+    }
+
+pub sought_found : (never : List ℕ) (s : State) (events : List Event) (n : ℕ) (d : Event) (t u : State) (made : Option Outcome) (o : Outcome) (would : Option (ℕ × ℕ))
+    (found : Option Reach) (reach : Reach) → n < length events → Reaching never s events n t →
+    MatchOption would ((p address : ℕ) → WouldReach never t (get_or events n d) p address → ⊥) (λ w. WouldReach never t (get_or events n d) w.0 w.1) →
+    MakesWith t (get_or events n d) (Ok made) u → made ≡ Some o → IsReachBy n would o found → found ≡ Some reach → IsSought never s events (Over (Some reach)) u
+sought_found never s events n d t u made o would found reach less r w makes is by some rest =
+    let longer = events ++ rest in
+    let size = length-append events rest in
+    let same : get_or events n d ≡ get_or longer n d = sym (get_or_append_left events rest d n less) in
+    (walk_found never s longer n d t u made o would found reach (omega (arith, less, size)) (reaching_longer never s events rest n t r)
+    (subst (λ e. MatchOption would ((p address : ℕ) → WouldReach never t e p address → ⊥) (λ x. WouldReach never t e x.0 x.1)) same w)
+    (subst (λ e. MakesWith t e (Ok made) u) same makes) is by some).1
+
+pub sought_refused : (never : List ℕ) (s : State) (events : List Event) (n : ℕ) (d : Event) (t u : State) (made : Option Outcome) → n < length events →
+    Reaching never s events n t → MakesWith t (get_or events n d) (Ok made) u → made ≡ None → IsSought never s events (Over None) u
+sought_refused never s events n d t u made less r makes is rest =
+    let longer = events ++ rest in
+    let size = length-append events rest in
+    let same : get_or events n d ≡ get_or longer n d = sym (get_or_append_left events rest d n less) in
+    walk_refused never s longer n d t u made (omega (arith, less, size)) (reaching_longer never s events rest n t r)
+    (subst (λ e. MakesWith t e (Ok made) u) same makes) is
+
+pub sought_open : (never : List ℕ) (s : State) (events : List Event) (n : ℕ) (t : State) → length events ≤ n → Reaching never s events n t → IsSought never s events Open t
+sought_open never s events n t all r =
+    let few : n ≤ length events = r.leads.0 in
+    let same : n ≡ length events = omega (arith, few, all) in
+    subst (λ k. Reaching never s events k t) same r
+
+pub first_sought : (never : List ℕ) (s : State) (events : List Event) (sought : Sought) (t : State) → IsSought never s events sought t →
+    IsFirstReach never s events (reach_in sought)
+first_sought never s events Open t h = none_past never s events t (length events) refl h
+first_sought never s events (Over reach) t h = subst (λ es. IsFirstReach never s es reach) (append-nil events) (h [])
+
+pub sought_below : (n : ℕ) (sought : Sought) → IsSoughtBelow n sought → IfSome (reach_in sought) (λ r. r.place < n)
+sought_below n Open h = tt
+sought_below n (Over None) h = tt
+sought_below n (Over (Some reach)) h = h
+
+pub sought_below_more : (n m : ℕ) (sought : Sought) → n ≤ m → IsSoughtBelow n sought → IsSoughtBelow m sought
+sought_below_more n m Open few h = tt
+sought_below_more n m (Over None) few h = tt
+sought_below_more n m (Over (Some reach)) few h = omega (arith, few, h)

@@ -2,5 +2,6 @@ pub mod Verdict
 pub mod Judge
 pub mod Run
 pub mod Begun
+pub mod Memory
 pub mod Laws
 pub mod helpers

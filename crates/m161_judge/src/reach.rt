@@ -1,7 +1,9 @@
 //! The first Step that reaches an address that is never to be reached.
 
-ghost use Rattle.std.specs.Prelude.{ℕ, ◌<◌, IfOk, IfSome, MatchOption, length};
-ghost use Rattle.m161_judge.specs.helpers.Reach.{FindsReach, IsReachBy, WouldReach};
+ghost use Rattle.std.specs.Prelude.{◌≡◌, ℕ, ◌<◌, IfOk, IfSome, MatchOption, length};
+ghost use Rattle.m161_machine.specs.State.{State};
+ghost use Rattle.m161_judge.specs.Memory.{Reaching};
+ghost use Rattle.m161_judge.specs.helpers.Reach.{FindsReach, IsReachBy, IsSoughtBelow, Seeks, WouldReach, reach_in};
 
 use crate::walk::make_event;
 use m161_audit::AuditError;
@@ -59,25 +61,49 @@ fn reach_by(place: usize, would: Option<(u32, u32)>, outcome: Outcome) -> Option
     })
 }
 
-// Makes the events, up to the first that reaches one of these addresses.
-fn reach_along<T: Tlb, D: Console>(
+/// How far the search for a reach came along a run.
+#[derive(Clone, Copy)]
+pub(crate) enum Sought {
+    /// All events were made, and none is a reach.
+    Open,
+    /// Later events make no difference: this is the first reach, or an event was refused before any.
+    Over(Option<Reach>),
+}
+
+impl Sought {
+    /// The first reach of the events so far.
+    pub(crate) fn first(self) -> Option<Reach>
+        ensures { result ≡ reach_in self }
+    {
+        match self {
+            Sought::Open => None,
+            Sought::Over(reach) => reach,
+        }
+    }
+}
+
+/// Makes the events from a place on, those before it being made, up to the first that reaches one of
+/// these addresses.
+pub(crate) fn reach_from<T: Tlb, D: Console>(
     core: &mut Core<T, D>,
     events: &[Event],
     never: &[u32],
-) -> Result<Option<Reach>, AuditError>
-    ensures found { FindsReach never.now core.old.state events.now result }
-    ensures within { IfOk result (λ reach. IfSome reach (λ r. r.place < length events.now)) }
+    from: usize,
+) -> Result<Sought, AuditError>
+    ensures found { (s : State) → Reaching never.now s events.now from core.old.state
+        → Seeks never.now s events.now result core.new.state }
+    ensures within { IfOk result (IsSoughtBelow (length events.now)) }
 {
-    for (place, event) in events.iter().enumerate() {
-        let would = would_reach(core, *event, never);
-        let Some(outcome) = make_event(core, *event)? else {
-            return Ok(None);
+    for place in from..events.len() {
+        let would = would_reach(core, events[place], never);
+        let Some(outcome) = make_event(core, events[place])? else {
+            return Ok(Sought::Over(None));
         };
         if let Some(reach) = reach_by(place, would, outcome) {
-            return Ok(Some(reach));
+            return Ok(Sought::Over(Some(reach)));
         }
     }
-    Ok(None)
+    Ok(Sought::Open)
 }
 
 /// The first Step of a run from a state that reaches one of these addresses. Without addresses there
@@ -110,5 +136,6 @@ fn reach_copy<T: Tlb + Drop, D: Console + Drop>(
     ensures within { IfOk result (λ reach. IfSome reach (λ r. r.place < length events.now)) }
 {
     let mut copy = core.copy(alloc)?;
-    reach_along(&mut copy, events, never)
+    let sought = reach_from(&mut copy, events, never, 0)?;
+    Ok(sought.first())
 }

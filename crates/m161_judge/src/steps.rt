@@ -5,7 +5,8 @@ ghost use Rattle.m161_machine.specs.declared.event.Event.{Event as EventValue};
 ghost use Rattle.m161_machine.specs.State.{State};
 ghost use Rattle.m161_judge.specs.Verdict.{Criteria};
 ghost use Rattle.m161_audit.specs.Audit.{AuditsState};
-ghost use Rattle.m161_judge.specs.helpers.Walk.{IsBelow, Joins, JoinsSteps, JudgesSteps, judged_reach};
+ghost use Rattle.m161_audit.specs.Stale.{IsBelow};
+ghost use Rattle.m161_judge.specs.helpers.Walk.{Joins, JoinsSteps, JudgesSteps, judged_reach};
 
 use crate::goal::Goal;
 use crate::reach::{Reach, find_reach};
@@ -66,8 +67,8 @@ fn reached(reach: Option<Reach>) -> Option<Judged>
     }
 }
 
-// The first verdict of Steps: that of a finding, or else that of the first reach.
-fn first_of_steps(finding: Finding, reach: Option<Reach>) -> Option<Judged>
+/// The first verdict of Steps: that of a finding, or else that of the first reach.
+pub(crate) fn first_of_steps(finding: Finding, reach: Option<Reach>) -> Option<Judged>
     requires finding { IsBelow (2 ^ 64 - 1) finding }
     requires reach { IfSome reach (λ r. r.place < 2 ^ 64 - 1) }
     ensures { (goal : Criteria) (s : State) (events : List EventValue)

@@ -44,8 +44,9 @@ abbrev pub around : State → ℕ → List Flags → Option ℕ → Explored
 around s typed flags agreed = record { state = fresh s; typed = typed; flags = flags; agreed = agreed }
 
 pub refused : FreshIsSame → (goal : Criteria) (s : State) (typed : ℕ) (flags : List Flags) (agreed : Option ℕ) (e : Event) (r : Refusal) (t : Explored) →
-    is_worn s.made ≡ false → result_of s e ≡ Err r → Takes goal (around s typed flags agreed) e t None
-refused law goal s typed flags agreed e r t worn h = refused_of (result_of (fresh s) e) r (law s e worn ∙ ap freshened h)
+    is_worn s.made ≡ false → result_of s e ≡ Err r → t ≡ around s typed flags agreed → Takes goal (around s typed flags agreed) e t None
+refused law goal s typed flags agreed e r t worn h same =
+    let first = refused_of (result_of (fresh s) e) r (law s e worn ∙ ap freshened h) in (first.0, first.1, same)
 
 none_sent : (output : Option (List ℕ)) (agreed : Option ℕ) → agreed_after output [] agreed ≡ agreed
 none_sent None agreed = refl
@@ -142,11 +143,12 @@ accepted_came q x t e o u (Some what) stop r is h = (
   ap (accepted q.goal x e) r,
   ap (judged q.goal x e) r
       ∙ ap (option_or (wrong_with q.goal x e o)) (sym (ap (wrong_in q.goal) is ∙ fresh_wrong q.goal (behind q.goal x e u))) ∙ h,
+  is,
 )
 
-pub refused_came : (q : Question) (x t : Explored) (e : Event) (f : Refusal) → stop_by q x (Some e) ≡ None → result_of (fresh x.state) e ≡ Err f →
+pub refused_came : (q : Question) (x t : Explored) (e : Event) (f : Refusal) → stop_by q x (Some e) ≡ None → result_of (fresh x.state) e ≡ Err f → t ≡ x →
     AdvancesBy q x (Some e) t Refused
-refused_came q x t e f stop r = (stop, ap (accepted q.goal x e) r)
+refused_came q x t e f stop r same = (stop, ap (accepted q.goal x e) r, same)
 
 -- what comes of an input
 abbrev pub Comes : Criteria → Explored → Option Outcome → Advanced Verdict Unknown → Type 0
@@ -157,7 +159,7 @@ pub done_came : (goal : Criteria) (known : Known) (x t : Explored) (made : Optio
 done_came goal known x t (Some o) came h is =
     subst (AdvancesBy (asked goal known) x (Some Done) t) (sym is) (accepted_came (asked goal known) x t Done o h.0 (wrong_in goal t) refl h.1 h.2 refl)
 done_came goal known x t None came h is =
-    subst (AdvancesBy (asked goal known) x (Some Done) t) (sym is) (refused_came (asked goal known) x t Done h.0 refl h.1)
+    subst (AdvancesBy (asked goal known) x (Some Done) t) (sym is) (refused_came (asked goal known) x t Done h.0 refl h.1 h.2)
 
 abbrev pub key_of : Option ℕ → Option Event
 key_of byte = option_map (λ b. Key b) byte
@@ -168,6 +170,6 @@ key_came goal known x t (Some byte) (Some o) came h is =
     subst (AdvancesBy (asked goal known) x (Some (Key byte)) t) (sym is)
     (accepted_came (asked goal known) x t (Key byte) o h.0 (wrong_in goal t) refl h.1 h.2 refl)
 key_came goal known x t (Some byte) None came h is =
-    subst (AdvancesBy (asked goal known) x (Some (Key byte)) t) (sym is) (refused_came (asked goal known) x t (Key byte) h.0 refl h.1)
-key_came goal known x t None (Some o) came h is = absurd (let bad : ◌≡◌ {A = Option Outcome} (Some o) None = h in cc)
-key_came goal known x t None None came h is = subst (AdvancesBy (asked goal known) x None t) (sym is) (refl, refl)
+    subst (AdvancesBy (asked goal known) x (Some (Key byte)) t) (sym is) (refused_came (asked goal known) x t (Key byte) h.0 refl h.1 h.2)
+key_came goal known x t None (Some o) came h is = absurd (let bad : ◌≡◌ {A = Option Outcome} (Some o) None = h.0 in cc)
+key_came goal known x t None None came h is = subst (AdvancesBy (asked goal known) x None t) (sym is) (refl, refl, h.1)

@@ -59,7 +59,7 @@ no_more f g (suc n) h =
     let here = one_no_more (f n) (g n) (h n (omega arith)) in
     omega (arith, rest, here)
 
-same_or_other : (k p : ℕ) (b : Bool) → (k == p) ≡ b → (k ≡ p) ⊎ (k ≢ p)
+pub same_or_other : (k p : ℕ) (b : Bool) → (k == p) ≡ b → (k ≡ p) ⊎ (k ≢ p)
 same_or_other k p true h = inl (grind (arith, nat_tests, h))
 same_or_other k p false h = inr (λ e. absurd (let bad : ⊥ = grind (arith, nat_tests, h, e) in bad))
 
@@ -166,7 +166,7 @@ by_reads : (q : Question) (p : ℕ) (read : Reads) (u : Unknown) (b : Bool) → 
 by_reads q p read u true there is h = subst (IsNews q) (same_unknown (record { processor = p; reads = read }) u h) (record { there = there; outside = is })
 by_reads q p read u false there is h = let bad : ◌≡◌ {A = Option Unknown} None (Some u) = h in absurd (cc)
 
-by_event : (q : Question) (x : Explored) (n : ℕ) (u : Unknown) (e : Option Event) → event_of q x n ≡ e → stop_by q x e ≡ Some u → IsNews q u
+pub by_event : (q : Question) (x : Explored) (n : ℕ) (u : Unknown) (e : Option Event) → event_of q x n ≡ e → stop_by q x e ≡ Some u → IsNews q u
 by_event q x n u None is h = let bad : ◌≡◌ {A = Option Unknown} None (Some u) = h in absurd (cc)
 by_event q x n u (Some (Step p)) is h =
     by_reads q p (reads_next p x.state) u (is_outside (reads_next p x.state) (known_of q.known p)) (step_there q x n p is) refl h
@@ -188,7 +188,7 @@ read_as q p read u true h =
     let same = same_unknown (record { processor = p; reads = read }) u h in (ap (λ (x : Unknown). x.processor) same, ap (λ (x : Unknown). x.reads) same)
 read_as q p read u false h = let bad : ◌≡◌ {A = Option Unknown} None (Some u) = h in absurd (cc)
 
-event_reads : (q : Question) (x : Explored) (n : ℕ) (u : Unknown) (e : Option Event) → event_of q x n ≡ e → stop_by q x e ≡ Some u → reads_next u.processor x.state ≡ u.reads
+pub event_reads : (q : Question) (x : Explored) (n : ℕ) (u : Unknown) (e : Option Event) → event_of q x n ≡ e → stop_by q x e ≡ Some u → reads_next u.processor x.state ≡ u.reads
 event_reads q x n u None is h = let bad : ◌≡◌ {A = Option Unknown} None (Some u) = h in absurd (cc)
 event_reads q x n u (Some (Step p)) is h =
     let told = read_as q p (reads_next p x.state) u (is_outside (reads_next p x.state) (known_of q.known p)) h in
@@ -220,7 +220,7 @@ ended_reads : (q r : Question) (limit : ℕ) (answer : Answer Verdict Unknown) (
 ended_reads q r limit answer u which h is same on =
     subst (λ x. ReadsBehind x u.processor which) same (stopped_reads q u which (subst (λ a. Answers (rules_of q) limit a) is h) on)
 
-either : (a b : Bool) → (a || b) ≡ true → (a ≡ true) ⊎ (b ≡ true)
+pub either : (a b : Bool) → (a || b) ≡ true → (a ≡ true) ⊎ (b ≡ true)
 either true b h = inl refl
 either false b h = inr h
 

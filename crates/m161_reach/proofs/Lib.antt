@@ -12,3 +12,8 @@ mod RemakingMemory
 mod Placing
 mod Knowing
 mod Asking
+mod Storing
+mod Handled
+mod Behind
+mod Learning
+mod Walking

@@ -1,4 +1,4 @@
-use Rattle.std.proofs.Common.{◌≡◌, ◌∙◌, refl, ap, sym, subst, ℕ, ◌<◌, arith, Bool, true, false, Option, None, Some}
+use Rattle.std.proofs.Common.{◌≡◌, ◌∙◌, inl, inr, refl, ap, sym, subst, ℕ, ◌<◌, arith, Bool, true, false, Option, None, Some}
 use Rattle.std.specs.Prelude.{◌==◌, if◌then◌else◌, nat_lt, option_map, slice_get}
 use Rattle.std.proofs.lemmas.Bool.Decides.{nat_tests}
 use Rattle.m161_machine.specs.declared.event.Event.{Event}
@@ -9,38 +9,14 @@ use Rattle.m161_explore.specs.Rules.{Advances}
 use Rattle.m161_states.specs.declared.verdict.Unknown.{Unknown}
 use Rattle.m161_states.specs.declared.verdict.Verdict.{Verdict}
 use Rattle.m161_states.specs.Question.{Question, processors_of}
-use Rattle.m161_states.specs.System.{Explored, event_of}
+use Rattle.m161_states.specs.System.{Explored, event_of, next_by}
 use Rattle.m161_states.specs.Verdicts.{stop_by}
 use Rattle.m161_reach.specs.Reach.{IsMet, rules_of}
-use Rattle.m161_reach.specs.helpers.Advance.{AdvancesBy, asked, unmade}
+use Rattle.m161_reach.specs.helpers.Advance.{AdvancesBy, IsBehind, asked, unmade}
 use Rattle.m161_reach.specs.Met.{met_next}
+use Rattle.m161_reach.specs.helpers.MetFrom.{unmade_met}
 
 -- The states that are met.
-
-unmade_met : (q : Question) (u : Explored) → IsMet q u → IsMet q (unmade u)
-unmade_met q u h = record {
-  valid = record {
-    shape = record {
-      processors = h.valid.shape.processors;
-      size_is = h.valid.shape.size_is;
-      places = h.valid.shape.places;
-      crams = h.valid.shape.crams;
-      other_places = h.valid.shape.other_places;
-      links = h.valid.shape.links;
-      other_links = h.valid.shape.other_links;
-      whole = h.valid.shape.whole;
-      bytes = h.valid.shape.bytes;
-    };
-    one = record {
-      conf = h.valid.one.conf;
-      ram = h.valid.one.ram;
-      processors = h.valid.one.processors;
-      unit = h.valid.one.unit;
-      memory = h.valid.one.memory;
-    };
-  };
-  kept = h.kept;
-}
 
 -- what is asked decides it, whatever is booted
 
@@ -65,7 +41,7 @@ came_by q x t n Passed met h =
       ap (rules_of q).view is,
     )
 came_by q x t n (Judged what) met h = (h.0, sym (same_stop q x (event_of q x n)) ∙ h.1, h.2, h.3)
-came_by q x t n (Stopped reason) met h = sym (same_stop q x (event_of q x n)) ∙ h
+came_by q x t n (Stopped reason) met h = sym (same_stop q x (event_of q x n)) ∙ h.0
 
 pub came : (q : Question) (x t : Explored) (n : ℕ) (e : Option Event) (come : Advanced Verdict Unknown) → IsMet q x → event_of q x n ≡ e →
     AdvancesBy (asked q.goal q.known) x e t come → Advances (rules_of q) (IsMet q) x n t come
@@ -94,3 +70,17 @@ key_event q x n past =
     let first : nat_lt n (processors_of q) ≡ false = grind (arith, nat_tests, past) in
     let second : (n == processors_of q) ≡ false = grind (arith, nat_tests, past) in
     λ i. picked q x n (first i) (second i)
+
+-- where the machine is behind an event
+
+pub is_behind : (q : Question) (x t : Explored) (e : Option Event) (come : Advanced Verdict Unknown) → AdvancesBy q x e t come → IsBehind q.goal x e t
+is_behind q x t e Refused h = inl h.2
+is_behind q x t e Passed h = inr (h.0, h.2, h.4)
+is_behind q x t e (Judged what) h = inr (h.0, h.2, h.4)
+is_behind q x t e (Stopped reason) h = inl h.1
+
+pub behind_met : (q : Question) (x t : Explored) (n : ℕ) (e : Option Event) → IsMet q x → event_of q x n ≡ e → IsBehind q.goal x e t → IsMet q t
+unfolding rules_of
+behind_met q x t n e met is (inl same) = subst (IsMet q) (sym same) met
+behind_met q x t n e met is (inr next) =
+    subst (IsMet q) (sym next.2) (unmade_met q next.0 (met_next q x next.0 n met (ap (next_by q.goal x) is ∙ next.1)))

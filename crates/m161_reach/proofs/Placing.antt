@@ -5,12 +5,13 @@ use Rattle.std.proofs.lemmas.List.{append-nil, length-append}
 use Rattle.m161_alike.specs.View.{known_of, processor_view}
 use Rattle.m161_alike.specs.Words.{board_words, memory_words, optional}
 use Rattle.m161_alike.specs.WordsLaw.{words_at}
-use Rattle.m161_machine.specs.State.{processor_at}
+use Rattle.m161_cpu.specs.Processor.{Processor}
+use Rattle.m161_machine.specs.State.{State, processor_at}
 use Rattle.m161_states.specs.Question.{Question, booted, processors_of}
-use Rattle.m161_states.specs.System.{Explored}
+use Rattle.m161_states.specs.System.{Explored, fresh}
 use Rattle.m161_states.specs.Views.{beside_words, counted, flag_words, view}
 use Rattle.m161_reach.specs.Reach.{IsMet}
-use Rattle.m161_reach.specs.helpers.Restore.{AreWordsFrom, again, agreed_in}
+use Rattle.m161_reach.specs.helpers.Restore.{AreAsIn, AreKeptFrom, AreWordsFrom, again, agreed_in}
 use Rattle.m161_reach.proofs.Encoding.{board_size, flags_size}
 use Rattle.m161_reach.proofs.Remaking.{again_met, again_view, number_is}
 use Rattle.m161_reach.proofs.Splitting.{piece_there, pieces_size, processor_size}
@@ -73,6 +74,23 @@ board_long q x h =
     let number = h.valid.one.processors in
     omega (arith, size, number)
 
-pub placed : (q : Question) (x y : Explored) (words : List ℕ) → IsMet q x → view q x ≡ words → y ≡ again q x →
-    IsMet q y × (view q y ≡ words)
-placed q x y words h is same = (subst (IsMet q) (sym same) (again_met q x h), ap (view q) same ∙ again_view q x h ∙ is)
+pub placed : (q : Question) (x y : Explored) (ps : List Processor) (words : List ℕ) → AreAsIn q.known x.state ps → IsMet q x → view q x ≡ words →
+    y ≡ again ps x → IsMet q y × (view q y ≡ words)
+placed q x y ps words alike h is same =
+    (subst (IsMet q) (sym same) (again_met q x ps alike h), ap (view q) same ∙ again_view q x ps alike h ∙ is)
+
+-- the words of a view begin with those of its processors
+
+pub kept_from : (q : Question) (x : Explored) (s : State) (kept : List ℕ) → IsMet q x → x.state ≡ fresh s → (0 < length kept → kept ≡ view q x) →
+    AreKeptFrom q.known s kept
+kept_from q x s kept h state_is is = λ p below inside.
+    let same = is (omega (arith, inside)) in
+    let number = number_is q x h in
+    let size = ap (λ (t : State). length t.processors) state_is in
+    let there : p < processors_of q = omega (arith, below, number, size) in
+    let here : 0 + p ≡ p = omega arith in
+    let rest = beside_words x ++ (counted (board_part x) ++ memory_part q x) in
+    ap (λ l. take 245 (drop (245 * p) l)) same
+    ∙ piece_there (words_at q.known x.state) (λ i. processor_size (processor_view (known_of q.known i) (processor_at i x.state.processors))) 0 (processors_of q) p rest there
+    ∙ ap (words_at q.known x.state) here
+    ∙ ap (λ (t : State). words_at q.known t p) state_is

@@ -1,7 +1,6 @@
-use Rattle.std.proofs.Common.{◌≡◌, ◌∙◌, refl, ap, sym, subst, ℕ, zero, suc, ◌+◌, ◌<◌, arith, Bool, true, false, List, ◌++◌, length}
+use Rattle.std.proofs.Common.{◌≡◌, ◌∙◌, refl, ap, sym, subst, ℕ, zero, suc, ◌+◌, ◌<◌, arith, Bool, true, false, List, [], ◌∷◌, ◌++◌, length, get_or}
 use Rattle.std.specs.Prelude.{◌==◌, ◌||◌, not, flat_map, if◌then◌else◌}
 use Rattle.std.specs.List.{range_with_len}
-use Rattle.std.proofs.lemmas.List.FromFn.{get_or-map-range_with_len, length-map-range_with_len}
 use Rattle.m161_cpu.specs.Processor.{Processor, stopped_processor}
 use Rattle.m161_machine.specs.State.{State, processor_at}
 use Rattle.m161_alike.specs.declared.known.Known.{Known}
@@ -17,7 +16,7 @@ use Rattle.m161_states.specs.Question.{Question, booted, processors_of}
 use Rattle.m161_states.specs.System.{Explored, fresh}
 use Rattle.m161_states.specs.Views.{beside_words, counted, view}
 use Rattle.m161_reach.specs.Reach.{IsMet}
-use Rattle.m161_reach.specs.helpers.Restore.{AreOfOneBoard, again, remade, remade_state, with_remade}
+use Rattle.m161_reach.specs.helpers.Restore.{AreAsIn, AreKeptFrom, AreOfOneBoard, again, state_with, with_processors}
 
 -- A state that is made anew has the view that it is made from.
 
@@ -41,15 +40,6 @@ ticks_viewed known p =
     let count = count_twice (known.count || not (p.control.compare == 0)) p.control.count in
     λ i. record p { control = record p.control { random = random i; count = count i; age = 0 }; count = 0 }
 
-remade_at : (known : Known) (s : State) (p : ℕ) → p < length s.processors → processor_at p (remade_state known s).processors ≡ remade known s p
-remade_at known s p below =
-    let here : 0 + p ≡ p = omega arith in get_or-map-range_with_len (remade known s) 0 (length s.processors) p p stopped_processor below here
-
-remade_words : (known : Known) (s : State) (p : ℕ) → p < length s.processors → words_at known (remade_state known s) p ≡ words_at known s p
-remade_words known s p below =
-    ap (λ (r : Processor). processor_words (processor_view (known_of known p) r)) (remade_at known s p below)
-    ∙ ap processor_words (ticks_viewed (known_of known p) (processor_at p s.processors))
-
 same_pieces : (f g : ℕ → List ℕ) (a n : ℕ) → ((k : ℕ) → k < a + n → f k ≡ g k) → flat_map f (range_with_len a n) ≡ flat_map g (range_with_len a n)
 same_pieces f g a zero same = refl
 same_pieces f g a (suc n) same =
@@ -57,30 +47,30 @@ same_pieces f g a (suc n) same =
     let rest = same_pieces f g (a + 1) n (λ k below. same k (omega (arith, below))) in
     λ i. first i ++ rest i
 
-remade_shaped : (known : Known) (s : State) → IsShaped s → IsShaped (remade_state known s)
-remade_shaped known s h =
-    let n = length s.processors in record {
-      processors = λ k d below.
-          let size = length-map-range_with_len (remade known s) 0 n in
-          let inside : k < n = omega (arith, below, size) in
-          let here : 0 + k ≡ k = omega arith in
-          let is = get_or-map-range_with_len (remade known s) 0 n k k d inside here in
-          let held : HasSizes (processor_at k s.processors) = h.processors k stopped_processor inside in
-          subst HasSizes (sym is) (held.0, held.1);
-      size_is = length-map-range_with_len (remade known s) 0 n ∙ h.size_is;
-      places = h.places;
-      crams = h.crams;
-      other_places = h.other_places;
-      links = h.links;
-      other_links = h.other_links;
-      whole = h.whole;
-      bytes = h.bytes;
-    }
+any_default : (ps : List Processor) (k : ℕ) (d e : Processor) → k < length ps → get_or ps k d ≡ get_or ps k e
+any_default [] k d e below = absurd (let bad : ⊥ = omega (arith, below) in bad)
+any_default (p ∷ ps) zero d e below = refl
+any_default (p ∷ ps) (suc k) d e below = any_default ps k d e (omega (arith, below))
 
-pub again_met : (q : Question) (x : Explored) → IsMet q x → IsMet q (again q x)
-again_met q x h = record {
+shaped_with : (known : Known) (s : State) (ps : List Processor) → AreAsIn known s ps → IsShaped s → IsShaped (state_with ps s)
+shaped_with known s ps alike h = record {
+  processors = λ k d below.
+      (let size = alike.size in
+      subst HasSizes (any_default ps k stopped_processor d below) (alike.sizes k (omega (arith, below, size))));
+  size_is = alike.size ∙ h.size_is;
+  places = h.places;
+  crams = h.crams;
+  other_places = h.other_places;
+  links = h.links;
+  other_links = h.other_links;
+  whole = h.whole;
+  bytes = h.bytes;
+}
+
+pub again_met : (q : Question) (x : Explored) (ps : List Processor) → AreAsIn q.known x.state ps → IsMet q x → IsMet q (again ps x)
+again_met q x ps alike h = record {
   valid = record {
-    shape = remade_shaped q.known x.state h.valid.shape;
+    shape = shaped_with q.known x.state ps alike h.valid.shape;
     one = record {
       conf = h.valid.one.conf;
       ram = h.valid.one.ram;
@@ -95,13 +85,13 @@ again_met q x h = record {
 pub number_is : (q : Question) (x : Explored) → IsMet q x → processors_of q ≡ length x.state.processors
 number_is q x h = h.valid.one.processors ∙ sym h.valid.shape.size_is
 
-pub again_view : (q : Question) (x : Explored) → IsMet q x → view q (again q x) ≡ view q x
-again_view q x h =
+pub again_view : (q : Question) (x : Explored) (ps : List Processor) → AreAsIn q.known x.state ps → IsMet q x → view q (again ps x) ≡ view q x
+again_view q x ps alike h =
     let number = number_is q x h in
     let rest = beside_words x ++ (counted (board_words x.state) ++ memory_words (booted q).bytes x.state.memory) in
     ap (λ l. l ++ rest)
-    (same_pieces (words_at q.known (remade_state q.known x.state)) (words_at q.known x.state) 0 (processors_of q)
-    (λ k below. remade_words q.known x.state k (omega (arith, below, number))))
+    (same_pieces (words_at q.known (state_with ps x.state)) (words_at q.known x.state) 0 (processors_of q)
+    (λ k below. alike.words k (omega (arith, below, number))))
 
 has_parts : (s : State) → IsShaped s → HasParts s
 has_parts s h = record {
@@ -113,12 +103,12 @@ has_parts s h = record {
   other_links = h.other_links;
 }
 
-pub one_board : (known : Known) (made : ℕ) (memory : List ℕ) (old s t : State) → IsShaped old → IsShaped s → AreOfOneConf old s →
-    t ≡ with_remade known s (with_made made (with_memory memory old)) → AreOfOneBoard s t
-one_board known made memory old s t g h one is = subst (AreOfOneBoard s) (sym is) (record {
+pub one_board : (ps : List Processor) (made : ℕ) (memory : List ℕ) (old s t : State) → length ps ≡ length old.processors → IsShaped old → IsShaped s →
+    AreOfOneConf old s → t ≡ with_processors ps (with_made made (with_memory memory old)) → AreOfOneBoard s t
+one_board ps made memory old s t size g h one is = subst (AreOfOneBoard s) (sym is) (record {
   parts = has_parts s h;
   other_parts = record {
-    size_is = length-map-range_with_len (remade known s) 0 (length s.processors) ∙ h.size_is ∙ sym one.processors;
+    size_is = size ∙ g.size_is;
     places = g.places;
     crams = g.crams;
     other_places = g.other_places;
@@ -130,6 +120,12 @@ one_board known made memory old s t g h one is = subst (AreOfOneBoard s) (sym is
   unit = sym one.unit;
 })
 
-pub remade_is : (known : Known) (made : ℕ) (old s : State) → AreOfOneConf old s →
-    fresh (with_board_of s (with_remade known s (with_made made (with_memory s.memory old)))) ≡ remade_state known s
-remade_is known made old s one = let conf = one.conf in λ i. record (remade_state known s) { conf = conf i }
+pub remade_is : (ps : List Processor) (made : ℕ) (old s : State) → AreOfOneConf old s →
+    fresh (with_board_of s (with_processors ps (with_made made (with_memory s.memory old)))) ≡ state_with ps s
+remade_is ps made old s one = let conf = one.conf in λ i. record (state_with ps s) { conf = conf i }
+
+pub kept_same : (known : Known) (s t : State) (kept : List ℕ) → t.processors ≡ s.processors → AreKeptFrom known s kept → AreKeptFrom known t kept
+kept_same known s t kept same h = λ p below inside.
+    let size = ap length same in
+    h p (omega (arith, below, size)) inside
+    ∙ ap (λ (ps : List Processor). processor_words (processor_view (known_of known p) (processor_at p ps))) (sym same)

@@ -5,6 +5,9 @@ pub use Rattle.m161_states.specs.System
 pub use Rattle.m161_states.specs.Verdicts
 pub use Rattle.m161_states.specs.Views
 pub use Rattle.m161_states.specs.Laws
+pub mod Hand
 pub mod Met
 pub mod Reach
+pub mod From
+pub mod Hangs
 pub mod helpers

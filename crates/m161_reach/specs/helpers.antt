@@ -1,3 +1,7 @@
 -- Definitions that only contracts of private functions or proofs use.
 pub mod Advance
+pub mod Handling
+pub mod MetFrom
+pub mod Onward
 pub mod Restore
+pub mod Walk

@@ -39,8 +39,8 @@ fn reads_next<T: Tlb, D: Console>(core: &Core<T, D>, p: u32) -> Reads
     }
 }
 
-// What a Step of a processor reads that isn't known.
-fn unknown<T: Tlb, D: Console>(core: &Core<T, D>, known: &Known, p: u32) -> Option<Unknown>
+/// What a Step of a processor reads that isn't known.
+pub fn unknown<T: Tlb, D: Console>(core: &Core<T, D>, known: &Known, p: u32) -> Option<Unknown>
     requires { p < length core.now.state.processors }
     ensures { result ≡ unknown_by (known_of known.now p) p (reads_next p core.now.state) }
 {
@@ -119,9 +119,9 @@ fn agreed_after(output: Option<&[u8]>, sent: Option<u8>, agreed: Option<u32>) ->
     }
 }
 
-// Makes a Step of a processor, and keeps what it stored. A machine that has accepted all events that
-// it counts makes none: no exploration gets there.
-fn take_step<T: Tlb, D: Console>(
+/// Makes a Step of a processor, and keeps what it stored. A machine that has accepted all events that
+/// it counts makes none: no exploration gets there.
+pub fn take_step<T: Tlb, D: Console>(
     goal: &Goal,
     place: &mut Place<T, D>,
     p: u32,
@@ -144,8 +144,8 @@ fn take_step<T: Tlb, D: Console>(
     }
 }
 
-// The console has sent a byte.
-fn take_done<T: Tlb, D: Console>(
+/// The console has sent a byte.
+pub fn take_done<T: Tlb, D: Console>(
     goal: &Goal,
     place: &mut Place<T, D>,
 ) -> Result<Option<Outcome>, AllocError>
@@ -172,8 +172,8 @@ fn take_done<T: Tlb, D: Console>(
     }
 }
 
-// Types the next key, if one is left.
-fn take_key<T: Tlb, D: Console>(
+/// Types the next key, if one is left.
+pub fn take_key<T: Tlb, D: Console>(
     goal: &Goal,
     place: &mut Place<T, D>,
 ) -> Result<Option<Outcome>, AllocError>

@@ -199,8 +199,8 @@ fn is_stuck<T: Tlb, D: Console>(core: &Core<T, D>, keys_left: bool) -> bool
         && is_asleep(core)
 }
 
-// Whether nothing is left to do in a state of the exploration.
-fn is_stuck_at<T: Tlb, D: Console>(goal: &Goal, place: &Place<T, D>) -> bool
+/// Whether nothing is left to do in a state of the exploration.
+pub fn is_stuck_at<T: Tlb, D: Console>(goal: &Goal, place: &Place<T, D>) -> bool
     ensures { result ≡ is_stuck_in goal.now place.now }
 {
     is_stuck(&place.core, (place.typed as usize) < goal.keys.len())

@@ -4,6 +4,8 @@
 //! ```text
 //! question  a machine at boot, by what its events are judged, and what is known of time
 //! place     a state of the exploration: a machine, and what is kept beside it
+//! hand      such a state with the words of its view and the places where its memory may differ from
+//!           boot's: an event, a view and another state cost what they change, not what RAM has
 //! event     number p below the number of processors: a Step of p; then Done; then the next key
 //! ```
 //!
@@ -12,15 +14,23 @@
 
 mod advance;
 mod encode;
+mod hand;
+mod hang;
+mod hang_laws;
 mod judge;
 mod kept;
 mod machines;
+mod onward;
 mod place;
 mod question;
 mod restore;
 mod system;
+mod walk;
 mod whole;
 
+pub use hand::Hand;
+pub use hang::first_hang;
+pub use hang_laws::{free_before, hung_is_hung, hung_never_ends};
 pub use machines::Machines;
 pub use place::Place;
 pub use question::can_be_asked;

@@ -1,21 +1,25 @@
 //! What is explored.
 
-ghost use Rattle.std.specs.Prelude.{◌≡◌, ◌+◌, ◌<◌, ◌++◌, IfOk, OnOk};
+ghost use Rattle.std.specs.Prelude.{◌≡◌, ◌+◌, ◌<◌, ◌++◌, IfOk, OnOk, length};
 ghost use Rattle.m161_explore.specs.Rules.{Advances};
-ghost use Rattle.m161_states.specs.Question.{processors_of};
+ghost use Rattle.m161_alike.specs.Addresses.{Cover};
+ghost use Rattle.m161_states.specs.Question.{booted, processors_of};
 ghost use Rattle.m161_states.specs.System.{Explored, agreed_at_boot, start};
 ghost use Rattle.m161_states.specs.Verdicts.{is_end};
 ghost use Rattle.m161_states.specs.Views.{view};
 ghost use Rattle.m161_judge.specs.Judge.{bytes_of};
 ghost use Rattle.m161_reach.specs.Reach.{CanBeAsked, IsMet, question_of, rules_of};
+ghost use Rattle.m161_reach.specs.Hand.{IsReady};
+ghost use Rattle.m161_reach.specs.helpers.Handling.{IsHandled, stored_at};
 
 use crate::advance::{advance_done, advance_key, advance_step};
 use crate::encode::{push_beside, push_board, push_processors};
+use crate::hand::{Hand, are_kept, forget, keep_words, note_store};
 use crate::judge::is_end_of;
 use crate::kept::keep_watches;
 use crate::place::Place;
 use crate::restore::{read_beside, remake, split, split_counted};
-use m161_alike::write_memory;
+use m161_alike::{read_addresses, scan_memory, write_memory};
 use m161_bus::Console;
 use m161_explore::Advanced;
 use m161_judge::Goal;
@@ -29,9 +33,9 @@ use std::marker::Model;
 #[derive(Drop)]
 pub struct Machines<'a, T: Tlb, D: Console> {
     alloc: Global,
-    boot: &'a Core<T, D>,
-    goal: &'a Goal<'a>,
-    known: Known,
+    pub(crate) boot: &'a Core<T, D>,
+    pub(crate) goal: &'a Goal<'a>,
+    pub(crate) known: Known,
 }
 
 impl<'a, T: Tlb, D: Console> Model for Machines<'a, T, D> {
@@ -53,6 +57,13 @@ fn agreed_at_boot(output: Option<&[u8]>) -> Option<u32>
         Some(_bytes) => Some(0),
         None => None,
     }
+}
+
+/// How many bytes RAM has.
+pub(crate) fn ram_size<T: Tlb, D: Console>(place: &Place<T, D>) -> usize
+    ensures { result ≡ length place.now.state.memory }
+{
+    place.core.memory().len()
 }
 
 impl<'a, T: Tlb + Drop, D: Console + Drop> Machines<'a, T, D> {
@@ -105,18 +116,90 @@ impl<'a, T: Tlb + Drop, D: Console + Drop> Machines<'a, T, D> {
         is_end_of(self.goal, place)
     }
 
+    /// The first state, in hand. Allocates a machine.
+    ///
+    /// # Errors
+    /// Memory is refused.
+    pub fn first_in_hand(&self, alloc: Global) -> Result<Hand<T, D>, AllocError>
+        ensures start { IfOk result (λ hand. hand.place ≡ start self.now) }
+        ensures ready { IfOk result (IsReady self.now) }
+    {
+        Ok(Hand {
+            place: self.first(alloc)?,
+            words: Vec::new(alloc),
+            changed: Vec::new(alloc),
+        })
+    }
+
+    /// A state that is met, in hand. All of memory is looked at.
+    ///
+    /// # Errors
+    /// Memory is refused.
+    pub(crate) fn in_hand(
+        &self,
+        alloc: Global,
+        place: Place<T, D>,
+    ) -> Result<Hand<T, D>, AllocError>
+        requires { IsMet self.now place }
+        ensures same { IfOk result (λ hand. hand.place ≡ place) }
+        ensures ready { IfOk result (IsReady self.now) }
+    {
+        let mut words = Vec::new(alloc);
+        scan_memory(&place.core, self.boot.memory(), &mut words)?;
+        let mut changed = Vec::new(alloc);
+        read_addresses(&words, &mut changed)?;
+        Ok(Hand {
+            place,
+            words: Vec::new(alloc),
+            changed,
+        })
+    }
+
+    /// The word that an event stores to, if it is a Step.
+    pub(crate) fn stored_at(&self, place: &Place<T, D>, event: u32) -> Option<u32>
+        requires { IsMet self.now place.now }
+        ensures { result ≡ stored_at self.now place.now event }
+    {
+        self.boot.law();
+        if event < self.boot.processors() {
+            place.core.uses(event).stored
+        } else {
+            None
+        }
+    }
+
     /// Makes an event, and says what it came to.
     ///
     /// # Errors
     /// Memory is refused, or the machine has accepted all events that it counts.
     pub fn advance(
         &self,
+        hand: &mut Hand<T, D>,
+        event: u32,
+    ) -> Result<Advanced<Verdict, Unknown>, AllocError>
+        requires ready { IsReady self.now hand.old }
+        requires event { event < processors_of self.now + 2 }
+        ensures advances { IfOk result
+            (Advances (rules_of self.now) (IsMet self.now) hand.old.place event hand.new.place) }
+        ensures ready { OnOk result (IsReady self.now hand.new) }
+    {
+        let stored = self.stored_at(&hand.place, event);
+        let came = self.advance_place(&mut hand.place, event)?;
+        note_store(&mut hand.changed, stored, ram_size(&hand.place))?;
+        forget(&mut hand.words, &came);
+        Ok(came)
+    }
+
+    // Makes an event of the state alone.
+    fn advance_place(
+        &self,
         place: &mut Place<T, D>,
         event: u32,
     ) -> Result<Advanced<Verdict, Unknown>, AllocError>
         requires met { IsMet self.now place.old }
         requires event { event < processors_of self.now + 2 }
-        ensures { IfOk result (Advances (rules_of self.now) (IsMet self.now) place.old event place.new) }
+        ensures advances { IfOk result (Advances (rules_of self.now) (IsMet self.now) place.old event place.new) }
+        ensures handled { IfOk result (IsHandled self.now place.old event place.new) }
     {
         self.boot.law();
         let processors = self.boot.processors();
@@ -129,29 +212,72 @@ impl<'a, T: Tlb + Drop, D: Console + Drop> Machines<'a, T, D> {
         }
     }
 
-    /// Writes the words of a state's view behind the words that are there.
+    /// Writes the words of a state's view behind the words that are there, and keeps them.
     ///
     /// # Errors
     /// Memory is refused.
-    pub fn write(&self, place: &Place<T, D>, words: &mut Vec<u32>) -> Result<(), AllocError>
-        requires { IsMet self.now place.now }
+    pub fn write(&self, hand: &mut Hand<T, D>, words: &mut Vec<u32>) -> Result<(), AllocError>
+        requires { IsReady self.now hand.old }
+        ensures words { OnOk result (words.new.items ≡ words.old.items ++ view self.now hand.old.place) }
+        ensures same { OnOk result (hand.new.place ≡ hand.old.place) }
+        ensures ready { OnOk result (IsReady self.now hand.new) }
+    {
+        let before = words.len();
+        self.write_place(&hand.place, &hand.changed, words)?;
+        keep_words(&mut hand.words, &words[before..])
+    }
+
+    // Writes them for the state alone.
+    fn write_place(
+        &self,
+        place: &Place<T, D>,
+        changed: &[u32],
+        words: &mut Vec<u32>,
+    ) -> Result<(), AllocError>
+        requires met { IsMet self.now place.now }
+        requires cover { Cover (booted self.now).bytes place.now.state.memory changed.now }
         ensures { OnOk result (words.new.items ≡ words.old.items ++ view self.now place.now) }
     {
         push_processors(&place.core, &self.known, words)?;
         push_beside(place, words)?;
         push_board(&place.core, words)?;
-        write_memory(&place.core, self.boot.memory(), words)
+        write_memory(&place.core, self.boot.memory(), changed, words)
     }
 
-    /// Makes a state one with this view, whatever it was before. Allocates a machine.
+    /// Makes a state one with this view: where it is known to have it, nothing is done. Does not allocate a
+    /// machine.
     ///
     /// # Errors
     /// Memory is refused; or the words are those of a state that no machine can hold, such as one in
     /// which Random has another row than 8 to 63. The definition of a Step has no bounds, so it is
     /// known by reading alone that no such state is met.
-    pub fn restore(&self, place: &mut Place<T, D>, words: &[u32]) -> Result<(), AllocError>
-        requires { (x : Explored) × IsMet self.now x × (view self.now x ≡ words.now) }
-        ensures { OnOk result (IsMet self.now place.new × (view self.now place.new ≡ words.now)) }
+    pub fn restore(&self, hand: &mut Hand<T, D>, words: &[u32]) -> Result<(), AllocError>
+        requires ready { IsReady self.now hand.old }
+        requires view { (x : Explored) × IsMet self.now x × (view self.now x ≡ words.now) }
+        ensures view { OnOk result (IsMet self.now hand.new.place × (view self.now hand.new.place ≡ words.now)) }
+        ensures ready { OnOk result (IsReady self.now hand.new) }
+    {
+        if are_kept(&hand.words, words) {
+            return Ok(());
+        }
+        self.restore_place(&mut hand.place, &hand.words, &mut hand.changed, words)?;
+        keep_words(&mut hand.words, words)
+    }
+
+    // Makes the state alone one with this view, and says where its memory may differ from boot's.
+    fn restore_place(
+        &self,
+        place: &mut Place<T, D>,
+        before: &[u32],
+        changed: &mut Vec<u32>,
+        words: &[u32],
+    ) -> Result<(), AllocError>
+        requires met { IsMet self.now place.old }
+        requires before { 0 < length before.now → before.now ≡ view self.now place.old }
+        requires cover { Cover (booted self.now).bytes place.old.state.memory changed.old.items }
+        requires view { (x : Explored) × IsMet self.now x × (view self.now x ≡ words.now) }
+        ensures view { OnOk result (IsMet self.now place.new × (view self.now place.new ≡ words.now)) }
+        ensures cover { OnOk result (Cover (booted self.now).bytes place.new.state.memory changed.new.items) }
     {
         self.boot.law();
         let goal = self.goal;
@@ -160,14 +286,18 @@ impl<'a, T: Tlb + Drop, D: Console + Drop> Machines<'a, T, D> {
         let second = split(first.1, 4 + 2 * goal.watches.len());
         let third = split_counted(second.1);
         let (typed, agreed, kept) = read_beside(self.alloc, second.0)?;
-        let mut core = self.boot.copy(self.alloc)?;
-        remake(&mut core, self.boot.memory(), first.0, third.0, third.1)?;
-        *place = Place {
-            core,
-            typed,
-            kept,
-            agreed,
-        };
-        Ok(())
+        remake(
+            &mut place.core,
+            self.boot.memory(),
+            changed,
+            before,
+            first.0,
+            third.0,
+            third.1,
+        )?;
+        place.typed = typed;
+        place.agreed = agreed;
+        place.kept = kept;
+        read_addresses(third.1, changed)
     }
 }

@@ -1,14 +1,15 @@
 //! A machine that is made anew from the words of its view.
 
-ghost use Rattle.std.specs.Prelude.{◌≡◌, ◌≢◌, ℕ, ◌+◌, ◌*◌, ◌<◌, ◌≤◌, ◌++◌, IfOk, List, OnOk, false, length, true};
+ghost use Rattle.std.specs.Prelude.{◌≡◌, ◌≢◌, ℕ, ◌+◌, ◌*◌, ◌<◌, ◌≤◌, ◌++◌, All, IfOk, List, OnOk, drop, false, length, take, true};
 ghost use Rattle.m161_tlb.specs.Rows.{AreApart};
 ghost use Rattle.m161_tlb.specs.Row.{overlaps};
 ghost use Rattle.m161_cpu.specs.Processor.{Processor};
 ghost use Rattle.m161_cpu.specs.Restore.{restored_processor};
-ghost use Rattle.m161_machine.specs.State.{State};
+ghost use Rattle.m161_machine.specs.State.{State, processor_at};
 ghost use Rattle.m161_machine.specs.Restore.{with_made, with_processor};
 ghost use Rattle.m161_alike.specs.declared.known.Known.{Known};
 ghost use Rattle.m161_alike.specs.declared.reads.Reads.{Reads};
+ghost use Rattle.m161_alike.specs.Addresses.{Cover};
 ghost use Rattle.m161_alike.specs.Restored.{processor_in, row_in, rows_in, with_ticks};
 ghost use Rattle.m161_alike.specs.RestoredBoard.{with_board_of};
 ghost use Rattle.m161_alike.specs.View.{processor_view};
@@ -17,7 +18,7 @@ ghost use Rattle.m161_alike.specs.WordsLaw.{AreOfOneConf};
 ghost use Rattle.m161_states.specs.Shape.{IsShaped};
 ghost use Rattle.m161_states.specs.System.{Explored, fresh};
 ghost use Rattle.m161_states.specs.Views.{beside_words, counted};
-ghost use Rattle.m161_reach.specs.helpers.Restore.{AreOfOneBoard, AreWordsFrom, agreed_in, remade_state, with_remade};
+ghost use Rattle.m161_reach.specs.helpers.Restore.{AreAsIn, AreKeptFrom, AreOfOneBoard, AreWordsFrom, IsAsIn, agreed_in, state_with, with_processors};
 
 use crate::kept::{Kept, keep_again};
 use m161_alike::{
@@ -110,21 +111,64 @@ fn remake_processor<T: Tlb, D: Console>(
     Ok(())
 }
 
-// Makes each processor one whose view has these words.
+// Whether the words from a place on, as many as a processor has, are the same in both.
+fn are_same_from(kept: &[u32], words: &[u32], first: usize) -> bool
+    requires { first + 245 ≤ length words.now }
+    ensures there { result ≡ true → first + 245 ≤ length kept.now }
+    ensures same { result ≡ true → take 245 (drop first kept.now) ≡ take 245 (drop first words.now) }
+{
+    let end = first + 245;
+    end <= kept.len() && kept[first..end] == words[first..end]
+}
+
+// Makes a processor one whose view has its words, which begin at a place, unless it has them: then they
+// are kept there.
+fn remake_if_changed<T: Tlb, D: Console>(
+    core: &mut Core<T, D>,
+    p: u32,
+    first: usize,
+    kept: &[u32],
+    words: &[u32],
+) -> Result<(), AllocError>
+    requires place { p < length core.old.state.processors }
+    requires few { 55 ≤ core.old.state.made }
+    requires size { first + 245 ≤ length words.now }
+    ensures rest { OnOk result (core.new.state ≡ with_processors core.new.state.processors core.old.state) }
+    ensures number { OnOk result (length core.new.state.processors ≡ length core.old.state.processors) }
+    ensures others { OnOk result ((k : ℕ) → k ≢ p
+        → processor_at k core.new.state.processors ≡ processor_at k core.old.state.processors) }
+    ensures view { OnOk result ((known : Reads) (q : Processor) → HasSizes q
+        → HasSizes (processor_at p core.old.state.processors)
+        → (first + 245 ≤ length kept.now → take 245 (drop first kept.now)
+        ≡ processor_words (processor_view known (processor_at p core.old.state.processors)))
+        → take 245 (drop first words.now) ≡ processor_words (processor_view known q)
+        → IsAsIn known q (processor_at p core.new.state.processors)) }
+{
+    if are_same_from(kept, words, first) {
+        return Ok(());
+    }
+    remake_processor(core, p, &words[first..first + 245])
+}
+
+// Makes each processor one whose view has these words. Those that are kept are the words of the processors
+// that are there.
 fn remake_processors<T: Tlb, D: Console>(
     core: &mut Core<T, D>,
+    kept: &[u32],
     words: &[u32],
 ) -> Result<(), AllocError>
     requires few { 55 ≤ core.old.state.made }
     requires size { 245 * length core.old.state.processors ≤ length words.now }
+    ensures rest { OnOk result (core.new.state ≡ with_processors core.new.state.processors core.old.state) }
     ensures number { OnOk result (length core.new.state.processors ≡ length core.old.state.processors) }
-    ensures view { OnOk result ((known : Known) (s : State) → IsShaped s → length s.processors ≡ length core.old.state.processors
-        → AreWordsFrom known s words.now
-        → core.new.state ≡ with_remade known s core.old.state) }
+    ensures view { OnOk result ((known : Known) (s : State) → IsShaped s → All HasSizes core.old.state.processors
+        → length s.processors ≡ length core.old.state.processors
+        → AreKeptFrom known core.old.state kept.now → AreWordsFrom known s words.now
+        → AreAsIn known s core.new.state.processors) }
 {
     for p in 0..core.processors() {
         let first = 245 * p as usize;
-        remake_processor(core, p, &words[first..first + 245])?;
+        remake_if_changed(core, p, first, kept, words)?;
     }
     Ok(())
 }
@@ -156,28 +200,35 @@ fn count_ticks<T: Tlb, D: Console>(core: &mut Core<T, D>)
     }
 }
 
-/// Makes a machine's state that of these words, as before any event.
+/// Makes a machine's state that of these words, as before any event. Its memory differs from boot's at
+/// the changed addresses alone, and the kept words, as far as there are any, are those of its processors:
+/// one that has its words already stays.
 ///
 /// # Errors
 /// Words that no machine's state has are refused, as if memory were.
 pub fn remake<T: Tlb, D: Console>(
     core: &mut Core<T, D>,
     boot: &[u8],
+    changed: &[u32],
+    kept: &[u32],
     processors: &[u32],
     board: &[u32],
     memory: &[u32],
 ) -> Result<(), AllocError>
     requires shape { IsShaped core.old.state }
     requires boot { length boot.now ≡ length core.old.state.memory }
+    requires cover { Cover boot.now core.old.state.memory changed.now }
     requires processors { 245 * length core.old.state.processors ≤ length processors.now }
     requires board { 11 + 68 * length core.old.state.processors ≤ length board.now }
     ensures { OnOk result ((known : Known) (s : State) → IsShaped s → AreOfOneConf core.old.state s
-        → AreWordsFrom known s processors.now → board.now ≡ board_words s → memory.now ≡ memory_words boot.now s.memory
-        → fresh core.new.state ≡ remade_state known s) }
+        → AreKeptFrom known core.old.state kept.now → AreWordsFrom known s processors.now
+        → board.now ≡ board_words s → memory.now ≡ memory_words boot.now s.memory
+        → AreAsIn known s core.new.state.processors
+        × (fresh core.new.state ≡ state_with core.new.state.processors s)) }
 {
-    read_memory(core, boot, memory);
+    read_memory(core, boot, changed, memory);
     count_ticks(core);
-    remake_processors(core, processors)?;
+    remake_processors(core, kept, processors)?;
     remake_board(core, board)
 }
 

@@ -7,7 +7,7 @@ use m161::Core;
 use m161_explore::Answer;
 use m161_judge::Goal;
 use m161_machine::{Conf, LinkUnit};
-use m161_reach::{Exploration, can_be_asked, explore_machine};
+use m161_reach::{Exploration, can_be_asked, explore_machine, first_hang};
 use m161_states::{Known, Reads, Unknown, Verdict};
 use m161_test_support::files::file_at;
 use m161_test_support::outcomes::ENTRY;
@@ -32,6 +32,16 @@ static READS_RANDOM: [u32; 3] = [
     0x4008_0800, // mfc0 $8, $1: Random
     0x1000_ffff, // beq $0, $0, to itself
     0, // nop
+];
+
+/// Takes a key if one waits, and switches off; else it goes round for ever.
+static TAKES_A_KEY: [u32; 6] = [
+    0x3c08_bfe0, // lui $8, 0xbfe0
+    0x8d09_0000, // lw $9, 0($8): a key, or 0
+    0x1120_ffff, // beq $9, $0, to itself
+    0, // nop
+    0x3c08_bfff, // lui $8, 0xbfff
+    0xad00_7e08, // sw $0, 32264($8): off
 ];
 
 /// Fails the test where a value isn't the expected one.
@@ -142,5 +152,66 @@ fn random_is_known_where_it_is_read(rt: HostRuntime) -> Result<(), Fail> {
             count: false,
         },
     );
+    Ok(())
+}
+
+/// How many of the first events of a list hang, where these keys can be typed.
+#[inline(never)]
+fn hang_of(
+    rt: &(impl Abort + AllocGlobal),
+    words: &[u32],
+    keys: &[u8],
+    events: &[u32],
+    limit: u32,
+) -> Result<Option<usize>, Fail> {
+    let core = booted(rt, words)?;
+    let goal = Goal {
+        watches: &[],
+        never: &[],
+        output: None,
+        keys,
+    };
+    let is_asked = 0 < limit && can_be_asked(&core, &goal);
+    same(rt, is_asked, true);
+    if is_asked {
+        Ok(first_hang(rt.alloc(), &core, &goal, events, limit)?)
+    } else {
+        Ok(None)
+    }
+}
+
+#[test]
+fn a_circle_hangs_from_boot_on(rt: HostRuntime) -> Result<(), Fail> {
+    same(&rt, hang_of(&rt, &SPINS, &[], &[0, 0, 0], 2)?, Some(0));
+    same(&rt, hang_of(&rt, &SPINS, &[], &[0, 0, 0], 1)?, None);
+    Ok(())
+}
+
+#[test]
+fn a_machine_that_is_over_does_not_hang(rt: HostRuntime) -> Result<(), Fail> {
+    same(&rt, hang_of(&rt, &WAITS, &[], &[0], 100)?, None);
+    same(&rt, hang_of(&rt, &SPINS, &[], &[1], 100)?, None);
+    Ok(())
+}
+
+#[test]
+fn a_key_that_comes_too_late_is_missed(rt: HostRuntime) -> Result<(), Fail> {
+    same(
+        &rt,
+        hang_of(&rt, &TAKES_A_KEY, &[65], &[0, 0, 0, 0], 100)?,
+        Some(2),
+    );
+    same(
+        &rt,
+        hang_of(&rt, &TAKES_A_KEY, &[65], &[0, 0], 100)?,
+        Some(2),
+    );
+    same(&rt, hang_of(&rt, &TAKES_A_KEY, &[65], &[0], 100)?, None);
+    same(
+        &rt,
+        hang_of(&rt, &TAKES_A_KEY, &[65], &[2, 0, 0, 0], 100)?,
+        None,
+    );
+    same(&rt, hang_of(&rt, &TAKES_A_KEY, &[], &[0], 100)?, Some(0));
     Ok(())
 }

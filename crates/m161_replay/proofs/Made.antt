@@ -22,10 +22,10 @@ use Rattle.m161_machine.specs.Fetched.{fetched, fetches_none}
 use Rattle.m161_machine.specs.State.{State, next, processor_at, step_result}
 use Rattle.m161_machine.specs.Uses.{uses_in}
 use Rattle.m161_trace.specs.helpers.Far.{is_far}
-use Rattle.m161_trace.specs.Loads.{loaded, loaded_address, loads_by, loads_from, physical_if, word_around}
+use Rattle.m161_trace.specs.Loads.{loaded, loaded_address, loaded_by, loads_by, loads_from, physical_if, word_around}
 use Rattle.m161_trace.proofs.Near.{accepted, none_written}
 use Rattle.m161_trace.proofs.NearEffects.{NearChange, near_effect}
-use Rattle.m161_replay.specs.Law.{SeenIsMade, loaded_by}
+use Rattle.m161_replay.specs.Law.{SeenIsMade}
 use Rattle.m161_replay.specs.Seen.{fetched_next, loaded_next, scene_in}
 use Rattle.m161_replay.proofs.Effects.{Runs, RunsBy, Traps, instruction_runs, instruction_traps, reach_traps, mapped_traps, then_traps}
 use Rattle.m161_replay.proofs.Loading.{no_word, refers_if, word_loads}

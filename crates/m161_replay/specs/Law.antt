@@ -1,23 +1,14 @@
-use Rattle.std.specs.Prelude.{◌≡◌, ℕ, Option, None, Some, Ok}
+use Rattle.std.specs.Prelude.{◌≡◌, ℕ, Some, Ok}
 use Rattle.m161_cpu.specs.declared.processor.Outcome.{Outcome}
 use Rattle.m161_cpu.specs.declared.processor.Outcome.TheVariants as outcomes
 use Rattle.m161_machine.specs.declared.event.Event.TheVariants.{Step}
 use Rattle.m161_machine.specs.Fetched.{fetched}
 use Rattle.m161_machine.specs.State.{State, next}
 use Rattle.m161_machine.specs.Uses.{uses_in}
-use Rattle.m161_trace.specs.Loads.{loaded}
+use Rattle.m161_trace.specs.Loads.{loaded_by}
 use Rattle.m161_replay.specs.Seen.{fetched_next, loaded_next}
 
 -- The law of what moves see of a Step before it is made: it is what a trace tells once it was made.
-
--- the word of RAM that a Step with this outcome loaded: one that ran
-abbrev pub loaded_by : ℕ → State → Outcome → Option ℕ
-loaded_by p s outcomes.Ran = loaded p s outcomes.Ran
-loaded_by p s (outcomes.Trapped code vector) = None
-loaded_by p s outcomes.Idle = None
-loaded_by p s outcomes.PoweredOff = None
-loaded_by p s (outcomes.Conflict row other) = None
-loaded_by p s outcomes.Taken = None
 
 -- a Step of processor p that is accepted fetches what its outcome says, and so it loads; and one that
 -- stores in RAM runs

@@ -13,3 +13,4 @@ pub mod Console
 pub mod Stored
 pub mod Moved
 pub mod Tell
+pub mod Touching

@@ -31,7 +31,7 @@ none_each a n f none = none_listed f (range_with_len a n) none
 
 -- nothing is appended
 appended : (old : List ℕ) (is : List Item) → is ≡ [] → Adds old is old
-appended old is none naming = spaced_none old naming ∙ ap (λ js. old ++ spaced naming js) (sym none)
+appended old is none style = spaced_none old style ∙ ap (λ js. old ++ spaced style js) (sym none)
 
 -- rows
 

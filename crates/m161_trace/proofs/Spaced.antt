@@ -5,48 +5,51 @@ use Rattle.std.specs.List.{range_with_len}
 use Rattle.std.proofs.lemmas.List.{append-nil, flat_map_more, take_more, map-id}
 use Rattle.std.proofs.lemmas.List.Concat.{flat_map-append}
 use Rattle.std.proofs.lemmas.List.FromFn.{map-range_with_len_more}
-use Rattle.m161_dis.specs.declared.naming.Naming.{Naming}
+use Rattle.m161_dis.specs.declared.naming.Style.{Style}
 use Rattle.m161_trace.specs.Items.{Item, changed, each}
 use Rattle.m161_trace.specs.Line.{behind, item_text, spaced}
 use Rattle.m161_trace.specs.helpers.Adds.{Adds, AddsIn, AddsItem, AddsPart}
 
 -- Items, a space before each.
 
-pub spaced_more : (naming : Naming) (xs ys : List Item) → spaced naming (xs ++ ys) ≡ spaced naming xs ++ spaced naming ys
+pub spaced_more : (style : Style) (xs ys : List Item) → spaced style (xs ++ ys) ≡ spaced style xs ++ spaced style ys
 unfolding spaced
-spaced_more naming xs ys = flat_map-append (λ (i : Item). 32 ∷ item_text naming i) xs ys
+spaced_more style xs ys = flat_map-append (λ (i : Item). 32 ∷ item_text style i) xs ys
 
 pub spaced_none : (old : List ℕ) → Adds old [] old
 unfolding spaced
-spaced_none old naming = sym (append-nil old)
+spaced_none old style = sym (append-nil old)
 
-pub spaced_one : (naming : Naming) (i : Item) → spaced naming (i ∷ []) ≡ 32 ∷ item_text naming i
+pub spaced_one : (style : Style) (i : Item) → spaced style (i ∷ []) ≡ 32 ∷ item_text style i
 unfolding spaced
-spaced_one naming i = append-nil (32 ∷ item_text naming i)
+spaced_one style i = append-nil (32 ∷ item_text style i)
 
 -- one item appended
-pub one : (naming : Naming) (old new : List ℕ) (i : Item) → AddsPart old (item_text naming i) new → AddsIn naming old (i ∷ []) new
-one naming old new i h = h ∙ ap (λ bs. old ++ bs) (sym (spaced_one naming i))
+pub one : (style : Style) (old new : List ℕ) (i : Item) → AddsPart old (item_text style i) new → AddsIn style old (i ∷ []) new
+one style old new i h = h ∙ ap (λ bs. old ++ bs) (sym (spaced_one style i))
 
 -- items appended to items
-pub both_in : (naming : Naming) (old mid new : List ℕ) (xs ys : List Item) → AddsIn naming old xs mid → AddsIn naming mid ys new → AddsIn naming old (xs ++ ys) new
-both_in naming old mid new xs ys h k =
-    k ∙ ap (λ bs. bs ++ spaced naming ys) h ∙ append_assoc old (spaced naming xs) (spaced naming ys) ∙ ap (λ bs. old ++ bs) (sym (spaced_more naming xs ys))
+pub both_in : (style : Style) (old mid new : List ℕ) (xs ys : List Item) → AddsIn style old xs mid → AddsIn style mid ys new → AddsIn style old (xs ++ ys) new
+both_in style old mid new xs ys h k =
+    k ∙ ap (λ bs. bs ++ spaced style ys) h ∙ append_assoc old (spaced style xs) (spaced style ys) ∙ ap (λ bs. old ++ bs) (sym (spaced_more style xs ys))
 
 pub both : (old mid new : List ℕ) (xs ys : List Item) → Adds old xs mid → Adds mid ys new → Adds old (xs ++ ys) new
-both old mid new xs ys h k naming = both_in naming old mid new xs ys (h naming) (k naming)
+both old mid new xs ys h k style = both_in style old mid new xs ys (h style) (k style)
 
 -- the same, of items that are these
 
-pub grown_in : (naming : Naming) (old mid new : List ℕ) (xs ys zs : List Item) → zs ≡ xs ++ ys → AddsIn naming old xs mid → AddsIn naming mid ys new → AddsIn naming old zs new
-grown_in naming old mid new xs ys zs are h k = both_in naming old mid new xs ys h k ∙ ap (λ is. old ++ spaced naming is) (sym are)
+pub grown_in : (style : Style) (old mid new : List ℕ) (xs ys zs : List Item) → zs ≡ xs ++ ys → AddsIn style old xs mid → AddsIn style mid ys new → AddsIn style old zs new
+grown_in style old mid new xs ys zs are h k = both_in style old mid new xs ys h k ∙ ap (λ is. old ++ spaced style is) (sym are)
 
 pub grown : (old mid new : List ℕ) (xs ys zs : List Item) → zs ≡ xs ++ ys → Adds old xs mid → Adds mid ys new → Adds old zs new
-grown old mid new xs ys zs are h k naming = grown_in naming old mid new xs ys zs are (h naming) (k naming)
+grown old mid new xs ys zs are h k style = grown_in style old mid new xs ys zs are (h style) (k style)
 
 -- the same items
+pub these_in : (style : Style) (old new : List ℕ) (xs ys : List Item) → xs ≡ ys → AddsIn style old xs new → AddsIn style old ys new
+these_in style old new xs ys are h = h ∙ ap (λ is. old ++ spaced style is) are
+
 pub these : (old new : List ℕ) (xs ys : List Item) → xs ≡ ys → Adds old xs new → Adds old ys new
-these old new xs ys are h naming = h naming ∙ ap (λ is. old ++ spaced naming is) are
+these old new xs ys are h style = these_in style old new xs ys are (h style)
 
 -- a part with the same value has no item; one that differs has
 
@@ -57,29 +60,33 @@ same_if false old i is = absurd (let bad : false ≡ true = is in cc)
 pub same : (old : List ℕ) (before after : ℕ) (i : Item) → before ≡ after → Adds old (changed before after i) old
 same old before after i e = same_if (before == after) old i ((Decides-eqb before after).1 e)
 
-differs_if : (t : Bool) (before after : ℕ) (naming : Naming) (old new : List ℕ) (i : Item) → (before == after) ≡ t → (before ≡ after → ⊥)
-    → AddsPart old (item_text naming i) new → AddsIn naming old (if t then [] else i ∷ []) new
-differs_if true before after naming old new i is ne h = absurd (ne ((Decides-eqb before after).0 is))
-differs_if false before after naming old new i is ne h = one naming old new i h
+differs_if : (t : Bool) (before after : ℕ) (style : Style) (old new : List ℕ) (i : Item) → (before == after) ≡ t → (before ≡ after → ⊥)
+    → AddsPart old (item_text style i) new → AddsIn style old (if t then [] else i ∷ []) new
+differs_if true before after style old new i is ne h = absurd (ne ((Decides-eqb before after).0 is))
+differs_if false before after style old new i is ne h = one style old new i h
 
-pub differs : (naming : Naming) (old new : List ℕ) (before after : ℕ) (i : Item) → (before ≡ after → ⊥) → AddsPart old (item_text naming i) new
-    → AddsIn naming old (changed before after i) new
-differs naming old new before after i ne h = differs_if (before == after) before after naming old new i refl ne h
+pub differs : (style : Style) (old new : List ℕ) (before after : ℕ) (i : Item) → (before ≡ after → ⊥) → AddsPart old (item_text style i) new
+    → AddsIn style old (changed before after i) new
+differs style old new before after i ne h = differs_if (before == after) before after style old new i refl ne h
 
 -- the same of a call that appends an item, if it succeeds
 
+pub one_in_ok : {T E : Type 0} (r : Result T E) (style : Style) (old new : List ℕ) (i : Item) → OnOk r (AddsPart old (item_text style i) new) → OnOk r (AddsIn style old (i ∷ []) new)
+one_in_ok (Ok x) style old new i h = one style old new i h
+one_in_ok (Err e) style old new i h = tt
+
 pub one_ok : {T E : Type 0} (r : Result T E) (old new : List ℕ) (i : Item) → OnOk r (AddsItem old i new) → OnOk r (Adds old (i ∷ []) new)
-one_ok (Ok x) old new i h = λ naming. one naming old new i (h naming)
+one_ok (Ok x) old new i h = λ style. one style old new i (h style)
 one_ok (Err e) old new i h = tt
 
-pub differs_in_ok : {T E : Type 0} (r : Result T E) (naming : Naming) (old new : List ℕ) (before after : ℕ) (i : Item) → (before ≡ after → ⊥)
-    → OnOk r (AddsPart old (item_text naming i) new) → OnOk r (AddsIn naming old (changed before after i) new)
-differs_in_ok (Ok x) naming old new before after i ne h = differs naming old new before after i ne h
-differs_in_ok (Err e) naming old new before after i ne h = tt
+pub differs_in_ok : {T E : Type 0} (r : Result T E) (style : Style) (old new : List ℕ) (before after : ℕ) (i : Item) → (before ≡ after → ⊥)
+    → OnOk r (AddsPart old (item_text style i) new) → OnOk r (AddsIn style old (changed before after i) new)
+differs_in_ok (Ok x) style old new before after i ne h = differs style old new before after i ne h
+differs_in_ok (Err e) style old new before after i ne h = tt
 
 pub differs_ok : {T E : Type 0} (r : Result T E) (old new : List ℕ) (before after : ℕ) (i : Item) → (before ≡ after → ⊥) → OnOk r (AddsItem old i new)
     → OnOk r (Adds old (changed before after i) new)
-differs_ok (Ok x) old new before after i ne h = λ naming. differs naming old new before after i ne (h naming)
+differs_ok (Ok x) old new before after i ne h = λ style. differs style old new before after i ne (h style)
 differs_ok (Err e) old new before after i ne h = tt
 
 pub unless_ok : {T E : Type 0} (r : Result T E) (t : Bool) (old new : List ℕ) (i : Item) → t ≡ false → OnOk r (AddsItem old i new)
@@ -96,10 +103,10 @@ pub not_when : (t : Bool) (old : List ℕ) (i : Item) → t ≡ false → Adds o
 not_when true old i is = absurd (let bad : true ≡ false = is in cc)
 not_when false old i is = spaced_none old
 
-pub both_in_ok : {T E : Type 0} (r : Result T E) (naming : Naming) (old mid new : List ℕ) (xs ys : List Item) → AddsIn naming old xs mid → OnOk r (Adds mid ys new)
-    → OnOk r (AddsIn naming old (xs ++ ys) new)
-both_in_ok (Ok x) naming old mid new xs ys h k = both_in naming old mid new xs ys h (k naming)
-both_in_ok (Err e) naming old mid new xs ys h k = tt
+pub both_in_ok : {T E : Type 0} (r : Result T E) (style : Style) (old mid new : List ℕ) (xs ys : List Item) → AddsIn style old xs mid → OnOk r (Adds mid ys new)
+    → OnOk r (AddsIn style old (xs ++ ys) new)
+both_in_ok (Ok x) style old mid new xs ys h k = both_in style old mid new xs ys h (k style)
+both_in_ok (Err e) style old mid new xs ys h k = tt
 
 pub both_ok : {T E : Type 0} (r : Result T E) (old mid new : List ℕ) (xs ys : List Item) → Adds old xs mid → OnOk r (Adds mid ys new)
     → OnOk r (Adds old (xs ++ ys) new)
@@ -116,26 +123,26 @@ pub glued_ok : {T E : Type 0} (r : Result T E) (old first second new a b c : Lis
     → OnOk r (new ≡ old ++ ((a ++ b) ++ c))
 glued_ok r old first second new a b c h k l = appended_ok r old second new (a ++ b) c (k ∙ ap (λ bs. bs ++ b) h ∙ append_assoc old a b) l
 
--- an item whose text is this part, however registers are named
-pub item_ok : {T E : Type 0} (r : Result T E) (old new part : List ℕ) (i : Item) → ((naming : Naming) → item_text naming i ≡ part) → OnOk r (AddsPart old part new)
+-- an item whose text is this part, in every style
+pub item_ok : {T E : Type 0} (r : Result T E) (old new part : List ℕ) (i : Item) → ((style : Style) → item_text style i ≡ part) → OnOk r (AddsPart old part new)
     → OnOk r (AddsItem old i new)
-item_ok (Ok x) old new part i is h = λ naming. h ∙ ap (λ p. old ++ 32 ∷ p) (sym (is naming))
+item_ok (Ok x) old new part i is h = λ style. h ∙ ap (λ p. old ++ 32 ∷ p) (sym (is style))
 item_ok (Err e) old new part i is h = tt
 
 -- items behind a line's beginning
 
-pub nothing_behind : (naming : Naming) (old items : List ℕ) (is : List Item) → length items ≡ 0 → items ≡ spaced naming is → old ≡ old ++ behind naming is
+pub nothing_behind : (style : Style) (old items : List ℕ) (is : List Item) → length items ≡ 0 → items ≡ spaced style is → old ≡ old ++ behind style is
 unfolding spaced
-nothing_behind naming old items [] none are = sym (append-nil old)
-nothing_behind naming old items (i ∷ is) none are =
-    absurd (let long : length items ≡ length (spaced naming (i ∷ is)) = ap length are in let bad : ⊥ = omega (arith, long, none) in bad)
+nothing_behind style old items [] none are = sym (append-nil old)
+nothing_behind style old items (i ∷ is) none are =
+    absurd (let long : length items ≡ length (spaced style (i ∷ is)) = ap length are in let bad : ⊥ = omega (arith, long, none) in bad)
 
-pub some_behind : {T E : Type 0} (r : Result T E) (naming : Naming) (old mid new items : List ℕ) (is : List Item) → (length items ≡ 0 → ⊥) → items ≡ spaced naming is
-    → mid ≡ old ++ 32 ∷ [] → OnOk r (new ≡ mid ++ items) → OnOk r (new ≡ old ++ behind naming is)
+pub some_behind : {T E : Type 0} (r : Result T E) (style : Style) (old mid new items : List ℕ) (is : List Item) → (length items ≡ 0 → ⊥) → items ≡ spaced style is
+    → mid ≡ old ++ 32 ∷ [] → OnOk r (new ≡ mid ++ items) → OnOk r (new ≡ old ++ behind style is)
 unfolding spaced
-some_behind r naming old mid new items [] some are here h = absurd (some (ap length are))
-some_behind (Ok x) naming old mid new items (i ∷ is) some are here h = h ∙ ap (λ bs. bs ++ items) here ∙ append_assoc old (32 ∷ []) items ∙ ap (λ bs. old ++ 32 ∷ bs) are
-some_behind (Err e) naming old mid new items (i ∷ is) some are here h = tt
+some_behind r style old mid new items [] some are here h = absurd (some (ap length are))
+some_behind (Ok x) style old mid new items (i ∷ is) some are here h = h ∙ ap (λ bs. bs ++ items) here ∙ append_assoc old (32 ∷ []) items ∙ ap (λ bs. old ++ 32 ∷ bs) are
+some_behind (Err e) style old mid new items (i ∷ is) some are here h = tt
 
 counted : (a n j : ℕ) → a + n ≡ j → range_with_len a (n + 1) ≡ range_with_len a n ++ j ∷ []
 counted a n j e =

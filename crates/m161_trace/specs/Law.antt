@@ -133,11 +133,12 @@ pub record TellsLoad (p : ℕ) (s t : State) (word : ℕ) (r : Reference) : Type
   pub at : ℕ
   pub address_is : address_of (processor_at p s.processors) r ≡ Ok at
   pub of_ram : (loaded : ℕ) → word_in s.memory (at / 4 * 4) ≡ Some loaded
-      → load_of p s outcomes.Ran t ≡ Some (record { at = at / 4 * 4; word = loaded })
+      → load_of p s outcomes.Ran t ≡ Some (record { at = at / 4 * 4; word = loaded; in_ram = true })
   pub of_slot : word_in s.memory (at / 4 * 4) ≡ None → 1 ≤ rt_of word
       → load_of p s outcomes.Ran t ≡ Some (record {
         at = at / 4 * 4;
         word = slice_index (processor_at p t.processors).registers (rt_of word);
+        in_ram = false;
       })
 
 -- the law of the loads: each is told, and nothing else is

@@ -1,4 +1,4 @@
-use Rattle.std.specs.Prelude.{ℕ, Bool, true, false, if◌then◌else◌, List, [], ◌∷◌, ◌++◌, flat_map, slice_index_or, Option, None, Some, codes, decimal}
+use Rattle.std.specs.Prelude.{ℕ, ◌+◌, ◌^◌, Bool, true, false, nat_lt, if◌then◌else◌, List, [], ◌∷◌, ◌++◌, flat_map, slice_index_or, Option, None, Some, codes, decimal}
 use Rattle.m161_text.specs.Parts.{◌␣◌, hex_text, word_text}
 use Rattle.m161_asm.specs.Tokens.{register_names}
 use Rattle.m161_dis.specs.declared.naming.Naming.{Naming}
@@ -45,42 +45,52 @@ abbrev pub register_label : Naming → ℕ → List ℕ
 register_label Numbers r = codes "r" ++ decimal r
 register_label Names r = slice_index_or register_names r []
 
-abbrev pub item_text : Naming → Item → List ℕ
-item_text naming (doing state) = codes "state=" ++ state_text state
-item_text naming (register r word) = value_text (register_label naming r) word
-item_text naming (hi word) = value_text (codes "hi") word
-item_text naming (lo word) = value_text (codes "lo") word
-item_text naming (control r word) = value_text (name_of_register r) word
-item_text naming (row i high low) = value_text (codes "tlb" ␣ decimal i) high ␣ word_text low
-item_text naming (stored at word) = codes "[" ++ word_text at ++ codes "]=" ++ word_text word
-item_text naming (linked word) = value_text (codes "link") word
-item_text naming (unlinked q) = codes "unlink" ␣ decimal q
-item_text naming (latched byte) = codes "latch=" ++ hex_text 2 byte
-item_text naming (waiting n) = codes "waiting=" ++ decimal n
-item_text naming (board place word) = value_text (place_text place) word
-item_text naming (trapped code vector) = codes "trap" ␣ decimal (number_of_exception code) ␣ word_text vector
-item_text naming idle = codes "idle"
-item_text naming off = codes "off"
-item_text naming (conflict i j) = codes "conflict" ␣ decimal i ␣ decimal j
-item_text naming (starts q) = codes "starts" ␣ decimal q
+-- the place of an address of RAM: that of the same byte in kseg0, which has the first 2^29 bytes
+abbrev pub ram_place : List (List ℕ × ℕ) → ℕ → List ℕ
+ram_place symbols at = if nat_lt at (2 ^ 29) then place_behind symbols (2 ^ 31 + at) else []
+
+abbrev pub item_text : Style → Item → List ℕ
+item_text style (doing state) = codes "state=" ++ state_text state
+item_text style (register r word) = value_text (register_label style.registers r) word
+item_text style (hi word) = value_text (codes "hi") word
+item_text style (lo word) = value_text (codes "lo") word
+item_text style (control r word) = value_text (name_of_register r) word
+item_text style (row i high low) = value_text (codes "tlb" ␣ decimal i) high ␣ word_text low
+item_text style (stored at word) =
+    codes "[" ++ word_text at ++ ram_place style.symbols at ++ codes "]=" ++ word_text word
+item_text style (linked word) = value_text (codes "link") word
+item_text style (unlinked q) = codes "unlink" ␣ decimal q
+item_text style (latched byte) = codes "latch=" ++ hex_text 2 byte
+item_text style (waiting n) = codes "waiting=" ++ decimal n
+item_text style (board place word) = value_text (place_text place) word
+item_text style (trapped code vector) = codes "trap" ␣ decimal (number_of_exception code) ␣ word_text vector
+item_text style idle = codes "idle"
+item_text style off = codes "off"
+item_text style (conflict i j) = codes "conflict" ␣ decimal i ␣ decimal j
+item_text style (starts q) = codes "starts" ␣ decimal q
 
 -- items, a space before each
-unfoldable pub spaced : Naming → List Item → List ℕ
-spaced naming is = flat_map (λ i. 32 ∷ item_text naming i) is
+unfoldable pub spaced : Style → List Item → List ℕ
+spaced style is = flat_map (λ i. 32 ∷ item_text style i) is
 
 -- items behind a line's beginning: two spaces before the first, and one between two
-abbrev pub behind : Naming → List Item → List ℕ
-behind naming [] = []
-behind naming (i ∷ is) = 32 ∷ spaced naming (i ∷ is)
+abbrev pub behind : Style → List Item → List ℕ
+behind style [] = []
+behind style (i ∷ is) = 32 ∷ spaced style (i ∷ is)
 
--- what a Step loaded: the address of the word in parentheses
-abbrev pub load_text : Load → List ℕ
-load_text load = codes "(" ++ word_text load.at ++ codes ")=" ++ word_text load.word
+-- what a Step loaded: the address of the word in parentheses, with its place if it is one of RAM
+abbrev pub load_place : List (List ℕ × ℕ) → Load → List ℕ
+load_place symbols load = if load.in_ram then ram_place symbols load.at else []
+
+abbrev pub load_text : List (List ℕ × ℕ) → Load → List ℕ
+load_text symbols load =
+    codes "(" ++ word_text load.at ++ load_place symbols load ++ codes ")=" ++ word_text load.word
 
 -- the same with a load before the items, if there is one
-abbrev pub behind_load : Naming → Option Load → List Item → List ℕ
-behind_load naming None is = behind naming is
-behind_load naming (Some load) is = codes "  " ++ load_text load ++ spaced naming is
+abbrev pub behind_load : Style → Option Load → List Item → List ℕ
+behind_load style None is = behind style is
+behind_load style (Some load) is =
+    codes "  " ++ load_text style.symbols load ++ spaced style is
 
 -- the address of an instruction with its place behind it
 abbrev pub address_text : Style → ℕ → List ℕ
@@ -100,7 +110,7 @@ step_head style number p s o =
 unfoldable pub step_line : Style → Bool → ℕ → ℕ → State → Outcome → State → List ℕ
 step_line style loads number p s o t =
     step_head style number p s o
-    ++ behind_load style.registers (if loads then load_of p s o t else None) (items p s o t)
+    ++ behind_load style (if loads then load_of p s o t else None) (items p s o t)
 
 -- the line of an event, without its end, by the state before it, its outcome and the state after it;
 -- with what a Step loads, or without

@@ -38,6 +38,15 @@ word_around size at = if nat_le (at / 4 * 4 + 4) size then Some (at / 4 * 4) els
 unfoldable pub loaded : ℕ → State → Outcome → Option ℕ
 loaded p s o = option_and_then (word_around (length s.memory)) (loaded_address p s o)
 
+-- that a Step with this outcome loaded: one that ran
+abbrev pub loaded_by : ℕ → State → Outcome → Option ℕ
+loaded_by p s outcomes.Ran = loaded p s outcomes.Ran
+loaded_by p s (outcomes.Trapped code vector) = None
+loaded_by p s outcomes.Idle = None
+loaded_by p s outcomes.PoweredOff = None
+loaded_by p s (outcomes.Conflict row other) = None
+loaded_by p s outcomes.Taken = None
+
 -- What a line tells of it: the physical address of the word that has the bytes, and that word.
 
 -- of a slot the word that was read, as the register has it after the Step; register 0 has none
@@ -45,18 +54,15 @@ abbrev pub word_got : ℕ → Processor → Option ℕ
 word_got r p = if r == 0 then None else Some (slice_index p.registers r)
 
 -- of RAM the word before the Step
-abbrev pub word_or : Option ℕ → Option ℕ → Option ℕ
-word_or (Some word) got = Some word
-word_or None got = got
-
-abbrev pub load_at : ℕ → Option ℕ → Option Load
-load_at at word = option_map (λ w. record { at = at; word = w }) word
+abbrev pub load_at : ℕ → Option ℕ → Option ℕ → Option Load
+load_at at (Some word) got = Some (record { at = at; word = word; in_ram = true })
+load_at at None got =
+    option_map (λ w. record { at = at; word = w; in_ram = false }) got
 
 -- from a physical address, to a register
 abbrev pub load_from : ℕ → State → State → ℕ → ℕ → Option Load
 load_from p s t r at =
-    load_at (at / 4 * 4)
-    (word_or (word_in s.memory (at / 4 * 4)) (word_got r (processor_at p t.processors)))
+    load_at (at / 4 * 4) (word_in s.memory (at / 4 * 4)) (word_got r (processor_at p t.processors))
 
 -- by the instruction of a word
 abbrev pub load_by : ℕ → State → State → ℕ → Option Load

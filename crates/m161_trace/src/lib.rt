@@ -24,7 +24,8 @@
 //! ```
 //!
 //! With symbols in its style, a line has the place of its address behind it: `80010008 <loop+8>`, and
-//! so has a branch's target in the text.
+//! so has a branch's target in the text. An address of RAM in an item has that of the same byte in
+//! kseg0: `[00001000 <total>]=00000004`.
 //!
 //! The line is one definition over the two states and the outcome. `Tracer` is a second state of the
 //! machine, one event behind it, so what it takes doesn't grow with the run. The form is this
@@ -38,10 +39,12 @@ mod places;
 mod processor;
 mod shared;
 mod text;
+mod touched;
 mod tracer;
 
 pub use laws::{items_tell, loads_tell};
 pub use line::write_line;
-pub use loads::loaded;
+pub use loads::{loaded, word_around};
 pub use m161_dis::{Naming, Style};
+pub use touched::Touched;
 pub use tracer::Tracer;

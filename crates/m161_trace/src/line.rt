@@ -2,14 +2,13 @@
 
 ghost use Rattle.std.specs.Prelude.{◌≡◌, ◌⊎◌, ◌<◌, ◌++◌, List, None, Ok, OnOk, codes, decimal, false, if◌then◌else◌, is_some, length, string_bytes, true};
 ghost use Rattle.m161_cpu.specs.Fetch.{fetched_word};
-ghost use Rattle.m161_dis.specs.declared.naming.Naming.{Naming};
 ghost use Rattle.m161_machine.specs.declared.event.Event.TheVariants as events;
 ghost use Rattle.m161_machine.specs.Fetched.{fetches_none};
 ghost use Rattle.m161_machine.specs.State.{next, processor_at};
 ghost use Rattle.m161_machine.specs.Uses.{uses_in};
 ghost use Rattle.m161_text.specs.Parts.{◌␣◌, hex_text};
 ghost use Rattle.m161_trace.specs.Items.{Item, items, shared_items};
-ghost use Rattle.m161_trace.specs.Line.{address_text, behind, behind_load, event_line, event_line_with, instruction_text, load_text, spaced, step_head, step_line};
+ghost use Rattle.m161_trace.specs.Line.{address_text, behind, behind_load, event_line, event_line_with, instruction_text, load_place, load_text, spaced, step_head, step_line};
 ghost use Rattle.m161_trace.specs.Loads.{load_of};
 ghost use Rattle.m161_text.specs.Lines.{with_line_end};
 ghost use Rattle.m161_trace.specs.helpers.Far.{is_far, is_far_found, is_far_word};
@@ -22,12 +21,13 @@ use crate::processor::add_processor;
 use crate::shared::{
     add_latch_of, add_links, add_outcome, add_starts_of, add_stored, add_waiting_of,
 };
+use crate::text::push_ram_place;
 use m161_bus::Console;
 use m161_decode::row_that_fits;
-use m161_dis::{Naming, Style, push_line_with};
+use m161_dis::{Style, push_line_with};
 use m161_isa::Effect;
 use m161_machine::{Core, Event, Outcome, fetches_none};
-use m161_symbols::push_place_behind;
+use m161_symbols::{Symbols, push_place_behind};
 use m161_text::push_hex;
 use m161_tlb::Tlb;
 use std::alloc::AllocError;
@@ -36,6 +36,7 @@ use std::fmt::Write;
 // What changed beside the processor.
 fn add_shared<T: Tlb, D: Console>(
     text: &mut String,
+    style: &Style,
     p: u32,
     before: &Core<T, D>,
     after: &Core<T, D>,
@@ -45,11 +46,11 @@ fn add_shared<T: Tlb, D: Console>(
     requires alike { AreAlike p before.now.state after.now.state }
     requires stored { stored ≡ (uses_in p before.now.state).stored }
     requires near { far ≡ false → IsNear p before.now.state after.now.state }
-    ensures { OnOk result (Adds (string_bytes text.old)
+    ensures { OnOk result (AddsIn style.now (string_bytes text.old)
         (shared_items p before.now.state after.now.state)
         (string_bytes text.new)) }
 {
-    add_stored(text, stored, after)?;
+    add_stored(text, style, stored, after)?;
     add_links(text, p, before, after)?;
     add_latch_of(text, before, after)?;
     add_waiting_of(text, before, after)?;
@@ -95,7 +96,7 @@ fn is_far_step(fetch: Option<u32>, stored: Option<u32>) -> bool
 /// The items of a Step of processor `p`, which would fetch this word.
 pub(crate) fn add_items<T: Tlb, D: Console>(
     text: &mut String,
-    naming: Naming,
+    style: &Style,
     p: u32,
     before: &Core<T, D>,
     fetch: Option<u32>,
@@ -107,14 +108,14 @@ pub(crate) fn add_items<T: Tlb, D: Console>(
     requires fetch { fetch ≡ fetched_word before.now.state.memory
         (processor_at p before.now.state.processors).pc
         (processor_at p before.now.state.processors) }
-    ensures { OnOk result (AddsIn naming (string_bytes text.old)
+    ensures { OnOk result (AddsIn style.now (string_bytes text.old)
         (items p before.now.state outcome after.now.state)
         (string_bytes text.new)) }
 {
     let stored = before.uses(p).stored;
     let far = is_far_step(fetch, stored);
-    add_processor(text, naming, p, before, after, far)?;
-    add_shared(text, p, before, after, stored, far)?;
+    add_processor(text, style, p, before, after, far)?;
+    add_shared(text, style, p, before, after, stored, far)?;
     add_outcome(text, outcome)?;
     add_starts_of(text, before, after)
 }
@@ -181,9 +182,9 @@ fn push_part(text: &mut String, part: &str) -> Result<(), AllocError>
 }
 
 // Appends items to a line's beginning.
-fn push_items(text: &mut String, items: &str) -> Result<(), AllocError>
-    ensures { (naming : Naming) (is : List Item) → items.now ≡ spaced naming is
-        → OnOk result (string_bytes text.new ≡ string_bytes text.old ++ behind naming is) }
+fn push_items(text: &mut String, style: &Style, items: &str) -> Result<(), AllocError>
+    ensures { (is : List Item) → items.now ≡ spaced style.now is
+        → OnOk result (string_bytes text.new ≡ string_bytes text.old ++ behind style.now is) }
 {
     if items.len() == 0 {
         return Ok(());
@@ -192,27 +193,45 @@ fn push_items(text: &mut String, items: &str) -> Result<(), AllocError>
     push_part(text, items)
 }
 
-// Appends a load to a line's beginning.
-fn push_load(text: &mut String, load: Load) -> Result<(), AllocError>
+// Appends the place of what was loaded, if that is a word of RAM.
+fn push_load_place(text: &mut String, symbols: &Symbols, load: Load) -> Result<(), AllocError>
     ensures { OnOk result (string_bytes text.new
-        ≡ string_bytes text.old ++ (codes "  " ++ load_text load)) }
+        ≡ string_bytes text.old ++ load_place symbols.now load) }
+{
+    if load.in_ram {
+        push_ram_place(text, symbols, load.at)
+    } else {
+        Ok(())
+    }
+}
+
+// Appends a load to a line's beginning.
+fn push_load(text: &mut String, symbols: &Symbols, load: Load) -> Result<(), AllocError>
+    ensures { OnOk result (string_bytes text.new
+        ≡ string_bytes text.old ++ (codes "  " ++ load_text symbols.now load)) }
 {
     text.push_str("  (")?;
     push_hex(text, 8, load.at)?;
+    push_load_place(text, symbols, load)?;
     text.push_str(")=")?;
     push_hex(text, 8, load.word)
 }
 
 // Appends a load, if there is one, and items to a line's beginning.
-fn push_load_and_items(text: &mut String, load: Option<Load>, items: &str) -> Result<(), AllocError>
-    ensures { (naming : Naming) (is : List Item) → items.now ≡ spaced naming is
+fn push_load_and_items(
+    text: &mut String,
+    style: &Style,
+    load: Option<Load>,
+    items: &str,
+) -> Result<(), AllocError>
+    ensures { (is : List Item) → items.now ≡ spaced style.now is
         → OnOk result (string_bytes text.new
-        ≡ string_bytes text.old ++ behind_load naming load is) }
+        ≡ string_bytes text.old ++ behind_load style.now load is) }
 {
     match load {
-        None => push_items(text, items),
+        None => push_items(text, style, items),
         Some(load) => {
-            push_load(text, load)?;
+            push_load(text, &style.symbols, load)?;
             push_part(text, items)
         }
     }
@@ -281,7 +300,7 @@ fn push_head<T: Tlb, D: Console>(
 // Writes the items of a Step of processor `p`, which would fetch this word, into a text.
 fn fill_items<T: Tlb, D: Console>(
     text: &mut String,
-    naming: Naming,
+    style: &Style,
     p: u32,
     before: &Core<T, D>,
     fetch: Option<u32>,
@@ -294,10 +313,10 @@ fn fill_items<T: Tlb, D: Console>(
         (processor_at p before.now.state.processors).pc
         (processor_at p before.now.state.processors) }
     ensures { OnOk result (string_bytes text.new
-        ≡ spaced naming (items p before.now.state outcome after.now.state)) }
+        ≡ spaced style.now (items p before.now.state outcome after.now.state)) }
 {
     text.clear();
-    add_items(text, naming, p, before, fetch, outcome, after)
+    add_items(text, style, p, before, fetch, outcome, after)
 }
 
 // Appends the line of a Step of processor `p`, without its end.
@@ -319,8 +338,8 @@ fn push_step_line<T: Tlb, D: Console>(
     let fetch = fetch_of(p, before);
     push_head(text, style, number, p, before, fetch, outcome)?;
     let load = load_if(loads, p, before, fetch, outcome, after);
-    fill_items(items, style.registers, p, before, fetch, outcome, after)?;
-    push_load_and_items(text, load, items.as_str())
+    fill_items(items, style, p, before, fetch, outcome, after)?;
+    push_load_and_items(text, style, load, items.as_str())
 }
 
 // Appends the line of a key, without its end.

@@ -9,7 +9,7 @@ ghost use Rattle.m161_isa.specs.Instr.{rt_of};
 ghost use Rattle.m161_machine.specs.declared.event.Event.TheVariants as events;
 ghost use Rattle.m161_machine.specs.State.{next, processor_at, step_result};
 ghost use Rattle.m161_machine.specs.Uses.{uses_in};
-ghost use Rattle.m161_trace.specs.Loads.{load_at, load_by, load_from, load_of, loaded, loaded_address, loads_by, word_around, word_got, word_or};
+ghost use Rattle.m161_trace.specs.Loads.{load_at, load_by, load_from, load_of, loaded, loaded_address, loads_by, word_around, word_got};
 ghost use Rattle.m161_trace.specs.helpers.Adds.{AreAlike};
 ghost use Rattle.m161_trace.specs.helpers.Loads.{IsLoadFrom, IsReached, Reaches};
 
@@ -28,6 +28,8 @@ pub(crate) struct Load {
     pub(crate) at: u32,
     /// That word.
     pub(crate) word: u32,
+    /// Whether it is one of RAM, and not of a slot.
+    pub(crate) in_ram: bool,
 }
 
 // The address of a load.
@@ -106,8 +108,8 @@ fn loaded_address<T: Tlb, D: Console>(
     }
 }
 
-// The word that a physical address is in, if RAM is so large.
-fn word_around(size: usize, at: u32) -> Option<u32>
+/// The word of RAM that a physical address is in, by its first byte's, if RAM is so large.
+pub fn word_around(size: usize, at: u32) -> Option<u32>
     ensures { result ≡ word_around size at }
 {
     let word = at / 4 * 4;
@@ -151,22 +153,25 @@ fn word_got<T: Tlb, D: Console>(p: u32, r: Reg, after: &Core<T, D>) -> Option<u3
     }
 }
 
-// The word of RAM, or else that of a slot.
-fn word_or(word: Option<u32>, got: Option<u32>) -> Option<u32>
-    ensures { result ≡ word_or word got }
+// A load of this word of RAM, or else of what a slot gave, if that went to a register.
+fn load_at(at: u32, word: Option<u32>, got: Option<u32>) -> Option<Load>
+    ensures { result ≡ load_at at word got }
 {
     match word {
-        Some(word) => Some(word),
-        None => got,
+        Some(word) => Some(Load {
+            at,
+            word,
+            in_ram: true,
+        }),
+        None => {
+            let word = got?;
+            Some(Load {
+                at,
+                word,
+                in_ram: false,
+            })
+        }
     }
-}
-
-// A load of this word, if there is one.
-fn load_at(at: u32, word: Option<u32>) -> Option<Load>
-    ensures { result ≡ load_at at word }
-{
-    let word = word?;
-    Some(Load { at, word })
 }
 
 // A load from a physical address to a register.
@@ -181,7 +186,7 @@ fn load_from<T: Tlb, D: Console>(
     ensures { result ≡ load_from p before.now.state after.now.state r at }
 {
     let word = at / 4 * 4;
-    load_at(word, word_or(before.word(word), word_got(p, r, after)))
+    load_at(word, before.word(word), word_got(p, r, after))
 }
 
 // The register that the instruction of a word loads, if it is a load.

@@ -9,7 +9,7 @@ ghost use Rattle.m161_trace.specs.helpers.Near.{IsNear};
 
 use crate::text::{push_control, push_doing, push_hi, push_lo, push_register, push_row};
 use m161_bus::Console;
-use m161_dis::Naming;
+use m161_dis::Style;
 use m161_machine::{Core, ProcessorState, Reg, Register, Row};
 use m161_tlb::Tlb;
 use std::alloc::AllocError;
@@ -73,25 +73,25 @@ fn add_state_of<T: Tlb, D: Console>(
 // A register, if it changed.
 fn add_changed_register(
     text: &mut String,
-    naming: Naming,
+    style: &Style,
     r: u8,
     before: u32,
     after: u32,
 ) -> Result<(), AllocError>
     requires { r < 32 }
-    ensures { OnOk result (AddsIn naming (string_bytes text.old) (changed before after (register r after))
+    ensures { OnOk result (AddsIn style.now (string_bytes text.old) (changed before after (register r after))
         (string_bytes text.new)) }
 {
     if before == after {
         return Ok(());
     }
-    push_register(text, naming, r, after)
+    push_register(text, style, r, after)
 }
 
 // Register `r` of the two states.
 fn add_register<T: Tlb, D: Console>(
     text: &mut String,
-    naming: Naming,
+    style: &Style,
     p: u32,
     before: &Core<T, D>,
     after: &Core<T, D>,
@@ -99,7 +99,7 @@ fn add_register<T: Tlb, D: Console>(
 ) -> Result<(), AllocError>
     requires have { Have p before.now.state after.now.state }
     requires register { r < 32 }
-    ensures { OnOk result (AddsIn naming (string_bytes text.old)
+    ensures { OnOk result (AddsIn style.now (string_bytes text.old)
         (register_item (processor_at p before.now.state.processors)
         (processor_at p after.now.state.processors) r)
         (string_bytes text.new)) }
@@ -107,7 +107,7 @@ fn add_register<T: Tlb, D: Console>(
     let register = Reg::new(r);
     add_changed_register(
         text,
-        naming,
+        style,
         r,
         before.reg(p, register),
         after.reg(p, register),
@@ -117,19 +117,19 @@ fn add_register<T: Tlb, D: Console>(
 // The general registers that changed.
 fn add_registers<T: Tlb, D: Console>(
     text: &mut String,
-    naming: Naming,
+    style: &Style,
     p: u32,
     before: &Core<T, D>,
     after: &Core<T, D>,
 ) -> Result<(), AllocError>
     requires { Have p before.now.state after.now.state }
-    ensures { OnOk result (AddsIn naming (string_bytes text.old)
+    ensures { OnOk result (AddsIn style.now (string_bytes text.old)
         (register_items (processor_at p before.now.state.processors)
         (processor_at p after.now.state.processors))
         (string_bytes text.new)) }
 {
     for r in 1..32u8 {
-        add_register(text, naming, p, before, after, r)?;
+        add_register(text, style, p, before, after, r)?;
     }
     Ok(())
 }
@@ -355,7 +355,7 @@ fn add_rows_if<T: Tlb, D: Console>(
 /// can have changed.
 pub(crate) fn add_processor<T: Tlb, D: Console>(
     text: &mut String,
-    naming: Naming,
+    style: &Style,
     p: u32,
     before: &Core<T, D>,
     after: &Core<T, D>,
@@ -363,12 +363,12 @@ pub(crate) fn add_processor<T: Tlb, D: Console>(
 ) -> Result<(), AllocError>
     requires have { Have p before.now.state after.now.state }
     requires near { far ≡ false → IsNear p before.now.state after.now.state }
-    ensures { OnOk result (AddsIn naming (string_bytes text.old)
+    ensures { OnOk result (AddsIn style.now (string_bytes text.old)
         (processor_items p before.now.state after.now.state)
         (string_bytes text.new)) }
 {
     add_state_of(text, p, before, after)?;
-    add_registers(text, naming, p, before, after)?;
+    add_registers(text, style, p, before, after)?;
     add_hi_lo(text, p, before, after)?;
     add_controls(text, p, before, after)?;
     add_rows_if(text, p, before, after, far)

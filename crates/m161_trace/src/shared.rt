@@ -5,53 +5,61 @@ ghost use Rattle.std.specs.Prelude.{◌≡◌, ◌<◌, ◌≤◌, ◌&&◌, OnO
 ghost use Rattle.m161_isa.specs.Bits.{has_bit};
 ghost use Rattle.m161_machine.specs.State.{word_in};
 ghost use Rattle.m161_trace.specs.Items.{changed, ended_by, latch_items, latched, latched_as, link_items, linked, linked_as, linked_items, outcome_items, start_item, start_items, stored_as, stored_items, unlinked_by, unlinked_item, waiting, waiting_items};
-ghost use Rattle.m161_trace.specs.helpers.Adds.{Adds, Have};
+ghost use Rattle.m161_trace.specs.helpers.Adds.{Adds, AddsIn, Have};
 
 use crate::text::{
     push_conflict, push_idle, push_latched, push_linked, push_off, push_starts, push_stored,
     push_trapped, push_unlinked, push_waiting,
 };
 use m161_bus::Console;
+use m161_dis::Style;
 use m161_machine::{BoardWord, Core, Outcome};
 use m161_tlb::Tlb;
 use std::alloc::AllocError;
 
 // The word of RAM at an address, if there is one.
-fn add_stored_as(text: &mut String, at: u32, word: Option<u32>) -> Result<(), AllocError>
-    ensures { OnOk result (Adds (string_bytes text.old) (stored_as at word)
+fn add_stored_as(
+    text: &mut String,
+    style: &Style,
+    at: u32,
+    word: Option<u32>,
+) -> Result<(), AllocError>
+    ensures { OnOk result (AddsIn style.now (string_bytes text.old) (stored_as at word)
         (string_bytes text.new)) }
 {
     match word {
         None => Ok(()),
-        Some(word) => push_stored(text, at, word),
+        Some(word) => push_stored(text, style, at, word),
     }
 }
 
 // The word of RAM at an address, after the Step.
 fn add_stored_at<T: Tlb, D: Console>(
     text: &mut String,
+    style: &Style,
     at: u32,
     after: &Core<T, D>,
 ) -> Result<(), AllocError>
-    ensures { OnOk result (Adds (string_bytes text.old)
+    ensures { OnOk result (AddsIn style.now (string_bytes text.old)
         (stored_as at (word_in after.now.state.memory at))
         (string_bytes text.new)) }
 {
-    add_stored_as(text, at, after.word(at))
+    add_stored_as(text, style, at, after.word(at))
 }
 
 /// The word of RAM that the Step stored to.
 pub(crate) fn add_stored<T: Tlb, D: Console>(
     text: &mut String,
+    style: &Style,
     stored: Option<u32>,
     after: &Core<T, D>,
 ) -> Result<(), AllocError>
-    ensures { OnOk result (Adds (string_bytes text.old) (stored_items stored after.now.state.memory)
+    ensures { OnOk result (AddsIn style.now (string_bytes text.old) (stored_items stored after.now.state.memory)
         (string_bytes text.new)) }
 {
     match stored {
         None => Ok(()),
-        Some(at) => add_stored_at(text, at, after),
+        Some(at) => add_stored_at(text, style, at, after),
     }
 }
 

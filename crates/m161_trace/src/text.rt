@@ -4,12 +4,13 @@ ghost use Rattle.std.specs.Prelude.{◌≡◌, ◌<◌, ◌++◌, ◌∷◌, [],
 ghost use Rattle.m161_asm.specs.Tokens.{register_names};
 ghost use Rattle.m161_trace.specs.Items.{board, conflict, control, doing, hi, idle, latched, linked, lo, off, register, row, starts, stored, trapped, unlinked, waiting};
 ghost use Rattle.m161_text.specs.Parts.{word_text};
-ghost use Rattle.m161_trace.specs.Line.{item_text, place_text, register_label, value_text};
+ghost use Rattle.m161_trace.specs.Line.{item_text, place_text, ram_place, register_label, value_text};
 ghost use Rattle.m161_trace.specs.helpers.Adds.{AddsItem, AddsPart};
 
 use m161_asm::register_name;
-use m161_dis::Naming;
+use m161_dis::{Naming, Style};
 use m161_machine::{BoardWord, Exception, ProcessorState, Register};
+use m161_symbols::{Symbols, push_place_behind};
 use m161_text::push_hex;
 use std::alloc::AllocError;
 use std::fmt::Write;
@@ -63,15 +64,15 @@ fn push_label(text: &mut String, naming: Naming, r: u8) -> Result<(), AllocError
 /// A general register.
 pub(crate) fn push_register(
     text: &mut String,
-    naming: Naming,
+    style: &Style,
     r: u8,
     word: u32,
 ) -> Result<(), AllocError>
     requires { r < 32 }
-    ensures { OnOk result (AddsPart (string_bytes text.old) (item_text naming (register r word))
+    ensures { OnOk result (AddsPart (string_bytes text.old) (item_text style.now (register r word))
         (string_bytes text.new)) }
 {
-    push_label(text, naming, r)?;
+    push_label(text, style.registers, r)?;
     text.push('=')?;
     push_hex(text, 8, word)
 }
@@ -111,6 +112,22 @@ pub(crate) fn push_row(text: &mut String, i: u8, high: u32, low: u32) -> Result<
     push_hex(text, 8, low)
 }
 
+/// The place of an address of RAM, with a space before it.
+pub(crate) fn push_ram_place(
+    text: &mut String,
+    symbols: &Symbols,
+    at: u32,
+) -> Result<(), AllocError>
+    ensures { OnOk result (string_bytes text.new
+        ≡ string_bytes text.old ++ ram_place symbols.now at) }
+{
+    if at < 1 << 29 {
+        push_place_behind(text, symbols, (1 << 31) + at)
+    } else {
+        Ok(())
+    }
+}
+
 // A bracket and an address.
 fn push_open(text: &mut String, at: u32) -> Result<(), AllocError>
     ensures { OnOk result (AddsPart (string_bytes text.old) (codes "[" ++ word_text at)
@@ -128,11 +145,17 @@ fn push_close(text: &mut String) -> Result<(), AllocError>
 }
 
 /// A word of RAM that was stored to.
-pub(crate) fn push_stored(text: &mut String, at: u32, word: u32) -> Result<(), AllocError>
-    ensures { OnOk result (AddsItem (string_bytes text.old) (stored at word)
+pub(crate) fn push_stored(
+    text: &mut String,
+    style: &Style,
+    at: u32,
+    word: u32,
+) -> Result<(), AllocError>
+    ensures { OnOk result (AddsPart (string_bytes text.old) (item_text style.now (stored at word))
         (string_bytes text.new)) }
 {
     push_open(text, at)?;
+    push_ram_place(text, &style.symbols, at)?;
     push_close(text)?;
     push_hex(text, 8, word)
 }

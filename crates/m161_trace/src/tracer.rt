@@ -6,8 +6,10 @@ ghost use Rattle.m161_machine.specs.State.{State, next};
 ghost use Rattle.m161_machine.specs.History.{Makes};
 ghost use Rattle.m161_text.specs.Lines.{with_line_end};
 ghost use Rattle.m161_trace.specs.Line.{event_line, event_line_with};
+ghost use Rattle.m161_trace.specs.Touched.{touched};
 
 use crate::line::write_line_with;
+use crate::touched::{Touched, event_touched};
 use m161_bus::Console;
 use m161_dis::Style;
 use m161_machine::{Core, Event, Machine, Outcome, Refusal};
@@ -135,6 +137,15 @@ impl<T: Tlb, D: Console> Tracer<T, D> {
         ensures { Makes self.old event result self.new }
     {
         self.before.event(event)
+    }
+
+    /// The words of RAM that an event loads and stores which is accepted in this state, with this
+    /// outcome.
+    pub fn touched(&self, event: Event, outcome: Outcome) -> Touched
+        requires { (t : State) × (next self.now event ≡ Ok (outcome, t)) }
+        ensures { result ≡ touched event self.now outcome }
+    {
+        event_touched(&self.before, event, outcome)
     }
 
     /// The state.

@@ -4,3 +4,4 @@ mod Named
 mod Plain
 mod Sampled
 pub mod Putting
+pub mod Words

@@ -1,4 +1,4 @@
-use Rattle.std.proofs.Common.{◌≡◌, ℕ, zero, suc, ◌≤◌, ◌/◌, ◌%◌, Bool, true, false, ◌&&◌, ◌==◌, if◌then◌else◌, List, [], ◌∷◌, ◌++◌, IfSome, inl, inr, codes, decimal, refl, arith}
+use Rattle.std.proofs.Common.{◌≡◌, ℕ, zero, suc, ◌≤◌, ◌/◌, ◌%◌, Bool, true, false, ◌&&◌, ◌==◌, if◌then◌else◌, List, [], ◌∷◌, ◌++◌, IfSome, inl, inr, codes, decimal, encode_utf8_all, refl, arith}
 use Rattle.std.specs.Fmt.{digit_glyph, digits, digits_onto}
 use Rattle.std.specs.List.{list_all}
 use Rattle.std.proofs.lemmas.Bool.{cases_lt, le-ltb, lt-ltb, ne_eqb, or_parts}
@@ -15,11 +15,12 @@ use Rattle.m161_elf.specs.declared.image.LoadError.TheVariants as load
 use Rattle.m161_text.specs.Parts.{◌␣◌, hex_digit, hex_text}
 use Rattle.m161_text.proofs.Hex.{hex_digit_above}
 use Rattle.s161_base.specs.declared.fault.Fault.{Fault}
-use Rattle.s161_base.specs.declared.fault.Fault.TheVariants.{Conf, File, Image, Input, Log, LogImage, LogMachine, Memory, Never, Output, Schedule, Source, Threads, Watch, Watches, Word}
+use Rattle.s161_base.specs.declared.fault.Fault.TheVariants.{Conf, File, Image, Input, Log, LogImage, LogMachine, Memory, Never, Output, Schedule, Source, Threads, Touches, Watch, Watches, Word}
 use Rattle.s161_base.specs.declared.fault.Unread.{Unread}
 use Rattle.s161_base.specs.declared.fault.Unread.TheVariants.{Failed, NotUtf8, TooLong}
+use Rattle.s161_base.specs.Excerpts.{characters_of}
 use Rattle.s161_base.specs.Explained.{explanation_of, of_cause, of_file, of_image, of_input, of_source}
-use Rattle.s161_base.specs.FaultLines.{fault_head, is_marked, is_plain, shown_byte, shown_name, source_text, IsPlain}
+use Rattle.s161_base.specs.FaultLines.{detail_of, fault_head, is_marked, is_plain, quoted, shown_byte, shown_name, source_text, IsPlain}
 
 -- The lines of faults have no byte that ends a line, and one opening bracket at most.
 
@@ -130,11 +131,12 @@ head LogImage = refl
 head (Watches n) = spaced (codes "s161: watches line") (decimal n) refl (number n)
 head (Watch k) = spaced (codes "s161: watch") (decimal k) refl (number k)
 head (Never word) = spaced (codes "s161: never") (shown_name word.now) refl (name word.now)
+head (Touches word) = spaced (codes "s161: touches") (shown_name word.now) refl (name word.now)
 head Conf = refl
 head (Image e) =
     spaced (codes "s161: image") (decimal (number_of_fault e) ␣ name_of_fault e) refl
     (spaced (decimal (number_of_fault e)) (name_of_fault e) (number (number_of_fault e)) (image e))
-head (Source e) = spaced (codes "s161: source") (source_text e) refl (source e)
+head (Source e) = spaced (codes "s161: source") (source_text e.error) refl (source e.error)
 head (Threads c) = spaced (codes "s161: threads") (name_of_cause c) refl (threads c)
 head Memory = refl
 head (Input why) = refl
@@ -193,11 +195,37 @@ why LogImage = refl
 why (Watches n) = refl
 why (Watch k) = refl
 why (Never word) = refl
+why (Touches word) = refl
 why Conf = refl
 why (Image e) = image_why e
-why (Source e) = source_why e.kind
+why (Source e) = source_why e.error.kind
 why (Threads c) = threads_why c
 why Memory = tt
 why (Input reason) = input_why reason
 why Word = refl
 why Output = tt
+
+quoted_plain : (cs : List ℕ) → IsPlain (quoted cs)
+quoted_plain [] = refl
+quoted_plain (c ∷ cs) =
+    let shown = shown_name (encode_utf8_all (c ∷ cs)) in
+    front (codes ": \"") (shown ++ codes "\"") refl (front shown (codes "\"") (name (encode_utf8_all (c ∷ cs))) refl)
+
+pub detail : (fault : Fault) → IsPlain (detail_of fault)
+detail (File file reason) = refl
+detail (Schedule n) = refl
+detail (Log n) = refl
+detail LogMachine = refl
+detail LogImage = refl
+detail (Watches n) = refl
+detail (Watch k) = refl
+detail (Never word) = refl
+detail (Touches word) = refl
+detail Conf = refl
+detail (Image e) = refl
+detail (Source e) = quoted_plain (characters_of e.word)
+detail (Threads c) = refl
+detail Memory = refl
+detail (Input reason) = refl
+detail Word = refl
+detail Output = refl

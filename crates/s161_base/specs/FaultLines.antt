@@ -1,4 +1,4 @@
-use Rattle.std.specs.Prelude.{◌≡◌, ℕ, Bool, true, not, ◌==◌, ◌&&◌, ◌||◌, nat_lt, if◌then◌else◌, List, [], ◌∷◌, ◌++◌, Option, None, Some, codes, decimal, flat_map}
+use Rattle.std.specs.Prelude.{◌≡◌, ℕ, Bool, true, not, ◌==◌, ◌&&◌, ◌||◌, nat_lt, if◌then◌else◌, List, [], ◌∷◌, ◌++◌, Option, None, Some, codes, decimal, flat_map, option_map, encode_utf8_all}
 use Rattle.std.specs.List.{list_all}
 use Rattle.m161_asm.specs.declared.error.AsmError.{AsmError}
 use Rattle.m161_asm.specs.Kinds.{name_of_kind, number_of_kind}
@@ -6,7 +6,8 @@ use Rattle.m161_cause.specs.Cause.{name_of_cause}
 use Rattle.m161_elf.specs.LoadError.{name_of_fault, number_of_fault}
 use Rattle.m161_text.specs.Parts.{◌␣◌, hex_text}
 use Rattle.s161_base.specs.declared.fault.Fault.{Fault}
-use Rattle.s161_base.specs.declared.fault.Fault.TheVariants.{Conf, File, Image, Input, Log, LogImage, LogMachine, Memory, Never, Output, Schedule, Source, Threads, Watch, Watches, Word}
+use Rattle.s161_base.specs.declared.fault.Fault.TheVariants.{Conf, File, Image, Input, Log, LogImage, LogMachine, Memory, Never, Output, Schedule, Source, Threads, Touches, Watch, Watches, Word}
+use Rattle.s161_base.specs.Excerpts.{characters_of}
 use Rattle.s161_base.specs.Explained.{explanation_of}
 
 -- The line of a fault on standard error.
@@ -38,9 +39,10 @@ fault_head LogImage = codes "s161: log image"
 fault_head (Watches n) = codes "s161: watches line" ␣ decimal n
 fault_head (Watch k) = codes "s161: watch" ␣ decimal k
 fault_head (Never word) = codes "s161: never" ␣ shown_name word.now
+fault_head (Touches word) = codes "s161: touches" ␣ shown_name word.now
 fault_head Conf = codes "s161: conf"
 fault_head (Image e) = codes "s161: image" ␣ decimal (number_of_fault e) ␣ name_of_fault e
-fault_head (Source e) = codes "s161: source" ␣ source_text e
+fault_head (Source e) = codes "s161: source" ␣ source_text e.error
 fault_head (Threads cause) = codes "s161: threads" ␣ name_of_cause cause
 fault_head Memory = codes "s161: memory"
 fault_head (Input why) = codes "s161: input"
@@ -52,9 +54,20 @@ abbrev pub in_brackets : Option (List ℕ) → List ℕ
 in_brackets None = []
 in_brackets (Some why) = codes " (" ++ why ++ codes ")"
 
+-- the characters at a source's error, in quotes; or that the line ends there
+abbrev pub quoted : List ℕ → List ℕ
+quoted [] = codes " at the line's end"
+quoted (c ∷ cs) = codes ": \"" ++ (shown_name (encode_utf8_all (c ∷ cs)) ++ codes "\"")
+
+-- what the explanation ends with
+abbrev pub detail_of : Fault → List ℕ
+detail_of (Source e) = quoted (characters_of e.word)
+detail_of _ = []
+
 -- the line, without its end
 abbrev pub fault_line : Fault → List ℕ
-fault_line fault = fault_head fault ++ in_brackets (explanation_of fault)
+fault_line fault =
+    fault_head fault ++ in_brackets (option_map (λ why. why ++ detail_of fault) (explanation_of fault))
 
 -- a byte doesn't end a line, and is no opening bracket
 abbrev pub is_plain : ℕ → Bool

@@ -11,8 +11,10 @@ use Rattle.m161_steplog.specs.declared.fault.TextFault.{TextFault}
 use Rattle.m161_steplog.specs.declared.fault.TextFault.TheVariants as text
 use Rattle.m161_machine.specs.History.{History, Boots, IsBootState, boot_fault}
 use Rattle.m161_machine.specs.State.{State}
+use Rattle.s161_base.specs.declared.excerpt.SourceError.{SourceError}
 use Rattle.s161_base.specs.declared.fault.Fault.{Fault}
 use Rattle.s161_base.specs.declared.fault.Fault.TheVariants.{Conf, Image, Log, Memory, Schedule, Source, Watches}
+use Rattle.s161_base.specs.Excerpts.{IsWordAt, characters_of}
 
 -- How a command boots a file, and why it ends early.
 
@@ -50,10 +52,13 @@ abbrev pub fault_of_load : LoadError → Fault
 fault_of_load fault.NoMemory = Memory
 fault_of_load e = Image e
 
--- why a text isn't assembled, as a fault of the command
-abbrev pub fault_of_kind : ErrorKind → AsmError → Fault
-fault_of_kind asm.NoMemory e = Memory
-fault_of_kind _ e = Source e
+-- a text of this kind of error, as a fault of the command: with what stands at its place
+abbrev pub IsErrorOf : AsmError → List ℕ → Fault → Type 0
+IsErrorOf e source fault =
+    (at : SourceError) × (fault ≡ Source at) × (at.error ≡ e)
+    × IsWordAt source e.line e.column (characters_of at.word)
 
-abbrev pub fault_of_source : AsmError → Fault
-fault_of_source e = fault_of_kind e.kind e
+-- why a text isn't assembled, as a fault of the command
+abbrev pub IsFaultOfSource : ErrorKind → AsmError → List ℕ → Fault → Type 0
+IsFaultOfSource asm.NoMemory e source fault = fault ≡ Memory
+IsFaultOfSource _ e source fault = IsErrorOf e source fault

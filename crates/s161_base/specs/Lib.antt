@@ -1,4 +1,5 @@
 pub mod Asked
+pub mod Excerpts
 pub mod Explained
 pub mod FaultLines
 pub mod Faults

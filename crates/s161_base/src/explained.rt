@@ -9,7 +9,8 @@ use m161_asm::ErrorKind;
 use m161_cause::Cause;
 use m161_elf::LoadError;
 
-/// What is wrong, or what was wanted; `None` where the line of the fault says it all.
+/// What is wrong, or what was wanted; `None` where the line of the fault says it all. Of a source's
+/// the line has more behind it (`put_detail`).
 pub fn explanation(fault: &Fault<'_>) -> Option<&'static str>
     ensures { option_map (λ text. text.now) result ≡ explanation_of fault.now }
 {
@@ -28,11 +29,14 @@ pub fn explanation(fault: &Fault<'_>) -> Option<&'static str>
         Fault::Never(_) => Some(
             "1 to 8 lower case hexadecimal digits, a name of the image's symbols, or NAME+DIGITS",
         ),
+        Fault::Touches(_) => Some(
+            "1 to 8 lower case hexadecimal digits, a name of the image's symbols, or NAME+DIGITS, of a byte of RAM",
+        ),
         Fault::Conf => Some(
             "RAM has 1 to 4096 pages of 4096 bytes, there are 1 to 32 processors, and a log has 1 to 16777216 entries",
         ),
         Fault::Image(error) => Some(of_image(error)),
-        Fault::Source(error) => Some(of_source(error.kind)),
+        Fault::Source(at) => Some(of_source(at.error.kind)),
         Fault::Threads(cause) => Some(of_cause(cause)),
         Fault::Input(why) => Some(of_input(why)),
         Fault::Word => Some("a word of the command line isn't UTF-8"),

@@ -1,9 +1,10 @@
 //! Why a command ends early.
 
 ghost use Rattle.std.specs.Prelude.{◌≡◌};
-ghost use Rattle.s161_base.specs.Faults.{fault_of_boot, fault_of_load, fault_of_log, fault_of_schedule, fault_of_source, fault_of_watches};
+ghost use Rattle.s161_base.specs.Faults.{fault_of_boot, fault_of_load, fault_of_log, fault_of_schedule, fault_of_watches, IsFaultOfSource};
 ghost use Rattle.s161_base.specs.declared.fault.Fault.TheVariants.{Memory};
 
+use crate::excerpt::{SourceError, excerpt_at};
 use m161_asm::{AsmError, ErrorKind};
 use m161_cause::Cause;
 use m161_elf::LoadError;
@@ -41,12 +42,14 @@ pub enum Fault<'a> {
     Watch(usize),
     /// This word of `--never` stands for no address.
     Never(&'a str),
+    /// This word of `--touches` stands for no byte of RAM.
+    Touches(&'a str),
     /// The machine's size is outside the limits.
     Conf,
     /// The image can't be loaded.
     Image(LoadError),
     /// The text can't be assembled.
-    Source(AsmError),
+    Source(SourceError),
     /// A run in threads has no report.
     Threads(Cause),
     /// Memory was refused.
@@ -66,17 +69,6 @@ impl<'a> From<AllocError> for Fault<'a> {
 
     fn from(_error: AllocError) -> Fault<'a> {
         Fault::Memory
-    }
-}
-
-impl<'a> From<AsmError> for Fault<'a> {
-    ghost from_gives = { λ error fault. fault ≡ fault_of_source error };
-
-    fn from(error: AsmError) -> Fault<'a> {
-        match error.kind {
-            ErrorKind::NoMemory => Fault::Memory,
-            _ => Fault::Source(error),
-        }
     }
 }
 
@@ -101,6 +93,17 @@ impl<'a> From<BootError> for Fault<'a> {
             BootError::NoMemory => Fault::Memory,
         }
     }
+}
+
+/// The fault of a text that isn't assembled for this error.
+pub fn fault_of_source<'a>(error: AsmError, source: &str) -> Fault<'a>
+    ensures { IsFaultOfSource error.kind error source.now result }
+{
+    if error.kind == ErrorKind::NoMemory {
+        return Fault::Memory;
+    }
+    let word = excerpt_at(source, error.line, error.column);
+    Fault::Source(SourceError { error, word })
 }
 
 /// The fault of watches that can't be read.

@@ -3,6 +3,7 @@
 //! log names.
 #![tactic(auto)]
 
+pub mod excerpt;
 pub mod explained;
 pub mod fault;
 pub mod files;

@@ -1,8 +1,8 @@
 //! The line of a fault.
 
-ghost use Rattle.std.specs.Prelude.{◌≡◌, ◌<◌, Some};
+ghost use Rattle.std.specs.Prelude.{◌≡◌, ◌<◌, Some, encode_utf8_all};
 ghost use Rattle.std.specs.Fmt.{WritesOnOk};
-ghost use Rattle.s161_base.specs.FaultLines.{fault_head, fault_line, is_marked, shown_name, source_text};
+ghost use Rattle.s161_base.specs.FaultLines.{detail_of, fault_head, fault_line, is_marked, quoted, shown_name, source_text};
 ghost use Rattle.s161_base.specs.helpers.FaultLines.{image_text, place_text, shown_char};
 
 use crate::explained::explanation;
@@ -110,13 +110,17 @@ impl fmt::Display for Head<'_> {
                 let word = Name(word);
                 write!(f, "s161: never {word}")
             }
+            Fault::Touches(word) => {
+                let word = Name(word);
+                write!(f, "s161: touches {word}")
+            }
             Fault::Conf => write!(f, "s161: conf"),
             Fault::Image(error) => {
                 let image = ImageText(error);
                 write!(f, "s161: image {image}")
             }
-            Fault::Source(error) => {
-                let source = SourceText(error);
+            Fault::Source(at) => {
+                let source = SourceText(at.error);
                 write!(f, "s161: source {source}")
             }
             Fault::Threads(cause) => {
@@ -130,13 +134,65 @@ impl fmt::Display for Head<'_> {
     }
 }
 
+// Characters, as those of a file's name are shown.
+#[derive(Drop)]
+struct Characters<'a>(&'a [char]);
+
+impl fmt::Display for Characters<'_> {
+    ghost output = { λ text. Some (shown_name (encode_utf8_all text.0.now)) };
+
+    fn fmt<W: fmt::Write>(&self, f: &mut fmt::Formatter<W>) -> fmt::Result {
+        let mut rest = self.0;
+        while let [first, behind @ ..] = rest {
+            write_char(f, *first)?;
+            rest = behind;
+        }
+        Ok(())
+    }
+}
+
+// The characters at a source's error.
+#[derive(Drop)]
+struct Quoted<'a>(&'a [char]);
+
+impl fmt::Display for Quoted<'_> {
+    ghost output = { λ at. Some (quoted at.0.now) };
+
+    fn fmt<W: fmt::Write>(&self, f: &mut fmt::Formatter<W>) -> fmt::Result {
+        if self.0.is_empty() {
+            return write!(f, " at the line's end");
+        }
+        let text = Characters(self.0);
+        write!(f, ": \"{text}\"")
+    }
+}
+
+// What the explanation of a fault ends with.
+#[derive(Drop)]
+struct Detail<'a>(Fault<'a>);
+
+impl fmt::Display for Detail<'_> {
+    ghost output = { λ detail. Some (detail_of detail.0) };
+
+    fn fmt<W: fmt::Write>(&self, f: &mut fmt::Formatter<W>) -> fmt::Result {
+        match self.0 {
+            Fault::Source(at) => {
+                let quoted = Quoted(at.word.characters());
+                write!(f, "{quoted}")
+            }
+            _ => Ok(()),
+        }
+    }
+}
+
 impl fmt::Display for Fault<'_> {
     ghost output = { λ fault. Some (fault_line fault) };
 
     fn fmt<W: fmt::Write>(&self, f: &mut fmt::Formatter<W>) -> fmt::Result {
         let head = Head(*self);
+        let detail = Detail(*self);
         match explanation(self) {
-            Some(why) => write!(f, "{head} ({why})"),
+            Some(why) => write!(f, "{head} ({why}{detail})"),
             None => write!(f, "{head}"),
         }
     }

@@ -1,6 +1,6 @@
 //! The pieces of a line: each is written at once.
 
-ghost use Rattle.std.specs.Prelude.{◌≡◌, ◌<◌, ◌≤◌, ◌∷◌, [], IfErr, IfOk, decimal, length, take};
+ghost use Rattle.std.specs.Prelude.{◌≡◌, ◌<◌, ◌≤◌, ◌∷◌, [], IfErr, IfOk, decimal, encode_utf8, encode_utf8_all, length, take};
 ghost use Rattle.std.specs.Io.KnownBytes.{Appends};
 ghost use Rattle.m161_text.specs.Parts.{hex_digit};
 ghost use Rattle.s161_base.specs.FaultLines.{is_marked, shown_byte, shown_name};
@@ -111,4 +111,29 @@ pub(crate) fn put_name<'a, E: Write>(name: &str, errors: &mut E) -> Result<(), F
         rest = &rest[written..];
     }
     Ok(())
+}
+
+/// Writes characters, as those of a file's name.
+pub(crate) fn put_characters<'a, E: Write>(
+    characters: &[char],
+    errors: &mut E,
+) -> Result<(), Fault<'a>>
+    ensures { Puts (E.contents errors.old) (shown_name (encode_utf8_all characters.now)) result
+        (E.contents errors.new) }
+{
+    match characters {
+        [] => Ok(()),
+        [first, rest @ ..] => {
+            put_character(*first, errors)?;
+            put_characters(rest, errors)
+        }
+    }
+}
+
+// Writes a character, as one of a file's name.
+fn put_character<'a, E: Write>(c: char, errors: &mut E) -> Result<(), Fault<'a>>
+    ensures { Puts (E.contents errors.old) (shown_name (encode_utf8 c)) result (E.contents errors.new) }
+{
+    let mut room = [0u8; 4];
+    put_name(c.encode_utf8(&mut room), errors)
 }

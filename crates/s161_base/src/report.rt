@@ -6,13 +6,14 @@ ghost use Rattle.std.specs.Prelude.{◌≡◌, ◌++◌, IfErr, OnOk, codes, dec
 ghost use Rattle.std.specs.Io.KnownBytes.{Appends};
 ghost use Rattle.m161_text.specs.Lines.{with_line_end};
 ghost use Rattle.m161_text.specs.Parts.{◌␣◌};
-ghost use Rattle.s161_base.specs.FaultLines.{fault_head, fault_line, in_brackets, source_text};
+ghost use Rattle.s161_base.specs.Explained.{explanation_of};
+ghost use Rattle.s161_base.specs.FaultLines.{detail_of, fault_head, fault_line, in_brackets, quoted, source_text};
 ghost use Rattle.s161_base.specs.Streams.{AppendsSome};
 ghost use Rattle.s161_base.specs.helpers.Pieces.{Puts};
 
 use crate::explained::explanation;
 use crate::fault::Fault;
-use crate::pieces::{put, put_name, put_number};
+use crate::pieces::{put, put_characters, put_name, put_number};
 use m161_asm::AsmError;
 use std::io::Write;
 
@@ -77,14 +78,18 @@ fn put_head<'a, E: Write>(fault: Fault<'_>, errors: &mut E) -> Result<(), Fault<
             put("s161: never ", errors)?;
             put_name(word, errors)
         }
+        Fault::Touches(word) => {
+            put("s161: touches ", errors)?;
+            put_name(word, errors)
+        }
         Fault::Conf => put("s161: conf", errors),
         Fault::Image(error) => {
             put("s161: image ", errors)?;
             put_error(error.number(), error.name(), errors)
         }
-        Fault::Source(error) => {
+        Fault::Source(at) => {
             put("s161: source ", errors)?;
-            put_source(error, errors)
+            put_source(at.error, errors)
         }
         Fault::Threads(cause) => put_both("s161: threads ", cause.name(), errors),
         Fault::Memory => put("s161: memory", errors),
@@ -93,15 +98,48 @@ fn put_head<'a, E: Write>(fault: Fault<'_>, errors: &mut E) -> Result<(), Fault<
     }
 }
 
-// Writes an explanation, in brackets.
-fn put_explanation<'a, E: Write>(why: Option<&str>, errors: &mut E) -> Result<(), Fault<'a>>
-    ensures { Puts (E.contents errors.old) (in_brackets (option_map (λ text. text.now) why.entry)) result
+// Writes the characters at a source's error, in quotes; or that the line ends there.
+fn put_quoted<'a, E: Write>(characters: &[char], errors: &mut E) -> Result<(), Fault<'a>>
+    ensures { Puts (E.contents errors.old) (quoted characters.now) result (E.contents errors.new) }
+{
+    if characters.is_empty() {
+        return put(" at the line's end", errors);
+    }
+    put(": \"", errors)?;
+    put_characters(characters, errors)?;
+    put("\"", errors)
+}
+
+// Writes what the explanation of a fault ends with.
+fn put_detail<'a, E: Write>(fault: Fault<'_>, errors: &mut E) -> Result<(), Fault<'a>>
+    ensures { Puts (E.contents errors.old) (detail_of fault.entry) result (E.contents errors.new) }
+{
+    match fault {
+        Fault::Source(at) => put_quoted(at.word.characters(), errors),
+        _ => Ok(()),
+    }
+}
+
+// Writes an explanation with what it ends with.
+fn put_reason<'a, E: Write>(why: &str, fault: Fault<'_>, errors: &mut E) -> Result<(), Fault<'a>>
+    ensures { Puts (E.contents errors.old) (why.now ++ detail_of fault.entry) result
         (E.contents errors.new) }
 {
-    match why {
+    put(why, errors)?;
+    put_detail(fault, errors)
+}
+
+// Writes the explanation of a fault, in brackets.
+fn put_explanation<'a, E: Write>(fault: Fault<'_>, errors: &mut E) -> Result<(), Fault<'a>>
+    ensures { Puts (E.contents errors.old)
+        (in_brackets (option_map (λ why. why ++ detail_of fault.entry) (explanation_of fault.entry))) result
+        (E.contents errors.new) }
+{
+    match explanation(&fault) {
         Some(why) => {
             put(" (", errors)?;
-            put_both(why, ")", errors)
+            put_reason(why, fault, errors)?;
+            put(")", errors)
         }
         None => Ok(()),
     }
@@ -112,7 +150,7 @@ fn put_line<'a, E: Write>(fault: Fault<'_>, errors: &mut E) -> Result<(), Fault<
     ensures { Puts (E.contents errors.old) (fault_line fault.entry) result (E.contents errors.new) }
 {
     put_head(fault, errors)?;
-    put_explanation(explanation(&fault), errors)
+    put_explanation(fault, errors)
 }
 
 /// Writes a fault's line.

@@ -136,7 +136,9 @@ pub fn sample_image<'a>(alloc: Global) -> Result<Vec<u8>, Fault<'a>>
     ensures ok { IfOk result (λ file. file.items ≡ sample_file) }
     ensures err { IfErr result (λ fault. fault ≡ Fault.Memory) }
 {
-    let program = sample_program(alloc)?;
+    let Ok(program) = sample_program(alloc) else {
+        return Err(Fault::Memory);
+    };
     Ok(write(alloc, &program)?)
 }
 

@@ -163,14 +163,16 @@ schedule_line =
 -- the arguments of `trace`, without those of a driven run: an image and options
 abbrev pub plain_trace_line : App
 plain_trace_line =
-    with_rule (with_rule (with_rule (with_rule (with_rule (with_rule (with_rule
+    with_rule (with_rule (with_rule (with_rule (with_rule (with_rule (with_rule (with_rule (with_rule
     (with_size_rules (codes "65536") (on_image (codes "trace")))
     (long_rule (codes "from") 0 18_446_744_073_709_551_615))
     (long_rule (codes "count") 0 18_446_744_073_709_551_615))
     (flag_rule (codes "names")))
     (flag_rule (codes "symbols")))
     (optional_rule (codes "only") 0 4_294_967_295))
+    (text_rule (codes "touches")))
     (flag_rule (codes "outcomes")))
+    (flag_rule (codes "shared")))
     (flag_rule (codes "loads"))
 
 -- the arguments of `trace`; a driven run has at most as many events as any run
@@ -376,7 +378,9 @@ pub record AsksTrace (rows : List Row) (task : TraceTask) : Type 0 where
   pub registers : task.registers ≡ registers_of rows
   pub symbols : task.symbols ≡ is_set (codes "symbols") rows
   pub only : IsNumberIf (one_of (codes "only") rows) task.only
+  pub touches : option_map (λ text. text.now) task.touches ≡ first_of (codes "touches") rows
   pub outcomes : task.outcomes ≡ is_set (codes "outcomes") rows
+  pub shared : task.shared ≡ is_set (codes "shared") rows
   pub loads : task.loads ≡ is_set (codes "loads") rows
   pub drive : AsksDriveIf Optional rows task.drive
 

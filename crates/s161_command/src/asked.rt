@@ -226,7 +226,9 @@ fn task_of_trace<'a>(given: &ArgMatches<'a>, settings: Settings) -> Task<'a>
         registers: registers_given(given),
         symbols: is_set(given, "symbols"),
         only: number_if_given(given, "only"),
+        touches: text_given(given, "touches"),
         outcomes: is_set(given, "outcomes"),
+        shared: is_set(given, "shared"),
         loads: is_set(given, "loads"),
         drive: drive_if_ordered(given, settings),
     })

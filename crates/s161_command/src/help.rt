@@ -168,9 +168,14 @@ latch=, waiting=, wirq=, rirq=, irqe=, cpue=, cirqe P=, cipi P=, cram P K=, each
 changed; then trap CODE VECTOR, idle, off or conflict ROW OTHER; and starts P. Random, Count and
 PRId aren't shown. With --loads the first item of a Step that loads from RAM or a slot, and doesn't
 trap, is (ADDRESS)=: the physical address of the word that has the bytes, and that word before the
-Step, or what was read of the slot. The last line says why the run stopped. The run is made to its
-end, and events K to K + N - 1 have lines (--from, --count), of them only those that --only and
---outcomes leave; their numbers stay.
+Step, or what was read of the slot; of a slot a load to $0 shows none. The last line says why the run
+stopped. With --symbols the place of an address of RAM, as one in kseg0, stands in (ADDRESS <NAME>)=
+and [ADDRESS <NAME>]=, too. The run is made to its end, and events K to K + N - 1 have lines (--from,
+--count), of them only those that --only, --touches, --outcomes and --shared leave; their numbers
+stay. WORD is the address of a byte of RAM in hexadecimal, physical or in kseg0 or kseg1, or a name of
+the image's symbols, or NAME+DIGITS: a Step has a line if it loads or stores the word with this byte.
+With --shared it has one if it loads or stores a word that Steps of two processors load or store, at
+least one of them storing, among the events K to K + N - 1; the run is made twice then.
 The image, a schedule and keys have at most 402653184 bytes each.
 
 Exit status:

@@ -427,12 +427,32 @@ pub(crate) const ONLY: Argument = Argument {
     required: false,
 };
 
+/// The word whose loads and stores have lines.
+pub(crate) const TOUCHES: Argument = Argument {
+    name: "touches",
+    kind: Kind::Text,
+    shown: "WORD",
+    help: "Only Steps have lines that load or store the word of RAM at this address, or at that of this name",
+    default: None,
+    required: false,
+};
+
 /// Whether only events with an outcome have lines.
 pub(crate) const OUTCOMES: Argument = Argument {
     name: "outcomes",
     kind: Kind::Flag,
     shown: "",
     help: "Only traps, idle Steps, and what stops the machine have lines",
+    default: None,
+    required: false,
+};
+
+/// Whether only loads and stores of shared words have lines.
+pub(crate) const SHARED: Argument = Argument {
+    name: "shared",
+    kind: Kind::Flag,
+    shown: "",
+    help: "Only Steps have lines that load or store a word of RAM which two processors use, and one stores",
     default: None,
     required: false,
 };

@@ -188,8 +188,12 @@ pub struct TraceTask<'a> {
     pub symbols: bool,
     /// The processor whose Steps alone have lines, if there is one.
     pub only: Option<u32>,
+    /// The address or the name of a byte of RAM: only Steps that load or store its word have lines.
+    pub touches: Option<&'a str>,
     /// Whether only events have lines that trap, are idle, or stop the machine.
     pub outcomes: bool,
+    /// Whether only Steps have lines that load or store a word which processors share.
+    pub shared: bool,
     /// Whether a line shows the word that its Step loads.
     pub loads: bool,
     /// What the driven run is asked for; without it a schedule is read.

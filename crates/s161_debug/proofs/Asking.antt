@@ -10,7 +10,7 @@ use Rattle.s161_base.proofs.Asking.{IsNoFile, result_asks}
 use Rattle.s161_base.specs.Asked.{Asks, AsksFor}
 use Rattle.s161_base.specs.Streams.{Streams}
 use Rattle.s161_base.specs.declared.fault.Fault.{Fault}
-use Rattle.s161_base.specs.declared.fault.Fault.TheVariants.{Conf, File, Image, Input, Log, LogImage, LogMachine, Memory, Never, Output, Schedule, Source, Threads, Watch, Watches, Word}
+use Rattle.s161_base.specs.declared.fault.Fault.TheVariants.{Conf, File, Image, Input, Log, LogImage, LogMachine, Memory, Never, Output, Schedule, Source, Threads, Touches, Watch, Watches, Word}
 use Rattle.s161_base.specs.declared.machines.LoggedMachine.{LoggedMachine}
 use Rattle.s161_command.specs.declared.task.AskedSize.{AskedSize}
 use Rattle.s161_debug.specs.Debugs.{IsListFault, IsMachineFault}
@@ -30,6 +30,7 @@ list_is_none text LogImage h = tt
 list_is_none text (Watches n) h = tt
 list_is_none text (Watch k) h = tt
 list_is_none text (Never word) h = tt
+list_is_none text (Touches word) h = tt
 list_is_none text Conf h = tt
 list_is_none text (Image e) h = tt
 list_is_none text (Source e) h = tt
@@ -49,6 +50,7 @@ machine_is_none size file logged LogImage h = tt
 machine_is_none size file logged (Watches n) h = tt
 machine_is_none size file logged (Watch k) h = tt
 machine_is_none size file logged (Never word) h = tt
+machine_is_none size file logged (Touches word) h = tt
 machine_is_none size file logged Conf h = tt
 machine_is_none size file logged (Image e) h = tt
 machine_is_none size file logged (Source e) h = tt
@@ -73,6 +75,7 @@ behind_is_none LogImage part h = tt
 behind_is_none (Watches n) part h = tt
 behind_is_none (Watch k) part h = tt
 behind_is_none (Never word) part h = tt
+behind_is_none (Touches word) part h = tt
 behind_is_none Conf part h = tt
 behind_is_none (Image e) part h = tt
 behind_is_none (Source e) part h = tt

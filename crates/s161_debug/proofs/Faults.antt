@@ -5,7 +5,7 @@ use Rattle.m161_machine.specs.declared.conf.Conf.{Conf as MachineConf}
 use Rattle.m161_machine.specs.History.{Boots, boot_fault}
 use Rattle.s161_command.specs.declared.task.AskedSize.{AskedSize}
 use Rattle.s161_base.specs.declared.fault.Fault.{Fault}
-use Rattle.s161_base.specs.declared.fault.Fault.TheVariants.{Conf, File, Image, Input, Log, LogImage, LogMachine, Memory, Never, Output, Schedule, Source, Threads, Watch, Watches, Word}
+use Rattle.s161_base.specs.declared.fault.Fault.TheVariants.{Conf, File, Image, Input, Log, LogImage, LogMachine, Memory, Never, Output, Schedule, Source, Threads, Touches, Watch, Watches, Word}
 use Rattle.s161_base.specs.declared.machines.LoggedMachine.{LoggedMachine}
 use Rattle.s161_base.specs.Machines.{asked_conf, is_image, is_other_machine, machine_fault}
 use Rattle.s161_base.specs.Faults.{fault_of_boot}
@@ -57,6 +57,7 @@ not_booted asked file logged (Log n) none h = absurd h
 not_booted asked file logged (Watches n) none h = absurd h
 not_booted asked file logged (Watch k) none h = absurd h
 not_booted asked file logged (Never word) none h = absurd h
+not_booted asked file logged (Touches word) none h = absurd h
 not_booted asked file logged (Threads cause) none h = absurd h
 not_booted asked file logged (Input why) none h = absurd h
 not_booted asked file logged Word none h = absurd h

@@ -8,7 +8,7 @@ use Rattle.m161_text.specs.Lines.{lines_of, text_of}
 use Rattle.m161_text.specs.Parts.{Lacks}
 use Rattle.m161_debug.specs.Breakpoints.{SessionState}
 use Rattle.s161_base.specs.declared.fault.Fault.{Fault}
-use Rattle.s161_base.specs.declared.fault.Fault.TheVariants.{Conf, File, Image, Input, Log, LogImage, LogMachine, Memory, Never, Output, Schedule, Source, Threads, Watch, Watches, Word}
+use Rattle.s161_base.specs.declared.fault.Fault.TheVariants.{Conf, File, Image, Input, Log, LogImage, LogMachine, Memory, Never, Output, Schedule, Source, Threads, Touches, Watch, Watches, Word}
 use Rattle.s161_base.specs.declared.fault.Unread.TheVariants.{Failed, NotUtf8, TooLong}
 use Rattle.s161_base.specs.Known.{IsText}
 use Rattle.s161_base.specs.Streams.{AppendsSome, streams}
@@ -171,6 +171,7 @@ module _ (s : SessionState) (events : List Event) (input before left : Option (L
     fails_here (Watches n) x = absurd x
     fails_here (Watch k) x = absurd x
     fails_here (Never word) x = absurd x
+    fails_here (Touches word) x = absurd x
     fails_here (Threads cause) x = absurd x
     fails_here Conf x = absurd x
     fails_here (Image e) x = absurd x
@@ -208,6 +209,7 @@ module _ (s : SessionState) (events : List Event) (input before left : Option (L
   unfinished l q (Watches n) part lacks consumes x same = absurd x
   unfinished l q (Watch k) part lacks consumes x same = absurd x
   unfinished l q (Never word) part lacks consumes x same = absurd x
+  unfinished l q (Touches word) part lacks consumes x same = absurd x
   unfinished l q (Threads cause) part lacks consumes x same = absurd x
   unfinished l q Conf part lacks consumes x same = absurd x
   unfinished l q (Image e) part lacks consumes x same = absurd x

@@ -5,7 +5,7 @@ use Rattle.m161_machine.specs.History.{History, Boots, IsBooted}
 use Rattle.m161_cause.specs.declared.cause.Cause.{Cause}
 use Rattle.m161_threads.specs.Runs.{FailsRun, bad_call}
 use Rattle.s161_base.specs.declared.fault.Fault.{Fault}
-use Rattle.s161_base.specs.declared.fault.Fault.TheVariants.{Conf as ConfFault, File, Image, Input, Log, LogImage, LogMachine, Memory, Never, Output, Schedule, Source, Threads, Watch, Watches, Word}
+use Rattle.s161_base.specs.declared.fault.Fault.TheVariants.{Conf as ConfFault, File, Image, Input, Log, LogImage, LogMachine, Memory, Never, Output, Schedule, Source, Threads, Touches, Watch, Watches, Word}
 use Rattle.s161_run.specs.Threads.{IsCause}
 use Rattle.s161_run.specs.helpers.Threads.{FailsBooted, number_of}
 
@@ -37,6 +37,7 @@ failed_booted P m processors burst (Log n) number threads memory h = absurd h
 failed_booted P m processors burst (Watches n) number threads memory h = absurd h
 failed_booted P m processors burst (Watch k) number threads memory h = absurd h
 failed_booted P m processors burst (Never word) number threads memory h = absurd h
+failed_booted P m processors burst (Touches word) number threads memory h = absurd h
 failed_booted P m processors burst ConfFault number threads memory h = absurd h
 failed_booted P m processors burst (Image e) number threads memory h = absurd h
 failed_booted P m processors burst (Input why) number threads memory h = absurd h

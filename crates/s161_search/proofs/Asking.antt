@@ -6,7 +6,7 @@ use Rattle.s161_base.proofs.Asking.{IsNoFile, asks_both, asks_none, boot_is_none
 use Rattle.s161_base.specs.Asked.{Asks, AsksUntil, image_files, option_files}
 use Rattle.s161_base.specs.Reading.{IsOfText}
 use Rattle.s161_base.specs.declared.fault.Fault.{Fault}
-use Rattle.s161_base.specs.declared.fault.Fault.TheVariants.{Conf, File, Image, Input, Log, LogImage, LogMachine, Memory, Never, Output, Schedule, Source, Threads, Watch, Watches, Word}
+use Rattle.s161_base.specs.declared.fault.Fault.TheVariants.{Conf, File, Image, Input, Log, LogImage, LogMachine, Memory, Never, Output, Schedule, Source, Threads, Touches, Watch, Watches, Word}
 use Rattle.s161_command.specs.declared.task.SearchTask.{SearchTask}
 use Rattle.s161_search.specs.Audits.{fault_of_audit}
 use Rattle.s161_search.specs.Given.{Given, IsWatchesFile, search_files}
@@ -53,6 +53,7 @@ never_is_none task words given LogImage h = tt
 never_is_none task words given (Watches n) h = tt
 never_is_none task words given (Watch k) h = tt
 never_is_none task words given (Never word) h = tt
+never_is_none task words given (Touches word) h = tt
 never_is_none task words given Conf h = tt
 never_is_none task words given (Image e) h = tt
 never_is_none task words given (Source e) h = tt

@@ -4,22 +4,24 @@ use Rattle.std.proofs.lemmas.List.{length-map, take_all}
 use Rattle.std.proofs.lemmas.Option.{slice_get-get_or}
 use Rattle.m161_audit.specs.declared.finding.AuditError.{AuditError}
 use Rattle.m161_audit.specs.declared.finding.AuditError.TheVariants as audit
+use Rattle.m161_audit.specs.declared.watch.Watch.{Watch as WatchOf}
 use Rattle.m161_audit.specs.Watch.{AreGood}
 use Rattle.m161_debug.specs.Commands.{IsPlace}
 use Rattle.m161_judge.specs.declared.verdict.Judged.{Judged}
-use Rattle.m161_judge.specs.Judge.{BootsState, Judges}
+use Rattle.m161_judge.specs.Judge.{BootsState, IsUnjudged, Judges}
 use Rattle.m161_machine.specs.declared.event.Event.{Event}
 use Rattle.m161_machine.specs.State.{State}
 use Rattle.m161_judge.specs.Run.{Runs}
 use Rattle.m161_drive.specs.Policy.{Rules}
 use Rattle.m161_machine.specs.declared.conf.BootError.{BootError}
+use Rattle.m161_machine.specs.declared.conf.Conf.{Conf as ConfValue}
 use Rattle.m161_machine.specs.History.{boot_fault}
 use Rattle.s161_search.specs.Audits.{fault_of_audit}
 use Rattle.s161_base.proofs.Failing.{boot_fails}
 use Rattle.s161_base.specs.Faults.{fault_of_boot}
 use Rattle.s161_base.specs.Sizes.{conf_of}
 use Rattle.s161_base.specs.declared.fault.Fault.{Fault}
-use Rattle.s161_base.specs.declared.fault.Fault.TheVariants.{Conf, File, Image, Input, Log, LogImage, LogMachine, Memory, Never, Output, Schedule, Source, Threads, Watch, Watches, Word}
+use Rattle.s161_base.specs.declared.fault.Fault.TheVariants.{Conf, File, Image, Input, Log, LogImage, LogMachine, Memory, Never, Output, Schedule, Source, Threads, Touches, Watch, Watches, Word}
 use Rattle.s161_command.specs.declared.task.SearchTask.{SearchTask}
 use Rattle.s161_base.specs.declared.finished.Finished.{Finished}
 use Rattle.s161_search.specs.Given.{Given, IsRead, criteria_of}
@@ -60,6 +62,18 @@ unbooted task given (Some first) (audit.BadWatch k) has h = absurd cc
 unbooted task given None (audit.Boot x) has h = let same : x ≡ BootError.NoMemory = cc in boot_failed task given x (inr same)
 unbooted task given None (audit.BadWatch k) has h = absurd cc
 
+-- a run of which nothing can be kept
+pub unkept : (task : SearchTask) (given : Given) (s : State) (fault : Option BootError) (watches : List WatchOf) (e : AuditError) →
+    watches ≡ given.watches → boot_fault given.file (conf_of task.size) ≡ fault → BootsState given.file (conf_of task.size) fault (Ok s) →
+    IsUnjudged s.conf watches e → IsRunFault task given (fault_of_audit e)
+unkept task given s (Some first) watches e same has boots h = absurd boots
+unkept task given s None watches (audit.Boot x) same has boots h = boot_failed task given x (inr h)
+unkept task given s None watches (audit.BadWatch k) same has boots h =
+    let conf : s.conf ≡ conf_of task.size = ap (λ (x : State). x.conf) boots.state_is ∙ boots.conf_is in
+    let bad = subst (λ ws. IsUnjudged (conf_of task.size) ws (audit.BadWatch k)) same
+    (subst (λ (c : ConfValue). IsUnjudged c watches (audit.BadWatch k)) conf h) in
+    (has, bad.0, bad.1)
+
 -- of what was read alone
 pub judge_failed : (task : SearchTask) (given : Given) (events : List Event) (fault : Option BootError) (e : AuditError) →
     boot_fault given.file (conf_of task.size) ≡ fault → Judges given.file (conf_of task.size) fault events (criteria_of given) (Err e) →
@@ -83,6 +97,7 @@ run_is_never task words given (Image e) h = h
 run_is_never task words given (Watch k) h = h
 run_is_never task words given Memory h = tt
 run_is_never task words given (Never word) h = absurd h
+run_is_never task words given (Touches word) h = absurd h
 run_is_never task words given (File name why) h = absurd h
 run_is_never task words given (Schedule n) h = absurd h
 run_is_never task words given (Log n) h = absurd h
@@ -107,6 +122,7 @@ other_fault task words given other addresses fault same h =
     as_before (Watch k) x = x
     as_before Memory x = x
     as_before (Never word) x = absurd x
+    as_before (Touches word) x = absurd x
     as_before (File name why) x = absurd x
     as_before (Schedule n) x = absurd x
     as_before (Log n) x = absurd x
@@ -129,6 +145,7 @@ boots_none task given s None has h = has
 pub word_failed : (task : SearchTask) (words : List (List ℕ)) (given : Given) (fault : Fault) → boot_fault given.file (conf_of task.size) ≡ None →
     ((k : ℕ) → AreGood task.size.ram given.watches k) → IsWordFault (symbols_in task given) words fault → IsNeverFault task words given fault
 word_failed task words given (Never word) boots good h = record { is_unknown = h; boots = boots; good = good }
+word_failed task words given (Touches word) boots good h = absurd h
 word_failed task words given Memory boots good h = tt
 word_failed task words given Conf boots good h = absurd h
 word_failed task words given (Image e) boots good h = absurd h
@@ -152,6 +169,7 @@ search_failed task never files image given Conf is h = (given, is, h)
 search_failed task never files image given (Image e) is h = (given, is, h)
 search_failed task never files image given (Watch k) is h = (given, is, h)
 search_failed task never files image given (Never word) is h = (given, is, h)
+search_failed task never files image given (Touches word) is h = absurd h
 search_failed task never files image given Memory is h = tt
 search_failed task never files image given (File name why) is h = absurd h
 search_failed task never files image given (Schedule n) is h = absurd h
@@ -252,6 +270,7 @@ word_unknown symbols words i d addresses (Never other) less before h = record {
   before = before;
   unknown = λ address is. h.1 address (subst (IsPlace symbols address) h.0 is);
 }
+word_unknown symbols words i d addresses (Touches other) less before h = absurd h
 word_unknown symbols words i d addresses Conf less before h = absurd h
 word_unknown symbols words i d addresses (Image e) less before h = absurd h
 word_unknown symbols words i d addresses (Watch k) less before h = absurd h

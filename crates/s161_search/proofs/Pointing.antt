@@ -13,10 +13,12 @@ use Rattle.m161_drive.specs.Policy.{Rules}
 use Rattle.m161_drive.proofs.Driving.{chooses_append}
 use Rattle.m161_drive.proofs.Passing.{behind_all, behind_more, count_behind}
 use Rattle.m161_judge.specs.Begun.{IsBegun}
+use Rattle.m161_judge.specs.Memory.{IsKeptOf, StepsMemory}
 use Rattle.m161_machine.specs.declared.event.Entry.{Entry}
 use Rattle.m161_machine.specs.declared.event.Event.{Event}
 use Rattle.m161_machine.specs.History.{events_of}
 use Rattle.m161_machine.specs.State.{State}
+use Rattle.m161_judge.specs.Verdict.{Criteria}
 use Rattle.m161_order.specs.declared.delays.Delays.{Delays}
 use Rattle.m161_order.specs.declared.order.Order.TheVariants.{Delayed}
 use Rattle.m161_order.specs.Delays.{behind, delays_of}
@@ -26,9 +28,9 @@ use Rattle.m161_places.proofs.Exchanging.{go_alike}
 use Rattle.m161_places.proofs.Moving.{other_order}
 use Rattle.s161_command.specs.declared.task.SearchTask.{SearchTask}
 use Rattle.s161_run.specs.Driven.{rules_of}
-use Rattle.s161_search.specs.Given.{Given}
+use Rattle.s161_search.specs.Given.{Given, criteria_of}
 use Rattle.s161_search.specs.declared.points.RunPoint.{RunPoint}
-use Rattle.s161_search.specs.helpers.Points.{IsPointOf}
+use Rattle.s161_search.specs.helpers.Points.{IsPointOf, KeepsFrom}
 
 -- Points of the runs of lists of delays.
 
@@ -62,8 +64,8 @@ delayed_start task given steps delays s rules rules_are = ap (λ r. cursor_at r 
 -- the point before the first event is one of each list's run
 pub starts_all : (s : State) (task : SearchTask) (given : Given) (steps : ℕ) (delays : Delays) (rules : Rules) (point : RunPoint) →
     rules ≡ rules_of (record task.drive { order = Delayed steps delays }) given.keys → point.core.value.state ≡ s → point.cursor ≡ cursor_at rules s →
-    point.events.items ≡ [] → point.passed ≡ 0 → (numbers : List ℕ) → IsPointOf s task given steps numbers point
-starts_all s task given steps delays rules point rules_are state_is cursor_is none passed_is numbers =
+    point.events.items ≡ [] → point.passed ≡ 0 → IsKeptOf (criteria_of given) s [] point.steps → (numbers : List ℕ) → IsPointOf s task given steps numbers point
+starts_all s task given steps delays rules point rules_are state_is cursor_is none passed_is kept numbers =
     let turns : Turns = record { steps = steps; made = 0 } in
     let start = cursor_at (rules_of task.drive given.keys) s in
     let at : point.cursor ≡ with_delays turns (delays_of delays) start = cursor_is ∙ delayed_start task given steps delays s rules rules_are in
@@ -75,13 +77,14 @@ starts_all s task given steps delays rules point rules_are state_is cursor_is no
       few = omega arith;
       events_are = none;
       chosen_are = (λ i. with_delays turns (left i) (at i), state_is);
+      kept = subst (λ es. IsKeptOf (criteria_of given) s es point.steps) (sym none) kept;
     }
 
 -- a copy is one of the same runs
 pub copied : (s : State) (task : SearchTask) (given : Given) (steps : ℕ) (left : List ℕ) (old new : RunPoint) →
     IsWithLeft old.cursor left new.cursor → new.core.value.state ≡ old.core.value.state → new.events.items ≡ old.events.items → new.passed ≡ old.passed →
-    (numbers : List ℕ) → IsPointOf s task given steps numbers old → IsPointOf s task given steps numbers new
-copied s task given steps left old new has_left state_is events_are passed_is numbers h =
+    new.steps ≡ old.steps → (numbers : List ℕ) → IsPointOf s task given steps numbers old → IsPointOf s task given steps numbers new
+copied s task given steps left old new has_left state_is events_are passed_is steps_are numbers h =
     let rules = rules_of task.drive given.keys in
     let keys = slice_get given.keys in
     let start = with_delays (record { steps = steps; made = 0 }) numbers (cursor_at rules s) in
@@ -99,6 +102,9 @@ copied s task given steps left old new has_left state_is events_are passed_is nu
       chosen_are =
           subst (λ t. Chooses rules keys start s h.entries (with_delays d.turns (behind new.passed numbers) new.cursor) t) (sym state_is)
           (subst (λ c. Chooses rules keys start s h.entries c old.core.value.state) cursor h.chosen_are);
+      kept =
+          subst (λ m. IsKeptOf (criteria_of given) s new.events.items m) (sym steps_are)
+          (subst (λ es. IsKeptOf (criteria_of given) s es old.steps) (sym events_are) h.kept);
     }
 
 -- the first events of a list's run, and where they led
@@ -132,8 +138,8 @@ pub gone_on : (s : State) (task : SearchTask) (given : Given) (steps place n mos
     IsWithLeft old.cursor (behind old.passed (delays_of delays)) c →
     PassesNoting rules (slice_get rules.keys) n most c old.core.value.state old.events.items made new.cursor new.core.value.state new.events.items →
     n ≡ task.drive.events - length old.events.items → most ≡ place - old.passed → new.passed ≡ old.passed + made →
-    (others : List ℕ) → AgreeBelow place (delays_of delays) others → IsPointOf s task given steps others old → IsPointOf s task given steps others new
-gone_on s task given steps place n most made delays rules old new c rules_are has_left went n_is most_is passed_is others agree h =
+    KeepsFrom given new.events.items old.steps new.steps → (others : List ℕ) → AgreeBelow place (delays_of delays) others → IsPointOf s task given steps others old → IsPointOf s task given steps others new
+gone_on s task given steps place n most made delays rules old new c rules_are has_left went n_is most_is passed_is keeps others agree h =
     let plain = rules_of task.drive given.keys in
     let listed = rules_of (record task.drive { order = Delayed steps delays }) given.keys in
     let keys = slice_get given.keys in
@@ -174,4 +180,13 @@ gone_on s task given steps place n most made delays rules old new c rules_are ha
           subst (λ y. Chooses plain keys start s (h.entries ++ es) y new.core.value.state) there
           (chooses_append plain keys h.entries es start (with_delays turns b old.cursor) (with_delays end (behind made b) x) s old.core.value.state
           new.core.value.state h.chosen_are run);
+      kept = keeps s old.events.items (events_of es) went.4 h.kept;
     }
+
+-- what is kept of a point's Steps, in a copy
+pub kept_again : (s : State) (given : Given) (goal : Criteria) (point : RunPoint) (events : List Event) (steps : StepsMemory) → goal ≡ criteria_of given →
+    events ≡ point.events.items → steps ≡ point.steps → IsKeptOf (criteria_of given) s point.events.items point.steps → IsKeptOf goal s events steps
+kept_again s given goal point events steps goal_is events_are steps_are h =
+    subst (λ g. IsKeptOf g s events steps) (sym goal_is)
+    (subst (λ m. IsKeptOf (criteria_of given) s events m) (sym steps_are)
+    (subst (λ es. IsKeptOf (criteria_of given) s es point.steps) (sym events_are) h))

@@ -1,15 +1,18 @@
 //! The runs of a search by delays.
 
-ghost use Rattle.std.specs.Prelude.{◌≡◌, ◌≤◌, IfErr, IfOk};
+ghost use Rattle.std.specs.Prelude.{◌≡◌, ℕ, ◌≤◌, IfErr, IfOk, List, OnOk};
 ghost use Rattle.m161_order.specs.declared.order.Order.TheVariants.{Delayed};
 ghost use Rattle.s161_base.specs.declared.fault.Fault.TheVariants as faults;
 ghost use Rattle.s161_run.specs.Driven.{rules_of};
 ghost use Rattle.s161_search.specs.Delays.{class_of};
 ghost use Rattle.s161_search.specs.Seeds.{IsRunFault};
 ghost use Rattle.s161_search.specs.helpers.Begun.{BeginsAt};
+ghost use Rattle.s161_search.specs.helpers.Delayed.{IsFaultFrom};
 ghost use Rattle.s161_search.specs.helpers.Inputs.{given_of};
+ghost use Rattle.s161_search.specs.helpers.Points.{IsPointOf};
 ghost use Rattle.s161_search.specs.helpers.Tried.{IsSearchedBy};
 
+use crate::audit::fault_of_audit;
 use crate::inputs::Inputs;
 use crate::orders::{WrongRun, policy_of, run_from, tested};
 use crate::points::{RunPoint, go_along};
@@ -51,6 +54,16 @@ impl<'a, 'b> DelayedRuns<'a, 'b> {
         };
         policy_of(self.task, self.inputs, order)
     }
+
+    // A point goes back to the start, from which every list's run goes on.
+    fn start_again(&self, point: &mut RunPoint) -> Result<(), Fault<'a>>
+        ensures ok { OnOk result ((numbers : List ℕ)
+            → IsPointOf self.now.booted.now self.now.task (given_of self.now.inputs.now) self.now.turns numbers point.new) }
+        ensures err { IfErr result (IsFaultFrom self.now.booted.now self.now.task (given_of self.now.inputs.now)) }
+    {
+        *point = self.start()?;
+        Ok(())
+    }
 }
 
 impl<'a, 'b> Runs for DelayedRuns<'a, 'b> {
@@ -85,27 +98,30 @@ impl<'a, 'b> Runs for DelayedRuns<'a, 'b> {
 
     fn start(&self) -> Result<RunPoint, Fault<'a>> {
         let policy = self.policy(&Delays::none())?;
-        Ok(RunPoint::start(self.alloc, self.booted, &policy)?)
+        match RunPoint::start(self.alloc, self.booted, &policy, &self.inputs.goal()) {
+            Ok(point) => Ok(point),
+            Err(error) => Err(fault_of_audit(error)),
+        }
     }
 
     fn copy(&self, point: &RunPoint) -> Result<RunPoint, Fault<'a>> {
         let Some(cursor) = point.cursor_of(&Delays::none()) else {
             return self.start();
         };
-        let (core, events) = point.copy_run(self.alloc)?;
+        let run = point.copy_run(self.alloc)?;
         Ok(RunPoint {
-            core,
+            core: run.core,
             cursor,
-            events,
+            events: run.events,
             passed: point.passed,
+            steps: run.steps,
         })
     }
 
     fn advance(&self, delays: &Delays, place: u32, point: &mut RunPoint) -> Result<(), Fault<'a>> {
         let policy = self.policy(delays)?;
         let Some(cursor) = point.cursor_of(delays) else {
-            *point = self.start()?;
-            return Ok(());
+            return self.start_again(point);
         };
         point.cursor = cursor;
         let RunPoint {
@@ -113,20 +129,31 @@ impl<'a, 'b> Runs for DelayedRuns<'a, 'b> {
             cursor,
             events,
             passed,
+            steps,
         } = point;
         let left = self.task.drive.events.saturating_sub(events.len() as u64);
         let more = place.saturating_sub(*passed);
-        match go_along(core, &policy, cursor, left, more, events)? {
-            Some(made) => *passed += made,
-            None => *point = self.start()?,
+        match go_along(
+            core,
+            &policy,
+            cursor,
+            left,
+            more,
+            events,
+            steps,
+            self.inputs,
+        )? {
+            Some(made) => {
+                *passed += made;
+                Ok(())
+            }
+            None => self.start_again(point),
         }
-        Ok(())
     }
 
     fn judge_from(&self, delays: &Delays, point: &RunPoint) -> Result<Tested<WrongRun>, Fault<'a>> {
         let run = run_from(
             self.alloc,
-            self.booted,
             self.task,
             self.inputs,
             self.turns,

@@ -2,6 +2,7 @@
 
 ghost use Rattle.std.specs.Prelude.{◌≡◌, IfErr, IfOk};
 ghost use Rattle.m161_order.specs.declared.order.Order.TheVariants.{Delayed};
+ghost use Rattle.m161_machine.specs.State.{State};
 ghost use Rattle.m161_order.specs.Delays.{delays_of};
 ghost use Rattle.s161_base.specs.declared.fault.Fault.TheVariants as faults;
 ghost use Rattle.s161_run.specs.Driven.{rules_of};
@@ -86,16 +87,16 @@ pub(crate) fn run_order<'a>(
 /// The run can't be made.
 pub(crate) fn run_from<'a>(
     alloc: Global,
-    booted: &Booted<Tlb, Console>,
     task: SearchTask<'a>,
     inputs: &Inputs,
     turns: u32,
     delays: &Delays,
     point: &RunPoint,
 ) -> Result<JudgedRun, Fault<'a>>
-    requires { IsPointOf booted.now task (given_of inputs.now) turns (delays_of delays.now) point.now }
-    ensures ok { IfOk result (IsRunFrom booted.now task.entry (given_of inputs.now) (Delayed turns delays.now)) }
-    ensures fault { IfErr result (IsFaultFrom booted.now task.entry (given_of inputs.now)) }
+    ensures ok { IfOk result (λ run. (s : State) → IsPointOf s task.entry (given_of inputs.now) turns (delays_of delays.now) point.now
+        → IsRunFrom s task.entry (given_of inputs.now) (Delayed turns delays.now) run) }
+    ensures fault { IfErr result (λ fault. (s : State) → IsPointOf s task.entry (given_of inputs.now) turns (delays_of delays.now) point.now
+        → IsFaultFrom s task.entry (given_of inputs.now) fault) }
 {
     let order = Order::Delayed {
         turns,
@@ -105,16 +106,16 @@ pub(crate) fn run_from<'a>(
     let Some(cursor) = point.cursor_of(delays) else {
         return Err(Fault::Memory);
     };
-    let (mut core, events) = point.copy_run(alloc)?;
+    let run = point.copy_run(alloc)?;
+    let mut core = run.core;
     let n = task.drive.events;
     match judge_rest(
-        alloc,
-        booted,
         &mut *core,
         &policy,
         cursor,
         n,
-        events,
+        run.events,
+        run.steps,
         &inputs.goal(),
     ) {
         Ok(run) => Ok(run),

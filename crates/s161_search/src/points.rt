@@ -1,16 +1,21 @@
 //! Points of the runs of lists of delays.
 
-ghost use Rattle.std.specs.Prelude.{◌≡◌, ◌≢◌, [], IfOk, IfSome, MatchOption, slice_get};
+ghost use Rattle.std.specs.Prelude.{◌≡◌, ◌≢◌, [], IfErr, IfOk, IfSome, MatchOption, OnOk, slice_get};
 ghost use Rattle.m161_drive.specs.declared.orders.OrderState.TheVariants.{ByDelays};
 ghost use Rattle.m161_drive.specs.Choice.{cursor_at};
 ghost use Rattle.m161_drive.specs.Delayed.{DelayState};
 ghost use Rattle.m161_drive.specs.GoingOn.{IsWithLeft};
+ghost use Rattle.m161_judge.specs.Judge.{IsUnjudged};
+ghost use Rattle.m161_judge.specs.Memory.{IsKeptOf};
 ghost use Rattle.m161_order.specs.Delays.{behind, delays_of};
 ghost use Rattle.m161_places.specs.Going.{PassesNoting};
+ghost use Rattle.s161_search.specs.helpers.Inputs.{given_of};
+ghost use Rattle.s161_search.specs.helpers.Points.{KeepsFrom};
 
+use crate::inputs::Inputs;
 use m161::{Console, Tlb};
 use m161_drive::{Cursor, Policy};
-use m161_judge::{Booted, Event};
+use m161_judge::{AuditError, Booted, Event, Goal, StepMemory};
 use m161_machine::Core;
 use m161_order::Delays;
 use std::alloc::{AllocError, Global};
@@ -26,9 +31,37 @@ pub(crate) struct RunPoint {
     pub events: Vec<Event>,
     /// How many places they passed.
     pub passed: u32,
+    /// What is kept of their Steps, to judge the rest.
+    pub steps: StepMemory<Tlb, Console>,
 }
 
-/// Goes on along a run, as `m161_places::advance` does.
+/// What it takes to go on with a run.
+#[derive(Drop)]
+pub(crate) struct BegunRun {
+    /// The machine.
+    pub core: Box<Core<Tlb, Console>>,
+    /// The events that were made.
+    pub events: Vec<Event>,
+    /// What is kept of their Steps.
+    pub steps: StepMemory<Tlb, Console>,
+}
+
+// Keeps of the Steps of a run what it takes to judge the rest: these are all of its events so far.
+fn keep_on(
+    steps: &mut StepMemory<Tlb, Console>,
+    events: &[Event],
+    inputs: &Inputs,
+) -> Result<(), AllocError>
+    ensures { OnOk result (KeepsFrom (given_of inputs.now) events.now steps.old steps.new) }
+{
+    match steps.go_on(events, &inputs.goal()) {
+        Ok(()) => Ok(()),
+        Err(_) => Err(AllocError),
+    }
+}
+
+/// Goes on along a run, as `m161_places::advance` does, and keeps of its Steps what it takes to judge the
+/// rest.
 ///
 /// # Errors
 /// Memory was refused.
@@ -39,12 +72,17 @@ pub(crate) fn go_along(
     n: u64,
     places: u32,
     events: &mut Vec<Event>,
+    steps: &mut StepMemory<Tlb, Console>,
+    inputs: &Inputs,
 ) -> Result<Option<u32>, AllocError>
-    ensures { IfOk result (λ made. IfSome made (λ passed.
+    ensures went { IfOk result (λ made. IfSome made (λ passed.
         PassesNoting policy.now (slice_get policy.now.keys) n places cursor.old core.old.value.state events.old.items passed
         cursor.new core.new.value.state events.new.items)) }
+    ensures kept { OnOk result (KeepsFrom (given_of inputs.now) events.new.items steps.old steps.new) }
 {
-    m161_places::advance(&mut **core, policy, cursor, n, places, events)
+    let made = m161_places::advance(&mut **core, policy, cursor, n, places, events)?;
+    keep_on(steps, events, inputs)?;
+    Ok(made)
 }
 
 // The same events again.
@@ -56,26 +94,40 @@ fn copy_events(alloc: Global, events: &[Event]) -> Result<Vec<Event>, AllocError
     Ok(copy)
 }
 
+// The machine at boot, in a box.
+fn start_core(
+    alloc: Global,
+    booted: &Booted<Tlb, Console>,
+) -> Result<Box<Core<Tlb, Console>>, AllocError>
+    ensures { IfOk result (λ core. core.value.state ≡ booted.now) }
+{
+    Ok(Box::new(alloc, booted.copy_core(alloc)?)?)
+}
+
 impl RunPoint {
     /// The point before the first event.
     ///
     /// # Errors
-    /// Memory was refused.
+    /// The first bad watch; or memory was refused.
     pub(crate) fn start(
         alloc: Global,
         booted: &Booted<Tlb, Console>,
         policy: &Policy,
-    ) -> Result<RunPoint, AllocError>
-        ensures { IfOk result (λ point. (point.core.value.state ≡ booted.now) × (point.cursor ≡ cursor_at policy.now booted.now)
-            × (point.events.items ≡ []) × (point.passed ≡ 0)) }
+        goal: &Goal,
+    ) -> Result<RunPoint, AuditError>
+        ensures ok { IfOk result (λ point. (point.core.value.state ≡ booted.now) × (point.cursor ≡ cursor_at policy.now booted.now)
+            × (point.events.items ≡ []) × (point.passed ≡ 0) × IsKeptOf goal.now booted.now [] point.steps) }
+        ensures err { IfErr result (IsUnjudged booted.now.conf goal.now.watches) }
     {
-        let core = Box::new(alloc, booted.copy_core(alloc)?)?;
+        let steps = StepMemory::new(alloc, booted, goal)?;
+        let core = start_core(alloc, booted)?;
         let cursor = Cursor::new(policy, &*core);
         Ok(RunPoint {
             core,
             cursor,
             events: Vec::new(alloc),
             passed: 0,
+            steps,
         })
     }
 
@@ -89,18 +141,21 @@ impl RunPoint {
         self.cursor.with_left(left)
     }
 
-    /// The events and the machine again, to go on with.
+    /// The machine, the events and what is kept of their Steps again, to go on with.
     ///
     /// # Errors
     /// Memory was refused.
-    pub(crate) fn copy_run(
-        &self,
-        alloc: Global,
-    ) -> Result<(Box<Core<Tlb, Console>>, Vec<Event>), AllocError>
-        ensures { IfOk result (λ run. (run.0.value.state ≡ self.now.core.value.state) × (run.1.items ≡ self.now.events.items)) }
+    pub(crate) fn copy_run(&self, alloc: Global) -> Result<BegunRun, AllocError>
+        ensures { IfOk result (λ run. (run.core.value.state ≡ self.now.core.value.state) × (run.events.items ≡ self.now.events.items)
+            × (run.steps ≡ self.now.steps)) }
     {
         let core = Box::new(alloc, self.core.copy(alloc)?)?;
         let events = copy_events(alloc, &self.events)?;
-        Ok((core, events))
+        let steps = self.steps.copy(alloc)?;
+        Ok(BegunRun {
+            core,
+            events,
+            steps,
+        })
     }
 }

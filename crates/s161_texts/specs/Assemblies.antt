@@ -3,8 +3,10 @@ use Rattle.m161_asm.specs.Text.{Program, text}
 use Rattle.m161_elf_writer.specs.Labels.{file_with_symbols}
 use Rattle.m161_elf_writer.specs.Written.{elf_bytes}
 use Rattle.s161_command.specs.declared.task.AssemblyTask.{AssemblyTask}
+use Rattle.s161_base.specs.declared.excerpt.SourceError.{SourceError}
 use Rattle.s161_base.specs.declared.fault.Fault.{Fault}
 use Rattle.s161_base.specs.declared.fault.Fault.TheVariants.{Memory, Source}
+use Rattle.s161_base.specs.Excerpts.{IsWordAt, characters_of}
 use Rattle.s161_base.specs.Known.{IsText}
 
 -- The file of an assembly text.
@@ -28,8 +30,14 @@ pub record IsAssembled
   pub is_text : IsText source
   pub is_assembly : IsAssembly task.symbols source file
 
--- a text has no file: it has this first fault, at this line and column; or memory was refused
+-- a text has this first fault, at this line and column, and these characters there
+abbrev pub HasError : List ℕ → SourceError → Type 0
+HasError source e =
+    (text source ≡ Err (e.error.line, (e.error.kind, e.error.column)))
+    × IsWordAt source e.error.line e.error.column (characters_of e.word)
+
+-- a text has no file: it has such a fault; or memory was refused
 abbrev pub IsUnassembled : List ℕ → Fault → Type 0
-IsUnassembled source (Source e) = text source ≡ Err (e.line, (e.kind, e.column))
+IsUnassembled source (Source e) = HasError source e
 IsUnassembled source Memory = Unit {0}
 IsUnassembled source _ = ⊥

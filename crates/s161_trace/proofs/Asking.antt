@@ -12,8 +12,8 @@ use Rattle.s161_command.specs.declared.task.TraceTask.{TraceTask}
 use Rattle.s161_run.specs.declared.events.RunStop.{RunStop}
 use Rattle.s161_trace.specs.Traces.{keys_files}
 use Rattle.s161_trace.specs.declared.filter.LineFilter.{LineFilter}
-use Rattle.s161_trace.specs.helpers.Booted.{FailsRun}
-use Rattle.s161_trace.specs.helpers.Printing.{FailsToPrintAll, filter_of}
+use Rattle.s161_trace.specs.helpers.Booted.{FailsRun, IsUnasked}
+use Rattle.s161_trace.specs.helpers.Printing.{FailsToPrintAll}
 
 -- The faults of a run whose lines are printed are none of a file.
 
@@ -28,9 +28,14 @@ printing_is_none w s IsSome IsAll t a c fault (inr h) = stream_is_none fault h.0
 
 module _ (task : TraceTask) (file : List ℕ) (IsSome : State → List Entry → State → Type 0) (IsAll : State → List Entry → RunStop → State → Type 0)
     (a c : Option (List ℕ)) where
+  unasked_is_none : (fault : Fault) → IsUnasked task file fault → IsNoFile fault
+  unasked_is_none fault (inl h) = memory_is_none fault h
+  unasked_is_none fault (inr h) = subst IsNoFile (sym h.3) tt
+
   run_is_none : (fault : Fault) → FailsRun task file IsSome IsAll a c fault → IsNoFile fault
   run_is_none fault (inl h) = subst IsNoFile (sym h.fault_is) (boot_is_none h.error)
-  run_is_none fault (inr h) = printing_is_none (filter_of task file) h.booted IsSome IsAll h.state a c fault h.fails
+  run_is_none fault (inr (inl h)) = unasked_is_none fault h.is_unasked
+  run_is_none fault (inr (inr h)) = printing_is_none h.filter h.booted IsSome IsAll h.state a c fault h.fails
 
   module _ (r : Result RunStop Fault) (fails : IfErr r (FailsRun task file IsSome IsAll a c)) where
     -- so all files were asked for

@@ -1,5 +1,5 @@
-use Rattle.std.proofs.Common.{◌≡◌, ◌∙◌, ◌⊎◌, refl, sym, ap, subst, ℕ, List, ◌++◌, Option, None, Some, Result, Ok, Err, IfSome, inl, inr, append_assoc}
-use Rattle.std.specs.Prelude.{IfErr, IfOk, string_bytes}
+use Rattle.std.proofs.Common.{◌≡◌, ◌∙◌, ◌⊎◌, refl, sym, ap, subst, ℕ, List, ◌++◌, [], Bool, true, false, Option, None, Some, Result, Ok, Err, IfSome, inl, inr, append_assoc}
+use Rattle.std.specs.Prelude.{◌/◌, IfErr, IfOk, if◌then◌else◌, option_map, string_bytes}
 use Rattle.std.specs.Io.KnownBytes.{Appends}
 use Rattle.std.proofs.KnownBytes.{Appends-trans}
 use Rattle.std.proofs.lemmas.Result.{IfErr-weaker, IfOk-weaker}
@@ -21,21 +21,27 @@ use Rattle.s161_base.specs.declared.fault.Fault.{Fault}
 use Rattle.s161_base.specs.declared.fault.Fault.TheVariants.{Memory}
 use Rattle.s161_command.specs.declared.drive.Drive.{Drive}
 use Rattle.s161_command.specs.declared.task.TraceTask.{TraceTask}
-use Rattle.s161_run.specs.Driven.{AreKeys, IsDrivenFault, rules_of}
+use Rattle.m161_drive.specs.declared.run.Driven.{Driven}
+use Rattle.m161_drive.specs.Policy.{Rules}
+use Rattle.s161_run.specs.Driven.{AreKeys, IsDrivenFault, rules_of, stop_of}
 use Rattle.s161_run.specs.declared.events.RunStop.{RunStop}
 use Rattle.s161_run.specs.Runs.{IsFaultOf, stop_line}
 use Rattle.s161_trace.specs.declared.lines.Lines.{Lines}
 use Rattle.s161_trace.specs.declared.filter.LineFilter.{LineFilter}
-use Rattle.s161_trace.specs.Traces.{Begins, BootsFor, IsEarlyFault, IsTraceFault, IsTraced, IsUnread, Runs, driven_of, lines_text, run_of, trace_text}
-use Rattle.s161_trace.specs.helpers.Booted.{FailsRun, PrintsRun}
-use Rattle.s161_trace.specs.helpers.Driven.{DrivesAll, DrivesSome}
-use Rattle.s161_trace.specs.helpers.Printing.{FailsToPrint, FailsToPrintAll, FailsToPut, IsNew, Prints, PrintsAll, lines_from, run_text, filter_of}
+use Rattle.s161_trace.specs.declared.shared.SharedWords.{SharedWords}
+use Rattle.s161_trace.specs.Shared.{is_shared}
+use Rattle.s161_trace.specs.Traces.{Begins, BootsFor, HasInputs, IsAskedWord, IsEarlyFault, IsTraceFault, IsTraced, IsUnread, IsWhole, Runs, driven_of, lines_text, run_of, shared_words, touches_in, trace_text}
+use Rattle.s161_trace.specs.helpers.Booted.{FailsRun, IsFilter, IsSharedIf, IsUnasked, IsWholeFilter, PrintsRun, with_shared}
+use Rattle.s161_trace.specs.helpers.Driven.{DrivesAll, DrivesSome, PrintsDrive}
+use Rattle.s161_trace.specs.helpers.Printing.{FailsToPrint, FailsToPrintAll, FailsToPut, FindsShared, IsNew, Prints, PrintsAll, lines_from, run_text, filter_of}
 use Rattle.s161_trace.specs.helpers.Scheduled.{MakesAll, MakesSome}
+use Rattle.s161_trace.specs.helpers.Marks.{is_marked, marks_after, no_marks}
 use Rattle.s161_trace.proofs.Printing.{puts_some}
+use Rattle.s161_trace.proofs.Sharing.{marks_tell}
 
 -- Whole runs whose lines are printed.
 
-module _ (w : LineFilter) (s : State) (l : Lines) (fresh : IsNew w s l) (IsSome : State → List Entry → State → Type 0)
+module _ (w : LineFilter) (noted : SharedWords) (s : State) (l : Lines) (fresh : IsNew w noted s l) (IsSome : State → List Entry → State → Type 0)
     (IsAll : State → List Entry → RunStop → State → Type 0) (entries : List Entry) (t : State) (a : Option (List ℕ)) where
   text : List ℕ
   text = text_of (lines_from l.filter l.number l.tracer entries)
@@ -82,6 +88,28 @@ module _ (w : LineFilter) (s : State) (l : Lines) (fresh : IsNew w s l) (IsSome 
           ),
         )
 
+-- what was noted in a whole run
+pub finds_so : (w : LineFilter) (noted : SharedWords) (s : State) (l : Lines) (fresh : IsNew w noted s l) (IsAll : State → List Entry → RunStop → State → Type 0)
+    (entries : List Entry) (stop : RunStop) (t : State) (a b : Option (List ℕ)) (k : Lines) (words from count : ℕ) →
+    w.from ≡ from → w.count ≡ count → noted.marks.items ≡ no_marks words → Prints l a entries t k b → IsAll s entries stop t → FindsShared words from count s IsAll k.noted
+finds_so w noted s l fresh IsAll entries stop t a b k words from count from_is count_is none prints is = record {
+  whole = entries;
+  stop = stop;
+  state = t;
+  is_all = is;
+  marks_are = prints.noted_is
+      ∙ (λ i. marks_after (fresh.4 i).marks.items (touches_in (fresh.0 i).from (fresh.0 i).count (fresh.1 i) (fresh.2 i) entries))
+      ∙ (λ i. marks_after (none i) (touches_in (from_is i) (count_is i) 0 s entries));
+}
+
+-- the same of a driven run
+pub drive_finds : (w : LineFilter) (noted : SharedWords) (s u : State) (l : Lines) (fresh : IsNew w noted s l) (rules : Rules) (most : ℕ) (driven : Driven) (t : State)
+    (a b : Option (List ℕ)) (k : Lines) (words from count : ℕ) → w.from ≡ from → w.count ≡ count → noted.marks.items ≡ no_marks words →
+    PrintsDrive rules most s l a driven t k b → s ≡ u → FindsShared words from count u (DrivesAll rules most) k.noted
+drive_finds w noted s u l fresh rules most driven t a b k words from count from_is count_is none h same =
+    subst (λ v. FindsShared words from count v (DrivesAll rules most) k.noted) same
+    (finds_so w noted s l fresh (DrivesAll rules most) h.entries (stop_of driven t) t a b k words from count from_is count_is none h.prints (driven, h.drives, refl))
+
 -- a call that ends with this fault
 pub ends_so : (P : Fault → Type 0) (r : Result RunStop Fault) (fault : Fault) → r ≡ Err fault → P fault → IfErr r P
 ends_so P r fault is h = subst (λ x. IfErr x P) (sym is) h
@@ -112,35 +140,70 @@ module _ (task : TraceTask) (file : List ℕ) (IsSome : State → List Entry →
       inl (record { error = e; answer = here; fault_is = fault_is; same = refl })
 
   module _ (s : State) (boots : BootsIn file (conf_of task.size) s) where
-    pub without_filter : FailsRun task file IsSome IsAll a a Memory
-    without_filter = inr (record { booted = s; boots = boots; state = s; fails = inl (refl, refl) })
+    pub without_filter : (fault : Fault) → IsUnasked task file fault → FailsRun task file IsSome IsAll a a fault
+    without_filter fault h = inr (inl (record { booted = s; boots = boots; is_unasked = h; same = refl }))
 
-    module _ (w : LineFilter) (is : w ≡ filter_of task file) (t : State) (c : Option (List ℕ)) (r : Result RunStop Fault) where
+    module _ (w : LineFilter) (is : IsWholeFilter task file s IsAll w) (t : State) (c : Option (List ℕ)) (r : Result RunStop Fault) where
       pub run_prints : IfOk r (PrintsAll w s IsAll t a c) → IfOk r (PrintsRun task file IsAll a c)
       run_prints = IfOk-weaker r (PrintsAll w s IsAll t a c) (PrintsRun task file IsAll a c) (λ stop h. record {
         booted = s;
         boots = boots;
+        filter = w;
+        is_filter = is;
         state = t;
-        prints = subst (λ v. PrintsAll v s IsAll t a c stop) is h;
+        prints = h;
       })
 
       pub run_fails : IfErr r (FailsToPrintAll w s IsSome IsAll t a c) → IfErr r (FailsRun task file IsSome IsAll a c)
-      run_fails = IfErr-weaker r (FailsToPrintAll w s IsSome IsAll t a c) (FailsRun task file IsSome IsAll a c) (λ fault h. inr (record {
+      run_fails = IfErr-weaker r (FailsToPrintAll w s IsSome IsAll t a c) (FailsRun task file IsSome IsAll a c) (λ fault h. inr (inr (record {
         booted = s;
         boots = boots;
+        filter = w;
+        is_filter = is;
         state = t;
-        fails = subst (λ v. FailsToPrintAll v s IsSome IsAll t a c fault) is h;
-      }))
+        fails = h;
+      })))
+
+-- a filter with the words that are shared
+pub shared_so : (task : TraceTask) (file : List ℕ) (s : State) (IsAll : State → List Entry → RunStop → State → Type 0) (v w : LineFilter) → IsFilter task file v →
+    w ≡ with_shared v w.shared → IsSharedIf task s IsAll w.shared → IsWholeFilter task file s IsAll w
+shared_so task file s IsAll v w is with shared =
+    let same : w.touches ≡ v.touches = ap (λ (u : LineFilter). u.touches) with in (
+      subst (IsAskedWord task file) (sym same) is.0,
+      shared,
+      with ∙ ap (λ u. with_shared u w.shared) is.1 ∙ ap (λ touches. filter_of task file touches w.shared) (sym same),
+    )
 
 -- A task's. The lines that are asked for are those that the filter leaves.
 
-shown : (task : TraceTask) (file : List ℕ) (s : State) (entries : List Entry) →
-    text_of (lines_from (filter_of task file) 0 s entries) ≡ lines_text task file s entries
-shown task file s entries = refl
+module _ (task : TraceTask) (file : List ℕ) (s : State) (IsAll : State → List Entry → RunStop → State → Type 0) where
+  -- the entries of the whole run, if the words that are shared are asked for
+  abbrev whole_of : (shared : Option SharedWords) → IsSharedIf task s IsAll shared → List Entry
+  whole_of None h = []
+  whole_of (Some words) h = h.1.whole
 
-shown_whole : (task : TraceTask) (file : List ℕ) (s : State) (entries : List Entry) (stop : RunStop) →
-    run_text (filter_of task file) s entries stop ≡ trace_text task file s entries stop
-shown_whole task file s entries stop = ap (λ text. text ++ with_line_end (stop_line stop)) (shown task file s entries)
+  are_shared : (shared : Option SharedWords) (h : IsSharedIf task s IsAll shared) → option_map is_marked shared ≡ shared_words task s (whole_of shared h)
+  are_shared None h =
+      ap (λ (b : Bool). if b then Some (is_shared (task.size.ram / 4) (touches_in task.from task.count 0 s [])) else None) (sym h)
+  are_shared (Some words) h =
+      let touches = touches_in task.from task.count 0 s h.1.whole in
+      ap (λ f. Some f) (marks_tell words (task.size.ram / 4) touches h.1.marks_are)
+      ∙ ap (λ (b : Bool). if b then Some (is_shared (task.size.ram / 4) touches) else None) (sym h.0)
+
+  is_run : (shared : Option SharedWords) (h : IsSharedIf task s IsAll shared) → task.shared ≡ true →
+      (stop : RunStop) × (t : State) × IsAll s (whole_of shared h) stop t
+  is_run None h asked = absurd (let bad : false ≡ true = sym h ∙ asked in cc)
+  is_run (Some words) h asked = (h.1.stop, h.1.state, h.1.is_all)
+
+  module _ (w : LineFilter) (is : IsWholeFilter task file s IsAll w) (entries : List Entry) where
+    shown : text_of (lines_from w 0 s entries) ≡ lines_text task file w.touches (shared_words task s (whole_of w.shared is.1)) s entries
+    shown =
+        ap (λ v. text_of (lines_from v 0 s entries)) is.2
+        ∙ ap (λ words. lines_text task file w.touches words s entries) (are_shared w.shared is.1)
+
+    shown_whole : (stop : RunStop) →
+        run_text w s entries stop ≡ trace_text task file w.touches (shared_words task s (whole_of w.shared is.1)) s entries stop
+    shown_whole stop = ap (λ text. text ++ with_line_end (stop_line stop)) shown
 
 -- a want of memory can always be
 no_memory : (drive : Option Drive) (task : TraceTask) (known input : Option (List ℕ)) → IsEarlyFault drive task known input Memory
@@ -156,7 +219,7 @@ module _ (task : TraceTask) (drive : Option Drive) (drive_is : task.drive ≡ dr
   early : (fault : Fault) → IsEarlyFault drive task known input fault → c ≡ a → IsTraceFault task files known (streams input left a c) fault
   early fault h same = record {
     is_unread = is_unread;
-    why = inl (subst (λ d. IsEarlyFault d task known input fault) (sym drive_is) h, same);
+    why = inl (inl (subst (λ d. IsEarlyFault d task known input fault) (sym drive_is) h), same);
   }
 
   module _ (file : List ℕ) (is_file : IfSome known (λ bytes. file ≡ bytes)) (IsAll : State → List Entry → RunStop → State → Type 0)
@@ -167,55 +230,92 @@ module _ (task : TraceTask) (drive : Option Drive) (drive_is : task.drive ≡ dr
     runs_so : (s t : State) (entries : List Entry) (stop : RunStop) → IsAll s entries stop t → Runs task.drive files input s entries stop t
     runs_so s t entries stop h = subst (λ d. Runs d files input s entries stop t) (sym drive_is) (runs s t entries stop h)
 
+    whole_so : (s : State) (shared : Option SharedWords) (h : IsSharedIf task s IsAll shared) → IsWhole task files input s (whole_of task file s IsAll shared h)
+    whole_so s shared h = λ asked.
+        let run = is_run task file s IsAll shared h asked in
+        (run.0, run.1, runs_so s run.1 (whole_of task file s IsAll shared h) run.0 run.2)
+
     task_traced : (stop : RunStop) → PrintsRun task file IsAll a c stop → IsTraced task files known (streams input left a c) stop
     task_traced stop h =
         let entries = h.prints.0 in
         record {
           booted = h.booted;
           boots = boots_so h.booted h.boots;
+          touches = h.filter.touches;
+          is_asked = h.is_filter.0;
+          whole = whole_of task file h.booted IsAll h.filter.shared h.is_filter.1;
+          is_whole = whole_so h.booted h.filter.shared h.is_filter.1;
           entries = entries;
           state = h.state;
           runs = runs_so h.booted h.state entries stop h.prints.1;
           is_unread = is_unread;
-          written = subst (Appends a c) (shown_whole task file h.booted entries stop) h.prints.2;
+          written = subst (Appends a c) (shown_whole task file h.booted IsAll h.filter h.is_filter entries stop) h.prints.2;
         }
 
     module _ (IsSome : State → List Entry → State → Type 0)
         (begins : (s t : State) (entries : List Entry) → IsSome s entries t → Begins drive files input s entries t)
         (unbooted : (e : BootError) → BootsState file (conf_of task.size) (boot_fault file (conf_of task.size)) (Err e) →
-        IsEarlyFault drive task known input (fault_of_boot e)) where
-      some_written : (s t : State) (entries : List Entry) →
-          (IsSome s entries t × AppendsSome a c (text_of (lines_from (filter_of task file) 0 s entries)))
-          ⊎ ((stop : RunStop) × IsAll s entries stop t × AppendsSome a c (run_text (filter_of task file) s entries stop)) →
-          (Begins task.drive files input s entries t × AppendsSome a c (lines_text task file s entries))
-          ⊎ ((stop : RunStop) × Runs task.drive files input s entries stop t × AppendsSome a c (trace_text task file s entries stop))
-      some_written s t entries (inl x) =
+        IsEarlyFault drive task known input (fault_of_boot e))
+        (has_inputs : HasInputs drive files input) where
+      some_written : (w : LineFilter) (s t : State) (is : IsWholeFilter task file s IsAll w) (entries : List Entry) →
+          (IsSome s entries t × AppendsSome a c (text_of (lines_from w 0 s entries)))
+          ⊎ ((stop : RunStop) × IsAll s entries stop t × AppendsSome a c (run_text w s entries stop)) →
+          (Begins task.drive files input s entries t
+          × AppendsSome a c (lines_text task file w.touches (shared_words task s (whole_of task file s IsAll w.shared is.1)) s entries))
+          ⊎ ((stop : RunStop) × Runs task.drive files input s entries stop t
+          × AppendsSome a c (trace_text task file w.touches (shared_words task s (whole_of task file s IsAll w.shared is.1)) s entries stop))
+      some_written w s t is entries (inl x) =
           inl (
             subst (λ d. Begins d files input s entries t) (sym drive_is) (begins s t entries x.0),
-            subst (AppendsSome a c) (shown task file s entries) x.1,
+            subst (AppendsSome a c) (shown task file s IsAll w is entries) x.1,
           )
-      some_written s t entries (inr x) =
-          inr (x.0, runs_so s t entries x.0 x.1, subst (AppendsSome a c) (shown_whole task file s entries x.0) x.2)
+      some_written w s t is entries (inr x) =
+          inr (x.0, runs_so s t entries x.0 x.1, subst (AppendsSome a c) (shown_whole task file s IsAll w is entries x.0) x.2)
 
-      in_run : (s t : State) → BootsIn file (conf_of task.size) s → (fault : Fault) →
-          FailsToPrintAll (filter_of task file) s IsSome IsAll t a c fault → IsTraceFault task files known (streams input left a c) fault
-      in_run s t boots fault (inl h) = early fault (subst (IsEarlyFault drive task known input) (sym h.0) (no_memory drive task known input)) h.1
-      in_run s t boots fault (inr h) = record {
+      in_run : (w : LineFilter) (s t : State) → BootsIn file (conf_of task.size) s → IsWholeFilter task file s IsAll w → (fault : Fault) →
+          FailsToPrintAll w s IsSome IsAll t a c fault → IsTraceFault task files known (streams input left a c) fault
+      in_run w s t boots is fault (inl h) = early fault (subst (IsEarlyFault drive task known input) (sym h.0) (no_memory drive task known input)) h.1
+      in_run w s t boots is fault (inr h) = record {
         is_unread = is_unread;
         why = inr (record {
           is_fault = h.0;
           booted = s;
           boots = boots_so s boots;
+          touches = w.touches;
+          is_asked = is.0;
+          whole = whole_of task file s IsAll w.shared is.1;
+          is_whole = whole_so s w.shared is.1;
           entries = h.1.0;
           state = t;
-          some_written = some_written s t h.1.0 h.1.1;
+          some_written = some_written w s t is h.1.0 h.1.1;
         });
+      }
+
+      -- without a word
+      no_word : (s : State) → BootsIn file (conf_of task.size) s → (fault : Fault) → IsUnasked task file fault → c ≡ a →
+          IsTraceFault task files known (streams input left a c) fault
+      no_word s boots fault (inl h) same = early fault (subst (IsEarlyFault drive task known input) (sym h) (no_memory drive task known input)) same
+      no_word s boots fault (inr h) same = record {
+        is_unread = is_unread;
+        why = inl (
+          inr (record {
+            has_inputs = subst (λ d. HasInputs d files input) (sym drive_is) has_inputs;
+            booted = s;
+            boots = boots_so s boots;
+            text = h.0;
+            asked = h.1;
+            is_none = h.2;
+            fault_is = h.3;
+          }),
+          same,
+        );
       }
 
       task_failed : (fault : Fault) → FailsRun task file IsSome IsAll a c fault → IsTraceFault task files known (streams input left a c) fault
       task_failed fault (inl h) =
           early fault (subst (IsEarlyFault drive task known input) (sym h.fault_is) (unbooted h.error h.answer)) h.same
-      task_failed fault (inr h) = in_run h.booted h.state h.boots fault h.fails
+      task_failed fault (inr (inl h)) = no_word h.booted h.boots fault h.is_unasked h.same
+      task_failed fault (inr (inr h)) = in_run h.filter h.booted h.state h.boots h.is_filter fault h.fails
 
 -- by a schedule
 module _ (task : TraceTask) (files : List ℕ → Option (List ℕ)) (known input left : Option (List ℕ)) (none : task.drive ≡ None) where
@@ -251,7 +351,7 @@ module _ (task : TraceTask) (files : List ℕ → Option (List ℕ)) (known inpu
     schedule_bad =
         IfErr-weaker r (FailsRun task file (MakesSome scheduled) (MakesAll scheduled) a c) (IsTraceFault task files known (streams input left a c))
         (task_failed task None none files known input left a c tt file is_file (MakesAll scheduled) runs_none (MakesSome scheduled) begins_none
-        unbooted_none)
+        unbooted_none has_schedule)
 
 -- by a policy
 module _ (task : TraceTask) (options : Drive) (files : List ℕ → Option (List ℕ)) (known : Option (List ℕ)) (some : task.drive ≡ Some options) where
@@ -294,4 +394,4 @@ module _ (task : TraceTask) (options : Drive) (files : List ℕ → Option (List
         IfErr-weaker r (FailsRun task file IsSome IsAll a c)
         (λ fault. (input : Option (List ℕ)) → IsTraceFault task files known (streams input input a c) fault)
         (λ fault h input. task_failed task (Some options) some files known input input a c refl file is_file IsAll (runs_some input) IsSome
-        (begins_some input) unbooted_some fault h)
+        (begins_some input) unbooted_some (keys, are) fault h)

@@ -3,3 +3,4 @@ mod Printing
 mod Scheduling
 mod Driving
 mod Finishing
+mod Sharing

@@ -4,7 +4,8 @@ use Rattle.std.proofs.Math.Seq.{take-append_seam}
 use Rattle.std.proofs.lemmas.List.Concat.{flat_map-append}
 use Rattle.std.proofs.lemmas.Bool.{leb-true, leb-false}
 use Rattle.std.proofs.KnownBytes.{Appends-nil, Appends-trans}
-use Rattle.std.specs.Prelude.{if◌then◌else◌, string_bytes}
+use Rattle.std.proofs.lemmas.Bool.Decides.{nat_tests}
+use Rattle.std.specs.Prelude.{if◌then◌else◌, nat_lt, slice_set, string_bytes}
 use Rattle.std.specs.Io.KnownBytes.{Appends}
 use Rattle.m161_cpu.specs.declared.processor.Outcome.{Outcome}
 use Rattle.m161_machine.specs.declared.event.Entry.{Entry}
@@ -19,71 +20,90 @@ use Rattle.s161_base.specs.declared.fault.Fault.TheVariants.{Memory}
 use Rattle.s161_base.specs.Streams.{AppendsSome}
 use Rattle.s161_trace.specs.declared.lines.Lines.{Lines}
 use Rattle.s161_trace.specs.declared.filter.LineFilter.{LineFilter}
-use Rattle.s161_trace.specs.Traces.{line_and, traced}
-use Rattle.s161_trace.specs.helpers.Printing.{FailsToPrint, FailsToPut, Prints, PutsOut, has_line, lines_from}
+use Rattle.s161_trace.specs.declared.shared.Mark.{Mark}
+use Rattle.s161_trace.specs.declared.shared.SharedWords.{SharedWords}
+use Rattle.s161_trace.specs.Shared.{Touch}
+use Rattle.s161_trace.specs.Traces.{line_if, told, told_and, touches_if, touches_in}
+use Rattle.s161_trace.specs.helpers.Marks.{mark_after, mark_at, marked, marks_after, no_marks}
+use Rattle.s161_trace.specs.helpers.Printing.{FailsToPrint, FailsToPut, Prints, PutsOut, has_line, lines_from, noted_after, touches_now}
 
 -- The lines of a run, one after the other.
 
--- the line of an event, if it has one
-abbrev pub line_of : LineFilter → ℕ → State → Entry → State → List (List ℕ)
-line_of w number s e t =
-    if has_line w number e.event e.outcome then event_line_with w.style w.loads number e.event s e.outcome t ∷ [] else []
+-- what is told of events
 
-module _ (w : LineFilter) where
-  pub no_lines : (number : ℕ) (s : State) → lines_from w number s [] ≡ []
-  no_lines number s = refl
-
+module _ {A : Type 0} (tell : ℕ → State → Event → Outcome → State → List A) where
   -- of the first event, and of those after it
-  pub first_line : (number : ℕ) (s : State) (e : Entry) (es : List Entry) (t : State) → next s e.event ≡ Ok (e.outcome, t) →
-      lines_from w number s (e ∷ es) ≡ line_of w number s e t ++ lines_from w (number + 1) t es
-  first_line number s e es t h =
-      ap (λ r. line_and w.style w.loads (has_line w) number s e.event r (λ u. traced w.style w.loads (has_line w) (number + 1) u es)) h
+  first_told : (number : ℕ) (s : State) (e : Entry) (es : List Entry) (t : State) → next s e.event ≡ Ok (e.outcome, t) →
+      told tell number s (e ∷ es) ≡ tell number s e.event e.outcome t ++ told tell (number + 1) t es
+  first_told number s e es t h = ap (λ r. told_and tell number s e.event r (λ u. told tell (number + 1) u es)) h
 
-  one_line : (number : ℕ) (s : State) (e : Entry) (t : State) → next s e.event ≡ Ok (e.outcome, t) →
-      lines_from w number s (e ∷ []) ≡ line_of w number s e t
-  one_line number s e t h =
-      first_line number s e [] t h ∙ ap (λ ls. line_of w number s e t ++ ls) (no_lines (number + 1) t)
-      ∙ append-nil (line_of w number s e t)
+  pub one_told : (number : ℕ) (s : State) (e : Event) (o : Outcome) (t : State) → next s e ≡ Ok (o, t) →
+      told tell number s (entry e o ∷ []) ≡ tell number s e o t
+  one_told number s e o t h = first_told number s (entry e o) [] t h ∙ append-nil (tell number s e o t)
 
   -- of some events, and of those after them
-  lines_on : (es fs : List Entry) (number : ℕ) (s t : State) → Leads s es t →
-      lines_from w number s (es ++ fs) ≡ lines_from w number s es ++ lines_from w (number + length es) t fs
-  lines_on [] fs number s t h =
+  pub told_on : (es fs : List Entry) (number : ℕ) (s t : State) → Leads s es t →
+      told tell number s (es ++ fs) ≡ told tell number s es ++ told tell (number + length es) t fs
+  told_on [] fs number s t h =
       let same : number + 0 ≡ number = omega arith in
-      ap (λ u. lines_from w number u fs) (sym h)
-      ∙ sym (ap (λ n. lines_from w n t fs) same)
-      ∙ sym (ap (λ ls. ls ++ lines_from w (number + 0) t fs) (no_lines number s))
-  lines_on (e ∷ es) fs number s t h =
-      let one = line_of w number s e h.0 in
-      let rest = lines_from w (number + 1) h.0 es in
+      ap (λ u. told tell number u fs) (sym h) ∙ sym (ap (λ n. told tell n t fs) same)
+  told_on (e ∷ es) fs number s t h =
+      let one = tell number s e.event e.outcome h.0 in
+      let rest = told tell (number + 1) h.0 es in
       let after : number + 1 + length es ≡ number + suc (length es) = omega arith in
-      first_line number s e (es ++ fs) h.0 h.1
-      ∙ ap (λ ls. one ++ ls) (lines_on es fs (number + 1) h.0 t h.2)
-      ∙ sym (append_assoc one rest (lines_from w (number + 1 + length es) t fs))
-      ∙ ap (λ ls. ls ++ lines_from w (number + 1 + length es) t fs) (sym (first_line number s e es h.0 h.1))
-      ∙ ap (λ n. lines_from w number s (e ∷ es) ++ lines_from w n t fs) after
+      first_told number s e (es ++ fs) h.0 h.1
+      ∙ ap (λ xs. one ++ xs) (told_on es fs (number + 1) h.0 t h.2)
+      ∙ sym (append_assoc one rest (told tell (number + 1 + length es) t fs))
+      ∙ ap (λ xs. xs ++ told tell (number + 1 + length es) t fs) (sym (first_told number s e es h.0 h.1))
+      ∙ ap (λ n. told tell number s (e ∷ es) ++ told tell n t fs) after
 
-  -- their text
+-- the text of lines
+
+module _ (w : LineFilter) where
+  abbrev line_of : ℕ → State → Event → Outcome → State → List (List ℕ)
+  line_of = line_if w.style w.loads (has_line w)
+
   pub text_on : (number : ℕ) (s t : State) (es fs : List Entry) → Leads s es t →
       text_of (lines_from w number s (es ++ fs)) ≡ text_of (lines_from w number s es) ++ text_of (lines_from w (number + length es) t fs)
   text_on number s t es fs h =
-      ap text_of (lines_on es fs number s t h)
+      ap text_of (told_on line_of es fs number s t h)
       ∙ flat_map-append with_line_end (lines_from w number s es) (lines_from w (number + length es) t fs)
 
-  pub with_line : (number : ℕ) (s : State) (e : Event) (o : Outcome) (t : State) → has_line w number e o ≡ true → next s e ≡ Ok (o, t) →
+  pub with_line : (number : ℕ) (s : State) (e : Event) (o : Outcome) (t : State) → has_line w number s e o ≡ true → next s e ≡ Ok (o, t) →
       text_of (lines_from w number s (entry e o ∷ [])) ≡ with_line_end (event_line_with w.style w.loads number e s o t)
   with_line number s e o t has h =
       let line = event_line_with w.style w.loads number e s o t in
-      ap text_of (one_line number s (entry e o) t h)
+      ap text_of (one_told line_of number s e o t h)
       ∙ ap (λ b. text_of (if b then line ∷ [] else [])) has
       ∙ append-nil (with_line_end line)
 
-  pub without_line : (number : ℕ) (s : State) (e : Event) (o : Outcome) (t : State) → has_line w number e o ≡ false → next s e ≡ Ok (o, t) →
+  pub without_line : (number : ℕ) (s : State) (e : Event) (o : Outcome) (t : State) → has_line w number s e o ≡ false → next s e ≡ Ok (o, t) →
       text_of (lines_from w number s (entry e o ∷ [])) ≡ []
   without_line number s e o t has h =
       let line = event_line_with w.style w.loads number e s o t in
-      ap text_of (one_line number s (entry e o) t h)
+      ap text_of (one_told line_of number s e o t h)
       ∙ ap (λ b. text_of (if b then line ∷ [] else [])) has
+
+  -- what is noted of one event
+  pub noted_one : (number : ℕ) (s : State) (e : Event) (o : Outcome) (t : State) (noted : SharedWords) → next s e ≡ Ok (o, t) →
+      noted_after w number s (entry e o ∷ []) noted ≡ marks_after noted.marks.items (touches_now w number s e o)
+  noted_one number s e o t noted h = ap (marks_after noted.marks.items) (one_told (touches_if w.from w.count) number s e o t h)
+
+-- after more touches
+pub marks_on : (marks : List Mark) (xs ys : List Touch) → marks_after marks (xs ++ ys) ≡ marks_after (marks_after marks xs) ys
+marks_on marks [] ys = refl
+marks_on marks (x ∷ xs) ys = marks_on (marked marks x) xs ys
+
+-- nothing can be noted of no word
+unmarked : (t : Touch) (marks : List Mark) (less : Bool) → nat_lt t.word 0 ≡ less → (if less then marks else []) ≡ []
+unmarked t marks true lt = absurd (let bad : ⊥ = grind (arith, nat_tests, lt) in bad)
+unmarked t marks false lt = refl
+
+pub none_marked : (ts : List Touch) → marks_after (no_marks 0) ts ≡ no_marks 0
+none_marked [] = refl
+none_marked (t ∷ ts) =
+    let one = slice_set [] t.word (mark_after (mark_at [] t.word) t.processor t.stores) in
+    ap (λ marks. marks_after marks ts) (unmarked t one (nat_lt t.word 0) refl) ∙ none_marked ts
 
 -- bytes that are put out
 
@@ -170,9 +190,8 @@ prints_none l a s same = record {
   number_is = omega arith;
   tracer_is = same;
   leads = sym same;
-  puts =
-      subst (λ lines. PutsOut a (string_bytes l.piece) (text_of lines) a (string_bytes l.piece))
-      (sym (no_lines l.filter l.number l.tracer)) (puts_none a (string_bytes l.piece));
+  noted_is = refl;
+  puts = puts_none a (string_bytes l.piece);
 }
 
 -- one event
@@ -194,6 +213,18 @@ module _ (l k : Lines) (a b c : Option (List ℕ)) (es fs : List Entry) (t : Sta
       (λ i. text_of (lines_from (x.filter_is i) (x.number_is i) (x.tracer_is i) fs))
       ∙ sym (text_on l.filter l.number l.tracer t es fs x.leads)
 
+  noted_then : (u : State) (j : Lines) → Prints k b fs u j c →
+      j.noted.marks.items ≡ noted_after l.filter l.number l.tracer (es ++ fs) l.noted
+  noted_then u j y =
+      let w = l.filter in
+      let first = touches_in w.from w.count l.number l.tracer es in
+      y.noted_is
+      ∙ ap (λ marks. marks_after marks (touches_in k.filter.from k.filter.count k.number k.tracer fs)) x.noted_is
+      ∙ (λ i. marks_after (marks_after l.noted.marks.items first)
+      (touches_in (x.filter_is i).from (x.filter_is i).count (x.number_is i) (x.tracer_is i) fs))
+      ∙ sym (marks_on l.noted.marks.items first (touches_in w.from w.count (l.number + length es) t fs))
+      ∙ ap (marks_after l.noted.marks.items) (sym (told_on (touches_if w.from w.count) es fs l.number l.tracer t x.leads))
+
   leads_then : (u : State) → Leads k.tracer fs u → Leads l.tracer (es ++ fs) u
   leads_then u h = leads_on es fs l.tracer t u x.leads (subst (λ v. Leads v fs u) x.tracer_is h)
 
@@ -204,6 +235,7 @@ module _ (l k : Lines) (a b c : Option (List ℕ)) (es fs : List Entry) (t : Sta
         let first = x.number_is in let second = y.number_is in omega (arith, first, second, length-append es fs);
     tracer_is = y.tracer_is;
     leads = leads_then u y.leads;
+    noted_is = noted_then u j y;
     puts =
         subst (λ text. PutsOut a (string_bytes l.piece) text c (string_bytes j.piece)) later
         (puts_on a b c (string_bytes l.piece) (string_bytes k.piece) (string_bytes j.piece) _ _ x.puts y.puts);

@@ -1,4 +1,5 @@
-use Rattle.std.specs.Prelude.{◌≡◌, ◌⊎◌, ℕ, ◌+◌, ◌-◌, ◌≤◌, nat_le, nat_lt, ◌==◌, ◌&&◌, Bool, true, false, if◌then◌else◌, List, [], ◌∷◌, ◌++◌, take, length, slice_get, Option, None, Some, IfSome, Result, Ok, Err}
+use Rattle.std.specs.Prelude.{◌≡◌, ◌⊎◌, ℕ, ◌+◌, ◌-◌, ◌/◌, ◌≤◌, nat_le, nat_lt, ◌==◌, ◌&&◌, Bool, true, false, if◌then◌else◌, List, [], ◌∷◌, ◌++◌, take, length, slice_get, Option, None, Some, IfSome, IsSomeAnd, Result, Ok, Err}
+use Rattle.std.proofs.Common.{Bor}
 use Rattle.std.specs.Io.KnownBytes.{Appends}
 use Rattle.m161_cpu.specs.declared.processor.Outcome.{Outcome}
 use Rattle.m161_cpu.specs.declared.processor.Outcome.TheVariants as outcomes
@@ -8,6 +9,8 @@ use Rattle.m161_machine.specs.declared.event.Event.TheVariants as event
 use Rattle.m161_machine.specs.declared.event.Refusal.{Refusal}
 use Rattle.m161_machine.specs.State.{State, next}
 use Rattle.m161_machine.specs.History.{Leads, events_of}
+use Rattle.m161_debug.specs.Commands.{IsPlace}
+use Rattle.m161_debug.specs.Conditions.{physical_of}
 use Rattle.m161_dis.specs.declared.naming.Style.{Style}
 use Rattle.m161_drive.specs.declared.cursor.Cursor.{Cursor}
 use Rattle.m161_drive.specs.declared.run.Driven.{Driven}
@@ -16,14 +19,17 @@ use Rattle.m161_drive.specs.Drive.{Chooses, Drives}
 use Rattle.m161_steplog.specs.Schedule.{IsSchedule}
 use Rattle.m161_text.specs.Lines.{lines_of, text_of, with_line_end}
 use Rattle.m161_trace.specs.Line.{event_line_with}
+use Rattle.m161_trace.specs.Loads.{word_around}
+use Rattle.m161_trace.specs.Touched.{has_word, touched}
 use Rattle.s161_base.specs.Asked.{image_files, option_files}
 use Rattle.s161_base.specs.declared.fault.Fault.{Fault}
-use Rattle.s161_base.specs.declared.fault.Fault.TheVariants.{Memory, Output}
+use Rattle.s161_base.specs.declared.fault.Fault.TheVariants.{Memory, Output, Touches}
 use Rattle.s161_base.specs.Faults.{BootsIn}
 use Rattle.s161_base.specs.Known.{OfText}
-use Rattle.s161_base.specs.Naming.{style_of}
+use Rattle.s161_base.specs.Naming.{image_symbols, style_of}
 use Rattle.s161_base.specs.Sizes.{conf_of}
 use Rattle.s161_base.specs.Streams.{AppendsSome, Streams}
+use Rattle.s161_base.specs.Texts.{HasSchedule}
 use Rattle.s161_command.specs.declared.drive.Drive.{Drive}
 use Rattle.s161_command.specs.declared.task.DrivenTask.{DrivenTask}
 use Rattle.s161_command.specs.declared.task.RunTask.{RunTask}
@@ -31,6 +37,7 @@ use Rattle.s161_command.specs.declared.task.Shown.TheVariants.{Summary}
 use Rattle.s161_command.specs.declared.task.TraceTask.{TraceTask}
 use Rattle.s161_run.specs.Driven.{AreKeys, IsDrivenFault, rules_of, stop_of}
 use Rattle.s161_run.specs.declared.events.RunStop.{RunStop}
+use Rattle.s161_trace.specs.Shared.{Touch, event_touches, has_one, is_shared}
 use Rattle.s161_run.specs.Runs.{IsFaultOf, MakesEvents, stop_line}
 
 -- A line for each event of a run, and last why the run stopped.
@@ -60,6 +67,16 @@ abbrev pub is_only : Option ℕ → Event → Bool
 is_only None e = true
 is_only (Some p) e = is_step_of p e
 
+-- Steps that load or store the word that is asked for, if one is
+abbrev pub is_touching : Option ℕ → State → Event → Outcome → Bool
+is_touching None s e o = true
+is_touching (Some word) s e o = has_word word (touched e s o)
+
+-- Steps that load or store one of these words, by its number, if words are asked for
+abbrev pub is_sharing : Option (ℕ → Bool) → State → Event → Outcome → Bool
+is_sharing None s e o = true
+is_sharing (Some words) s e o = has_one words (touched e s o)
+
 -- events that do something else than what they are for
 abbrev pub has_outcome : Outcome → Bool
 has_outcome outcomes.Ran = false
@@ -70,42 +87,103 @@ has_outcome (outcomes.Conflict i j) = true
 has_outcome outcomes.Taken = false
 
 -- those for which each of these holds that is asked for
-abbrev pub is_wanted : ℕ → ℕ → Option ℕ → Bool → ℕ → Event → Outcome → Bool
-is_wanted from count only by_outcome number e o =
+abbrev pub is_wanted :
+    ℕ → ℕ → Option ℕ → Bool → Option ℕ → Option (ℕ → Bool) → ℕ → State → Event → Outcome → Bool
+is_wanted from count only by_outcome touches shared number s e o =
     is_among from count number && is_only only e && (if by_outcome then has_outcome o else true)
+    && is_touching touches s e o && is_sharing shared s e o
 
--- an event's line, if it has one, and then those of the events after it; none where it is refused
-abbrev pub line_and :
-    Style → Bool → (ℕ → Event → Outcome → Bool) → ℕ → State → Event →
-    Result (Outcome × State) Refusal → (State → List (List ℕ)) → List (List ℕ)
-line_and style loads has number s e (Err refusal) rest = []
-line_and style loads has number s e (Ok given) rest =
-    (if has number e given.0 then event_line_with style loads number e s given.0 given.1 ∷ [] else [])
-    ++ rest given.1
+-- the word of RAM, of so many bytes, that a word of the command line stands for: the one that has the
+-- byte at an address, which is said as to the debugger
+abbrev pub IsWordOf : List (List ℕ × ℕ) → ℕ → List ℕ → ℕ → Type 0
+IsWordOf symbols ram text word =
+    (address : ℕ) × IsPlace symbols address text
+    × (word_around ram (physical_of address) ≡ Some word)
 
--- the lines of those of these entries' events that have one, with what their Steps load or without,
--- from a state on; the first of the events has this number
+-- it stands for none: for no address, or for one that isn't of a byte of RAM
+abbrev pub IsNoWord : List (List ℕ × ℕ) → ℕ → List ℕ → Type 0
+IsNoWord symbols ram text =
+    ((address : ℕ) → IsPlace symbols address text → ⊥)
+    ⊎ ((address : ℕ) × IsPlace symbols address text
+    × (word_around ram (physical_of address) ≡ None))
+
+-- the word that a task asks for over this file of its image, if it asks for one
+abbrev pub symbols_of : TraceTask → List ℕ → List (List ℕ × ℕ)
+symbols_of task file = image_symbols task.image.now file
+
+abbrev pub IsWordIf : Option (Bor (List ℕ)) → List (List ℕ × ℕ) → ℕ → Option ℕ → Type 0
+IsWordIf None symbols ram touches = touches ≡ None
+IsWordIf (Some text) symbols ram touches = IsSomeAnd touches (IsWordOf symbols ram text.now)
+
+abbrev pub IsAskedWord : TraceTask → List ℕ → Option ℕ → Type 0
+IsAskedWord task file touches = IsWordIf task.touches (symbols_of task file) task.size.ram touches
+
+-- what is told of events
+
+-- of one, and then of those after it; nothing where it is refused
+abbrev pub told_and :
+    {A : Type 0} → (ℕ → State → Event → Outcome → State → List A) → ℕ → State → Event →
+    Result (Outcome × State) Refusal → (State → List A) → List A
+told_and tell number s e (Err refusal) rest = []
+told_and tell number s e (Ok given) rest = tell number s e given.0 given.1 ++ rest given.1
+
+-- of these entries' events from a state on, by the number of each, the state before it, the event, its
+-- outcome and the state after it; the first of them has this number
+abbrev pub told :
+    {A : Type 0} → (ℕ → State → Event → Outcome → State → List A) → ℕ → State → List Entry →
+    List A
+told tell number s [] = []
+told tell number s (e ∷ es) =
+    told_and tell number s e.event (next s e.event) (λ t. told tell (number + 1) t es)
+
+-- an event's line, if it has one
+abbrev pub line_if :
+    Style → Bool → (ℕ → State → Event → Outcome → Bool) → ℕ → State → Event → Outcome → State →
+    List (List ℕ)
+line_if style loads has number s e o t =
+    if has number s e o then event_line_with style loads number e s o t ∷ [] else []
+
+-- the lines of those of these events that have one, with what their Steps load or without
 abbrev pub traced :
-    Style → Bool → (ℕ → Event → Outcome → Bool) → ℕ → State → List Entry → List (List ℕ)
-traced style loads has number s [] = []
-traced style loads has number s (e ∷ es) =
-    line_and style loads has number s e.event (next s e.event)
-    (λ t. traced style loads has (number + 1) t es)
+    Style → Bool → (ℕ → State → Event → Outcome → Bool) → ℕ → State → List Entry →
+    List (List ℕ)
+traced style loads has number s entries = told (line_if style loads has) number s entries
 
--- those that the task asks for, over this file of its image
-abbrev pub shown_lines : TraceTask → List ℕ → State → List Entry → List (List ℕ)
-shown_lines task file s entries =
+-- the touches of those of these events that have numbers of a range
+abbrev pub touches_if : ℕ → ℕ → ℕ → State → Event → Outcome → State → List Touch
+touches_if from count number s e o t =
+    if is_among from count number then event_touches e s o else []
+
+abbrev pub touches_in : ℕ → ℕ → ℕ → State → List Entry → List Touch
+touches_in from count number s entries = told (touches_if from count) number s entries
+
+-- the words that the task asks for, if it asks for those that are shared: among the touches of a whole
+-- run's events that it leaves by their numbers
+abbrev pub shared_words : TraceTask → State → List Entry → Option (ℕ → Bool)
+shared_words task s whole =
+    if task.shared
+    then Some (is_shared (task.size.ram / 4) (touches_in task.from task.count 0 s whole))
+    else None
+
+-- those that the task asks for, over this file of its image: where it asks for this word, and for
+-- these words
+abbrev pub shown_lines :
+    TraceTask → List ℕ → Option ℕ → Option (ℕ → Bool) → State → List Entry → List (List ℕ)
+shown_lines task file touches shared s entries =
     traced (style_of task.registers task.symbols task.image.now file) task.loads
-    (is_wanted task.from task.count task.only task.outcomes) 0 s entries
+    (is_wanted task.from task.count task.only task.outcomes touches shared) 0 s entries
 
 -- their text, of a run from a state on that has these entries
-abbrev pub lines_text : TraceTask → List ℕ → State → List Entry → List ℕ
-lines_text task file s entries = text_of (shown_lines task file s entries)
+abbrev pub lines_text :
+    TraceTask → List ℕ → Option ℕ → Option (ℕ → Bool) → State → List Entry → List ℕ
+lines_text task file touches shared s entries =
+    text_of (shown_lines task file touches shared s entries)
 
 -- all that is printed of a run that stopped
-abbrev pub trace_text : TraceTask → List ℕ → State → List Entry → RunStop → List ℕ
-trace_text task file s entries stop =
-    lines_text task file s entries ++ with_line_end (stop_line stop)
+abbrev pub trace_text :
+    TraceTask → List ℕ → Option ℕ → Option (ℕ → Bool) → State → List Entry → RunStop → List ℕ
+trace_text task file touches shared s entries stop =
+    lines_text task file touches shared s entries ++ with_line_end (stop_line stop)
 
 -- from a state the first events of a schedule, which is all of an input, are made: so many as are
 -- made before the machine is off or one is refused. These are their entries, and they lead to
@@ -133,6 +211,13 @@ abbrev pub Runs :
     State → Type 0
 Runs None files input s entries stop t = RunsSchedule input s entries stop t
 Runs (Some drive) files input s entries stop t = RunsDriven drive files s entries stop t
+
+-- where the task asks for the words that are shared, these are the entries of a whole run
+abbrev pub IsWhole :
+    TraceTask → (List ℕ → Option (List ℕ)) → Option (List ℕ) → State → List Entry → Type 0
+IsWhole task files input s whole =
+    task.shared ≡ true
+    → (stop : RunStop) × (t : State) × Runs task.drive files input s whole stop t
 
 -- such a run so far, whether or not more events come: the first of a schedule's
 pub record BeginsSchedule
@@ -178,11 +263,17 @@ pub record IsTraced
     (stop : RunStop) : Type 0 where
   pub booted : State
   pub boots : BootsFor task known booted
+  pub touches : Option ℕ
+  pub is_asked : IsAskedWord task boots.file touches
+  pub whole : List Entry
+  pub is_whole : IsWhole task files x.input booted whole
   pub entries : List Entry
   pub state : State
   pub runs : Runs task.drive files x.input booted entries stop state
   pub is_unread : IsUnread task.drive x
-  pub written : Appends x.before x.after (trace_text task boots.file booted entries stop)
+  pub written :
+      Appends x.before x.after
+      (trace_text task boots.file touches (shared_words task booted whole) booted entries stop)
 
 -- the run of a task, as `run` is asked for it
 abbrev pub run_of : TraceTask → RunTask
@@ -197,6 +288,23 @@ abbrev pub IsEarlyFault :
 IsEarlyFault None task known input fault = IsFaultOf (run_of task) known input fault
 IsEarlyFault (Some drive) task known input fault = IsDrivenFault (driven_of task drive) known fault
 
+-- the inputs are read: a schedule, or the keys
+abbrev pub HasInputs : Option Drive → (List ℕ → Option (List ℕ)) → Option (List ℕ) → Type 0
+HasInputs None files input = HasSchedule input
+HasInputs (Some drive) files input = (keys : List ℕ) × AreKeys drive.keys files keys
+
+-- where they are, and the image is booted, the word that the task asks for may stand for none
+pub record LacksWord
+    (task : TraceTask) (files : List ℕ → Option (List ℕ)) (known : Option (List ℕ)) (x : Streams)
+    (fault : Fault) : Type 0 where
+  pub has_inputs : HasInputs task.drive files x.input
+  pub booted : State
+  pub boots : BootsFor task known booted
+  pub text : Bor (List ℕ)
+  pub asked : task.touches ≡ Some text
+  pub is_none : IsNoWord (symbols_of task boots.file) task.size.ram text.now
+  pub fault_is : fault ≡ Touches text
+
 -- what was written before a fault in the run: a beginning of the lines of the events that were made,
 -- or of all that is printed
 pub record FailsInRun
@@ -205,13 +313,19 @@ pub record FailsInRun
   pub is_fault : (fault ≡ Output) ⊎ (fault ≡ Memory)
   pub booted : State
   pub boots : BootsFor task known booted
+  pub touches : Option ℕ
+  pub is_asked : IsAskedWord task boots.file touches
+  pub whole : List Entry
+  pub is_whole : IsWhole task files x.input booted whole
   pub entries : List Entry
   pub state : State
   pub some_written :
       (Begins task.drive files x.input booted entries state
-      × AppendsSome x.before x.after (lines_text task boots.file booted entries))
+      × AppendsSome x.before x.after
+      (lines_text task boots.file touches (shared_words task booted whole) booted entries))
       ⊎ ((stop : RunStop) × Runs task.drive files x.input booted entries stop state
-      × AppendsSome x.before x.after (trace_text task boots.file booted entries stop))
+      × AppendsSome x.before x.after
+      (trace_text task boots.file touches (shared_words task booted whole) booted entries stop))
 
 -- a fault that ends the task: before the run, and nothing was written; or in the run
 pub record IsTraceFault
@@ -219,5 +333,6 @@ pub record IsTraceFault
     (fault : Fault) : Type 0 where
   pub is_unread : IsUnread task.drive x
   pub why :
-      (IsEarlyFault task.drive task known x.input fault × (x.after ≡ x.before))
+      ((IsEarlyFault task.drive task known x.input fault ⊎ LacksWord task files known x fault)
+      × (x.after ≡ x.before))
       ⊎ FailsInRun task files known x fault

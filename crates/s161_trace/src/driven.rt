@@ -4,10 +4,12 @@ ghost use Rattle.std.specs.Prelude.{◌≡◌, ◌<◌, ◌-◌, ◌^◌, None, 
 ghost use Rattle.m161_order.specs.Order.{order_fault};
 ghost use Rattle.s161_run.specs.Driven.{rules_of};
 ghost use Rattle.s161_trace.specs.helpers.Driven.{DrivesAll, DrivesSome, FailsInDrive, FailsOnce, PrintsDrive, Turn};
-ghost use Rattle.s161_trace.specs.helpers.Printing.{FailsToPrintAll, PrintsAll};
+ghost use Rattle.s161_base.specs.declared.fault.Fault.TheVariants.{Memory};
+ghost use Rattle.s161_trace.specs.helpers.Printing.{FailsToPrintAll, FindsShared, PrintsAll};
 
 use crate::filter::LineFilter;
 use crate::lines::Lines;
+use crate::shared::SharedWords;
 use m161::Machine;
 use m161_drive::{Cursor, Driven, Policy, Stop};
 use s161_base::fault::Fault;
@@ -15,7 +17,7 @@ use s161_command::Drive;
 use s161_run::driven::stop_of;
 use s161_run::events::RunStop as Told;
 use std::alloc::Global;
-use std::io::Write;
+use std::io::{Write, sink};
 
 // Makes the next event, and puts out its line; or says why there is none.
 fn trace_once<'a, O: Write>(
@@ -125,9 +127,37 @@ pub(crate) fn print_drive<'a, O: Write>(
         (DrivesAll (rules_of options.entry keys.now) options.entry.events) machine.new.state
         (O.contents output.old) (O.contents output.new)) }
 {
-    let mut lines = Lines::new(alloc, machine, filter)?;
+    let mut lines = Lines::new(alloc, machine, filter, SharedWords::none(alloc))?;
     let driven = trace_drive(machine, options, keys, &mut lines, output)?;
     let stop = stop_of(driven, machine.core());
     lines.finish(alloc, stop, output)?;
     Ok(stop)
+}
+
+/// The words that are shared, of so many, among those of the events that the options' policy chooses
+/// that have numbers of a range. The events are made of a copy of the machine.
+///
+/// # Errors
+/// Memory was refused.
+pub(crate) fn shared_in_drive<'a>(
+    alloc: Global,
+    machine: &Machine,
+    options: Drive<'_>,
+    keys: &[u8],
+    words: usize,
+    from: u64,
+    count: u64,
+) -> Result<SharedWords, Fault<'a>>
+    requires { order_fault options.order ≡ None }
+    ensures ok { IfOk result (FindsShared words from count machine.now.state
+        (DrivesAll (rules_of options.entry keys.now) options.entry.events)) }
+    ensures err { IfErr result (λ fault. fault ≡ Memory) }
+{
+    let mut copy = machine.copy(alloc)?;
+    let filter = LineFilter::none(alloc, from, count);
+    let mut lines = Lines::new(alloc, &copy, filter, SharedWords::new(alloc, words)?)?;
+    match trace_drive(&mut copy, options, keys, &mut lines, &mut sink()) {
+        Ok(_) => Ok(lines.into_noted()),
+        Err(_) => Err(Fault::Memory),
+    }
 }

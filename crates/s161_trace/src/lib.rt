@@ -6,4 +6,6 @@ mod driven;
 mod filter;
 mod lines;
 mod scheduled;
+mod shared;
 pub mod trace;
+mod words;

@@ -8,9 +8,12 @@ ghost use Rattle.m161_text.specs.Lines.{with_line_end};
 ghost use Rattle.m161_trace.specs.Line.{event_line_with};
 ghost use Rattle.s161_run.specs.Runs.{stop_line};
 ghost use Rattle.m161_cpu.specs.declared.processor.Outcome.{Outcome};
-ghost use Rattle.s161_trace.specs.helpers.Printing.{FailsToPrint, FailsToPut, IsNew, Prints, PutsOut, has_line};
+ghost use Rattle.s161_trace.specs.Shared.{event_touches};
+ghost use Rattle.s161_trace.specs.helpers.Marks.{marks_after};
+ghost use Rattle.s161_trace.specs.helpers.Printing.{FailsToPrint, FailsToPut, IsNew, Prints, PutsOut, has_line, touches_now};
 
 use crate::filter::LineFilter;
+use crate::shared::SharedWords;
 use m161::{Console, Machine, Tlb};
 use m161_machine::{Event, Outcome};
 use m161_trace::Tracer;
@@ -30,6 +33,8 @@ pub(crate) struct Lines {
     // The number of the next event.
     number: u64,
     tracer: Tracer<Tlb, Console>,
+    // What is noted of the words that the events touch.
+    noted: SharedWords,
     // Room for a line.
     line: String,
     // Whole lines that aren't written yet.
@@ -76,6 +81,23 @@ fn keep<'a, O: Write>(piece: &mut String, line: &str, output: &mut O) -> Result<
     Ok(())
 }
 
+// Notes what an event touches which is accepted in the tracer's state.
+fn note_event(
+    noted: &mut SharedWords,
+    tracer: &Tracer<Tlb, Console>,
+    event: Event,
+    outcome: Outcome,
+)
+    requires { (t : State) × (next tracer.now event ≡ Ok (outcome, t)) }
+    ensures { noted.new.marks.items ≡ marks_after noted.old.marks.items
+        (event_touches event tracer.now outcome) }
+{
+    match event {
+        Event::Step(p) => noted.note(p, tracer.touched(event, outcome)),
+        Event::Key(_) | Event::Done => {}
+    }
+}
+
 // The last line: why a run stopped.
 fn stop_text(alloc: Global, stop: RunStop) -> Result<String, AllocError>
     ensures { IfOk result (λ text. string_bytes text ≡ with_line_end (stop_line stop)) }
@@ -84,33 +106,58 @@ fn stop_text(alloc: Global, stop: RunStop) -> Result<String, AllocError>
 }
 
 impl Lines {
-    /// No lines yet, of a run from the machine's state on.
+    /// No lines yet, of a run from the machine's state on, whose touches are noted here.
     #[inline(never)]
     pub(crate) fn new(
         alloc: Global,
         machine: &Machine,
         filter: LineFilter,
+        noted: SharedWords,
     ) -> Result<Lines, AllocError>
-        ensures { IfOk result (IsNew filter machine.now.state) }
+        ensures { IfOk result (IsNew filter noted machine.now.state) }
     {
         Ok(Lines {
             filter,
             number: 0,
             tracer: Tracer::new(alloc, machine.core().copy(alloc)?),
+            noted,
             line: String::new(alloc),
             piece: String::with_capacity(alloc, MOST)?,
         })
     }
 
+    // Notes what an event touches which is accepted in the tracer's state, if its number is in the
+    // filter's range.
+    fn note(&mut self, event: Event, outcome: Outcome)
+        requires { (t : State) × (next self.old.tracer event ≡ Ok (outcome, t)) }
+        ensures noted { self.new.noted.marks.items ≡ marks_after self.old.noted.marks.items
+            (touches_now self.old.filter self.old.number self.old.tracer event outcome) }
+        ensures tracer { self.new.tracer ≡ self.old.tracer }
+        ensures number { self.new.number ≡ self.old.number }
+        ensures filter { self.new.filter ≡ self.old.filter }
+        ensures piece { self.new.piece ≡ self.old.piece }
+    {
+        if self.noted.notes_nothing() {
+            return;
+        }
+        if self.filter.has_number(self.number) {
+            note_event(&mut self.noted, &self.tracer, event, outcome);
+        }
+    }
+
     // Makes an accepted event on the tracer's state, without a line.
-    fn pass(&mut self, event: Event) -> Result<(), AllocError>
-        requires { self.old.number < 2 ^ 64 - 1 }
+    fn pass(&mut self, event: Event, outcome: Outcome) -> Result<(), AllocError>
+        requires accepted { (t : State) × (next self.old.tracer event ≡ Ok (outcome, t)) }
+        requires few { self.old.number < 2 ^ 64 - 1 }
         ensures made { OnOk result ((o : Outcome) (t : State)
             → next self.old.tracer event ≡ Ok (o, t) → self.new.tracer ≡ t) }
         ensures number { OnOk result (self.new.number ≡ self.old.number + 1) }
         ensures filter { self.new.filter ≡ self.old.filter }
         ensures piece { string_bytes self.new.piece ≡ string_bytes self.old.piece }
+        ensures noted { self.new.noted.marks.items ≡ marks_after self.old.noted.marks.items
+            (touches_now self.old.filter self.old.number self.old.tracer event outcome) }
     {
+        self.note(event, outcome);
         match self.tracer.pass(event) {
             Ok(_) => {
                 self.number += 1;
@@ -131,7 +178,10 @@ impl Lines {
         ensures number { OnOk result (self.new.number ≡ self.old.number + 1) }
         ensures filter { self.new.filter ≡ self.old.filter }
         ensures piece { string_bytes self.new.piece ≡ string_bytes self.old.piece }
+        ensures noted { self.new.noted.marks.items ≡ marks_after self.old.noted.marks.items
+            (touches_now self.old.filter self.old.number self.old.tracer event outcome) }
     {
+        self.note(event, outcome);
         self.line.clear();
         let number = self.number;
         let LineFilter { style, loads, .. } = &self.filter;
@@ -157,6 +207,7 @@ impl Lines {
         ensures tracer { self.new.tracer ≡ self.old.tracer }
         ensures number { self.new.number ≡ self.old.number }
         ensures filter { self.new.filter ≡ self.old.filter }
+        ensures noted { self.new.noted ≡ self.old.noted }
     {
         keep(&mut self.piece, self.line.as_str(), output)
     }
@@ -169,7 +220,7 @@ impl Lines {
         outcome: Outcome,
         output: &mut O,
     ) -> Result<(), Fault<'a>>
-        requires has { has_line self.old.filter self.old.number event outcome ≡ true }
+        requires has { has_line self.old.filter self.old.number self.old.tracer event outcome ≡ true }
         requires accepted { next self.old.tracer event ≡ Ok (outcome, machine.now.state) }
         requires few { self.old.number < 2 ^ 64 - 1 }
         ensures ok { OnOk result (Prints self.old (O.contents output.old)
@@ -197,11 +248,19 @@ impl Lines {
         ensures err { IfErr result (FailsToPrint self.old (O.contents output.old)
             (entry event outcome ∷ []) machine.now.state (O.contents output.new)) }
     {
-        if self.filter.has(self.number, event, outcome) {
+        if self.filter.has(&self.tracer, self.number, event, outcome) {
             return self.add_line(machine, event, outcome, output);
         }
-        self.pass(event)?;
+        self.pass(event, outcome)?;
         Ok(())
+    }
+
+    /// What was noted of the words that the events touched.
+    pub(crate) fn into_noted(self) -> SharedWords
+        ensures { result ≡ self.noted }
+    {
+        let Lines { noted, .. } = self;
+        noted
     }
 
     /// Writes the lines that are kept back, and behind them why the run stopped.

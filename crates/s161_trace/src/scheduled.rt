@@ -1,17 +1,19 @@
 //! Printing the lines of a run by a schedule.
 
 ghost use Rattle.std.specs.Prelude.{◌≡◌, ◌<◌, ◌+◌, ◌-◌, ◌^◌, IfErr, IfOk};
-ghost use Rattle.s161_trace.specs.helpers.Printing.{FailsToPrintAll, PrintsAll};
+ghost use Rattle.s161_base.specs.declared.fault.Fault.TheVariants.{Memory};
+ghost use Rattle.s161_trace.specs.helpers.Printing.{FailsToPrintAll, FindsShared, PrintsAll};
 ghost use Rattle.s161_trace.specs.helpers.Scheduled.{FailsAlike, FailsInSchedule, FailsOnce, MakesAll, MakesSome, PrintsSchedule, Turn, TurnsAlike};
 
 use crate::filter::LineFilter;
 use crate::lines::Lines;
+use crate::shared::SharedWords;
 use m161::Machine;
 use m161_machine::{Event, Events, Refusal};
 use s161_base::fault::Fault;
 use s161_run::events::{RunStop, stop_off};
 use std::alloc::Global;
-use std::io::Write;
+use std::io::{Write, sink};
 
 // Makes an event, and puts out its line; or says why it is refused.
 fn trace_event<'a, O: Write>(
@@ -109,8 +111,33 @@ pub(crate) fn print_schedule<'a, O: Write>(
     ensures err { IfErr result (FailsToPrintAll filter machine.old.state (MakesSome events.now)
         (MakesAll events.now) machine.new.state (O.contents output.old) (O.contents output.new)) }
 {
-    let mut lines = Lines::new(alloc, machine, filter)?;
+    let mut lines = Lines::new(alloc, machine, filter, SharedWords::none(alloc))?;
     let stop = trace_events(machine, events, &mut lines, output)?;
     lines.finish(alloc, stop, output)?;
     Ok(stop)
+}
+
+/// The words that are shared, of so many, among those of a schedule's events that have numbers of a
+/// range. The events are made of a copy of the machine.
+///
+/// # Errors
+/// Memory was refused.
+pub(crate) fn shared_in_schedule<'a>(
+    alloc: Global,
+    machine: &Machine,
+    events: &Events,
+    words: usize,
+    from: u64,
+    count: u64,
+) -> Result<SharedWords, Fault<'a>>
+    ensures ok { IfOk result (FindsShared words from count machine.now.state (MakesAll events.now)) }
+    ensures err { IfErr result (λ fault. fault ≡ Memory) }
+{
+    let mut copy = machine.copy(alloc)?;
+    let filter = LineFilter::none(alloc, from, count);
+    let mut lines = Lines::new(alloc, &copy, filter, SharedWords::new(alloc, words)?)?;
+    match trace_events(&mut copy, events, &mut lines, &mut sink()) {
+        Ok(_) => Ok(lines.into_noted()),
+        Err(_) => Err(Fault::Memory),
+    }
 }

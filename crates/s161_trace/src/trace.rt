@@ -11,13 +11,14 @@ ghost use Rattle.s161_base.specs.Streams.{streams};
 ghost use Rattle.s161_run.specs.Driven.{AreKeys, IsDrivenFault, rules_of};
 ghost use Rattle.s161_run.specs.Runs.{IsFaultOf};
 ghost use Rattle.s161_trace.specs.Traces.{IsTraced, IsTraceFault, driven_of, run_of, trace_files};
-ghost use Rattle.s161_trace.specs.helpers.Booted.{FailsRun, PrintsRun};
+ghost use Rattle.s161_trace.specs.helpers.Booted.{FailsRun, IsSharedIf, PrintsRun, with_shared};
+ghost use Rattle.s161_base.specs.declared.fault.Fault.TheVariants.{Memory};
 ghost use Rattle.s161_trace.specs.helpers.Driven.{DrivesAll, DrivesSome};
 ghost use Rattle.s161_trace.specs.helpers.Scheduled.{MakesAll, MakesSome};
 
-use crate::driven::print_drive;
+use crate::driven::{print_drive, shared_in_drive};
 use crate::filter::LineFilter;
-use crate::scheduled::print_schedule;
+use crate::scheduled::{print_schedule, shared_in_schedule};
 use m161::Machine;
 use m161_machine::Events;
 use s161_base::fault::Fault;
@@ -95,10 +96,36 @@ fn read_scheduled<'a, F: FileSource, I: Read>(
     Ok((file, events))
 }
 
+// The filter, with the words that are shared in the run by a schedule, if the task asks for them.
+fn share_schedule<'a>(
+    alloc: Global,
+    task: &TraceTask<'_>,
+    machine: &Machine,
+    events: &Events,
+    filter: LineFilter,
+) -> Result<LineFilter, Fault<'a>>
+    ensures ok { IfOk result (λ w. (w ≡ with_shared filter w.shared)
+        × IsSharedIf task.now machine.now.state (MakesAll events.now) w.shared) }
+    ensures err { IfErr result (λ fault. fault ≡ Memory) }
+{
+    if !task.shared {
+        return Ok(LineFilter {
+            shared: None,
+            ..filter
+        });
+    }
+    let words = (task.size.ram / 4) as usize;
+    let shared = shared_in_schedule(alloc, machine, events, words, task.from, task.count)?;
+    Ok(LineFilter {
+        shared: Some(shared),
+        ..filter
+    })
+}
+
 // Boots a file, and prints the lines of its run by a schedule.
 fn run_schedule<'a, O: Write>(
     alloc: Global,
-    task: &TraceTask<'_>,
+    task: &TraceTask<'a>,
     file: &[u8],
     events: &Events,
     output: &mut O,
@@ -110,6 +137,7 @@ fn run_schedule<'a, O: Write>(
 {
     let mut machine = Machine::boot(alloc, file, conf_of(task.size))?;
     let filter = LineFilter::of(alloc, task, file)?;
+    let filter = share_schedule(alloc, task, &machine, events, filter)?;
     print_schedule(alloc, &mut machine, events, filter, output)
 }
 
@@ -160,10 +188,40 @@ fn read_driven<'a, F: FileSource>(
     Ok((file, keys))
 }
 
+// The filter, with the words that are shared in the run by a policy with these keys, if the task asks
+// for them.
+fn share_drive<'a>(
+    alloc: Global,
+    task: &TraceTask<'_>,
+    machine: &Machine,
+    options: Drive<'_>,
+    keys: &[u8],
+    filter: LineFilter,
+) -> Result<LineFilter, Fault<'a>>
+    requires { order_fault options.order ≡ None }
+    ensures ok { IfOk result (λ w. (w ≡ with_shared filter w.shared)
+        × IsSharedIf task.now machine.now.state
+        (DrivesAll (rules_of options.entry keys.now) options.entry.events) w.shared) }
+    ensures err { IfErr result (λ fault. fault ≡ Memory) }
+{
+    if !task.shared {
+        return Ok(LineFilter {
+            shared: None,
+            ..filter
+        });
+    }
+    let words = (task.size.ram / 4) as usize;
+    let shared = shared_in_drive(alloc, machine, options, keys, words, task.from, task.count)?;
+    Ok(LineFilter {
+        shared: Some(shared),
+        ..filter
+    })
+}
+
 // Boots a file, and prints the lines of its run by a policy with these keys.
 fn run_drive<'a, O: Write>(
     alloc: Global,
-    task: &TraceTask<'_>,
+    task: &TraceTask<'a>,
     options: Drive<'_>,
     file: &[u8],
     keys: &[u8],
@@ -180,6 +238,7 @@ fn run_drive<'a, O: Write>(
 {
     let mut machine = Machine::boot(alloc, file, conf_of(task.size))?;
     let filter = LineFilter::of(alloc, task, file)?;
+    let filter = share_drive(alloc, task, &machine, options, keys, filter)?;
     print_drive(alloc, &mut machine, options, keys, filter, output)
 }
 

@@ -7,7 +7,7 @@ use Rattle.s161_base.specs.Asked.{AsksFor, IsBeforeInput}
 use Rattle.s161_base.specs.Samples.{image_file}
 use Rattle.s161_base.specs.Streams.{Streams}
 use Rattle.s161_base.specs.declared.fault.Fault.{Fault}
-use Rattle.s161_base.specs.declared.fault.Fault.TheVariants.{Conf, File, Image, Input, Log, LogImage, LogMachine, Memory, Never, Output, Schedule, Source, Threads, Watch, Watches, Word}
+use Rattle.s161_base.specs.declared.fault.Fault.TheVariants.{Conf, File, Image, Input, Log, LogImage, LogMachine, Memory, Never, Output, Schedule, Source, Threads, Touches, Watch, Watches, Word}
 use Rattle.s161_command.specs.declared.task.ConsoleTask.{ConsoleTask}
 use Rattle.s161_command.specs.declared.task.DebugTask.{DebugTask}
 use Rattle.s161_command.specs.declared.task.GdbTask.{GdbTask}
@@ -62,6 +62,7 @@ assembly_is_none input LogImage h = tt
 assembly_is_none input (Watches n) h = tt
 assembly_is_none input (Watch k) h = tt
 assembly_is_none input (Never word) h = tt
+assembly_is_none input (Touches word) h = tt
 assembly_is_none input Conf h = tt
 assembly_is_none input (Image e) h = tt
 assembly_is_none input (Source e) h = tt
@@ -89,6 +90,7 @@ listing_is_none file LogImage h = tt
 listing_is_none file (Watches n) h = tt
 listing_is_none file (Watch k) h = tt
 listing_is_none file (Never word) h = tt
+listing_is_none file (Touches word) h = tt
 listing_is_none file Conf h = tt
 listing_is_none file (Image e) h = tt
 listing_is_none file (Source e) h = tt

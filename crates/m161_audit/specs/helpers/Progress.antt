@@ -1,39 +1,14 @@
-use Rattle.std.specs.Prelude.{◌≡◌, ℕ, ◌<◌, ◌≤◌, ◌%◌, Bool, true, false, ◌==◌, ◌&&◌, if◌then◌else◌, List, [], ◌∷◌, map, slice_get, slice_index_or, Option, None, Some}
+use Rattle.std.specs.Prelude.{◌≡◌, ℕ, ◌<◌, ◌≤◌, ◌%◌, Bool, true, false, ◌==◌, ◌&&◌, List, slice_get, slice_index_or, Option, None, Some}
 use Rattle.m161_tlb.specs.declared.row.Row.{Row}
 use Rattle.m161_cpu.specs.declared.uses.Via.{Via}
 use Rattle.m161_machine.specs.State.{State, processor_at, word_in}
-use Rattle.m161_audit.specs.declared.watch.Watch.{Watch}
 use Rattle.m161_audit.specs.declared.shootdown.Progress.{Progress}
 use Rattle.m161_audit.specs.declared.shootdown.Progress.TheVariants.{Before, Changed, GoneOn}
 use Rattle.m161_audit.specs.declared.shootdown.Shootdown.{Shootdown}
 use Rattle.m161_audit.specs.Stale.{entry_in, is_old}
+use Rattle.m161_audit.specs.Tracking.{progress_after}
 
--- How the code follows the shootdowns: how far each is, in place of the list of stores.
-
--- after a store to the mark
-abbrev pub if_changed : Progress → Progress
-if_changed Before = Before
-if_changed Changed = GoneOn
-if_changed GoneOn = GoneOn
-
--- after a store to a word
-abbrev pub progress_after : Watch → ℕ → Progress → Progress
-progress_after w word p =
-    if w.pte == word then Changed else if w.done == word then if_changed p else p
-
-abbrev pub progress_from : Watch → Progress → List ℕ → Progress
-progress_from w p [] = p
-progress_from w p (word ∷ words) = progress_from w (progress_after w word p) words
-
-abbrev pub progress_of : Watch → List ℕ → Progress
-progress_of w stores = progress_from w Before stores
-
--- the shootdown of a watch after these stores
-abbrev pub shootdown_at : List ℕ → Watch → Shootdown
-shootdown_at stores w = record { watch = w; progress = progress_of w stores }
-
-abbrev pub tracked : List Watch → List ℕ → List Shootdown
-tracked watches stores = map (shootdown_at stores) watches
+-- How the code follows the shootdowns.
 
 abbrev pub after_word : ℕ → Shootdown → Shootdown
 after_word word x = record { watch = x.watch; progress = progress_after x.watch word x.progress }

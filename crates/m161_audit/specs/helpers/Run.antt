@@ -1,4 +1,4 @@
-use Rattle.std.specs.Prelude.{◌≡◌, ℕ, ◌++◌, List, [], ◌∷◌, length, Option, None, Some, Result, Ok, Err, All}
+use Rattle.std.specs.Prelude.{◌≡◌, ℕ, ◌++◌, List, [], ◌∷◌, length, Option, None, Some, Result, Ok, Err}
 use Rattle.m161_cpu.specs.declared.uses.Via.{Via}
 use Rattle.m161_machine.specs.declared.conf.BootError.TheVariants.{NoMemory}
 use Rattle.m161_machine.specs.declared.event.Event.{Event}
@@ -7,25 +7,18 @@ use Rattle.m161_machine.specs.declared.conf.Conf.{Conf}
 use Rattle.m161_machine.specs.declared.conf.BootError.{BootError}
 use Rattle.m161_machine.specs.History.{History, IsBooted, boot_state}
 use Rattle.m161_machine.specs.State.{CoreValue, State}
-use Rattle.m161_machine.specs.StoreHistory.{StoreState, live_state}
-use Rattle.m161_machine.proofs.Linking.{IsMade}
+use Rattle.m161_machine.specs.StoreHistory.{StoreState}
 use Rattle.m161_audit.specs.declared.finding.AuditError.{AuditError}
 use Rattle.m161_audit.specs.declared.finding.AuditError.TheVariants.{Boot, BadWatch}
 use Rattle.m161_audit.specs.declared.finding.Finding.{Finding}
+use Rattle.m161_audit.specs.declared.finding.Finding.TheVariants.{Clean, Stale}
 use Rattle.m161_audit.specs.declared.shootdown.Shootdown.{Shootdown}
 use Rattle.m161_audit.specs.declared.watch.Watch.{Watch}
 use Rattle.m161_audit.specs.Watch.{AreGood, IsBad}
 use Rattle.m161_audit.specs.Stale.{IsFinding, IsStale, after_event, after_events}
-use Rattle.m161_audit.specs.helpers.Progress.{tracked}
+use Rattle.m161_audit.specs.Tracking.{IsAt, tracked}
 
 -- How the code audits a run: on a machine's state, which has the live links in place of the stores.
-
--- the machine's state and the shootdowns are those of a state with its stores
-pub record IsAt (watches : List Watch) (s : StoreState) (core : State) (items : List Shootdown)
-    : Type 0 where
-  pub core_is : core ≡ live_state s
-  pub items_are : items ≡ tracked watches s.stores
-  pub made : All (IsMade s.stores) s.links
 
 -- no event of a run from s is a stale use
 abbrev pub NoneStale : List Watch → StoreState → List Event → Type 0
@@ -92,6 +85,14 @@ AuditsInputs watches s es (Err error) core items = error ≡ Boot NoMemory
 abbrev pub FindsIn : List Watch → StoreState → List Event → Result Finding AuditError → Type 0
 FindsIn watches s es (Ok finding) = IsFinding s es watches finding
 FindsIn watches s es (Err error) = error ≡ Boot NoMemory
+
+-- the same where events were audited before: these are all; where none is a stale use, the run is made
+abbrev pub FindsOn :
+    List Watch → StoreState → List Event → Result Finding AuditError → State → List Shootdown → Type 0
+FindsOn watches s es (Ok Clean) core items = Passes watches s es core items
+FindsOn watches s es (Ok (Stale k p address row)) core items =
+    IsFinding s es watches (Stale k p address row)
+FindsOn watches s es (Err error) core items = error ≡ Boot NoMemory
 
 -- what an audit begins with, without a reason not to boot
 abbrev pub BeginsBooted :

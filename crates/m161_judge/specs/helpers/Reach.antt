@@ -10,19 +10,29 @@ use Rattle.m161_machine.specs.State.{State, processor_at}
 use Rattle.m161_audit.specs.declared.finding.AuditError.{AuditError}
 use Rattle.m161_audit.specs.declared.finding.AuditError.TheVariants.{Boot}
 use Rattle.m161_judge.specs.declared.reach.Reach.{Reach}
-use Rattle.m161_judge.specs.Verdict.{IsReachAt, NoneReachBefore}
+use Rattle.m161_judge.specs.declared.reach.Sought.{Sought}
+use Rattle.m161_judge.specs.declared.reach.Sought.TheVariants.{Open, Over}
+use Rattle.m161_judge.specs.Memory.{IsFirstReach, IsSought}
 
 -- How the code finds the first Step that reaches an address.
 
--- the first Step that reaches one of these addresses, if there is one
-abbrev pub IsFirstReach : List ℕ → State → List Event → Option Reach → Type 0
-IsFirstReach never s events None =
-    (k p address : ℕ) → IsReachAt never s events k p address → ⊥
-IsFirstReach never s events (Some reach) =
-    IsReachAt never s events reach.place reach.processor reach.address
-    × NoneReachBefore never s events reach.place
+-- the first reach that the search came to
+abbrev pub reach_in : Sought → Option Reach
+reach_in Open = None
+reach_in (Over reach) = reach
 
--- or memory was refused
+-- how far the search came along these events, or memory was refused
+abbrev pub Seeks : List ℕ → State → List Event → Result Sought AuditError → State → Type 0
+Seeks never s events (Ok sought) t = IsSought never s events sought t
+Seeks never s events (Err error) t = error ≡ Boot NoMemory
+
+-- the place of a reach is below n
+abbrev pub IsSoughtBelow : ℕ → Sought → Type 0
+IsSoughtBelow n Open = Unit {0}
+IsSoughtBelow n (Over None) = Unit {0}
+IsSoughtBelow n (Over (Some reach)) = reach.place < n
+
+-- the first reach, or memory was refused
 abbrev pub FindsReach : List ℕ → State → List Event → Result (Option Reach) AuditError → Type 0
 FindsReach never s events (Ok reach) = IsFirstReach never s events reach
 FindsReach never s events (Err error) = error ≡ Boot NoMemory

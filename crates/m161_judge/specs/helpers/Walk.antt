@@ -1,4 +1,4 @@
-use Rattle.std.specs.Prelude.{◌≡◌, ℕ, ◌≢◌, ◌+◌, ◌-◌, ◌<◌, Bool, true, false, List, length, Option, None, Some, Result, Ok, Err}
+use Rattle.std.specs.Prelude.{◌≡◌, ℕ, ◌≢◌, ◌+◌, ◌-◌, ◌<◌, Bool, true, false, List, ◌++◌, length, Option, None, Some, Result, Ok, Err}
 use Rattle.m161_cpu.specs.declared.processor.Outcome.{Outcome}
 use Rattle.m161_machine.specs.declared.conf.BootError.TheVariants.{NoMemory}
 use Rattle.m161_machine.specs.declared.event.Conflict.{Conflict as ConflictOf}
@@ -12,7 +12,6 @@ use Rattle.m161_machine.specs.StoreHistory.{without_stores}
 use Rattle.m161_audit.specs.declared.finding.AuditError.{AuditError}
 use Rattle.m161_audit.specs.declared.finding.AuditError.TheVariants.{Boot, BadWatch}
 use Rattle.m161_audit.specs.declared.finding.Finding.{Finding}
-use Rattle.m161_audit.specs.declared.finding.Finding.TheVariants as finding
 use Rattle.m161_audit.specs.Watch.{AreGood, IsBad}
 use Rattle.m161_audit.specs.Stale.{IsFinding}
 use Rattle.m161_drive.specs.declared.run.Driven.{Driven}
@@ -28,7 +27,7 @@ use Rattle.m161_judge.specs.declared.walk.Walk.{Walk}
 use Rattle.m161_judge.specs.declared.walk.Walk.TheVariants as walk
 use Rattle.m161_judge.specs.declared.reach.Reach.{Reach}
 use Rattle.m161_judge.specs.Run.{is_cut}
-use Rattle.m161_judge.specs.helpers.Reach.{IsFirstReach}
+use Rattle.m161_judge.specs.Memory.{IsFirstReach}
 use Rattle.m161_judge.specs.Verdict.{Criteria, Holds, IsJudged, IsRefused, IsStuckAfter, IsStuckBadly, LeadsTo, has_keys, rank}
 
 -- How the code judges a run: it looks at each of its states.
@@ -119,11 +118,6 @@ Walks goal s events (Ok (walk.Made judged)) =
     (IsRefused s events → ⊥) × IsJudgedBeside goal s events judged
 Walks goal s events (Err error) = error ≡ Boot NoMemory
 
--- the place of a finding is below n
-abbrev pub IsBelow : ℕ → Finding → Type 0
-IsBelow n finding.Clean = Unit {0}
-IsBelow n (finding.Stale place p address row) = place < n
-
 -- the verdict of a reach, which needs the events up to it
 abbrev pub judged_reach : Reach → Judged
 judged_reach reach = record {
@@ -159,6 +153,13 @@ pub record IsDrivenRun (rules : Rules) (n : ℕ) (output : Option (List ℕ)) (s
       (goal : Criteria) → goal.output ≡ output → goal.keys ≡ rules.keys
       → IsJudgedBeside goal s run.events.items run.judged
   pub cut : run.is_cut ≡ is_cut driven.stop (has_keys rules.keys run.events.items) state
+
+-- the same of a run that was begun: its events begin with these; or memory was refused
+abbrev pub DrivesRest :
+    Rules → ℕ → Option (List ℕ) → State → List Event → Result JudgedRun AuditError → Type 0
+DrivesRest rules n output s begun (Ok run) =
+    IsDrivenRun rules n output s run × ((rest : List Event) × (run.events.items ≡ begun ++ rest))
+DrivesRest rules n output s begun (Err error) = error ≡ Boot NoMemory
 
 -- or memory was refused
 abbrev pub DrivesRun :

@@ -3,8 +3,12 @@
 use super::kernels::{HELLO, LETTER, LOOP, ONE, WAIT, file_with};
 use super::same;
 use m161::{Console, Tlb};
-use m161_drive::Order;
-use m161_judge::{Conf, Goal, Judged, JudgedRun, LinkUnit, Policy, Verdict, Watch, judge_run};
+use m161_drive::{Cursor, Order, turn};
+use m161_judge::{
+    Booted, Conf, Event, Goal, Judged, JudgedRun, LinkUnit, Policy, StepMemory, Verdict, Watch,
+    judge_rest, judge_run,
+};
+use m161_machine::{Core, PackedEntry};
 use m161_test_support::kernel::kernel_with;
 use std::alloc::{AllocGlobal, Global};
 use std::process::Abort;
@@ -93,6 +97,15 @@ fn stuck(rt: HostRuntime) -> Result<(), Fail> {
 /// No branch that waits for the acknowledgement.
 const WITHOUT_WAIT: [(u32, u32); 1] = [(0x248, 0)];
 
+/// The machine that runs the sample kernel.
+const SAMPLE: Conf = Conf {
+    ram: 1_048_576,
+    processors: 2,
+    log: 10_000,
+    link: LinkUnit::Word,
+    strict: false,
+};
+
 /// The sample kernel's watch.
 const WATCH: Watch = Watch {
     id: 5,
@@ -109,13 +122,6 @@ fn sample(
     never: &[u32],
 ) -> Result<JudgedRun, Fail> {
     let file = kernel_with(alloc, changes)?;
-    let conf = Conf {
-        ram: 1_048_576,
-        processors: 2,
-        log: 10_000,
-        link: LinkUnit::Word,
-        strict: false,
-    };
     let policy = Policy::new(order, 100, Some(1000), &[])?;
     let goal = Goal {
         watches: &[WATCH],
@@ -123,7 +129,7 @@ fn sample(
         output: None,
         keys: &[],
     };
-    Ok(judge_run::<Tlb, Console>(alloc, &file, conf, &policy, 10_000, &goal)?)
+    Ok(judge_run::<Tlb, Console>(alloc, &file, SAMPLE, &policy, 10_000, &goal)?)
 }
 
 // Checks that a run is stale where one is expected, and that the verdict needs the events up to it.
@@ -193,4 +199,98 @@ fn reached(rt: HostRuntime) -> Result<(), Fail> {
     let stale = sample(rt.alloc(), &WITHOUT_WAIT, order, &[0x8000_0200])?;
     check_stale(&rt, &stale, true);
     Ok(())
+}
+
+/// A run of the sample kernel's variant that was begun.
+#[derive(Drop)]
+struct Begun {
+    core: Core<Tlb, Console>,
+    cursor: Cursor,
+    events: Vec<Event>,
+    steps: StepMemory<Tlb, Console>,
+}
+
+// Makes the first events of a run, and keeps of them what it takes to judge the rest.
+fn begin(
+    alloc: Global,
+    booted: &Booted<Tlb, Console>,
+    policy: &Policy,
+    goal: &Goal,
+    first: usize,
+) -> Result<Begun, Fail> {
+    let mut core = booted.copy_core(alloc)?;
+    let mut cursor = Cursor::new(policy, &core);
+    let mut events = Vec::new(alloc);
+    let mut steps = StepMemory::new(alloc, booted, goal)?;
+    let mut entry = [PackedEntry::blank(); 1];
+    for _ in 0..first {
+        let key = policy.key(cursor.typed());
+        if let Ok(_) = turn(&mut core, policy, &mut cursor, key, &mut entry) {
+            let made = entry[0];
+            events.push(made.entry().event)?;
+        }
+        steps.go_on(&events, goal)?;
+    }
+    Ok(Begun {
+        core,
+        cursor,
+        events,
+        steps,
+    })
+}
+
+// The run of the sample kernel's variant that doesn't wait, from its first events on.
+fn rest_of(alloc: Global, order: Order, never: &[u32], first: usize) -> Result<JudgedRun, Fail> {
+    let file = kernel_with(alloc, &WITHOUT_WAIT)?;
+    let booted = Booted::<Tlb, Console>::new(alloc, &file, SAMPLE)?;
+    let policy = Policy::new(order, 100, Some(1000), &[])?;
+    let goal = Goal {
+        watches: &[WATCH],
+        never,
+        output: None,
+        keys: &[],
+    };
+    let Begun {
+        mut core,
+        cursor,
+        events,
+        steps,
+    } = begin(alloc, &booted, &policy, &goal, first)?;
+    let steps = steps.copy(alloc)?;
+    Ok(judge_rest(&mut core, &policy, cursor, 10_000, events, steps, &goal)?)
+}
+
+// Checks that a run has the verdict of the whole, also where it goes on behind what goes wrong.
+fn check_rest(rt: &(impl Abort + AllocGlobal), order: Order, never: &[u32]) -> Result<(), Fail> {
+    let whole = sample(rt.alloc(), &WITHOUT_WAIT, order, never)?;
+    let needed = match whole.judged {
+        Some(judged) => judged.events,
+        None => 0,
+    };
+    for first in [
+        0,
+        needed / 2,
+        needed.saturating_sub(1),
+        needed,
+        needed.saturating_add(9),
+    ] {
+        let run = rest_of(rt.alloc(), order, never, first)?;
+        same(rt, (run.judged, run.is_cut), (whole.judged, whole.is_cut));
+        same(rt, run.events.len(), whole.events.len());
+    }
+    Ok(())
+}
+
+// `audit-memory-not-restored`: also where the beginning goes wrong.
+#[test]
+fn rests(rt: HostRuntime) -> Result<(), Fail> {
+    let stale = Order::Priorities {
+        seed: 0,
+        changes: 2,
+        within: 100,
+    };
+    check_rest(&rt, stale, &[])?;
+    check_rest(&rt, stale, &[0x8000_0200])?;
+    check_rest(&rt, Order::Turns(1), &[0x8000_00ac])?;
+    check_rest(&rt, Order::Turns(1), &[0x8000_0280, 0x8000_00ac])
 }

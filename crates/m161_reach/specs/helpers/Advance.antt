@@ -1,4 +1,4 @@
-use Rattle.std.specs.Prelude.{◌≡◌, Option, None, Some, Ok, Err}
+use Rattle.std.specs.Prelude.{◌≡◌, ◌⊎◌, Option, None, Some, Ok, Err}
 use Rattle.m161_cpu.specs.declared.processor.Outcome.{Outcome}
 use Rattle.m161_machine.specs.declared.event.Event.{Event}
 use Rattle.m161_machine.specs.declared.event.Refusal.{Refusal}
@@ -18,14 +18,14 @@ abbrev pub unmade : Explored → Explored
 unmade x = record x { state = fresh x.state }
 
 -- an event of x, if it is this one, is accepted with an outcome, and t is the next state, as before any
--- event; or it isn't accepted
+-- event; or it isn't accepted, and t is x
 abbrev pub Takes : Criteria → Explored → Event → Explored → Option Outcome → Type 0
 Takes goal x e t (Some o) =
     (u : State) × (result_of (fresh x.state) e ≡ Ok (o, u)) × (t ≡ unmade (behind goal x e u))
-Takes goal x e t None = (r : Refusal) × (result_of (fresh x.state) e ≡ Err r)
+Takes goal x e t None = (r : Refusal) × (result_of (fresh x.state) e ≡ Err r) × (t ≡ x)
 
 abbrev pub TakesNext : Criteria → Explored → Option Event → Explored → Option Outcome → Type 0
-TakesNext goal x None t made = made ≡ None
+TakesNext goal x None t made = (made ≡ None) × (t ≡ x)
 TakesNext goal x (Some e) t made = Takes goal x e t made
 
 -- a question of which this alone is known: an event asks no more of it
@@ -38,14 +38,19 @@ advanced_by None = Passed
 advanced_by (Some what) = Judged what
 
 -- what an event of x comes to, if it is this one; where it is accepted, t is the next state, as before
--- any event
+-- any event, else t is x
 abbrev pub AdvancesBy :
     Question → Explored → Option Event → Explored → Advanced Verdict Unknown → Type 0
-AdvancesBy q x e t Refused = (stop_by q x e ≡ None) × (next_by q.goal x e ≡ None)
+AdvancesBy q x e t Refused = (stop_by q x e ≡ None) × (next_by q.goal x e ≡ None) × (t ≡ x)
 AdvancesBy q x e t Passed =
     (u : Explored) × (stop_by q x e ≡ None) × (next_by q.goal x e ≡ Some u)
     × (verdict_by q.goal x e ≡ None) × (t ≡ unmade u)
 AdvancesBy q x e t (Judged what) =
     (u : Explored) × (stop_by q x e ≡ None) × (next_by q.goal x e ≡ Some u)
-    × (verdict_by q.goal x e ≡ Some what)
-AdvancesBy q x e t (Stopped reason) = stop_by q x e ≡ Some reason
+    × (verdict_by q.goal x e ≡ Some what) × (t ≡ unmade u)
+AdvancesBy q x e t (Stopped reason) = (stop_by q x e ≡ Some reason) × (t ≡ x)
+
+-- t is x, or the next state behind this event, as before any event
+abbrev pub IsBehind : Criteria → Explored → Option Event → Explored → Type 0
+IsBehind goal x e t =
+    (t ≡ x) ⊎ ((u : Explored) × (next_by goal x e ≡ Some u) × (t ≡ unmade u))

@@ -1,13 +1,16 @@
 //! The auditor on the small kernel and its variants, and the texts of watches.
 
+ghost use Rattle.std.specs.Prelude.{◌≤◌, length};
+
 use super::same;
 use m161::{Console, Tlb};
 use m161_asm::assemble;
 use m161_audit::{
-    AuditError, BootError, Conf, Event, Finding, LinkUnit, TextFault, Watch, audit, audit_events,
-    read_watches,
+    AuditError, Auditor, BootError, Conf, Event, Finding, LinkUnit, TextFault, Watch, audit,
+    audit_events, read_watches,
 };
 use m161_elf_writer::write;
+use m161_machine::Core;
 use m161_steplog::read_schedule;
 use m161_test_support::kernel::kernel_with;
 use std::alloc::Global;
@@ -74,6 +77,42 @@ fn check(
         same(rt, (link, found), (link, expected));
         let found = audit::<Tlb, Console>(alloc, &file, conf, list.as_slice(), watches);
         same(rt, (link, found), (link, expected));
+    }
+    Ok(())
+}
+
+// What an audit of the first events of a run finds, and of all of them from there on.
+fn found_in_parts(
+    alloc: Global,
+    file: &[u8],
+    events: &[Event],
+    first: usize,
+) -> Result<(Finding, Finding), Fail>
+    requires { first ≤ length events.now }
+{
+    let core = Core::<Tlb, Console>::boot(alloc, file, CONF)?;
+    let mut auditor = Auditor::new(alloc, core, &[WATCH])?;
+    auditor.audit_on(&events[..first])?;
+    let mut copy = auditor.copy(alloc)?;
+    copy.audit_on(events)?;
+    Ok((auditor.finding(), copy.finding()))
+}
+
+// `audit-memory-not-restored`: before the stale use and behind it an audit goes on as one of the whole.
+#[test]
+fn audit_in_parts(rt: HostRuntime) -> Result<(), Fail> {
+    let alloc = rt.alloc();
+    let file = kernel_with(alloc, &WITHOUT_WAIT)?;
+    let events = read_schedule(alloc, HASTY)?.to_vec(alloc)?;
+    let length = events.len();
+    for first in 0..length + 1 {
+        let before = if first < 38 {
+            Finding::Clean
+        } else {
+            stale(37)
+        };
+        let found = found_in_parts(alloc, &file, &events, first)?;
+        same(&rt, found, (before, stale(37)));
     }
     Ok(())
 }

@@ -1,5 +1,5 @@
 use Rattle.std.specs.Prelude.{◌≡◌, ◌≤◌, ◌<◌, ◌++◌, ◌∷◌, ℕ, List, length}
-use Rattle.m161_dis.specs.declared.naming.Naming.{Naming}
+use Rattle.m161_dis.specs.declared.naming.Style.{Style}
 use Rattle.m161_bus.specs.Board.{BoardState}
 use Rattle.m161_bus.specs.declared.register.BoardWord.TheVariants as words
 use Rattle.m161_machine.specs.State.{State}
@@ -8,21 +8,21 @@ use Rattle.m161_trace.specs.Line.{item_text, spaced}
 
 -- What is appended to a text.
 
--- the text has these items more, a space before each, with registers named like this
-abbrev pub AddsIn : Naming → List ℕ → List Item → List ℕ → Type 0
-AddsIn naming old is new = new ≡ old ++ spaced naming is
+-- the text has these items more, a space before each, in this style
+abbrev pub AddsIn : Style → List ℕ → List Item → List ℕ → Type 0
+AddsIn style old is new = new ≡ old ++ spaced style is
 
--- the same however registers are named: of items that are no general registers
+-- the same in every style: of items that are no general registers and no words of RAM
 abbrev pub Adds : List ℕ → List Item → List ℕ → Type 0
-Adds old is new = (naming : Naming) → AddsIn naming old is new
+Adds old is new = (style : Style) → AddsIn style old is new
 
 -- a space and a part
 abbrev pub AddsPart : List ℕ → List ℕ → List ℕ → Type 0
 AddsPart old part new = new ≡ old ++ 32 ∷ part
 
--- a space and an item, however registers are named
+-- a space and an item, in every style
 abbrev pub AddsItem : List ℕ → Item → List ℕ → Type 0
-AddsItem old i new = (naming : Naming) → AddsPart old (item_text naming i) new
+AddsItem old i new = (style : Style) → AddsPart old (item_text style i) new
 
 -- both states have processor p
 pub record Have (p : ℕ) (s t : State) : Type 0 where

@@ -1,4 +1,4 @@
-use Rattle.std.specs.Prelude.{◌≡◌, ◌⊎◌, ℕ, ◌+◌, Bool, List, [], ◌++◌, length, string_bytes, Option}
+use Rattle.std.specs.Prelude.{◌≡◌, ◌⊎◌, ℕ, ◌+◌, Bool, if◌then◌else◌, List, [], ◌++◌, length, string_bytes, Option, option_map}
 use Rattle.std.specs.Io.KnownBytes.{Appends}
 use Rattle.m161_cpu.specs.declared.processor.Outcome.{Outcome}
 use Rattle.m161_machine.specs.declared.event.Entry.{Entry}
@@ -15,24 +15,32 @@ use Rattle.s161_run.specs.declared.events.RunStop.{RunStop}
 use Rattle.s161_run.specs.Runs.{stop_line}
 use Rattle.s161_trace.specs.declared.lines.Lines.{Lines}
 use Rattle.s161_trace.specs.declared.filter.LineFilter.{LineFilter}
-use Rattle.s161_trace.specs.Traces.{is_wanted, traced}
+use Rattle.s161_trace.specs.declared.shared.Mark.{Mark}
+use Rattle.s161_trace.specs.declared.shared.SharedWords.{SharedWords}
+use Rattle.s161_trace.specs.Shared.{Touch, event_touches}
+use Rattle.s161_trace.specs.Traces.{is_among, is_wanted, touches_in, traced}
+use Rattle.s161_trace.specs.helpers.Marks.{is_marked, marks_after, no_marks}
 
 -- How lines are printed as a run goes on.
 
--- which events have lines, and how these show registers and addresses, for an image's file
-abbrev pub filter_of : TraceTask → List ℕ → LineFilter
-filter_of task file = record {
+-- which events have lines, and how these show registers and addresses, for an image's file; this word
+-- and these words are asked for
+abbrev pub filter_of : TraceTask → List ℕ → Option ℕ → Option SharedWords → LineFilter
+filter_of task file touches shared = record {
   style = style_of task.registers task.symbols task.image.now file;
   from = task.from;
   count = task.count;
   only = task.only;
+  touches = touches;
+  shared = shared;
   outcomes = task.outcomes;
   loads = task.loads;
 }
 
 -- whether an event has a line
-abbrev pub has_line : LineFilter → ℕ → Event → Outcome → Bool
-has_line w = is_wanted w.from w.count w.only w.outcomes
+abbrev pub has_line : LineFilter → ℕ → State → Event → Outcome → Bool
+has_line w =
+    is_wanted w.from w.count w.only w.outcomes w.touches (option_map is_marked w.shared)
 
 -- the lines that are asked for, of events from a state on, the first of which has this number
 abbrev pub lines_from : LineFilter → ℕ → State → List Entry → List (List ℕ)
@@ -50,9 +58,21 @@ abbrev pub FailsToPut :
 FailsToPut before kept more after fault =
     ((fault ≡ Output) ⊎ (fault ≡ Memory)) × AppendsSome before after (kept ++ more)
 
--- no line is kept back yet, and the first event is made in this state
-abbrev pub IsNew : LineFilter → State → Lines → Type 0
-IsNew w s l = (l.filter ≡ w) × (l.number ≡ 0) × (l.tracer ≡ s) × (string_bytes l.piece ≡ [])
+-- no line is kept back yet, nothing is noted but these marks, and the first event is made in this state
+abbrev pub IsNew : LineFilter → SharedWords → State → Lines → Type 0
+IsNew w noted s l =
+    (l.filter ≡ w) × (l.number ≡ 0) × (l.tracer ≡ s) × (string_bytes l.piece ≡ [])
+    × (l.noted ≡ noted)
+
+-- what is noted of an event that is accepted, if its number is in the filter's range
+abbrev pub touches_now : LineFilter → ℕ → State → Event → Outcome → List Touch
+touches_now w number s e o =
+    if is_among w.from w.count number then event_touches e s o else []
+
+-- what is noted after these events
+abbrev pub noted_after : LineFilter → ℕ → State → List Entry → SharedWords → List Mark
+noted_after w number s entries noted =
+    marks_after noted.marks.items (touches_in w.from w.count number s entries)
 
 -- the events of these entries led to a state, and their lines are put out
 pub record Prints
@@ -62,6 +82,7 @@ pub record Prints
   pub number_is : k.number ≡ l.number + length entries
   pub tracer_is : k.tracer ≡ t
   pub leads : Leads l.tracer entries t
+  pub noted_is : k.noted.marks.items ≡ noted_after l.filter l.number l.tracer entries l.noted
   pub puts :
       PutsOut before (string_bytes l.piece) (text_of (lines_from l.filter l.number l.tracer entries))
       after (string_bytes k.piece)
@@ -77,6 +98,17 @@ FailsToPrint l before entries t after fault =
 -- all that is printed of a run from a state on, which has these entries and stopped
 abbrev pub run_text : LineFilter → State → List Entry → RunStop → List ℕ
 run_text w s entries stop = text_of (lines_from w 0 s entries) ++ with_line_end (stop_line stop)
+
+-- the words that are shared among the events of a whole run that a range leaves: `IsAll` is what is said
+-- of its entries
+pub record FindsShared
+    (words from count : ℕ) (s : State) (IsAll : State → List Entry → RunStop → State → Type 0)
+    (shared : SharedWords) : Type 0 where
+  pub whole : List Entry
+  pub stop : RunStop
+  pub state : State
+  pub is_all : IsAll s whole stop state
+  pub marks_are : shared.marks.items ≡ marks_after (no_marks words) (touches_in from count 0 s whole)
 
 -- all events of a run from one state to another are made, and what is asked for is printed: `IsAll`
 -- is what is said of their entries

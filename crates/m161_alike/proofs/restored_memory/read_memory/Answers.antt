@@ -8,5 +8,5 @@ pub returns-clause-view : goal.returns-clause-view
 returns-clause-view g c = λ m h.
     let state = c.args.core.now.state in
     c.make_changes.ensures.state
-    ∙ ap (λ s. with_memory (with_changes c.args.words.now s.memory) s) c.restore_memory.ensures.state
+    ∙ ap (λ s. with_memory (with_changes c.args.words.now s.memory) s) c.reset.ensures.state
     ∙ ap (λ x. with_memory x state) (memory_is c.args.boot.now c.args.words.now m h)

@@ -1,20 +1,17 @@
-use Rattle.std.proofs.Common.{◌*◌, ◌∙◌, refl, arith}
+use Rattle.std.proofs.Common.{◌≡◌, ◌∙◌, ap, sym, arith, ◌++◌, length, take}
+use Rattle.std.specs.Prelude.{flat_map}
+use Rattle.std.proofs.Math.Seq.{take-length}
 use Rattle.m161_alike.specs.Words.{word_change}
-use Rattle.m161_alike.proofs.Memory.{changes_more, changes_none}
+use Rattle.m161_alike.proofs.Covering.{words_at_addresses}
 use Rattle.m161_alike.proofs.words.push_changes.Goals as goal
 
--- none of a block is changed
-pub loop-place-preserved-then-is_same_block : goal.loop-place-preserved-then-is_same_block
-loop-place-preserved-then-is_same_block c = (
-  omega (arith, c.if-is_same_block.ensures.there refl),
-  changes_none (λ i. word_change c.args.boot.now c.args.memory.now (4 * i)) c.args.out.now.items c.loop-place.out.items c.loop-place.place 64
-      c.loop-place.invariant.1 (c.if-is_same_block.ensures.same refl),
-)
-
-pub loop-place-preserved : goal.loop-place-preserved
-loop-place-preserved c = (
-  omega (arith, c.loop-place-test.true),
-  c.in_ok-push_change.ensures.ok
-      ∙ changes_more (λ i. word_change c.args.boot.now c.args.memory.now (4 * i)) c.args.out.now.items c.loop-place.out.items c.loop-place.place
-      c.loop-place.invariant.1,
-)
+pub returns-clause-ok : goal.returns-clause-ok
+returns-clause-ok c =
+    let boot = c.args.boot.now in
+    let memory = c.args.memory.now in
+    let addresses = c.args.addresses.now in
+    let old = c.args.out.now.items in
+    c.loop-i.invariant
+    ∙ ap (λ l. old ++ flat_map (word_change boot memory) l)
+    (ap (λ n. take n addresses) (let is : c.loop-i.i ≡ length addresses = omega (arith, c.loop-i-test.false, c.loop-i.auto.i-end) in is) ∙ take-length addresses)
+    ∙ ap (λ l. old ++ l) (sym (words_at_addresses boot memory addresses c.requires.cover))

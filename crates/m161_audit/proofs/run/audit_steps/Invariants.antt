@@ -2,7 +2,8 @@ use Rattle.std.proofs.Common.{List, replicate}
 use Rattle.m161_machine.specs.declared.event.Event.TheVariants.{Step}
 use Rattle.m161_machine.specs.StoreHistory.{StoreState}
 use Rattle.m161_audit.specs.declared.watch.Watch.{Watch}
-use Rattle.m161_audit.specs.helpers.Run.{IsAt, Passes}
+use Rattle.m161_audit.specs.Tracking.{IsAt}
+use Rattle.m161_audit.specs.helpers.Run.{Passes}
 use Rattle.m161_audit.proofs.run.audit_steps.Given as goal
 
 -- the Steps so far are made, and none is a stale use

@@ -1,5 +1,5 @@
 use Rattle.std.proofs.Common.{◌≡◌, ◌≤◌, [], length, take, vec_capacity}
-use Rattle.m161_audit.specs.helpers.Progress.{tracked}
+use Rattle.m161_audit.specs.Tracking.{tracked}
 use Rattle.m161_audit.proofs.shootdown.from_start.Given as goal
 
 -- the shootdowns so far

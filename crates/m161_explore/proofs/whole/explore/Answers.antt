@@ -10,7 +10,7 @@ search-requires-clause-before g c =
     let laws : Laws (g.S.System.rules m) (g.S.System.is_valid m) =
     record { start = met.valid_start m; next = met.valid_next m; stop = met.alike_stop m; step = met.alike_next m; verdict = met.alike_verdict m; ends = met.alike_end m } in
     let view_is : c.encode.new.words.items ≡ (g.S.System.rules m).view (g.S.System.rules m).start =
-    c.in_ok-encode.ensures ∙ ap (λ (x : List ℕ). x ++ (g.S.System.rules m).view c.in_ok-state.state) c.new-words.ensures.items ∙ ap (λ x. (g.S.System.rules m).view x) c.in_ok-state.ensures in
+    c.in_ok-encode.ensures.words ∙ ap (λ (x : List ℕ). x ++ (g.S.System.rules m).view (g.S.System.seen c.in_ok-state.state)) c.new-words.ensures.items ∙ ap (λ x. (g.S.System.rules m).view x) c.in_ok-state.ensures.start in
     begins_before _ _ c.deref.result.now _ _ _ laws (c.deref.ensures.value ∙ view_is)
     c.in_ok-graph.ensures.keys c.in_ok-graph.ensures.nodes c.in_ok-graph.ensures.links
 

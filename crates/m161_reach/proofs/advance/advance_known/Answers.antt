@@ -45,4 +45,4 @@ returns-in-None g c = λ known stop.
     let t = c.take_step.new.place in
     let asks = c.args.goal.now in
     let takes : Takes asks x (Step p) t None = subst (Takes asks x (Step p) t) c.in-None.is c.in_ok-outcome.ensures in
-    refused_came (asked asks known) x t (Step p) takes.0 stop takes.1
+    refused_came (asked asks known) x t (Step p) takes.0 stop takes.1 takes.2

@@ -1,6 +1,6 @@
 use Rattle.std.proofs.Common.{◌≡◌, ◌∙◌, ap, sym, subst, arith, false, ◌+◌, get_or, ℕ, None, Option, Some}
 use Rattle.m161_machine.specs.declared.event.Event.TheVariants.{Key}
-use Rattle.m161_machine.specs.State.{is_worn, next}
+use Rattle.m161_machine.specs.State.{State, is_worn, next}
 use Rattle.m161_judge.specs.Judge.{bytes_of}
 use Rattle.m161_judge.specs.Verdict.{Criteria}
 use Rattle.m161_states.specs.System.{Explored}
@@ -41,4 +41,4 @@ returns-in-Err g c =
     subst (λ (x : Explored). TakesNext c.args.goal.now x (key_of (slice_get c.args.goal.now.keys x.typed)) t None) c.place.view_is
     (subst (λ (a : Criteria). TakesNext a (around s typed flags agreed) (key_of (slice_get a.keys typed)) t None) c.goal.view_is
     (subst (λ (b : Option ℕ). TakesNext asks (around s typed flags agreed) (key_of b) t None) (sym (there keys typed (omega arith)))
-    (refused c.fresh_is_same.ensures.law asks s typed flags agreed (Key byte) first.0 t worn first.1)))
+    (refused c.fresh_is_same.ensures.law asks s typed flags agreed (Key byte) first.0 t worn first.1 (ap (λ (u : State). around u typed flags agreed) c.in-Err.ensures.makes.1))))

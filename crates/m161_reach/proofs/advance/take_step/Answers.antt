@@ -2,7 +2,7 @@ use Rattle.std.proofs.Common.{◌≡◌, ◌∙◌, ap, sym, subst, false, List,
 use Rattle.std.specs.Vec.{with_items}
 use Rattle.std.proofs.lemmas.List.{with_items_is}
 use Rattle.m161_machine.specs.declared.event.Event.TheVariants.{Step}
-use Rattle.m161_machine.specs.State.{is_worn, next}
+use Rattle.m161_machine.specs.State.{State, is_worn, next}
 use Rattle.m161_judge.specs.Judge.{bytes_of}
 use Rattle.m161_judge.specs.Verdict.{Criteria}
 use Rattle.m161_states.specs.System.{Explored, Flags, flags_behind}
@@ -36,6 +36,10 @@ returns-in-Err g c =
     let p = c.args.p in
     let worn : is_worn s.made ≡ false = sym (c.worn.ensures ∙ ap is_worn c.made.ensures) ∙ c.if-worn.false in
     let first = step_refused (next s (Step p)) p c.in-Err.field-0 c.in-Err.ensures.makes.0 in
-    subst (λ (x : Explored). Takes c.args.goal.now x (Step p) c.args.place.now None) c.place.view_is
-    (refused c.fresh_is_same.ensures.law c.args.goal.now s c.place.inside.typed c.place.inside.kept.items c.place.inside.agreed (Step p) first.0
-    c.args.place.now worn first.1)
+    let typed = c.place.inside.typed in
+    let flags = c.place.inside.kept.items in
+    let agreed = c.place.inside.agreed in
+    let t = around c.step.new.self.state typed flags agreed in
+    subst (λ (x : Explored). Takes c.args.goal.now x (Step p) t None) c.place.view_is
+    (refused c.fresh_is_same.ensures.law c.args.goal.now s typed flags agreed (Step p) first.0 t worn first.1
+    (ap (λ (u : State). around u typed flags agreed) c.in-Err.ensures.makes.1))

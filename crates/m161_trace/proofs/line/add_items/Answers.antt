@@ -25,4 +25,4 @@ add_shared-requires-clause-near g c = λ h.
 
 pub returns : goal.returns
 unfolding items
-returns g c = both_in_ok _ c.args.naming _ _ _ _ _ (both_in c.args.naming _ _ _ _ _ (both_in c.args.naming _ _ _ _ _ c.in_ok-add_processor.ensures (c.in_ok-add_shared.ensures c.args.naming)) (c.in_ok-add_outcome.ensures c.args.naming)) c.add_starts_of.ensures
+returns g c = both_in_ok _ c.args.style.now _ _ _ _ _ (both_in c.args.style.now _ _ _ _ _ (both_in c.args.style.now _ _ _ _ _ c.in_ok-add_processor.ensures c.in_ok-add_shared.ensures) (c.in_ok-add_outcome.ensures c.args.style.now)) c.add_starts_of.ensures

@@ -24,7 +24,7 @@ unfolding step_line
 returns g c =
     let s = c.args.before.now.state in
     let is = items c.args.p s c.args.outcome c.args.after.now.state in
-    let naming = c.args.style.now.registers in
-    let P : Option Load → Type 0 = λ load. OnOk c.push_load_and_items.result (string_bytes c.push_load_and_items.new.text ≡ string_bytes c.push_head.new.text ++ behind_load naming load is) in
+    let style = c.args.style.now in
+    let P : Option Load → Type 0 = λ load. OnOk c.push_load_and_items.result (string_bytes c.push_load_and_items.new.text ≡ string_bytes c.push_head.new.text ++ behind_load style load is) in
     appended_ok _ _ _ _ _ _ c.in_ok-push_head.ensures
-    (subst P c.load_if-load.ensures (c.push_load_and_items.ensures naming is (c.as_str.ensures.value ∙ c.in_ok-fill_items.ensures)))
+    (subst P c.load_if-load.ensures (c.push_load_and_items.ensures is (c.as_str.ensures.value ∙ c.in_ok-fill_items.ensures)))

@@ -5,4 +5,4 @@ use Rattle.m161_trace.specs.Items.{each, register_item}
 use Rattle.m161_trace.proofs.processor.add_registers.Given as goal
 
 abbrev pub invariant-loop-r : goal.invariant-loop-r
-invariant-loop-r g l = AddsIn l.naming (string_bytes l.fn.text) (each 1 (l.r - 1) (register_item (processor_at l.p l.before.state.processors) (processor_at l.p l.after.state.processors))) (string_bytes l.text)
+invariant-loop-r g l = AddsIn l.style (string_bytes l.fn.text) (each 1 (l.r - 1) (register_item (processor_at l.p l.before.state.processors) (processor_at l.p l.after.state.processors))) (string_bytes l.text)

@@ -16,6 +16,12 @@ returns-in_err-put-in-Never g c = rw c.in-Never.is (puts_less _ _ _ _ _ _ c.in_e
 pub returns-in_ok-put-in-Never : goal.returns-in_ok-put-in-Never
 returns-in_ok-put-in-Never g c = rw c.in-Never.is (puts_then _ _ _ _ _ _ c.in_ok-put-in-Never.ensures c.put_name-in-Never.ensures)
 
+pub returns-in_err-put-in-Touches : goal.returns-in_err-put-in-Touches
+returns-in_err-put-in-Touches g c = rw c.in-Touches.is (puts_less _ _ _ _ _ _ c.in_err-put-in-Touches.ensures c.from_residual-in_err-put-in-Touches.ensures.1)
+
+pub returns-in_ok-put-in-Touches : goal.returns-in_ok-put-in-Touches
+returns-in_ok-put-in-Touches g c = rw c.in-Touches.is (puts_then _ _ _ _ _ _ c.in_ok-put-in-Touches.ensures c.put_name-in-Touches.ensures)
+
 pub returns-in_err-put-in-Image : goal.returns-in_err-put-in-Image
 returns-in_err-put-in-Image g c = rw c.in-Image.is (puts_less _ _ _ _ _ _ c.in_err-put-in-Image.ensures c.from_residual-in_err-put-in-Image.ensures.1)
 

@@ -5,5 +5,5 @@ use Rattle.s161_base.proofs.sample.sample_image.Goals as goal
 
 pub returns-clause-ok : goal.returns-clause-ok
 returns-clause-ok c =
-    let program = c.in_ok-program.program in
-    c.in_ok-write.ensures ∙ file_is program.entry (segments_seen program.segments.items) c.in_ok-program.ensures.0 c.in_ok-program.ensures.1
+    let program = c.in-Ok.program in
+    c.in_ok-write.ensures ∙ file_is program.entry (segments_seen program.segments.items) c.in-Ok.ensures.0 c.in-Ok.ensures.1

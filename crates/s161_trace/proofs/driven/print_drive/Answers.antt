@@ -22,7 +22,7 @@ returns-in_err-driven-clause-err g c =
     let fails = c.in_err-driven.ensures.err in
     let rules = rules_of c.args.options c.args.keys.now in
     rw (made.1, made.2)
-    (some_fail c.args.filter c.args.machine.now.state c.in_ok-lines.lines c.in_ok-lines.ensures (DrivesSome rules c.args.options.events) (DrivesAll rules c.args.options.events) fails.entries
+    (some_fail c.args.filter _ c.args.machine.now.state c.in_ok-lines.lines c.in_ok-lines.ensures (DrivesSome rules c.args.options.events) (DrivesAll rules c.args.options.events) fails.entries
     c.trace_drive.new.machine.state (g.O.Write.contents c.args.output.now) (g.O.Write.contents c.trace_drive.new.output) c.in_err-driven.field-0.0 fails.some fails.fails)
 
 pub returns-in_err-finish-clause-err : goal.returns-in_err-finish-clause-err
@@ -31,7 +31,7 @@ returns-in_err-finish-clause-err g c =
     let all = c.in_ok-driven.ensures.ok in
     let rules = rules_of c.args.options c.args.keys.now in
     rw (made.1, made.2)
-    (all_fail c.args.filter c.args.machine.now.state c.in_ok-lines.lines c.in_ok-lines.ensures (DrivesSome rules c.args.options.events) (DrivesAll rules c.args.options.events) all.entries
+    (all_fail c.args.filter _ c.args.machine.now.state c.in_ok-lines.lines c.in_ok-lines.ensures (DrivesSome rules c.args.options.events) (DrivesAll rules c.args.options.events) all.entries
     c.trace_drive.new.machine.state (g.O.Write.contents c.args.output.now) (g.O.Write.contents c.trace_drive.new.output) (g.O.Write.contents c.finish.new.output)
     c.trace_drive.new.lines all.prints c.stop_of-stop.result (c.in_ok-driven.driven, all.drives, c.stop_of-stop.ensures ∙ ap (stop_of c.in_ok-driven.driven) c.core.ensures) c.in_err-finish.field-0.0 c.in_err-finish.ensures.err)
 
@@ -39,6 +39,6 @@ pub returns-clause-ok : goal.returns-clause-ok
 returns-clause-ok g c =
     let all = c.in_ok-driven.ensures.ok in
     let rules = rules_of c.args.options c.args.keys.now in
-    all_printed c.args.filter c.args.machine.now.state c.in_ok-lines.lines c.in_ok-lines.ensures (DrivesSome rules c.args.options.events) (DrivesAll rules c.args.options.events) all.entries
+    all_printed c.args.filter _ c.args.machine.now.state c.in_ok-lines.lines c.in_ok-lines.ensures (DrivesSome rules c.args.options.events) (DrivesAll rules c.args.options.events) all.entries
     c.trace_drive.new.machine.state (g.O.Write.contents c.args.output.now) (g.O.Write.contents c.trace_drive.new.output) (g.O.Write.contents c.finish.new.output)
     c.trace_drive.new.lines all.prints c.stop_of-stop.result (c.in_ok-driven.driven, all.drives, c.stop_of-stop.ensures ∙ ap (stop_of c.in_ok-driven.driven) c.core.ensures) c.in_ok-finish.ensures.ok

@@ -1,8 +1,9 @@
+use Rattle.std.proofs.Common.{inl}
 use Rattle.std.proofs.lemmas.Result.{err_from_is_err_and}
 use Rattle.s161_run.specs.Driven.{rules_of}
 use Rattle.s161_trace.specs.helpers.Driven.{DrivesAll, DrivesSome}
 use Rattle.s161_trace.specs.helpers.Booted.{FailsRun}
-use Rattle.s161_trace.proofs.Finishing.{booted_so, ends_so, not_booted, run_fails, run_prints, without_filter}
+use Rattle.s161_trace.proofs.Finishing.{booted_so, ends_so, not_booted, run_fails, run_prints, shared_so, without_filter}
 use Rattle.s161_trace.proofs.trace.run_drive.Goals as goal
 
 pub returns-in_err-machine-clause-err : goal.returns-in_err-machine-clause-err
@@ -25,7 +26,18 @@ returns-in_err-filter-clause-err g c =
     let boots = booted_so task file c.conf_of.result m c.conf_of.ensures c.in_ok-machine.ensures.answer in
     let rules = rules_of c.args.options c.args.keys.now in
     rw (made.1, made.2)
-    (without_filter task file (DrivesSome rules c.args.options.events) (DrivesAll rules c.args.options.events) (g.O.Write.contents c.args.output.now) m.state boots)
+    (without_filter task file (DrivesSome rules c.args.options.events) (DrivesAll rules c.args.options.events) (g.O.Write.contents c.args.output.now) m.state boots c.in_err-filter.field-0.0 c.in_err-filter.ensures.err)
+
+pub returns-in_err-filter-2-clause-err : goal.returns-in_err-filter-2-clause-err
+returns-in_err-filter-2-clause-err g c =
+    let made = err_from_is_err_and c.from_residual-in_err-filter-2.result c.from_residual-in_err-filter-2.ensures.1 in
+    let task = c.args.task.now in
+    let file = c.args.file.now in
+    let m = c.in_ok-machine.machine in
+    let boots = booted_so task file c.conf_of.result m c.conf_of.ensures c.in_ok-machine.ensures.answer in
+    let rules = rules_of c.args.options c.args.keys.now in
+    rw (made.1, made.2)
+    (without_filter task file (DrivesSome rules c.args.options.events) (DrivesAll rules c.args.options.events) (g.O.Write.contents c.args.output.now) m.state boots c.in_err-filter-2.field-0.0 (inl c.in_err-filter-2.ensures.err))
 
 pub returns-clause-ok : goal.returns-clause-ok
 returns-clause-ok g c =
@@ -35,7 +47,9 @@ returns-clause-ok g c =
     let boots = booted_so task file c.conf_of.result m c.conf_of.ensures c.in_ok-machine.ensures.answer in
     let rules = rules_of c.args.options c.args.keys.now in
     run_prints task file (DrivesSome rules c.args.options.events) (DrivesAll rules c.args.options.events) (g.O.Write.contents c.args.output.now) m.state boots
-    c.in_ok-filter.filter c.in_ok-filter.ensures c.print_drive.new.machine.state (g.O.Write.contents c.print_drive.new.output) c.print_drive.result c.print_drive.ensures.ok
+    c.in_ok-filter-2.filter
+    (shared_so task file m.state (DrivesAll rules c.args.options.events) c.in_ok-filter.filter c.in_ok-filter-2.filter c.in_ok-filter.ensures.ok c.in_ok-filter-2.ensures.ok.0 c.in_ok-filter-2.ensures.ok.1)
+    c.print_drive.new.machine.state (g.O.Write.contents c.print_drive.new.output) c.print_drive.result c.print_drive.ensures.ok
 
 pub returns-clause-err : goal.returns-clause-err
 returns-clause-err g c =
@@ -45,4 +59,6 @@ returns-clause-err g c =
     let boots = booted_so task file c.conf_of.result m c.conf_of.ensures c.in_ok-machine.ensures.answer in
     let rules = rules_of c.args.options c.args.keys.now in
     run_fails task file (DrivesSome rules c.args.options.events) (DrivesAll rules c.args.options.events) (g.O.Write.contents c.args.output.now) m.state boots
-    c.in_ok-filter.filter c.in_ok-filter.ensures c.print_drive.new.machine.state (g.O.Write.contents c.print_drive.new.output) c.print_drive.result c.print_drive.ensures.err
+    c.in_ok-filter-2.filter
+    (shared_so task file m.state (DrivesAll rules c.args.options.events) c.in_ok-filter.filter c.in_ok-filter-2.filter c.in_ok-filter.ensures.ok c.in_ok-filter-2.ensures.ok.0 c.in_ok-filter-2.ensures.ok.1)
+    c.print_drive.new.machine.state (g.O.Write.contents c.print_drive.new.output) c.print_drive.result c.print_drive.ensures.err

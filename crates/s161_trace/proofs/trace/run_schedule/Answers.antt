@@ -1,7 +1,8 @@
+use Rattle.std.proofs.Common.{inl}
 use Rattle.std.proofs.lemmas.Result.{err_from_is_err_and}
 use Rattle.s161_trace.specs.helpers.Scheduled.{MakesAll, MakesSome}
 use Rattle.s161_trace.specs.helpers.Booted.{FailsRun}
-use Rattle.s161_trace.proofs.Finishing.{booted_so, ends_so, not_booted, run_fails, run_prints, without_filter}
+use Rattle.s161_trace.proofs.Finishing.{booted_so, ends_so, not_booted, run_fails, run_prints, shared_so, without_filter}
 use Rattle.s161_trace.proofs.trace.run_schedule.Goals as goal
 
 pub returns-in_err-machine-clause-err : goal.returns-in_err-machine-clause-err
@@ -22,7 +23,17 @@ returns-in_err-filter-clause-err g c =
     let m = c.in_ok-machine.machine in
     let boots = booted_so task file c.conf_of.result m c.conf_of.ensures c.in_ok-machine.ensures.answer in
     rw (made.1, made.2)
-    (without_filter task file (MakesSome c.args.events.now) (MakesAll c.args.events.now) (g.O.Write.contents c.args.output.now) m.state boots)
+    (without_filter task file (MakesSome c.args.events.now) (MakesAll c.args.events.now) (g.O.Write.contents c.args.output.now) m.state boots c.in_err-filter.field-0.0 c.in_err-filter.ensures.err)
+
+pub returns-in_err-filter-2-clause-err : goal.returns-in_err-filter-2-clause-err
+returns-in_err-filter-2-clause-err g c =
+    let made = err_from_is_err_and c.from_residual-in_err-filter-2.result c.from_residual-in_err-filter-2.ensures.1 in
+    let task = c.args.task.now in
+    let file = c.args.file.now in
+    let m = c.in_ok-machine.machine in
+    let boots = booted_so task file c.conf_of.result m c.conf_of.ensures c.in_ok-machine.ensures.answer in
+    rw (made.1, made.2)
+    (without_filter task file (MakesSome c.args.events.now) (MakesAll c.args.events.now) (g.O.Write.contents c.args.output.now) m.state boots c.in_err-filter-2.field-0.0 (inl c.in_err-filter-2.ensures.err))
 
 pub returns-clause-ok : goal.returns-clause-ok
 returns-clause-ok g c =
@@ -31,7 +42,9 @@ returns-clause-ok g c =
     let m = c.in_ok-machine.machine in
     let boots = booted_so task file c.conf_of.result m c.conf_of.ensures c.in_ok-machine.ensures.answer in
     run_prints task file (MakesSome c.args.events.now) (MakesAll c.args.events.now) (g.O.Write.contents c.args.output.now) m.state boots
-    c.in_ok-filter.filter c.in_ok-filter.ensures c.print_schedule.new.machine.state (g.O.Write.contents c.print_schedule.new.output) c.print_schedule.result c.print_schedule.ensures.ok
+    c.in_ok-filter-2.filter
+    (shared_so task file m.state (MakesAll c.args.events.now) c.in_ok-filter.filter c.in_ok-filter-2.filter c.in_ok-filter.ensures.ok c.in_ok-filter-2.ensures.ok.0 c.in_ok-filter-2.ensures.ok.1)
+    c.print_schedule.new.machine.state (g.O.Write.contents c.print_schedule.new.output) c.print_schedule.result c.print_schedule.ensures.ok
 
 pub returns-clause-err : goal.returns-clause-err
 returns-clause-err g c =
@@ -40,4 +53,6 @@ returns-clause-err g c =
     let m = c.in_ok-machine.machine in
     let boots = booted_so task file c.conf_of.result m c.conf_of.ensures c.in_ok-machine.ensures.answer in
     run_fails task file (MakesSome c.args.events.now) (MakesAll c.args.events.now) (g.O.Write.contents c.args.output.now) m.state boots
-    c.in_ok-filter.filter c.in_ok-filter.ensures c.print_schedule.new.machine.state (g.O.Write.contents c.print_schedule.new.output) c.print_schedule.result c.print_schedule.ensures.err
+    c.in_ok-filter-2.filter
+    (shared_so task file m.state (MakesAll c.args.events.now) c.in_ok-filter.filter c.in_ok-filter-2.filter c.in_ok-filter.ensures.ok c.in_ok-filter-2.ensures.ok.0 c.in_ok-filter-2.ensures.ok.1)
+    c.print_schedule.new.machine.state (g.O.Write.contents c.print_schedule.new.output) c.print_schedule.result c.print_schedule.ensures.err

@@ -1,9 +1,11 @@
-use Rattle.std.proofs.Common.{subst, sym}
+use Rattle.std.proofs.Common.{◌≡◌, ◌∙◌, inr, rules, subst, sym}
 use Rattle.std.proofs.lemmas.Result.{err_from_is_err_and}
 use Rattle.s161_base.proofs.Asking.{IsNoFile, after_all, none_before}
 use Rattle.s161_base.specs.Asked.{image_files}
 use Rattle.s161_base.specs.Samples.{image_file}
-use Rattle.s161_base.specs.Streams.{streams}
+use Rattle.s161_base.specs.Streams.{AppendsSome, streams}
+use Rattle.m161_text.specs.Lines.{with_line_end}
+use Rattle.s161_run.specs.Runs.{stop_line}
 use Rattle.s161_base.specs.declared.fault.Fault.TheVariants.{Memory}
 use Rattle.s161_work.proofs.Asking.{console_before}
 use Rattle.s161_work.proofs.going.serve.Goals as goal
@@ -44,3 +46,11 @@ returns-in_err-send-clause-before g c =
     let made = err_from_is_err_and c.from_residual-in_err-send.result c.from_residual-in_err-send.ensures.1 in
     rw (made.1, made.2)
     (none_before c.in_err-send.field-0.0 (g.I.Read.remaining c.args.input.now) (g.I.Read.remaining c.console.new.input) (subst IsNoFile (sym c.in_err-send.ensures.err.0) tt))
+
+pub returns-in_err-send-clause-fault : goal.returns-in_err-send-clause-fault
+returns-in_err-send-clause-fault g c =
+    let made = err_from_is_err_and c.from_residual-in_err-send.result c.from_residual-in_err-send.ensures.1 in
+    let line : c.as_bytes.result.now ≡ with_line_end (stop_line c.in_ok-stop.stop) = search rules in
+    rw (made.1, made.2)
+    (inr (c.in_ok-stop.stop, c.in_ok-stop.ensures.ok, inr (c.in_err-send.ensures.err.0,
+    subst (AppendsSome (g.E.Write.contents c.args.errors.now) (g.E.Write.contents c.send.new.output)) line c.in_err-send.ensures.err.1)))

@@ -1,6 +1,7 @@
 use Rattle.std.proofs.Common.{◌∙◌, ap, sym, map}
 use Rattle.m161_machine.specs.StoreHistory.{stores_after}
-use Rattle.m161_audit.specs.helpers.Progress.{after_word, tracked}
+use Rattle.m161_audit.specs.Tracking.{tracked}
+use Rattle.m161_audit.specs.helpers.Progress.{after_word}
 use Rattle.m161_audit.proofs.Tracked.{tracked_more}
 use Rattle.m161_audit.proofs.shootdown.Shootdowns.note_stored.Goals as goal
 

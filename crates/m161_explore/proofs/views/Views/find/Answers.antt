@@ -25,7 +25,7 @@ returns-clause-same c = each_kept piece_size _ _ c.self.inside.lists c.cut.ensur
 pub returns-clause-found : goal.returns-clause-found
 returns-clause-found c =
     let P : List ℕ → Type 0 = λ x. Spells piece_size c.cut.new.pieces x c.args.words.now in
-    found_each piece_size c.cut.new.pieces c.self.inside.lists c.args.self.now c.deref.result.now c.args.words.now c.find.result c.cut.ensures.pieces
+    found_each piece_size c.cut.new.pieces c.self.inside.lists c.args.self.now c.deref-2.result.now c.args.words.now c.find.result c.cut.ensures.pieces
     (spelled_kept piece_size _ _ c.self.inside.lists c.cut.ensures.kept c.self.invariant.spelled)
-    (subst P (sym c.deref.ensures.value) c.in_ok-cut.ensures.spells)
+    (subst P (sym c.deref-2.ensures.value) c.in_ok-cut.ensures.spells)
     (each_kept piece_size _ _ c.self.inside.lists c.cut.ensures.kept c.self.invariant.spelled ∙ c.self.view_is) c.find.ensures

@@ -20,16 +20,16 @@ invariant_of-self-2 c =
     let P : List ℕ → Type 0 = λ x. Spells piece_size c.cut.new.pieces x c.args.words.now in
     record {
       pieces = c.cut.ensures.pieces;
-      spelled = spelled_after piece_size c.cut.new.pieces c.self.inside.lists c.push.new.self c.deref.result.now c.args.words.now c.push.result
+      spelled = spelled_after piece_size c.cut.new.pieces c.self.inside.lists c.push.new.self c.deref-2.result.now c.args.words.now c.push.result
           (spelled_kept piece_size _ _ c.self.inside.lists c.cut.ensures.kept c.self.invariant.spelled)
-          (subst P (sym c.deref.ensures.value) c.in_ok-cut.ensures.spells) c.push.ensures.ok c.push.ensures.err;
+          (subst P (sym c.deref-2.ensures.value) c.in_ok-cut.ensures.spells) c.push.ensures.ok c.push.ensures.err;
     }
 
 pub returns : goal.returns
 returns c =
     let P : List ℕ → Type 0 = λ x. Spells piece_size c.cut.new.pieces x c.args.words.now in
     on_ok_weaker c.push.result
-    (λ more. pushed_each piece_size c.cut.new.pieces c.self.inside.lists c.push.new.self c.args.self.now c.deref.result.now c.args.words.now
-    (subst P (sym c.deref.ensures.value) c.in_ok-cut.ensures.spells)
+    (λ more. pushed_each piece_size c.cut.new.pieces c.self.inside.lists c.push.new.self c.args.self.now c.deref-2.result.now c.args.words.now
+    (subst P (sym c.deref-2.ensures.value) c.in_ok-cut.ensures.spells)
     (each_kept piece_size _ _ c.self.inside.lists c.cut.ensures.kept c.self.invariant.spelled ∙ c.self.view_is) more)
     c.push.ensures.ok

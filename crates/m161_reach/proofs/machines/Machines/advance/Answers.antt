@@ -1,52 +1,29 @@
-use Rattle.std.proofs.Common.{◌≡◌, ◌∙◌, ap, subst, arith, Some}
-use Rattle.std.specs.Prelude.{option_map, slice_get}
-use Rattle.m161_machine.specs.declared.event.Event.TheVariants.{Done, Key, Step}
-use Rattle.m161_states.specs.Question.{Question, processors_of}
-use Rattle.m161_reach.specs.helpers.Advance.{AdvancesBy, asked}
-use Rattle.m161_reach.proofs.Asked.{processors_are}
-use Rattle.m161_reach.proofs.Encoding.{if_ok}
-use Rattle.m161_reach.proofs.Meeting.{came, done_event, key_event, step_event}
+use Rattle.std.proofs.Common.{◌∙◌, refl, sym, subst, ℕ, List}
+use Rattle.m161_alike.specs.Addresses.{Cover}
+use Rattle.m161_states.specs.Question.{booted}
+use Rattle.m161_states.specs.System.{event_of}
+use Rattle.m161_reach.specs.Hand.{IsReady}
+use Rattle.m161_reach.specs.helpers.Handling.{addresses_after}
+use Rattle.m161_reach.proofs.Handled.{words_kept}
+use Rattle.m161_reach.proofs.Meeting.{behind_met}
+use Rattle.m161_reach.proofs.Storing.{cover_behind}
 use Rattle.m161_reach.proofs.machines.Machines.advance.Goals as goal
 
-pub returns-then-event-processors : goal.returns-then-event-processors
-returns-then-event-processors g c =
+pub returns-clause-ready : goal.returns-clause-ready
+returns-clause-ready g c =
     let q = c.args.self.now in
-    let x = c.args.place.now in
     let n = c.args.event in
-    let t = c.advance_step.new.place in
-    let size : c.processors-processors.result ≡ processors_of q =
-    c.processors-processors.ensures ∙ c.law.ensures.number
-    ∙ processors_are c.self.inside.boot.now.state c.self.inside.goal.now c.self.inside.known c.self.invariant
-    ∙ ap processors_of c.self.view_is in
-    if_ok c.advance_step.result (λ come h. came q x t n (Some (Step n)) come c.requires.met (step_event q x n (omega (arith, size)))
-    (subst (λ (r : Question). AdvancesBy (asked r.goal r.known) x (Some (Step n)) t come) c.self.view_is h)) c.advance_step.ensures
-
-pub returns-then-event-processors-2 : goal.returns-then-event-processors-2
-returns-then-event-processors-2 g c =
-    let q = c.args.self.now in
-    let x = c.args.place.now in
-    let n = c.args.event in
-    let t = c.advance_done.new.place in
-    let size : c.processors-processors.result ≡ processors_of q =
-    c.processors-processors.ensures ∙ c.law.ensures.number
-    ∙ processors_are c.self.inside.boot.now.state c.self.inside.goal.now c.self.inside.known c.self.invariant
-    ∙ ap processors_of c.self.view_is in
-    if_ok c.advance_done.result (λ come h. came q x t n (Some Done) come c.requires.met (done_event q x n (omega (arith, size)))
-    (subst (λ (r : Question). AdvancesBy (asked r.goal r.known) x (Some Done) t come) c.self.view_is (h c.self.inside.known))) c.advance_done.ensures
-
-pub returns-else-event-processors-2 : goal.returns-else-event-processors-2
-returns-else-event-processors-2 g c =
-    let q = c.args.self.now in
-    let x = c.args.place.now in
-    let n = c.args.event in
-    let t = c.advance_key.new.place in
-    let size : c.processors-processors.result ≡ processors_of q =
-    c.processors-processors.ensures ∙ c.law.ensures.number
-    ∙ processors_are c.self.inside.boot.now.state c.self.inside.goal.now c.self.inside.known c.self.invariant
-    ∙ ap processors_of c.self.view_is in
-    let first = c.if-event-processors.false in
-    let second = c.if-event-processors-2.false in
-    if_ok c.advance_key.result (λ come h. came q x t n (option_map (λ byte. Key byte) (slice_get q.goal.keys x.typed)) come c.requires.met
-    (key_event q x n (omega (arith, size, first, second)))
-    (subst (λ (r : Question). AdvancesBy (asked r.goal r.known) x (option_map (λ byte. Key byte) (slice_get r.goal.keys x.typed)) t come) c.self.view_is
-    (h c.self.inside.known))) c.advance_key.ensures
+    let x = c.hand.inside.place in
+    let t = c.advance_place.new.place in
+    let changed = c.hand.inside.changed.items in
+    let old = subst (IsReady q) (sym c.hand.view_is) c.requires.ready in
+    let h = c.in_ok-came.ensures.handled in
+    let stored = c.stored_at-stored.ensures in
+    let size = c.ram_size.ensures in
+    record {
+      met = behind_met q x t n (event_of q x n) old.met refl h.0;
+      words = words_kept q x t c.hand.inside.words.items c.forget.new.words.items c.in_ok-came.came old.words h.1 c.forget.ensures;
+      changed = subst (λ (l : List ℕ). Cover (booted q).bytes t.state.memory l)
+          (sym (c.in_ok-note_store.ensures ∙ (λ i. addresses_after (stored i) (size i) changed)))
+          (cover_behind q x t n (booted q).bytes changed h.0 old.changed);
+    }

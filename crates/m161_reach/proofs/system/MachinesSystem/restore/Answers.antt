@@ -1,10 +1,10 @@
 use Rattle.m161_reach.specs.Reach.{rules_of}
 use Rattle.m161_reach.proofs.system.MachinesSystem.restore.Goals as goal
 
-pub restore-requires : goal.restore-requires
+pub restore-requires-clause-view : goal.restore-requires-clause-view
 unfolding rules_of
-restore-requires g c = c.requires
+restore-requires-clause-view g c = c.requires.view
 
-pub returns : goal.returns
+pub returns-clause-view : goal.returns-clause-view
 unfolding rules_of
-returns g c = c.restore.ensures
+returns-clause-view g c = c.restore.ensures.view

@@ -1,38 +1,31 @@
-use Rattle.std.proofs.Common.{◌≡◌, ◌+◌, ◌-◌, length, refl, subst, sym, arith}
+use Rattle.std.proofs.Common.{◌≡◌, ◌+◌, ◌-◌, length, refl, subst, arith}
 use Rattle.std.specs.Prelude.{IfSome, slice_get}
 use Rattle.m161_places.specs.Going.{PassesNoting}
 use Rattle.s161_search.specs.helpers.Inputs.{given_of}
-use Rattle.s161_search.specs.helpers.Points.{IsPointOf}
 use Rattle.s161_search.specs.declared.points.RunPoint.{RunPoint}
 use Rattle.s161_search.proofs.Pointing.{gone_on}
 use Rattle.s161_search.proofs.delays.DelayedRunsRuns.advance.Goals as goal
-use Rattle.s161_search.proofs.delays.DelayedRunsRuns.advance.Goals.{in-Some-2, in-None+in_ok-point-in-None}
 
-pub returns-clause-ok : goal.returns-clause-ok
-returns-clause-ok c =
+pub returns-in-Some-2-clause-ok : goal.returns-in-Some-2-clause-ok
+returns-in-Some-2-clause-ok c = λ others agree.
     let self = c.args.self.now in
     let given = given_of self.inputs.now in
     let old = c.args.point.now in
     let rules = c.in_ok-policy.policy in
     let size = old.events.ok.0 in
-    elim c.match-branch-4.branch [
-      | in-Some-2 w ↦ λ others agree.
-          (let new : RunPoint = record {
-            core = c.go_along.new.core;
-            cursor = c.go_along.new.cursor;
-            events = c.go_along.new.events;
-            passed = old.passed + w.in-Some-2.made;
-          } in
-          let went : PassesNoting rules (slice_get rules.keys) c.saturating_sub-left.result c.saturating_sub-more.result c.in-Some.cursor old.core.value.state
-          old.events.items w.in-Some-2.made new.cursor new.core.value.state new.events.items =
-          subst (λ o. IfSome o (λ made. PassesNoting rules (slice_get rules.keys) c.saturating_sub-left.result c.saturating_sub-more.result c.in-Some.cursor
-          old.core.value.state old.events.items made new.cursor new.core.value.state new.events.items)) w.in-Some-2.is c.in_ok-made.ensures in
-          let left : c.saturating_sub-left.result ≡ self.task.drive.events - length old.events.items =
-          omega (arith, c.saturating_sub-left.ensures, c.len.ensures, size) in
-          subst (IsPointOf self.booted.now self.task given self.turns others) (sym w.point-is)
-          (gone_on self.booted.now self.task given self.turns c.args.place c.saturating_sub-left.result c.saturating_sub-more.result w.in-Some-2.made
-          c.args.delays.now rules old new c.in-Some.cursor c.in_ok-policy.ensures.ok c.in-Some.ensures went left c.saturating_sub-more.ensures refl others agree
-          (c.requires others agree)))
-      | in-None+in_ok-point-in-None w ↦ λ others agree.
-          subst (IsPointOf self.booted.now self.task given self.turns others) (sym w.point-is) (w.in_ok-point-in-None.ensures.ok others)
-    ]
+    let new : RunPoint = record {
+      core = c.go_along.new.core;
+      cursor = c.go_along.new.cursor;
+      events = c.go_along.new.events;
+      passed = old.passed + c.in-Some-2.made;
+      steps = c.go_along.new.steps;
+    } in
+    let went : PassesNoting rules (slice_get rules.keys) c.saturating_sub-left.result c.saturating_sub-more.result c.in-Some.cursor old.core.value.state
+    old.events.items c.in-Some-2.made new.cursor new.core.value.state new.events.items =
+    subst (λ o. IfSome o (λ made. PassesNoting rules (slice_get rules.keys) c.saturating_sub-left.result c.saturating_sub-more.result c.in-Some.cursor
+    old.core.value.state old.events.items made new.cursor new.core.value.state new.events.items)) c.in-Some-2.is c.in_ok-made.ensures.went in
+    let left : c.saturating_sub-left.result ≡ self.task.drive.events - length old.events.items =
+    omega (arith, c.saturating_sub-left.ensures, c.len.ensures, size) in
+    gone_on self.booted.now self.task given self.turns c.args.place c.saturating_sub-left.result c.saturating_sub-more.result c.in-Some-2.made
+    c.args.delays.now rules old new c.in-Some.cursor c.in_ok-policy.ensures.ok c.in-Some.ensures went left c.saturating_sub-more.ensures refl
+    c.in_ok-made.ensures.kept others agree (c.requires others agree)

@@ -4,8 +4,14 @@ use Rattle.std.specs.Prelude.{string_bytes}
 use Rattle.m161_machine.specs.History.{entry}
 use Rattle.m161_text.specs.Lines.{text_of}
 use Rattle.s161_trace.specs.helpers.Printing.{PutsOut, lines_from}
-use Rattle.s161_trace.proofs.Printing.{one_fails, one_leads, puts_none, without_line}
+use Rattle.s161_trace.proofs.Printing.{noted_one, one_fails, one_leads, puts_none, without_line}
 use Rattle.s161_trace.proofs.lines.Lines.add.Goals as goal
+
+pub has-requires : goal.has-requires
+has-requires g c = (c.args.machine.now.state, c.requires.accepted)
+
+pub pass-requires-clause-accepted : goal.pass-requires-clause-accepted
+pass-requires-clause-accepted g c = (c.args.machine.now.state, c.requires.accepted)
 
 pub returns-in_err-pass-clause-err : goal.returns-in_err-pass-clause-err
 returns-in_err-pass-clause-err g c =
@@ -26,6 +32,8 @@ returns-clause-ok g c =
       number_is = c.in_ok-pass.ensures.number;
       tracer_is = c.in_ok-pass.ensures.made c.args.outcome c.args.machine.now.state c.requires.accepted;
       leads = one_leads l.tracer c.args.event c.args.outcome c.args.machine.now.state c.requires.accepted;
+      noted_is = c.in_ok-pass.ensures.noted
+          ∙ sym (noted_one l.filter l.number l.tracer c.args.event c.args.outcome c.args.machine.now.state l.noted c.requires.accepted);
       puts =
           subst (λ more. PutsOut a kept more a (string_bytes c.pass.new.self.piece)) (sym none)
           (subst (λ left. PutsOut a kept [] a left) (sym c.in_ok-pass.ensures.piece) (puts_none a kept));

@@ -1,8 +1,9 @@
-use Rattle.std.proofs.Common.{◌∙◌, subst, sym}
+use Rattle.std.proofs.Common.{◌∙◌, ap, subst, sym}
 use Rattle.std.proofs.lemmas.Result.{err_from_is_err_and}
 use Rattle.std.specs.Prelude.{string_bytes}
+use Rattle.s161_trace.specs.declared.shared.SharedWords.{SharedWords}
 use Rattle.s161_trace.specs.helpers.Printing.{FailsToPut, PutsOut}
-use Rattle.s161_trace.proofs.Printing.{one_fails, one_leads, with_line}
+use Rattle.s161_trace.proofs.Printing.{noted_one, one_fails, one_leads, with_line}
 use Rattle.s161_trace.proofs.lines.Lines.add_line.Goals as goal
 
 pub returns-in_err-write-clause-err : goal.returns-in_err-write-clause-err
@@ -41,6 +42,8 @@ returns-clause-ok g c =
       number_is = c.in_ok-put.ensures.number ∙ c.in_ok-write.ensures.number;
       tracer_is = c.in_ok-put.ensures.tracer ∙ c.in_ok-write.ensures.tracer;
       leads = one_leads l.tracer c.args.event c.args.outcome c.args.machine.now.state c.requires.accepted;
+      noted_is = ap (λ (x : SharedWords). x.marks.items) c.in_ok-put.ensures.noted ∙ c.in_ok-write.ensures.noted
+          ∙ sym (noted_one l.filter l.number l.tracer c.args.event c.args.outcome c.args.machine.now.state l.noted c.requires.accepted);
       puts =
           subst (λ more. PutsOut a (string_bytes l.piece) more b left) (sym text)
           (subst (λ more. PutsOut a (string_bytes l.piece) more b left) c.in_ok-write.ensures.line

@@ -1,0 +1,99 @@
+use Rattle.std.specs.Prelude.{◌≡◌, ◌⊎◌, ℕ, ◌<◌, Bool, if◌then◌else◌, List, [], length, map, Option, None, Some}
+use Rattle.m161_alike.specs.declared.known.Known.{Known}
+use Rattle.m161_audit.specs.declared.watch.Watch.{Watch}
+use Rattle.m161_audit.specs.Watch.{AreGood, IsBad}
+use Rattle.m161_explore.specs.declared.whole.Answer.{Answer}
+use Rattle.m161_explore.specs.declared.whole.Answer.TheVariants.{Clean, Found, Hung, Open, Ended}
+use Rattle.m161_explore.specs.Answers.{Answers}
+use Rattle.m161_judge.specs.Verdict.{Criteria}
+use Rattle.m161_machine.specs.History.{History, boot_state}
+use Rattle.m161_machine.specs.State.{State}
+use Rattle.m161_reach.specs.Reach.{CanBeAsked, IsLearnt, question_of, rules_of}
+use Rattle.m161_states.specs.declared.verdict.Unknown.{Unknown}
+use Rattle.m161_states.specs.declared.verdict.Verdict.{Verdict}
+use Rattle.m161_states.specs.declared.verdict.Verdict.TheVariants.{Stale, Reached, Conflict, Stuck, Output}
+use Rattle.m161_c.specs.declared.answer.Exploration.{Exploration}
+use Rattle.m161_c.specs.declared.answer.VerdictNumbers.{VerdictNumbers}
+use Rattle.m161_c.specs.declared.answer.WatchNumbers.{WatchNumbers}
+use Rattle.m161_c.specs.declared.session.Session.{Session}
+
+-- The exploration of all states of a machine.
+
+abbrev pub watch_of : WatchNumbers → Watch
+watch_of numbers =
+    record { id = numbers.id; page = numbers.page; pte = numbers.pte; done = numbers.done }
+
+-- the output that is asked for, if any is
+abbrev pub output_in : Bool → List ℕ → Option (List ℕ)
+output_in asked output = if asked then Some output else None
+
+-- by what events are judged
+abbrev pub criteria_of : List ℕ → List WatchNumbers → List ℕ → Option (List ℕ) → Criteria
+criteria_of keys watches never output =
+    record { watches = map watch_of watches; never = never; output = output; keys = keys }
+
+-- the numbers of a verdict
+
+abbrev pub no_verdict : VerdictNumbers
+no_verdict = record { kind = 0; processor = 0; address = 0; row = 0; other = 0 }
+
+abbrev pub verdict_numbers : Verdict → VerdictNumbers
+verdict_numbers (Stale p address row) =
+    record { kind = 1; processor = p; address = address; row = row; other = 0 }
+verdict_numbers (Reached p address) =
+    record { kind = 2; processor = p; address = address; row = 0; other = 0 }
+verdict_numbers (Conflict c) =
+    record { kind = 3; processor = c.processor; address = 0; row = c.row; other = c.other }
+verdict_numbers Stuck = record no_verdict { kind = 4 }
+verdict_numbers Output = record no_verdict { kind = 5 }
+
+-- an answer as numbers, with the numbers of the events of its list, if it has one
+abbrev pub Tells : Answer Verdict Unknown → Exploration → List ℕ → Type 0
+Tells (Clean states) found events =
+    (found ≡ record { kind = 0; states = states; events = 0; verdict = no_verdict })
+    × (events ≡ [])
+Tells (Found list what states) found events =
+    (found
+    ≡ record { kind = 1; states = states; events = length list.items; verdict = verdict_numbers what })
+    × (events ≡ list.items)
+Tells (Hung list states) found events =
+    (found ≡ record { kind = 2; states = states; events = length list.items; verdict = no_verdict })
+    × (events ≡ list.items)
+Tells (Open size) found events =
+    (found ≡ record { kind = 3; states = 0; events = size; verdict = no_verdict }) × (events ≡ [])
+Tells (Ended reason) found events = ⊥
+
+-- from this state at boot, with so much of time being known as Steps read, the answer says what it says of all lists of
+-- events; the session's bytes are the events
+pub record IsExplored (boot : State) (limit : ℕ) (goal : Criteria) (found : Exploration) (events : List ℕ) : Type 0 where
+  pub some : 0 < limit
+  pub good : (k : ℕ) → AreGood boot.conf.ram goal.watches k
+  pub known : Known
+  pub learnt : IsLearnt (question_of boot goal known)
+  pub answer : Answer Verdict Unknown
+  pub answers : Answers (rules_of (question_of boot goal known)) limit answer
+  pub tells : Tells answer found events
+
+-- why there is no exploration: of no states; memory was refused; a watch is bad; what is asked doesn't fit
+-- its words
+abbrev pub IsUnexplored : State → ℕ → Criteria → ℕ → Type 0
+IsUnexplored boot limit goal answer =
+    (answer ≡ 253) × (limit ≡ 0)
+    ⊎ (answer ≡ 254)
+    ⊎ (answer ≡ 22)
+    × ((k : ℕ) × IsBad boot.conf.ram goal.watches k × AreGood boot.conf.ram goal.watches k)
+    ⊎ (answer ≡ 253) × (CanBeAsked boot goal → ⊥)
+
+-- the machine of a session is explored; or nothing is changed and nothing told
+abbrev pub ExploresFor :
+    Option History → ℕ → Criteria → ℕ → Exploration → Exploration → Session → Session → Type 0
+ExploresFor None limit goal answer before after s t =
+    (answer ≡ 255) × (after ≡ before) × (t ≡ s)
+ExploresFor (Some m) limit goal answer before after s t =
+    (answer ≡ 0) × IsExplored (boot_state m.start) limit goal after t.bytes.items × (t.machine ≡ s.machine)
+    ⊎ IsUnexplored (boot_state m.start) limit goal answer × (after ≡ before) × (t ≡ s)
+
+abbrev pub ExploresAs :
+    ℕ → Criteria → ℕ → Exploration → Exploration → Session → Session → Type 0
+ExploresAs limit goal answer before after s t =
+    ExploresFor s.machine limit goal answer before after s t

@@ -1,0 +1,23 @@
+use Rattle.std.specs.Prelude.{◌≡◌, ◌⊎◌, ℕ, ◌<◌, List}
+use Rattle.m161_audit.specs.declared.watch.Watch.{Watch}
+use Rattle.m161_audit.specs.Watch.{AreGood, IsBad}
+use Rattle.m161_explore.specs.Answers.{Answers}
+use Rattle.m161_judge.specs.Verdict.{Criteria}
+use Rattle.m161_machine.specs.State.{State}
+use Rattle.m161_reach.specs.declared.whole.Exploration.{Exploration}
+use Rattle.m161_reach.specs.Reach.{HasEnded, IsLearnt, question_of, rules_of}
+
+-- An exploration before its answer is told.
+
+pub record IsFound (boot : State) (limit : ℕ) (goal : Criteria) (found : Exploration) : Type 0 where
+  pub some : 0 < limit
+  pub good : (k : ℕ) → AreGood boot.conf.ram goal.watches k
+  pub learnt : IsLearnt (question_of boot goal found.known)
+  pub answers : Answers (rules_of (question_of boot goal found.known)) limit found.answer
+  pub whole : HasEnded found.answer → ⊥
+
+-- why it isn't known that no watch is bad
+abbrev pub IsUnwatched : ℕ → List Watch → ℕ → Type 0
+IsUnwatched ram watches answer =
+    (answer ≡ 254)
+    ⊎ (answer ≡ 22) × ((k : ℕ) × IsBad ram watches k × AreGood ram watches k)

@@ -1,0 +1,166 @@
+//! Lists of events that hang.
+
+ghost use Rattle.std.specs.Prelude.{◌≡◌, ◌<◌, IfOk, MatchBool, MatchOption};
+ghost use Rattle.m161_reach.specs.From.{IsFreeFrom, IsHungFrom, asked_of};
+ghost use Rattle.m161_reach.specs.Hangs.{HangsNowhere, IsFirstHang, IsFreeAt, IsHungAt};
+ghost use Rattle.m161_reach.specs.Reach.{CanBeAsked};
+ghost use Rattle.m161_reach.specs.helpers.Onward.{origin_of, says_hung};
+ghost use Rattle.m161_reach.specs.helpers.Walk.{IsLeastHang};
+
+use crate::judge::is_end_of;
+use crate::machines::Machines;
+use crate::onward::Onward;
+use crate::place::Place;
+use crate::walk::{Walk, walk_along};
+use m161_bus::Console;
+use m161_explore::{Answer, explore};
+use m161_judge::Goal;
+use m161_machine::Core;
+use m161_states::{Known, Unknown};
+use m161_tlb::Tlb;
+use std::alloc::{AllocError, Global};
+
+// A machine at boot, of whose time nothing is known.
+fn untimed<'a, T: Tlb + Drop, D: Console + Drop>(
+    alloc: Global,
+    boot: &'a Core<T, D>,
+    goal: &'a Goal<'a>,
+) -> Machines<'a, T, D>
+    requires { CanBeAsked boot.now.state goal.now }
+    ensures { result ≡ asked_of boot.now.state goal.now }
+{
+    Machines::new(
+        alloc,
+        boot,
+        goal,
+        Known {
+            random: 0,
+            count: 0,
+        },
+    )
+}
+
+// Whether an exploration for ends says that a state hangs.
+fn says_hung(answer: &Answer<(), Unknown>, limit: u32) -> bool
+    ensures { result ≡ says_hung limit answer.now }
+{
+    match answer {
+        Answer::Clean { states } => *states <= limit,
+        Answer::Hung { states, .. } => *states <= limit,
+        Answer::Found { .. } => false,
+        Answer::Open { .. } => false,
+        Answer::Ended(_) => false,
+    }
+}
+
+// Whether the state hangs to which these events lead.
+fn hangs_from<'a, T: Tlb + Drop, D: Console + Drop>(
+    alloc: Global,
+    boot: &'a Core<T, D>,
+    goal: &'a Goal<'a>,
+    events: &[u32],
+    place: &Place<T, D>,
+    limit: u32,
+) -> Result<bool, AllocError>
+    requires asked { CanBeAsked boot.now.state goal.now }
+    requires some { 0 < limit }
+    requires from { place.now ≡ origin_of (asked_of boot.now.state goal.now) events.now }
+    ensures { IfOk result (λ hangs. MatchBool hangs
+        (IsHungFrom (asked_of boot.now.state goal.now) limit place.now)
+        (IsFreeFrom (asked_of boot.now.state goal.now) limit place.now)) }
+{
+    if is_end_of(goal, place) {
+        return Ok(false);
+    }
+    boot.law();
+    let mut known = Known::nothing();
+    loop {
+        let machines = Machines::new(alloc, boot, goal, known);
+        let onward = Onward::new(machines, events, place);
+        match explore(alloc, &onward, limit)? {
+            Answer::Ended(unknown) => known.insert(unknown.processor, unknown.reads),
+            answer => return Ok(says_hung(&answer, limit)),
+        }
+    }
+}
+
+// Whether a list hangs, of which no prefix is refused or over.
+fn hangs_behind<'a, T: Tlb + Drop, D: Console + Drop>(
+    alloc: Global,
+    boot: &'a Core<T, D>,
+    goal: &'a Goal<'a>,
+    events: &[u32],
+    limit: u32,
+) -> Result<bool, AllocError>
+    requires asked { CanBeAsked boot.now.state goal.now }
+    requires some { 0 < limit }
+    ensures { IfOk result (λ hangs. MatchBool hangs
+        (IsHungAt (asked_of boot.now.state goal.now) limit events.now)
+        (IsFreeAt (asked_of boot.now.state goal.now) limit events.now)) }
+{
+    let machines = untimed(alloc, boot, goal);
+    let mut place = machines.first(alloc)?;
+    match walk_along(&machines, &mut place, events)? {
+        Walk::Went => hangs_from(alloc, boot, goal, events, &place, limit),
+        Walk::Refused => Err(AllocError),
+        Walk::Over => Err(AllocError),
+    }
+}
+
+// How many of the first events of a list that hangs hang already.
+fn least_hang<'a, T: Tlb + Drop, D: Console + Drop>(
+    alloc: Global,
+    boot: &'a Core<T, D>,
+    goal: &'a Goal<'a>,
+    events: &[u32],
+    limit: u32,
+) -> Result<usize, AllocError>
+    requires asked { CanBeAsked boot.now.state goal.now }
+    requires some { 0 < limit }
+    requires hangs { IsHungAt (asked_of boot.now.state goal.now) limit events.now }
+    ensures { IfOk result (IsLeastHang (asked_of boot.now.state goal.now) limit events.now) }
+{
+    let mut low = 0;
+    let mut high = events.len();
+    while low < high {
+        let middle = low + (high - low) / 2;
+        if hangs_behind(alloc, boot, goal, &events[..middle], limit)? {
+            high = middle;
+        } else {
+            low = middle + 1;
+        }
+    }
+    Ok(high)
+}
+
+/// How many of the first events of a list from boot are the least that hang, if the machine is over
+/// behind none of its events and the list hangs: by an exploration of the states behind it, up to an end
+/// or to one view more than the limit.
+///
+/// # Errors
+/// Memory is refused.
+pub fn first_hang<'a, T: Tlb + Drop, D: Console + Drop>(
+    alloc: Global,
+    boot: &'a Core<T, D>,
+    goal: &'a Goal<'a>,
+    events: &[u32],
+    limit: u32,
+) -> Result<Option<usize>, AllocError>
+    requires asked { CanBeAsked boot.now.state goal.now }
+    requires some { 0 < limit }
+    ensures { IfOk result (λ found. MatchOption found
+        (HangsNowhere (asked_of boot.now.state goal.now) limit events.now)
+        (IsFirstHang (asked_of boot.now.state goal.now) limit events.now)) }
+{
+    let machines = untimed(alloc, boot, goal);
+    let mut place = machines.first(alloc)?;
+    match walk_along(&machines, &mut place, events)? {
+        Walk::Refused => return Ok(None),
+        Walk::Over => return Ok(None),
+        Walk::Went => {}
+    }
+    if !hangs_from(alloc, boot, goal, events, &place, limit)? {
+        return Ok(None);
+    }
+    Ok(Some(least_hang(alloc, boot, goal, events, limit)?))
+}

@@ -1,0 +1,110 @@
+"""Tests of explorations and of verdicts, over the library that c/build made."""
+
+import unittest
+from pathlib import Path
+
+import talusdish
+from talusdish import (
+    Clean, Event, Found, Hung, Judgement, Machine, Open, Stop, Verdict, Watch, Wrong, assemble, explore,
+)
+
+EXAMPLES = Path(__file__).resolve().parents[2] / "examples"
+LABS = EXAMPLES / "labs"
+SUM = "main: addiu $8, $0, 5\n addiu $9, $8, 7\n lui $10, 0x8000\n sw $9, 0x3010($10)\nlast: wait\n beq $0, $0, last\n nop\n"
+POLL = " lui $8, 0xbfe0\nread: lw $9, 8($8)\n andi $9, $9, 2\n beq $9, $0, read\n nop\ngot: nop\n"
+
+
+def lab(name):
+    return assemble((LABS / f"{name}.s").read_text())
+
+
+class Exploring(unittest.TestCase):
+    def test_lost_update(self):
+        found = explore(lab("lost-update"), ram=28672, cpus=2)
+        steps = [0] * 12 + [1] * 4 + [0] * 9 + [1] * 14
+        self.assertEqual(found, Found(Verdict(Wrong.STUCK), tuple((Event.STEP, p) for p in steps), 651))
+        machine = Machine(lab("lost-update"), ram=28672, cpus=2)
+        machine.make(found.events)
+        self.assertEqual(machine.run().stop, Stop.STUCK)
+        self.assertEqual(machine.memory[0x1000], 1)
+        self.assertEqual(explore(lab("lost-update-fixed"), ram=28672, cpus=2), Clean(527))
+
+    def test_hung(self):
+        found = explore(lab("two-locks"), ram=28672, cpus=2)
+        self.assertIsInstance(found, Hung)
+        self.assertEqual(found.states, 1201)
+        self.assertEqual(found.events[:19], ((Event.STEP, 0),) * 12 + ((Event.STEP, 1),) * 7)
+        self.assertEqual(explore(assemble("here: beq $0, $0, here\n nop\n"), ram=4096), Hung((), 2))
+
+    def test_open_and_what_stays(self):
+        machine = Machine(assemble(SUM), ram=65536)
+        machine.run(events=2)
+        before = machine.log
+        self.assertEqual(machine.explore(3), Open(3, 2))
+        self.assertEqual(machine.explore(), Found(Verdict(Wrong.STUCK), ((Event.STEP, 0),) * 5, 5))
+        self.assertEqual(machine.explore(output=b""), Clean(6))
+        self.assertEqual(machine.explore(never=[0x80000208, 4], output=b"").verdict, Verdict(Wrong.REACHED, address=0x80000208))
+        self.assertEqual((machine.made, machine.log), (2, before))
+
+    def test_key(self):
+        found = explore(assemble(POLL), ram=4096, keys=b"k", never=[0x80000214])
+        step = (Event.STEP, 0)
+        self.assertEqual(found.events, (step, (Event.KEY, ord("k")), step, step, step, step, step))
+
+    def test_refusals(self):
+        machine = Machine(assemble(SUM), ram=65536)
+        for watch in (Watch(64, 0, 0, 4), Watch(0, 2**20, 0, 4), Watch(0, 0, 1, 4), Watch(0, 0, 0, 65536), Watch(0, 0, 4, 4)):
+            with self.subTest(watch), self.assertRaises(talusdish.BadWatch):
+                machine.explore(watches=[Watch(63, 2**20 - 1, 65532, 0), watch])
+        for wrong in ({"states": 0}, {"states": 2**32}, {"never": [2**32]}, {"watches": [Watch(-1, 0, 0, 4)]}):
+            with self.subTest(wrong), self.assertRaises(ValueError):
+                machine.explore(**wrong)
+
+    def test_conflict(self):
+        # A strict machine: row 3 has the page, and row 5 is to get it too.
+        text = " lui $8, 0x40\n mtc0 $8, $10\n ori $9, $0, 0x200\n mtc0 $9, $2\n ori $9, $0, 0x300\n mtc0 $9, $0\n tlbwi\n ori $9, $0, 0x500\n mtc0 $9, $0\n tlbwi\n"
+        found = explore(assemble(text), ram=4096, strict=True)
+        self.assertEqual((found.verdict, len(found.events)), (Verdict(Wrong.CONFLICT, row=5, other=3), 10))
+
+
+class Judging(unittest.TestCase):
+    def test_stale(self):
+        text = (EXAMPLES / "shootdown.s").read_text()
+        watch = Watch(5, 0x400, 0x3000, 0x3004)
+        for name, kernel, stale in (
+            ("shootdown", text, None),
+            ("hasty", text.replace("beq     $15, $0, acked", "nop"), Judgement(Verdict(Wrong.STALE, 1, 0x400000, 53), 38)),
+        ):
+            with self.subTest(name):
+                machine = Machine(assemble(kernel), ram=65536, cpus=2)
+                for line in (EXAMPLES / f"{name}.schedule").read_text().splitlines():
+                    if line.startswith("s "):
+                        machine.steps(int(line.split()[2]), int(line.split()[1]))
+                made = machine.made
+                self.assertEqual(machine.audit([watch]), stale)
+                self.assertEqual(machine.judge(watches=[watch], keys=b"k"), stale)
+                self.assertEqual(machine.copy().audit([Watch(5, 0x401, 0x3000, 0x3004), watch]), stale)
+                self.assertEqual(machine.made, made)
+
+    def test_verdicts(self):
+        machine = Machine(assemble(SUM), ram=65536)
+        self.assertIsNone(machine.judge(output=None))
+        self.assertEqual(machine.judge(output=b""), Judgement(Verdict(Wrong.END), 0))
+        machine.run(events=9)
+        self.assertEqual(machine.judge(), Judgement(Verdict(Wrong.STUCK), 5))
+        self.assertIsNone(machine.judge(output=b""))
+        self.assertIsNone(machine.copy().judge(keys=b"k"))
+        self.assertEqual(machine.judge(never=[0x80000204]), Judgement(Verdict(Wrong.REACHED, address=0x80000204), 2))
+
+    def test_refusals(self):
+        machine = Machine(assemble(SUM), ram=65536, log=2)
+        machine.run(events=3)
+        for call in (machine.judge, lambda: machine.audit([])):
+            with self.assertRaises(talusdish.Dropped):
+                call()
+        with self.assertRaises(talusdish.BadWatch):
+            Machine(assemble(SUM), ram=65536).audit([Watch(0, 0, 4, 4)])
+
+
+if __name__ == "__main__":
+    unittest.main()
