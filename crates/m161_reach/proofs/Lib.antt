@@ -17,3 +17,4 @@ mod Handled
 mod Behind
 mod Learning
 mod Walking
+mod Naming

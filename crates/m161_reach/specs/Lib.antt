@@ -10,4 +10,5 @@ pub mod Met
 pub mod Reach
 pub mod From
 pub mod Hangs
+pub mod Named
 pub mod helpers

@@ -46,13 +46,16 @@ start q = record {
   agreed = agreed_at_boot q.goal.output;
 }
 
--- an event by its number: a Step of each processor, then Done, then the next key; there is none where
--- all are typed
+-- an event by its number, where so many keys are typed: a number below that of the processors is a Step,
+-- the next one Done, and any other the next key; there is none where all are typed
+abbrev pub event_named : ℕ → List ℕ → ℕ → ℕ → Option Event
+event_named processors keys typed n =
+    if nat_lt n processors then Some (Step n)
+    else if n == processors then Some Done
+    else option_map (λ byte. Key byte) (slice_get keys typed)
+
 abbrev pub event_of : Question → Explored → ℕ → Option Event
-event_of q x n =
-    if nat_lt n (processors_of q) then Some (Step n)
-    else if n == processors_of q then Some Done
-    else option_map (λ byte. Key byte) (slice_get q.goal.keys x.typed)
+event_of q x n = event_named (processors_of q) q.goal.keys x.typed n
 
 -- a state as before any event, so that it isn't worn
 abbrev pub fresh : State → State

@@ -1,8 +1,13 @@
-use Rattle.std.specs.Prelude.{◌≡◌, ◌⊎◌, ℕ, false, List, [], ◌∷◌, ◌++◌, Option, None, Some, Ok, IfSome, codes, decimal}
+use Rattle.std.specs.Prelude.{◌≡◌, ◌⊎◌, ℕ, false, List, [], ◌∷◌, ◌++◌, length, Option, None, Some, Ok, IfSome, codes, decimal}
 use Rattle.m161_machine.specs.declared.conf.BootError.TheVariants.{Load}
+use Rattle.m161_machine.specs.declared.conf.Conf.{Conf as MachineConf}
 use Rattle.m161_machine.specs.declared.event.Event.{Event}
 use Rattle.m161_machine.specs.Conf.{is_within_limits}
-use Rattle.m161_machine.specs.History.{boot_fault}
+use Rattle.m161_machine.specs.History.{IsBootState, boot_fault}
+use Rattle.m161_machine.specs.Refusal.{name_of_refusal, number_of_refusal}
+use Rattle.m161_machine.specs.State.{State}
+use Rattle.m161_refusals.specs.declared.refusals.Refusals.{Refusals}
+use Rattle.m161_refusals.specs.Refusals.{refusals_in}
 use Rattle.m161_audit.specs.declared.finding.AuditError.{AuditError}
 use Rattle.m161_audit.specs.declared.finding.AuditError.TheVariants as audit
 use Rattle.m161_audit.specs.declared.finding.Finding.{Finding}
@@ -40,10 +45,30 @@ abbrev pub status_of_finding : Finding → ℕ
 status_of_finding Clean = 0
 status_of_finding (Stale place processor address row) = 4
 
--- a finished audit: what it prints and its exit status; the files of the image and of the watches,
--- and standard input have these bytes, as far as they are known
+-- how many events an audit looked at: those before the stale use, or all
+abbrev pub looked_at : Finding → List Event → ℕ
+looked_at Clean events = length events
+looked_at (Stale place processor address row) events = place
+
+-- the events that the machine refused among them, from the state at boot on
+abbrev pub AreRefused : List ℕ → MachineConf → List Event → Finding → Option Refusals → Type 0
+AreRefused file conf events finding refused =
+    (booted : State) × IsBootState file conf booted
+    × (refused ≡ refusals_in booted events (looked_at finding events))
+
+-- what is said of them on standard error: how many, the first one's place, and why it was refused
+abbrev pub note_text : Option Refusals → List ℕ
+note_text None = []
+note_text (Some refused) =
+    with_line_end
+    (codes "s161: note refused" ␣ decimal refused.count ␣ decimal refused.place
+    ␣ decimal (number_of_refusal refused.refusal) ␣ name_of_refusal refused.refusal
+    ␣ codes "(so many events were refused; the first, at this place)")
+
+-- a finished audit: what it prints, what it says on standard error, and its exit status; the files of
+-- the image and of the watches, and standard input have these bytes, as far as they are known
 pub record IsAudited
-    (task : FilesTask) (image watches input : Option (List ℕ)) (text : List ℕ) (status : ℕ)
+    (task : FilesTask) (image watches input : Option (List ℕ)) (text told : List ℕ) (status : ℕ)
     : Type 0 where
   pub file : List ℕ
   pub is_file : IfSome image (λ bytes. file ≡ bytes)
@@ -61,6 +86,9 @@ pub record IsAudited
   pub audits :
       Audits file (conf_of task.size) (boot_fault file (conf_of task.size)) events watched (Ok finding)
   pub text_is : text ≡ with_line_end (finding_text finding)
+  pub refused : Option Refusals
+  pub are_refused : AreRefused file (conf_of task.size) events finding refused
+  pub told_is : told ≡ note_text refused
   pub status_is : status ≡ status_of_finding finding
 
 -- why a run isn't audited

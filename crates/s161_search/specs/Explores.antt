@@ -1,4 +1,4 @@
-use Rattle.std.specs.Prelude.{◌≡◌, ℕ, ◌-◌, ◌==◌, nat_lt, false, if◌then◌else◌, List, [], ◌∷◌, ◌++◌, length, slice_get, Option, None, Some, option_map, codes, decimal}
+use Rattle.std.specs.Prelude.{◌≡◌, ℕ, ◌-◌, ◌==◌, false, if◌then◌else◌, List, ◌++◌, length, Option, None, codes, decimal}
 use Rattle.m161_alike.specs.declared.known.Known.{Known}
 use Rattle.m161_audit.specs.Watch.{AreGood}
 use Rattle.m161_explore.specs.declared.whole.Answer.{Answer}
@@ -7,15 +7,14 @@ use Rattle.m161_explore.specs.Answers.{Answers}
 use Rattle.m161_judge.specs.declared.verdict.Verdict.{Verdict as RunVerdict}
 use Rattle.m161_judge.specs.declared.verdict.Verdict.TheVariants as run
 use Rattle.m161_machine.specs.declared.event.Event.{Event}
-use Rattle.m161_machine.specs.declared.event.Event.TheVariants.{Step, Key, Done}
 use Rattle.m161_machine.specs.History.{IsBootState}
 use Rattle.m161_machine.specs.State.{State}
 use Rattle.m161_order.specs.declared.order.Order.TheVariants.{Turns}
+use Rattle.m161_reach.specs.Named.{events_named}
 use Rattle.m161_reach.specs.Reach.{IsLearnt, question_of, rules_of}
 use Rattle.m161_states.specs.declared.verdict.Unknown.{Unknown}
 use Rattle.m161_states.specs.declared.verdict.Verdict.{Verdict}
 use Rattle.m161_states.specs.declared.verdict.Verdict.TheVariants.{Stale, Reached, Conflict, Stuck, Output}
-use Rattle.m161_states.specs.System.{typed_after}
 use Rattle.m161_steplog.specs.Written.{schedule_text}
 use Rattle.m161_text.specs.Lines.{with_line_end}
 use Rattle.m161_text.specs.Parts.{◌␣◌}
@@ -45,25 +44,6 @@ as_search task = record {
 -- how many states there may be: at least one
 abbrev pub limit_of : ExploreTask → ℕ
 limit_of task = if task.states == 0 then 1 else task.states
-
--- an event by its number, where so many keys are typed: a number below that of the processors is a Step,
--- the next one Done, and any other the next key; there is none where all are typed
-abbrev pub event_named : ℕ → List ℕ → ℕ → ℕ → Option Event
-event_named processors keys typed n =
-    if nat_lt n processors then Some (Step n)
-    else if n == processors then Some Done
-    else option_map (λ byte. Key byte) (slice_get keys typed)
-
-abbrev pub with_event : Option Event → (Event → List Event) → List Event
-with_event None rest = []
-with_event (Some e) rest = e ∷ rest e
-
--- the events of a list of their numbers
-abbrev pub events_named : ℕ → List ℕ → ℕ → List ℕ → List Event
-events_named processors keys typed [] = []
-events_named processors keys typed (n ∷ ns) =
-    with_event (event_named processors keys typed n)
-    (λ e. events_named processors keys (typed_after e typed) ns)
 
 -- a verdict of the last event of a list, as `search` has it: with the event's place
 abbrev pub at_place : ℕ → Verdict → RunVerdict

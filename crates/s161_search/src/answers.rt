@@ -1,10 +1,11 @@
 //! What an exploration prints.
 
 ghost use Rattle.std.specs.Prelude.{◌≡◌, ◌≢◌, ◌<◌, ◌≤◌, ◌++◌, ◌-◌, ◌∷◌, [], ℕ, IfOk, OnOk, Some, length, option_map, string_bytes};
-ghost use Rattle.m161_states.specs.System.{typed_after};
+ghost use Rattle.m161_states.specs.System.{event_named, typed_after};
 ghost use Rattle.m161_text.specs.Lines.{with_line_end};
+ghost use Rattle.m161_reach.specs.Named.{events_named};
 ghost use Rattle.m161_reach.specs.Reach.{HasEnded};
-ghost use Rattle.s161_search.specs.Explores.{PrintsAnswer, at_place, event_named, events_named, hung_text, limit_of, open_text, states_text};
+ghost use Rattle.s161_search.specs.Explores.{PrintsAnswer, at_place, hung_text, limit_of, open_text, states_text};
 ghost use Rattle.s161_search.specs.Texts.{found_text};
 
 use crate::texts::{clean_line, found_lines};
@@ -13,7 +14,6 @@ use m161_judge::Verdict as RunVerdict;
 use m161_machine::Event;
 use m161_states::{Unknown, Verdict};
 use m161_steplog::write_schedule;
-use s161_base::fault::Fault;
 use s161_base::finished::Finished;
 use s161_command::ExploreTask;
 use std::alloc::{AllocError, Global};

@@ -1,15 +1,19 @@
 //! Auditing a run.
 
-ghost use Rattle.std.specs.Prelude.{◌≡◌, IfErr, IfOk, Some, decimal, string_bytes};
+ghost use Rattle.std.specs.Prelude.{◌≡◌, IfErr, IfOk, Option, Some, decimal, string_bytes};
+ghost use Rattle.m161_machine.specs.Refusal.{name_of_refusal, number_of_refusal};
+ghost use Rattle.m161_refusals.specs.declared.refusals.Refusals.{Refusals as RefusalsValue};
 ghost use Rattle.m161_text.specs.Lines.{with_line_end};
 ghost use Rattle.m161_text.specs.Parts.{◌␣◌, word_text};
-ghost use Rattle.s161_search.specs.Audits.{IsAudited, IsAuditFault, audit_files, fault_of_audit, finding_text, status_of_finding};
+ghost use Rattle.s161_search.specs.Audits.{AreRefused, IsAudited, IsAuditFault, audit_files, fault_of_audit, finding_text, looked_at, note_text, status_of_finding};
 ghost use Rattle.s161_base.specs.Asked.{AsksFor, IsBeforeInput};
 ghost use Rattle.s161_base.specs.Samples.{image_file};
 
 use crate::watches::watches_of;
-use m161::{Console, Tlb};
+use m161::{Console, Core, Tlb};
 use m161_audit::{AuditError, Finding, audit_events};
+use m161_machine::{Conf, Events, Refusal};
+use m161_refusals::{Refusals, find_refusals};
 use m161_text::Word;
 use s161_base::fault::Fault;
 use s161_base::files::FileSource;
@@ -84,8 +88,26 @@ impl fmt::Display for ShownFinding {
     }
 }
 
+// The place of a refused event, and why it is refused, as text.
+#[derive(Drop)]
+struct ShownRefusal {
+    place: usize,
+    refusal: Refusal,
+}
+
+impl fmt::Display for ShownRefusal {
+    ghost output = { λ shown. Some (decimal shown.place ␣ decimal (number_of_refusal shown.refusal)
+        ␣ name_of_refusal shown.refusal) };
+
+    fn fmt<W: fmt::Write>(&self, f: &mut fmt::Formatter<W>) -> fmt::Result {
+        let (place, number, name) = (self.place, self.refusal.number(), self.refusal.name());
+        write!(f, "{place} {number} {name}")
+    }
+}
+
 /// Reads the image, the watches and then the schedule, boots the image, and makes the schedule's
-/// events up to the first stale use.
+/// events up to the first stale use. What is to be said on standard error is put into `said`: a note, if
+/// events were refused.
 ///
 /// # Errors
 /// The first fault.
@@ -96,11 +118,12 @@ pub fn audit<'a, F: FileSource, I: Read>(
     files: &mut F,
     input: &mut I,
     task: FilesTask<'a>,
+    said: &mut String,
 ) -> Result<Finished, Fault<'a>>
     ensures ok { IfOk result (λ done. IsAudited task.entry
         (image_file (F.known files.old) task.entry.image.now)
         (F.known files.old task.entry.text.now) (I.remaining input.old)
-        done.text.items done.status) }
+        done.text.items (string_bytes said.new) done.status) }
     ensures fault { IfErr result (IsAuditFault task.entry
         (image_file (F.known files.old) task.entry.image.now)
         (F.known files.old task.entry.text.now) (I.remaining input.old)) }
@@ -120,10 +143,68 @@ pub fn audit<'a, F: FileSource, I: Read>(
         Err(error) => return Err(fault_of_audit(error)),
     };
     let line = finding_line(alloc, finding)?;
+    *said = note_of(alloc, &file, conf, &events, finding)?;
     Ok(Finished {
         text: line.into_bytes(),
         status: status(finding),
     })
+}
+
+// How many events an audit looked at.
+fn looked_at(finding: Finding, events: &Events) -> usize
+    ensures { result ≡ looked_at finding events.now }
+{
+    match finding {
+        Finding::Clean => events.len(),
+        Finding::Stale { place, .. } => place,
+    }
+}
+
+// The events that the machine refused among those that an audit looked at. It was booted before, so that
+// only memory can be refused.
+#[inline(never)]
+fn refusals_of(
+    alloc: Global,
+    file: &[u8],
+    conf: Conf,
+    events: &Events,
+    finding: Finding,
+) -> Result<Option<Refusals>, AllocError>
+    ensures { IfOk result (AreRefused file.now conf events.now finding) }
+{
+    let Ok(mut core) = Core::boot(alloc, file, conf) else {
+        return Err(AllocError);
+    };
+    find_refusals(&mut core, events, looked_at(finding, events))
+}
+
+// The note on events that were refused.
+fn note_line(alloc: Global, refused: Refusals) -> Result<String, AllocError>
+    ensures { IfOk result (λ line. string_bytes line ≡ note_text (Some refused)) }
+{
+    let count = refused.count;
+    let first = ShownRefusal {
+        place: refused.place,
+        refusal: refused.refusal,
+    };
+    format!(in alloc; "s161: note refused {count} {first} (so many events were refused; the first, at this place)\n")
+}
+
+// What is said on standard error of an audit.
+fn note_of(
+    alloc: Global,
+    file: &[u8],
+    conf: Conf,
+    events: &Events,
+    finding: Finding,
+) -> Result<String, AllocError>
+    ensures { IfOk result (λ note. (refused : Option RefusalsValue)
+        × AreRefused file.now conf events.now finding refused × (string_bytes note ≡ note_text refused)) }
+{
+    match refusals_of(alloc, file, conf, events, finding)? {
+        Some(refused) => note_line(alloc, refused),
+        None => Ok(String::new(alloc)),
+    }
 }
 
 /// The fault of a run that isn't audited.

@@ -129,7 +129,7 @@ IsResultOf never (Explore task) files input =
 IsResultOf never (Replay task) files input =
     Silently (IsReplayed task (image_file files task.image.now) (files task.text.now))
 IsResultOf never (Audit task) files input =
-    Silently (IsAudited task (image_file files task.image.now) (files task.text.now) input)
+    IsAudited task (image_file files task.image.now) (files task.text.now) input
 IsResultOf never (Assemble task) files input = Silently (WithZero (IsAssembled task input))
 IsResultOf never (Disassemble task) files input =
     Silently (WithZero (IsDisassembled task (image_file files task.image.now)))

@@ -127,7 +127,7 @@ fn finish<'a, R: Threads + Wait + Sync, F: FileSource, I: Read>(
         Task::Search(task) => search(rt, alloc, files, task, never),
         Task::Explore(task) => explore(alloc, files, task, never),
         Task::Replay(task) => replay(alloc, files, task),
-        Task::Audit(task) => audit(alloc, files, input, task),
+        Task::Audit(task) => audit(alloc, files, input, task, said),
         Task::Assemble(task) => finish_assembly(alloc, input, task),
         Task::Disassemble(task) => finish_listing(alloc, files, task),
     }

@@ -1,5 +1,5 @@
 use Rattle.std.proofs.Common.{◌≡◌, ◌++◌, drop}
-use Rattle.s161_search.specs.Explores.{events_named}
+use Rattle.m161_reach.specs.Named.{events_named}
 use Rattle.s161_search.proofs.answers.events_named.Given as goal
 
 -- the events so far, and those of the numbers that are left

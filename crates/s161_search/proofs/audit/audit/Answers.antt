@@ -51,6 +51,10 @@ returns-clause-ok g c =
       audits = subst (λ conf. Audits c.deref.result.now conf (boot_fault c.deref.result.now conf) c.in_ok-events.events c.deref-2.result.now (Ok c.in-Ok.finding))
           c.conf_of-conf.ensures c.in-Ok.ensures;
       text_is = search rules;
+      refused = c.in_ok-said.ensures.0;
+      are_refused = refused_as c.deref.result.now (conf_of c.args.task.size) c.conf_of-conf.result c.in_ok-events.events c.in-Ok.finding c.in_ok-said.ensures.0
+          c.conf_of-conf.ensures c.in_ok-said.ensures.1;
+      told_is = c.in_ok-said.ensures.2;
       status_is = c.status.ensures;
     }
 

@@ -16,7 +16,7 @@ pub returns-in-Replay-clause-ok : goal.returns-in-Replay-clause-ok
 returns-in-Replay-clause-ok g c = rw c.in-Replay.is (IfOk-weaker c.replay.result _ _ (λ done h. (c.requires.empty, h)) c.replay.ensures.ok)
 
 pub returns-in-Audit-clause-ok : goal.returns-in-Audit-clause-ok
-returns-in-Audit-clause-ok g c = rw c.in-Audit.is (IfOk-weaker c.audit.result _ _ (λ done h. (c.requires.empty, h)) c.audit.ensures.ok)
+returns-in-Audit-clause-ok g c = rw c.in-Audit.is c.audit.ensures.ok
 
 pub returns-in-Run-clause-unread : goal.returns-in-Run-clause-unread
 returns-in-Run-clause-unread g c = rw c.in-Run.is (λ none. absurd none)

@@ -1,0 +1,3 @@
+pub use Rattle.m161_machine.specs.State
+pub mod Refusals
+pub mod helpers
