@@ -1,6 +1,7 @@
 use Rattle.std.proofs.Common.{◌≡◌, ◌∙◌, refl, ap, sym, subst, ℕ, ◌+◌, ◌<◌, ◌≤◌, arith, Bool, true, false, List, [], ◌∷◌, ◌++◌, drop, get_or, length, take, Option, None, Some, ◌⊎◌, inl, inr}
 use Rattle.std.specs.Prelude.{MatchBool}
-use Rattle.std.proofs.lemmas.List.{drop_more, take-append-drop, take-take, take_all, take_more}
+use Rattle.std.proofs.Math.Nat.{min-le_left, min-le_right}
+use Rattle.std.proofs.lemmas.List.{drop_more, length-take, take-append-drop, take-take, take_all, take_more}
 use Rattle.m161_cpu.specs.declared.processor.Outcome.{Outcome}
 use Rattle.m161_judge.specs.Verdict.{Criteria}
 use Rattle.m161_machine.specs.declared.event.Event.{Event}
@@ -9,13 +10,13 @@ use Rattle.m161_states.specs.Question.{Question}
 use Rattle.m161_states.specs.System.{Explored, accepted, behind, event_of, next, next_by, start}
 use Rattle.m161_states.specs.Verdicts.{is_end}
 use Rattle.m161_reach.specs.From.{IsFreeFrom, IsHungFrom}
-use Rattle.m161_reach.specs.Hangs.{IsFirstHang, IsFreeAt, IsHungAt, IsOverAt, is_over}
+use Rattle.m161_reach.specs.Hangs.{EndsEarly, GoesAlong, IsFreeAt, IsHungAt, IsOverAt, is_over}
 use Rattle.m161_reach.specs.helpers.MetFrom.{behind_met, start_met, unmade_met}
 use Rattle.m161_reach.specs.Reach.{IsMet, rules_of}
 use Rattle.m161_reach.specs.helpers.Advance.{TakesNext, unmade}
 use Rattle.m161_reach.specs.helpers.Onward.{behind_all, origin_of}
 use Rattle.m161_reach.specs.declared.walk.Walk.{Walk}
-use Rattle.m161_reach.specs.helpers.Walk.{Goes, GoesOnBelow, IsLeastHang, LeadsTo, Walks}
+use Rattle.m161_reach.specs.helpers.Walk.{Goes, GoesOnBelow, LeadsTo, Walks}
 use Rattle.m161_reach.proofs.Behind.{behind_unmade, free_behind, free_before, hung_behind, leads_append, leads_behind, leads_one, leads_split, next_same, over_same, unmade_behind}
 
 -- Walks along lists of events.
@@ -144,15 +145,33 @@ free_less q limit es k m h free =
 pub walks_at : (q m : Question) (es : List ℕ) (t : Explored) (walk came : Walk) → m ≡ q → walk ≡ came → Walks m es t walk → Walks q es t came
 walks_at q m es t walk came same is h = subst (λ r. Walks r es t came) same (subst (Walks m es t) is h)
 
-pub first_hang : (q : Question) (limit : ℕ) (es : List ℕ) (n : ℕ) (t : Explored) → LeadsTo q es t → GoesOnBelow q es (length es + 1) →
-    IsLeastHang q limit es n → IsFirstHang q limit es n
-first_hang q limit es n t leads goes h = record {
-  within = h.within;
-  hangs = h.hangs;
-  first = h.first;
+-- the machine is over nowhere
+
+pub goes_along : (q : Question) (es : List ℕ) (t : Explored) → LeadsTo q es t → GoesOnBelow q es (length es + 1) → GoesAlong q es
+goes_along q es t leads goes = record {
   accepted = (leads.0, leads.1);
   goes_on = λ k at. goes k (let inside = at.0 in omega (arith, inside)) at;
 }
+
+-- nor along the first events
+pub goes_less : (q : Question) (es : List ℕ) (m : ℕ) → GoesAlong q es → GoesAlong q (take m es)
+goes_less q es m h =
+    let whole = subst (λ l. Leads (rules_of q) (start q) l h.accepted.0) (sym (take-append-drop m es)) h.accepted.1 in
+    let parts = leads_split q (start q) h.accepted.0 (take m es) (drop m es) whole in
+    record {
+      accepted = (parts.0, parts.1);
+      goes_on = λ k at.
+          let inside : k ≤ length (take m es) = at.0 in
+          let long = length-take m es in
+          let few = min-le_left m (length es) in
+          let some = min-le_right m (length es) in
+          let first : take k (take m es) ≡ take k es = take-take k m es (omega (arith, inside, long, few)) in
+          h.goes_on k (omega (arith, inside, long, some), (at.1.0, subst (λ l. Leads (rules_of q) (start q) l at.1.0) first at.1.1, at.1.2));
+    }
+
+pub ends_not : (q : Question) (es : List ℕ) → GoesAlong q es → EndsEarly q es → ⊥
+ends_not q es h (inl none) = none h.accepted.0 h.accepted.1
+ends_not q es h (inr over) = h.goes_on over.0 over.1
 
 -- what goes on with a list that hangs is at no end
 pub hung_never_ends : (q : Question) (limit : ℕ) (es more : List ℕ) (y : Explored) → IsHungAt q limit es →

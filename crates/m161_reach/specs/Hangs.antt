@@ -28,20 +28,29 @@ IsOverAt q events n =
     (n ≤ length events)
     × ((x : Explored) × Leads (rules_of q) (start q) (take n events) x × (is_over q x ≡ true))
 
--- the first n events of a list are the least that hang, and the machine is over behind none of its events
-pub record IsFirstHang (q : Question) (limit : ℕ) (events : List ℕ) (n : ℕ) : Type 0 where
-  pub within : n ≤ length events
-  pub hangs : IsHungAt q limit (take n events)
-  pub first : (k : ℕ) → k < n → IsFreeAt q limit (take k events)
+-- a list is accepted, and the machine is over behind none of its events
+pub record GoesAlong (q : Question) (events : List ℕ) : Type 0 where
   pub accepted : (x : Explored) × Leads (rules_of q) (start q) events x
   pub goes_on : (k : ℕ) → IsOverAt q events k → ⊥
 
--- a list isn't accepted, or the machine is over behind some of its events, or the state behind all of
--- them doesn't hang
+-- a list isn't accepted, or the machine is over behind some of its events
+abbrev pub EndsEarly : Question → List ℕ → Type 0
+EndsEarly q events =
+    ((x : Explored) → Leads (rules_of q) (start q) events x → ⊥) ⊎ ((n : ℕ) × IsOverAt q events n)
+
+-- the first n events of a list are the least that hang
+pub record IsLeastHang (q : Question) (limit : ℕ) (events : List ℕ) (n : ℕ) : Type 0 where
+  pub within : n ≤ length events
+  pub hangs : IsHungAt q limit (take n events)
+  pub first : (k : ℕ) → k < n → IsFreeAt q limit (take k events)
+
+-- so, of a list along which the machine is never over
+abbrev pub IsFirstHang : Question → ℕ → List ℕ → ℕ → Type 0
+IsFirstHang q limit events n = GoesAlong q events × IsLeastHang q limit events n
+
+-- a list ends early, or the state behind all of its events doesn't hang
 abbrev pub HangsNowhere : Question → ℕ → List ℕ → Type 0
-HangsNowhere q limit events =
-    ((x : Explored) → Leads (rules_of q) (start q) events x → ⊥)
-    ⊎ (((n : ℕ) × IsOverAt q events n) ⊎ IsFreeAt q limit events)
+HangsNowhere q limit events = EndsEarly q events ⊎ IsFreeAt q limit events
 
 -- the laws
 

@@ -2,10 +2,10 @@
 
 ghost use Rattle.std.specs.Prelude.{◌≡◌, ◌<◌, IfOk, MatchBool, MatchOption};
 ghost use Rattle.m161_reach.specs.From.{IsFreeFrom, IsHungFrom, asked_of};
-ghost use Rattle.m161_reach.specs.Hangs.{HangsNowhere, IsFirstHang, IsFreeAt, IsHungAt};
+ghost use Rattle.m161_reach.specs.Hangs.{GoesAlong, HangsNowhere, IsFirstHang, IsHungAt, IsLeastHang};
 ghost use Rattle.m161_reach.specs.Reach.{CanBeAsked};
 ghost use Rattle.m161_reach.specs.helpers.Onward.{origin_of, says_hung};
-ghost use Rattle.m161_reach.specs.helpers.Walk.{IsLeastHang};
+ghost use Rattle.m161_reach.specs.helpers.Walk.{HangsAlong};
 
 use crate::judge::is_end_of;
 use crate::machines::Machines;
@@ -84,26 +84,24 @@ fn hangs_from<'a, T: Tlb + Drop, D: Console + Drop>(
     }
 }
 
-// Whether a list hangs, of which no prefix is refused or over.
-fn hangs_behind<'a, T: Tlb + Drop, D: Console + Drop>(
+// Whether a list hangs; none where an event isn't accepted, or the machine is over before.
+fn hangs_along<'a, T: Tlb + Drop, D: Console + Drop>(
     alloc: Global,
     boot: &'a Core<T, D>,
     goal: &'a Goal<'a>,
     events: &[u32],
     limit: u32,
-) -> Result<bool, AllocError>
+) -> Result<Option<bool>, AllocError>
     requires asked { CanBeAsked boot.now.state goal.now }
     requires some { 0 < limit }
-    ensures { IfOk result (λ hangs. MatchBool hangs
-        (IsHungAt (asked_of boot.now.state goal.now) limit events.now)
-        (IsFreeAt (asked_of boot.now.state goal.now) limit events.now)) }
+    ensures { IfOk result (HangsAlong (asked_of boot.now.state goal.now) limit events.now) }
 {
     let machines = untimed(alloc, boot, goal);
     let mut place = machines.first(alloc)?;
     match walk_along(&machines, &mut place, events)? {
-        Walk::Went => hangs_from(alloc, boot, goal, events, &place, limit),
-        Walk::Refused => Err(AllocError),
-        Walk::Over => Err(AllocError),
+        Walk::Refused => Ok(None),
+        Walk::Over => Ok(None),
+        Walk::Went => Ok(Some(hangs_from(alloc, boot, goal, events, &place, limit)?)),
     }
 }
 
@@ -117,6 +115,7 @@ fn least_hang<'a, T: Tlb + Drop, D: Console + Drop>(
 ) -> Result<usize, AllocError>
     requires asked { CanBeAsked boot.now.state goal.now }
     requires some { 0 < limit }
+    requires goes { GoesAlong (asked_of boot.now.state goal.now) events.now }
     requires hangs { IsHungAt (asked_of boot.now.state goal.now) limit events.now }
     ensures { IfOk result (IsLeastHang (asked_of boot.now.state goal.now) limit events.now) }
 {
@@ -124,7 +123,10 @@ fn least_hang<'a, T: Tlb + Drop, D: Console + Drop>(
     let mut high = events.len();
     while low < high {
         let middle = low + (high - low) / 2;
-        if hangs_behind(alloc, boot, goal, &events[..middle], limit)? {
+        let Some(hangs) = hangs_along(alloc, boot, goal, &events[..middle], limit)? else {
+            unreachable!()
+        };
+        if hangs {
             high = middle;
         } else {
             low = middle + 1;
@@ -152,14 +154,10 @@ pub fn first_hang<'a, T: Tlb + Drop, D: Console + Drop>(
         (HangsNowhere (asked_of boot.now.state goal.now) limit events.now)
         (IsFirstHang (asked_of boot.now.state goal.now) limit events.now)) }
 {
-    let machines = untimed(alloc, boot, goal);
-    let mut place = machines.first(alloc)?;
-    match walk_along(&machines, &mut place, events)? {
-        Walk::Refused => return Ok(None),
-        Walk::Over => return Ok(None),
-        Walk::Went => {}
-    }
-    if !hangs_from(alloc, boot, goal, events, &place, limit)? {
+    let Some(hangs) = hangs_along(alloc, boot, goal, events, limit)? else {
+        return Ok(None);
+    };
+    if !hangs {
         return Ok(None);
     }
     Ok(Some(least_hang(alloc, boot, goal, events, limit)?))

@@ -1,10 +1,10 @@
-use Rattle.std.specs.Prelude.{◌≡◌, ℕ, ◌<◌, ◌≤◌, ◌+◌, Bool, true, false, List, length, take, None, Some}
+use Rattle.std.specs.Prelude.{◌≡◌, ℕ, ◌<◌, ◌+◌, Bool, true, false, MatchBool, List, length, Option, None, Some}
 use Rattle.m161_explore.specs.Lists.{Leads}
 use Rattle.m161_states.specs.Question.{Question, processors_of}
 use Rattle.m161_states.specs.System.{Explored, next, start}
 use Rattle.m161_reach.specs.declared.walk.Walk.{Walk}
 use Rattle.m161_reach.specs.declared.walk.Walk.TheVariants.{Refused, Over, Went}
-use Rattle.m161_reach.specs.Hangs.{IsFreeAt, IsHungAt, IsOverAt}
+use Rattle.m161_reach.specs.Hangs.{EndsEarly, GoesAlong, IsFreeAt, IsHungAt, IsOverAt}
 use Rattle.m161_reach.specs.Reach.{rules_of}
 use Rattle.m161_reach.specs.helpers.Advance.{unmade}
 
@@ -29,8 +29,8 @@ Walks q events t Refused = (x : Explored) → Leads (rules_of q) (start q) event
 Walks q events t Over = (n : ℕ) × IsOverAt q events n
 Walks q events t Went = LeadsTo q events t × GoesOnBelow q events (length events + 1)
 
--- the first n events of a list are the least that hang
-pub record IsLeastHang (q : Question) (limit : ℕ) (events : List ℕ) (n : ℕ) : Type 0 where
-  pub within : n ≤ length events
-  pub hangs : IsHungAt q limit (take n events)
-  pub first : (k : ℕ) → k < n → IsFreeAt q limit (take k events)
+-- a list ends early; or it doesn't, and hangs or not
+abbrev pub HangsAlong : Question → ℕ → List ℕ → Option Bool → Type 0
+HangsAlong q limit events None = EndsEarly q events
+HangsAlong q limit events (Some hangs) =
+    GoesAlong q events × MatchBool hangs (IsHungAt q limit events) (IsFreeAt q limit events)
