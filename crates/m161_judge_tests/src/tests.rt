@@ -2,6 +2,7 @@
 
 mod kernels;
 mod lists;
+mod refused;
 mod runs;
 
 use std::fmt::Debug;

@@ -1,4 +1,5 @@
-use Rattle.std.proofs.Common.{◌≡◌, ◌∙◌, refl, ap, sym, subst, ℕ, ◌+◌, arith, nat_tests, false, List, [], ◌∷◌, length, Option, None, Some, Result, Ok, Err}
+use Rattle.std.proofs.Common.{◌≡◌, ◌∙◌, refl, ap, sym, subst, ℕ, ◌+◌, arith, false, List, [], ◌∷◌, length, Option, None, Some, Result, Ok, Err}
+use Rattle.std.proofs.lemmas.Bool.Decides.{nat_tests}
 use Rattle.m161_cpu.specs.declared.processor.Outcome.{Outcome}
 use Rattle.m161_machine.specs.declared.event.Event.{Event}
 use Rattle.m161_machine.specs.declared.event.Refusal.{Refusal}
@@ -60,30 +61,33 @@ Reaches q ns s x y =
 first_made : (q : Question) (ns : List ℕ) (s : State) (x u y : Explored) (e : Event) (m : IsMade x u s e) → Reaches q ns m.given.1 u y →
     (t : State) × (after s (e ∷ events_named (processors_of q) q.goal.keys (typed_after e x.typed) ns) ≡ Some t) × (fresh t ≡ fresh y.state)
 first_made q ns s x u y e m rest =
-    let named = λ typed. events_named (processors_of q) q.goal.keys typed ns in (
+    let named : ℕ → List Event = λ typed. events_named (processors_of q) q.goal.keys typed ns in (
       rest.0,
       ap (λ r. going_on r (λ t. after t (named (typed_after e x.typed)))) m.accepts
           ∙ ap (λ typed. after m.given.1 (named typed)) (sym m.typed) ∙ rest.1,
       rest.2,
     )
 
+by_event : FreshIsSame → (q : Question) (ns : List ℕ) (s : State) (x u y : Explored) → is_worn (s.made + (length ns + 1)) ≡ false → fresh s ≡ fresh x.state →
+    ((t : State) → is_worn (t.made + length ns) ≡ false → fresh t ≡ fresh u.state → Reaches q ns t u y) → (found : Option Event) → next_by q.goal x found ≡ Some u →
+    (t : State) × (after s (with_event found (λ e. events_named (processors_of q) q.goal.keys (typed_after e x.typed) ns)) ≡ Some t) × (fresh t ≡ fresh y.state)
+by_event law q ns s x u y few same rest None next = absurd (let bad : ◌≡◌ {A = Option Explored} None (Some u) = next in cc)
+by_event law q ns s x u y few same rest (Some e) next =
+    let m = made law q.goal x u s e (not_worn s.made (length ns) few) same next in
+    let count = one_more s e m.given m.accepts in
+    let few_on : is_worn (m.given.1.made + length ns) ≡ false =
+    subst (λ k. is_worn k ≡ false) (let is : s.made + (length ns + 1) ≡ m.given.1.made + length ns = omega (arith, count) in is) few in
+    first_made q ns s x u y e m (rest m.given.1 few_on m.same)
+
 from_on : FreshIsSame → (q : Question) (ns : List ℕ) (s : State) (x y : Explored) → is_worn (s.made + length ns) ≡ false → fresh s ≡ fresh x.state →
     Leads (rules_of q) x ns y → Reaches q ns s x y
 unfolding rules_of
 from_on law q [] s x y few same h = (s, refl, same ∙ ap (λ (z : Explored). fresh z.state) (sym h))
-from_on law q (n ∷ ns) s x y few same h = by_event (event_named (processors_of q) q.goal.keys x.typed n) h.2
-  where
-    few_now : is_worn (s.made + (length ns + 1)) ≡ false
-    few_now = subst (λ k. is_worn k ≡ false) (let is : s.made + length (n ∷ ns) ≡ s.made + (length ns + 1) = omega arith in is) few
-    by_event : (found : Option Event) → next_by q.goal x found ≡ Some h.0 →
-        (t : State) × (after s (with_event found (λ e. events_named (processors_of q) q.goal.keys (typed_after e x.typed) ns)) ≡ Some t) × (fresh t ≡ fresh y.state)
-    by_event None next = absurd (let bad : ◌≡◌ {A = Option Explored} None (Some h.0) = next in cc)
-    by_event (Some e) next =
-        let m = made law q.goal x h.0 s e (not_worn s.made (length ns) few_now) same next in
-        let count = one_more s e m.given m.accepts in
-        let few_on : is_worn (m.given.1.made + length ns) ≡ false =
-        subst (λ k. is_worn k ≡ false) (let is : s.made + (length ns + 1) ≡ m.given.1.made + length ns = omega (arith, count) in is) few_now in
-        first_made q ns s x h.0 y e m (from_on law q ns m.given.1 h.0 y few_on m.same h.3)
+from_on law q (n ∷ ns) s x y few same h =
+    let few_now : is_worn (s.made + (length ns + 1)) ≡ false =
+    subst (λ k. is_worn k ≡ false) (let is : s.made + length (n ∷ ns) ≡ s.made + (length ns + 1) = omega arith in is) few in
+    by_event law q ns s x h.0 y few_now same (λ t few_t same_t. from_on law q ns t h.0 y few_t same_t h.3)
+    (event_named (processors_of q) q.goal.keys x.typed n) h.2
 
 pub named_are_made : FreshIsSame → NamedAreMade
 named_are_made law q numbers x few leads =

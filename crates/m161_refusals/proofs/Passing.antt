@@ -1,4 +1,4 @@
-use Rattle.std.proofs.Common.{◌≡◌, ◌≢◌, ◌∙◌, ◌⊎◌, inl, inr, refl, ap, sym, subst, arith, ℕ, ◌+◌, ◌-◌, ◌<◌, ◌≤◌, true, false, List, [], ◌∷◌, ◌++◌, append-nil, append_assoc, length, take, replicate, Option, None, Some, Result, Ok, Err}
+use Rattle.std.proofs.Common.{◌≡◌, ◌≢◌, ◌∙◌, ◌⊎◌, inl, inr, refl, ap, sym, arith, ℕ, ◌+◌, ◌-◌, ◌≤◌, true, false, List, [], ◌∷◌, ◌++◌, append-nil, append_assoc, length, take, replicate, Option, None, Some, Result, Ok, Err}
 use Rattle.std.proofs.lemmas.List.{length-append, length-replicate, replicate-append-replicate, take_all}
 use Rattle.std.proofs.Math.Seq.{take-append_seam}
 use Rattle.m161_cpu.specs.declared.processor.Outcome.{Outcome}
@@ -9,7 +9,7 @@ use Rattle.m161_machine.specs.History.{Refuses}
 use Rattle.m161_machine.specs.State.{State, next}
 use Rattle.m161_refusals.specs.declared.refusals.Refusals.{Refusals}
 use Rattle.m161_refusals.specs.Refusals.{passed, refusals_from, refusals_in, state_behind, told_of, why_refused, with_refusal}
-use Rattle.m161_refusals.specs.helpers.Passing.{IsWithin, Passes}
+use Rattle.m161_refusals.specs.helpers.Passing.{Passes}
 
 -- Going along a list of events.
 
@@ -42,11 +42,11 @@ pub passes_more : (s t u : State) (xs ys : List Event) (n m : ℕ) (a b c : Opti
 passes_more s t u xs ys n m a b c place h k = (
   k.0 ∙ ap (λ v. passed v ys) h.0 ∙ sym (passed_append s xs ys),
   λ rs told.
-    let first = refusals_from n s xs in
-    k.1 (rs ++ first) (h.1 rs told)
-    ∙ (λ i. told_of ((rs ++ first) ++ refusals_from (place i) (h.0 i) ys))
-    ∙ ap told_of (append_assoc rs first (refusals_from (n + length xs) (passed s xs) ys))
-    ∙ ap (λ l. told_of (rs ++ l)) (sym (refusals_append n s xs ys)),
+      let first = refusals_from n s xs in
+      k.1 (rs ++ first) (h.1 rs told)
+      ∙ (λ i. told_of ((rs ++ first) ++ refusals_from (place i) (h.0 i) ys))
+      ∙ ap told_of (append_assoc rs first (refusals_from (n + length xs) (passed s xs) ys))
+      ∙ ap (λ l. told_of (rs ++ l)) (sym (refusals_append n s xs ys)),
 )
 
 -- an event that is accepted
@@ -131,7 +131,8 @@ made_none s events n = record {
 module _ (s t u : State) (events left after : List Event) (n done times made : ℕ) (e : Event) (a b : Option Refusals) (m : IsMade s t events left n done a) where
   passes_on : Passes t (replicate made e) done a u b → Passes s (m.before ++ replicate made e) 0 None u b
   passes_on h =
-      let place : done ≡ 0 + length m.before = m.done_is in
+      let d = m.done_is in
+      let place : done ≡ 0 + length m.before = omega (arith, d) in
       passes_more s t u m.before (replicate made e) 0 done None a b place m.passes h
 
   long : length (m.before ++ replicate made e) ≡ done + made
@@ -170,8 +171,8 @@ module _ (s t u : State) (events left after : List Event) (n done times made : �
       }
 
   none : made ≡ 0 → length m.before ≡ n → Passes t (replicate made e) done a u b → IsMade s u events after n (done + made) b
-  none no full h =
-      let same : m.before ++ replicate made e ≡ m.before = ap (λ k. m.before ++ replicate k e) no ∙ append-nil m.before in
+  none zero_is full h =
+      let same : m.before ++ replicate made e ≡ m.before = ap (λ k. m.before ++ replicate k e) zero_is ∙ append-nil m.before in
       record {
         before = m.before ++ replicate made e;
         rest = m.rest;
@@ -195,12 +196,12 @@ module _ (s t u : State) (events left after : List Event) (n done times made : �
 -- all of them were made
 pub made_all : (s t : State) (events left : List Event) (n done : ℕ) (found : Option Refusals) → left ≡ [] → IsMade s t events left n done found →
     found ≡ refusals_in s events n
-made_all s t events left n done found no m =
+made_all s t events left n done found empty m =
     let told = m.passes.1 [] refl in
     told ∙ ap (λ es. told_of (refusals_from 0 s es)) (first m.left_is)
   where
     first : (m.rest ≡ left) ⊎ (length m.before ≡ n) → m.before ≡ take n events
     first (inl rest) =
-        let all : events ≡ m.before = m.parts ∙ ap (λ l. m.before ++ l) (rest ∙ no) ∙ append-nil m.before in
+        let all : events ≡ m.before = m.parts ∙ ap (λ l. m.before ++ l) (rest ∙ empty) ∙ append-nil m.before in
         sym all ∙ sym (take_all n events (let l = ap length all in let f = m.few in omega (arith, l, f)))
     first (inr full) = sym (take-append_seam m.before m.rest) ∙ (λ i. take (full i) (sym m.parts i))

@@ -1,6 +1,6 @@
 //! Events that are refused.
 
-ghost use Rattle.std.specs.Prelude.{◌≡◌, ◌+◌, ◌<◌, ◌≤◌, ◌^◌, ℕ, List, [], ◌∷◌, ◌++◌, IfOk, Some, if◌then◌else◌, nat_lt, replicate};
+ghost use Rattle.std.specs.Prelude.{◌≡◌, ◌⊎◌, ◌+◌, ◌<◌, ◌≤◌, ◌^◌, ℕ, List, [], ◌∷◌, ◌++◌, IfOk, Some, replicate};
 ghost use Rattle.m161_machine.specs.declared.event.Refusal.{Refusal as RefusalValue};
 ghost use Rattle.m161_refusals.specs.Refusals.{refusals_in, told_of};
 ghost use Rattle.m161_refusals.specs.helpers.Passing.{IsWithin, Passes};
@@ -91,7 +91,8 @@ fn pass_run<T: Tlb, D: Console>(
 
 // The lesser of two numbers.
 fn least(a: usize, b: usize) -> usize
-    ensures { result ≡ if nat_lt a b then a else b }
+    ensures at_most { (result ≤ a) × (result ≤ b) }
+    ensures one { (result ≡ a) ⊎ (result ≡ b) }
 {
     if a < b { a } else { b }
 }

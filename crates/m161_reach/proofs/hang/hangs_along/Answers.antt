@@ -24,11 +24,11 @@ hangs_from-requires-clause-from g c =
     c.in_ok-walk_along.ensures in
     leads_origin q c.args.events.now t walked.0
 
-pub returns-in-Went : goal.returns-in-Went
-returns-in-Went g c =
+pub returns : goal.returns
+returns g c =
     let q = asked_of c.args.boot.now.state c.args.goal.now in
     let t = c.walk_along.new.place in
     let es = c.args.events.now in
     let walked = walks_at q c.untimed-machines.result es t c.in_ok-walk_along.field-0 walks.Went c.untimed-machines.ensures c.in-Went.is
     c.in_ok-walk_along.ensures in
-    (goes_along q es t walked.0 walked.1, hangs_here q c.args.limit es t c.in_ok-hangs_from.field-0 walked.0 c.in_ok-hangs_from.ensures)
+    (goes_along q es t walked.0 walked.1, hangs_here q c.args.limit es t c.in_ok-hangs_from-in-Went.field-0 walked.0 c.in_ok-hangs_from-in-Went.ensures)

@@ -1,1 +1,0 @@
-use Rattle.m161_reach.proofs.hang.first_hang.Goals as goal
