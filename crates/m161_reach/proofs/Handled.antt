@@ -1,5 +1,4 @@
-use Rattle.std.proofs.Common.{◌≡◌, ◌≢◌, ◌⊎◌, inl, inr, ◌∙◌, refl, ap, sym, subst, ℕ, ◌<◌, arith, List, [], length, Option, None, Some}
-use Rattle.std.specs.Prelude.{IfOk}
+use Rattle.std.proofs.Common.{◌≡◌, ◌⊎◌, inl, inr, ◌∙◌, ap, sym, subst, ℕ, ◌<◌, arith, List, [], length, Option}
 use Rattle.m161_cpu.specs.Processor.{Processor}
 use Rattle.m161_machine.specs.State.{State}
 use Rattle.m161_machine.specs.declared.event.Event.{Event}
@@ -8,13 +7,12 @@ use Rattle.m161_explore.specs.declared.system.Advanced.{Advanced}
 use Rattle.m161_explore.specs.declared.system.Advanced.TheVariants.{Refused, Passed, Judged, Stopped}
 use Rattle.m161_states.specs.declared.verdict.Unknown.{Unknown}
 use Rattle.m161_states.specs.declared.verdict.Verdict.{Verdict}
-use Rattle.m161_states.specs.Question.{Question, booted}
+use Rattle.m161_states.specs.Question.{Question}
 use Rattle.m161_states.specs.Shape.{IsShaped}
 use Rattle.m161_states.specs.System.{Explored, event_of, fresh, start}
 use Rattle.m161_states.specs.Views.{view}
 use Rattle.m161_reach.specs.Met.{met_start}
 use Rattle.m161_reach.specs.Reach.{IsMet, rules_of}
-use Rattle.m161_reach.specs.Hand.{InHand, IsReady}
 use Rattle.m161_reach.specs.helpers.Advance.{AdvancesBy, IsBehind, asked}
 use Rattle.m161_reach.specs.helpers.Handling.{IsHandled}
 use Rattle.m161_reach.specs.helpers.Restore.{again}

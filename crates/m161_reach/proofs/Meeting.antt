@@ -12,7 +12,7 @@ use Rattle.m161_states.specs.Question.{Question, processors_of}
 use Rattle.m161_states.specs.System.{Explored, event_of, next_by}
 use Rattle.m161_states.specs.Verdicts.{stop_by}
 use Rattle.m161_reach.specs.Reach.{IsMet, rules_of}
-use Rattle.m161_reach.specs.helpers.Advance.{AdvancesBy, IsBehind, asked, unmade}
+use Rattle.m161_reach.specs.helpers.Advance.{AdvancesBy, IsBehind, asked}
 use Rattle.m161_reach.specs.Met.{met_next}
 use Rattle.m161_reach.specs.helpers.MetFrom.{unmade_met}
 

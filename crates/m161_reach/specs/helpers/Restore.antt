@@ -1,5 +1,4 @@
-use Rattle.std.specs.Prelude.{◌≡◌, ℕ, ◌+◌, ◌*◌, ◌<◌, ◌≤◌, ◌==◌, if◌then◌else◌, List, drop, length, map, slice_index, take, Option, None, Some}
-use Rattle.std.specs.List.{range_with_len}
+use Rattle.std.specs.Prelude.{◌≡◌, ℕ, ◌+◌, ◌*◌, ◌<◌, ◌≤◌, ◌==◌, if◌then◌else◌, List, drop, length, slice_index, take, Option, None, Some}
 use Rattle.m161_cpu.specs.Processor.{Processor}
 use Rattle.m161_machine.specs.State.{State, processor_at}
 use Rattle.m161_alike.specs.declared.known.Known.{Known}
@@ -9,7 +8,6 @@ use Rattle.m161_alike.specs.RestoredBoard.{HasParts}
 use Rattle.m161_alike.specs.View.{board_view, known_of, processor_view}
 use Rattle.m161_alike.specs.Words.{HasSizes, processor_words}
 use Rattle.m161_alike.specs.WordsLaw.{words_at}
-use Rattle.m161_states.specs.Question.{Question}
 use Rattle.m161_states.specs.System.{Explored, Flags}
 
 -- A state that is made anew from the words of its view.

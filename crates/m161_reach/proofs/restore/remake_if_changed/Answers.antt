@@ -1,12 +1,10 @@
-use Rattle.std.proofs.Common.{◌≡◌, ◌≢◌, ◌∙◌, ap, refl, sym, subst, ◌+◌, ◌-◌, ◌<◌, ◌≤◌, arith, List, ℕ, length, take, drop, get_or-set_other, get_or-set_same}
+use Rattle.std.proofs.Common.{◌≡◌, ◌∙◌, ap, refl, sym, subst, ◌+◌, ◌-◌, arith, length, take, drop, get_or-set_other, get_or-set_same}
 use Rattle.std.proofs.lemmas.List.{length-set}
 use Rattle.m161_cpu.specs.Processor.{Processor, stopped_processor}
-use Rattle.m161_cpu.specs.Restore.{restored_processor}
 use Rattle.m161_machine.specs.State.{State, processor_at}
-use Rattle.m161_alike.specs.Restored.{processor_in, rows_in, with_ticks}
+use Rattle.m161_alike.specs.Restored.{with_ticks}
 use Rattle.m161_alike.specs.View.{processor_view}
 use Rattle.m161_alike.specs.Words.{HasSizes, processor_words}
-use Rattle.m161_reach.specs.helpers.Restore.{IsAsIn, with_processors}
 use Rattle.m161_reach.proofs.Encoding.{on_ok}
 use Rattle.m161_reach.proofs.Remaking.{ticks_viewed}
 use Rattle.m161_reach.proofs.restore.remake_if_changed.Goals as goal

@@ -1,4 +1,4 @@
-use Rattle.std.proofs.Common.{◌≡◌, ◌≢◌, ◌∙◌, ap, inl, inr, sym, subst, ◌+◌, ◌*◌, ◌<◌, ◌≤◌, arith, List, ℕ, length, take, drop}
+use Rattle.std.proofs.Common.{◌≡◌, ◌∙◌, ap, inl, inr, sym, subst, ◌<◌, arith, ℕ, length}
 use Rattle.std.proofs.lemmas.Bool.{cases_lt}
 use Rattle.m161_cpu.specs.Processor.{Processor, stopped_processor}
 use Rattle.m161_machine.specs.State.{State, processor_at}

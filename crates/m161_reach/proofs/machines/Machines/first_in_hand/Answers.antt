@@ -1,6 +1,6 @@
-use Rattle.std.proofs.Common.{◌≡◌, ◌∙◌, ap, sym, subst, arith, ℕ, List, [], length}
+use Rattle.std.proofs.Common.{ap, sym, subst, arith, ℕ, List, [], length}
 use Rattle.m161_states.specs.Question.{booted}
-use Rattle.m161_states.specs.System.{Explored, start}
+use Rattle.m161_states.specs.System.{Explored}
 use Rattle.m161_alike.specs.Addresses.{Cover}
 use Rattle.m161_alike.proofs.Covering.{cover_none}
 use Rattle.m161_reach.proofs.Handled.{first_met}

@@ -1,16 +1,12 @@
 use Rattle.std.proofs.Common.{◌≡◌, ◌∙◌, ap, refl, sym, subst, arith, ◌++◌, ◌+◌, ◌*◌, ◌<◌, ℕ, List, length}
 use Rattle.std.proofs.lemmas.List.{length-append}
-use Rattle.m161_machine.specs.State.{State}
 use Rattle.m161_judge.specs.Verdict.{Criteria}
 use Rattle.m161_alike.specs.Addresses.{Cover, addresses_in}
 use Rattle.m161_alike.specs.Words.{memory_words}
 use Rattle.m161_alike.proofs.Covering.{cover_told}
-use Rattle.m161_alike.specs.WordsLaw.{AreOfOneConf}
 use Rattle.m161_states.specs.Question.{Question, booted, processors_of}
-use Rattle.m161_states.specs.Shape.{IsShaped}
 use Rattle.m161_states.specs.System.{Explored, fresh, start}
 use Rattle.m161_states.specs.Views.{beside_words, counted, view}
-use Rattle.m161_states.proofs.Shapes.{valid_start}
 use Rattle.m161_reach.specs.helpers.Restore.{AreWordsFrom}
 use Rattle.m161_reach.specs.Reach.{IsMet}
 use Rattle.m161_reach.proofs.Asked.{bytes_are, processors_are}
