@@ -5,9 +5,9 @@ ghost use Rattle.m161_alike.specs.Addresses.{Cover};
 
 use m161::Core;
 use m161_alike::{
-    Known, Reads, add_address, is_board_bounded, is_bounded, next_reads, read_board, read_memory,
-    read_addresses, read_processor, scan_memory, words_tell_their_addresses, write_board, write_memory,
-    write_processor,
+    Known, Reads, add_address, is_board_bounded, is_bounded, next_reads, read_addresses,
+    read_board, read_memory, read_processor, scan_memory, words_tell_their_addresses, write_board,
+    write_memory, write_processor,
 };
 use m161_machine::{Conf, LinkUnit};
 use m161_test_support::files::file_from;

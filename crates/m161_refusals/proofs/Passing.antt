@@ -8,8 +8,8 @@ use Rattle.m161_machine.specs.declared.event.Refusal.TheVariants.{NoMemory}
 use Rattle.m161_machine.specs.History.{Refuses}
 use Rattle.m161_machine.specs.State.{State, next}
 use Rattle.m161_refusals.specs.declared.refusals.Refusals.{Refusals}
-use Rattle.m161_refusals.specs.Refusals.{passed, refusals_from, refusals_in, state_behind, told_of, why_refused, with_refusal}
-use Rattle.m161_refusals.specs.helpers.Passing.{Passes}
+use Rattle.m161_refusals.specs.Refusals.{refusals_from, refusals_in, state_behind, told_of, why_refused, with_refusal}
+use Rattle.m161_refusals.specs.helpers.Passing.{Passes, passed}
 
 -- Going along a list of events.
 

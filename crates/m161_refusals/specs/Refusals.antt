@@ -12,11 +12,6 @@ abbrev pub state_behind : State → Result (Outcome × State) Refusal → State
 state_behind s (Ok given) = given.1
 state_behind s (Err why) = s
 
--- the state behind events
-abbrev pub passed : State → List Event → State
-passed s [] = s
-passed s (e ∷ es) = passed (state_behind s (next s e)) es
-
 -- why an event is refused, if it is, and the machine is on
 abbrev pub why_refused : State → Result (Outcome × State) Refusal → Option Refusal
 why_refused s (Ok given) = None

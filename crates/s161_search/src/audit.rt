@@ -187,7 +187,9 @@ fn note_line(alloc: Global, refused: Refusals) -> Result<String, AllocError>
         place: refused.place,
         refusal: refused.refusal,
     };
-    format!(in alloc; "s161: note refused {count} {first} (so many events were refused; the first, at this place)\n")
+    format!(in alloc;
+        "s161: note refused {count} {first} (so many events were refused; the first, at this place)\n"
+    )
 }
 
 // What is said on standard error of an audit.

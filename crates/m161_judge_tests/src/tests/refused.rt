@@ -40,7 +40,13 @@ const MIXED: &str = "s 0 2\ns 1 3\no\ns 0\n";
 fn refused_events_are_counted(rt: HostRuntime) -> Result<(), Fail> {
     check(&rt, &LOOP, MIXED, 7, refused(4, 2, Refusal::BadProcessor))?;
     check(&rt, &LOOP, MIXED, 100, refused(4, 2, Refusal::BadProcessor))?;
-    check(&rt, &LOOP, "o\ns 1 2\n", 3, refused(3, 0, Refusal::NothingSent))
+    check(
+        &rt,
+        &LOOP,
+        "o\ns 1 2\n",
+        3,
+        refused(3, 0, Refusal::NothingSent),
+    )
 }
 
 #[test]
@@ -57,5 +63,11 @@ fn a_machine_that_is_off_refuses_nothing_more(rt: HostRuntime) -> Result<(), Fai
     let schedule = "s 0 3\no\ns 0 7\no\ns 0 9\ns 1 5\nk 41\n";
     check(&rt, &HELLO, schedule, 27, None)?;
     let schedule = "s 0 3\no\ns 1 2\ns 0 7\no\ns 0 9\ns 1 5\n";
-    check(&rt, &HELLO, schedule, 28, refused(2, 4, Refusal::BadProcessor))
+    check(
+        &rt,
+        &HELLO,
+        schedule,
+        28,
+        refused(2, 4, Refusal::BadProcessor),
+    )
 }

@@ -52,5 +52,11 @@ returns-in_err-send-clause-fault g c =
     let made = err_from_is_err_and c.from_residual-in_err-send.result c.from_residual-in_err-send.ensures.1 in
     let line : c.as_bytes.result.now ≡ with_line_end (stop_line c.in_ok-stop.stop) = search rules in
     rw (made.1, made.2)
-    (inr (c.in_ok-stop.stop, c.in_ok-stop.ensures.ok, inr (c.in_err-send.ensures.err.0,
-    subst (AppendsSome (g.E.Write.contents c.args.errors.now) (g.E.Write.contents c.send.new.output)) line c.in_err-send.ensures.err.1)))
+    (inr (
+      c.in_ok-stop.stop,
+      c.in_ok-stop.ensures.ok,
+      inr (
+        c.in_err-send.ensures.err.0,
+        subst (AppendsSome (g.E.Write.contents c.args.errors.now) (g.E.Write.contents c.send.new.output)) line c.in_err-send.ensures.err.1,
+      ),
+    ))
