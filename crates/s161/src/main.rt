@@ -9,13 +9,15 @@
 //!                         and no schedule is read; with an order a policy chooses the events
 //! s161 console IMAGE      runs an ELF file by a policy, with the terminal as its console
 //! s161 schedule IMAGE     prints the events that a policy chooses
-//! s161 search IMAGE       looks for a seed whose run goes wrong, and prints a schedule of it
+//! s161 search IMAGE       looks for a seed or a list of delays whose run goes wrong, and prints a schedule
+//!                         of it
 //! s161 explore IMAGE      looks at every state that any order of events can reach
 //! s161 replay IMAGE LOG   boots an ELF file, makes the events of a log, and prints whether their
 //!                         outcomes are the log's
 //! s161 trace IMAGE        prints a line for each event of a run
 //! s161 debug IMAGE [FILE] boots an ELF file, and executes debugger commands from standard input over
 //!                         the events of a schedule, of a log, or of an order
+//! s161 gdb IMAGE [FILE]   answers a client of GDB's protocol, over the same events
 //! s161 audit IMAGE WATCHES
 //!                         looks for a stale use of the TLB under the schedule on standard input
 //! s161 as                 assembles the text on standard input, and writes its ELF file to

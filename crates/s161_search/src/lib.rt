@@ -1,6 +1,6 @@
 //! The commands that look for what goes wrong: `audit`, which finds stale uses of the TLB in a run;
-//! `search`, which looks for a seed whose run goes wrong, and prints its schedule, shortened; and
-//! `explore`, which looks at every state that any order of events can reach.
+//! `search`, which looks for a seed or a list of delays whose run goes wrong, and prints its schedule,
+//! shortened; and `explore`, which looks at every state that any order of events can reach.
 #![tactic(auto)]
 
 mod again;

@@ -65,8 +65,8 @@ where
 /// exploration, or help; 1 for a fault, or a refused event of a run; 2 for a command line that isn't
 /// followed; 3 if the schedule, the events or the Steps of the threads ended; 4 for a log that differs, a
 /// stale use, a run that goes wrong in a search or an exploration, or a conflict that switched a strict
-/// machine off; 5 if a policy is stuck; 6 if an exploration finds more states than it may. The output is complete in memory before it is written, but for that of `console`, `trace`,
-/// `debug` and `gdb`.
+/// machine off; 5 if a policy is stuck; 6 if an exploration finds more states than it may. The output is
+/// complete in memory before it is written, but for that of `console`, `trace`, `debug` and `gdb`.
 pub fn work<A, S, F, I, O, E>(
     rt: &A,
     words: &[S],
