@@ -66,6 +66,13 @@ pub(crate) fn ram_size<T: Tlb, D: Console>(place: &Place<T, D>) -> usize
     place.core.memory().len()
 }
 
+/// Whether the console can't have sent a byte.
+fn refuses_done<T: Tlb, D: Console>(place: &Place<T, D>) -> bool
+    ensures { result ≡ true → (refusal : Refusal) × (result_of (fresh place.now.state) events.Done ≡ Err refusal) }
+{
+    place.core.latch().is_none()
+}
+
 impl<'a, T: Tlb + Drop, D: Console + Drop> Machines<'a, T, D> {
     /// The machine that is at boot, and what is asked of it, with this known of time.
     pub fn new(
@@ -165,6 +172,23 @@ impl<'a, T: Tlb + Drop, D: Console + Drop> Machines<'a, T, D> {
             place.core.uses(event).stored
         } else {
             None
+        }
+    }
+
+    /// Whether an input is refused: the console has nothing to send, or no key is left. Of a Step nothing is
+    /// said before it is made.
+    pub fn refuses(&self, place: &Place<T, D>, event: u32) -> bool
+        requires { IsMet self.now place.now }
+        ensures { result ≡ true → (stop self.now place.now event ≡ None) × (next self.now place.now event ≡ None) }
+    {
+        self.boot.law();
+        let processors = self.boot.processors();
+        if event < processors {
+            false
+        } else if event == processors {
+            refuses_done(place)
+        } else {
+            place.typed as usize >= self.goal.keys.len()
         }
     }
 
