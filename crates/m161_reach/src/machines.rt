@@ -1,18 +1,18 @@
 //! What is explored.
 
-ghost use Rattle.std.specs.Prelude.{◌≡◌, ◌+◌, ◌<◌, ◌++◌, IfOk, OnOk, length};
+ghost use Rattle.std.specs.Prelude.{◌≡◌, ◌+◌, ◌<◌, ◌++◌, IfOk, None, OnOk, length, true};
 ghost use Rattle.m161_explore.specs.Rules.{Advances};
 ghost use Rattle.m161_alike.specs.Addresses.{Cover};
 ghost use Rattle.m161_states.specs.Question.{booted, processors_of};
-ghost use Rattle.m161_states.specs.System.{Explored, agreed_at_boot, start};
-ghost use Rattle.m161_states.specs.Verdicts.{is_end};
+ghost use Rattle.m161_states.specs.System.{Explored, agreed_at_boot, next, start};
+ghost use Rattle.m161_states.specs.Verdicts.{is_end, stop};
 ghost use Rattle.m161_states.specs.Views.{view};
 ghost use Rattle.m161_judge.specs.Judge.{bytes_of};
 ghost use Rattle.m161_reach.specs.Reach.{CanBeAsked, IsMet, question_of, rules_of};
 ghost use Rattle.m161_reach.specs.Hand.{IsReady};
 ghost use Rattle.m161_reach.specs.helpers.Handling.{IsHandled, stored_at};
 
-use crate::advance::{advance_done, advance_key, advance_step};
+use crate::advance::{advance_done, advance_key, advance_step, has_no_key, refuses_done};
 use crate::encode::{push_beside, push_board, push_processors};
 use crate::hand::{Hand, are_kept, forget, keep_words, note_store};
 use crate::judge::is_end_of;
@@ -64,13 +64,6 @@ pub(crate) fn ram_size<T: Tlb, D: Console>(place: &Place<T, D>) -> usize
     ensures { result ≡ length place.now.state.memory }
 {
     place.core.memory().len()
-}
-
-/// Whether the console can't have sent a byte.
-fn refuses_done<T: Tlb, D: Console>(place: &Place<T, D>) -> bool
-    ensures { result ≡ true → (refusal : Refusal) × (result_of (fresh place.now.state) events.Done ≡ Err refusal) }
-{
-    place.core.latch().is_none()
 }
 
 impl<'a, T: Tlb + Drop, D: Console + Drop> Machines<'a, T, D> {
@@ -188,7 +181,7 @@ impl<'a, T: Tlb + Drop, D: Console + Drop> Machines<'a, T, D> {
         } else if event == processors {
             refuses_done(place)
         } else {
-            place.typed as usize >= self.goal.keys.len()
+            has_no_key(self.goal, place)
         }
     }
 
