@@ -1,4 +1,3 @@
-use Rattle.std.proofs.Common.{◌≤◌}
 use Rattle.m161_explore.specs.helpers.Visit.{AreRefused}
 use Rattle.m161_explore.proofs.search.events_to_try.Given as goal
 
