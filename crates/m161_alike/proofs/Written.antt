@@ -1,7 +1,8 @@
-use Rattle.std.proofs.Common.{◌≡◌, ◌∙◌, refl, ap, sym, subst, ℕ, zero, suc, ◌+◌, ◌*◌, ◌<◌, ◌≤◌, arith, Bool, true, false, List, [], ◌∷◌, ◌++◌, length, take, drop, map, get_or, ext_get_or, append_assoc}
-use Rattle.std.specs.Prelude.{OnErr, flat_map, slice_get, slice_index, Option, None, Some, Result, Ok, Err}
+use Rattle.std.proofs.Common.{◌≡◌, ◌∙◌, refl, ap, sym, subst, ℕ, zero, suc, ◌+◌, ◌*◌, ◌<◌, ◌≤◌, arith, Bool, true, false, List, [], ◌∷◌, ◌++◌, length, take, drop, map, get_or, ext_get_or, append_assoc, length-set}
+use Rattle.std.specs.Prelude.{OnErr, flat_map, slice_get, slice_index, slice_set, Option, None, Some, Result, Ok, Err}
 use Rattle.std.specs.List.{range_with_len}
-use Rattle.std.proofs.lemmas.List.{flat_map_more, length-append, take-take}
+use Rattle.std.proofs.lemmas.List.{flat_map_more, length-append, take-take, take_all}
+use Rattle.std.proofs.lemmas.Grind.{take-set_at}
 use Rattle.std.proofs.lemmas.List.FromFn.{get_or-map-range_with_len, map-range_with_len_more}
 use Rattle.std.proofs.Math.Seq.{take-append_seam}
 use Rattle.m161_tlb.specs.declared.row.Row.{Row as TlbRow}
@@ -48,6 +49,31 @@ numbers_more f before now new n x so_far here is =
     is ∙ ap (λ l. l ++ x ∷ []) so_far ∙ append_assoc before (map f (range_with_len 0 n)) (x ∷ [])
     ∙ ap (λ y. before ++ (map f (range_with_len 0 n) ++ y ∷ [])) here
     ∙ ap (λ l. before ++ l) (sym (map-range_with_len_more f 0 n n (omega arith)))
+
+-- a list that was filled from its begin
+pub numbers_whole : (f : ℕ → ℕ) (xs : List ℕ) (i n : ℕ) → i ≡ n → length xs ≡ n → take i xs ≡ map f (range_with_len 0 i) → xs ≡ map f (range_with_len 0 n)
+numbers_whole f xs i n end size so_far =
+    let P : ℕ → Type 0 = λ k. xs ≡ map f (range_with_len 0 k) in
+    subst P end (sym (take_all i xs (omega (arith, end, size))) ∙ so_far)
+
+pub pieces_whole : (f : ℕ → List ℕ) (xs : List ℕ) (i n : ℕ) → i ≡ n → length xs ≡ 3 * n → take (3 * i) xs ≡ flat_map f (range_with_len 0 i) → xs ≡ flat_map f (range_with_len 0 n)
+pieces_whole f xs i n end size so_far =
+    let P : ℕ → Type 0 = λ k. xs ≡ flat_map f (range_with_len 0 k) in
+    subst P end (sym (take_all (3 * i) xs (omega (arith, end, size))) ∙ so_far)
+
+-- three more words of it
+pub take_three : (xs : List ℕ) (n a b c : ℕ) → n + 3 ≤ length xs →
+    take (n + 3) (slice_set (slice_set (slice_set xs n a) (n + 1) b) (n + 2) c) ≡ take n xs ++ a ∷ b ∷ c ∷ []
+take_three xs n a b c room =
+    let ys : List ℕ = slice_set xs n a in
+    let zs : List ℕ = slice_set ys (n + 1) b in
+    let one : length ys ≡ length xs = length-set xs n a in
+    let two : length zs ≡ length ys = length-set ys (n + 1) b in
+    take-set_at zs (n + 2) (n + 3) c (omega arith) (omega (arith, room, one, two))
+    ∙ ap (λ l. l ++ c ∷ []) (take-set_at ys (n + 1) (n + 2) b (omega arith) (omega (arith, room, one)))
+    ∙ ap (λ l. (l ++ b ∷ []) ++ c ∷ []) (take-set_at xs n (n + 1) a (omega arith) (omega (arith, room)))
+    ∙ ap (λ l. l ++ c ∷ []) (append_assoc (take n xs) (a ∷ []) (b ∷ []))
+    ∙ append_assoc (take n xs) (a ∷ b ∷ []) (c ∷ [])
 
 pub joined : (old mid new xs ys : List ℕ) → mid ≡ old ++ xs → new ≡ mid ++ ys → new ≡ old ++ (xs ++ ys)
 joined old mid new xs ys first second = second ∙ ap (λ l. l ++ ys) first ∙ append_assoc old xs ys

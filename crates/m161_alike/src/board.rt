@@ -118,25 +118,20 @@ fn push_part<T: Tlb, D: Console>(
         core.board_word(BoardWord::Cipi(p)),
     ])?;
     out.extend_from_slice(&optional(core.link(p)))?;
-    push_cram(core, p, out)?;
+    out.extend_from_slice(&cram(core, p))?;
     Ok(())
 }
 
 // The words of a processor's CRAM.
-fn push_cram<T: Tlb, D: Console>(
-    core: &Core<T, D>,
-    p: u32,
-    out: &mut Vec<u32>,
-) -> Result<(), AllocError>
+fn cram<T: Tlb, D: Console>(core: &Core<T, D>, p: u32) -> [u32; 64]
     requires { p < core.now.state.board.processors }
-    ensures ok { OnOk result
-        (out.new.items ≡ out.old.items ++ cram_words (place_of p core.now.state.board)) }
-    ensures err { OnErr result (Begins out.old.items out.new.items) }
+    ensures { result ≡ cram_words (place_of p core.now.state.board) }
 {
+    let mut words = [0; 64];
     for i in 0..64u32 {
-        out.push(core.board_word(BoardWord::Cram(p, i)))?;
+        words[i as usize] = core.board_word(BoardWord::Cram(p, i));
     }
-    Ok(())
+    words
 }
 
 // The typed bytes that wait.

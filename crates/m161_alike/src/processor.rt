@@ -55,28 +55,23 @@ fn push_processor<T: Tlb, D: Console>(
         ++ processor_words (processor_view known (processor_at p core.now.state.processors))) }
     ensures err { OnErr result (Begins out.old.items out.new.items) }
 {
-    push_registers(core, p, out)?;
+    out.extend_from_slice(&registers(core, p))?;
     push_place(core, p, out)?;
     push_control(core, known, p, out)?;
-    push_rows(core, p, out)?;
+    out.extend_from_slice(&rows(core, p))?;
     Ok(())
 }
 
 // The general registers.
-fn push_registers<T: Tlb, D: Console>(
-    core: &Core<T, D>,
-    p: u32,
-    out: &mut Vec<u32>,
-) -> Result<(), AllocError>
+fn registers<T: Tlb, D: Console>(core: &Core<T, D>, p: u32) -> [u32; 32]
     requires { p < length core.now.state.processors }
-    ensures ok { OnOk result
-        (out.new.items ≡ out.old.items ++ register_words (processor_at p core.now.state.processors)) }
-    ensures err { OnErr result (Begins out.old.items out.new.items) }
+    ensures { result ≡ register_words (processor_at p core.now.state.processors) }
 {
+    let mut words = [0; 32];
     for r in 0..32u8 {
-        out.push(core.reg(p, Reg::new(r)))?;
+        words[r as usize] = core.reg(p, Reg::new(r));
     }
-    Ok(())
+    words
 }
 
 // Where it is, and what it is doing.
@@ -170,33 +165,21 @@ fn push_control<T: Tlb, D: Console>(
     ])
 }
 
-// The rows of the TLB.
-fn push_rows<T: Tlb, D: Console>(
-    core: &Core<T, D>,
-    p: u32,
-    out: &mut Vec<u32>,
-) -> Result<(), AllocError>
+// The rows of the TLB. For LLVM: a list that is written here is no part of what the processor is read from,
+// as one that grows could be.
+fn rows<T: Tlb, D: Console>(core: &Core<T, D>, p: u32) -> [u32; 192]
     requires { p < length core.now.state.processors }
-    ensures ok { OnOk result
-        (out.new.items ≡ out.old.items ++ rows_words (processor_at p core.now.state.processors)) }
-    ensures err { OnErr result (Begins out.old.items out.new.items) }
+    ensures { result ≡ rows_words (processor_at p core.now.state.processors) }
 {
+    let mut words = [0; 192];
     for i in 0..64u8 {
-        push_row(core.row(p, i), out)?;
+        let row = core.row(p, i);
+        let first = 3 * i as usize;
+        words[first] = row.page.number();
+        words[first + 1] = row.frame.number();
+        words[first + 2] = row_flags(row);
     }
-    Ok(())
-}
-
-// A row of the TLB.
-fn push_row(row: Row, out: &mut Vec<u32>) -> Result<(), AllocError>
-    ensures ok { OnOk result (out.new.items ≡ out.old.items ++ row_words row) }
-    ensures err { OnErr result (out.new.items ≡ out.old.items) }
-{
-    out.reserve(3)?;
-    out.push_reserved(row.page.number());
-    out.push_reserved(row.frame.number());
-    out.push_reserved(row_flags(row));
-    Ok(())
+    words
 }
 
 // A row's identifier, and its flags below it.

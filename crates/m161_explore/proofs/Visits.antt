@@ -8,6 +8,8 @@ use Rattle.m161_explore.specs.Rules.{Advances, Rules}
 use Rattle.m161_explore.specs.Lists.{HasVerdict, Leads}
 use Rattle.m161_explore.specs.Answers.{IsFound, IsOpen, IsStopped}
 use Rattle.m161_explore.specs.Views.{view_at}
+use Rattle.m161_explore.specs.declared.views.Entry.{Entry}
+use Rattle.m161_explore.specs.helpers.Entering.{Enters}
 use Rattle.m161_explore.specs.helpers.Search.{IsClear, IsTrail, Linked, LinksTo, Searched, time_of}
 use Rattle.m161_explore.specs.helpers.Visit.{HasPassed, IsAt}
 use Rattle.m161_explore.proofs.Laws.{Laws}
@@ -34,6 +36,10 @@ held_key r is_valid keys nodes links i e key at h = let s = at.searched.held i a
 -- what an event comes to, where that is known
 pub advances_as : {S V R : Type 0} (r : Rules S V R) (is_valid : S → Type 0) (s : S) (e : ℕ) (t : S) (a b : Advanced V R) → a ≡ b → Advances r is_valid s e t a → Advances r is_valid s e t b
 advances_as {S} {V} {R} r is_valid s e t a b h k = let P : Advanced V R → Type 0 = λ x. Advances r is_valid s e t x in subst P h k
+
+-- what became of a view, where that is known
+pub enters_as : (views : List (List ℕ)) (view : List ℕ) (limit : ℕ) (now : List (List ℕ)) (a b : Entry) → a ≡ b → Enters views view limit now a → Enters views view limit now b
+enters_as views view limit now a b h k = let P : Entry → Type 0 = λ x. Enters views view limit now x in subst P h k
 
 -- the state whose event is tried: one with the view that is kept
 pub record IsTried {S V R : Type 0} (r : Rules S V R) (is_valid : S → Type 0) (keys : List (List ℕ)) (i e : ℕ) (s : S) : Type 0 where

@@ -166,7 +166,7 @@ impl Keys {
         ensures ok { OnOk result (self.new ≡ self.old ++ words.now ∷ []) }
         ensures err { OnErr result (self.new ≡ self.old) }
     {
-        if self.before.len() >= self.heads.len() {
+        if self.before.len() >= self.heads.len() / 2 {
             self.grow(alloc)?;
         }
         self.add(words)

@@ -1,9 +1,11 @@
 //! The search, a state after the other.
 ghost use Rattle.std.specs.Prelude.{◌≡◌, ℕ, ◌+◌, ◌<◌, ◌≤◌, IfOk, OnOk, length};
-ghost use Rattle.m161_explore.specs.helpers.Visit.{Finds, HasPassed, IsAt, IsBefore, Visits};
+ghost use Rattle.m161_explore.specs.Views.{view_at};
+ghost use Rattle.m161_explore.specs.helpers.Visit.{AreRefused, Finds, HasPassed, HasRefused, IsAt, IsBefore, Visits};
 
 use super::graph::{Graph, Node};
 use super::system::{Advanced, System};
+use super::views::{Entry, Views};
 use std::alloc::{AllocError, Global};
 
 /// How it goes on after an event.
@@ -48,35 +50,38 @@ fn arrive<S: System>(
     requires passed { HasPassed (S.rules system.now) (S.is_valid system.now) graph.old.keys from event (S.seen state.old) }
     ensures ready { OnOk result (S.is_ready system.now state.new) }
     ensures few { OnOk result (length graph.new.keys ≤ limit) }
+    ensures same { OnOk result (view_at graph.new.keys from ≡ view_at graph.old.keys from) }
     ensures visits { IfOk result (Visits (S.rules system.now) (S.is_valid system.now) limit graph.new.keys graph.new.nodes.items graph.new.links.items from (event + 1)) }
 {
     words.clear();
     system.encode(state, words)?;
-    let found = graph.keys.find(alloc, words)?;
-    if let Some(known) = found {
-        graph.links.push(known as u32 + 1)?;
-        return Ok(Visit::Went);
-    }
     let count = graph.keys.len();
-    if limit as usize <= count {
-        return Ok(Visit::Full);
+    let entry = graph.keys.enter(alloc, words, limit)?;
+    match entry {
+        Entry::Known(known) => {
+            graph.links.push(known as u32 + 1)?;
+            Ok(Visit::Went)
+        }
+        Entry::New => {
+            graph.links.push(count as u32 + 1)?;
+            graph.nodes.push(Node {
+                parent: from,
+                event,
+            })?;
+            Ok(Visit::Went)
+        }
+        Entry::Full => Ok(Visit::Full),
     }
-    graph.links.push(count as u32 + 1)?;
-    graph.nodes.push(Node {
-        parent: from,
-        event,
-    })?;
-    graph.keys.push(alloc, words)?;
-    Ok(Visit::Went)
 }
 
-/// Tries an event of the state with this number.
+/// Tries an event of the state with this number, whose view is here.
 fn try_event<S: System>(
     alloc: Global,
     system: &S,
     state: &mut S::State,
     words: &mut Vec<u32>,
     graph: &mut Graph,
+    here: &[u32],
     from: u32,
     event: u32,
     limit: u32,
@@ -85,12 +90,13 @@ fn try_event<S: System>(
     requires at { IsAt (S.rules system.now) (S.is_valid system.now) graph.old.keys graph.old.nodes.items graph.old.links.items from event }
     requires event { event < (S.rules system.now).width }
     requires few { length graph.old.keys ≤ limit }
+    requires here { here.now ≡ view_at graph.old.keys from }
     ensures ready { OnOk result (S.is_ready system.now state.new) }
     ensures few { OnOk result (length graph.new.keys ≤ limit) }
+    ensures here { OnOk result (here.now ≡ view_at graph.new.keys from) }
     ensures visits { IfOk result (Visits (S.rules system.now) (S.is_valid system.now) limit graph.new.keys graph.new.nodes.items graph.new.links.items from (event + 1)) }
 {
-    graph.keys.get(from as usize, words)?;
-    system.restore(state, words)?;
+    system.restore(state, here)?;
     let advanced = system.advance(state, event)?;
     match advanced {
         Advanced::Stopped(reason) => Ok(Visit::StoppedBy(reason)),
@@ -103,12 +109,81 @@ fn try_event<S: System>(
     }
 }
 
+/// Tries so many events of the state with this number, whose view is here.
+fn try_events<S: System>(
+    alloc: Global,
+    system: &S,
+    state: &mut S::State,
+    words: &mut Vec<u32>,
+    graph: &mut Graph,
+    here: &[u32],
+    from: u32,
+    number: u32,
+    limit: u32,
+) -> Result<Visit<S::Verdict, S::Reason>, AllocError>
+    requires ready { S.is_ready system.now state.old }
+    requires at { IsAt (S.rules system.now) (S.is_valid system.now) graph.old.keys graph.old.nodes.items graph.old.links.items from 0 }
+    requires number { number ≤ (S.rules system.now).width }
+    requires few { length graph.old.keys ≤ limit }
+    requires here { here.now ≡ view_at graph.old.keys from }
+    ensures ready { OnOk result (S.is_ready system.now state.new) }
+    ensures few { OnOk result (length graph.new.keys ≤ limit) }
+    ensures here { OnOk result (here.now ≡ view_at graph.new.keys from) }
+    ensures visits { IfOk result (Visits (S.rules system.now) (S.is_valid system.now) limit graph.new.keys graph.new.nodes.items graph.new.links.items from number) }
+{
+    for event in 0..number {
+        match try_event(alloc, system, state, words, graph, here, from, event, limit)? {
+            Visit::Went => {}
+            Visit::FoundWrong(wrong, verdict) => return Ok(Visit::FoundWrong(wrong, verdict)),
+            Visit::Full => return Ok(Visit::Full),
+            Visit::StoppedBy(reason) => return Ok(Visit::StoppedBy(reason)),
+        }
+    }
+    Ok(Visit::Went)
+}
+
+/// How many events of a state come before the last ones that it is known to refuse.
+fn events_to_try<S: System>(system: &S, state: &S::State) -> u32
+    requires ready { S.is_ready system.now state.now }
+    requires valid { S.is_valid system.now (S.seen state.now) }
+    ensures within { result ≤ (S.rules system.now).width }
+    ensures refused { AreRefused (S.rules system.now) (S.seen state.now) result }
+{
+    for event in (0..system.width()).rev() {
+        if !system.refuses(state, event) {
+            return event + 1;
+        }
+    }
+    0
+}
+
+/// Notes that the other events of the state with this number, from one on, are refused.
+fn note_refused<S: System>(
+    system: &S,
+    keys: &Views,
+    nodes: &[Node],
+    links: &mut Vec<u32>,
+    from: u32,
+    number: u32,
+) -> Result<(), AllocError>
+    requires at { IsAt (S.rules system.now) (S.is_valid system.now) keys.now nodes.now links.old.items from number }
+    requires number { number ≤ (S.rules system.now).width }
+    requires refused { HasRefused (S.rules system.now) (S.is_valid system.now) (view_at keys.now from) number }
+    ensures { OnOk result (IsAt (S.rules system.now) (S.is_valid system.now) keys.now nodes.now links.new.items from (S.rules system.now).width) }
+{
+    for _event in number..system.width() {
+        links.push(0)?;
+    }
+    Ok(())
+}
+
 /// Tries all events of the state with this number.
 fn expand<S: System>(
     alloc: Global,
     system: &S,
     state: &mut S::State,
     words: &mut Vec<u32>,
+    here: &mut Vec<u32>,
     graph: &mut Graph,
     from: u32,
     limit: u32,
@@ -120,15 +195,27 @@ fn expand<S: System>(
     ensures few { OnOk result (length graph.new.keys ≤ limit) }
     ensures visits { IfOk result (Visits (S.rules system.now) (S.is_valid system.now) limit graph.new.keys graph.new.nodes.items graph.new.links.items from (S.rules system.now).width) }
 {
-    for event in 0..system.width() {
-        match try_event(alloc, system, state, words, graph, from, event, limit)? {
-            Visit::Went => {}
-            Visit::FoundWrong(wrong, verdict) => return Ok(Visit::FoundWrong(wrong, verdict)),
-            Visit::Full => return Ok(Visit::Full),
-            Visit::StoppedBy(reason) => return Ok(Visit::StoppedBy(reason)),
+    graph.keys.get(from as usize, here)?;
+    system.restore(state, here)?;
+    let number = events_to_try(system, state);
+    match try_events(
+        alloc, system, state, words, graph, here, from, number, limit,
+    )? {
+        Visit::Went => {
+            note_refused(
+                system,
+                &graph.keys,
+                &graph.nodes,
+                &mut graph.links,
+                from,
+                number,
+            )?;
+            Ok(Visit::Went)
         }
+        Visit::FoundWrong(wrong, verdict) => Ok(Visit::FoundWrong(wrong, verdict)),
+        Visit::Full => Ok(Visit::Full),
+        Visit::StoppedBy(reason) => Ok(Visit::StoppedBy(reason)),
     }
-    Ok(Visit::Went)
 }
 
 /// Tries all events of all states.
@@ -147,11 +234,12 @@ pub fn search<S: System>(
     ensures few { OnOk result (length graph.new.keys ≤ limit) }
     ensures finds { IfOk result (Finds (S.rules system.now) (S.is_valid system.now) limit graph.new.keys graph.new.nodes.items graph.new.links.items) }
 {
+    let mut here = Vec::new(alloc);
     for from in 0..limit {
         if from as usize == graph.keys.len() {
             return Ok(Outcome::Whole);
         }
-        match expand(alloc, system, state, words, graph, from, limit)? {
+        match expand(alloc, system, state, words, &mut here, graph, from, limit)? {
             Visit::Went => {}
             Visit::FoundWrong(event, verdict) => return Ok(Outcome::WrongFrom(
                 from, event, verdict,

@@ -17,7 +17,7 @@ pub enum Advanced<V, R> {
 
 /// A system with states that are known again by their views.
 pub trait System {
-    ghost use Rattle.std.specs.Prelude.{◌≡◌, ℕ, ◌<◌, ◌++◌, List, Bool, Option, Some, None, OnOk, IfOk};
+    ghost use Rattle.std.specs.Prelude.{◌≡◌, ℕ, ◌<◌, ◌++◌, List, Bool, true, Option, Some, None, OnOk, IfOk};
     ghost use Rattle.m161_explore.specs.Rules.{Rules, Advances};
 
     /// A state in hand. It may keep more than the rules see, so that events, views and other states cost
@@ -55,6 +55,15 @@ pub trait System {
     fn start(&self, alloc: Global) -> Result<Self::State, AllocError>
         ensures start { IfOk result (λ s. seen s ≡ (rules self.now).start) }
         ensures ready { IfOk result (is_ready self.now) };
+
+    /// Whether it is known, with no event made, that a state refuses an event. Such an event costs no state
+    /// then. What isn't known is found by making the event.
+    fn refuses(&self, state: &Self::State, event: u32) -> bool
+        requires ready { is_ready self.now state.now }
+        requires valid { is_valid self.now (seen state.now) }
+        requires event { event < (rules self.now).width }
+        ensures { result ≡ true → ((rules self.now).stop (seen state.now) event ≡ None)
+            × ((rules self.now).next (seen state.now) event ≡ None) };
 
     /// Makes an event, and says what it came to.
     ///

@@ -1,6 +1,7 @@
 //! Views, each once, by number. The views of a system are much alike, so each is cut into pieces, a piece
 //! that stands in many of them is kept once, and a view is kept as the list of its pieces' numbers.
 ghost use Rattle.std.specs.Prelude.{◌≡◌, ℕ, ◌+◌, ◌<◌, ◌++◌, ◌^◌, List, [], ◌∷◌, length, slice_index_or, IfOk, MatchOption, OnOk, true};
+ghost use Rattle.m161_explore.specs.helpers.Entering.{Enters};
 ghost use Rattle.m161_explore.specs.helpers.Pieces.{AreKept, ArePieces, Spells, joined, piece_at, piece_size};
 
 use super::keys::Keys;
@@ -111,6 +112,17 @@ fn join(pieces: &Keys, numbers: &[u32], words: &mut Vec<u32>) -> Result<(), Allo
     Ok(())
 }
 
+/// What became of a view.
+#[derive(Drop)]
+pub enum Entry {
+    /// It was there, with this number.
+    Known(usize),
+    /// It is the last one now.
+    New,
+    /// It isn't there, and there are as many as may be.
+    Full,
+}
+
 impl Views {
     /// No views.
     pub fn new(alloc: Global) -> Result<Views, AllocError>
@@ -140,12 +152,9 @@ impl Views {
         join(&self.pieces, self.lists.get(index), words)
     }
 
-    /// The number of a view, if it is there. Its pieces are kept in any case.
-    pub fn find(&mut self, alloc: Global, words: &[u32]) -> Result<Option<usize>, AllocError>
-        ensures same { self.new ≡ self.old }
-        ensures found { IfOk result (λ found. MatchOption found
-            ((j : ℕ) → j < length self.old → slice_index_or self.old j [] ≡ words.now → ⊥)
-            (λ i. (i < length self.old) × (slice_index_or self.old i [] ≡ words.now))) }
+    /// The number of a view, if it is there; else puts it behind the others, unless there are so many.
+    pub fn enter(&mut self, alloc: Global, words: &[u32], limit: u32) -> Result<Entry, AllocError>
+        ensures { IfOk result (Enters self.old words.now limit self.new) }
     {
         swap(&mut self.numbers, &mut self.before);
         cut(
@@ -155,7 +164,14 @@ impl Views {
             &self.before,
             &mut self.numbers,
         )?;
-        Ok(self.lists.find(&self.numbers))
+        if let Some(known) = self.lists.find(&self.numbers) {
+            return Ok(Entry::Known(known));
+        }
+        if limit as usize <= self.lists.len() {
+            return Ok(Entry::Full);
+        }
+        self.lists.push(alloc, &self.numbers)?;
+        Ok(Entry::New)
     }
 
     /// Puts a view behind the others.

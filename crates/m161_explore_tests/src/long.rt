@@ -109,6 +109,10 @@ impl System for Long {
         Ok(0)
     }
 
+    fn refuses(&self, state: &u32, event: u32) -> bool {
+        *state != self.table.stop && behind(&self.table, *state, event) >= 8
+    }
+
     fn advance(&self, state: &mut u32, event: u32) -> Result<Advanced<u32, u32>, AllocError> {
         let at = *state;
         if at == self.table.stop {

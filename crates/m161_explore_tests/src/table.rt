@@ -67,6 +67,10 @@ impl System for Table {
         Ok(0)
     }
 
+    fn refuses(&self, state: &u32, event: u32) -> bool {
+        *state != self.stop && behind(self, *state, event) >= 8
+    }
+
     fn advance(&self, state: &mut u32, event: u32) -> Result<Advanced<u32, u32>, AllocError> {
         let at = *state;
         if at == self.stop {

@@ -6,6 +6,7 @@ mod Advancing
 mod Asked
 mod Meeting
 mod Splitting
+mod Refusing
 mod Remaking
 mod RemakingKept
 mod RemakingMemory

@@ -1,11 +1,13 @@
 //! An event, and what it comes to.
 
-ghost use Rattle.std.specs.Prelude.{◌≡◌, ◌<◌, ◌^◌, if◌then◌else◌, IfOk, IfSome, is_some, length, option_map, option_to_list, slice_get, None, Some};
+ghost use Rattle.std.specs.Prelude.{◌≡◌, ◌<◌, ◌≤◌, ◌^◌, if◌then◌else◌, Err, IfOk, IfSome, is_some, length, option_map, option_to_list, slice_get, None, Some, true};
 ghost use Rattle.std.specs.Option.{option_or};
 ghost use Rattle.m161_machine.specs.declared.event.Event.TheVariants as events;
+ghost use Rattle.m161_machine.specs.declared.event.Refusal.{Refusal};
+ghost use Rattle.m161_machine.specs.State.{next as result_of};
 ghost use Rattle.m161_alike.specs.declared.known.Known.{Known};
 ghost use Rattle.m161_explore.specs.declared.system.Advanced.TheVariants.{Refused};
-ghost use Rattle.m161_states.specs.System.{agreed_after, agreed_with, flags_behind};
+ghost use Rattle.m161_states.specs.System.{agreed_after, agreed_with, flags_behind, fresh};
 ghost use Rattle.m161_states.specs.Verdicts.{reads_next, stop_by, unknown_by, wrong_in};
 ghost use Rattle.m161_alike.specs.View.{known_of};
 ghost use Rattle.m161_judge.specs.Judge.{bytes_of};
@@ -144,6 +146,14 @@ pub fn take_step<T: Tlb, D: Console>(
     }
 }
 
+/// Whether the console has nothing to send, so that Done is refused.
+#[tactic(auto, using(crate::proofs::Refusing::done_refused))]
+pub fn refuses_done<T: Tlb, D: Console>(place: &Place<T, D>) -> bool
+    ensures { result ≡ true → (refusal : Refusal) × (result_of (fresh place.now.state) events.Done ≡ Err refusal) }
+{
+    place.core.latch().is_none()
+}
+
 /// The console has sent a byte.
 pub fn take_done<T: Tlb, D: Console>(
     goal: &Goal,
@@ -170,6 +180,13 @@ pub fn take_done<T: Tlb, D: Console>(
             }
         }
     }
+}
+
+/// Whether no key is left.
+pub fn has_no_key<T: Tlb, D: Console>(goal: &Goal, place: &Place<T, D>) -> bool
+    ensures { result ≡ true → length goal.now.keys ≤ place.now.typed }
+{
+    place.typed as usize >= goal.keys.len()
 }
 
 /// Types the next key, if one is left.

@@ -1,18 +1,18 @@
 //! What is explored.
 
-ghost use Rattle.std.specs.Prelude.{◌≡◌, ◌+◌, ◌<◌, ◌++◌, IfOk, OnOk, length};
+ghost use Rattle.std.specs.Prelude.{◌≡◌, ◌+◌, ◌<◌, ◌++◌, IfOk, None, OnOk, length, true};
 ghost use Rattle.m161_explore.specs.Rules.{Advances};
 ghost use Rattle.m161_alike.specs.Addresses.{Cover};
 ghost use Rattle.m161_states.specs.Question.{booted, processors_of};
-ghost use Rattle.m161_states.specs.System.{Explored, agreed_at_boot, start};
-ghost use Rattle.m161_states.specs.Verdicts.{is_end};
+ghost use Rattle.m161_states.specs.System.{Explored, agreed_at_boot, next, start};
+ghost use Rattle.m161_states.specs.Verdicts.{is_end, stop};
 ghost use Rattle.m161_states.specs.Views.{view};
 ghost use Rattle.m161_judge.specs.Judge.{bytes_of};
 ghost use Rattle.m161_reach.specs.Reach.{CanBeAsked, IsMet, question_of, rules_of};
 ghost use Rattle.m161_reach.specs.Hand.{IsReady};
 ghost use Rattle.m161_reach.specs.helpers.Handling.{IsHandled, stored_at};
 
-use crate::advance::{advance_done, advance_key, advance_step};
+use crate::advance::{advance_done, advance_key, advance_step, has_no_key, refuses_done};
 use crate::encode::{push_beside, push_board, push_processors};
 use crate::hand::{Hand, are_kept, forget, keep_words, note_store};
 use crate::judge::is_end_of;
@@ -165,6 +165,23 @@ impl<'a, T: Tlb + Drop, D: Console + Drop> Machines<'a, T, D> {
             place.core.uses(event).stored
         } else {
             None
+        }
+    }
+
+    /// Whether an input is refused: the console has nothing to send, or no key is left. Of a Step nothing is
+    /// said before it is made.
+    pub fn refuses(&self, place: &Place<T, D>, event: u32) -> bool
+        requires { IsMet self.now place.now }
+        ensures { result ≡ true → (stop self.now place.now event ≡ None) × (next self.now place.now event ≡ None) }
+    {
+        self.boot.law();
+        let processors = self.boot.processors();
+        if event < processors {
+            false
+        } else if event == processors {
+            refuses_done(place)
+        } else {
+            has_no_key(self.goal, place)
         }
     }
 

@@ -224,6 +224,10 @@ impl<'a, 'b, T: Tlb + Drop, D: Console + Drop> System for Onward<'a, 'b, T, D> {
         self.machines.in_hand(alloc, copy_place(alloc, self.from)?)
     }
 
+    fn refuses(&self, state: &Hand<T, D>, event: u32) -> bool {
+        self.machines.refuses(&state.place, event)
+    }
+
     fn advance(
         &self,
         state: &mut Hand<T, D>,

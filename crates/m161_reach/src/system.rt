@@ -38,6 +38,10 @@ impl<'a, T: Tlb + Drop, D: Console + Drop> System for Machines<'a, T, D> {
         self.first_in_hand(alloc)
     }
 
+    fn refuses(&self, state: &Hand<T, D>, event: u32) -> bool {
+        Machines::refuses(self, &state.place, event)
+    }
+
     fn advance(
         &self,
         state: &mut Hand<T, D>,

@@ -14,18 +14,28 @@ AreCuts [] n = ⊥
 AreCuts (a ∷ []) n = a ≡ n
 AreCuts (a ∷ (b ∷ cuts)) n = (a ≤ b) × AreCuts (b ∷ cuts) n
 
--- the hash behind one more word
+-- the hash behind one more number
 abbrev pub mixed : ℕ → ℕ → ℕ
-mixed hash word = ((hash + word) % 2 ^ 64 * 0x9e3779b97f4a7c15) % 2 ^ 64
+mixed hash number = ((hash + number) % 2 ^ 64 * 0x9e3779b97f4a7c15) % 2 ^ 64
 
--- the hash of the first n words
+-- two words as one number
+abbrev pub pair : ℕ → ℕ → ℕ
+pair low high = high * 2 ^ 32 + low
+
+-- the hash of the first n pairs of words
 abbrev pub hash_upto : List ℕ → ℕ → ℕ
 hash_upto words zero = 0x243f6a8885a308d3
-hash_upto words (suc n) = mixed (hash_upto words n) (slice_index_or words n 0)
+hash_upto words (suc n) =
+    mixed (hash_upto words n) (pair (slice_index_or words (2 * n) 0) (slice_index_or words (2 * n + 1) 0))
+
+-- the hash of all pairs, and of the word behind them, or of 0 where none is
+abbrev pub hash_in : List ℕ → ℕ
+hash_in words =
+    mixed (hash_upto words (length words / 2)) (slice_index_or words (2 * (length words / 2)) 0)
 
 -- the bucket of a list, of so many buckets
-abbrev pub bucket : ℕ → List ℕ → ℕ
-bucket size words = hash_upto words (length words) / 2 ^ 32 % size
+unfoldable pub bucket : ℕ → List ℕ → ℕ
+bucket size words = hash_in words / 2 ^ 32 % size
 
 abbrev pub bucket_at : ℕ → List (List ℕ) → ℕ → ℕ
 bucket_at size lists j = bucket size (slice_index_or lists j [])

@@ -29,6 +29,14 @@ pub record HasPassed {S V R : Type 0} (r : Rules S V R) (is_valid : S → Type 0
   pub valid : is_valid t
   pub same : r.view t ≡ r.view to
 
+-- s refuses the events from n on
+abbrev pub AreRefused : {S V R : Type 0} → Rules S V R → S → ℕ → Type 0
+AreRefused r s n = (e : ℕ) → n ≤ e → e < r.width → (r.stop s e ≡ None) × (r.next s e ≡ None)
+
+-- a state with this view refuses the events from n on
+abbrev pub HasRefused : {S V R : Type 0} → Rules S V R → (S → Type 0) → List ℕ → ℕ → Type 0
+HasRefused {S} r is_valid view n = (s : S) × is_valid s × (r.view s ≡ view) × AreRefused r s n
+
 -- what it knows where this event of state i has a verdict
 abbrev pub IsWrongAt : {S V R : Type 0} → Rules S V R → (S → Type 0) → List (List ℕ) → List Node → List ℕ → ℕ → ℕ → V → Type 0
 IsWrongAt r is_valid views nodes links i event what =

@@ -1,5 +1,4 @@
-use Rattle.std.proofs.Common.{◌≡◌, ◌≢◌, ◌∙◌, ap, refl, sym, subst, arith, ◌+◌, ◌<◌, ◌≤◌, ℕ, List, get_or, length}
-use Rattle.m161_alike.specs.Addresses.{with_address}
+use Rattle.std.proofs.Common.{◌≡◌, ◌≢◌, ◌∙◌, ap, refl, subst, arith, ◌<◌, ◌≤◌, ℕ, List, get_or, length}
 use Rattle.m161_alike.proofs.Covering.{any_default, inserted, there_already}
 use Rattle.m161_alike.proofs.addresses.add_address.Goals as goal
 

@@ -1,4 +1,4 @@
-use Rattle.std.proofs.Common.{◌∙◌, ap, sym, arith, ◌+◌, ◌*◌, ◌∷◌, [], ◌++◌, ℕ, List, get_or}
+use Rattle.std.proofs.Common.{◌∙◌, ap, sym, arith, ◌*◌, ◌∷◌, [], ◌++◌, ℕ, List, get_or}
 use Rattle.m161_alike.proofs.Covering.{all_told_at, two_told}
 use Rattle.m161_alike.proofs.addresses.read_addresses.Goals as goal
 

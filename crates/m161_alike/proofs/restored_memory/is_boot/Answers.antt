@@ -1,4 +1,4 @@
-use Rattle.std.proofs.Common.{◌≡◌, ◌∙◌, ap, subst, sym, ◌%◌, ◌+◌, ◌≤◌, ℕ, length}
+use Rattle.std.proofs.Common.{◌≡◌, ◌∙◌, ap, sym, ◌%◌, length}
 use Rattle.m161_alike.proofs.RestoringMemory.{all_same, bytes_fit}
 use Rattle.m161_alike.proofs.restored_memory.is_boot.Goals as goal
 

@@ -1,5 +1,4 @@
-use Rattle.std.proofs.Common.{◌≡◌, ◌∙◌, ap, refl, sym, subst, arith, ◌+◌, ◌%◌, ◌≤◌, ◌<◌, ℕ, List, drop, get_or, length}
-use Rattle.std.specs.List.{Contains}
+use Rattle.std.proofs.Common.{◌≡◌, ◌∙◌, ap, sym, subst, arith, ◌+◌, ◌≤◌, ◌<◌, ℕ, List, drop, get_or, length}
 use Rattle.m161_machine.specs.State.{State}
 use Rattle.m161_machine.specs.Restore.{with_memory}
 use Rattle.m161_ram.specs.Word.{with_word, word_at}
