@@ -268,8 +268,9 @@ uint8_t talusdish_search(talusdish_slot *slot, const talusdish_order *order, con
  * machine, that nothing is left to do, and, where output is asked for, that the machine is off and the console hasn't sent exactly
  * these `output_size` bytes. 0, and the exploration is told; the events of its list become the session's bytes, each a byte: a
  * number below that of the processors is a Step of that processor, the next one the end of a transfer, and the one behind it the
- * next key. Else nothing is changed or told: BAD for a limit of 0 (or 2^32 keys or bytes of output, or 2^31 watches), BAD_WATCH or
- * NO_MEMORY. It takes about a hundred bytes a state, and as long as `s161 explore`. */
+ * next key. Else nothing is changed or told, and the answer is the first of these that holds: BAD for a limit of 0; BAD_WATCH; BAD for
+ * 2^31 watches, or 2^32 keys or bytes of output. With a limit that isn't 0 it may be NO_MEMORY instead. It takes about a hundred bytes
+ * a state, and as long as `s161 explore`. */
 uint8_t talusdish_explore(talusdish_slot *slot, uint32_t limit, const uint8_t *keys, size_t keys_size, const talusdish_watch *watches,
                           size_t watches_size, const uint32_t *never, size_t never_size, bool asked, const uint8_t *output,
                           size_t output_size, talusdish_exploration *found);
@@ -284,15 +285,16 @@ uint8_t talusdish_symbol(const uint8_t *file, size_t file_size, const uint8_t *n
 uint8_t talusdish_nearest(talusdish_slot *slot, const uint8_t *file, size_t size, uint32_t address, uint32_t *distance);
 
 /* Audits the machine's events since its boot, as its log has them: whether one is a stale use of one of the `size` watches' pages, and
- * which is the first. 0, and it is told: TALUSDISH_VERDICT_NONE or TALUSDISH_VERDICT_STALE. Else nothing is told: BAD_WATCH, DROPPED
- * or NO_MEMORY. The session stays as it is. */
+ * which is the first. 0, and it is told: TALUSDISH_VERDICT_NONE or TALUSDISH_VERDICT_STALE. Else nothing is told: DROPPED; and where it
+ * isn't that, BAD_WATCH or NO_MEMORY. The session stays as it is. */
 uint8_t talusdish_audit(talusdish_slot *slot, const talusdish_watch *watches, size_t size, talusdish_judgement *judgement);
 
 /* Judges the machine's events since its boot, as its log has them, as they would be made on a machine of its size that is booted from
  * this `file`: the one that it was booted from. What goes wrong is what talusdish_explore says, and that the events end with the
  * machine neither off nor stuck where output is asked for; the first of these in the order of their numbers is told, or
- * TALUSDISH_VERDICT_NONE. `keys` are all that could be typed: while some are left, the machine isn't stuck. 0; or what talusdish_boot
- * answers of a file that can't be booted; BAD_WATCH, DROPPED or NO_MEMORY, and nothing is told. The session stays as it is. */
+ * TALUSDISH_VERDICT_NONE. `keys` are all that could be typed: while some are left, the machine isn't stuck. 0; else nothing is told, and
+ * the answer is the first of these that holds: DROPPED; what talusdish_boot answers of a file that can't be booted; BAD_WATCH. Where it
+ * isn't DROPPED, it may be NO_MEMORY instead. The session stays as it is. */
 uint8_t talusdish_judge(talusdish_slot *slot, const uint8_t *file, size_t file_size, const uint8_t *keys, size_t keys_size,
                         const talusdish_watch *watches, size_t watches_size, const uint32_t *never, size_t never_size, bool asked,
                         const uint8_t *output, size_t output_size, talusdish_judgement *judgement);

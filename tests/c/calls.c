@@ -346,6 +346,7 @@ static void explorations(void) {
     goal.watches = 1;
     goal.watch[0] = (talusdish_watch){64, 0, 0x1000, 0x1004};
     CHECK(explore(&slot, 9, &goal, &found) == TALUSDISH_BAD_WATCH && memcmp(&found, &same, sizeof found) == 0);
+    CHECK(explore(&slot, 0, &goal, &found) == TALUSDISH_BAD && memcmp(&found, &same, sizeof found) == 0); /* the limit comes first */
     goal.watch[0] = (talusdish_watch){63, 0xfffff, 0x1000, 65536};
     CHECK(explore(&slot, 9, &goal, &found) == TALUSDISH_BAD_WATCH && memcmp(&found, &same, sizeof found) == 0);
     goal.watch[0].done = 65532;

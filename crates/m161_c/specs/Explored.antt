@@ -63,26 +63,39 @@ Tells (Open size) found events =
     (found ≡ record { kind = 3; states = 0; events = size; verdict = no_verdict }) × (events ≡ [])
 Tells (Ended reason) found events = ⊥
 
+-- the watches: no one is bad; a first one is bad
+
+abbrev pub AreAllGood : State → Criteria → Type 0
+AreAllGood boot goal = (k : ℕ) → AreGood boot.conf.ram goal.watches k
+
+abbrev pub IsOneBad : State → Criteria → Type 0
+IsOneBad boot goal = (k : ℕ) × IsBad boot.conf.ram goal.watches k × AreGood boot.conf.ram goal.watches k
+
 -- from this state at boot, with so much of time being known as Steps read, the answer says what it says of all lists of
 -- events; the session's bytes are the events
 pub record IsExplored (boot : State) (limit : ℕ) (goal : Criteria) (found : Exploration) (events : List ℕ) : Type 0 where
   pub some : 0 < limit
-  pub good : (k : ℕ) → AreGood boot.conf.ram goal.watches k
+  pub good : AreAllGood boot goal
+  pub asked : CanBeAsked boot goal
   pub known : Known
   pub learnt : IsLearnt (question_of boot goal known)
   pub answer : Answer Verdict Unknown
   pub answers : Answers (rules_of (question_of boot goal known)) limit answer
   pub tells : Tells answer found events
 
--- why there is no exploration: of no states; memory was refused; a watch is bad; what is asked doesn't fit
--- its words
+-- Why there is no exploration. What is asked is looked at in this order, and the first that isn't right is answered: the
+-- limit; the watches; whether it fits its words.
+
+-- of some states; memory may be refused instead, before any of these is known
+abbrev pub IsRefused : State → Criteria → ℕ → Type 0
+IsRefused boot goal answer =
+    IsOneBad boot goal × (answer ≡ 22)
+    ⊎ AreAllGood boot goal × (CanBeAsked boot goal → ⊥) × (answer ≡ 253)
+    ⊎ (answer ≡ 254)
+
 abbrev pub IsUnexplored : State → ℕ → Criteria → ℕ → Type 0
 IsUnexplored boot limit goal answer =
-    (answer ≡ 253) × (limit ≡ 0)
-    ⊎ (answer ≡ 254)
-    ⊎ (answer ≡ 22)
-    × ((k : ℕ) × IsBad boot.conf.ram goal.watches k × AreGood boot.conf.ram goal.watches k)
-    ⊎ (answer ≡ 253) × (CanBeAsked boot goal → ⊥)
+    (limit ≡ 0) × (answer ≡ 253) ⊎ (0 < limit) × IsRefused boot goal answer
 
 -- the machine of a session is explored; or nothing is changed and nothing told
 abbrev pub ExploresFor :

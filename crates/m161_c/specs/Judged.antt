@@ -65,7 +65,8 @@ TellsOne {A} IsSo numbers answer before after =
     ⊎ ((result : Result A AuditError) × IsSo result
     × TellsResult numbers result answer before after)
 
--- of a machine whose log has all events since its boot; of another one it isn't known
+-- Why there is no verdict, in this order: there is no machine; its log doesn't have all events since its boot; what the audit
+-- or the judge says. Behind the log, memory may be refused instead.
 
 abbrev pub WhereAll : Bool → ℕ → Judgement → Judgement → Type 0 → Type 0
 WhereAll true answer before after Is = Is

@@ -5,7 +5,7 @@ ghost use Rattle.m161_audit.specs.Watch.{AreGood};
 ghost use Rattle.m161_judge.specs.Judge.{bytes_of};
 ghost use Rattle.m161_machine.specs.History.{boot_state};
 ghost use Rattle.m161_reach.specs.Reach.{HasEnded, IsAtBoot};
-ghost use Rattle.m161_c.specs.Explored.{IsExplored, IsUnexplored, Tells, criteria_of, verdict_numbers, watch_of};
+ghost use Rattle.m161_c.specs.Explored.{AreAllGood, IsExplored, IsRefused, IsUnexplored, Tells, criteria_of, verdict_numbers, watch_of};
 ghost use Rattle.m161_c.specs.helpers.Explored.{IsFound, IsUnwatched};
 
 use crate::answer::{Exploration, VerdictNumbers, WatchNumbers};
@@ -76,9 +76,9 @@ pub(crate) fn check_watches(alloc: Global, core: &Core, watches: &[Watch]) -> Re
 fn explore_good(alloc: Global, boot: &Core, limit: u32, goal: &Goal) -> Result<Explored, u8>
     requires boot { IsAtBoot boot.now.state }
     requires some { 0 < limit }
-    requires good { (k : ℕ) → AreGood boot.now.state.conf.ram goal.now.watches k }
+    requires good { AreAllGood boot.now.state goal.now }
     ensures ok { IfOk result (IsFound boot.now.state limit goal.now) }
-    ensures err { IfErr result (IsUnexplored boot.now.state limit goal.now) }
+    ensures err { IfErr result (IsRefused boot.now.state goal.now) }
 {
     if !can_be_asked(boot, goal) {
         return Err(BAD);
@@ -91,13 +91,11 @@ fn explore_good(alloc: Global, boot: &Core, limit: u32, goal: &Goal) -> Result<E
 
 // Explores a machine at boot.
 fn explore_boot(alloc: Global, boot: &Core, limit: u32, goal: &Goal) -> Result<Explored, u8>
-    requires { IsAtBoot boot.now.state }
+    requires boot { IsAtBoot boot.now.state }
+    requires some { 0 < limit }
     ensures ok { IfOk result (IsFound boot.now.state limit goal.now) }
-    ensures err { IfErr result (IsUnexplored boot.now.state limit goal.now) }
+    ensures err { IfErr result (IsRefused boot.now.state goal.now) }
 {
-    if limit == 0 {
-        return Err(BAD);
-    }
     match check_watches(alloc, boot, goal.watches) {
         Ok(()) => explore_good(alloc, boot, limit, goal),
         Err(answer) => Err(answer),
@@ -218,9 +216,10 @@ fn tell_boot(
     limit: u32,
     goal: &Goal,
 ) -> Result<(Exploration, Vec<u8>), u8>
-    requires { IsAtBoot boot.now.state }
+    requires boot { IsAtBoot boot.now.state }
+    requires some { 0 < limit }
     ensures ok { IfOk result (λ told. IsExplored boot.now.state limit goal.now told.0 told.1.items) }
-    ensures err { IfErr result (IsUnexplored boot.now.state limit goal.now) }
+    ensures err { IfErr result (IsRefused boot.now.state goal.now) }
 {
     match explore_boot(alloc, boot, limit, goal) {
         Ok(found) => match tell(alloc, found.answer) {
@@ -247,6 +246,9 @@ pub(crate) fn explore(
     ensures err { IfErr result (IsUnexplored (boot_state machine.now.start) limit
         (criteria_of keys.now watches.now never.now (bytes_of output.entry))) }
 {
+    if limit == 0 {
+        return Err(BAD);
+    }
     let Ok(watches) = watches_of(alloc, watches) else {
         return Err(NO_MEMORY);
     };
