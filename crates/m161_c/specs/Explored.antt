@@ -11,11 +11,10 @@ use Rattle.m161_machine.specs.State.{State}
 use Rattle.m161_reach.specs.Reach.{CanBeAsked, IsLearnt, question_of, rules_of}
 use Rattle.m161_states.specs.declared.verdict.Unknown.{Unknown}
 use Rattle.m161_states.specs.declared.verdict.Verdict.{Verdict}
-use Rattle.m161_states.specs.declared.verdict.Verdict.TheVariants.{Stale, Reached, Conflict, Stuck, Output}
 use Rattle.m161_c.specs.declared.answer.Exploration.{Exploration}
-use Rattle.m161_c.specs.declared.answer.VerdictNumbers.{VerdictNumbers}
 use Rattle.m161_c.specs.declared.answer.WatchNumbers.{WatchNumbers}
 use Rattle.m161_c.specs.declared.session.Session.{Session}
+use Rattle.m161_c.specs.Verdicts.{as_run, no_verdict, run_verdict}
 
 -- The exploration of all states of a machine.
 
@@ -32,21 +31,6 @@ abbrev pub criteria_of : List ℕ → List WatchNumbers → List ℕ → Option 
 criteria_of keys watches never output =
     record { watches = map watch_of watches; never = never; output = output; keys = keys }
 
--- the numbers of a verdict
-
-abbrev pub no_verdict : VerdictNumbers
-no_verdict = record { kind = 0; processor = 0; address = 0; row = 0; other = 0 }
-
-abbrev pub verdict_numbers : Verdict → VerdictNumbers
-verdict_numbers (Stale p address row) =
-    record { kind = 1; processor = p; address = address; row = row; other = 0 }
-verdict_numbers (Reached p address) =
-    record { kind = 2; processor = p; address = address; row = 0; other = 0 }
-verdict_numbers (Conflict c) =
-    record { kind = 3; processor = c.processor; address = 0; row = c.row; other = c.other }
-verdict_numbers Stuck = record no_verdict { kind = 4 }
-verdict_numbers Output = record no_verdict { kind = 5 }
-
 -- an answer as numbers, with the numbers of the events of its list, if it has one
 abbrev pub Tells : Answer Verdict Unknown → Exploration → List ℕ → Type 0
 Tells (Clean states) found events =
@@ -54,7 +38,7 @@ Tells (Clean states) found events =
     × (events ≡ [])
 Tells (Found list what states) found events =
     (found
-    ≡ record { kind = 1; states = states; events = length list.items; verdict = verdict_numbers what })
+    ≡ record { kind = 1; states = states; events = length list.items; verdict = run_verdict (as_run what) })
     × (events ≡ list.items)
 Tells (Hung list states) found events =
     (found ≡ record { kind = 2; states = states; events = length list.items; verdict = no_verdict })

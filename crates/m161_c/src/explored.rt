@@ -5,10 +5,11 @@ ghost use Rattle.m161_audit.specs.Watch.{AreGood};
 ghost use Rattle.m161_judge.specs.Judge.{bytes_of};
 ghost use Rattle.m161_machine.specs.History.{boot_state};
 ghost use Rattle.m161_reach.specs.Reach.{HasEnded, IsAtBoot};
-ghost use Rattle.m161_c.specs.Explored.{AreAllGood, IsExplored, IsRefused, IsUnexplored, Tells, criteria_of, verdict_numbers, watch_of};
+ghost use Rattle.m161_c.specs.Explored.{AreAllGood, IsExplored, IsRefused, IsUnexplored, Tells, criteria_of, watch_of};
 ghost use Rattle.m161_c.specs.helpers.Explored.{IsFound, IsUnwatched};
 
 use crate::answer::{Exploration, VerdictNumbers, WatchNumbers};
+use crate::verdict::{NONE, as_run, run_verdict};
 use crate::{BAD, BAD_WATCH, NO_MEMORY};
 use m161::{Core, Machine};
 use m161_audit::{AuditError, Watch, audit_core};
@@ -17,15 +18,6 @@ use m161_judge::Goal;
 use m161_reach::{Exploration as Explored, can_be_asked, explore_machine};
 use m161_states::{Unknown, Verdict};
 use std::alloc::{AllocError, Global};
-
-/// No verdict.
-pub(crate) const NONE: VerdictNumbers = VerdictNumbers {
-    kind: 0,
-    processor: 0,
-    address: 0,
-    row: 0,
-    other: 0,
-};
 
 fn watch_of(numbers: &WatchNumbers) -> Watch
     ensures { result ≡ watch_of numbers.now }
@@ -102,40 +94,6 @@ fn explore_boot(alloc: Global, boot: &Core, limit: u32, goal: &Goal) -> Result<E
     }
 }
 
-fn verdict_numbers(verdict: Verdict) -> VerdictNumbers
-    ensures { result ≡ verdict_numbers verdict }
-{
-    match verdict {
-        Verdict::Stale {
-            processor,
-            address,
-            row,
-        } => VerdictNumbers {
-            kind: 1,
-            processor,
-            address,
-            row: u32::from(row),
-            other: 0,
-        },
-        Verdict::Reached { processor, address } => VerdictNumbers {
-            kind: 2,
-            processor,
-            address,
-            row: 0,
-            other: 0,
-        },
-        Verdict::Conflict(conflict) => VerdictNumbers {
-            kind: 3,
-            processor: conflict.processor,
-            address: 0,
-            row: u32::from(conflict.row),
-            other: u32::from(conflict.other),
-        },
-        Verdict::Stuck => VerdictNumbers { kind: 4, ..NONE },
-        Verdict::Output => VerdictNumbers { kind: 5, ..NONE },
-    }
-}
-
 // Adds a byte behind the others.
 fn push_byte(bytes: &mut Vec<u8>, byte: u8) -> Result<(), AllocError>
     ensures { OnOk result (bytes.new.items ≡ bytes.old.items ++ byte ∷ []) }
@@ -194,7 +152,7 @@ fn tell(
             events,
             verdict,
             states,
-        } => tell_list(alloc, 1, states, &events, verdict_numbers(verdict)),
+        } => tell_list(alloc, 1, states, &events, run_verdict(as_run(verdict))),
         Answer::Hung { events, states } => tell_list(alloc, 2, states, &events, NONE),
         Answer::Open { size } => Ok((
             Exploration {
