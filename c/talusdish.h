@@ -66,6 +66,13 @@ typedef struct {
     bool gaps;         /* without: a key is typed only where no processor is ready */
 } talusdish_order;
 
+/* What a line of a trace shows, beside what each one does. */
+typedef struct {
+    bool names;   /* registers by their names, t0, in place of their numbers, r8 */
+    bool symbols; /* behind an address its place by the nearest symbol below it: 80000204 <main+4>; nothing where there is none */
+    bool loads;   /* the word that a Step loads, before what the Step changed: (00001000)=00000005 */
+} talusdish_style;
+
 /* How a run of a search has to end: the machine off, and with this word in RAM. */
 typedef struct {
     uint32_t address; /* the physical address of the word in bytes, a multiple of 4; where there is no word, no run ends right */
@@ -252,6 +259,15 @@ uint8_t talusdish_drive(talusdish_slot *slot, const talusdish_order *order, cons
  * `s161 trace`, numbered from the events of the machine. With `names` registers are shown by their names. Works on a copy of
  * the machine; where memory is refused (NO_MEMORY), no event is made. */
 uint8_t talusdish_trace(talusdish_slot *slot, const talusdish_order *order, const uint8_t *keys, size_t size, bool names, uint64_t n, uint64_t *made);
+
+/* The same with lines in a style: those that `s161 trace` prints with --names, --symbols and --loads. With `style->symbols` the places
+ * are by the symbols of the ELF `file` of `file_size` bytes, mostly the one that the machine was booted from; one without a sound
+ * table of symbols has none, and gives no place. Without, no byte of it is read, and `file_size` may be 0. The answers are those of
+ * talusdish_trace, the first that holds: NOTHING; BAD, NO_TURN to TOO_MANY_CHANGES for an order that can't be followed; else
+ * NO_MEMORY, or why the run has no more events. But for the last, nothing is changed, and `made` is 0. The memory for the names of the
+ * file is asked for at each call, and given back. */
+uint8_t talusdish_lines(talusdish_slot *slot, const talusdish_order *order, const uint8_t *keys, size_t keys_size, const talusdish_style *style,
+                        const uint8_t *file, size_t file_size, uint64_t n, uint64_t *made);
 
 /* Looks for a run that ends wrong. The runs are those that the order chooses with `count` seeds, its own and those behind it
  * (modulo 2^64), each of at most `n` events from the machine as it is, with `size` bytes of keys. Each is made on a copy, in
