@@ -66,6 +66,13 @@ typedef struct {
     bool gaps;         /* without: a key is typed only where no processor is ready */
 } talusdish_order;
 
+/* What a line of a trace shows, beside what each one does. */
+typedef struct {
+    bool names;   /* registers by their names, t0, in place of their numbers, r8 */
+    bool symbols; /* behind an address its place by the nearest symbol below it: 80000204 <main+4>; nothing where there is none */
+    bool loads;   /* the word that a Step loads, before what the Step changed: (00001000)=00000005 */
+} talusdish_style;
+
 /* How a run of a search has to end: the machine off, and with this word in RAM. */
 typedef struct {
     uint32_t address; /* the physical address of the word in bytes, a multiple of 4; where there is no word, no run ends right */
@@ -253,6 +260,15 @@ uint8_t talusdish_drive(talusdish_slot *slot, const talusdish_order *order, cons
  * the machine; where memory is refused (NO_MEMORY), no event is made. */
 uint8_t talusdish_trace(talusdish_slot *slot, const talusdish_order *order, const uint8_t *keys, size_t size, bool names, uint64_t n, uint64_t *made);
 
+/* The same with lines in a style: those that `s161 trace` prints with --names, --symbols and --loads. With `style->symbols` the places
+ * are by the symbols of the ELF `file` of `file_size` bytes, mostly the one that the machine was booted from; one without a sound
+ * table of symbols has none, and gives no place. Without, no byte of it is read, and `file_size` may be 0. The answers are those of
+ * talusdish_trace, the first that holds: NOTHING; BAD, NO_TURN to TOO_MANY_CHANGES for an order that can't be followed; else
+ * NO_MEMORY, or why the run has no more events. But for the last, nothing is changed, and `made` is 0. The memory for the names of the
+ * file is asked for at each call, and given back. */
+uint8_t talusdish_lines(talusdish_slot *slot, const talusdish_order *order, const uint8_t *keys, size_t keys_size, const talusdish_style *style,
+                        const uint8_t *file, size_t file_size, uint64_t n, uint64_t *made);
+
 /* Looks for a run that ends wrong. The runs are those that the order chooses with `count` seeds, its own and those behind it
  * (modulo 2^64), each of at most `n` events from the machine as it is, with `size` bytes of keys. Each is made on a copy, in
  * this order, up to the first that doesn't end right; the session stays as it is. 0 where one ends wrong; ALL_RIGHT where
@@ -268,8 +284,9 @@ uint8_t talusdish_search(talusdish_slot *slot, const talusdish_order *order, con
  * machine, that nothing is left to do, and, where output is asked for, that the machine is off and the console hasn't sent exactly
  * these `output_size` bytes. 0, and the exploration is told; the events of its list become the session's bytes, each a byte: a
  * number below that of the processors is a Step of that processor, the next one the end of a transfer, and the one behind it the
- * next key. Else nothing is changed or told: BAD for a limit of 0 (or 2^32 keys or bytes of output, or 2^31 watches), BAD_WATCH or
- * NO_MEMORY. It takes about a hundred bytes a state, and as long as `s161 explore`. */
+ * next key. Else nothing is changed or told, and the answer is the first of these that holds: BAD for a limit of 0; BAD_WATCH; BAD for
+ * 2^31 watches, or 2^32 keys or bytes of output. With a limit that isn't 0 it may be NO_MEMORY instead. It takes about a hundred bytes
+ * a state, and as long as `s161 explore`. */
 uint8_t talusdish_explore(talusdish_slot *slot, uint32_t limit, const uint8_t *keys, size_t keys_size, const talusdish_watch *watches,
                           size_t watches_size, const uint32_t *never, size_t never_size, bool asked, const uint8_t *output,
                           size_t output_size, talusdish_exploration *found);
@@ -284,15 +301,16 @@ uint8_t talusdish_symbol(const uint8_t *file, size_t file_size, const uint8_t *n
 uint8_t talusdish_nearest(talusdish_slot *slot, const uint8_t *file, size_t size, uint32_t address, uint32_t *distance);
 
 /* Audits the machine's events since its boot, as its log has them: whether one is a stale use of one of the `size` watches' pages, and
- * which is the first. 0, and it is told: TALUSDISH_VERDICT_NONE or TALUSDISH_VERDICT_STALE. Else nothing is told: BAD_WATCH, DROPPED
- * or NO_MEMORY. The session stays as it is. */
+ * which is the first. 0, and it is told: TALUSDISH_VERDICT_NONE or TALUSDISH_VERDICT_STALE. Else nothing is told: DROPPED; and where it
+ * isn't that, BAD_WATCH or NO_MEMORY. The session stays as it is. */
 uint8_t talusdish_audit(talusdish_slot *slot, const talusdish_watch *watches, size_t size, talusdish_judgement *judgement);
 
 /* Judges the machine's events since its boot, as its log has them, as they would be made on a machine of its size that is booted from
  * this `file`: the one that it was booted from. What goes wrong is what talusdish_explore says, and that the events end with the
  * machine neither off nor stuck where output is asked for; the first of these in the order of their numbers is told, or
- * TALUSDISH_VERDICT_NONE. `keys` are all that could be typed: while some are left, the machine isn't stuck. 0; or what talusdish_boot
- * answers of a file that can't be booted; BAD_WATCH, DROPPED or NO_MEMORY, and nothing is told. The session stays as it is. */
+ * TALUSDISH_VERDICT_NONE. `keys` are all that could be typed: while some are left, the machine isn't stuck. 0; else nothing is told, and
+ * the answer is the first of these that holds: DROPPED; what talusdish_boot answers of a file that can't be booted; BAD_WATCH. Where it
+ * isn't DROPPED, it may be NO_MEMORY instead. The session stays as it is. */
 uint8_t talusdish_judge(talusdish_slot *slot, const uint8_t *file, size_t file_size, const uint8_t *keys, size_t keys_size,
                         const talusdish_watch *watches, size_t watches_size, const uint32_t *never, size_t never_size, bool asked,
                         const uint8_t *output, size_t output_size, talusdish_judgement *judgement);

@@ -31,6 +31,10 @@ class OrderNumbers(c.Structure):
     ]
 
 
+class Style(c.Structure):
+    _fields_ = [("names", c.c_bool), ("symbols", c.c_bool), ("loads", c.c_bool)]
+
+
 class Goal(c.Structure):
     _fields_ = [("address", c.c_uint32), ("word", c.c_uint32)]
 
@@ -105,6 +109,7 @@ def _load() -> Any:
         "steps": (u8, slot, u32, u32, point(u32)),
         "drive": (u8, slot, point(OrderNumbers), c.c_char_p, size, u64, point(u64)),
         "trace": (u8, slot, point(OrderNumbers), c.c_char_p, size, c.c_bool, u64, point(u64)),
+        "lines": (u8, slot, point(OrderNumbers), c.c_char_p, size, point(Style), c.c_char_p, size, u64, point(u64)),
         "search": (u8, slot, point(OrderNumbers), c.c_char_p, size, u64, u64, point(Goal), point(u64)),
         "explore": (
             u8, slot, u32, c.c_char_p, size, point(WatchNumbers), size, point(u32), size, c.c_bool, c.c_char_p, size, point(Exploration),

@@ -13,7 +13,7 @@ from typing import Callable, Iterable, Iterator, Optional, Sequence
 from ._errors import GOALS, KINDS, ORDERS, AssemblyError, BadProcessor, boot_error, refusal
 from ._library import (
     ALL_RIGHT, NO_MEMORY, NO_SYMBOL, RUN_OFF, RUN_STUCK, BoardView, ConflictView, EntryView, Exploration, Fault, Goal, JudgementNumbers, OutcomeNumbers,
-    ProcessorView, RowWords, Size, Slot, lib,
+    ProcessorView, RowWords, Size, Slot, Style, lib,
 )
 from ._judging import (
     Clean, Event, Explored, Found, Hung, Judgement, Made, Open, Watch, events_of, goal_of, judgement_of, verdict_of, watches_of,
@@ -353,14 +353,18 @@ class Machine:
         return _run(made.value, answer)
 
     def trace(
-        self, order: Order = Turns(1), events: int = 1000, keys: bytes = b"", gap: int | None = None, transfer: int = 4, names: bool = False
+        self, order: Order = Turns(1), events: int = 1000, keys: bytes = b"", gap: int | None = None, transfer: int = 4, names: bool = False,
+        symbols: bool = False, loads: bool = False,
     ) -> Iterator[TraceLine]:
-        """Runs as `run` does, and gives a line for each event, as `s161 trace` prints it, with its parts by name; with `names`
-        registers have their names. The run is made by this call, before the first line is asked for. Raises also MemoryError: no
-        event is made then."""
-        made, numbers = c.c_uint64(), numbers_of(order, transfer, gap)
+        """Runs as `run` does, and gives a line for each event, as `s161 trace` prints it, with its parts by name. With `names` registers
+        have their names; with `symbols` an address has its place behind it, by the symbols of the machine's image; with `loads` the
+        line of a Step that loads has the word that it loads. The run is made by this call, before the first line is asked for. Raises
+        also MemoryError: no event is made then."""
+        made, numbers, style, file = c.c_uint64(), numbers_of(order, transfer, gap), Style(names, symbols, loads), self._image.file
         with _alone(self._lock):
-            answer = lib.talusdish_trace(self._slot, numbers, keys, len(keys), names, within("events", events, 64), made)
+            answer = lib.talusdish_lines(
+                self._slot, numbers, keys, len(keys), style, file, len(file), within("events", events, 64), made
+            )
             if answer == NO_MEMORY:
                 raise MemoryError("talusdish")
             _run(made.value, answer)

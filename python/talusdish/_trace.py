@@ -3,12 +3,20 @@
 import re
 from typing import Dict, Optional, Tuple
 
-# An item is one word, but for those that name a row, a processor or a number behind a space.
+# An item is one word, but for those that name a row, a processor or a number behind a space, or have a place in them.
 _ITEM = re.compile(
     r"trap \d+ [0-9a-f]{8}|conflict \d+ \d+|(?:starts|unlink) \d+|tlb \d+=[0-9a-f]{8} [0-9a-f]{8}"
-    r"|(?:cirqe|cipi) \d+=[0-9a-f]{8}|cram \d+ \d+=[0-9a-f]{8}|\S+"
+    r"|(?:cirqe|cipi) \d+=[0-9a-f]{8}|cram \d+ \d+=[0-9a-f]{8}|[\[(][0-9a-f]{8} <\S+>[\])]=[0-9a-f]{8}|\S+"
 )
-_STORE = re.compile(r"\[([0-9a-f]{8})\]=([0-9a-f]{8})")
+_STORE = re.compile(r"\[([0-9a-f]{8})(?: <\S+>)?\]=([0-9a-f]{8})")
+_LOAD = re.compile(r"\(([0-9a-f]{8})(?: <\S+>)?\)=([0-9a-f]{8})")
+# A name has no space in it, but may have the signs of a place.
+_STEP = re.compile(r"\d+ (\d+) ([0-9a-f]{8})(?: <(\S+)>)? (?:-|([0-9a-f]{8}) (.*))")
+
+
+def _word(found: "Optional[re.Match[str]]") -> Optional[Tuple[int, int]]:
+    """The address and the word of an item."""
+    return (int(found[1], 16), int(found[2], 16)) if found else None
 
 
 class TraceLine(str):
@@ -16,13 +24,15 @@ class TraceLine(str):
 
     `number` is the event's, from 0. Of a Step there are `processor`, the `address` of its instruction, and the fetched `word`
     and its text, `instruction`, which are None where it fetched none: an interrupt was taken before the fetch, or it was idle.
-    `key` is the byte of a key. `items` are what the event changed, in the line's order, and how it ended if not by its
-    instruction alone.
+    `place` is the address by the nearest symbol, `main+4` with the distance in hexadecimal, where the trace was asked for symbols and
+    there is one. `key` is the byte of a key. `items` are what the event changed, in the line's order, and how it ended if not by its
+    instruction alone; the first is what it loaded, where the trace was asked for loads.
     """
 
     number: int
     processor: Optional[int]
     address: Optional[int]
+    place: Optional[str]
     word: Optional[int]
     instruction: Optional[str]
     key: Optional[int]
@@ -31,17 +41,17 @@ class TraceLine(str):
     def __new__(cls, text: str) -> "TraceLine":
         line = super().__new__(cls, text)
         head, _, items = text.partition("  ")
-        number, what, *rest = head.split(" ", 3)
+        number, what, *rest = head.split(" ", 2)
         line.number = int(number)
-        line.processor = line.address = line.word = line.instruction = line.key = None
+        line.processor = line.address = line.place = line.word = line.instruction = line.key = None
         line.items = tuple(_ITEM.findall(items))
+        step = _STEP.fullmatch(head)
         if what == "k":
             line.key = int(rest[0], 16)
-        elif what != "o":
-            line.processor, line.address = int(what), int(rest[0], 16)
-            if rest[1:] and rest[1] != "-":
-                word, _, line.instruction = rest[1].partition(" ")
-                line.word = int(word, 16)
+        elif step:
+            line.processor, line.address, line.place = int(step[1]), int(step[2], 16), step[3]
+            if step[4]:
+                line.word, line.instruction = int(step[4], 16), step[5]
         return line
 
     @property
@@ -52,14 +62,18 @@ class TraceLine(str):
     @property
     def changes(self) -> "Dict[str, str]":
         """What the event changed, by its name in the line: `{"r9": "00006600"}`, `{"tlb 53": "00400140 00005600"}`."""
-        pairs = (item.partition("=") for item in self.items)
+        pairs = (item.rpartition("=") for item in self.items if not _LOAD.fullmatch(item))
         return {name: value for name, sign, value in pairs if sign}
 
     @property
     def stored(self) -> "Optional[Tuple[int, int]]":
         """The physical address of the word of RAM that was stored, and the word; None where none was."""
-        found = next(filter(None, map(_STORE.fullmatch, self.items)), None)
-        return (int(found[1], 16), int(found[2], 16)) if found else None
+        return _word(next(filter(None, map(_STORE.fullmatch, self.items)), None))
+
+    @property
+    def loaded(self) -> "Optional[Tuple[int, int]]":
+        """The physical address of the word that was loaded, and the word; None where none was, or the trace wasn't asked for loads."""
+        return _word(next(filter(None, map(_LOAD.fullmatch, self.items)), None))
 
     @property
     def trap(self) -> "Optional[Tuple[int, int]]":

@@ -9,6 +9,9 @@ from talusdish import Conflict, Doing, Entry, Event, Image, Kind, Machine, Outco
 
 EXAMPLES = Path(__file__).resolve().parents[2] / "examples"
 SUM = "main: addiu $8, $0, 5\n addiu $9, $8, 7\n lui $10, 0x8000\n sw $9, 0x3010($10)\nlast: wait\n beq $0, $0, last\n nop\n"
+COUNTER = (
+    "main: lui $8, 0x8000\n lw $9, 0x21c($8)\n addiu $9, $9, 1\n sw $9, 0x21c($8)\nlast: wait\n beq $0, $0, last\n nop\ntotal: .word 5\n"
+)
 ECHO = """ lui $8, 0xbfe0
 read: lw $9, 8($8)
  andi $9, $9, 2
@@ -271,6 +274,19 @@ class Runs(unittest.TestCase):
         self.assertEqual(list(machine.trace(events=2)), ["0 0 80000200 24080005 addiu $8, $0, 5  r8=00000005", "1 0 80000204 25090007 addiu $9, $8, 7  r9=0000000c"])
         self.assertEqual(list(machine.trace(events=1, names=True)), ["2 0 80000208 3c0a8000 lui $t2, 0x8000  t2=80000000"])
         self.assertEqual(machine.made, 3)
+
+    def test_trace_with_symbols_and_loads(self):
+        image = assemble(COUNTER, symbols=True)
+        lines = list(Machine(image, ram=65536).trace(names=True, symbols=True, loads=True))
+        self.assertEqual(lines[1], "1 0 80000204 <main+4> 8d09021c lw $t1, 540($t0)  (0000021c <total>)=00000005 t1=00000005")
+        self.assertEqual(lines[3], "3 0 8000020c <main+c> ad09021c sw $t1, 540($t0)  [0000021c <total>]=00000006")
+        self.assertEqual([line.place for line in lines], ["main", "main+4", "main+8", "main+c", "last"])
+        self.assertEqual((lines[1].loaded, lines[3].stored), ((0x21C, 5), (0x21C, 6)))
+        self.assertEqual(list(Machine(image, ram=65536).trace(loads=True, events=2))[1], "1 0 80000204 8d09021c lw $9, 540($8)  (0000021c)=00000005 r9=00000005")
+        self.assertEqual(list(Machine(image, ram=65536).trace(symbols=True, events=1)), ["0 0 80000200 <main> 3c088000 lui $8, 0x8000  r8=80000000"])
+        # without labels in its file an image has no places
+        bare = list(Machine(assemble(COUNTER), ram=65536).trace(symbols=True, events=1))
+        self.assertEqual((bare, bare[0].place), (["0 0 80000200 3c088000 lui $8, 0x8000  r8=80000000"], None))
 
     def test_names(self):
         image = assemble(SUM, symbols=True)

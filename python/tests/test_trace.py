@@ -42,6 +42,25 @@ class TraceLines(unittest.TestCase):
         self.assertEqual(line.changes["cram 1 0"], "00000007")
         self.assertIn("unlink 1", line.items)
 
+    def test_places(self):
+        line = TraceLine("3 0 8000020c <main+c> ad09021c sw $t1, 540($t0)  [0000021c <total>]=00000006")
+        self.assertEqual((line.address, line.place, line.word), (0x8000020C, "main+c", 0xAD09021C))
+        self.assertEqual((line.instruction, line.items), ("sw $t1, 540($t0)", ("[0000021c <total>]=00000006",)))
+        self.assertEqual((line.stored, line.loaded), ((0x21C, 6), None))
+        self.assertEqual(line.changes, {"[0000021c <total>]": "00000006"})
+        line = TraceLine("4 1 80000210 <a=b<c>+10> 11000001 beq $8, $0, 0x80000218 <a=b<c>+18>")
+        self.assertEqual((line.place, line.instruction), ("a=b<c>+10", "beq $8, $0, 0x80000218 <a=b<c>+18>"))
+        self.assertEqual(TraceLine("5 0 80000210 <a=b> ad090004 sw $9, 4($8)  [00000004 <a=b>]=00000001").changes, {"[00000004 <a=b>]": "00000001"})
+        self.assertEqual(TraceLine("35 1 800002a8 <last> -  idle").place, "last")
+        self.assertIsNone(TraceLine("33 1 800002a0 8d2b0000 lw $11, 0($9)").place)
+
+    def test_loads(self):
+        line = TraceLine("1 0 80000204 <main+4> 8d09021c lw $t1, 540($t0)  (0000021c <total>)=00000005 t1=00000005")
+        self.assertEqual((line.loaded, line.stored, line.changes), ((0x21C, 5), None, {"t1": "00000005"}))
+        self.assertEqual(line.items[0], "(0000021c <total>)=00000005")
+        line = TraceLine("18 1 80000298 8d2b0000 lw $11, 0($9)  (00003008)=00000001 r11=00000001")
+        self.assertEqual((line.loaded, line.place), ((0x3008, 1), None))
+
     def test_idle_key_and_transfer(self):
         self.assertTrue(TraceLine("52 1 800002b8 -  idle").is_idle)
         key = TraceLine("0 k 41  waiting=1 rirq=00000003")

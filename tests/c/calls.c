@@ -60,6 +60,7 @@ static bool has_bytes(talusdish_slot *slot, const char *want) {
 
 static const talusdish_size small = {65536, 1, 16, false, false};
 static const talusdish_order turns = {TALUSDISH_TURNS, 1, 0, 0, 0, 4, 0, false};
+static const talusdish_style plain = {false, false, false};
 
 static uint8_t boot(talusdish_slot *slot, const char *text, talusdish_size conf) {
     talusdish_fault fault;
@@ -124,6 +125,8 @@ static void on_empty(talusdish_slot *slot) {
     CHECK(talusdish_drive(slot, &turns, &byte, 1, 10, &made) == TALUSDISH_NOTHING && made == 0);
     made = 5;
     CHECK(talusdish_trace(slot, &turns, &byte, 0, false, 10, &made) == TALUSDISH_NOTHING && made == 0);
+    made = 5;
+    CHECK(talusdish_lines(slot, &turns, &byte, 0, &plain, &byte, 1, 10, &made) == TALUSDISH_NOTHING && made == 0);
     CHECK(talusdish_output(slot) == TALUSDISH_NOTHING);
     CHECK(talusdish_log(slot) == TALUSDISH_NOTHING);
     made = 5;
@@ -346,6 +349,7 @@ static void explorations(void) {
     goal.watches = 1;
     goal.watch[0] = (talusdish_watch){64, 0, 0x1000, 0x1004};
     CHECK(explore(&slot, 9, &goal, &found) == TALUSDISH_BAD_WATCH && memcmp(&found, &same, sizeof found) == 0);
+    CHECK(explore(&slot, 0, &goal, &found) == TALUSDISH_BAD && memcmp(&found, &same, sizeof found) == 0); /* the limit comes first */
     goal.watch[0] = (talusdish_watch){63, 0xfffff, 0x1000, 65536};
     CHECK(explore(&slot, 9, &goal, &found) == TALUSDISH_BAD_WATCH && memcmp(&found, &same, sizeof found) == 0);
     goal.watch[0].done = 65532;
@@ -619,6 +623,62 @@ static void traces(void) {
     talusdish_close(&slot);
 }
 
+/* Loads the word of a label, and stores one more. */
+static const char *counter =
+    "main: lui $8, 0x8000\n lw $9, 0x21c($8)\n addiu $9, $9, 1\n sw $9, 0x21c($8)\nlast: wait\n beq $0, $0, last\n nop\ntotal: .word 5\n";
+
+/* So many events of a machine that is newly booted from a file, and their lines. */
+static bool has_lines(const uint8_t *file, size_t size, talusdish_style style, const uint8_t *named, size_t named_size, uint64_t n, const char *want) {
+    talusdish_slot slot = {0};
+    uint8_t *own = exact(named, named_size);
+    uint64_t made = 0;
+    CHECK(talusdish_open(&slot) && talusdish_boot(&slot, file, size, &small) == 0);
+    bool same = talusdish_lines(&slot, &turns, (const uint8_t *)"", 0, &style, own, named_size, n, &made) == 0 && made == n && has_bytes(&slot, want);
+    free(own);
+    talusdish_close(&slot);
+    return same;
+}
+
+/* The lines are those that s161 trace prints of this kernel with these options. */
+static void lines(void) {
+    talusdish_slot slot = {0};
+    talusdish_order none = turns;
+    talusdish_style all = {true, true, true}, by_symbols = {false, true, false}, by_loads = {false, false, true};
+    size_t size;
+    uint64_t made = 9;
+    CHECK(talusdish_open(&slot));
+    CHECK(talusdish_assemble(&slot, (const uint8_t *)counter, strlen(counter), true, &(talusdish_fault){0, 0}) == 0);
+    uint8_t *file = bytes_of(&slot, &size);
+    CHECK(talusdish_lines(&slot, &turns, (const uint8_t *)"", 0, &all, file, size, 9, &made) == TALUSDISH_NOTHING && made == 0);
+    CHECK(has_lines(file, size, all, file, size, 4,
+                    "0 0 80000200 <main> 3c088000 lui $t0, 0x8000  t0=80000000\n"
+                    "1 0 80000204 <main+4> 8d09021c lw $t1, 540($t0)  (0000021c <total>)=00000005 t1=00000005\n"
+                    "2 0 80000208 <main+8> 25290001 addiu $t1, $t1, 1  t1=00000006\n"
+                    "3 0 8000020c <main+c> ad09021c sw $t1, 540($t0)  [0000021c <total>]=00000006\n"));
+    CHECK(has_lines(file, size, by_symbols, file, size, 2,
+                    "0 0 80000200 <main> 3c088000 lui $8, 0x8000  r8=80000000\n1 0 80000204 <main+4> 8d09021c lw $9, 540($8)  r9=00000005\n"));
+    static const char *loads = "0 0 80000200 3c088000 lui $8, 0x8000  r8=80000000\n1 0 80000204 8d09021c lw $9, 540($8)  (0000021c)=00000005 r9=00000005\n";
+    CHECK(has_lines(file, size, by_loads, file, size, 2, loads));
+    CHECK(has_lines(file, size, by_loads, (const uint8_t *)"", 0, 2, loads));
+    /* no table of symbols: no file at all, a text, a file that is cut off */
+    static const char *bare = "0 0 80000200 3c088000 lui $8, 0x8000  r8=80000000\n1 0 80000204 8d09021c lw $9, 540($8)  r9=00000005\n";
+    CHECK(has_lines(file, size, by_symbols, (const uint8_t *)"", 0, 2, bare));
+    CHECK(has_lines(file, size, by_symbols, (const uint8_t *)counter, strlen(counter), 2, bare));
+    CHECK(has_lines(file, size, by_symbols, file, size - 1, 2, bare));
+    CHECK(has_lines(file, size, plain, file, size, 2, bare));
+    /* refusals, each of which leaves the session */
+    CHECK(talusdish_boot(&slot, file, size, &small) == 0);
+    none.turns = 0;
+    CHECK(talusdish_lines(&slot, &none, (const uint8_t *)"", 0, &all, file, size, 9, &made) == TALUSDISH_NO_TURN && made == 0);
+    none.kind = 3;
+    made = 9;
+    CHECK(talusdish_lines(&slot, &none, (const uint8_t *)"", 0, &all, file, size, 9, &made) == TALUSDISH_BAD && made == 0);
+    CHECK(talusdish_made(&slot) == 0 && talusdish_length(&slot) == size);
+    CHECK(talusdish_lines(&slot, &turns, (const uint8_t *)"", 0, &all, file, size, 9, &made) == TALUSDISH_RUN_STUCK && made == 5 && talusdish_made(&slot) == 5);
+    free(file);
+    talusdish_close(&slot);
+}
+
 /* tlbwi writes EntryHi and EntryLo to the row that Index names; a byte is sent then. */
 static const char *text_of_views =
     " lui $8, 0x0040\n ori $8, $8, 0x0140\n mtc0 $8, $10\n ori $9, $0, 0x5600\n mtc0 $9, $2\n"
@@ -698,6 +758,7 @@ int main(void) {
     orders();
     waits();
     traces();
+    lines();
     views();
     copies();
     printf("%d passed, %d failed\n", passed, failed);

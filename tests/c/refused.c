@@ -91,6 +91,9 @@ static uint64_t whole(long at) {
     AGAIN(254, talusdish_boot(&slot, file, size, &conf));
     AGAIN(254, talusdish_trace(&slot, &order, (const uint8_t *)"k", 1, true, 2, &made));
     note(made);
+    talusdish_style style = {true, true, true};
+    AGAIN(254, talusdish_lines(&slot, &order, (const uint8_t *)"", 0, &style, file, size, 1, &made));
+    note(made);
     AGAIN(6, talusdish_event(&slot, TALUSDISH_STEP, 0, &outcome));
     note(outcome.kind);
     AGAIN(6, talusdish_event(&slot, TALUSDISH_DONE, 0, &outcome));

@@ -1,4 +1,4 @@
-use Rattle.std.proofs.Common.{◌≡◌, ◌∙◌, refl, sym, ap, subst, ℕ, ◌+◌, ◌<◌, ◌≤◌, List, [], ◌∷◌, ◌++◌, length, slice_get, None, Some, Ok, false, arith}
+use Rattle.std.proofs.Common.{◌≡◌, ◌∙◌, refl, sym, ap, subst, ℕ, ◌+◌, ◌<◌, ◌≤◌, List, [], ◌∷◌, ◌++◌, length, slice_get, None, Some, Ok, Bool, false, arith}
 use Rattle.std.proofs.lemmas.List.{append-nil, append_assoc, length-append}
 use Rattle.std.specs.Prelude.{if◌then◌else◌}
 use Rattle.m161_cpu.specs.declared.processor.Outcome.{Outcome}
@@ -16,7 +16,7 @@ use Rattle.m161_drive.specs.Policy.{Rules}
 use Rattle.m161_drive.proofs.Driving.{chooses_append, ended_so}
 use Rattle.m161_dis.specs.declared.naming.Style.{Style}
 use Rattle.m161_text.specs.Lines.{with_line_end}
-use Rattle.m161_trace.specs.Line.{event_line}
+use Rattle.m161_trace.specs.Line.{event_line_with}
 use Rattle.m161_c.specs.Driven.{AreLines, DrivesOn, TracesOn}
 use Rattle.m161_c.specs.helpers.Turns.{MakesNext, TracesNext, next_key}
 
@@ -103,52 +103,52 @@ module _ (rules : Rules) (n : ℕ) (m : History) (made : ℕ) (c : Cursor) (k : 
 
 -- Lines.
 
-pub lines_append : (style : Style) (es fs : List Entry) (a b : List ℕ) (s u t : State) → AreLines style s es a u → AreLines style u fs b t →
-    AreLines style s (es ++ fs) (a ++ b) t
-lines_append style [] fs a b s u t h g =
-    subst (λ x. AreLines style x fs (a ++ b) t) h.1 (subst (λ x. AreLines style u fs (x ++ b) t) (sym h.0) g)
-lines_append style (e ∷ es) fs a b s u t h g = (
+pub lines_append : (style : Style) (loads : Bool) (es fs : List Entry) (a b : List ℕ) (s u t : State) → AreLines style loads s es a u → AreLines style loads u fs b t →
+    AreLines style loads s (es ++ fs) (a ++ b) t
+lines_append style loads [] fs a b s u t h g =
+    subst (λ x. AreLines style loads x fs (a ++ b) t) h.1 (subst (λ x. AreLines style loads u fs (x ++ b) t) (sym h.0) g)
+lines_append style loads (e ∷ es) fs a b s u t h g = (
   h.0,
   h.1 ++ b,
   h.2,
-  ap (λ x. x ++ b) h.3 ∙ append_assoc (with_line_end (event_line style s.made e.event s e.outcome h.0)) h.1 b,
-  lines_append style es fs h.1 b h.0 u t h.4 g,
+  ap (λ x. x ++ b) h.3 ∙ append_assoc (with_line_end (event_line_with style loads s.made e.event s e.outcome h.0)) h.1 b,
+  lines_append style loads es fs h.1 b h.0 u t h.4 g,
 )
 
 -- a run so far, with its lines
-pub record Tracing (style : Style) (rules : Rules) (m : History) (before : List ℕ) (made : ℕ) (c : Cursor) (k : History) (after : List ℕ) : Type 0 where
+pub record Tracing (style : Style) (loads : Bool) (rules : Rules) (m : History) (before : List ℕ) (made : ℕ) (c : Cursor) (k : History) (after : List ℕ) : Type 0 where
   pub going : Going rules m made c k
   pub lines : List ℕ
-  pub are_lines : AreLines style m.state going.entries lines k.state
+  pub are_lines : AreLines style loads m.state going.entries lines k.state
   pub text_is : after ≡ before ++ lines
 
-pub begins_trace : (style : Style) (rules : Rules) (m : History) (before : List ℕ) (c : Cursor) → c ≡ cursor_at rules m.state →
-    length m.log ≤ m.start.conf.log → Tracing style rules m before 0 c m before
+pub begins_trace : (style : Style) (loads : Bool) (rules : Rules) (m : History) (before : List ℕ) (c : Cursor) → c ≡ cursor_at rules m.state →
+    length m.log ≤ m.start.conf.log → Tracing style loads rules m before 0 c m before
 unfolding begins
-begins_trace style rules m before c fresh fits = record {
+begins_trace style loads rules m before c fresh fits = record {
   going = begins rules m c fresh fits;
   lines = [];
   are_lines = (refl, refl);
   text_is = sym (append-nil before);
 }
 
-module _ (style : Style) (rules : Rules) (n : ℕ) (m : History) (a : List ℕ) (made : ℕ) (c : Cursor) (k : History) (b : List ℕ)
-    (so_far : Tracing style rules m a made c k b) where
-  pub traces_on : (d : Cursor) (j : History) (x : List ℕ) → TracesNext style rules c k b None d j x → Tracing style rules m a (made + 1) d j x
+module _ (style : Style) (loads : Bool) (rules : Rules) (n : ℕ) (m : History) (a : List ℕ) (made : ℕ) (c : Cursor) (k : History) (b : List ℕ)
+    (so_far : Tracing style loads rules m a made c k b) where
+  pub traces_on : (d : Cursor) (j : History) (x : List ℕ) → TracesNext style loads rules c k b None d j x → Tracing style loads rules m a (made + 1) d j x
   unfolding more
   traces_on d j x turn =
       let e = turn.0 in
-      let line = with_line_end (event_line style k.state.made e.event k.state e.outcome j.state) in
+      let line = with_line_end (event_line_with style loads k.state.made e.event k.state e.outcome j.state) in
       record {
         going = more rules n m made c k so_far.going d j e turn.1 turn.2;
         lines = so_far.lines ++ line;
         are_lines =
-            lines_append style so_far.going.entries (e ∷ []) so_far.lines line m.state k.state j.state so_far.are_lines
+            lines_append style loads so_far.going.entries (e ∷ []) so_far.lines line m.state k.state j.state so_far.are_lines
             (j.state, [], turn.1.accepted, sym (append-nil line), (refl, refl));
         text_is = turn.3 ∙ ap (λ t. t ++ line) so_far.text_is ∙ append_assoc a so_far.lines line;
       }
 
-  traced_here : (stop : Stop) → made ≤ n → Stops rules n made c k.state stop → TracesOn style rules n m (record { made = made; stop = stop }) k a b
+  traced_here : (stop : Stop) → made ≤ n → Stops rules n made c k.state stop → TracesOn style loads rules n m (record { made = made; stop = stop }) k a b
   traced_here stop few stops = (
     so_far.going.entries,
     so_far.lines,
@@ -164,12 +164,12 @@ module _ (style : Style) (rules : Rules) (n : ℕ) (m : History) (a : List ℕ) 
     so_far.text_is,
   )
 
-  pub trace_stopped : (d : Cursor) (stop : Stop) (j : History) (x : List ℕ) → made < n → TracesNext style rules c k b (Some stop) d j x →
-      TracesOn style rules n m (record { made = made; stop = stop }) j a x
+  pub trace_stopped : (d : Cursor) (stop : Stop) (j : History) (x : List ℕ) → made < n → TracesNext style loads rules c k b (Some stop) d j x →
+      TracesOn style loads rules n m (record { made = made; stop = stop }) j a x
   trace_stopped d stop j x less turn =
       rw (turn.1, turn.2) (traced_here stop (omega (arith, less)) (stops_so rules n made c k.state stop less turn.0))
 
-  pub trace_at_last : made ≡ n → TracesOn style rules n m (record { made = n; stop = if k.state.board.off then Off else End }) k a b
+  pub trace_at_last : made ≡ n → TracesOn style loads rules n m (record { made = n; stop = if k.state.board.off then Off else End }) k a b
   trace_at_last all =
-      subst (λ i. TracesOn style rules n m (record { made = i; stop = if k.state.board.off then Off else End }) k a b) all
+      subst (λ i. TracesOn style loads rules n m (record { made = i; stop = if k.state.board.off then Off else End }) k a b) all
       (traced_here (if k.state.board.off then Off else End) (omega (arith, all)) (ended_so rules n made c k.state k.state.board.off refl all))

@@ -1,4 +1,4 @@
-use Rattle.std.specs.Prelude.{◌≡◌, ℕ, ◌==◌, if◌then◌else◌, List, [], ◌∷◌, ◌++◌, Option, None, Some, Ok}
+use Rattle.std.specs.Prelude.{◌≡◌, ℕ, ◌==◌, if◌then◌else◌, Bool, List, [], ◌∷◌, ◌++◌, Option, None, Some, Ok}
 use Rattle.m161_machine.specs.declared.event.Entry.{Entry}
 use Rattle.m161_machine.specs.Refusal.{number_of_refusal}
 use Rattle.m161_machine.specs.State.{State, next}
@@ -15,7 +15,7 @@ use Rattle.m161_drive.specs.Drive.{Drives}
 use Rattle.m161_drive.specs.Policy.{Rules}
 use Rattle.m161_dis.specs.declared.naming.Style.{Style}
 use Rattle.m161_text.specs.Lines.{with_line_end}
-use Rattle.m161_trace.specs.Line.{event_line}
+use Rattle.m161_trace.specs.Line.{event_line_with}
 use Rattle.m161_c.specs.declared.answer.OrderNumbers.{OrderNumbers}
 
 -- Driven runs of a machine, whose events its log keeps.
@@ -73,18 +73,18 @@ DrivesAs numbers keys n made answer m k = DrivesIn (order_in numbers) numbers ke
 
 -- Traces.
 
--- from one state to another, these are the lines of the events of these entries
-abbrev pub AreLines : Style → State → List Entry → List ℕ → State → Type 0
-AreLines style s [] text t = (text ≡ []) × (t ≡ s)
-AreLines style s (e ∷ es) text t =
+-- from one state to another, these are the lines of the events of these entries, with what their Steps load or without
+abbrev pub AreLines : Style → Bool → State → List Entry → List ℕ → State → Type 0
+AreLines style loads s [] text t = (text ≡ []) × (t ≡ s)
+AreLines style loads s (e ∷ es) text t =
     (u : State) × (rest : List ℕ) × (next s e.event ≡ Ok (e.outcome, u))
-    × (text ≡ with_line_end (event_line style s.made e.event s e.outcome u) ++ rest)
-    × AreLines style u es rest t
+    × (text ≡ with_line_end (event_line_with style loads s.made e.event s e.outcome u) ++ rest)
+    × AreLines style loads u es rest t
 
 -- a driven run whose lines stand behind a text
 abbrev pub TracesOn :
-    Style → Rules → ℕ → History → Driven → History → List ℕ → List ℕ → Type 0
-TracesOn style rules n m driven k before after =
+    Style → Bool → Rules → ℕ → History → Driven → History → List ℕ → List ℕ → Type 0
+TracesOn style loads rules n m driven k before after =
     (entries : List Entry) × (lines : List ℕ)
     × Drives rules n m.state driven entries k.state × Slides m entries k
-    × AreLines style m.state entries lines k.state × (after ≡ before ++ lines)
+    × AreLines style loads m.state entries lines k.state × (after ≡ before ++ lines)

@@ -11,11 +11,10 @@ use Rattle.m161_machine.specs.State.{State}
 use Rattle.m161_reach.specs.Reach.{CanBeAsked, IsLearnt, question_of, rules_of}
 use Rattle.m161_states.specs.declared.verdict.Unknown.{Unknown}
 use Rattle.m161_states.specs.declared.verdict.Verdict.{Verdict}
-use Rattle.m161_states.specs.declared.verdict.Verdict.TheVariants.{Stale, Reached, Conflict, Stuck, Output}
 use Rattle.m161_c.specs.declared.answer.Exploration.{Exploration}
-use Rattle.m161_c.specs.declared.answer.VerdictNumbers.{VerdictNumbers}
 use Rattle.m161_c.specs.declared.answer.WatchNumbers.{WatchNumbers}
 use Rattle.m161_c.specs.declared.session.Session.{Session}
+use Rattle.m161_c.specs.Verdicts.{as_run, no_verdict, run_verdict}
 
 -- The exploration of all states of a machine.
 
@@ -32,21 +31,6 @@ abbrev pub criteria_of : List ℕ → List WatchNumbers → List ℕ → Option 
 criteria_of keys watches never output =
     record { watches = map watch_of watches; never = never; output = output; keys = keys }
 
--- the numbers of a verdict
-
-abbrev pub no_verdict : VerdictNumbers
-no_verdict = record { kind = 0; processor = 0; address = 0; row = 0; other = 0 }
-
-abbrev pub verdict_numbers : Verdict → VerdictNumbers
-verdict_numbers (Stale p address row) =
-    record { kind = 1; processor = p; address = address; row = row; other = 0 }
-verdict_numbers (Reached p address) =
-    record { kind = 2; processor = p; address = address; row = 0; other = 0 }
-verdict_numbers (Conflict c) =
-    record { kind = 3; processor = c.processor; address = 0; row = c.row; other = c.other }
-verdict_numbers Stuck = record no_verdict { kind = 4 }
-verdict_numbers Output = record no_verdict { kind = 5 }
-
 -- an answer as numbers, with the numbers of the events of its list, if it has one
 abbrev pub Tells : Answer Verdict Unknown → Exploration → List ℕ → Type 0
 Tells (Clean states) found events =
@@ -54,7 +38,7 @@ Tells (Clean states) found events =
     × (events ≡ [])
 Tells (Found list what states) found events =
     (found
-    ≡ record { kind = 1; states = states; events = length list.items; verdict = verdict_numbers what })
+    ≡ record { kind = 1; states = states; events = length list.items; verdict = run_verdict (as_run what) })
     × (events ≡ list.items)
 Tells (Hung list states) found events =
     (found ≡ record { kind = 2; states = states; events = length list.items; verdict = no_verdict })
@@ -63,26 +47,39 @@ Tells (Open size) found events =
     (found ≡ record { kind = 3; states = 0; events = size; verdict = no_verdict }) × (events ≡ [])
 Tells (Ended reason) found events = ⊥
 
+-- the watches: no one is bad; a first one is bad
+
+abbrev pub AreAllGood : State → Criteria → Type 0
+AreAllGood boot goal = (k : ℕ) → AreGood boot.conf.ram goal.watches k
+
+abbrev pub IsOneBad : State → Criteria → Type 0
+IsOneBad boot goal = (k : ℕ) × IsBad boot.conf.ram goal.watches k × AreGood boot.conf.ram goal.watches k
+
 -- from this state at boot, with so much of time being known as Steps read, the answer says what it says of all lists of
 -- events; the session's bytes are the events
 pub record IsExplored (boot : State) (limit : ℕ) (goal : Criteria) (found : Exploration) (events : List ℕ) : Type 0 where
   pub some : 0 < limit
-  pub good : (k : ℕ) → AreGood boot.conf.ram goal.watches k
+  pub good : AreAllGood boot goal
+  pub asked : CanBeAsked boot goal
   pub known : Known
   pub learnt : IsLearnt (question_of boot goal known)
   pub answer : Answer Verdict Unknown
   pub answers : Answers (rules_of (question_of boot goal known)) limit answer
   pub tells : Tells answer found events
 
--- why there is no exploration: of no states; memory was refused; a watch is bad; what is asked doesn't fit
--- its words
+-- Why there is no exploration. What is asked is looked at in this order, and the first that isn't right is answered: the
+-- limit; the watches; whether it fits its words.
+
+-- of some states; memory may be refused instead, before any of these is known
+abbrev pub IsRefused : State → Criteria → ℕ → Type 0
+IsRefused boot goal answer =
+    IsOneBad boot goal × (answer ≡ 22)
+    ⊎ AreAllGood boot goal × (CanBeAsked boot goal → ⊥) × (answer ≡ 253)
+    ⊎ (answer ≡ 254)
+
 abbrev pub IsUnexplored : State → ℕ → Criteria → ℕ → Type 0
 IsUnexplored boot limit goal answer =
-    (answer ≡ 253) × (limit ≡ 0)
-    ⊎ (answer ≡ 254)
-    ⊎ (answer ≡ 22)
-    × ((k : ℕ) × IsBad boot.conf.ram goal.watches k × AreGood boot.conf.ram goal.watches k)
-    ⊎ (answer ≡ 253) × (CanBeAsked boot goal → ⊥)
+    (limit ≡ 0) × (answer ≡ 253) ⊎ (0 < limit) × IsRefused boot goal answer
 
 -- the machine of a session is explored; or nothing is changed and nothing told
 abbrev pub ExploresFor :

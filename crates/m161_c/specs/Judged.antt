@@ -6,29 +6,15 @@ use Rattle.m161_audit.specs.declared.finding.Finding.TheVariants as finding
 use Rattle.m161_audit.specs.declared.watch.Watch.{Watch}
 use Rattle.m161_audit.specs.Audit.{AuditsState}
 use Rattle.m161_judge.specs.declared.verdict.Judged.{Judged}
-use Rattle.m161_judge.specs.declared.verdict.Verdict.{Verdict}
-use Rattle.m161_judge.specs.declared.verdict.Verdict.TheVariants.{Stale, Reached, Conflict, Stuck, Output, End}
+use Rattle.m161_judge.specs.declared.verdict.Verdict.TheVariants.{Stale}
 use Rattle.m161_judge.specs.Judge.{Judges}
 use Rattle.m161_judge.specs.Verdict.{Criteria}
 use Rattle.m161_machine.specs.History.{History, boot_fault, boot_state, events_of}
 use Rattle.m161_c.specs.declared.answer.Judgement.{Judgement}
-use Rattle.m161_c.specs.declared.answer.VerdictNumbers.{VerdictNumbers}
-use Rattle.m161_c.specs.Explored.{no_verdict}
 use Rattle.m161_c.specs.Files.{number_of_boot}
+use Rattle.m161_c.specs.Verdicts.{no_verdict, run_verdict}
 
 -- What is wrong with the events that a machine has made.
-
--- the numbers of a verdict
-abbrev pub run_verdict : Verdict → VerdictNumbers
-run_verdict (Stale place p address row) =
-    record { kind = 1; processor = p; address = address; row = row; other = 0 }
-run_verdict (Reached place p address) =
-    record { kind = 2; processor = p; address = address; row = 0; other = 0 }
-run_verdict (Conflict c) =
-    record { kind = 3; processor = c.processor; address = 0; row = c.row; other = c.other }
-run_verdict Stuck = record no_verdict { kind = 4 }
-run_verdict Output = record no_verdict { kind = 5 }
-run_verdict End = record no_verdict { kind = 6 }
 
 abbrev pub no_judgement : Judgement
 no_judgement = record { verdict = no_verdict; events = 0 }
@@ -65,7 +51,8 @@ TellsOne {A} IsSo numbers answer before after =
     ⊎ ((result : Result A AuditError) × IsSo result
     × TellsResult numbers result answer before after)
 
--- of a machine whose log has all events since its boot; of another one it isn't known
+-- Why there is no verdict, in this order: there is no machine; its log doesn't have all events since its boot; what the audit
+-- or the judge says. Behind the log, memory may be refused instead.
 
 abbrev pub WhereAll : Bool → ℕ → Judgement → Judgement → Type 0 → Type 0
 WhereAll true answer before after Is = Is

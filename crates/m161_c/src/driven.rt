@@ -132,11 +132,12 @@ fn trace_next(
     cursor: &mut Cursor,
     tracer: &mut Tracer<Tlb, Console>,
     style: &Style,
+    loads: bool,
     text: &mut String,
 ) -> Result<Option<Stop>, AllocError>
     requires { tracer.old ≡ machine.old.state }
     ensures step { IfOk result (λ _. tracer.new ≡ machine.new.state) }
-    ensures turn { IfOk result (λ stop. TracesNext style.now policy.now cursor.old machine.old
+    ensures turn { IfOk result (λ stop. TracesNext style.now loads policy.now cursor.old machine.old
         (string_bytes text.old) stop cursor.new machine.new (string_bytes text.new)) }
 {
     if machine.is_off() {
@@ -149,14 +150,15 @@ fn trace_next(
     match machine.event(event) {
         Ok(outcome) => {
             cursor.took(event, machine.core());
-            tracer.line(machine, event, outcome, number, style, text)?;
+            tracer.line_with(machine, event, outcome, number, style, loads, text)?;
             Ok(None)
         }
         Err(refusal) => Ok(Some(Stop::Refused(refusal))),
     }
 }
 
-/// Makes the events that a policy chooses with a new cursor, at most so many, and appends their lines.
+/// Makes the events that a policy chooses with a new cursor, at most so many, and appends their lines,
+/// with what their Steps load if that is asked for.
 ///
 /// # Errors
 /// Memory was refused; the machine and the text are of no use then.
@@ -165,17 +167,26 @@ pub(crate) fn trace(
     machine: &mut Machine,
     policy: &Policy,
     style: &Style,
+    loads: bool,
     n: u64,
     text: &mut String,
 ) -> Result<Driven, AllocError>
-    ensures { IfOk result (λ driven. TracesOn style.now policy.now n machine.old driven machine.new
+    ensures { IfOk result (λ driven. TracesOn style.now loads policy.now n machine.old driven machine.new
         (string_bytes text.old) (string_bytes text.new)) }
 {
     machine.replay();
     let mut tracer = tracer_of(alloc, machine)?;
     let mut cursor = Cursor::new(policy, machine.core());
     for made in 0..n {
-        let stop = trace_next(machine, policy, &mut cursor, &mut tracer, style, text)?;
+        let stop = trace_next(
+            machine,
+            policy,
+            &mut cursor,
+            &mut tracer,
+            style,
+            loads,
+            text,
+        )?;
         if let Some(stop) = stop {
             return Ok(Driven { made, stop });
         }

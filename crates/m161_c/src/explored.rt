@@ -5,10 +5,11 @@ ghost use Rattle.m161_audit.specs.Watch.{AreGood};
 ghost use Rattle.m161_judge.specs.Judge.{bytes_of};
 ghost use Rattle.m161_machine.specs.History.{boot_state};
 ghost use Rattle.m161_reach.specs.Reach.{HasEnded, IsAtBoot};
-ghost use Rattle.m161_c.specs.Explored.{IsExplored, IsUnexplored, Tells, criteria_of, verdict_numbers, watch_of};
+ghost use Rattle.m161_c.specs.Explored.{AreAllGood, IsExplored, IsRefused, IsUnexplored, Tells, criteria_of, watch_of};
 ghost use Rattle.m161_c.specs.helpers.Explored.{IsFound, IsUnwatched};
 
 use crate::answer::{Exploration, VerdictNumbers, WatchNumbers};
+use crate::verdict::{NONE, as_run, run_verdict};
 use crate::{BAD, BAD_WATCH, NO_MEMORY};
 use m161::{Core, Machine};
 use m161_audit::{AuditError, Watch, audit_core};
@@ -17,15 +18,6 @@ use m161_judge::Goal;
 use m161_reach::{Exploration as Explored, can_be_asked, explore_machine};
 use m161_states::{Unknown, Verdict};
 use std::alloc::{AllocError, Global};
-
-/// No verdict.
-pub(crate) const NONE: VerdictNumbers = VerdictNumbers {
-    kind: 0,
-    processor: 0,
-    address: 0,
-    row: 0,
-    other: 0,
-};
 
 fn watch_of(numbers: &WatchNumbers) -> Watch
     ensures { result ≡ watch_of numbers.now }
@@ -76,9 +68,9 @@ pub(crate) fn check_watches(alloc: Global, core: &Core, watches: &[Watch]) -> Re
 fn explore_good(alloc: Global, boot: &Core, limit: u32, goal: &Goal) -> Result<Explored, u8>
     requires boot { IsAtBoot boot.now.state }
     requires some { 0 < limit }
-    requires good { (k : ℕ) → AreGood boot.now.state.conf.ram goal.now.watches k }
+    requires good { AreAllGood boot.now.state goal.now }
     ensures ok { IfOk result (IsFound boot.now.state limit goal.now) }
-    ensures err { IfErr result (IsUnexplored boot.now.state limit goal.now) }
+    ensures err { IfErr result (IsRefused boot.now.state goal.now) }
 {
     if !can_be_asked(boot, goal) {
         return Err(BAD);
@@ -91,50 +83,14 @@ fn explore_good(alloc: Global, boot: &Core, limit: u32, goal: &Goal) -> Result<E
 
 // Explores a machine at boot.
 fn explore_boot(alloc: Global, boot: &Core, limit: u32, goal: &Goal) -> Result<Explored, u8>
-    requires { IsAtBoot boot.now.state }
+    requires boot { IsAtBoot boot.now.state }
+    requires some { 0 < limit }
     ensures ok { IfOk result (IsFound boot.now.state limit goal.now) }
-    ensures err { IfErr result (IsUnexplored boot.now.state limit goal.now) }
+    ensures err { IfErr result (IsRefused boot.now.state goal.now) }
 {
-    if limit == 0 {
-        return Err(BAD);
-    }
     match check_watches(alloc, boot, goal.watches) {
         Ok(()) => explore_good(alloc, boot, limit, goal),
         Err(answer) => Err(answer),
-    }
-}
-
-fn verdict_numbers(verdict: Verdict) -> VerdictNumbers
-    ensures { result ≡ verdict_numbers verdict }
-{
-    match verdict {
-        Verdict::Stale {
-            processor,
-            address,
-            row,
-        } => VerdictNumbers {
-            kind: 1,
-            processor,
-            address,
-            row: u32::from(row),
-            other: 0,
-        },
-        Verdict::Reached { processor, address } => VerdictNumbers {
-            kind: 2,
-            processor,
-            address,
-            row: 0,
-            other: 0,
-        },
-        Verdict::Conflict(conflict) => VerdictNumbers {
-            kind: 3,
-            processor: conflict.processor,
-            address: 0,
-            row: u32::from(conflict.row),
-            other: u32::from(conflict.other),
-        },
-        Verdict::Stuck => VerdictNumbers { kind: 4, ..NONE },
-        Verdict::Output => VerdictNumbers { kind: 5, ..NONE },
     }
 }
 
@@ -196,7 +152,7 @@ fn tell(
             events,
             verdict,
             states,
-        } => tell_list(alloc, 1, states, &events, verdict_numbers(verdict)),
+        } => tell_list(alloc, 1, states, &events, run_verdict(as_run(verdict))),
         Answer::Hung { events, states } => tell_list(alloc, 2, states, &events, NONE),
         Answer::Open { size } => Ok((
             Exploration {
@@ -218,9 +174,10 @@ fn tell_boot(
     limit: u32,
     goal: &Goal,
 ) -> Result<(Exploration, Vec<u8>), u8>
-    requires { IsAtBoot boot.now.state }
+    requires boot { IsAtBoot boot.now.state }
+    requires some { 0 < limit }
     ensures ok { IfOk result (λ told. IsExplored boot.now.state limit goal.now told.0 told.1.items) }
-    ensures err { IfErr result (IsUnexplored boot.now.state limit goal.now) }
+    ensures err { IfErr result (IsRefused boot.now.state goal.now) }
 {
     match explore_boot(alloc, boot, limit, goal) {
         Ok(found) => match tell(alloc, found.answer) {
@@ -247,6 +204,9 @@ pub(crate) fn explore(
     ensures err { IfErr result (IsUnexplored (boot_state machine.now.start) limit
         (criteria_of keys.now watches.now never.now (bytes_of output.entry))) }
 {
+    if limit == 0 {
+        return Err(BAD);
+    }
     let Ok(watches) = watches_of(alloc, watches) else {
         return Err(NO_MEMORY);
     };

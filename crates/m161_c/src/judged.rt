@@ -5,10 +5,11 @@ ghost use Rattle.m161_audit.specs.Audit.{AuditsState};
 ghost use Rattle.m161_judge.specs.Judge.{bytes_of};
 ghost use Rattle.m161_machine.specs.History.{boot_state, events_of};
 ghost use Rattle.m161_c.specs.Explored.{criteria_of, watch_of};
-ghost use Rattle.m161_c.specs.Judged.{AuditsAs, JudgesAs, TellsOne, TellsResult, finding_numbers, judged_numbers, number_of_audit, run_verdict};
+ghost use Rattle.m161_c.specs.Judged.{AuditsAs, JudgesAs, TellsOne, TellsResult, finding_numbers, judged_numbers, number_of_audit};
 
-use crate::answer::{Judgement, VerdictNumbers, WatchNumbers};
-use crate::explored::{NONE, watches_of};
+use crate::answer::{Judgement, WatchNumbers};
+use crate::explored::watches_of;
+use crate::verdict::{NONE, run_verdict};
 use crate::{BAD_WATCH, DROPPED, NO_MEMORY};
 use m161::{BootError, Console, Entry, Event, Machine, Tlb};
 use m161_audit::{AuditError, Finding, audit_core};
@@ -48,46 +49,6 @@ fn events_made(alloc: Global, machine: &Machine) -> Result<Vec<Event>, AllocErro
     events_of(alloc, &entries)
 }
 
-fn run_verdict(verdict: Verdict) -> VerdictNumbers
-    ensures { result ≡ run_verdict verdict }
-{
-    match verdict {
-        Verdict::Stale {
-            place: _,
-            processor,
-            address,
-            row,
-        } => VerdictNumbers {
-            kind: 1,
-            processor,
-            address,
-            row: u32::from(row),
-            other: 0,
-        },
-        Verdict::Reached {
-            place: _,
-            processor,
-            address,
-        } => VerdictNumbers {
-            kind: 2,
-            processor,
-            address,
-            row: 0,
-            other: 0,
-        },
-        Verdict::Conflict(conflict) => VerdictNumbers {
-            kind: 3,
-            processor: conflict.processor,
-            address: 0,
-            row: u32::from(conflict.row),
-            other: u32::from(conflict.other),
-        },
-        Verdict::Stuck => VerdictNumbers { kind: 4, ..NONE },
-        Verdict::Output => VerdictNumbers { kind: 5, ..NONE },
-        Verdict::End => VerdictNumbers { kind: 6, ..NONE },
-    }
-}
-
 fn audit_number(error: AuditError) -> u8
     ensures { result ≡ number_of_audit error }
 {
@@ -110,13 +71,12 @@ fn finding_numbers(finding: Finding) -> Judgement
             address,
             row,
         } => Judgement {
-            verdict: VerdictNumbers {
-                kind: 1,
+            verdict: run_verdict(Verdict::Stale {
+                place,
                 processor,
                 address,
-                row: u32::from(row),
-                other: 0,
-            },
+                row,
+            }),
             events: (place as u64).saturating_add(1),
         },
     }

@@ -5,13 +5,15 @@ use Rattle.m161_explore.specs.Answers.{Answers}
 use Rattle.m161_judge.specs.Verdict.{Criteria}
 use Rattle.m161_machine.specs.State.{State}
 use Rattle.m161_reach.specs.declared.whole.Exploration.{Exploration}
-use Rattle.m161_reach.specs.Reach.{HasEnded, IsLearnt, question_of, rules_of}
+use Rattle.m161_reach.specs.Reach.{CanBeAsked, HasEnded, IsLearnt, question_of, rules_of}
+use Rattle.m161_c.specs.Explored.{AreAllGood}
 
 -- An exploration before its answer is told.
 
 pub record IsFound (boot : State) (limit : ℕ) (goal : Criteria) (found : Exploration) : Type 0 where
   pub some : 0 < limit
-  pub good : (k : ℕ) → AreGood boot.conf.ram goal.watches k
+  pub good : AreAllGood boot goal
+  pub asked : CanBeAsked boot goal
   pub learnt : IsLearnt (question_of boot goal found.known)
   pub answers : Answers (rules_of (question_of boot goal found.known)) limit found.answer
   pub whole : HasEnded found.answer → ⊥

@@ -1,4 +1,4 @@
-use Rattle.std.specs.Prelude.{◌≡◌, ℕ, List, [], ◌∷◌, ◌++◌, slice_get, Option, None, Some}
+use Rattle.std.specs.Prelude.{◌≡◌, ℕ, Bool, List, [], ◌∷◌, ◌++◌, slice_get, Option, None, Some}
 use Rattle.m161_machine.specs.declared.event.Entry.{Entry}
 use Rattle.m161_machine.specs.History.{History, Slides}
 use Rattle.m161_drive.specs.declared.cursor.Cursor.{Cursor}
@@ -7,7 +7,7 @@ use Rattle.m161_drive.specs.Drive.{Goes, Rests}
 use Rattle.m161_drive.specs.Policy.{Rules}
 use Rattle.m161_dis.specs.declared.naming.Style.{Style}
 use Rattle.m161_text.specs.Lines.{with_line_end}
-use Rattle.m161_trace.specs.Line.{event_line}
+use Rattle.m161_trace.specs.Line.{event_line_with}
 
 -- One turn of a driven run.
 
@@ -24,9 +24,10 @@ MakesNext rules c m (Some stop) d k = Rests rules (next_key rules c) c m.state s
 
 -- the same with the event's line behind a text
 abbrev pub TracesNext :
-    Style → Rules → Cursor → History → List ℕ → Option Stop → Cursor → History → List ℕ → Type 0
-TracesNext style rules c m before None d k after =
+    Style → Bool → Rules → Cursor → History → List ℕ → Option Stop → Cursor → History → List ℕ → Type 0
+TracesNext style loads rules c m before None d k after =
     (e : Entry) × Goes rules (next_key rules c) c m.state e d k.state × Slides m (e ∷ []) k
-    × (after ≡ before ++ with_line_end (event_line style m.state.made e.event m.state e.outcome k.state))
-TracesNext style rules c m before (Some stop) d k after =
+    × (after
+    ≡ before ++ with_line_end (event_line_with style loads m.state.made e.event m.state e.outcome k.state))
+TracesNext style loads rules c m before (Some stop) d k after =
     Rests rules (next_key rules c) c m.state stop × (k ≡ m) × (after ≡ before)

@@ -7,7 +7,7 @@ use Rattle.m161_c.proofs.driven.trace.Goals as goal
 
 pub loop-made-init : goal.loop-made-init
 loop-made-init c = (
-  begins_trace c.args.style.now c.args.policy.now c.args.machine.now (string_bytes c.args.text.now) c.new-cursor.result
+  begins_trace c.args.style.now c.args.loads c.args.policy.now c.args.machine.now (string_bytes c.args.text.now) c.new-cursor.result
       (c.new-cursor.ensures ∙ ap (cursor_at c.args.policy.now) c.core.ensures) (let last = c.replay.ensures.last in omega (arith, last)),
   c.in_ok-tracer.ensures,
 )
@@ -21,9 +21,9 @@ loop-made-preserved c =
     let j = c.trace_next.new.machine in
     let x = string_bytes c.trace_next.new.text in
     let b = string_bytes c.loop-made.text in (
-      traces_on c.args.style.now c.args.policy.now c.args.n c.args.machine.now (string_bytes c.args.text.now) c.loop-made.made c.loop-made.cursor
+      traces_on c.args.style.now c.args.loads c.args.policy.now c.args.n c.args.machine.now (string_bytes c.args.text.now) c.loop-made.made c.loop-made.cursor
           c.loop-made.machine b c.loop-made.invariant.0 d j x
-          (subst (λ stop. TracesNext c.args.style.now c.args.policy.now c.loop-made.cursor c.loop-made.machine b stop d j x) c.in_default.is
+          (subst (λ stop. TracesNext c.args.style.now c.args.loads c.args.policy.now c.loop-made.cursor c.loop-made.machine b stop d j x) c.in_default.is
           c.in_ok-stop.ensures.turn),
       c.in_ok-stop.ensures.step,
     )
@@ -34,7 +34,7 @@ returns-in-Some c =
     let j = c.trace_next.new.machine in
     let x = string_bytes c.trace_next.new.text in
     let b = string_bytes c.loop-made.text in
-    trace_stopped c.args.style.now c.args.policy.now c.args.n c.args.machine.now (string_bytes c.args.text.now) c.loop-made.made c.loop-made.cursor
+    trace_stopped c.args.style.now c.args.loads c.args.policy.now c.args.n c.args.machine.now (string_bytes c.args.text.now) c.loop-made.made c.loop-made.cursor
     c.loop-made.machine b c.loop-made.invariant.0 d c.in-Some.stop j x c.loop-made-test.true
-    (subst (λ stop. TracesNext c.args.style.now c.args.policy.now c.loop-made.cursor c.loop-made.machine b stop d j x) c.in-Some.is
+    (subst (λ stop. TracesNext c.args.style.now c.args.loads c.args.policy.now c.loop-made.cursor c.loop-made.machine b stop d j x) c.in-Some.is
     c.in_ok-stop.ensures.turn)

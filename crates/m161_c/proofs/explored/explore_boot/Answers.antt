@@ -10,5 +10,5 @@ explore_good-requires-clause-good c =
 
 pub returns-in-Err-clause-err : goal.returns-in-Err-clause-err
 returns-in-Err-clause-err c =
-    unwatched c.args.boot.now.state c.args.limit c.args.goal.now c.in-Err.answer
+    unwatched c.args.boot.now.state c.args.goal.now c.in-Err.answer
     (subst (λ g. IsUnwatched c.args.boot.now.state.conf.ram g.watches c.in-Err.answer) c.goal.view_is c.in-Err.ensures.err)

@@ -1,0 +1,83 @@
+//! The numbers of a verdict.
+
+ghost use Rattle.std.specs.Prelude.{◌≡◌};
+ghost use Rattle.m161_c.specs.Verdicts.{as_run, run_verdict};
+
+use crate::answer::VerdictNumbers;
+use m161_judge::Verdict as RunVerdict;
+use m161_states::Verdict;
+
+/// No verdict.
+pub(crate) const NONE: VerdictNumbers = VerdictNumbers {
+    kind: 0,
+    processor: 0,
+    address: 0,
+    row: 0,
+    other: 0,
+};
+
+/// Those of a verdict on a run.
+pub(crate) fn run_verdict(verdict: RunVerdict) -> VerdictNumbers
+    ensures { result ≡ run_verdict verdict }
+{
+    match verdict {
+        RunVerdict::Stale {
+            place: _,
+            processor,
+            address,
+            row,
+        } => VerdictNumbers {
+            kind: 1,
+            processor,
+            address,
+            row: u32::from(row),
+            ..NONE
+        },
+        RunVerdict::Reached {
+            place: _,
+            processor,
+            address,
+        } => VerdictNumbers {
+            kind: 2,
+            processor,
+            address,
+            ..NONE
+        },
+        RunVerdict::Conflict(conflict) => VerdictNumbers {
+            kind: 3,
+            processor: conflict.processor,
+            row: u32::from(conflict.row),
+            other: u32::from(conflict.other),
+            ..NONE
+        },
+        RunVerdict::Stuck => VerdictNumbers { kind: 4, ..NONE },
+        RunVerdict::Output => VerdictNumbers { kind: 5, ..NONE },
+        RunVerdict::End => VerdictNumbers { kind: 6, ..NONE },
+    }
+}
+
+/// A verdict that an exploration found, as one on a run.
+pub(crate) fn as_run(verdict: Verdict) -> RunVerdict
+    ensures { result ≡ as_run verdict }
+{
+    match verdict {
+        Verdict::Stale {
+            processor,
+            address,
+            row,
+        } => RunVerdict::Stale {
+            place: 0,
+            processor,
+            address,
+            row,
+        },
+        Verdict::Reached { processor, address } => RunVerdict::Reached {
+            place: 0,
+            processor,
+            address,
+        },
+        Verdict::Conflict(conflict) => RunVerdict::Conflict(conflict),
+        Verdict::Stuck => RunVerdict::Stuck,
+        Verdict::Output => RunVerdict::Output,
+    }
+}
