@@ -520,6 +520,6 @@ def explore(
     image: Image, ram: int = 1048576, cpus: int = 1, states: int = 1000000, keys: bytes = b"", watches: Iterable[Watch] = (),
     never: Iterable[int] = (), output: Optional[bytes] = None, line: bool = False, strict: bool = False,
 ) -> Explored:
-    """Looks at every state that an image can reach, as `Machine.explore` does: `explore(image, cpus=2)` gives `Clean(527)`, say. The
-    less RAM, the faster. Raises also what `Machine` does."""
+    """Looks at every state that an image can reach, as `Machine.explore` does: `explore(image, cpus=2)` gives `Clean(527)`, say.
+    Raises also what `Machine` does."""
     return Machine(image, ram, cpus, 1, line, strict).explore(states, keys, watches, never, output)
