@@ -56,14 +56,21 @@ AreRefused file conf events finding refused =
     (booted : State) × IsBootState file conf booted
     × (refused ≡ refusals_in booted events (looked_at finding events))
 
--- what is said of them on standard error: how many, the first one's place, and why it was refused
+-- the first one's place, and why it was refused
+abbrev pub refusal_text : Refusals → List ℕ
+refusal_text refused =
+    decimal refused.place ␣ decimal (number_of_refusal refused.refusal)
+    ␣ name_of_refusal refused.refusal
+
+-- what is said of them on standard error: how many, and the first one
+abbrev pub note_line : Refusals → List ℕ
+note_line refused =
+    codes "s161: note refused" ␣ decimal refused.count ␣ refusal_text refused
+    ␣ codes "(so many events were refused; the first, at this place)"
+
 abbrev pub note_text : Option Refusals → List ℕ
 note_text None = []
-note_text (Some refused) =
-    with_line_end
-    (codes "s161: note refused" ␣ decimal refused.count ␣ decimal refused.place
-    ␣ decimal (number_of_refusal refused.refusal) ␣ name_of_refusal refused.refusal
-    ␣ codes "(so many events were refused; the first, at this place)")
+note_text (Some refused) = with_line_end (note_line refused)
 
 -- a finished audit: what it prints, what it says on standard error, and its exit status; the files of
 -- the image and of the watches, and standard input have these bytes, as far as they are known

@@ -1,18 +1,17 @@
 //! Auditing a run.
 
 ghost use Rattle.std.specs.Prelude.{◌≡◌, IfErr, IfOk, Option, Some, decimal, string_bytes};
-ghost use Rattle.m161_machine.specs.Refusal.{name_of_refusal, number_of_refusal};
 ghost use Rattle.m161_refusals.specs.declared.refusals.Refusals.{Refusals as RefusalsValue};
 ghost use Rattle.m161_text.specs.Lines.{with_line_end};
 ghost use Rattle.m161_text.specs.Parts.{◌␣◌, word_text};
-ghost use Rattle.s161_search.specs.Audits.{AreRefused, IsAudited, IsAuditFault, audit_files, fault_of_audit, finding_text, looked_at, note_text, status_of_finding};
+ghost use Rattle.s161_search.specs.Audits.{AreRefused, IsAudited, IsAuditFault, audit_files, fault_of_audit, finding_text, looked_at, note_line, note_text, refusal_text, status_of_finding};
 ghost use Rattle.s161_base.specs.Asked.{AsksFor, IsBeforeInput};
 ghost use Rattle.s161_base.specs.Samples.{image_file};
 
 use crate::watches::watches_of;
 use m161::{Console, Core, Tlb};
 use m161_audit::{AuditError, Finding, audit_events};
-use m161_machine::{Conf, Events, Refusal};
+use m161_machine::{Conf, Events};
 use m161_refusals::{Refusals, find_refusals};
 use m161_text::Word;
 use s161_base::fault::Fault;
@@ -88,20 +87,34 @@ impl fmt::Display for ShownFinding {
     }
 }
 
-// The place of a refused event, and why it is refused, as text.
+// The place of the first refused event, and why it was refused, as text.
 #[derive(Drop)]
-struct ShownRefusal {
-    place: usize,
-    refusal: Refusal,
-}
+struct ShownRefusal(Refusals);
 
 impl fmt::Display for ShownRefusal {
-    ghost output = { λ shown. Some (decimal shown.place ␣ decimal (number_of_refusal shown.refusal)
-        ␣ name_of_refusal shown.refusal) };
+    ghost output = { λ refused. Some (refusal_text refused.0) };
 
     fn fmt<W: fmt::Write>(&self, f: &mut fmt::Formatter<W>) -> fmt::Result {
-        let (place, number, name) = (self.place, self.refusal.number(), self.refusal.name());
+        let refusal = self.0.refusal;
+        let (place, number, name) = (self.0.place, refusal.number(), refusal.name());
         write!(f, "{place} {number} {name}")
+    }
+}
+
+// The note on events that were refused, as text.
+#[derive(Drop)]
+struct ShownNote(Refusals);
+
+impl fmt::Display for ShownNote {
+    ghost output = { λ refused. Some (note_line refused.0) };
+
+    fn fmt<W: fmt::Write>(&self, f: &mut fmt::Formatter<W>) -> fmt::Result {
+        let count = self.0.count;
+        let first = ShownRefusal(self.0);
+        write!(
+            f,
+            "s161: note refused {count} {first} (so many events were refused; the first, at this place)"
+        )
     }
 }
 
@@ -178,18 +191,12 @@ fn refusals_of(
     find_refusals(&mut core, events, looked_at(finding, events))
 }
 
-// The note on events that were refused.
+// The line on events that were refused.
 fn note_line(alloc: Global, refused: Refusals) -> Result<String, AllocError>
     ensures { IfOk result (λ line. string_bytes line ≡ note_text (Some refused)) }
 {
-    let count = refused.count;
-    let first = ShownRefusal {
-        place: refused.place,
-        refusal: refused.refusal,
-    };
-    format!(in alloc;
-        "s161: note refused {count} {first} (so many events were refused; the first, at this place)\n"
-    )
+    let shown = ShownNote(refused);
+    format!(in alloc; "{shown}\n")
 }
 
 // What is said on standard error of an audit.

@@ -1,4 +1,4 @@
-use Rattle.std.proofs.Common.{◌≡◌, List, ℕ, [], ◌∷◌, Ok, Err, Option, IfSome, rules, subst, sym}
+use Rattle.std.proofs.Common.{◌≡◌, ◌∙◌, List, ℕ, [], ◌∷◌, Ok, Err, Option, IfSome, rules, subst, sym}
 use Rattle.std.proofs.lemmas.Result.{err_from_is_err_and}
 use Rattle.m161_audit.specs.declared.watch.Watch.{Watch as Watched}
 use Rattle.m161_audit.specs.Audit.{Audits}
@@ -12,7 +12,7 @@ use Rattle.s161_base.specs.declared.fault.Fault.TheVariants.{Memory}
 use Rattle.s161_search.proofs.Asking.{audit_is_none}
 use Rattle.s161_search.proofs.Unaudited.{audit_failed, watches_failed}
 use Rattle.s161_base.proofs.Failing.{schedule_failed}
-use Rattle.s161_search.specs.Audits.{HasWatches, IsAuditFault, audit_files}
+use Rattle.s161_search.specs.Audits.{AreRefused, HasWatches, IsAuditFault, audit_files}
 use Rattle.s161_base.specs.Known.{IsText}
 use Rattle.s161_base.specs.Texts.{HasSchedule}
 use Rattle.s161_base.specs.Samples.{image_file}
@@ -52,8 +52,9 @@ returns-clause-ok g c =
           c.conf_of-conf.ensures c.in-Ok.ensures;
       text_is = search rules;
       refused = c.in_ok-said.ensures.0;
-      are_refused = refused_as c.deref.result.now (conf_of c.args.task.size) c.conf_of-conf.result c.in_ok-events.events c.in-Ok.finding c.in_ok-said.ensures.0
-          c.conf_of-conf.ensures c.in_ok-said.ensures.1;
+      are_refused = subst (λ file. AreRefused file (conf_of c.args.task.size) c.in_ok-events.events c.in-Ok.finding c.in_ok-said.ensures.0)
+          (c.deref-3.ensures.value ∙ sym c.deref.ensures.value)
+          (subst (λ conf. AreRefused c.deref-3.result.now conf c.in_ok-events.events c.in-Ok.finding c.in_ok-said.ensures.0) c.conf_of-conf.ensures c.in_ok-said.ensures.1);
       told_is = c.in_ok-said.ensures.2;
       status_is = c.status.ensures;
     }
@@ -215,6 +216,13 @@ returns-in_err-line-clause-asks g c =
     let asked = g.F.FileSource.asked in
     let all = asks_both (image_files c.args.task.image.now) (c.args.task.text.now ∷ []) (asked c.args.files.now) (asked c.read_image.new.files) (asked c.read_text.new.files) c.in_ok-file.ensures.asks c.in_ok-text.ensures.asks in
     let made = err_from_is_err_and c.from_residual-in_err-line.result c.from_residual-in_err-line.ensures.1 in
+    rw (made.1, made.2) (after_all (audit_files c.args.task) (asked c.args.files.now) (asked c.read_text.new.files) Memory all tt)
+
+pub returns-in_err-said-clause-asks : goal.returns-in_err-said-clause-asks
+returns-in_err-said-clause-asks g c =
+    let asked = g.F.FileSource.asked in
+    let all = asks_both (image_files c.args.task.image.now) (c.args.task.text.now ∷ []) (asked c.args.files.now) (asked c.read_image.new.files) (asked c.read_text.new.files) c.in_ok-file.ensures.asks c.in_ok-text.ensures.asks in
+    let made = err_from_is_err_and c.from_residual-in_err-said.result c.from_residual-in_err-said.ensures.1 in
     rw (made.1, made.2) (after_all (audit_files c.args.task) (asked c.args.files.now) (asked c.read_text.new.files) Memory all tt)
 
 pub returns-in_err-line-clause-unread : goal.returns-in_err-line-clause-unread
