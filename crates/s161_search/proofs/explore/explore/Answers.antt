@@ -1,4 +1,4 @@
-use Rattle.std.proofs.Common.{map, subst, ℕ}
+use Rattle.std.proofs.Common.{map, subst}
 use Rattle.std.specs.Prelude.{IfErr, IfOk}
 use Rattle.s161_base.specs.Asked.{AsksFor}
 use Rattle.s161_base.specs.Samples.{image_file}

@@ -1,6 +1,5 @@
 use Rattle.std.proofs.Common.{Err, Ok, refl, subst, sym}
 use Rattle.m161_judge.specs.Begun.{IsBegun}
-use Rattle.m161_judge.specs.Memory.{IsKeptOf}
 use Rattle.m161_machine.specs.History.{boot_fault}
 use Rattle.m161_machine.specs.State.{CoreValue}
 use Rattle.m161_order.specs.declared.order.Order.TheVariants.{Delayed}
