@@ -1,4 +1,4 @@
-use Rattle.std.proofs.Common.{◌≡◌, ◌∙◌, inr, rules, subst, sym}
+use Rattle.std.proofs.Common.{◌≡◌, inr, rules, subst, sym}
 use Rattle.std.proofs.lemmas.Result.{err_from_is_err_and}
 use Rattle.s161_base.proofs.Asking.{IsNoFile, after_all, none_before}
 use Rattle.s161_base.specs.Asked.{image_files}
