@@ -13,7 +13,7 @@ use Rattle.m161_audit.specs.Stale.{IsStale, IsStaleAt, after_events}
 use Rattle.m161_judge.specs.declared.verdict.Judged.{Judged}
 use Rattle.m161_judge.specs.declared.verdict.Verdict.{Verdict}
 use Rattle.m161_judge.specs.declared.verdict.Verdict.TheVariants.{Stale, Reached, Conflict, Stuck, Output, End}
-use Rattle.m161_judge.specs.Laws.{CutKeepsVerdict}
+use Rattle.m161_judge.specs.Laws.{CutKeepsVerdict, FirstIsNoWorse}
 use Rattle.m161_judge.specs.Verdict.{Criteria, Holds, IsReachAt, IsRefused, IsStuckAfter, IsStuckBadly, LeadsTo, after, has_keys, is_stuck, rank}
 
 -- A list that is cut behind its verdict.
@@ -194,3 +194,6 @@ cut_keeps_verdict goal s events judged h =
       down goal s events n judged.verdict few h.1,
       λ v k less holds. h.2 v k less (up goal s events n v k few (let most = rank_few judged.verdict in omega (arith, less, most)) holds),
     )
+
+pub first_is_no_worse : (goal : Criteria) (s : State) (events : List Event) → FirstIsNoWorse goal s events
+first_is_no_worse goal s events n v k few low h = up goal s events n v k few low h

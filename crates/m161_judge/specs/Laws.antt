@@ -1,11 +1,13 @@
-use Rattle.std.specs.Prelude.{◌≡◌, ◌↔◌, ℕ, true, false, nat_lt, List, length, take, Option, None, Some}
+use Rattle.std.specs.Prelude.{◌≡◌, ◌↔◌, ℕ, ◌<◌, ◌≤◌, true, false, nat_lt, List, length, take, Option, None, Some}
 use Rattle.m161_machine.specs.declared.event.Event.{Event}
 use Rattle.m161_machine.specs.State.{State}
 use Rattle.m161_drive.specs.declared.cursor.Cursor.{Cursor}
 use Rattle.m161_drive.specs.Choice.{chosen}
 use Rattle.m161_drive.specs.Policy.{Rules}
 use Rattle.m161_judge.specs.declared.verdict.Judged.{Judged}
-use Rattle.m161_judge.specs.Verdict.{Criteria, IsJudged, is_stuck}
+use Rattle.m161_judge.specs.declared.verdict.Verdict.{Verdict}
+use Rattle.m161_judge.specs.declared.verdict.Verdict.TheVariants.{End}
+use Rattle.m161_judge.specs.Verdict.{Criteria, Holds, IsJudged, is_stuck, rank}
 
 -- Laws of the verdict.
 
@@ -30,3 +32,10 @@ abbrev pub CutKeepsVerdict : Criteria → State → List Event → Judged → Ty
 CutKeepsVerdict goal s events judged =
     IsJudged goal s events (Some judged)
     → IsJudged goal s (take judged.events events) (Some judged)
+
+-- what holds of the first events of a run holds of all, unless it is that there are no more
+abbrev pub FirstIsNoWorse : Criteria → State → List Event → Type 0
+FirstIsNoWorse goal s events =
+    (n : ℕ) (v : Verdict) (k : ℕ)
+    → n ≤ length events → rank v < rank End → Holds goal s (take n events) v k
+    → Holds goal s events v k

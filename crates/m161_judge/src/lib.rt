@@ -33,7 +33,7 @@ mod walk;
 
 pub use booted::Booted;
 pub use goal::Goal;
-pub use laws::{cut_keeps_verdict, one_verdict, stuck_is_no_choice};
+pub use laws::{cut_keeps_verdict, first_is_no_worse, one_verdict, stuck_is_no_choice};
 pub use list::{judge, judge_events};
 pub use m161_audit::{AuditError, Watch};
 pub use m161_drive::Policy;

@@ -123,7 +123,7 @@ console_line =
 -- the arguments of `search`, without those of a driven run: an image and options
 abbrev pub plain_search_line : App
 plain_search_line =
-    with_rule (with_rule (with_rule (with_rule (with_rule (with_rule (with_rule (with_rule (with_rule
+    with_rule (with_rule (with_rule (with_rule (with_rule (with_rule (with_rule (with_rule (with_rule (with_rule
     (with_size_rules (codes "65536") (on_image (codes "search")))
     (optional_rule (codes "seeds") 1 4_294_967_295))
     (optional_rule (codes "delays") 0 64))
@@ -133,6 +133,7 @@ plain_search_line =
     (text_rule (codes "watches")))
     (texts_rule (codes "never")))
     (text_rule (codes "output")))
+    (optional_rule (codes "hung") 0 4_294_967_295))
     (flag_rule (codes "whole"))
 
 -- the arguments of `search`; a schedule has at most 16,777,216 events
@@ -336,6 +337,7 @@ pub record AsksSearch (rows : List Row) (task : SearchTask) : Type 0 where
   pub watches : option_map (λ name. name.now) task.watches ≡ first_of (codes "watches") rows
   pub few : length (texts_of (codes "never") rows) ≤ 64
   pub output : option_map (λ name. name.now) task.output ≡ first_of (codes "output") rows
+  pub hung : IsNumberOf 10_000 (one_of (codes "hung") rows) task.hung
   pub whole : task.whole ≡ is_set (codes "whole") rows
 
 -- `explore` asks for all states of this machine

@@ -137,6 +137,7 @@ fn task_of_search<'a>(given: &ArgMatches<'a>, settings: Settings) -> Task<'a>
         jobs: number_given(given, "jobs", 1),
         watches: text_given(given, "watches"),
         output: text_given(given, "output"),
+        hung: number_given(given, "hung", 10_000),
         whole: is_set(given, "whole"),
     })
 }

@@ -102,6 +102,8 @@ choices from --from on, and below --within. The first run that goes wrong ends t
   stuck     no processor can go on, and no byte or key is left; with --output only where
             the console's bytes aren't the file's
   output    with --output: the machine is off, and the console's bytes aren't the file's
+  hung      the machine is neither off nor stuck behind any event, and from the last one on no order
+            of events leads to either; those that do lead to at most N states (--hung)
   end       with --output: the machine is neither off nor stuck after --events events
 Its schedule is printed, shortened unless --whole is given, behind two comments: its seed or its
 delays, and what is wrong. `clean N` says that no run goes wrong; `clean N cut M` that M of them

@@ -367,6 +367,16 @@ pub(crate) const OUTPUT: Argument = Argument {
     required: false,
 };
 
+/// How many states `search` looks at behind a run, to find that it hangs.
+pub(crate) const HUNG: Argument = Argument {
+    name: "hung",
+    kind: Kind::Number(ValueParser::Signed(0, 4_294_967_295)),
+    shown: "N",
+    help: "Looks for a run from whose end no order of events leads to an end, in at most N states; 10000 where it is left out, 0 doesn't look",
+    default: None,
+    required: false,
+};
+
 /// How many states `explore` may find.
 pub(crate) const STATES: Argument = Argument {
     name: "states",

@@ -141,6 +141,8 @@ pub struct SearchTask<'a> {
     pub watches: Option<&'a str>,
     /// The name of the file whose bytes the console should send, if there is one.
     pub output: Option<&'a str>,
+    /// How many states may be looked at behind a run to find that it hangs; 0: none are.
+    pub hung: u32,
     /// Whether a schedule that is found stays as it is, and isn't shortened.
     pub whole: bool,
 }
