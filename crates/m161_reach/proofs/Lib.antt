@@ -19,3 +19,4 @@ mod Behind
 mod Learning
 mod Walking
 mod Naming
+mod Numbering

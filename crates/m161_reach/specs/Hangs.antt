@@ -1,9 +1,14 @@
-use Rattle.std.specs.Prelude.{◌≡◌, ◌⊎◌, ℕ, ◌<◌, ◌≤◌, Bool, true, ◌||◌, List, ◌++◌, length, take}
+use Rattle.std.specs.Prelude.{◌≡◌, ◌⊎◌, ℕ, ◌<◌, ◌≤◌, Bool, true, ◌||◌, List, ◌++◌, length, take, None, Some}
+use Rattle.m161_machine.specs.declared.event.Event.{Event}
+use Rattle.m161_machine.specs.History.{boot_state}
+use Rattle.m161_machine.specs.State.{State}
+use Rattle.m161_judge.specs.Verdict.{after}
 use Rattle.m161_explore.specs.Lists.{IsHung, Leads}
-use Rattle.m161_states.specs.Question.{Question}
+use Rattle.m161_states.specs.Question.{Question, booted}
 use Rattle.m161_states.specs.System.{Explored, start}
 use Rattle.m161_states.specs.Verdicts.{is_end, is_stuck_in}
 use Rattle.m161_reach.specs.From.{IsFreeFrom, IsHungFrom}
+use Rattle.m161_reach.specs.Named.{numbers_of}
 use Rattle.m161_reach.specs.Reach.{rules_of}
 
 -- Lists of events that hang.
@@ -52,6 +57,17 @@ IsFirstHang q limit events n = GoesAlong q events × IsLeastHang q limit events 
 abbrev pub HangsNowhere : Question → ℕ → List ℕ → Type 0
 HangsNowhere q limit events = EndsEarly q events ⊎ IsFreeAt q limit events
 
+-- the same of events: they are those of a list, of which the first n are the least that hang
+abbrev pub HangFirst : Question → ℕ → List Event → ℕ → Type 0
+HangFirst q limit events n =
+    (numbers : List ℕ) × (numbers_of q events ≡ Some numbers) × IsFirstHang q limit numbers n
+
+-- they are those of no list, or of one that ends early, or of one that doesn't hang
+abbrev pub NeverHang : Question → ℕ → List Event → Type 0
+NeverHang q limit events =
+    (numbers_of q events ≡ None)
+    ⊎ ((numbers : List ℕ) × (numbers_of q events ≡ Some numbers) × HangsNowhere q limit numbers)
+
 -- the laws
 
 -- a list that hangs is one that no events continue to an end, as an exploration from boot on says it
@@ -69,3 +85,15 @@ abbrev pub FreeBefore : Type 0
 FreeBefore =
     (q : Question) (limit : ℕ) (events more : List ℕ) → IsFreeAt q limit (events ++ more)
     → IsFreeAt q limit events
+
+-- events of which some hang are all accepted, from boot on
+abbrev pub HangingAreMade : Type 0
+HangingAreMade =
+    (q : Question) (limit : ℕ) (events : List Event) (n : ℕ) → HangFirst q limit events n
+    → (s : State) × (after (boot_state (booted q)) events ≡ Some s)
+
+-- cut behind the first of them that hang, they hang in the same way
+abbrev pub CutKeepsHang : Type 0
+CutKeepsHang =
+    (q : Question) (limit : ℕ) (events : List Event) (n : ℕ) → HangFirst q limit events n
+    → (n ≤ length events) × HangFirst q limit (take n events) n

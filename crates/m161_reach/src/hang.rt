@@ -1,24 +1,29 @@
 //! Lists of events that hang.
 
-ghost use Rattle.std.specs.Prelude.{◌≡◌, ◌<◌, IfOk, MatchBool, MatchOption};
-ghost use Rattle.m161_reach.specs.From.{IsFreeFrom, IsHungFrom, asked_of};
-ghost use Rattle.m161_reach.specs.Hangs.{GoesAlong, HangsNowhere, IsFirstHang, IsHungAt, IsLeastHang};
+ghost use Rattle.std.specs.Prelude.{◌≡◌, ◌<◌, IfOk, MatchBool, MatchOption, option_map};
+ghost use Rattle.m161_reach.specs.From.{IsFreeFrom, IsHungFrom, asked_of, no_time, with_known};
+ghost use Rattle.m161_reach.specs.Hangs.{GoesAlong, HangFirst, HangsNowhere, IsFirstHang, IsHungAt, IsLeastHang, NeverHang};
+ghost use Rattle.m161_reach.specs.Named.{numbers_of};
 ghost use Rattle.m161_reach.specs.Reach.{CanBeAsked};
 ghost use Rattle.m161_reach.specs.helpers.Onward.{origin_of, says_hung};
 ghost use Rattle.m161_reach.specs.helpers.Walk.{HangsAlong};
 
 use crate::judge::is_end_of;
 use crate::machines::Machines;
+use crate::numbers::numbers_named;
 use crate::onward::Onward;
 use crate::place::Place;
 use crate::walk::{Walk, walk_along};
 use m161_bus::Console;
 use m161_explore::{Answer, explore};
 use m161_judge::Goal;
-use m161_machine::Core;
+use m161_machine::{Core, Event};
 use m161_states::{Known, Unknown};
 use m161_tlb::Tlb;
 use std::alloc::{AllocError, Global};
+
+/// So many events, and more, are no list of a machine, which counts one less.
+const MOST_EVENTS: u64 = 9_223_372_036_854_775_807;
 
 // A machine at boot, of whose time nothing is known.
 fn untimed<'a, T: Tlb + Drop, D: Console + Drop>(
@@ -161,4 +166,41 @@ pub fn first_hang<'a, T: Tlb + Drop, D: Console + Drop>(
         return Ok(None);
     }
     Ok(Some(least_hang(alloc, boot, goal, events, limit)?))
+}
+
+impl<'a, T: Tlb + Drop, D: Console + Drop> Machines<'a, T, D> {
+    // The numbers of events, if they are those of a list.
+    fn numbers_of(&self, alloc: Global, events: &[Event]) -> Result<Option<Vec<u32>>, AllocError>
+        ensures { IfOk result (λ found. option_map (λ numbers. numbers.items) found
+            ≡ numbers_of self.now events.now) }
+    {
+        if events.len() as u64 >= MOST_EVENTS {
+            return Ok(None);
+        }
+        let goal = self.goal;
+        numbers_named(alloc, self.width() - 2, goal.keys, events)
+    }
+
+    /// How many of these events from boot on are the least that hang, as `first_hang` finds it; none,
+    /// too, where they are those of no list: a Step of none of the processors, or a key that isn't the
+    /// next. What is known of time makes no difference.
+    ///
+    /// # Errors
+    /// Memory is refused.
+    pub fn first_to_hang(
+        &self,
+        alloc: Global,
+        events: &[Event],
+        limit: u32,
+    ) -> Result<Option<usize>, AllocError>
+        requires some { 0 < limit }
+        ensures { IfOk result (λ found. MatchOption found
+            (NeverHang (with_known no_time self.now) limit events.now)
+            (HangFirst (with_known no_time self.now) limit events.now)) }
+    {
+        let Some(numbers) = self.numbers_of(alloc, events)? else {
+            return Ok(None);
+        };
+        first_hang(alloc, self.boot, self.goal, &numbers, limit)
+    }
 }

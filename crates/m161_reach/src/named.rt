@@ -1,6 +1,6 @@
 //! The law of a list's events. The function does nothing: its contract is the law.
 
-ghost use Rattle.m161_reach.specs.Named.{NamedAreMade};
+ghost use Rattle.m161_reach.specs.Named.{NamedAreMade, NumbersName};
 
 use m161_states::fresh_is_same;
 
@@ -11,3 +11,8 @@ pub fn named_are_made()
 {
     fresh_is_same();
 }
+
+/// Events that have numbers are the events of these.
+pub fn numbers_name()
+    ensures law { NumbersName }
+{}

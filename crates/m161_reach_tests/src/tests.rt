@@ -6,8 +6,8 @@ ghost use Rattle.m161_reach.specs.Reach.{IsAtBoot};
 use m161::Core;
 use m161_explore::Answer;
 use m161_judge::Goal;
-use m161_machine::{Conf, LinkUnit};
-use m161_reach::{Exploration, can_be_asked, explore_machine, first_hang};
+use m161_machine::{Conf, Event, LinkUnit};
+use m161_reach::{Exploration, Machines, can_be_asked, explore_machine, first_hang};
 use m161_states::{Known, Reads, Unknown, Verdict};
 use m161_test_support::files::file_at;
 use m161_test_support::outcomes::ENTRY;
@@ -213,5 +213,53 @@ fn a_key_that_comes_too_late_is_missed(rt: HostRuntime) -> Result<(), Fail> {
         None,
     );
     same(&rt, hang_of(&rt, &TAKES_A_KEY, &[], &[0], 100)?, Some(0));
+    Ok(())
+}
+
+/// How many of these events are the least that hang.
+#[inline(never)]
+fn hang_of_events(
+    rt: &(impl Abort + AllocGlobal),
+    words: &[u32],
+    keys: &[u8],
+    events: &[Event],
+    limit: u32,
+) -> Result<Option<usize>, Fail> {
+    let core = booted(rt, words)?;
+    let goal = Goal {
+        watches: &[],
+        never: &[],
+        output: None,
+        keys,
+    };
+    let is_asked = 0 < limit && can_be_asked(&core, &goal);
+    same(rt, is_asked, true);
+    if is_asked {
+        let machines = Machines::new(rt.alloc(), &core, &goal, Known::nothing());
+        Ok(machines.first_to_hang(rt.alloc(), events, limit)?)
+    } else {
+        Ok(None)
+    }
+}
+
+#[test]
+fn events_hang_as_their_numbers_do(rt: HostRuntime) -> Result<(), Fail> {
+    let step = Event::Step(0);
+    let late = hang_of_events(&rt, &TAKES_A_KEY, &[65], &[step, step, step, step], 100)?;
+    same(&rt, late, Some(2));
+    let taken = hang_of_events(&rt, &TAKES_A_KEY, &[65], &[Event::Key(65), step, step], 100)?;
+    same(&rt, taken, None);
+    let circle = hang_of_events(&rt, &SPINS, &[65], &[step, Event::Key(65)], 8)?;
+    same(&rt, circle, Some(0));
+    Ok(())
+}
+
+#[test]
+fn events_of_no_list_hang_nowhere(rt: HostRuntime) -> Result<(), Fail> {
+    for event in [Event::Step(1), Event::Step(2), Event::Done, Event::Key(66)] {
+        same(&rt, hang_of_events(&rt, &SPINS, &[65], &[event], 8)?, None);
+    }
+    let keys = [Event::Key(65), Event::Key(65)];
+    same(&rt, hang_of_events(&rt, &SPINS, &[65], &keys, 8)?, None);
     Ok(())
 }

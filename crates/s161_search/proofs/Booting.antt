@@ -1,9 +1,14 @@
-use Rattle.std.proofs.Common.{◌≡◌, ◌∙◌, sym, subst, ℕ, ◌<◌, List}
+use Rattle.std.proofs.Common.{◌≡◌, ◌∙◌, sym, subst, ℕ, ◌<◌, List, Option, None, Some, Ok}
 use Rattle.std.proofs.lemmas.List.{ext_get_or}
 use Rattle.m161_elf.specs.Image.{IsImage}
+use Rattle.m161_judge.specs.Judge.{BootsState}
+use Rattle.m161_machine.specs.declared.conf.BootError.{BootError}
 use Rattle.m161_machine.specs.declared.conf.Conf.{Conf}
 use Rattle.m161_machine.specs.History.{IsBootState, boot_state}
 use Rattle.m161_machine.specs.State.{State}
+use Rattle.s161_base.specs.Sizes.{conf_of}
+use Rattle.s161_command.specs.declared.task.SearchTask.{SearchTask}
+use Rattle.s161_search.specs.Given.{Given}
 
 -- States at boot.
 
@@ -22,3 +27,9 @@ booted_as_one file conf s t a b =
     a.state_is
     ∙ (λ i. boot_state (record { bytes = same_memory i; entry = same_entry i; conf = same_conf i }))
     ∙ sym b.state_is
+
+-- without a reason not to boot this is it
+pub booted_of : (task : SearchTask) (given : Given) (s : State) (fault : Option BootError) → BootsState given.file (conf_of task.size) fault (Ok s) →
+    IsBootState given.file (conf_of task.size) s
+booted_of task given s (Some first) h = absurd h
+booted_of task given s None h = h

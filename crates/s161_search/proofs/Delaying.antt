@@ -7,8 +7,6 @@ use Rattle.m161_jobs.specs.Trials.{AreRight}
 use Rattle.m161_delays.specs.Search.{AreClean, Finds, IsFirst}
 use Rattle.m161_delays.specs.declared.search.Searched.{Searched}
 use Rattle.m161_delays.specs.declared.search.Searched.TheVariants.{Clean, Wrong}
-use Rattle.m161_judge.specs.Judge.{BootsState}
-use Rattle.m161_machine.specs.declared.conf.BootError.{BootError}
 use Rattle.m161_delays.proofs.Counting.{right_among}
 use Rattle.m161_delays.proofs.Members.{below_part, from_part}
 use Rattle.m161_drive.specs.Choice.{cursor_at}
@@ -30,12 +28,14 @@ use Rattle.s161_search.specs.Delays.{AreCleanBy, HasRightRun, IsFirstBy, IsRight
 use Rattle.s161_search.specs.Given.{Given}
 use Rattle.s161_base.specs.declared.fault.Fault.{Fault}
 use Rattle.s161_search.specs.declared.orders.WrongRun.{WrongRun}
+use Rattle.m161_states.specs.Question.{Question}
 use Rattle.s161_search.specs.helpers.Begun.{BeginsAt}
+use Rattle.s161_search.specs.helpers.Telling.{Begins}
 use Rattle.s161_search.specs.helpers.Delayed.{IsFaultFrom, IsRightFrom, IsWrongFrom}
 use Rattle.s161_search.specs.helpers.Tried.{IsListed, IsSearchedBy}
 use Rattle.s161_search.specs.Searches.{IsFoundBy}
 use Rattle.s161_search.specs.Seeds.{IsRunFault}
-use Rattle.s161_search.proofs.Booting.{booted_as_one}
+use Rattle.s161_search.proofs.Booting.{booted_as_one, booted_of}
 use Rattle.s161_search.proofs.Judging.{rights_as}
 
 -- Every list of a class has the run of a useful one.
@@ -146,30 +146,25 @@ right_before task given steps s class wrong first what boots found others of ord
     (before_part (delays_of others) part first (h.is_same_or_shorter (ascending_any class.from (delays_of others) of.ascending)) order))
 
 -- what is known from the state at boot on
-rights_from : (s : State) (task : SearchTask) (given : Given) (steps : ℕ) (lists : List (List ℕ)) (cut : ℕ) → BeginsAt task given s →
-    AreRight (IsRightFrom s task given steps) lists cut → AreRight (HasRightRun task given steps) lists cut
-rights_from s task given steps lists cut begins =
-    rights_as (IsRightFrom s task given steps) (HasRightRun task given steps) lists cut (λ x b right. right begins)
+rights_from : (s : State) (q : Question) (task : SearchTask) (given : Given) (steps : ℕ) (lists : List (List ℕ)) (cut : ℕ) → Begins task given s q →
+    AreRight (IsRightFrom s q task given steps) lists cut → AreRight (HasRightRun task given steps) lists cut
+rights_from s q task given steps lists cut begins =
+    rights_as (IsRightFrom s q task given steps) (HasRightRun task given steps) lists cut (λ x b right. right begins)
 
-booted_of : (task : SearchTask) (given : Given) (s : State) (fault : Option BootError) → BootsState given.file (conf_of task.size) fault (Ok s) →
-    IsBootState given.file (conf_of task.size) s
-booted_of task given s (Some first) h = absurd h
-booted_of task given s None h = h
-
-found_by : (task : SearchTask) (given : Given) (steps : ℕ) (s : State) (class : Class) (searched : Searched WrongRun) → BeginsAt task given s →
-    Finds class (offered_by task given steps s) (IsRightFrom s task given steps) (IsWrongFrom s task given steps) searched →
+found_by : (task : SearchTask) (given : Given) (steps : ℕ) (s : State) (q : Question) (class : Class) (searched : Searched WrongRun) → Begins task given s q →
+    Finds class (offered_by task given steps s) (IsRightFrom s q task given steps) (IsWrongFrom s q task given steps) searched →
     IsSearchedBy task given steps class searched
-found_by task given steps s class (Clean runs cut) begins h =
-    clean_by task given steps s class runs cut (booted_of task given s (boot_fault given.file (conf_of task.size)) begins) (record {
+found_by task given steps s q class (Clean runs cut) begins h =
+    clean_by task given steps s class runs cut (booted_of task given s (boot_fault given.file (conf_of task.size)) begins.boots) (record {
       lists = h.lists;
       are_useful = h.are_useful;
       all_cut = h.all_cut;
-      are_right = rights_from s task given steps h.lists h.all_cut begins h.are_right;
+      are_right = rights_from s q task given steps h.lists h.all_cut begins h.are_right;
       runs_is = h.runs_is;
       cut_is = h.cut_is;
     })
-found_by task given steps s class (Wrong delays what) begins h =
-    let boots = booted_of task given s (boot_fault given.file (conf_of task.size)) begins in
+found_by task given steps s q class (Wrong delays what) begins h =
+    let boots = booted_of task given s (boot_fault given.file (conf_of task.size)) begins.boots in
     let wrong = h.is_wrong begins in
     record {
       booted = s;
@@ -179,18 +174,18 @@ found_by task given steps s class (Wrong delays what) begins h =
       delays_are = wrong.1;
       is_run = wrong.2;
       wrong = wrong.3;
-      before = right_before task given steps s class (IsWrongFrom s task given steps) (delays_of delays) what boots (record {
+      before = right_before task given steps s class (IsWrongFrom s q task given steps) (delays_of delays) what boots (record {
         is_useful = h.is_useful;
         is_wrong = h.is_wrong;
         before = λ others useful order. (let run = h.before others useful order in (run.0, run.1 begins));
       });
     }
 
-pub searched_by : (task : SearchTask) (given : Given) (steps : ℕ) (s : State) (class : Class) (result : Result (Searched WrongRun) Fault) → BeginsAt task given s →
-    IfOk result (Finds class (offered_by task given steps s) (IsRightFrom s task given steps) (IsWrongFrom s task given steps)) →
+pub searched_by : (task : SearchTask) (given : Given) (steps : ℕ) (s : State) (q : Question) (class : Class) (result : Result (Searched WrongRun) Fault) → Begins task given s q →
+    IfOk result (Finds class (offered_by task given steps s) (IsRightFrom s q task given steps) (IsWrongFrom s q task given steps)) →
     IfOk result (IsSearchedBy task given steps class)
-searched_by task given steps s class (Ok searched) begins h = found_by task given steps s class searched begins h
-searched_by task given steps s class (Err fault) begins h = tt
+searched_by task given steps s q class (Ok searched) begins h = found_by task given steps s q class searched begins h
+searched_by task given steps s q class (Err fault) begins h = tt
 
 pub fails_by : (task : SearchTask) (given : Given) (s : State) (result : Result (Searched WrongRun) Fault) → BeginsAt task given s →
     IfErr result (IsFaultFrom s task given) → IfErr result (IsRunFault task given)
@@ -206,16 +201,16 @@ turns_are (Priorities seed changes within) class h = absurd h
 
 -- what is printed
 pub found_listed : (task : SearchTask) (given : Given) (steps : ℕ) (class : Class) (numbers : List ℕ) (wrong : WrongRun) (text : List ℕ) →
-    IsFirstBy task given steps class numbers wrong.run wrong.judged → IsListed task given numbers wrong text → IsFoundBy task given steps class text
+    IsFirstBy task given steps class numbers wrong.run wrong.told → IsListed task given numbers wrong text → IsFoundBy task given steps class text
 found_listed task given steps class numbers wrong text first listed = record {
   numbers = numbers;
   run = wrong.run;
-  judged = wrong.judged;
+  told = wrong.told;
   first = first;
   events = listed.events;
   are_printed = listed.are_printed;
   final = listed.final;
-  is_judged = listed.is_judged;
+  is_told = listed.is_told;
   same_kind = listed.same_kind;
   text_is = listed.text_is;
 }

@@ -1,4 +1,4 @@
-use Rattle.std.proofs.Common.{◌≡◌, ◌⊎◌, ◌∙◌, ℕ, Bool, true, false, List, [], ◌∷◌, take, Option, None, Some, Ok, Err, ap, inl, inr, refl, sym, subst}
+use Rattle.std.proofs.Common.{◌≡◌, ◌⊎◌, ◌∙◌, ℕ, ◌<◌, arith, Bool, true, false, List, [], ◌∷◌, take, Option, None, Some, Ok, Err, ap, inl, inr, refl, sym, subst}
 use Rattle.std.specs.Prelude.{◌==◌, Result, IfErr, IfOk, option_map}
 use Rattle.std.specs.List.{range_with_len}
 use Rattle.std.proofs.lemmas.Bool.{eqb-true}
@@ -22,7 +22,10 @@ use Rattle.m161_order.specs.Delays.{delays_of}
 use Rattle.s161_base.specs.declared.fault.Fault.{Fault}
 use Rattle.s161_command.specs.declared.drive.Drive.{Drive}
 use Rattle.s161_run.specs.Driven.{rules_of}
+use Rattle.m161_judge.specs.declared.verdict.Verdict.{Verdict}
+use Rattle.m161_judge.specs.declared.verdict.Verdict.TheVariants.{Stale, Reached, Conflict, Stuck, Output, End}
 use Rattle.m161_judge.specs.Verdict.{Criteria, IsJudged, rank}
+use Rattle.m161_states.specs.Question.{Question}
 use Rattle.m161_drive.specs.Policy.{Rules}
 use Rattle.m161_machine.specs.declared.conf.BootError.{BootError}
 use Rattle.m161_machine.specs.declared.event.Event.{Event}
@@ -40,10 +43,14 @@ use Rattle.s161_search.specs.Seeds.{IsRightAt, IsRunAt, IsRunFault, seed_at, wit
 use Rattle.s161_search.specs.declared.orders.WrongRun.{WrongRun}
 use Rattle.s161_search.specs.Searches.{ArePrinted, HasKind, IsJudgedAt, is_whole, kind_of}
 use Rattle.s161_search.specs.declared.found.Printed.{Printed}
+use Rattle.s161_search.specs.declared.told.SearchVerdict.TheVariants as verdicts
+use Rattle.s161_search.specs.Told.{IsToldAt}
 use Rattle.s161_search.specs.helpers.Begun.{BeginsAt, HasKindFrom}
 use Rattle.s161_search.specs.helpers.Delayed.{IsFaultFrom, IsRightFrom, IsRunFrom, IsSeedRightFrom, IsSeedWrongFrom, IsTested, IsWrongFrom}
 use Rattle.s161_search.specs.helpers.Tried.{ArePrintedWith, IsTried}
+use Rattle.s161_search.specs.helpers.Telling.{Begins, TellsOf, told_of}
 use Rattle.s161_search.proofs.Booting.{booted_as_one}
+use Rattle.s161_search.proofs.Telling.{told_at}
 
 -- Verdicts of runs and of lists of events.
 
@@ -70,18 +77,6 @@ pub run_made : (task : SearchTask) (given : Given) (rules : Rules) (fault : Opti
     IsRun given.file (conf_of task.size) rules task.drive.events (criteria_of given) run
 run_made task given rules (Some first) run h = absurd cc
 run_made task given rules None run h = h
-
--- the verdict of a run
-pub run_judged : (task : SearchTask) (given : Given) (k : ℕ) (run : JudgedRun) (judged : Judged) → IsRunAt task given k run → run.judged ≡ Some judged →
-    IsJudgedAt task given run.events.items (Some judged)
-run_judged task given k run judged is wrong =
-    (is.booted, is.is_booted, subst (λ v. IsJudged (criteria_of given) is.booted run.events.items v) wrong is.judged)
-
--- the same by any order
-pub run_judged_by : (task : SearchTask) (given : Given) (order : Order) (run : JudgedRun) (judged : Judged) → IsRunOf task given order run → run.judged ≡ Some judged →
-    IsJudgedAt task given run.events.items (Some judged)
-run_judged_by task given order run judged is wrong =
-    (is.booted, is.is_booted, subst (λ v. IsJudged (criteria_of given) is.booted run.events.items v) wrong is.judged)
 
 -- a list has one verdict
 pub one_judged : (task : SearchTask) (given : Given) (events : List Event) (a b : Option Judged) →
@@ -124,34 +119,34 @@ left_judged task given events fs judged cut h (inr (es, n, (kind, has, same), is
 
 -- what is printed
 
--- all events of a run
-pub whole_printed : (task : SearchTask) (given : Given) (events : List Event) (judged : Judged) (printed : Printed) → is_whole task.whole judged.verdict ≡ true →
-    printed.events.items ≡ events → printed.verdict ≡ judged.verdict → IsJudgedAt task given events (Some judged) → ArePrintedWith task given events judged printed
-whole_printed task given events judged printed whole same verdict h = record {
-  are_printed = subst (λ b. ArePrinted b task given events judged printed.events.items) (sym whole) same;
-  final = judged;
-  verdict_is = verdict;
-  is_judged = subst (λ es. IsJudgedAt task given es (Some judged)) (sym same) h;
-  same_kind = refl;
-}
+-- a verdict but `end`
+low_when : (whole : Bool) (v : Verdict) → is_whole whole (verdicts.Run v) ≡ false → rank v < 5
+low_when whole (Stale place p address row) h = omega arith
+low_when whole (Reached place p address) h = omega arith
+low_when whole (Conflict conflict) h = omega arith
+low_when whole Stuck h = omega arith
+low_when whole Output h = omega arith
+low_when whole End h = absurd (let bad : true ≡ false = h in cc)
 
 -- what the passes leave
 pub left_printed : (task : SearchTask) (given : Given) (events : List Event) (judged last : Judged) (printed : Printed) →
     ((goal : Criteria) (s : State) (xs : List Event) (j : Judged) → CutKeepsVerdict goal s xs j) →
-    ((goal : Criteria) (s : State) (es : List Event) → IsOneVerdict goal s es) → is_whole task.whole judged.verdict ≡ false →
-    ArePrinted false task given events judged printed.events.items → printed.verdict ≡ last.verdict → IsJudgedAt task given events (Some judged) →
+    ((goal : Criteria) (s : State) (es : List Event) → IsOneVerdict goal s es) → is_whole task.whole (verdicts.Run judged.verdict) ≡ false →
+    ArePrinted false task given events (told_of judged) printed.events.items → printed.verdict ≡ verdicts.Run last.verdict → IsJudgedAt task given events (Some judged) →
     (printed.events.items ≡ take judged.events events) ⊎ AreNeeded (λ kind. rank judged.verdict == kind) (HasKind task given) printed.events.items →
-    IsJudgedAt task given printed.events.items (Some last) → ArePrintedWith task given events judged printed
+    IsJudgedAt task given printed.events.items (Some last) → ArePrintedWith task given events (told_of judged) printed
 left_printed task given events judged last printed cut one part short verdict h left again =
     let such = left_judged task given events printed.events.items judged cut h left in
     let same : Some last ≡ Some such.0 = one_judged task given printed.events.items (Some last) (Some such.0) one again such.1 in
     let is : last ≡ such.0 = cc in
+    let same_kind : rank last.verdict ≡ rank judged.verdict = ap (λ (j : Judged). rank j.verdict) is ∙ such.2 in
+    let low = low_when task.whole judged.verdict part in
     record {
-      are_printed = subst (λ b. ArePrinted b task given events judged printed.events.items) (sym part) short;
-      final = last;
+      are_printed = subst (λ b. ArePrinted b task given events (told_of judged) printed.events.items) (sym part) short;
+      final = told_of last;
       verdict_is = verdict;
-      is_judged = again;
-      same_kind = ap (λ (j : Judged). rank j.verdict) is ∙ such.2;
+      is_told = (again.0, again.1, again.2, inl (omega (arith, same_kind, low)));
+      same_kind = same_kind;
     }
 
 -- they have a verdict
@@ -186,19 +181,41 @@ short_as task given s fs es gs k r begins same kind h =
 
 -- what became of a run
 
-pub seed_judged : (s : State) (task : SearchTask) (given : Given) (k : ℕ) (run : JudgedRun) (tested : Tested WrongRun) →
-    IsRunFrom s task given (with_seed (seed_at task.drive.order k) task.drive.order) run → IsTested run tested →
-    IsJudgedTrial (IsSeedRightFrom s task given k) (IsSeedWrongFrom s task given k) tested
-seed_judged s task given k run (Right is_cut) is h = λ begins. (run, is begins, h.0, h.1)
-seed_judged s task given k run (Wrong wrong) is h = λ begins.
-    (subst (IsRunAt task given k) (sym h.0) (is begins), ap (λ (r : JudgedRun). r.judged) h.0 ∙ h.1)
+judged_of : (task : SearchTask) (given : Given) (order : Order) (run : JudgedRun) → IsRunOf task given order run → IsJudgedAt task given run.events.items run.judged
+judged_of task given order run is = (is.booted, is.is_booted, is.judged)
 
-pub list_judged : (s : State) (task : SearchTask) (given : Given) (steps : ℕ) (delays : Delays) (run : JudgedRun) (tested : Tested WrongRun) →
-    IsRunFrom s task given (Delayed steps delays) run → IsTested run tested →
-    IsJudgedTrial (IsRightFrom s task given steps (delays_of delays)) (IsWrongFrom s task given steps (delays_of delays)) tested
-list_judged s task given steps delays run (Right is_cut) is h = λ begins. (delays, run, refl, is begins, h.0, h.1)
-list_judged s task given steps delays run (Wrong wrong) is h = λ begins.
-    (delays, refl, subst (IsRunOf task given (Delayed steps delays)) (sym h.0) (is begins), ap (λ (r : JudgedRun). r.judged) h.0 ∙ h.1)
+right_told : (s : State) (q : Question) (task : SearchTask) (given : Given) (order : Order) (run : JudgedRun) → Begins task given s q → IsRunOf task given order run →
+    TellsOf task.hung q run.events.items run.judged None → IsToldAt task given run.events.items None
+right_told s q task given order run begins is of = told_at task given s q run.events.items run.judged None begins (judged_of task given order run is) of
+
+wrong_told : (s : State) (q : Question) (task : SearchTask) (given : Given) (order : Order) (run : JudgedRun) (wrong : WrongRun) → Begins task given s q →
+    IsRunOf task given order run → wrong.run ≡ run → TellsOf task.hung q run.events.items run.judged (Some wrong.told) →
+    IsToldAt task given wrong.run.events.items (Some wrong.told)
+wrong_told s q task given order run wrong begins is same of =
+    subst (λ (r : JudgedRun). IsToldAt task given r.events.items (Some wrong.told)) (sym same)
+    (told_at task given s q run.events.items run.judged (Some wrong.told) begins (judged_of task given order run is) of)
+
+pub seed_judged : (s : State) (q : Question) (task : SearchTask) (given : Given) (k : ℕ) (run : JudgedRun) (tested : Tested WrongRun) →
+    IsRunFrom s task given (with_seed (seed_at task.drive.order k) task.drive.order) run → IsTested task.hung q run tested →
+    IsJudgedTrial (IsSeedRightFrom s q task given k) (IsSeedWrongFrom s q task given k) tested
+seed_judged s q task given k run (Right is_cut) is h = λ begins.
+    (run, is begins.boots, right_told s q task given (with_seed (seed_at task.drive.order k) task.drive.order) run begins (is begins.boots) h.0, h.1)
+seed_judged s q task given k run (Wrong wrong) is h = λ begins. (
+  subst (IsRunAt task given k) (sym h.0) (is begins.boots),
+  wrong_told s q task given (with_seed (seed_at task.drive.order k) task.drive.order) run wrong begins (is begins.boots) h.0 h.1,
+)
+
+pub list_judged : (s : State) (q : Question) (task : SearchTask) (given : Given) (steps : ℕ) (delays : Delays) (run : JudgedRun) (tested : Tested WrongRun) →
+    IsRunFrom s task given (Delayed steps delays) run → IsTested task.hung q run tested →
+    IsJudgedTrial (IsRightFrom s q task given steps (delays_of delays)) (IsWrongFrom s q task given steps (delays_of delays)) tested
+list_judged s q task given steps delays run (Right is_cut) is h = λ begins.
+    (delays, run, refl, is begins.boots, right_told s q task given (Delayed steps delays) run begins (is begins.boots) h.0, h.1)
+list_judged s q task given steps delays run (Wrong wrong) is h = λ begins. (
+  delays,
+  refl,
+  subst (IsRunOf task given (Delayed steps delays)) (sym h.0) (is begins.boots),
+  wrong_told s q task given (Delayed steps delays) run wrong begins (is begins.boots) h.0 h.1,
+)
 
 -- what came of the seeds
 
@@ -206,17 +223,17 @@ pub rights_as : {X : Type 0} (R Q : X → Bool → Type 0) (xs : List X) (cut : 
 rights_as R Q [] cut f h = h
 rights_as R Q (x ∷ xs) cut f h = (h.0, h.1, f x h.0 h.2, h.3, rights_as R Q xs h.1 f h.4)
 
-pub tried_by : (task : SearchTask) (given : Given) (s : State) (result : Result (Tried WrongRun) Fault) → BeginsAt task given s →
-    IfOk result (IsAnswer (IsSeedRightFrom s task given) (IsSeedWrongFrom s task given) task.seeds) → IfOk result (IsTried task given)
-tried_by task given s (Ok (Clean cut)) begins h =
-    rights_as (IsSeedRightFrom s task given) (IsRightAt task given) (range_with_len 0 task.seeds) cut (λ k b right. right begins) h
-tried_by task given s (Ok (WrongTrial place wrong)) begins h = record {
+pub tried_by : (task : SearchTask) (given : Given) (s : State) (q : Question) (result : Result (Tried WrongRun) Fault) → Begins task given s q →
+    IfOk result (IsAnswer (IsSeedRightFrom s q task given) (IsSeedWrongFrom s q task given) task.seeds) → IfOk result (IsTried task given)
+tried_by task given s q (Ok (Clean cut)) begins h =
+    rights_as (IsSeedRightFrom s q task given) (IsRightAt task given) (range_with_len 0 task.seeds) cut (λ k b right. right begins) h
+tried_by task given s q (Ok (WrongTrial place wrong)) begins h = record {
   within = h.0;
   before = λ n less. (let right = h.2 n less in (right.0, right.1 begins));
   is_run = (h.1 begins).0;
   wrong = (h.1 begins).1;
 }
-tried_by task given s (Err fault) begins h = tt
+tried_by task given s q (Err fault) begins h = tt
 
 pub seeds_fail : (task : SearchTask) (given : Given) (s : State) (result : Result (Tried WrongRun) Fault) → BeginsAt task given s →
     IfErr result (IsFaultFrom s task given) → IfErr result (IsRunFault task given)

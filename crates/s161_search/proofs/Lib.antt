@@ -3,6 +3,7 @@ pub mod Asking
 pub mod Booting
 pub mod Reading
 pub mod Failing
+pub mod Telling
 pub mod Judging
 pub mod Delaying
 pub mod Numbers

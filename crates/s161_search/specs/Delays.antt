@@ -5,7 +5,6 @@ use Rattle.m161_delays.specs.Runs.{AreThose, IsUsefulOf}
 use Rattle.m161_jobs.specs.Trials.{AreRight}
 use Rattle.m161_drive.specs.Choice.{cursor_at}
 use Rattle.m161_judge.specs.declared.run.JudgedRun.{JudgedRun}
-use Rattle.m161_judge.specs.declared.verdict.Judged.{Judged}
 use Rattle.m161_judge.specs.Run.{IsRun}
 use Rattle.m161_machine.specs.History.{IsBootState}
 use Rattle.m161_machine.specs.State.{State}
@@ -18,7 +17,9 @@ use Rattle.s161_base.specs.Sizes.{conf_of}
 use Rattle.s161_command.specs.declared.class.DelayClass.{DelayClass}
 use Rattle.s161_command.specs.declared.task.SearchTask.{SearchTask}
 use Rattle.s161_run.specs.Driven.{rules_of}
+use Rattle.s161_search.specs.declared.told.Told.{Told}
 use Rattle.s161_search.specs.Given.{Given, criteria_of}
+use Rattle.s161_search.specs.Told.{IsToldAt}
 
 -- The runs that a search by delays makes.
 
@@ -43,12 +44,14 @@ offered_by task given steps booted =
 abbrev pub HasRightRun : SearchTask → Given → ℕ → List ℕ → Bool → Type 0
 HasRightRun task given steps numbers is_cut =
     (delays : Delays) × (run : JudgedRun) × (delays_of delays ≡ numbers)
-    × IsRunOf task given (Delayed steps delays) run × (run.judged ≡ None) × (run.is_cut ≡ is_cut)
+    × IsRunOf task given (Delayed steps delays) run × IsToldAt task given run.events.items None
+    × (run.is_cut ≡ is_cut)
 
 -- the run of these delays has no verdict
 abbrev pub IsRightBy : SearchTask → Given → ℕ → Delays → Type 0
 IsRightBy task given steps delays =
-    (run : JudgedRun) × IsRunOf task given (Delayed steps delays) run × (run.judged ≡ None)
+    (run : JudgedRun) × IsRunOf task given (Delayed steps delays) run
+    × IsToldAt task given run.events.items None
 
 -- no list of a class has a run that goes wrong; its useful lists have different runs, so many of which
 -- so many are cut, as far as 64 bits can say it
@@ -67,13 +70,13 @@ pub record AreCleanBy
 -- the first list of a class whose run goes wrong, and its verdict; it is useful
 pub record IsFirstBy
     (task : SearchTask) (given : Given) (steps : ℕ) (class : Class) (numbers : List ℕ) (run : JudgedRun)
-    (judged : Judged) : Type 0 where
+    (told : Told) : Type 0 where
   pub booted : State
   pub is_booted : IsBootState given.file (conf_of task.size) booted
   pub is_useful : IsUsefulOf class (offered_by task given steps booted) numbers
   pub delays : Delays
   pub delays_are : delays_of delays ≡ numbers
   pub is_run : IsRunOf task given (Delayed steps delays) run
-  pub wrong : run.judged ≡ Some judged
+  pub wrong : IsToldAt task given run.events.items (Some told)
   pub before : (others : Delays) → IsOf class (delays_of others) →
       ComesBefore (delays_of others) numbers → IsRightBy task given steps others

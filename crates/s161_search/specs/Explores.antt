@@ -1,4 +1,4 @@
-use Rattle.std.specs.Prelude.{◌≡◌, ℕ, ◌-◌, ◌==◌, false, if◌then◌else◌, List, ◌++◌, length, Option, None, codes, decimal}
+use Rattle.std.specs.Prelude.{◌≡◌, ℕ, ◌-◌, ◌==◌, false, if◌then◌else◌, List, length, Option, None, codes, decimal}
 use Rattle.m161_alike.specs.declared.known.Known.{Known}
 use Rattle.m161_audit.specs.Watch.{AreGood}
 use Rattle.m161_explore.specs.declared.whole.Answer.{Answer}
@@ -6,7 +6,6 @@ use Rattle.m161_explore.specs.declared.whole.Answer.TheVariants.{Clean, Found, H
 use Rattle.m161_explore.specs.Answers.{Answers}
 use Rattle.m161_judge.specs.declared.verdict.Verdict.{Verdict as RunVerdict}
 use Rattle.m161_judge.specs.declared.verdict.Verdict.TheVariants as run
-use Rattle.m161_machine.specs.declared.event.Event.{Event}
 use Rattle.m161_machine.specs.History.{IsBootState}
 use Rattle.m161_machine.specs.State.{State}
 use Rattle.m161_order.specs.declared.order.Order.TheVariants.{Turns}
@@ -15,12 +14,12 @@ use Rattle.m161_reach.specs.Reach.{IsLearnt, question_of, rules_of}
 use Rattle.m161_states.specs.declared.verdict.Unknown.{Unknown}
 use Rattle.m161_states.specs.declared.verdict.Verdict.{Verdict}
 use Rattle.m161_states.specs.declared.verdict.Verdict.TheVariants.{Stale, Reached, Conflict, Stuck, Output}
-use Rattle.m161_steplog.specs.Written.{schedule_text}
 use Rattle.m161_text.specs.Lines.{with_line_end}
 use Rattle.m161_text.specs.Parts.{◌␣◌}
 use Rattle.s161_base.specs.Sizes.{conf_of}
 use Rattle.s161_command.specs.declared.task.ExploreTask.{ExploreTask}
 use Rattle.s161_command.specs.declared.task.SearchTask.{SearchTask}
+use Rattle.s161_search.specs.declared.told.SearchVerdict.TheVariants as told
 use Rattle.s161_search.specs.Given.{Given, criteria_of}
 use Rattle.s161_search.specs.Searches.{IsGiven}
 use Rattle.s161_search.specs.Texts.{clean_text, found_text}
@@ -38,6 +37,7 @@ as_search task = record {
   jobs = 1;
   watches = task.watches;
   output = task.output;
+  hung = 0;
   whole = false;
 }
 
@@ -57,11 +57,6 @@ at_place place Output = run.Output
 abbrev pub states_text : ℕ → List ℕ
 states_text n = codes "# states" ␣ decimal n
 
--- a list that can't be gone on with to an end
-abbrev pub hung_text : ℕ → List Event → List ℕ
-hung_text states events =
-    with_line_end (states_text states) ++ with_line_end (codes "# hung") ++ schedule_text events
-
 -- there are more states than this, and nothing goes wrong in so many events
 abbrev pub open_text : ℕ → ℕ → List ℕ
 open_text limit size = codes "open" ␣ decimal limit ␣ decimal size
@@ -75,10 +70,11 @@ PrintsAnswer processors limit keys (Clean states) text status =
 PrintsAnswer processors limit keys (Found events what states) text status =
     (status ≡ 4)
     × (text
-    ≡ found_text (states_text states) (at_place (length events.items - 1) what)
+    ≡ found_text (states_text states) (told.Run (at_place (length events.items - 1) what))
     (events_named processors keys 0 events.items))
 PrintsAnswer processors limit keys (Hung events states) text status =
-    (status ≡ 4) × (text ≡ hung_text states (events_named processors keys 0 events.items))
+    (status ≡ 4)
+    × (text ≡ found_text (states_text states) told.Hung (events_named processors keys 0 events.items))
 PrintsAnswer processors limit keys (Open size) text status =
     (status ≡ 6) × (text ≡ with_line_end (open_text limit size))
 PrintsAnswer processors limit keys (Ended reason) text status = ⊥

@@ -1,7 +1,6 @@
 use Rattle.std.specs.Prelude.{◌≡◌, ◌⊎◌, ℕ, ◌==◌, Bool, true, false, List, take, Option, None, Some, option_map}
 use Rattle.m161_judge.specs.declared.run.JudgedRun.{JudgedRun}
 use Rattle.m161_judge.specs.declared.verdict.Judged.{Judged}
-use Rattle.m161_judge.specs.declared.verdict.Verdict.{Verdict}
 use Rattle.m161_judge.specs.declared.verdict.Verdict.TheVariants.{Stale, Reached, Conflict, Stuck, Output as OutputVerdict, End}
 use Rattle.m161_judge.specs.Verdict.{IsJudged, rank}
 use Rattle.m161_machine.specs.declared.event.Event.{Event}
@@ -17,6 +16,9 @@ use Rattle.s161_base.specs.Samples.{IsFileName}
 use Rattle.s161_base.specs.Sizes.{conf_of}
 use Rattle.s161_command.specs.declared.task.SearchTask.{SearchTask}
 use Rattle.s161_run.specs.Driven.{IsKeysFile}
+use Rattle.s161_search.specs.declared.told.SearchVerdict.{SearchVerdict}
+use Rattle.s161_search.specs.declared.told.SearchVerdict.TheVariants.{Run, Hung}
+use Rattle.s161_search.specs.declared.told.Told.{Told}
 use Rattle.s161_search.specs.Given.{Given, IsBadLine, IsRead, IsWatchesFile, criteria_of}
 use Rattle.s161_search.specs.Never.{AreAddresses, LacksAddress, symbols_in}
 use Rattle.s161_search.specs.Seeds.{AreClean, IsFirstWrong, IsRunFault, seed_at}
@@ -25,10 +27,11 @@ use Rattle.m161_order.specs.declared.order.Order.TheVariants.{Turns}
 use Rattle.s161_command.specs.declared.class.DelayClass.{DelayClass}
 use Rattle.s161_search.specs.Delays.{AreCleanBy, IsFirstBy, class_of}
 use Rattle.s161_search.specs.Texts.{clean_text, delays_text, found_text, seed_text}
+use Rattle.s161_search.specs.Told.{IsToldAt}
 
 -- The output and the exit status of `search`.
 
--- the verdict of a list of events, from the state at boot
+-- the verdict of a list of events, from the state at boot, whether it hangs or not
 abbrev pub IsJudgedAt : SearchTask → Given → List Event → Option Judged → Type 0
 IsJudgedAt task given events judged =
     (booted : State) × IsBootState given.file (conf_of task.size) booted
@@ -38,41 +41,65 @@ IsJudgedAt task given events judged =
 abbrev pub kind_of : Judged → Judgement ℕ
 kind_of judged = record { kind = rank judged.verdict; needs = judged.events }
 
+-- the kinds of verdicts, by numbers
+abbrev pub kind_number : SearchVerdict → ℕ
+kind_number (Run v) = rank v
+kind_number Hung = 6
+
+abbrev pub hang_with : SearchVerdict → ℕ → Option (Judgement ℕ)
+hang_with (Run v) n = None
+hang_with Hung n = Some (record { kind = kind_number Hung; needs = n })
+
 abbrev pub HasKind : SearchTask → Given → List Event → Option (Judgement ℕ) → Type 0
 HasKind task given events verdict =
     (judged : Option Judged) × IsJudgedAt task given events judged
     × (verdict ≡ option_map kind_of judged)
 
+-- that a list of events hangs, and by how many of them, if that is its verdict
+abbrev pub hang_of : Option Told → Option (Judgement ℕ)
+hang_of None = None
+hang_of (Some told) = hang_with told.verdict told.events
+
+abbrev pub HasHang : SearchTask → Given → List Event → Option (Judgement ℕ) → Type 0
+HasHang task given events verdict =
+    (told : Option Told) × IsToldAt task given events told × (verdict ≡ hang_of told)
+
+-- the verdicts by which a list is shortened: of a verdict of a run those of runs
+abbrev pub HasKindOf : SearchVerdict → SearchTask → Given → List Event → Option (Judgement ℕ) → Type 0
+HasKindOf (Run v) = HasKind
+HasKindOf Hung = HasHang
+
 -- all events of a run are printed where that is asked for, and where the verdict is `end`
-abbrev pub is_whole : Bool → Verdict → Bool
-is_whole whole (Stale place processor address row) = whole
-is_whole whole (Reached place processor address) = whole
-is_whole whole (Conflict conflict) = whole
-is_whole whole Stuck = whole
-is_whole whole OutputVerdict = whole
-is_whole whole End = true
+abbrev pub is_whole : Bool → SearchVerdict → Bool
+is_whole whole (Run (Stale place processor address row)) = whole
+is_whole whole (Run (Reached place processor address)) = whole
+is_whole whole (Run (Conflict conflict)) = whole
+is_whole whole (Run Stuck) = whole
+is_whole whole (Run OutputVerdict) = whole
+is_whole whole (Run End) = true
+is_whole whole Hung = whole
 
 -- the events that are printed of a run with this verdict: all; or what the passes leave of those that
 -- the verdict needs, by verdicts of its kind
-abbrev pub ArePrinted : Bool → SearchTask → Given → List Event → Judged → List Event → Type 0
-ArePrinted true task given events judged printed = printed ≡ events
-ArePrinted false task given events judged printed =
-    Shortens (λ kind. rank judged.verdict == kind) (HasKind task given)
-    (take judged.events events) printed
+abbrev pub ArePrinted : Bool → SearchTask → Given → List Event → Told → List Event → Type 0
+ArePrinted true task given events told printed = printed ≡ events
+ArePrinted false task given events told printed =
+    Shortens (λ kind. kind_number told.verdict == kind) (HasKindOf told.verdict task given)
+    (take told.events events) printed
 
 -- the schedule of the first run that goes wrong, behind its seed and its verdict; the printed verdict
 -- is that of the printed events, and is of the run's kind
 pub record IsFound (task : SearchTask) (given : Given) (text : List ℕ) : Type 0 where
   pub place : ℕ
   pub run : JudgedRun
-  pub judged : Judged
-  pub first : IsFirstWrong task given place run judged
+  pub told : Told
+  pub first : IsFirstWrong task given place run told
   pub events : List Event
   pub are_printed :
-      ArePrinted (is_whole task.whole judged.verdict) task given run.events.items judged events
-  pub final : Judged
-  pub is_judged : IsJudgedAt task given events (Some final)
-  pub same_kind : rank final.verdict ≡ rank judged.verdict
+      ArePrinted (is_whole task.whole told.verdict) task given run.events.items told events
+  pub final : Told
+  pub is_told : IsToldAt task given events (Some final)
+  pub same_kind : kind_number final.verdict ≡ kind_number told.verdict
   pub text_is : text ≡ found_text (seed_text (seed_at task.drive.order place)) final.verdict events
 
 -- none of the runs goes wrong
@@ -86,14 +113,14 @@ pub record IsFoundBy
     (task : SearchTask) (given : Given) (steps : ℕ) (class : Class) (text : List ℕ) : Type 0 where
   pub numbers : List ℕ
   pub run : JudgedRun
-  pub judged : Judged
-  pub first : IsFirstBy task given steps class numbers run judged
+  pub told : Told
+  pub first : IsFirstBy task given steps class numbers run told
   pub events : List Event
   pub are_printed :
-      ArePrinted (is_whole task.whole judged.verdict) task given run.events.items judged events
-  pub final : Judged
-  pub is_judged : IsJudgedAt task given events (Some final)
-  pub same_kind : rank final.verdict ≡ rank judged.verdict
+      ArePrinted (is_whole task.whole told.verdict) task given run.events.items told events
+  pub final : Told
+  pub is_told : IsToldAt task given events (Some final)
+  pub same_kind : kind_number final.verdict ≡ kind_number told.verdict
   pub text_is : text ≡ found_text (delays_text numbers) final.verdict events
 
 -- none of the runs of a class goes wrong

@@ -4,7 +4,6 @@ use Rattle.m161_audit.specs.Watch.{AreGood, IsBad}
 use Rattle.m161_jobs.specs.Answers.{AreRightBelow}
 use Rattle.m161_jobs.specs.Trials.{AreRight}
 use Rattle.m161_judge.specs.declared.run.JudgedRun.{JudgedRun}
-use Rattle.m161_judge.specs.declared.verdict.Judged.{Judged}
 use Rattle.m161_judge.specs.Run.{IsRun}
 use Rattle.m161_machine.specs.declared.conf.BootError.TheVariants.{Load}
 use Rattle.m161_machine.specs.Conf.{is_within_limits}
@@ -17,7 +16,9 @@ use Rattle.s161_base.specs.Sizes.{conf_of}
 use Rattle.s161_command.specs.declared.drive.Drive.{Drive}
 use Rattle.s161_command.specs.declared.task.SearchTask.{SearchTask}
 use Rattle.s161_run.specs.Driven.{rules_of}
+use Rattle.s161_search.specs.declared.told.Told.{Told}
 use Rattle.s161_search.specs.Given.{Given, criteria_of}
+use Rattle.s161_search.specs.Told.{IsToldAt}
 
 -- The seeds that a search tries.
 
@@ -62,7 +63,8 @@ IsRunFault task given _ = ⊥
 -- run k has no verdict, and is cut or isn't
 abbrev pub IsRightAt : SearchTask → Given → ℕ → Bool → Type 0
 IsRightAt task given k is_cut =
-    (run : JudgedRun) × IsRunAt task given k run × (run.judged ≡ None) × (run.is_cut ≡ is_cut)
+    (run : JudgedRun) × IsRunAt task given k run × IsToldAt task given run.events.items None
+    × (run.is_cut ≡ is_cut)
 
 -- none of the first n runs goes wrong, and so many of them are cut
 abbrev pub AreClean : SearchTask → Given → ℕ → ℕ → Type 0
@@ -70,8 +72,8 @@ AreClean task given n cut = AreRight (IsRightAt task given) (range_with_len 0 n)
 
 -- the first run that goes wrong, and its verdict
 pub record IsFirstWrong
-    (task : SearchTask) (given : Given) (place : ℕ) (run : JudgedRun) (judged : Judged) : Type 0 where
+    (task : SearchTask) (given : Given) (place : ℕ) (run : JudgedRun) (told : Told) : Type 0 where
   pub within : place < task.seeds
   pub before : AreRightBelow (IsRightAt task given) place
   pub is_run : IsRunAt task given place run
-  pub wrong : run.judged ≡ Some judged
+  pub wrong : IsToldAt task given run.events.items (Some told)

@@ -6,6 +6,8 @@ use Rattle.m161_machine.specs.declared.event.Event.{Event}
 use Rattle.m161_steplog.specs.Written.{schedule_text}
 use Rattle.m161_text.specs.Lines.{with_line_end}
 use Rattle.m161_text.specs.Parts.{◌␣◌, word_text}
+use Rattle.s161_search.specs.declared.told.SearchVerdict.{SearchVerdict}
+use Rattle.s161_search.specs.declared.told.SearchVerdict.TheVariants.{Run, Hung}
 use Rattle.s161_search.specs.Audits.{finding_text}
 use Rattle.s161_run.specs.Runs.{conflict_words}
 
@@ -40,7 +42,11 @@ numbers_text (n ∷ ns) = codes " " ++ decimal n ++ numbers_text ns
 abbrev pub delays_text : List ℕ → List ℕ
 delays_text numbers = codes "# delays" ++ numbers_text numbers
 
+abbrev pub told_text : SearchVerdict → List ℕ
+told_text (Run v) = verdict_text v
+told_text Hung = codes "hung"
+
 -- a schedule that goes wrong: its first two lines, which are comments, tell the run and the verdict
-abbrev pub found_text : List ℕ → Verdict → List Event → List ℕ
+abbrev pub found_text : List ℕ → SearchVerdict → List Event → List ℕ
 found_text run verdict events =
-    with_line_end run ++ with_line_end (codes "#" ␣ verdict_text verdict) ++ schedule_text events
+    with_line_end run ++ with_line_end (codes "#" ␣ told_text verdict) ++ schedule_text events

@@ -4,6 +4,7 @@ pub mod Tried
 pub mod Inputs
 pub mod Never
 pub mod Begun
+pub mod Telling
 pub mod Delayed
 pub mod Offers
 pub mod Points

@@ -5,15 +5,15 @@ ghost use Rattle.m161_states.specs.System.{event_named, typed_after};
 ghost use Rattle.m161_text.specs.Lines.{with_line_end};
 ghost use Rattle.m161_reach.specs.Named.{events_named};
 ghost use Rattle.m161_reach.specs.Reach.{HasEnded};
-ghost use Rattle.s161_search.specs.Explores.{PrintsAnswer, at_place, hung_text, limit_of, open_text, states_text};
+ghost use Rattle.s161_search.specs.Explores.{PrintsAnswer, at_place, limit_of, open_text, states_text};
 ghost use Rattle.s161_search.specs.Texts.{found_text};
 
 use crate::texts::{clean_line, found_lines};
+use crate::told::SearchVerdict;
 use m161_explore::Answer;
 use m161_judge::Verdict as RunVerdict;
 use m161_machine::Event;
 use m161_states::{Unknown, Verdict};
-use m161_steplog::write_schedule;
 use s161_base::finished::Finished;
 use s161_command::ExploreTask;
 use std::alloc::{AllocError, Global};
@@ -122,22 +122,11 @@ fn open_line(alloc: Global, limit: u32, size: usize) -> Result<String, AllocErro
     format!(in alloc; "{shown}\n")
 }
 
-// The schedule of a list that can't be gone on with to an end.
-fn hung_lines(alloc: Global, states: u32, events: &[Event]) -> Result<String, AllocError>
-    ensures { IfOk result (λ lines. string_bytes lines ≡ hung_text states events.now) }
-{
-    let mut text = states_line(alloc, states)?;
-    let schedule = write_schedule(alloc, events)?;
-    text.push_str("# hung\n")?;
-    text.push_str(schedule.as_str())?;
-    Ok(text)
-}
-
 // The schedule of a list that goes wrong.
 fn wrong_lines(
     alloc: Global,
     states: u32,
-    verdict: RunVerdict,
+    verdict: SearchVerdict,
     events: &[Event],
 ) -> Result<String, AllocError>
     ensures { IfOk result (λ lines. string_bytes lines ≡ found_text (states_text states) verdict events.now) }
@@ -187,13 +176,13 @@ pub(crate) fn print_answer(
             verdict,
             states,
         } => {
-            let verdict = at_place(events.len().saturating_sub(1), verdict);
+            let verdict = SearchVerdict::Run(at_place(events.len().saturating_sub(1), verdict));
             let events = events_named(alloc, processors, keys, &events)?;
             Ok(finished(wrong_lines(alloc, states, verdict, &events)?, 4))
         }
         Answer::Hung { events, states } => {
             let events = events_named(alloc, processors, keys, &events)?;
-            Ok(finished(hung_lines(alloc, states, &events)?, 4))
+            Ok(finished(wrong_lines(alloc, states, SearchVerdict::Hung, &events)?, 4))
         }
         Answer::Open { size } => Ok(finished(open_line(alloc, limit, size)?, 6)),
         Answer::Ended(_) => unreachable!(),

@@ -6,7 +6,7 @@ ghost use Rattle.s161_base.specs.declared.fault.Fault.TheVariants as faults;
 ghost use Rattle.s161_run.specs.Driven.{rules_of};
 ghost use Rattle.s161_search.specs.Delays.{class_of};
 ghost use Rattle.s161_search.specs.Seeds.{IsRunFault};
-ghost use Rattle.s161_search.specs.helpers.Begun.{BeginsAt};
+ghost use Rattle.s161_search.specs.helpers.Telling.{Begins};
 ghost use Rattle.s161_search.specs.helpers.Delayed.{IsFaultFrom};
 ghost use Rattle.s161_search.specs.helpers.Inputs.{given_of};
 ghost use Rattle.s161_search.specs.helpers.Points.{IsPointOf};
@@ -21,6 +21,7 @@ use m161_delays::{Class, Delays, Runs, Searched, Tested, search_lists};
 use m161_drive::Policy;
 use m161_judge::Booted;
 use m161_order::Order;
+use m161_reach::Machines;
 use s161_base::fault::Fault;
 use s161_command::{DelayClass, SearchTask};
 use std::alloc::Global;
@@ -37,6 +38,8 @@ pub(crate) struct DelayedRuns<'a, 'b> {
     pub task: SearchTask<'a>,
     /// What was read.
     pub inputs: &'b Inputs,
+    /// What is asked of the states behind a run.
+    pub ends: &'b Machines<'b, Tlb, Console>,
     /// How many Steps a turn has.
     pub turns: u32,
 }
@@ -83,9 +86,9 @@ impl<'a, 'b> Runs for DelayedRuns<'a, 'b> {
 
     ghost offers = { λ r. offered_by r.task (given_of r.inputs.now) r.turns r.booted.now };
 
-    ghost right = { λ r. IsRightFrom r.booted.now r.task (given_of r.inputs.now) r.turns };
+    ghost right = { λ r. IsRightFrom r.booted.now r.ends.now r.task (given_of r.inputs.now) r.turns };
 
-    ghost wrong = { λ r. IsWrongFrom r.booted.now r.task (given_of r.inputs.now) r.turns };
+    ghost wrong = { λ r. IsWrongFrom r.booted.now r.ends.now r.task (given_of r.inputs.now) r.turns };
 
     ghost fails = { λ r. IsFaultFrom r.booted.now r.task (given_of r.inputs.now) };
 
@@ -160,7 +163,7 @@ impl<'a, 'b> Runs for DelayedRuns<'a, 'b> {
             delays,
             point,
         )?;
-        Ok(tested(run))
+        Ok(tested(self.alloc, self.ends, self.task.hung, run)?)
     }
 
     fn refused(&self) -> Fault<'a> {
@@ -180,10 +183,11 @@ pub(crate) fn try_lists<'a, R: Threads + Sync>(
     booted: &Booted<Tlb, Console>,
     task: SearchTask<'a>,
     inputs: &Inputs,
+    ends: &Machines<'_, Tlb, Console>,
     turns: u32,
     class: DelayClass,
 ) -> Result<Searched<WrongRun>, Fault<'a>>
-    requires booted { BeginsAt task (given_of inputs.now) booted.now }
+    requires begins { Begins task (given_of inputs.now) booted.now ends.now }
     requires few { class.most ≤ 64 }
     ensures ok { IfOk result (IsSearchedBy task.entry (given_of inputs.now) turns (class_of class)) }
     ensures fault { IfErr result (IsRunFault task.entry (given_of inputs.now)) }
@@ -193,6 +197,7 @@ pub(crate) fn try_lists<'a, R: Threads + Sync>(
         booted,
         task,
         inputs,
+        ends,
         turns,
     };
     let lists = Class {

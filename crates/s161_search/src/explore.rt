@@ -45,6 +45,7 @@ fn as_search(task: ExploreTask<'_>) -> SearchTask<'_>
         jobs: 1,
         watches: task.watches,
         output: task.output,
+        hung: 0,
         whole: false,
     }
 }

@@ -1,16 +1,21 @@
 //! The schedule of a run that goes wrong.
 
-ghost use Rattle.std.specs.Prelude.{◌≡◌, IfOk, Some};
+ghost use Rattle.std.specs.Prelude.{◌≡◌, IfOk, Some, false};
 ghost use Rattle.s161_search.specs.helpers.Begun.{BeginsAt};
 ghost use Rattle.s161_search.specs.helpers.Inputs.{given_of};
+ghost use Rattle.s161_search.specs.declared.told.SearchVerdict.TheVariants as verdicts;
 ghost use Rattle.s161_search.specs.Searches.{IsJudgedAt, is_whole};
+ghost use Rattle.s161_search.specs.Told.{IsToldAt};
+ghost use Rattle.s161_search.specs.helpers.Telling.{Begins, told_of};
 ghost use Rattle.s161_search.specs.helpers.Tried.{ArePrintedWith};
 
-use crate::again::{KindJudge, judge_again, rank};
+use crate::again::{HUNG, HangJudge, KindJudge, judge_again, rank};
 use crate::inputs::Inputs;
+use crate::told::{SearchVerdict, Told};
 use m161::{Console, Tlb};
-use m161_judge::{Booted, Judged, Verdict, cut_keeps_verdict, one_verdict};
+use m161_judge::{Booted, Judged, Verdict, cut_keeps_verdict, first_is_no_worse, one_verdict};
 use m161_machine::Event;
+use m161_reach::{Machines, cut_keeps_hang};
 use m161_shorten::shorten;
 use s161_command::SearchTask;
 use std::alloc::{AllocError, Global};
@@ -19,30 +24,30 @@ use std::alloc::{AllocError, Global};
 #[derive(Drop)]
 pub(crate) struct Printed {
     /// The verdict of the events.
-    pub verdict: Verdict,
+    pub verdict: SearchVerdict,
     /// The events.
     pub events: Vec<Event>,
 }
 
 // Whether all events of a run are printed.
-fn is_whole(whole: bool, verdict: Verdict) -> bool
+fn is_whole(whole: bool, verdict: SearchVerdict) -> bool
     ensures { result ≡ is_whole whole verdict }
 {
     match verdict {
-        Verdict::Stale { .. }
-        | Verdict::Reached { .. }
-        | Verdict::Conflict(_)
-        | Verdict::Stuck
-        | Verdict::Output => whole,
-        Verdict::End => true,
+        SearchVerdict::Run(verdict) => match verdict {
+            Verdict::Stale { .. }
+            | Verdict::Reached { .. }
+            | Verdict::Conflict(_)
+            | Verdict::Stuck
+            | Verdict::Output => whole,
+            Verdict::End => true,
+        },
+        SearchVerdict::Hung => whole,
     }
 }
 
-/// The events of a run that are printed, and their verdict. The run goes wrong by this verdict.
-///
-/// # Errors
-/// Memory was refused.
-pub(crate) fn print_of(
+// What the passes leave of a run that goes wrong by a verdict of its events, but `end`.
+fn shorten_judged(
     alloc: Global,
     booted: &Booted<Tlb, Console>,
     task: SearchTask<'_>,
@@ -52,14 +57,9 @@ pub(crate) fn print_of(
 ) -> Result<Printed, AllocError>
     requires booted { BeginsAt task (given_of inputs.now) booted.now }
     requires judged { IsJudgedAt task (given_of inputs.now) events.items (Some judged) }
-    ensures { IfOk result (ArePrintedWith task.entry (given_of inputs.now) events.items judged) }
+    requires part { is_whole task.whole (verdicts.Run judged.verdict) ≡ false }
+    ensures { IfOk result (ArePrintedWith task.entry (given_of inputs.now) events.items (told_of judged)) }
 {
-    if is_whole(task.whole, judged.verdict) {
-        return Ok(Printed {
-            verdict: judged.verdict,
-            events,
-        });
-    }
     // So that the proof knows that what is left has a verdict, and one alone.
     cut_keeps_verdict();
     one_verdict();
@@ -74,7 +74,77 @@ pub(crate) fn print_of(
         unreachable!()
     };
     Ok(Printed {
-        verdict: last.verdict,
+        verdict: SearchVerdict::Run(last.verdict),
         events,
     })
+}
+
+// What the passes leave of a run that hangs, by so many of its events.
+fn shorten_hung(
+    alloc: Global,
+    booted: &Booted<Tlb, Console>,
+    task: SearchTask<'_>,
+    inputs: &Inputs,
+    ends: &Machines<'_, Tlb, Console>,
+    needs: usize,
+    mut events: Vec<Event>,
+) -> Result<Printed, AllocError>
+    requires begins { Begins task (given_of inputs.now) booted.now ends.now }
+    requires told { IsToldAt task (given_of inputs.now) events.items (Some (record { verdict = verdicts.Hung; events = needs })) }
+    requires part { task.whole ≡ false }
+    ensures { IfOk result (ArePrintedWith task.entry (given_of inputs.now) events.items (record { verdict = verdicts.Hung; events = needs })) }
+{
+    // So that the proof knows that what is left hangs, too.
+    first_is_no_worse();
+    cut_keeps_hang();
+    let mut judge = HangJudge {
+        alloc,
+        booted,
+        inputs,
+        ends,
+        few: task.hung,
+    };
+    events.truncate(needs);
+    let events = shorten(&mut judge, HUNG, events)?;
+    Ok(Printed {
+        verdict: SearchVerdict::Hung,
+        events,
+    })
+}
+
+/// The events of a run that are printed, and their verdict. The run goes wrong by this verdict.
+///
+/// # Errors
+/// Memory was refused.
+pub(crate) fn print_of(
+    alloc: Global,
+    booted: &Booted<Tlb, Console>,
+    task: SearchTask<'_>,
+    inputs: &Inputs,
+    ends: &Machines<'_, Tlb, Console>,
+    told: Told,
+    events: Vec<Event>,
+) -> Result<Printed, AllocError>
+    requires begins { Begins task (given_of inputs.now) booted.now ends.now }
+    requires told { IsToldAt task (given_of inputs.now) events.items (Some told) }
+    ensures { IfOk result (ArePrintedWith task.entry (given_of inputs.now) events.items told) }
+{
+    if is_whole(task.whole, told.verdict) {
+        return Ok(Printed {
+            verdict: told.verdict,
+            events,
+        });
+    }
+    match told.verdict {
+        SearchVerdict::Run(verdict) => {
+            let judged = Judged {
+                verdict,
+                events: told.events,
+            };
+            shorten_judged(alloc, booted, task, inputs, judged, events)
+        }
+        SearchVerdict::Hung => {
+            shorten_hung(alloc, booted, task, inputs, ends, told.events, events)
+        }
+    }
 }

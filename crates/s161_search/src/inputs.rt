@@ -7,6 +7,7 @@ ghost use Rattle.s161_base.specs.Known.{IsText};
 ghost use Rattle.s161_base.specs.Samples.{image_file};
 ghost use Rattle.s161_run.specs.Driven.{IsKeysFile};
 ghost use Rattle.s161_search.specs.Given.{IsOutputOf, IsRead, IsWatchesFile, criteria_of, search_files};
+ghost use Rattle.s161_search.specs.Told.{ends_of};
 ghost use Rattle.s161_search.specs.helpers.Inputs.{given_of};
 ghost use Rattle.s161_search.specs.Searches.{IsSearchFault};
 ghost use Rattle.s161_search.specs.helpers.Watches.{AreWatchesIn, IsFaultIn, IsTextOf};
@@ -55,6 +56,18 @@ impl Inputs {
         Goal {
             watches: &self.watches,
             never: &self.never,
+            output: self.output(),
+            keys: &self.keys,
+        }
+    }
+
+    /// By what the states behind a run are looked at.
+    pub(crate) fn ends(&self) -> Goal<'_>
+        ensures { result ≡ ends_of (criteria_of (given_of self.now)) }
+    {
+        Goal {
+            watches: &[],
+            never: &[],
             output: self.output(),
             keys: &self.keys,
         }

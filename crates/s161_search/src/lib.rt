@@ -16,4 +16,5 @@ mod points;
 pub mod search;
 mod seeds;
 mod texts;
+pub mod told;
 pub mod watches;

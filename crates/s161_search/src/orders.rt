@@ -13,14 +13,16 @@ ghost use Rattle.s161_search.specs.helpers.Points.{IsPointOf};
 use crate::audit::fault_of_audit;
 use crate::inputs::Inputs;
 use crate::points::RunPoint;
+use crate::told::{Told, tell};
 use m161::{Console, Tlb};
 use m161_drive::Policy;
 use m161_jobs::Tested;
-use m161_judge::{Booted, Judged, JudgedRun, judge_booted, judge_rest};
+use m161_judge::{Booted, JudgedRun, judge_booted, judge_rest};
 use m161_order::{Delays, Order};
+use m161_reach::Machines;
 use s161_base::fault::Fault;
 use s161_command::SearchTask;
-use std::alloc::Global;
+use std::alloc::{AllocError, Global};
 
 /// A run that goes wrong.
 #[derive(Drop)]
@@ -28,16 +30,24 @@ pub(crate) struct WrongRun {
     /// The run.
     pub run: JudgedRun,
     /// Its verdict.
-    pub judged: Judged,
+    pub told: Told,
 }
 
-/// What became of a run.
-pub(crate) fn tested(run: JudgedRun) -> Tested<WrongRun>
-    ensures { IsTested run result }
+/// What became of a run; so many states behind it may be looked at.
+///
+/// # Errors
+/// Memory was refused.
+pub(crate) fn tested(
+    alloc: Global,
+    ends: &Machines<'_, Tlb, Console>,
+    few: u32,
+    run: JudgedRun,
+) -> Result<Tested<WrongRun>, AllocError>
+    ensures { IfOk result (IsTested few ends.now run) }
 {
-    match run.judged {
-        Some(judged) => Tested::Wrong(WrongRun { run, judged }),
-        None => Tested::Right { is_cut: run.is_cut },
+    match tell(alloc, ends, few, run.judged, &run.events)? {
+        Some(told) => Ok(Tested::Wrong(WrongRun { run, told })),
+        None => Ok(Tested::Right { is_cut: run.is_cut }),
     }
 }
 

@@ -1,11 +1,9 @@
 //! Looking for a seed whose run goes wrong.
 
 ghost use Rattle.std.specs.Prelude.{◌≡◌, ◌≢◌, ◌≤◌, ℕ, IfErr, IfOk, None, Some, map};
-ghost use Rattle.m161_order.specs.declared.order.Order.{Order as OrderValue};
 ghost use Rattle.m161_order.specs.declared.order.Order.TheVariants as order;
 ghost use Rattle.m161_order.specs.Delays.{delays_of};
 ghost use Rattle.s161_command.specs.Classes.{HasClassLimits};
-ghost use Rattle.s161_search.specs.Delays.{IsRunOf};
 ghost use Rattle.s161_base.specs.Asked.{AsksFor};
 ghost use Rattle.s161_base.specs.Samples.{image_file};
 ghost use Rattle.s161_search.specs.Given.{search_files};
@@ -14,6 +12,8 @@ ghost use Rattle.s161_search.specs.helpers.Inputs.{given_of};
 ghost use Rattle.s161_search.specs.helpers.Never.{IsNeverFault, PrintsFor};
 ghost use Rattle.s161_search.specs.Searches.{IsFound, IsSearched, IsSearchFault, Prints};
 ghost use Rattle.s161_search.specs.Seeds.{IsFirstWrong, IsRunFault};
+ghost use Rattle.s161_search.specs.Told.{IsToldAt};
+ghost use Rattle.s161_search.specs.helpers.Telling.{Begins};
 ghost use Rattle.s161_search.specs.helpers.Tried.{IsListed};
 
 use crate::delays::try_lists;
@@ -28,6 +28,8 @@ use m161_delays::{Delays, Searched};
 use m161_jobs::Tried;
 use m161_judge::Booted;
 use m161_order::Order;
+use m161_reach::{Machines, can_be_asked};
+use m161_states::Known;
 use s161_base::fault::Fault;
 use s161_base::files::FileSource;
 use s161_base::finished::Finished;
@@ -80,7 +82,7 @@ fn search_in<'a, R: Threads + Sync>(
     make_runs(rt, alloc, &booted, task, &inputs)
 }
 
-// Makes the runs, by seeds or by delays.
+// Makes the runs.
 fn make_runs<'a, R: Threads + Sync>(
     rt: &R,
     alloc: Global,
@@ -94,9 +96,34 @@ fn make_runs<'a, R: Threads + Sync>(
     ensures fault { IfErr result (IsRunFault task.entry (given_of inputs.now)) }
     ensures within { IfOk result (λ done. (done.status ≤ 5) × (done.status ≢ 2)) }
 {
+    let core = booted.copy_core(alloc)?;
+    let goal = inputs.ends();
+    // Only files that are larger than those that are read can't be asked for.
+    if !can_be_asked(&core, &goal) {
+        return Err(Fault::Memory);
+    }
+    let ends = Machines::new(alloc, &core, &goal, Known::nothing());
+    make_orders(rt, alloc, booted, task, inputs, &ends)
+}
+
+// Makes them by seeds or by delays.
+fn make_orders<'a, R: Threads + Sync>(
+    rt: &R,
+    alloc: Global,
+    booted: &Booted<Tlb, Console>,
+    task: SearchTask<'a>,
+    inputs: &Inputs,
+    ends: &Machines<'_, Tlb, Console>,
+) -> Result<Finished, Fault<'a>>
+    requires begins { Begins task (given_of inputs.now) booted.now ends.now }
+    requires class { HasClassLimits task.drive.order task.delays }
+    ensures ok { IfOk result (λ done. Prints task.entry (given_of inputs.now) task.entry.delays done.text.items done.status) }
+    ensures fault { IfErr result (IsRunFault task.entry (given_of inputs.now)) }
+    ensures within { IfOk result (λ done. (done.status ≤ 5) × (done.status ≢ 2)) }
+{
     match task.delays {
-        Some(class) => by_delays(rt, alloc, booted, task, inputs, class),
-        None => by_seeds(rt, alloc, booted, task, inputs),
+        Some(class) => by_delays(rt, alloc, booted, task, inputs, ends, class),
+        None => by_seeds(rt, alloc, booted, task, inputs, ends),
     }
 }
 
@@ -107,19 +134,20 @@ fn by_seeds<'a, R: Threads + Sync>(
     booted: &Booted<Tlb, Console>,
     task: SearchTask<'a>,
     inputs: &Inputs,
+    ends: &Machines<'_, Tlb, Console>,
 ) -> Result<Finished, Fault<'a>>
-    requires booted { BeginsAt task (given_of inputs.now) booted.now }
+    requires begins { Begins task (given_of inputs.now) booted.now ends.now }
     ensures ok { IfOk result (λ done. Prints task.entry (given_of inputs.now) None done.text.items done.status) }
     ensures fault { IfErr result (IsRunFault task.entry (given_of inputs.now)) }
     ensures within { IfOk result (λ done. (done.status ≤ 5) × (done.status ≢ 2)) }
 {
-    match try_seeds(rt, alloc, booted, task, inputs)? {
+    match try_seeds(rt, alloc, booted, task, inputs, ends)? {
         Tried::Clean { cut } => Ok(Finished {
             text: clean_line(alloc, u64::from(task.seeds), u64::from(cut))?.into_bytes(),
             status: 0,
         }),
         Tried::Wrong { place, wrong } => Ok(Finished {
-            text: found_text(alloc, booted, task, inputs, place, wrong)?,
+            text: found_text(alloc, booted, task, inputs, ends, place, wrong)?,
             status: 4,
         }),
     }
@@ -131,15 +159,24 @@ fn found_text(
     booted: &Booted<Tlb, Console>,
     task: SearchTask<'_>,
     inputs: &Inputs,
+    ends: &Machines<'_, Tlb, Console>,
     place: u32,
     wrong: WrongRun,
 ) -> Result<Vec<u8>, AllocError>
-    requires booted { BeginsAt task (given_of inputs.now) booted.now }
-    requires first { IsFirstWrong task (given_of inputs.now) place wrong.run wrong.judged }
+    requires begins { Begins task (given_of inputs.now) booted.now ends.now }
+    requires first { IsFirstWrong task (given_of inputs.now) place wrong.run wrong.told }
     ensures { IfOk result (λ text. IsFound task.entry (given_of inputs.now) text.items) }
 {
     let line = seed_line(alloc, seed_at(task.drive.order, place))?;
-    let printed = print_of(alloc, booted, task, inputs, wrong.judged, wrong.run.events)?;
+    let printed = print_of(
+        alloc,
+        booted,
+        task,
+        inputs,
+        ends,
+        wrong.told,
+        wrong.run.events,
+    )?;
     let text = found_lines(alloc, line, printed.verdict, &printed.events)?;
     Ok(text.into_bytes())
 }
@@ -161,22 +198,23 @@ fn by_delays<'a, R: Threads + Sync>(
     booted: &Booted<Tlb, Console>,
     task: SearchTask<'a>,
     inputs: &Inputs,
+    ends: &Machines<'_, Tlb, Console>,
     class: DelayClass,
 ) -> Result<Finished, Fault<'a>>
-    requires booted { BeginsAt task (given_of inputs.now) booted.now }
+    requires begins { Begins task (given_of inputs.now) booted.now ends.now }
     requires class { HasClassLimits task.drive.order (Some class) }
     ensures ok { IfOk result (λ done. Prints task.entry (given_of inputs.now) (Some class) done.text.items done.status) }
     ensures fault { IfErr result (IsRunFault task.entry (given_of inputs.now)) }
     ensures within { IfOk result (λ done. (done.status ≤ 5) × (done.status ≢ 2)) }
 {
     let turns = turns_of(task.drive.order);
-    match try_lists(rt, alloc, booted, task, inputs, turns, class)? {
+    match try_lists(rt, alloc, booted, task, inputs, ends, turns, class)? {
         Searched::Clean { runs, cut } => Ok(Finished {
             text: clean_line(alloc, runs, cut)?.into_bytes(),
             status: 0,
         }),
         Searched::Wrong { delays, wrong } => Ok(Finished {
-            text: listed_text(alloc, booted, task, inputs, &delays, wrong)?,
+            text: listed_text(alloc, booted, task, inputs, ends, &delays, wrong)?,
             status: 4,
         }),
     }
@@ -188,16 +226,24 @@ fn listed_text(
     booted: &Booted<Tlb, Console>,
     task: SearchTask<'_>,
     inputs: &Inputs,
+    ends: &Machines<'_, Tlb, Console>,
     delays: &Delays,
     wrong: WrongRun,
 ) -> Result<Vec<u8>, AllocError>
-    requires booted { BeginsAt task (given_of inputs.now) booted.now }
-    requires wrong { (order : OrderValue) × IsRunOf task (given_of inputs.now) order wrong.run
-        × (wrong.run.judged ≡ Some wrong.judged) }
+    requires begins { Begins task (given_of inputs.now) booted.now ends.now }
+    requires wrong { IsToldAt task (given_of inputs.now) wrong.run.events.items (Some wrong.told) }
     ensures { IfOk result (λ text. IsListed task.entry (given_of inputs.now) (delays_of delays.now) wrong text.items) }
 {
     let line = delays_line(alloc, delays.as_slice())?;
-    let printed = print_of(alloc, booted, task, inputs, wrong.judged, wrong.run.events)?;
+    let printed = print_of(
+        alloc,
+        booted,
+        task,
+        inputs,
+        ends,
+        wrong.told,
+        wrong.run.events,
+    )?;
     let text = found_lines(alloc, line, printed.verdict, &printed.events)?;
     Ok(text.into_bytes())
 }

@@ -2,6 +2,7 @@
 
 ghost use Rattle.std.specs.Prelude.{◌≡◌, IfErr, IfOk};
 ghost use Rattle.s161_search.specs.helpers.Begun.{BeginsAt};
+ghost use Rattle.s161_search.specs.helpers.Telling.{Begins};
 ghost use Rattle.s161_search.specs.helpers.Inputs.{given_of};
 ghost use Rattle.s161_search.specs.Seeds.{IsRunFault, seed_at, seed_of, with_seed};
 ghost use Rattle.s161_search.specs.helpers.Tried.{IsTried};
@@ -13,6 +14,7 @@ use m161::{Console, Tlb};
 use m161_jobs::{Tested, Trials, Tried, try_each};
 use m161_judge::Booted;
 use m161_order::Order;
+use m161_reach::Machines;
 use s161_base::fault::Fault;
 use s161_base::sizes::conf_of;
 use s161_command::SearchTask;
@@ -92,6 +94,8 @@ pub(crate) struct SeedRuns<'a, 'b> {
     pub task: SearchTask<'a>,
     /// What was read.
     pub inputs: &'b Inputs,
+    /// What is asked of the states behind a run.
+    pub ends: &'b Machines<'b, Tlb, Console>,
 }
 
 impl<'a, 'b> Trials for SeedRuns<'a, 'b> {
@@ -104,16 +108,16 @@ impl<'a, 'b> Trials for SeedRuns<'a, 'b> {
 
     ghost has = { λ r k. Unit {0} };
 
-    ghost right = { λ r. IsSeedRightFrom r.booted.now r.task (given_of r.inputs.now) };
+    ghost right = { λ r. IsSeedRightFrom r.booted.now r.ends.now r.task (given_of r.inputs.now) };
 
-    ghost wrong = { λ r. IsSeedWrongFrom r.booted.now r.task (given_of r.inputs.now) };
+    ghost wrong = { λ r. IsSeedWrongFrom r.booted.now r.ends.now r.task (given_of r.inputs.now) };
 
     ghost fails = { λ r. IsFaultFrom r.booted.now r.task (given_of r.inputs.now) };
 
     fn judge(&self, place: u32) -> Result<Tested<WrongRun>, Fault<'a>> {
         let order = order_at(self.task.drive.order, place);
         let run = run_order(self.alloc, self.booted, self.task, self.inputs, order)?;
-        Ok(tested(run))
+        Ok(tested(self.alloc, self.ends, self.task.hung, run)?)
     }
 
     fn refused(&self) -> Fault<'a> {
@@ -131,8 +135,9 @@ pub(crate) fn try_seeds<'a, R: Threads + Sync>(
     booted: &Booted<Tlb, Console>,
     task: SearchTask<'a>,
     inputs: &Inputs,
+    ends: &Machines<'_, Tlb, Console>,
 ) -> Result<Tried<WrongRun>, Fault<'a>>
-    requires booted { BeginsAt task (given_of inputs.now) booted.now }
+    requires begins { Begins task (given_of inputs.now) booted.now ends.now }
     ensures ok { IfOk result (IsTried task.entry (given_of inputs.now)) }
     ensures fault { IfErr result (IsRunFault task.entry (given_of inputs.now)) }
 {
@@ -141,6 +146,7 @@ pub(crate) fn try_seeds<'a, R: Threads + Sync>(
         booted,
         task,
         inputs,
+        ends,
     };
     try_each(rt, alloc, &runs, task.seeds, task.jobs)
 }

@@ -3,9 +3,10 @@
 ghost use Rattle.std.specs.Prelude.{◌≡◌, ◌++◌, ℕ, List, codes, decimal, IfOk, OnOk, Some, string_bytes};
 ghost use Rattle.m161_text.specs.Lines.{with_line_end};
 ghost use Rattle.m161_text.specs.Parts.{◌␣◌};
-ghost use Rattle.s161_search.specs.Texts.{clean_text, delays_text, found_text, numbers_text, seed_text, verdict_text};
+ghost use Rattle.s161_search.specs.Texts.{clean_text, delays_text, found_text, numbers_text, seed_text, told_text, verdict_text};
 
 use crate::audit::ShownFinding;
+use crate::told::SearchVerdict;
 use m161_audit::Finding;
 use m161_judge::Verdict;
 use m161_machine::Event;
@@ -150,11 +151,29 @@ pub(crate) fn delays_line(alloc: Global, numbers: &[u32]) -> Result<String, Allo
     Ok(line)
 }
 
+// A verdict of a search, as text.
+#[derive(Drop)]
+struct ShownTold(SearchVerdict);
+
+impl fmt::Display for ShownTold {
+    ghost output = { λ told. Some (told_text told.0) };
+
+    fn fmt<W: fmt::Write>(&self, f: &mut fmt::Formatter<W>) -> fmt::Result {
+        match self.0 {
+            SearchVerdict::Run(verdict) => {
+                let shown = ShownVerdict(verdict);
+                write!(f, "{shown}")
+            }
+            SearchVerdict::Hung => write!(f, "hung"),
+        }
+    }
+}
+
 // The line of a verdict.
-fn verdict_line(alloc: Global, verdict: Verdict) -> Result<String, AllocError>
-    ensures { IfOk result (λ line. string_bytes line ≡ with_line_end (codes "#" ␣ verdict_text verdict)) }
+fn verdict_line(alloc: Global, verdict: SearchVerdict) -> Result<String, AllocError>
+    ensures { IfOk result (λ line. string_bytes line ≡ with_line_end (codes "#" ␣ told_text verdict)) }
 {
-    let shown = ShownVerdict(verdict);
+    let shown = ShownTold(verdict);
     format!(in alloc; "# {shown}\n")
 }
 
@@ -165,7 +184,7 @@ fn verdict_line(alloc: Global, verdict: Verdict) -> Result<String, AllocError>
 pub(crate) fn found_lines(
     alloc: Global,
     mut text: String,
-    verdict: Verdict,
+    verdict: SearchVerdict,
     events: &[Event],
 ) -> Result<String, AllocError>
     ensures { IfOk result (λ lines. (run : List ℕ) → string_bytes text ≡ with_line_end run

@@ -13,7 +13,10 @@ use Rattle.s161_search.specs.declared.orders.WrongRun.{WrongRun}
 use Rattle.s161_search.specs.Delays.{HasRightRun, IsRunOf}
 use Rattle.s161_search.specs.Given.{Given}
 use Rattle.s161_search.specs.Seeds.{IsRightAt, IsRunAt, IsRunFault}
+use Rattle.m161_states.specs.Question.{Question}
+use Rattle.s161_search.specs.Told.{IsToldAt}
 use Rattle.s161_search.specs.helpers.Begun.{BeginsAt}
+use Rattle.s161_search.specs.helpers.Telling.{Begins, TellsOf}
 
 -- What is known of runs from a state that may be the one at boot.
 
@@ -23,25 +26,29 @@ IsRunFrom s task given order run = BeginsAt task given s → IsRunOf task given 
 abbrev pub IsFaultFrom : State → SearchTask → Given → Fault → Type 0
 IsFaultFrom s task given fault = BeginsAt task given s → IsRunFault task given fault
 
-abbrev pub IsRightFrom : State → SearchTask → Given → ℕ → List ℕ → Bool → Type 0
-IsRightFrom s task given steps numbers is_cut =
-    BeginsAt task given s → HasRightRun task given steps numbers is_cut
+abbrev pub IsRightFrom : State → Question → SearchTask → Given → ℕ → List ℕ → Bool → Type 0
+IsRightFrom s q task given steps numbers is_cut =
+    Begins task given s q → HasRightRun task given steps numbers is_cut
 
-abbrev pub IsWrongFrom : State → SearchTask → Given → ℕ → List ℕ → WrongRun → Type 0
-IsWrongFrom s task given steps numbers wrong =
-    BeginsAt task given s → (delays : Delays) × (delays_of delays ≡ numbers)
-    × IsRunOf task given (Delayed steps delays) wrong.run × (wrong.run.judged ≡ Some wrong.judged)
+abbrev pub IsWrongFrom : State → Question → SearchTask → Given → ℕ → List ℕ → WrongRun → Type 0
+IsWrongFrom s q task given steps numbers wrong =
+    Begins task given s q → (delays : Delays) × (delays_of delays ≡ numbers)
+    × IsRunOf task given (Delayed steps delays) wrong.run
+    × IsToldAt task given wrong.run.events.items (Some wrong.told)
 
 -- the same of the seeds
 
-abbrev pub IsSeedRightFrom : State → SearchTask → Given → ℕ → Bool → Type 0
-IsSeedRightFrom s task given k is_cut = BeginsAt task given s → IsRightAt task given k is_cut
+abbrev pub IsSeedRightFrom : State → Question → SearchTask → Given → ℕ → Bool → Type 0
+IsSeedRightFrom s q task given k is_cut = Begins task given s q → IsRightAt task given k is_cut
 
-abbrev pub IsSeedWrongFrom : State → SearchTask → Given → ℕ → WrongRun → Type 0
-IsSeedWrongFrom s task given k wrong =
-    BeginsAt task given s → IsRunAt task given k wrong.run × (wrong.run.judged ≡ Some wrong.judged)
+abbrev pub IsSeedWrongFrom : State → Question → SearchTask → Given → ℕ → WrongRun → Type 0
+IsSeedWrongFrom s q task given k wrong =
+    Begins task given s q
+    → IsRunAt task given k wrong.run × IsToldAt task given wrong.run.events.items (Some wrong.told)
 
--- what became of a run
-abbrev pub IsTested : JudgedRun → Tested WrongRun → Type 0
-IsTested run (Right is_cut) = (run.judged ≡ None) × (run.is_cut ≡ is_cut)
-IsTested run (Wrong wrong) = (wrong.run ≡ run) × (run.judged ≡ Some wrong.judged)
+-- what became of a run, where so many states behind it may be looked at, of which this is asked
+abbrev pub IsTested : ℕ → Question → JudgedRun → Tested WrongRun → Type 0
+IsTested few q run (Right is_cut) =
+    TellsOf few q run.events.items run.judged None × (run.is_cut ≡ is_cut)
+IsTested few q run (Wrong wrong) =
+    (wrong.run ≡ run) × TellsOf few q run.events.items run.judged (Some wrong.told)

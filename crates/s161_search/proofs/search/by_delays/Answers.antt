@@ -13,14 +13,14 @@ returns-in_ok-listed_text-in-Wrong-clause-ok g c =
     let class = class_of c.args.class in
     let turns = turns_are task.drive.order c.args.class c.requires.class in
     let steps = c.turns_of-turns.ensures turns.0 turns.1 in
-    let first : IsFirstBy task given c.turns_of-turns.result class (delays_of c.in-Wrong.delays) c.in-Wrong.wrong.run c.in-Wrong.wrong.judged =
+    let first : IsFirstBy task given c.turns_of-turns.result class (delays_of c.in-Wrong.delays) c.in-Wrong.wrong.run c.in-Wrong.wrong.told =
     subst (IsSearchedBy task given c.turns_of-turns.result class) c.in-Wrong.is c.in_ok-runs.ensures.ok in (
       turns.0,
       turns.1,
       inr (
         refl,
         found_listed task given turns.0 class (delays_of c.in-Wrong.delays) c.in-Wrong.wrong c.in_ok-listed_text-in-Wrong.field-0.items
-            (subst (λ k. IsFirstBy task given k class (delays_of c.in-Wrong.delays) c.in-Wrong.wrong.run c.in-Wrong.wrong.judged) steps first)
+            (subst (λ k. IsFirstBy task given k class (delays_of c.in-Wrong.delays) c.in-Wrong.wrong.run c.in-Wrong.wrong.told) steps first)
             c.in_ok-listed_text-in-Wrong.ensures,
       ),
     )

@@ -11,12 +11,12 @@ returns c =
     record {
       place = c.args.place;
       run = c.args.wrong.run;
-      judged = c.args.wrong.judged;
+      told = c.args.wrong.told;
       first = c.requires.first;
       events = printed.events.items;
       are_printed = made.are_printed;
       final = made.final;
-      is_judged = made.is_judged;
+      is_told = made.is_told;
       same_kind = made.same_kind;
       text_is =
           ap (λ v. v.items) c.into_bytes.ensures.value

@@ -1,17 +1,8 @@
 use Rattle.std.proofs.Common.{◌∙◌, ap}
 use Rattle.m161_order.specs.Delays.{delays_of}
 use Rattle.m161_text.specs.Lines.{with_line_end}
-use Rattle.s161_search.specs.helpers.Inputs.{given_of}
 use Rattle.s161_search.specs.Texts.{delays_text, found_text}
-use Rattle.s161_search.proofs.Judging.{run_judged_by}
 use Rattle.s161_search.proofs.search.listed_text.Goals as goal
-
-pub print_of-requires : goal.print_of-requires
-print_of-requires c =
-    record {
-      booted = c.requires.booted;
-      judged = run_judged_by c.args.task (given_of c.args.inputs.now) c.requires.wrong.0 c.args.wrong.run c.args.wrong.judged c.requires.wrong.1 c.requires.wrong.2;
-    }
 
 pub returns : goal.returns
 returns c =
@@ -22,7 +13,7 @@ returns c =
       events = printed.events.items;
       are_printed = made.are_printed;
       final = made.final;
-      is_judged = made.is_judged;
+      is_told = made.is_told;
       same_kind = made.same_kind;
       text_is =
           ap (λ v. v.items) c.into_bytes.ensures.value

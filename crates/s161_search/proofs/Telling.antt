@@ -1,0 +1,194 @@
+use Rattle.std.proofs.Common.{◌≡◌, ◌∙◌, ◌⊎◌, inl, inr, refl, ap, sym, subst, ℕ, ◌<◌, ◌≤◌, arith, Bool, true, false, List, length, take, Option, None, Some}
+use Rattle.std.specs.Prelude.{◌==◌, nat_lt, if◌then◌else◌, option_map}
+use Rattle.std.proofs.lemmas.Bool.{eqb-true}
+use Rattle.std.proofs.lemmas.Bool.Decides.{nat_tests}
+use Rattle.std.proofs.lemmas.List.{take_all}
+use Rattle.m161_judge.specs.declared.verdict.Judged.{Judged}
+use Rattle.m161_judge.specs.declared.verdict.Verdict.{Verdict}
+use Rattle.m161_judge.specs.declared.verdict.Verdict.TheVariants.{End}
+use Rattle.m161_judge.specs.Laws.{FirstIsNoWorse}
+use Rattle.m161_judge.specs.Verdict.{Criteria, Holds, IsJudged, IsRefused, after, rank}
+use Rattle.m161_judge.proofs.Judging.{none_refused}
+use Rattle.m161_judge.proofs.Walking.{ends_all}
+use Rattle.m161_machine.specs.declared.event.Event.{Event}
+use Rattle.m161_machine.specs.History.{boot_fault, boot_state}
+use Rattle.m161_machine.specs.State.{State}
+use Rattle.m161_reach.specs.From.{asked_of, no_time, with_known}
+use Rattle.m161_reach.specs.Hangs.{CutKeepsHang, HangFirst, HangingAreMade, NeverHang}
+use Rattle.m161_reach.specs.Reach.{CanBeAsked, start_in}
+use Rattle.m161_reach.proofs.Naming.{named_are_made}
+use Rattle.m161_reach.proofs.Numbering.{hanging_are_made}
+use Rattle.m161_shorten.specs.declared.judged.Judgement.{Judgement}
+use Rattle.m161_shorten.specs.Passes.{Shortens}
+use Rattle.m161_shorten.specs.Verdicts.{AreNeeded}
+use Rattle.m161_shorten.proofs.Alike.{shortens_by}
+use Rattle.m161_states.specs.Question.{Question, booted, least}
+use Rattle.m161_states.proofs.Followed.{fresh_is_same}
+use Rattle.s161_base.specs.Sizes.{conf_of}
+use Rattle.s161_command.specs.declared.task.SearchTask.{SearchTask}
+use Rattle.s161_search.specs.declared.found.Printed.{Printed}
+use Rattle.s161_search.specs.declared.told.SearchVerdict.{SearchVerdict}
+use Rattle.s161_search.specs.declared.told.SearchVerdict.TheVariants.{Run, Hung}
+use Rattle.s161_search.specs.declared.told.Told.{Told}
+use Rattle.s161_search.specs.Given.{Given, criteria_of}
+use Rattle.s161_search.specs.Searches.{ArePrinted, HasHang, IsJudgedAt, hang_of, hang_with, is_whole, kind_number}
+use Rattle.s161_search.specs.Told.{Hang, HangNot, IsTold, IsToldAt, NoneBefore, ends_of}
+use Rattle.s161_search.specs.helpers.Telling.{Begins, HasHangFrom, IsAsJudged, IsHang, TellsOf, comes_first, told_of}
+use Rattle.s161_search.specs.helpers.Tried.{ArePrintedWith}
+use Rattle.s161_search.proofs.Booting.{booted_as_one, booted_of}
+
+-- The verdict of a search.
+
+-- events that hang are accepted, from the state at boot on
+
+made_all : HangingAreMade
+made_all = hanging_are_made (named_are_made fresh_is_same)
+
+made : (goal : Criteria) (s : State) (few : ℕ) (events : List Event) (n : ℕ) → CanBeAsked s (ends_of goal) → HangFirst (asked_of s (ends_of goal)) few events n →
+    (t : State) × (after s events ≡ Some t)
+made goal s few events n can h =
+    let q = asked_of s (ends_of goal) in
+    let led = made_all q few events n h in
+    let same : boot_state (booted q) ≡ s = ap (λ b. boot_state (if b then start_in s else least)) can.can ∙ sym can.is_boot in
+    (led.0, subst (λ x. after x events ≡ Some led.0) same led.1)
+
+-- so none of them is refused
+not_refused : (s t : State) (events : List Event) → after s events ≡ Some t → IsRefused s events → ⊥
+not_refused s t events h =
+    let all : after s (take (length events) events) ≡ Some t = subst (λ es. after s es ≡ Some t) (sym (take_all (length events) events (omega arith))) h in
+    none_refused s events (length events) t (ends_all s events (length events) t (omega arith, all) refl)
+
+-- whether a verdict comes before
+
+is_low : (v : Verdict) → nat_lt (rank v) (rank End) ≡ true → rank v < rank End
+is_low v h = grind (arith, nat_tests, h)
+
+is_late : (v w : Verdict) → nat_lt (rank v) (rank End) ≡ false → rank w < rank End → rank w < rank v
+is_late v w h low = grind (arith, nat_tests, h, low)
+
+none_before : (goal : Criteria) (s t : State) (events : List Event) (judged : Option Judged) → after s events ≡ Some t → comes_first judged ≡ false →
+    IsJudged goal s events judged → NoneBefore goal s events
+none_before goal s t events None made late (inl refused) = absurd (not_refused s t events made refused)
+none_before goal s t events None made late (inr none) = λ v n low holds. none v n holds
+none_before goal s t events (Some judged) made late h = λ v n low holds. h.2 v n (is_late judged.verdict v late low) holds
+
+-- the verdict, where there is this one of the events
+
+first_or_not : (few : ℕ) (goal : Criteria) (s : State) (events : List Event) (v : Verdict) → (nat_lt (rank v) (rank End) ≡ true) ⊎ HangNot few goal s events →
+    (rank v < rank End) ⊎ HangNot few goal s events
+first_or_not few goal s events v (inl first) = inl (is_low v first)
+first_or_not few goal s events v (inr not) = inr not
+
+as_judged : (few : ℕ) (goal : Criteria) (s : State) (events : List Event) (judged : Option Judged) → IsJudged goal s events judged →
+    (comes_first judged ≡ true) ⊎ HangNot few goal s events → IsTold few goal s events (option_map told_of judged)
+as_judged few goal s events None h (inl first) = absurd (let bad : false ≡ true = first in cc)
+as_judged few goal s events None h (inr not) = (h, not)
+as_judged few goal s events (Some judged) h why = (h, first_or_not few goal s events judged.verdict why)
+
+asked_so : (few : ℕ) (goal : Criteria) (s : State) (q : Question) (events : List Event) (judged : Option Judged) → q ≡ asked_of s (ends_of goal) →
+    (comes_first judged ≡ true) ⊎ ((few ≡ 0) ⊎ NeverHang (with_known no_time q) few events) → (comes_first judged ≡ true) ⊎ HangNot few goal s events
+asked_so few goal s q events judged asks (inl first) = inl first
+asked_so few goal s q events judged asks (inr (inl none)) = inr (inl none)
+asked_so few goal s q events judged asks (inr (inr never)) = inr (inr (subst (λ x. NeverHang (with_known no_time x) few events) asks never))
+
+tells : (few : ℕ) (goal : Criteria) (s : State) (q : Question) (events : List Event) (judged : Option Judged) (told : Option Told) →
+    CanBeAsked s (ends_of goal) → q ≡ asked_of s (ends_of goal) → IsJudged goal s events judged → TellsOf few q events judged told → IsTold few goal s events told
+tells few goal s q events judged told can asks h (inl as) =
+    subst (IsTold few goal s events) (sym as.same) (as_judged few goal s events judged h (asked_so few goal s q events judged asks as.why))
+tells few goal s q events judged told can asks h (inr hang) =
+    let hangs : HangFirst (asked_of s (ends_of goal)) few events hang.n = subst (λ x. HangFirst (with_known no_time x) few events hang.n) asks hang.hangs in
+    let led = made goal s few events hang.n can hangs in
+    subst (IsTold few goal s events) (sym hang.is) (hang.some, none_before goal s led.0 events judged led.1 hang.late h, hangs)
+
+pub told_at : (task : SearchTask) (given : Given) (s : State) (q : Question) (events : List Event) (judged : Option Judged) (told : Option Told) →
+    Begins task given s q → IsJudgedAt task given events judged → TellsOf task.hung q events judged told → IsToldAt task given events told
+told_at task given s q events judged told begins h of =
+    let boots = booted_of task given s (boot_fault given.file (conf_of task.size)) begins.boots in
+    let same = booted_as_one given.file (conf_of task.size) h.0 s h.1 boots in
+    let goal = criteria_of given in (
+      s,
+      boots,
+      tells task.hung goal s q events judged told begins.can begins.asks (subst (λ x. IsJudged goal x events judged) same h.2) of,
+    )
+
+-- what is cut behind the first events that hang hangs
+
+cut_hang : (task : SearchTask) (given : Given) (events : List Event) (n : ℕ) →
+    ((goal : Criteria) (s : State) (es : List Event) → FirstIsNoWorse goal s es) → CutKeepsHang →
+    IsToldAt task given events (Some (record { verdict = Hung; events = n })) →
+    IsToldAt task given (take n events) (Some (record { verdict = Hung; events = n }))
+cut_hang task given events n worse keeps h =
+    let goal = criteria_of given in
+    let s = h.0 in
+    let cut = keeps (asked_of s (ends_of goal)) task.hung events n h.4 in
+    (s, h.1, h.2, λ v k low holds. h.3 v k low (worse goal s events n v k cut.0 low holds), cut.1)
+
+-- a list that hangs by a judge
+
+hung_with : (task : SearchTask) (given : Given) (events : List Event) (kind needs : ℕ) (v : SearchVerdict) (n : ℕ) →
+    IsToldAt task given events (Some (record { verdict = v; events = n })) → Some (record { kind = kind; needs = needs }) ≡ hang_with v n →
+    (kind ≡ 6) × IsToldAt task given events (Some (record { verdict = Hung; events = needs }))
+hung_with task given events kind needs (Run v) n h is = absurd (let bad : ◌≡◌ {A = Option (Judgement ℕ)} (Some (record { kind = kind; needs = needs })) None = is in cc)
+hung_with task given events kind needs Hung n h is =
+    let same : record { kind = kind; needs = needs } ≡ ◌:◌ (Judgement ℕ) (record { kind = 6; needs = n }) = cc in
+    (ap (λ (j : Judgement ℕ). j.kind) same, subst (λ k. IsToldAt task given events (Some (record { verdict = Hung; events = k }))) (sym (ap (λ (j : Judgement ℕ). j.needs) same)) h)
+
+hung_by : (task : SearchTask) (given : Given) (events : List Event) (kind needs : ℕ) (told : Option Told) → IsToldAt task given events told →
+    Some (record { kind = kind; needs = needs }) ≡ hang_of told → IsToldAt task given events (Some (record { verdict = Hung; events = needs }))
+hung_by task given events kind needs None h is = absurd (let bad : ◌≡◌ {A = Option (Judgement ℕ)} (Some (record { kind = kind; needs = needs })) None = is in cc)
+hung_by task given events kind needs (Some told) h is = (hung_with task given events kind needs told.verdict told.events h is).1
+
+-- what the passes leave hangs
+
+abbrev HangsAll : SearchTask → Given → List Event → Type 0
+HangsAll task given events = (n : ℕ) × IsToldAt task given events (Some (record { verdict = Hung; events = n }))
+
+left_hangs : (task : SearchTask) (given : Given) (s : State) (q : Question) (events fs : List Event) (n : ℕ) →
+    ((goal : Criteria) (t : State) (es : List Event) → FirstIsNoWorse goal t es) → CutKeepsHang → Begins task given s q →
+    IsToldAt task given events (Some (record { verdict = Hung; events = n })) →
+    (fs ≡ take n events) ⊎ AreNeeded (λ kind. 6 == kind) (HasHangFrom s q task.hung given) fs → HangsAll task given fs
+left_hangs task given s q events fs n worse keeps begins h (inl is) =
+    (n, subst (λ es. IsToldAt task given es (Some (record { verdict = Hung; events = n }))) (sym is) (cut_hang task given events n worse keeps h))
+left_hangs task given s q events fs n worse keeps begins h (inr (es, m, (kind, has, same), is)) =
+    let had = has task refl begins in
+    (
+      m,
+      subst (λ xs. IsToldAt task given xs (Some (record { verdict = Hung; events = m }))) (sym is)
+          (cut_hang task given es m worse keeps (hung_by task given es kind m had.0 had.1 had.2)),
+    )
+
+pub hung_printed : (task : SearchTask) (given : Given) (s : State) (q : Question) (events cut : List Event) (n kind : ℕ) (printed : Printed) →
+    ((goal : Criteria) (t : State) (es : List Event) → FirstIsNoWorse goal t es) → CutKeepsHang → Begins task given s q → task.whole ≡ false →
+    cut ≡ take n events → kind ≡ 6 → printed.verdict ≡ Hung → IsToldAt task given events (Some (record { verdict = Hung; events = n })) →
+    Shortens (λ k. kind == k) (HasHangFrom s q task.hung given) cut printed.events.items →
+    (printed.events.items ≡ cut) ⊎ AreNeeded (λ k. kind == k) (HasHangFrom s q task.hung given) printed.events.items →
+    ArePrintedWith task given events (record { verdict = Hung; events = n }) printed
+hung_printed task given s q events cut n kind printed worse keeps begins part cut_is kind_is verdict h short left =
+    let told : Told = record { verdict = Hung; events = n } in
+    let fs = printed.events.items in
+    let left_six : (fs ≡ take n events) ⊎ AreNeeded (λ k. 6 == k) (HasHangFrom s q task.hung given) fs =
+    subst (λ xs. (fs ≡ xs) ⊎ AreNeeded (λ k. 6 == k) (HasHangFrom s q task.hung given) fs) cut_is
+    (subst (λ r. (fs ≡ cut) ⊎ AreNeeded (λ k. r == k) (HasHangFrom s q task.hung given) fs) kind_is left) in
+    let hangs = left_hangs task given s q events fs n worse keeps begins h left_six in
+    let short_six : ArePrinted false task given events told fs =
+    subst (λ xs. Shortens (λ k. 6 == k) (HasHang task given) xs fs) cut_is
+    (subst (λ r. Shortens (λ k. r == k) (HasHang task given) cut fs) kind_is
+    (shortens_by (λ k. kind == k) (HasHangFrom s q task.hung given) (HasHang task given) cut fs (λ xs verdict has. has task refl begins) short)) in
+    record {
+      are_printed = subst (λ b. ArePrinted b task given events told fs) (sym part) short_six;
+      final = record { verdict = Hung; events = hangs.0 };
+      verdict_is = verdict;
+      is_told = hangs.1;
+      same_kind = refl;
+    }
+
+-- all events of a run
+pub whole_printed : (task : SearchTask) (given : Given) (events : List Event) (told : Told) (printed : Printed) → is_whole task.whole told.verdict ≡ true →
+    printed.events.items ≡ events → printed.verdict ≡ told.verdict → IsToldAt task given events (Some told) → ArePrintedWith task given events told printed
+whole_printed task given events told printed whole same verdict h = record {
+  are_printed = subst (λ b. ArePrinted b task given events told printed.events.items) (sym whole) same;
+  final = told;
+  verdict_is = verdict;
+  is_told = subst (λ es. IsToldAt task given es (Some told)) (sym same) h;
+  same_kind = refl;
+}
