@@ -4,11 +4,12 @@ use Rattle.m161_elf.specs.Image.{IsImage}
 use Rattle.m161_judge.specs.Judge.{BootsState}
 use Rattle.m161_machine.specs.declared.conf.BootError.{BootError}
 use Rattle.m161_machine.specs.declared.conf.Conf.{Conf}
-use Rattle.m161_machine.specs.History.{IsBootState, boot_state}
+use Rattle.m161_machine.specs.History.{IsBootState, boot_fault, boot_state}
 use Rattle.m161_machine.specs.State.{State}
 use Rattle.s161_base.specs.Sizes.{conf_of}
 use Rattle.s161_command.specs.declared.task.SearchTask.{SearchTask}
 use Rattle.s161_search.specs.Given.{Given}
+use Rattle.s161_search.specs.helpers.Begun.{BeginsAt}
 
 -- States at boot.
 
@@ -28,8 +29,10 @@ booted_as_one file conf s t a b =
     ∙ (λ i. boot_state (record { bytes = same_memory i; entry = same_entry i; conf = same_conf i }))
     ∙ sym b.state_is
 
--- without a reason not to boot this is it
-pub booted_of : (task : SearchTask) (given : Given) (s : State) (fault : Option BootError) → BootsState given.file (conf_of task.size) fault (Ok s) →
-    IsBootState given.file (conf_of task.size) s
-booted_of task given s (Some first) h = absurd h
-booted_of task given s None h = h
+begun : (file : List ℕ) (conf : Conf) (s : State) (fault : Option BootError) → BootsState file conf fault (Ok s) → IsBootState file conf s
+begun file conf s (Some first) h = absurd h
+begun file conf s None h = h
+
+-- the state at boot
+pub begins : (task : SearchTask) (given : Given) (s : State) → BeginsAt task given s → IsBootState given.file (conf_of task.size) s
+begins task given s h = begun given.file (conf_of task.size) s (boot_fault given.file (conf_of task.size)) h

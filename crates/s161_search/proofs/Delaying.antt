@@ -35,7 +35,7 @@ use Rattle.s161_search.specs.helpers.Delayed.{IsFaultFrom, IsRightFrom, IsWrongF
 use Rattle.s161_search.specs.helpers.Tried.{IsListed, IsSearchedBy}
 use Rattle.s161_search.specs.Searches.{IsFoundBy}
 use Rattle.s161_search.specs.Seeds.{IsRunFault}
-use Rattle.s161_search.proofs.Booting.{booted_as_one, booted_of}
+use Rattle.s161_search.proofs.Booting.{begins as starts, booted_as_one}
 use Rattle.s161_search.proofs.Judging.{rights_as}
 
 -- Every list of a class has the run of a useful one.
@@ -155,7 +155,7 @@ found_by : (task : SearchTask) (given : Given) (steps : ℕ) (s : State) (q : Qu
     Finds class (offered_by task given steps s) (IsRightFrom s q task given steps) (IsWrongFrom s q task given steps) searched →
     IsSearchedBy task given steps class searched
 found_by task given steps s q class (Clean runs cut) begins h =
-    clean_by task given steps s class runs cut (booted_of task given s (boot_fault given.file (conf_of task.size)) begins.boots) (record {
+    clean_by task given steps s class runs cut (starts task given s begins.boots) (record {
       lists = h.lists;
       are_useful = h.are_useful;
       all_cut = h.all_cut;
@@ -164,7 +164,7 @@ found_by task given steps s q class (Clean runs cut) begins h =
       cut_is = h.cut_is;
     })
 found_by task given steps s q class (Wrong delays what) begins h =
-    let boots = booted_of task given s (boot_fault given.file (conf_of task.size)) begins.boots in
+    let boots = starts task given s begins.boots in
     let wrong = h.is_wrong begins in
     record {
       booted = s;

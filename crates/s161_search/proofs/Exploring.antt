@@ -1,32 +1,17 @@
 use Rattle.std.proofs.Common.{ℕ, List, Option, None, Some, Ok, Err, subst}
 use Rattle.std.specs.Prelude.{IfOk, Result}
-use Rattle.m161_judge.specs.Judge.{BootsState}
-use Rattle.m161_machine.specs.declared.conf.BootError.{BootError}
-use Rattle.m161_machine.specs.declared.conf.Conf.{Conf}
-use Rattle.m161_machine.specs.History.{IsBootState, boot_fault}
-use Rattle.m161_machine.specs.State.{State}
 use Rattle.s161_base.specs.declared.fault.Fault.{Fault}
 use Rattle.s161_base.specs.declared.finished.Finished.{Finished}
-use Rattle.s161_base.specs.Sizes.{conf_of}
 use Rattle.s161_command.specs.declared.task.SearchTask.{SearchTask}
 use Rattle.s161_search.specs.Explores.{IsExploredBy, PrintsExplored}
 use Rattle.s161_search.specs.Given.{Given, IsRead}
 use Rattle.s161_search.specs.declared.inputs.Inputs.{Inputs}
-use Rattle.s161_search.specs.helpers.Begun.{BeginsAt}
 use Rattle.s161_search.specs.helpers.Explored.{PrintsExploredFor}
 use Rattle.s161_search.specs.helpers.Inputs.{given_of}
 use Rattle.s161_search.specs.helpers.Never.{HasNever, with_addresses}
 use Rattle.s161_search.proofs.Failing.{read_with}
 
--- What an exploration begins with, and what it comes to.
-
-begun : (file : List ℕ) (conf : Conf) (s : State) (fault : Option BootError) → BootsState file conf fault (Ok s) → IsBootState file conf s
-begun file conf s (Some first) h = absurd h
-begun file conf s None h = h
-
--- the state at boot
-pub begins : (task : SearchTask) (given : Given) (s : State) → BeginsAt task given s → IsBootState given.file (conf_of task.size) s
-begins task given s h = begun given.file (conf_of task.size) s (boot_fault given.file (conf_of task.size)) h
+-- What an exploration comes to.
 
 pub explored_so : (task : SearchTask) (limit : ℕ) (never : List (List ℕ)) (files : List ℕ → Option (List ℕ)) (image : Option (List ℕ)) (given : Given)
     (r : Result Finished Fault) → IsRead task files image given → IfOk r (λ done. PrintsExploredFor task limit never given done.text.items done.status) →

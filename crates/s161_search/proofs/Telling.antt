@@ -35,7 +35,7 @@ use Rattle.s161_search.specs.Searches.{ArePrinted, HasHang, IsJudgedAt, hang_of,
 use Rattle.s161_search.specs.Told.{Hang, HangNot, IsTold, IsToldAt, NoneBefore, ends_of}
 use Rattle.s161_search.specs.helpers.Telling.{Begins, HasHangFrom, IsAsJudged, IsHang, TellsOf, comes_first, told_of}
 use Rattle.s161_search.specs.helpers.Tried.{ArePrintedWith}
-use Rattle.s161_search.proofs.Booting.{booted_as_one, booted_of}
+use Rattle.s161_search.proofs.Booting.{booted_as_one, begins as starts}
 
 -- The verdict of a search.
 
@@ -93,17 +93,18 @@ asked_so few goal s q events judged asks (inr (inr never)) = inr (inr (subst (λ
 
 tells : (few : ℕ) (goal : Criteria) (s : State) (q : Question) (events : List Event) (judged : Option Judged) (told : Option Told) →
     CanBeAsked s (ends_of goal) → q ≡ asked_of s (ends_of goal) → IsJudged goal s events judged → TellsOf few q events judged told → IsTold few goal s events told
-tells few goal s q events judged told can asks h (inl as) =
-    subst (IsTold few goal s events) (sym as.same) (as_judged few goal s events judged h (asked_so few goal s q events judged asks as.why))
+tells few goal s q events judged told can asks h (inl same) =
+    subst (IsTold few goal s events) (sym same.same) (as_judged few goal s events judged h (asked_so few goal s q events judged asks same.why))
 tells few goal s q events judged told can asks h (inr hang) =
     let hangs : HangFirst (asked_of s (ends_of goal)) few events hang.n = subst (λ x. HangFirst (with_known no_time x) few events hang.n) asks hang.hangs in
     let led = made goal s few events hang.n can hangs in
-    subst (IsTold few goal s events) (sym hang.is) (hang.some, none_before goal s led.0 events judged led.1 hang.late h, hangs)
+    let all : Hang few goal s events hang.n = (hang.some, none_before goal s led.0 events judged led.1 hang.late h, hangs) in
+    subst (IsTold few goal s events) (sym hang.is) all
 
 pub told_at : (task : SearchTask) (given : Given) (s : State) (q : Question) (events : List Event) (judged : Option Judged) (told : Option Told) →
     Begins task given s q → IsJudgedAt task given events judged → TellsOf task.hung q events judged told → IsToldAt task given events told
 told_at task given s q events judged told begins h of =
-    let boots = booted_of task given s (boot_fault given.file (conf_of task.size)) begins.boots in
+    let boots = starts task given s begins.boots in
     let same = booted_as_one given.file (conf_of task.size) h.0 s h.1 boots in
     let goal = criteria_of given in (
       s,
@@ -120,8 +121,9 @@ cut_hang : (task : SearchTask) (given : Given) (events : List Event) (n : ℕ) �
 cut_hang task given events n worse keeps h =
     let goal = criteria_of given in
     let s = h.0 in
-    let cut = keeps (asked_of s (ends_of goal)) task.hung events n h.4 in
-    (s, h.1, h.2, λ v k low holds. h.3 v k low (worse goal s events n v k cut.0 low holds), cut.1)
+    let hang : Hang task.hung goal s events n = h.2 in
+    let cut = keeps (asked_of s (ends_of goal)) task.hung events n hang.2 in
+    (s, h.1, (hang.0, (λ v k low holds. hang.1 v k low (worse goal s events n v k cut.0 low holds)), cut.1))
 
 -- a list that hangs by a judge
 
@@ -150,8 +152,7 @@ left_hangs : (task : SearchTask) (given : Given) (s : State) (q : Question) (eve
 left_hangs task given s q events fs n worse keeps begins h (inl is) =
     (n, subst (λ es. IsToldAt task given es (Some (record { verdict = Hung; events = n }))) (sym is) (cut_hang task given events n worse keeps h))
 left_hangs task given s q events fs n worse keeps begins h (inr (es, m, (kind, has, same), is)) =
-    let had = has task refl begins in
-    (
+    let had = has task refl begins in (
       m,
       subst (λ xs. IsToldAt task given xs (Some (record { verdict = Hung; events = m }))) (sym is)
           (cut_hang task given es m worse keeps (hung_by task given es kind m had.0 had.1 had.2)),

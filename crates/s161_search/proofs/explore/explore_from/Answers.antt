@@ -6,7 +6,7 @@ use Rattle.m161_reach.specs.Reach.{IsLearnt, question_of, rules_of}
 use Rattle.s161_base.specs.Sizes.{conf_of}
 use Rattle.s161_search.specs.Explores.{PrintsAnswer}
 use Rattle.s161_search.specs.helpers.Inputs.{given_of}
-use Rattle.s161_search.proofs.Exploring.{begins}
+use Rattle.s161_search.proofs.Booting.{begins}
 use Rattle.s161_search.proofs.explore.explore_from.Goals as goal
 
 pub can_be_asked-requires : goal.can_be_asked-requires
