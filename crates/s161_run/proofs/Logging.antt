@@ -1,4 +1,4 @@
-use Rattle.std.proofs.Common.{◌≡◌, ◌∙◌, refl, sym, ap, subst, ℕ, ◌+◌, ◌-◌, List, [], ◌∷◌, ◌++◌, length, drop, slice_get, Option, arith}
+use Rattle.std.proofs.Common.{◌≡◌, ◌∙◌, refl, sym, ap, subst, ℕ, ◌-◌, List, [], ◌∷◌, length, slice_get, Option, arith}
 use Rattle.std.specs.List.{All}
 use Rattle.std.proofs.Math.Seq.{drop-nil}
 use Rattle.std.proofs.lemmas.List.{length-drop}
@@ -69,6 +69,10 @@ run_shown shown traps conf file entries items s t stop none is leads kept =
     let same : t.conf ≡ conf = conf_stays entries s t leads ∙ is in
     ap (λ c. summary_text traps (shown_log c file (t.made - length items) items) t stop shown) same
     ∙ shown_kept shown traps conf file entries items t.made t stop (made_is entries s t none leads) kept
+
+-- an empty log keeps the last of no entries
+pub empty_kept : (room : ℕ) (items : List Entry) → items ≡ [] → items ≡ keep_last room []
+empty_kept room items empty = let none : ◌≡◌ {A = List Entry} (keep_last room []) [] = drop-nil (0 - room) in empty ∙ sym none
 
 -- the entries that a log has which was empty
 pub logged : (room : ℕ) (old new : Buffer Entry) (entries : List Entry) → old.capacity ≡ room → old.items ≡ [] →

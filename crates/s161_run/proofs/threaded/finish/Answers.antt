@@ -1,4 +1,4 @@
-use Rattle.std.proofs.Common.{◌≡◌, ◌∙◌, ap, subst, sym, ℕ, List}
+use Rattle.std.proofs.Common.{◌∙◌, ap, subst, sym}
 use Rattle.std.specs.Prelude.{Option}
 use Rattle.m161_machine.specs.declared.event.Conflict.{Conflict}
 use Rattle.m161_machine.specs.History.{events_of}
