@@ -225,6 +225,7 @@ def images(make):
     make.assemble("off.elf", OFF)
     make.assemble("spin.elf", SPIN)
     make.assemble("wait.elf", "wait\n")
+    make.assemble("trapping.elf", "syscall\n")
     make.write("shell.elf", open(make.path("shell/shell.elf"), "rb").read())
     make.write("page.watches", make.example("shootdown.watches"))
     make.write("keys", "start\nring\noff\n")
@@ -279,6 +280,9 @@ def small(make):
         Command(["run", "off.elf", *one, "--threads", "5"], "threads"),
         Command(["run", "off.elf", *one, "--cpus", "3", "--threads", "5", "--burst", "2"], "threads"),
         Command(["run", "spin.elf", *two, "--threads", "4", "--only-log"], "threads", ends=3, sort=True),
+        Command(["run", "trapping.elf", *one, "--traps"], "scheduled", b"s 0 98\n", ends=3),
+        Command(["run", "turns.elf", *two, *at_random, "--traps"], "driven"),
+        Command(["run", "off.elf", *one, "--threads", "5", "--traps"], "threads"),
         Command(["schedule", "turns.elf", *two, "--turns", "3"]),
         Command(["schedule", "turns.elf", *two, *priorities]),
         Command(["schedule", "shell.elf", *two, *typed]),

@@ -183,7 +183,7 @@ def without(words):
             skip -= 1
         elif word in ("--from", "--count"):
             skip = 1
-        elif word not in ("--show-log", "--only-log", "--only-output", "--names", "--symbols"):
+        elif word not in ("--show-log", "--only-log", "--only-output", "--traps", "--names", "--symbols"):
             kept.append(word)
     return kept
 

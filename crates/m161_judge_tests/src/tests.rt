@@ -4,6 +4,7 @@ mod kernels;
 mod lists;
 mod refused;
 mod runs;
+mod trapped;
 
 use std::fmt::Debug;
 use std::process::Abort;

@@ -2,6 +2,7 @@ mod Accepting
 mod Reading
 mod Linking
 mod Naming
+mod Losing
 mod Delaying
 mod Together
 mod Repeating

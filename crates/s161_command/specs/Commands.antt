@@ -1,4 +1,4 @@
-use Rattle.std.specs.Prelude.{◌≡◌, ◌≢◌, ◌⊎◌, ℕ, ◌<◌, ◌≤◌, true, false, if◌then◌else◌, List, [], ◌∷◌, Option, None, Some, IfSome, IsSomeAnd, bytes_eq, codes, length, option_map, pos, unwrap_or}
+use Rattle.std.specs.Prelude.{◌≡◌, ◌≢◌, ◌⊎◌, ℕ, ◌*◌, ◌<◌, ◌≤◌, nat_lt, Bool, true, false, not, ◌&&◌, if◌then◌else◌, List, [], ◌∷◌, Option, None, Some, IfSome, IsSomeAnd, bytes_eq, codes, length, option_map, pos, unwrap_or}
 use Rattle.clap.specs.Words.{App, HasKind, Row, Rule, Text, fault_of, first_of, kind_of, new_app, new_rule, one_of, subcommand_of, with_rule, with_subcommand}
 use Rattle.clap.specs.Simple.{new_shape, on_top}
 use Rattle.clap.specs.declared.builder.action.ArgAction.TheVariants.{SetTrue}
@@ -102,11 +102,12 @@ on_image name = with_rule (new_app name) (file_rule (codes "image"))
 -- the arguments of `run`, without those of an order: an image and options
 abbrev pub plain_run_line : App
 plain_run_line =
-    with_rule (with_rule (with_rule (with_rule (with_rule
+    with_rule (with_rule (with_rule (with_rule (with_rule (with_rule
     (with_size_rules (codes "65536") (on_image (codes "run")))
     (flag_rule (codes "show-log")))
     (flag_rule (codes "only-log")))
     (flag_rule (codes "only-output")))
+    (flag_rule (codes "traps")))
     threads_rule)
     burst_rule
 
@@ -290,6 +291,7 @@ pub record AsksRun (rows : List Row) (task : RunTask) : Type 0 where
   pub image : task.image.now ≡ given_of (codes "image") rows
   pub size : IsSize 65_536 rows task.size
   pub shown : task.shown ≡ shown_of rows
+  pub traps : task.traps ≡ is_set (codes "traps") rows
 
 -- `run` asks for this in threads: each of them makes some Steps
 pub record AsksThreads (rows : List Row) (task : ThreadsTask) : Type 0 where
@@ -516,6 +518,15 @@ HasLimits (Trace task) = IfSome task.drive (λ drive. order_fault drive.order �
 HasLimits (Debug task) = HasSourceLimits task.source
 HasLimits (Gdb task) = HasSourceLimits task.source
 HasLimits _ = Unit {0}
+
+-- the log of a run in threads whose traps are counted has room for the entry of each of its Steps
+abbrev pub keeps_all : ThreadsTask → Bool
+keeps_all task =
+    not (task.run.traps && nat_lt task.run.size.log (task.quota * task.run.size.processors))
+
+abbrev pub HasEntries : Task → Type 0
+HasEntries (RunInThreads task) = keeps_all task ≡ true
+HasEntries _ = Unit {0}
 
 -- the words that stand for the addresses of `--never`, in their order
 abbrev pub never_in : Option (Text × List Row) → List Text

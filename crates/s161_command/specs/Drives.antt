@@ -1,4 +1,4 @@
-use Rattle.std.specs.Prelude.{◌≡◌, ◌≢◌, ℕ, ◌<◌, ◌^◌, Bool, true, false, not, ◌&&◌, ◌||◌, List, Option, None, Some, IfSome, codes, is_some, option_map, pos}
+use Rattle.std.specs.Prelude.{◌≡◌, ◌≢◌, ℕ, ◌*◌, ◌<◌, ◌^◌, Bool, true, false, not, ◌&&◌, ◌||◌, List, Option, None, Some, IfSome, codes, is_some, option_map, pos}
 use Rattle.std.specs.Str.Parse.{IsNumeral, digits_value, without_leading_plus}
 use Rattle.clap.specs.Words.{App, Row, Rule, Text, first_of, new_rule, one_of, with_rule}
 use Rattle.clap.specs.declared.builder.action.ArgAction.TheVariants.{Append}
@@ -7,7 +7,7 @@ use Rattle.m161_order.specs.declared.order.Order.{Order}
 use Rattle.m161_order.specs.declared.order.Order.TheVariants.{Turns, Delayed, Random, Priorities}
 use Rattle.m161_order.specs.Order.{order_fault}
 use Rattle.s161_command.specs.declared.drive.Clash.{Clash}
-use Rattle.s161_command.specs.declared.drive.Clash.TheVariants.{TwoOrders, HalfPriorities, ChangesWithoutSeed, DelayedWithoutTurns, NoOrder, PaceWithoutOrder, OrderInThreads, ShownTwice, FileAndOrder, NoEvents, DelaysAndSeeds, NoRuns, TurnsWithoutDelays, BadOrder, BadGap, BadDelays, BadClass, BadLink, ManyNever}
+use Rattle.s161_command.specs.declared.drive.Clash.TheVariants.{TwoOrders, HalfPriorities, ChangesWithoutSeed, DelayedWithoutTurns, NoOrder, PaceWithoutOrder, OrderInThreads, ShownTwice, TrapsUnshown, FewEntries, FileAndOrder, NoEvents, DelaysAndSeeds, NoRuns, TurnsWithoutDelays, BadOrder, BadGap, BadDelays, BadClass, BadLink, ManyNever}
 use Rattle.s161_command.specs.declared.drive.OrderUse.{OrderUse}
 use Rattle.s161_command.specs.declared.drive.OrderUse.TheVariants.{Optional, Needed, Assumed, Seeded, OrFile}
 use Rattle.s161_command.specs.declared.drive.Drive.{Drive}
@@ -151,6 +151,12 @@ shows_twice rows =
     || (is_set (codes "show-log") rows && is_set (codes "only-output") rows)
     || (is_set (codes "only-log") rows && is_set (codes "only-output") rows)
 
+-- traps are counted where no line is printed
+abbrev pub traps_unshown : List Row → Bool
+traps_unshown rows =
+    is_set (codes "traps") rows
+    && (is_set (codes "only-log") rows || is_set (codes "only-output") rows)
+
 -- a file and an order both give the events
 abbrev pub file_and_order : OrderUse → List Row → Bool
 file_and_order OrFile rows = is_given (codes "file") rows && has_order rows
@@ -168,7 +174,7 @@ go_together orders rows =
     && not (turns_without_delays orders rows) && not (half_priorities rows)
     && not (changes_without_seed orders rows) && not (delayed_without_turns rows)
     && not (lacks_order orders rows) && not (pace_without_order orders rows)
-    && not (order_in_threads rows) && not (shows_twice rows)
+    && not (order_in_threads rows) && not (shows_twice rows) && not (traps_unshown rows)
     && not (file_and_order orders rows) && not (lacks_events orders rows)
 
 -- a number of 64 bits in decimal digits, optionally after a plus
@@ -268,6 +274,17 @@ pub record AsksDriveIf (orders : OrderUse) (rows : List Row) (found : Option Dri
   pub ordered : is_some found ≡ has_order rows
   pub asks : IfSome found (AsksDrive orders rows)
 
+-- traps are counted of a run in threads whose log has no room for the entry of each of its Steps
+pub record LacksEntries (rows : List Row) : Type 0 where
+  pub traps : is_set (codes "traps") rows ≡ true
+  pub quota : ℕ
+  pub is_quota : IsNumberOf 0 (one_of (codes "threads") rows) quota
+  pub processors : ℕ
+  pub are_processors : IsNumberOf 1 (one_of (codes "cpus") rows) processors
+  pub log : ℕ
+  pub is_log : IsNumberOf 65_536 (one_of (codes "log") rows) log
+  pub few : log < quota * processors
+
 -- options that clap takes, and that can't be followed: why
 abbrev pub Clashes : OrderUse → List Row → Clash → Type 0
 Clashes orders rows TwoOrders = two_orders rows ≡ true
@@ -288,5 +305,7 @@ Clashes orders rows BadClass = IsBadClass rows
 Clashes orders rows ManyNever = AreTooMany (texts_of (codes "never") rows)
 Clashes orders rows BadLink = IsBadLink (first_of (codes "link") rows)
 Clashes orders rows ShownTwice = shows_twice rows ≡ true
+Clashes orders rows TrapsUnshown = traps_unshown rows ≡ true
+Clashes orders rows FewEntries = LacksEntries rows
 Clashes orders rows FileAndOrder = file_and_order orders rows ≡ true
 Clashes orders rows NoEvents = lacks_events orders rows ≡ true

@@ -1,11 +1,12 @@
 //! What a command asks for, by what clap gives for its arguments.
 
-ghost use Rattle.std.specs.Prelude.{◌≡◌, IfErr, IfOk, None, Some, codes, false};
+ghost use Rattle.std.specs.Prelude.{◌≡◌, IfErr, IfOk, None, Some, codes, false, true};
 ghost use Rattle.clap.specs.Words.{first_of, found_of, rows_of, subcommand_rows_of};
-ghost use Rattle.s161_command.specs.Commands.{AsksAssembly, AsksExplore, AsksFiles, AsksListing, AsksReplay, AsksRun, ClashesIn, GoTogether, HasLimits, HasSourceLimits, IsAskedSize, IsSize, IsSource, IsTask, order_use, registers_of, shown_of};
+ghost use Rattle.s161_command.specs.Commands.{AsksAssembly, AsksExplore, AsksFiles, AsksListing, AsksReplay, AsksRun, ClashesIn, GoTogether, HasEntries, HasLimits, HasSourceLimits, IsAskedSize, IsSize, IsSource, IsTask, order_use, registers_of, shown_of};
 ghost use Rattle.s161_command.specs.Drives.{AsksDriveIf, has_order};
 ghost use Rattle.s161_command.specs.Links.{IsLinkIf};
 ghost use Rattle.s161_command.specs.declared.drive.OrderUse.TheVariants.{Assumed, Needed, Optional, OrFile, Seeded};
+ghost use Rattle.s161_command.specs.helpers.Entries.{LosesEntries};
 ghost use Rattle.s161_command.specs.helpers.Settings.{HasPlainSettings, HasSettings, HasSettingsIf};
 
 use crate::class::seeds_given;
@@ -61,6 +62,7 @@ fn run_given<'a>(given: &ArgMatches<'a>, link: Option<LinkUnit>) -> RunTask<'a>
         image: file_given(given, "image"),
         size: size_given(given, 65_536, link),
         shown: shown_given(given),
+        traps: is_set(given, "traps"),
     }
 }
 
@@ -339,15 +341,33 @@ fn task_named<'a>(name: &str, given: &ArgMatches<'a>, settings: Settings) -> Tas
     }
 }
 
+// Whether a run in threads counts traps, and has a log without room for the entry of each of its Steps.
+fn lacks_entries<'a>(task: Task<'a>) -> bool
+    ensures kept { result ≡ false → HasEntries task.entry }
+    ensures lost { result ≡ true → LosesEntries task.entry }
+{
+    match task {
+        Task::RunInThreads(ThreadsTask { run, quota, .. }) => {
+            run.traps && u64::from(quota) * u64::from(run.size.processors) > u64::from(run.size.log)
+        }
+        _ => false,
+    }
+}
+
 // The task of the words of the command of this name.
 fn task_of_command<'a>(name: &str, given: &ArgMatches<'a>) -> Result<Task<'a>, Clash>
     ensures task { IfOk result (IsTask (Some (name.now, rows_of (found_of given.now)))) }
     ensures limits { IfOk result HasLimits }
     ensures together { IfOk result (λ _. GoTogether (Some (name.now, rows_of (found_of given.now)))) }
+    ensures entries { IfOk result HasEntries }
     ensures clash { IfErr result (ClashesIn (Some (name.now, rows_of (found_of given.now)))) }
 {
     let settings = settings_given(given, order_use(name))?;
-    Ok(task_named(name, given, settings))
+    let task = task_named(name, given, settings);
+    if lacks_entries(task) {
+        return Err(Clash::FewEntries);
+    }
+    Ok(task)
 }
 
 /// The task of the words of a command line.
@@ -355,6 +375,7 @@ pub(crate) fn task_of<'a>(matches: &ArgMatches<'a>) -> Result<Task<'a>, Clash>
     ensures task { IfOk result (IsTask (subcommand_rows_of matches.now)) }
     ensures limits { IfOk result HasLimits }
     ensures together { IfOk result (λ _. GoTogether (subcommand_rows_of matches.now)) }
+    ensures entries { IfOk result HasEntries }
     ensures clash { IfErr result (ClashesIn (subcommand_rows_of matches.now)) }
 {
     match matches.subcommand() {

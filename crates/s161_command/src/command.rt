@@ -4,7 +4,7 @@ ghost use Rattle.std.specs.Prelude.{◌≡◌, ◌≢◌, IfErr, IfOk, map};
 ghost use Rattle.std.specs.List.{fold};
 ghost use Rattle.clap.specs.Words.{HasKind, app_of, fault_of, kind_of, new_app, subcommand_of, subcommand_rows_of};
 ghost use Rattle.clap.specs.declared.error.kind.ErrorKind.TheVariants.{OutOfMemory};
-ghost use Rattle.s161_command.specs.Commands.{GoTogether, HasLimits, IsAccepted, IsRejected, IsTask, command_line, never_in, never_of};
+ghost use Rattle.s161_command.specs.Commands.{GoTogether, HasEntries, HasLimits, IsAccepted, IsRejected, IsTask, command_line, never_in, never_of};
 ghost use Rattle.s161_command.specs.helpers.Commands.{IsLocal};
 ghost use Rattle.s161_command.specs.helpers.Lines.{bare_program, line_app, with_arguments, with_named};
 
@@ -19,7 +19,7 @@ use std::alloc::{AllocError, Global};
 use std::convert::AsStr;
 
 /// What `--version` tells.
-const VERSION: &str = "1.9";
+const VERSION: &str = "1.10";
 
 // A command, with these arguments added in turn.
 fn with_arguments<'a>(
@@ -109,6 +109,7 @@ pub fn parse<'a, S: AsStr>(alloc: Global, words: &'a [S]) -> Result<Task<'a>, Re
     ensures rejected { IfErr result (IsRejected (map S.text words.now)) }
     ensures task { IfOk result (IsTask (subcommand_of command_line (map S.text words.now))) }
     ensures limits { IfOk result HasLimits }
+    ensures entries { IfOk result HasEntries }
 {
     let matches = match matches_of(alloc, words) {
         Ok(matches) => matches,

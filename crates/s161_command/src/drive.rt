@@ -3,7 +3,7 @@
 ghost use Rattle.std.specs.Prelude.{◌≡◌, true, None, MatchOption, codes, option_map};
 ghost use Rattle.clap.specs.Words.{first_of, found_of, rows_of};
 ghost use Rattle.s161_command.specs.Delays.{IsBadDelays};
-ghost use Rattle.s161_command.specs.Drives.{AsksDrive, Clashes, IsBadGap, IsGap, IsGivenOrder, IsOrder, IsSearched, IsSeeded, changes_without_seed, delayed_without_turns, delays_and_seeds, events_by_default, file_and_order, gap_by_default, go_together, half_priorities, has_order, has_pace, has_seed, is_driven, lacks_events, lacks_order, lacks_runs, order_in_threads, pace_without_order, shows_twice, turns_without_delays, two_orders};
+ghost use Rattle.s161_command.specs.Drives.{AsksDrive, Clashes, IsBadGap, IsGap, IsGivenOrder, IsOrder, IsSearched, IsSeeded, changes_without_seed, delayed_without_turns, delays_and_seeds, events_by_default, file_and_order, gap_by_default, go_together, half_priorities, has_order, has_pace, has_seed, is_driven, lacks_events, lacks_order, lacks_runs, order_in_threads, pace_without_order, shows_twice, traps_unshown, turns_without_delays, two_orders};
 ghost use Rattle.s161_command.specs.Numbers.{is_given};
 ghost use Rattle.s161_command.specs.helpers.Settings.{HasSettings};
 
@@ -72,6 +72,10 @@ pub enum Clash {
     OrderInThreads,
     #[error("--show-log prints the log too, --only-log the log alone, --only-output the console's bytes alone: give one of them")]
     ShownTwice,
+    #[error("--traps prints lines behind the registers, which --only-log and --only-output leave out")]
+    TrapsUnshown,
+    #[error("--traps with --threads needs a log of each Step: --log N, of at least those of a thread times the processors")]
+    FewEntries,
     #[error("the file and the order both give the events: give one of them")]
     FileAndOrder,
     #[error("events are wanted: a schedule's or a log's file, or --turns N or --random SEED")]
@@ -229,6 +233,12 @@ fn shows_twice<'a>(given: &ArgMatches<'a>) -> bool
     (shows_log && only_log) || (shows_log && only_output) || (only_log && only_output)
 }
 
+fn traps_unshown<'a>(given: &ArgMatches<'a>) -> bool
+    ensures { result ≡ traps_unshown (rows_of (found_of given.now)) }
+{
+    is_set(given, "traps") && (is_set(given, "only-log") || is_set(given, "only-output"))
+}
+
 /// Why the options don't go together, if so. Judged here and not by rules of clap, whose contract is
 /// exact only without rules between arguments.
 pub(crate) fn clash_of<'a>(given: &ArgMatches<'a>, orders: OrderUse) -> Option<Clash>
@@ -267,6 +277,9 @@ pub(crate) fn clash_of<'a>(given: &ArgMatches<'a>, orders: OrderUse) -> Option<C
     }
     if shows_twice(given) {
         return Some(Clash::ShownTwice);
+    }
+    if traps_unshown(given) {
+        return Some(Clash::TrapsUnshown);
     }
     if file_and_order(given, orders) {
         return Some(Clash::FileAndOrder);

@@ -53,6 +53,12 @@ of log, and then their number, as `m161 tail 2 word DROPPED`. A log can be
 replayed, and its tail can't: the same run with a greater --log has the whole
 log.
 
+With --traps a line behind the registers counts the traps of a processor with one
+code, in the order of the first of each: `traps P CODE NAME N first K PC ADDRESS`.
+There are N of them; the first is event K, from 0; PC is EPC and ADDRESS BadVAddr
+right after it, or - where the code is none of 1 to 5. The events are made twice
+then; those of --threads are the log's, so --log has room for each Step.
+
 With --strict a tlbwi or tlbwr of a row that would overlap another one isn't
 done: it is a conflict, and switches the machine off. Two rows overlap where
 they have the same page and the same identifier, or the same page and one of

@@ -147,6 +147,16 @@ pub(crate) const ONLY_LOG: Argument = Argument {
     required: false,
 };
 
+/// Whether `run` counts the traps.
+pub(crate) const TRAPS: Argument = Argument {
+    name: "traps",
+    kind: Kind::Flag,
+    shown: "",
+    help: "Prints each processor's traps by their codes: how many, and the first",
+    default: None,
+    required: false,
+};
+
 /// Whether `run` prints the console's bytes alone.
 pub(crate) const ONLY_OUTPUT: Argument = Argument {
     name: "only-output",

@@ -77,6 +77,8 @@ pub struct RunTask<'a> {
     pub size: Size,
     /// What is printed.
     pub shown: Shown,
+    /// Whether the traps are counted, by processor and code.
+    pub traps: bool,
 }
 
 /// The arguments of `run` in threads.

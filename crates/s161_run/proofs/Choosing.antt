@@ -1,11 +1,10 @@
 use Rattle.std.proofs.Common.{◌≡◌, ◌∙◌, refl, sym, ap, ℕ, ◌+◌, Bool, true, false, List, [], ◌∷◌, ◌++◌, length, Option, None, Some, append-nil}
 use Rattle.std.proofs.lemmas.List.{length-append}
-use Rattle.std.proofs.lemmas.Option.{slice_get_past}
 use Rattle.std.specs.Prelude.{slice_get}
 use Rattle.m161_machine.specs.declared.event.Event.{Event}
 use Rattle.m161_machine.specs.State.{State}
 use Rattle.m161_drive.specs.declared.cursor.Cursor.{Cursor}
-use Rattle.m161_drive.specs.Choice.{chosen, chosen_with, type_key, wants_key}
+use Rattle.m161_drive.specs.Choice.{chosen, chosen_with, wants_key}
 use Rattle.m161_drive.proofs.Keys.{key_is_typed, key_is_unread, keys_are_apart, no_key_is_counted}
 use Rattle.s161_command.specs.declared.drive.Drive.{Drive}
 use Rattle.s161_run.specs.Driven.{rules_of}

@@ -1,4 +1,4 @@
-use Rattle.std.proofs.Common.{◌≡◌, ◌∙◌, refl, sym, ap, subst, ℕ, ◌+◌, ◌-◌, List, [], ◌∷◌, ◌++◌, length, drop, slice_get, Option, arith}
+use Rattle.std.proofs.Common.{◌≡◌, ◌∙◌, refl, sym, ap, subst, ℕ, ◌-◌, List, [], ◌∷◌, length, slice_get, Option, arith}
 use Rattle.std.specs.List.{All}
 use Rattle.std.proofs.Math.Seq.{drop-nil}
 use Rattle.std.proofs.lemmas.List.{length-drop}
@@ -28,25 +28,25 @@ dropped_are log entries items made count is =
     let kept = ap length is ∙ length-drop (length entries - log) entries in omega (arith, count, kept)
 
 -- what is shown of the entries that were kept
-pub shown_kept : (shown : Shown) (conf : Conf) (file : List ℕ) (entries items : List Entry) (made : ℕ) (s : State) (stop : RunStop) → made ≡ length entries →
+pub shown_kept : (shown : Shown) (traps : List ℕ) (conf : Conf) (file : List ℕ) (entries items : List Entry) (made : ℕ) (s : State) (stop : RunStop) → made ≡ length entries →
     items ≡ keep_last (room_of shown conf.log) entries →
-    summary_text (shown_log conf file (made - length items) items) s stop shown ≡ summary_text (log_of_run conf file entries) s stop shown
-shown_kept Summary conf file entries items made s stop count is = refl
-shown_kept SummaryAndLog conf file entries items made s stop count is =
+    summary_text traps (shown_log conf file (made - length items) items) s stop shown ≡ summary_text traps (log_of_run conf file entries) s stop shown
+shown_kept Summary traps conf file entries items made s stop count is = refl
+shown_kept SummaryAndLog traps conf file entries items made s stop count is =
     let d = dropped_are conf.log entries items made count is in
-    λ i. summary_text (shown_log conf file (d i) (is i)) s stop SummaryAndLog
-shown_kept Log conf file entries items made s stop count is =
+    λ i. summary_text traps (shown_log conf file (d i) (is i)) s stop SummaryAndLog
+shown_kept Log traps conf file entries items made s stop count is =
     let d = dropped_are conf.log entries items made count is in
-    λ i. summary_text (shown_log conf file (d i) (is i)) s stop Log
-shown_kept Output conf file entries items made s stop count is = refl
+    λ i. summary_text traps (shown_log conf file (d i) (is i)) s stop Log
+shown_kept Output traps conf file entries items made s stop count is = refl
 
 -- a text that is shown stands for the log
-pub shown_text : (shown : Shown) (text log : List ℕ) (s : State) (stop : RunStop) → IsShown shown text log →
-    summary_text text s stop shown ≡ summary_text log s stop shown
-shown_text Summary text log s stop h = refl
-shown_text SummaryAndLog text log s stop h = ap (λ l. summary_text l s stop SummaryAndLog) h
-shown_text Log text log s stop h = h
-shown_text Output text log s stop h = refl
+pub shown_text : (shown : Shown) (traps text log : List ℕ) (s : State) (stop : RunStop) → IsShown shown text log →
+    summary_text traps text s stop shown ≡ summary_text traps log s stop shown
+shown_text Summary traps text log s stop h = refl
+shown_text SummaryAndLog traps text log s stop h = ap (λ l. summary_text traps l s stop SummaryAndLog) h
+shown_text Log traps text log s stop h = h
+shown_text Output traps text log s stop h = refl
 
 -- the outcomes of a run fit the mode of its machine
 pub kept_fit : (room : ℕ) (entries items : List Entry) (s t : State) → Leads s entries t → items ≡ keep_last room entries →
@@ -62,13 +62,17 @@ pub made_is : (entries : List Entry) (s t : State) → s.made ≡ 0 → Leads s 
 made_is entries s t none leads = let count = counted entries s t leads in omega (arith, none, count)
 
 -- what is printed of a run from boot
-pub run_shown : (shown : Shown) (conf : Conf) (file : List ℕ) (entries items : List Entry) (s t : State) (stop : RunStop) → s.made ≡ 0 → s.conf ≡ conf →
+pub run_shown : (shown : Shown) (traps : List ℕ) (conf : Conf) (file : List ℕ) (entries items : List Entry) (s t : State) (stop : RunStop) → s.made ≡ 0 → s.conf ≡ conf →
     Leads s entries t → items ≡ keep_last (room_of shown conf.log) entries →
-    summary_text (shown_log t.conf file (t.made - length items) items) t stop shown ≡ summary_text (log_of_run conf file entries) t stop shown
-run_shown shown conf file entries items s t stop none is leads kept =
+    summary_text traps (shown_log t.conf file (t.made - length items) items) t stop shown ≡ summary_text traps (log_of_run conf file entries) t stop shown
+run_shown shown traps conf file entries items s t stop none is leads kept =
     let same : t.conf ≡ conf = conf_stays entries s t leads ∙ is in
-    ap (λ c. summary_text (shown_log c file (t.made - length items) items) t stop shown) same
-    ∙ shown_kept shown conf file entries items t.made t stop (made_is entries s t none leads) kept
+    ap (λ c. summary_text traps (shown_log c file (t.made - length items) items) t stop shown) same
+    ∙ shown_kept shown traps conf file entries items t.made t stop (made_is entries s t none leads) kept
+
+-- an empty log keeps the last of no entries
+pub empty_kept : (room : ℕ) (items : List Entry) → items ≡ [] → items ≡ keep_last room []
+empty_kept room items empty = let none : ◌≡◌ {A = List Entry} (keep_last room []) [] = drop-nil (0 - room) in empty ∙ sym none
 
 -- the entries that a log has which was empty
 pub logged : (room : ℕ) (old new : Buffer Entry) (entries : List Entry) → old.capacity ≡ room → old.items ≡ [] →

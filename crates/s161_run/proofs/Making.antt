@@ -1,6 +1,6 @@
 use Rattle.std.proofs.Common.{◌≡◌, ◌∙◌, refl, sym, ap, subst, ℕ, zero, suc, ◌+◌, ◌<◌, ◌≤◌, List, [], ◌∷◌, ◌++◌, length, take, drop, replicate, slice_get, slice_set, Bool, true, false, nat_le, Option, None, Some, IsSomeAnd, MatchOption, Result, Ok, Err, append-nil, append_assoc, arith}
 use Rattle.std.proofs.Math.Seq.{drop-append_seam}
-use Rattle.std.proofs.lemmas.List.{drop-drop, drop-take, length-append, length-drop, length-map, length-replicate, map-append, replicate-append-replicate, take-append-drop, take-append-le, take-replicate, take-take}
+use Rattle.std.proofs.lemmas.List.{drop-drop, drop-take, length-append, length-drop, length-replicate, map-append, replicate-append-replicate, take-append-drop, take-append-le, take-replicate, take-take}
 use Rattle.m161_cpu.specs.declared.processor.Outcome.{Outcome}
 use Rattle.m161_machine.specs.declared.event.Conflict.{Conflict}
 use Rattle.m161_machine.specs.declared.event.Event.{Event}
@@ -11,7 +11,7 @@ use Rattle.m161_isa.specs.Choice.{first_answer}
 use Rattle.m161_machine.specs.State.{State, is_worn, next, unless, answer}
 use Rattle.m161_machine.specs.History.{events_of, Leads, Refuses}
 use Rattle.m161_machine.proofs.Continuing.{refused_as}
-use Rattle.m161_machine.proofs.Leading.{leads_more, leads_on}
+use Rattle.m161_machine.proofs.Leading.{leads_on}
 use Rattle.m161_drive.specs.Drive.{IsNoted}
 use Rattle.s161_run.specs.declared.events.RunStop.{RunStop}
 use Rattle.s161_run.specs.Runs.{IsRefusedAt, IsSwitchedOff, MakesEvents, StopsAfter, stop_off}

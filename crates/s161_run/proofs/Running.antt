@@ -1,14 +1,12 @@
-use Rattle.std.proofs.Common.{◌≡◌, ◌∙◌, refl, sym, ap, subst, ℕ, ◌+◌, ◌<◌, ◌≤◌, Bool, true, false, List, [], ◌∷◌, ◌++◌, length, take, drop, Option, None, Some, Ok, ◌⊎◌, inl, inr, append-nil, append_assoc, arith}
+use Rattle.std.proofs.Common.{◌≡◌, ◌∙◌, refl, sym, ap, subst, ℕ, ◌+◌, ◌<◌, ◌≤◌, Bool, true, false, List, [], ◌∷◌, ◌++◌, length, take, drop, Option, None, Some, ◌⊎◌, inl, inr, append-nil, append_assoc, arith}
 use Rattle.std.proofs.lemmas.List.{length-append, take-append-drop}
 use Rattle.std.proofs.Math.Seq.{drop-append_seam, take-append_seam}
 use Rattle.std.proofs.KnownBytes.{Appends-nil, Appends-trans, Consumes-nil, Consumes-trans}
 use Rattle.std.specs.Prelude.{IfSome, if◌then◌else◌, slice_get, unwrap_or}
 use Rattle.std.specs.Io.KnownBytes.{Appends, Consumes, IsAtEnd}
-use Rattle.m161_machine.specs.declared.event.Entry.{Entry}
 use Rattle.m161_machine.specs.declared.event.Event.{Event}
 use Rattle.m161_machine.specs.State.{State}
 use Rattle.m161_drive.specs.declared.cursor.Cursor.{Cursor}
-use Rattle.m161_drive.specs.declared.run.Driven.{Driven}
 use Rattle.m161_drive.specs.declared.run.Stop.{Stop}
 use Rattle.m161_drive.specs.declared.run.Stop.TheVariants.{Off, End, Stuck, Refused}
 use Rattle.m161_drive.specs.Choice.{chosen, chosen_with, cursor_at, taken, wants_key}
@@ -16,7 +14,6 @@ use Rattle.m161_drive.specs.Drive.{Goes, Rests, Stops}
 use Rattle.m161_drive.specs.Policy.{Rules}
 use Rattle.m161_drive.proofs.Driving.{Driving, driving_more, driving_none}
 use Rattle.s161_base.specs.declared.fault.Fault.{Fault}
-use Rattle.s161_base.specs.declared.fault.Fault.TheVariants as fault
 use Rattle.s161_command.specs.declared.drive.Drive.{Drive}
 use Rattle.s161_run.specs.Driven.{rules_of}
 use Rattle.s161_run.specs.Consoles.{InputFails, Fails, OutputFails, Serves, keys_taken}

@@ -1,21 +1,18 @@
-use Rattle.std.proofs.Common.{◌≡◌, ◌∙◌, refl, sym, ap, subst, ℕ, ◌+◌, ◌≤◌, Bool, true, false, List, [], ◌∷◌, ◌++◌, length, Option, None, Some, Result, Ok, Err, arith, append-nil}
+use Rattle.std.proofs.Common.{◌≡◌, ◌∙◌, refl, sym, ap, subst, ℕ, ◌≤◌, Bool, true, false, List, [], ◌∷◌, ◌++◌, length, Option, None, Some, Result, Ok, Err, arith, append-nil}
 use Rattle.std.specs.Prelude.{◌-◌, ◌/◌, ◌%◌, ◌==◌, nat_le, nat_lt, if◌then◌else◌, unwrap_or}
 use Rattle.m161_isa.specs.declared.effect.Effect.{Effect}
 use Rattle.m161_isa.specs.declared.effect.Effect.TheVariants as effect
 use Rattle.m161_isa.specs.declared.table.Row.{Row}
 use Rattle.m161_isa.specs.Table.{table, row_that_fits, numbers_of}
 use Rattle.m161_cop0.specs.Control.{is_interrupted, is_pending}
-use Rattle.m161_bus.specs.declared.board.BusFault.{BusFault}
-use Rattle.m161_bus.specs.declared.console.DoneError.{DoneError}
-use Rattle.m161_bus.specs.declared.console.KeyFull.{KeyFull}
-use Rattle.m161_bus.specs.Board.{BoardState, after_read, board_done, board_key, board_read, board_written, read_from, slot_written, with_console, with_slot_word}
-use Rattle.m161_bus.specs.Console.{ConsoleState, after_sending, done_from}
+use Rattle.m161_bus.specs.Board.{BoardState, after_read, board_read, board_written, read_from, slot_written, with_console, with_slot_word}
+use Rattle.m161_bus.specs.Console.{ConsoleState, done_from}
 use Rattle.m161_bus.specs.Registers.{RegisterLine, at, console_configuration, console_table, controller_configuration, controller_part, in_table, is_word_of_slots, place_table, register_in, register_of}
 use Rattle.m161_cpu.specs.declared.processor.Outcome.{Outcome}
 use Rattle.m161_cpu.specs.declared.processor.ProcessorState.{ProcessorState}
 use Rattle.m161_cpu.specs.declared.processor.ProcessorState.TheVariants.{Stopped, Running, Waiting}
-use Rattle.m161_cpu.specs.Effect.{Argument, arguments, effect_of, is_linked, outside_slot, store_conditional, store_physical_word, with_three, write_board, write_read}
-use Rattle.m161_cpu.specs.Processor.{Processor, with_state}
+use Rattle.m161_cpu.specs.Effect.{Argument, arguments, effect_of, is_linked, store_conditional, store_physical_word, with_three, write_board, write_read}
+use Rattle.m161_cpu.specs.Processor.{with_state}
 use Rattle.m161_cpu.specs.Scene.{around_after, Change, Scene, and_then, around, result_map, scene}
 use Rattle.m161_cpu.specs.Step.{conflict_of, off_after, change_by_row, change_in, change_of_step, executable_word, idle, lines_in, running_step, step_by_state, step_of, step_of_result, tick, with_processor}
 use Rattle.m161_cpu.specs.Translation.{or_bus_error, read_physical_word}

@@ -1,13 +1,18 @@
-use Rattle.std.proofs.Common.{◌≡◌, refl, subst, ℕ, List, length, Option, None, Some, Ok}
+use Rattle.std.proofs.Common.{◌≡◌, ◌∙◌, refl, ap, sym, subst, arith, ℕ, ◌*◌, ◌<◌, ◌≤◌, Bool, List, length, replicate, slice_index_or, Option, None, Some, Ok}
+use Rattle.std.specs.Prelude.{sum}
+use Rattle.std.proofs.lemmas.Grind.{get_or_default_zero}
+use Rattle.std.proofs.lemmas.List.{get_or-replicate, length-replicate}
+use Rattle.std.proofs.lemmas.List.Sums.{sum_by-le}
 use Rattle.m161_machine.specs.declared.conf.BootError.{BootError}
 use Rattle.m161_machine.specs.declared.conf.Conf.{Conf}
-use Rattle.m161_machine.specs.History.{History, Boots, IsBooted}
+use Rattle.m161_machine.specs.History.{History, Boots, IsBooted, Start, boot_state}
+use Rattle.m161_machine.specs.State.{State}
 use Rattle.m161_cause.specs.declared.cause.Cause.{Cause}
-use Rattle.m161_threads.specs.Runs.{FailsRun, bad_call}
+use Rattle.m161_threads.specs.Runs.{FailsRun, Interleaves, bad_call}
 use Rattle.s161_base.specs.declared.fault.Fault.{Fault}
 use Rattle.s161_base.specs.declared.fault.Fault.TheVariants.{Conf as ConfFault, File, Image, Input, Log, LogImage, LogMachine, Memory, Never, Output, Schedule, Source, Threads, Touches, Watch, Watches, Word}
 use Rattle.s161_run.specs.Threads.{IsCause}
-use Rattle.s161_run.specs.helpers.Threads.{FailsBooted, number_of}
+use Rattle.s161_run.specs.helpers.Threads.{FailsBooted, KeepsLast, number_of}
 
 -- The fault of a run in threads.
 
@@ -46,3 +51,29 @@ failed_booted P m processors burst LogMachine number threads memory h = absurd h
 failed_booted P m processors burst LogImage number threads memory h = absurd h
 failed_booted P m processors burst Output number threads memory h = absurd h
 failed_booted P m processors burst (Source e) number threads memory h = absurd h
+
+-- the traps of a run in threads
+
+-- no processor made more than its quota
+few_made : (made : List ℕ) (n quota : ℕ) → length made ≡ n → ((p : ℕ) → p < n → slice_index_or made p 0 ≤ slice_index_or (replicate n quota) p 0) →
+    sum made ≤ n * quota
+few_made made n quota long within =
+    subst (λ k. sum made ≤ k * quota) long
+    (sum_by-le (λ x. x) quota made (λ k d below.
+    let most = within k (omega (arith, long, below)) in
+    let is = get_or-replicate n k quota 0 (omega (arith, long, below)) in
+    let zero_is = get_or_default_zero made k d below in omega (arith, most, is, zero_is)))
+
+-- the base of a log that has room for each Step
+pub based : (processors quota log : ℕ) (booted m : History) (made : List ℕ) (off : Bool) → booted.state ≡ boot_state booted.start → booted.start.conf.log ≡ log →
+    Interleaves booted (replicate processors quota) made off m → KeepsLast m → processors * quota ≤ log → m.base ≡ booted.state
+based processors quota log booted m made off booted_is log_is ran kept room =
+    let number = length-replicate processors quota in
+    let few = few_made made processors quota (ran.number ∙ number) (λ p below. ran.within p (omega (arith, number, below))) in
+    let none = ap (λ (s : State). s.made) booted_is in
+    let events = ran.events_made in
+    let last = kept.last in
+    let made_is = kept.made_is in
+    let same = ap (λ (x : Start). x.conf.log) ran.start_is in
+    let zero_is : m.base.made ≡ 0 = omega (arith, few, none, events, last, made_is, same, log_is, room) in
+    kept.boot zero_is ∙ ap boot_state ran.start_is ∙ sym booted_is

@@ -4,7 +4,7 @@ use Rattle.m161_machine.specs.declared.conf.BootError.TheVariants.{Load}
 use Rattle.m161_machine.specs.declared.event.Conflict.{Conflict}
 use Rattle.m161_machine.specs.declared.event.Entry.{Entry}
 use Rattle.m161_machine.specs.Conf.{is_within_limits}
-use Rattle.m161_machine.specs.History.{boot_fault}
+use Rattle.m161_machine.specs.History.{boot_fault, events_of}
 use Rattle.m161_machine.specs.State.{State}
 use Rattle.m161_drive.specs.declared.run.Driven.{Driven}
 use Rattle.m161_drive.specs.declared.run.Stop.{Stop as DriveStop}
@@ -15,7 +15,7 @@ use Rattle.s161_command.specs.declared.drive.Drive.{Drive}
 use Rattle.s161_command.specs.declared.task.DrivenTask.{DrivenTask}
 use Rattle.s161_run.specs.declared.events.RunStop.{RunStop}
 use Rattle.s161_run.specs.declared.events.RunStop.TheVariants.{End, Stuck, Refused}
-use Rattle.s161_run.specs.Runs.{log_of_run, stop_off, summary_text}
+use Rattle.s161_run.specs.Runs.{log_of_run, stop_off, summary_text, told_traps}
 use Rattle.s161_base.specs.Asked.{image_files, option_files}
 use Rattle.s161_base.specs.declared.fault.Fault.{Fault}
 use Rattle.s161_base.specs.declared.fault.Fault.TheVariants.{Conf, File, Image, Memory}
@@ -73,7 +73,9 @@ pub record IsDriven
   pub drives : Drives (rules_of task.drive keys) task.drive.events booted driven entries state
   pub stop_is : stop ≡ stop_of driven state
   pub text_is :
-      text ≡ summary_text (log_of_run (conf_of task.run.size) file entries) state stop task.run.shown
+      text
+      ≡ summary_text (told_traps task.run.traps booted (events_of entries))
+      (log_of_run (conf_of task.run.size) file entries) state stop task.run.shown
 
 -- a fault is that of the file of the keys
 abbrev pub IsKeysFile : Option (Bor (List ℕ)) → Fault → Type 0

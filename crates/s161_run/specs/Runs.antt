@@ -1,4 +1,4 @@
-use Rattle.std.specs.Prelude.{◌≡◌, ℕ, ◌-◌, ◌==◌, true, false, if◌then◌else◌, List, [], ◌∷◌, ◌++◌, Option, None, Some, IsSomeAnd, IfSome, codes, decimal, flat_map, length, slice_get, take}
+use Rattle.std.specs.Prelude.{◌≡◌, ℕ, ◌-◌, ◌==◌, Bool, true, false, if◌then◌else◌, List, [], ◌∷◌, ◌++◌, Option, None, Some, IsSomeAnd, IfSome, codes, decimal, flat_map, length, slice_get, take}
 use Rattle.std.specs.List.{range_with_len}
 use Rattle.sha2.specs.Sha256.{sha256}
 use Rattle.m161_cpu.specs.declared.processor.ProcessorState.{ProcessorState}
@@ -16,6 +16,8 @@ use Rattle.m161_machine.specs.State.{State, next, processor_at}
 use Rattle.m161_machine.specs.History.{Leads, Refuses, boot_fault, events_of}
 use Rattle.m161_display.specs.Shows.{show_regs_text}
 use Rattle.m161_text.specs.Lines.{with_line_end, FirstBad, lines_of}
+use Rattle.m161_traps.specs.Shown.{traps_text}
+use Rattle.m161_traps.specs.Traps.{trap_lines}
 use Rattle.m161_steplog.specs.declared.machine.MachineLine.{MachineLine}
 use Rattle.m161_steplog.specs.declared.mode.Mode.{Mode}
 use Rattle.m161_steplog.specs.Log.{log_text, tail_text}
@@ -130,20 +132,25 @@ abbrev pub log_of_run : MachineConf → List ℕ → List Entry → List ℕ
 log_of_run conf file entries =
     shown_log conf file (length entries - conf.log) (keep_last conf.log entries)
 
--- what a machine shows, with the text of a log before the last line
-abbrev pub summary_with : List ℕ → State → RunStop → List ℕ
-summary_with log s stop =
+-- the lines of the traps of events, from a state on, where they are counted
+abbrev pub told_traps : Bool → State → List Event → List ℕ
+told_traps counted s events = if counted then traps_text (trap_lines s events) else []
+
+-- what a machine shows, with the lines of its traps and the text of a log before the last line
+abbrev pub summary_with : List ℕ → List ℕ → State → RunStop → List ℕ
+summary_with traps log s stop =
     output_text s.board.console.output
     ++ started_texts s (length s.processors)
+    ++ traps
     ++ log
     ++ with_line_end (stop_line stop)
 
--- what `run` prints of a run that ended in a state, with the text of its log
-abbrev pub summary_text : List ℕ → State → RunStop → Shown → List ℕ
-summary_text log s stop shown.Summary = summary_with [] s stop
-summary_text log s stop shown.SummaryAndLog = summary_with log s stop
-summary_text log s stop shown.Log = log
-summary_text log s stop shown.Output = s.board.console.output
+-- what `run` prints of a run that ended in a state, with the lines of its traps and the text of its log
+abbrev pub summary_text : List ℕ → List ℕ → State → RunStop → Shown → List ℕ
+summary_text traps log s stop shown.Summary = summary_with traps [] s stop
+summary_text traps log s stop shown.SummaryAndLog = summary_with traps log s stop
+summary_text traps log s stop shown.Log = log
+summary_text traps log s stop shown.Output = s.board.console.output
 
 -- what it says on standard error: why the run stopped, where what it prints doesn't say it
 abbrev pub told_text : RunStop → Shown → List ℕ
@@ -177,7 +184,9 @@ pub record IsRun
   pub state : State
   pub makes : MakesEvents booted events stop entries state
   pub text_is :
-      text ≡ summary_text (log_of_run (conf_of task.size) file entries) state stop task.shown
+      text
+      ≡ summary_text (told_traps task.traps booted (events_of entries))
+      (log_of_run (conf_of task.size) file entries) state stop task.shown
 
 -- what a fault that ends a run says of its inputs: of a file, that it is the image's; of the
 -- schedule, its first bad line; of the configuration or the image, that the schedule had no fault.

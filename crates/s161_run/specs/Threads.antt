@@ -1,8 +1,8 @@
-use Rattle.std.specs.Prelude.{◌≡◌, ℕ, Bool, false, if◌then◌else◌, List, Option, None, Some, IfSome, replicate}
+use Rattle.std.specs.Prelude.{◌≡◌, ℕ, ◌*◌, ◌≤◌, Bool, false, if◌then◌else◌, List, Option, None, Some, IfSome, replicate}
 use Rattle.m161_machine.specs.declared.conf.BootError.TheVariants.{Load}
 use Rattle.m161_machine.specs.declared.event.Conflict.{Conflict}
 use Rattle.m161_machine.specs.Conf.{is_within_limits}
-use Rattle.m161_machine.specs.History.{History, boot_fault}
+use Rattle.m161_machine.specs.History.{History, boot_fault, events_of}
 use Rattle.m161_cause.specs.declared.cause.Cause.{Cause}
 use Rattle.m161_threads.specs.Runs.{Interleaves, IsOfRun, bad_call}
 use Rattle.s161_command.specs.declared.task.ThreadsTask.{ThreadsTask}
@@ -10,7 +10,7 @@ use Rattle.s161_run.specs.declared.events.RunStop.{RunStop}
 use Rattle.s161_run.specs.declared.events.RunStop.TheVariants.{End}
 use Rattle.s161_base.specs.declared.fault.Fault.{Fault}
 use Rattle.s161_base.specs.declared.fault.Fault.TheVariants.{Conf, File, Image, Memory, Threads}
-use Rattle.s161_run.specs.Runs.{shown_log, stop_off, summary_text}
+use Rattle.s161_run.specs.Runs.{shown_log, stop_off, summary_text, told_traps}
 use Rattle.s161_base.specs.Faults.{BootsTo}
 use Rattle.s161_base.specs.Known.{OfKnown}
 use Rattle.s161_base.specs.Reading.{IsOfBytes}
@@ -24,7 +24,8 @@ abbrev pub stop_of : Bool → Option Conflict → RunStop
 stop_of off conflict = if off then stop_off conflict else End
 
 -- a finished run in threads: what it prints and why it stopped; the image's file has these bytes,
--- as far as they are known
+-- as far as they are known. Its traps are those of the log, from the log's base on, which is the state
+-- at boot where the log has room for each Step
 pub record IsRunInThreads
     (task : ThreadsTask) (known : Option (List ℕ)) (text : List ℕ) (stop : RunStop) : Type 0 where
   pub file : List ℕ
@@ -38,8 +39,10 @@ pub record IsRunInThreads
   pub interleaves :
       Interleaves booted (replicate task.run.size.processors task.quota) made off machine
   pub stop_is : stop ≡ stop_of off machine.state.conflict
+  pub from_boot :
+      task.run.size.processors * task.quota ≤ task.run.size.log → machine.base ≡ booted.state
   pub text_is :
-      text ≡ summary_text
+      text ≡ summary_text (told_traps task.run.traps machine.base (events_of machine.log))
       (shown_log (conf_of task.run.size) file machine.base.made machine.log) machine.state stop
       task.run.shown
 

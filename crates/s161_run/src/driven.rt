@@ -8,7 +8,8 @@ ghost use Rattle.s161_run.specs.Driven.{IsDriven, IsDrivenFault, driven_files, s
 
 use crate::events::{RunStop, stop_off};
 use crate::log::new_log;
-use crate::policy::{make_driven, read_keys};
+use crate::made::make_chosen;
+use crate::policy::read_keys;
 use crate::summary::{Ran, finish_run};
 use m161::Core;
 use m161_drive::Driven;
@@ -44,10 +45,9 @@ pub fn run_driven<'a, F: FileSource>(
     let keys = read_keys(alloc, files, task.drive.keys)?;
     let conf = conf_of(task.run.size);
     let mut core = Core::boot(alloc, image, conf)?;
-    let mut log = new_log(alloc, conf, task.run.shown)?;
-    let driven = make_driven(&mut core, task.drive, &keys, &mut log)?;
-    let stop = stop_of(driven, &core);
-    let done = finish_run(alloc, &core, &log, image, stop, task.run.shown)?;
+    let log = new_log(alloc, conf, task.run.shown)?;
+    let made = make_chosen(alloc, &mut core, task.drive, &keys, log, task.run.traps)?;
+    let done = finish_run(alloc, &core, made, image, task.run.shown)?;
     Ok(done)
 }
 

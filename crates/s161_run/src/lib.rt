@@ -11,6 +11,7 @@ pub mod events;
 mod keys;
 pub mod laws;
 mod log;
+mod made;
 pub mod policy;
 pub mod replay;
 pub mod run;

@@ -5,8 +5,8 @@ ghost use Rattle.s161_run.specs.Runs.{IsFaultOf, IsRun};
 ghost use Rattle.s161_base.specs.Asked.{AsksFor, IsBeforeInput, image_files};
 ghost use Rattle.s161_base.specs.Samples.{image_file};
 
-use crate::events::make_events;
 use crate::log::new_log;
+use crate::made::make_scheduled;
 use crate::summary::{Ran, finish_run};
 use m161::Core;
 use s161_base::fault::Fault;
@@ -48,8 +48,8 @@ pub fn run<'a, F: FileSource, I: Read>(
     let events = events_of(alloc, schedule.as_str())?;
     let conf = conf_of(task.size);
     let mut core = Core::boot(alloc, image, conf)?;
-    let mut log = new_log(alloc, conf, task.shown)?;
-    let stop = make_events(&mut core, &events, &mut log)?;
-    let done = finish_run(alloc, &core, &log, image, stop, task.shown)?;
+    let log = new_log(alloc, conf, task.shown)?;
+    let made = make_scheduled(alloc, &mut core, &events, log, task.traps)?;
+    let done = finish_run(alloc, &core, made, image, task.shown)?;
     Ok(done)
 }

@@ -8,10 +8,10 @@ ghost use Rattle.s161_run.specs.Runs.{output_text, shown_log, started_text, stat
 
 use crate::events::RunStop;
 use crate::log::log_of_run;
-use circular_buffer::HeapCircularBuffer;
+use crate::made::Made;
 use m161::Core;
 use m161_display::show_regs;
-use m161_machine::{PackedEntry, ProcessorState};
+use m161_machine::ProcessorState;
 use s161_command::Shown;
 use std::alloc::{AllocError, Global};
 
@@ -24,21 +24,23 @@ pub struct Ran {
     pub stop: RunStop,
 }
 
-/// What is shown of a run that ended in this state: the console's output, each started processor, and
-/// why the events ended, with this text of its log before that line if it is asked for; or the log
-/// alone, or the console's bytes alone.
+/// What is shown of a run that ended in this state: the console's output, each started processor, the
+/// lines of its traps, and why the events ended, with this text of its log before that line if it is
+/// asked for; or the log alone, or the console's bytes alone.
 pub(crate) fn summary(
     alloc: Global,
     core: &Core,
+    traps: &[u8],
     log: &[u8],
     stop: RunStop,
     shown: Shown,
 ) -> Result<Vec<u8>, AllocError>
-    ensures { IfOk result (λ text. text.items ≡ summary_text log.now core.now.state stop shown) }
+    ensures { IfOk result (λ text. text.items
+        ≡ summary_text traps.now log.now core.now.state stop shown) }
 {
     match shown {
-        Shown::Summary => summary_with(alloc, b"", core, stop),
-        Shown::SummaryAndLog => summary_with(alloc, log, core, stop),
+        Shown::Summary => summary_with(alloc, traps, b"", core, stop),
+        Shown::SummaryAndLog => summary_with(alloc, traps, log, core, stop),
         Shown::Log => log.to_vec(alloc),
         Shown::Output => core.output().to_vec(alloc),
     }
@@ -57,26 +59,27 @@ pub fn told(alloc: Global, stop: RunStop, shown: Shown) -> Result<String, AllocE
     }
 }
 
-/// What is printed of a run from a boot of this file, with this log of it, and why it stopped.
+/// What is printed of a run from a boot of this file, with what is kept of its events, and why it
+/// stopped.
 ///
 /// # Errors
 /// Memory was refused.
 pub(crate) fn finish_run(
     alloc: Global,
     core: &Core,
-    log: &HeapCircularBuffer<PackedEntry>,
+    made: Made,
     file: &[u8],
-    stop: RunStop,
     shown: Shown,
 ) -> Result<Ran, AllocError>
-    requires { All (λ (e : Entry). FitsMode core.now.state.conf.strict e.outcome) log.now.items }
-    ensures text { IfOk result (λ done. done.text.items ≡ summary_text
-        (shown_log core.now.state.conf file.now (core.now.state.made - length log.now.items)
-        log.now.items) core.now.state stop shown) }
-    ensures stop { IfOk result (λ done. done.stop ≡ stop) }
+    requires { All (λ (e : Entry). FitsMode core.now.state.conf.strict e.outcome) made.log.items }
+    ensures text { IfOk result (λ done. done.text.items ≡ summary_text (string_bytes made.traps)
+        (shown_log core.now.state.conf file.now (core.now.state.made - length made.log.items)
+        made.log.items) core.now.state made.stop shown) }
+    ensures stop { IfOk result (λ done. done.stop ≡ made.stop) }
 {
-    let log = log_of_run(alloc, core, log, file, shown)?;
-    let text = summary(alloc, core, log.as_bytes(), stop, shown)?;
+    let Made { stop, log, traps } = made;
+    let log = log_of_run(alloc, core, &log, file, shown)?;
+    let text = summary(alloc, core, traps.as_bytes(), log.as_bytes(), stop, shown)?;
     Ok(Ran { text, stop })
 }
 
@@ -93,20 +96,23 @@ pub fn status(stop: RunStop) -> u8
     }
 }
 
-// What a machine shows, with the text of a log before the last line.
+// What a machine shows, with the lines of its traps and the text of a log before the last line.
 fn summary_with(
     alloc: Global,
+    traps: &[u8],
     log: &[u8],
     core: &Core,
     stop: RunStop,
 ) -> Result<Vec<u8>, AllocError>
-    ensures { IfOk result (λ text. text.items ≡ summary_with log.now core.now.state stop) }
+    ensures { IfOk result (λ text. text.items
+        ≡ summary_with traps.now log.now core.now.state stop) }
 {
     let mut text = Vec::new(alloc);
     push_output(&mut text, core.output())?;
     for p in 0..core.processors() {
         push_processor(alloc, &mut text, core, p)?;
     }
+    text.extend_from_slice(traps)?;
     text.extend_from_slice(log)?;
     let line = format!(in alloc; "{stop}\n")?;
     text.extend_from_slice(line.as_bytes())?;

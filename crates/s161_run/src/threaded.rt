@@ -1,14 +1,16 @@
 //! Running an image in threads.
 
 ghost use Rattle.std.specs.Prelude.{◌≡◌, IfErr, IfOk, replicate};
-ghost use Rattle.s161_run.specs.Runs.{shown_log, summary_text};
+ghost use Rattle.m161_machine.specs.History.{events_of};
+ghost use Rattle.s161_run.specs.Runs.{shown_log, summary_text, told_traps};
 ghost use Rattle.s161_base.specs.Asked.{AsksFor, image_files};
 ghost use Rattle.s161_base.specs.Samples.{image_file};
 ghost use Rattle.s161_run.specs.Threads.{IsRunInThreads, IsThreadsFault, stop_of};
-ghost use Rattle.s161_run.specs.helpers.Threads.{FailsBooted, RunsBooted};
+ghost use Rattle.s161_run.specs.helpers.Threads.{FailsBooted, KeepsLast, RunsBooted};
 
 use crate::events::{RunStop, stop_off};
 use crate::log::log_of_machine;
+use crate::made::traps_of_log;
 use crate::summary::{Ran, summary};
 use m161::{Console, Machine, Tlb};
 use m161_machine::Conflict;
@@ -57,7 +59,7 @@ pub fn run_in_threads<'a, R: Threads + Wait + Sync, F: FileSource>(
     let image = file.as_slice();
     let machine = Machine::boot(alloc, image, conf_of(run.size))?;
     let report = run_booted(rt, alloc, machine, quota, burst)?;
-    let done = finish(alloc, report, image, run.shown)?;
+    let done = finish(alloc, report, image, run.shown, run.traps)?;
     Ok(done)
 }
 
@@ -71,12 +73,16 @@ fn run_booted<'a, R: Threads + Wait + Sync>(
 ) -> Result<Report<Tlb, Console>, Fault<'a>>
     ensures ok { IfOk result (λ report. RunsBooted machine quota burst report.counts.items report.off
         report.machine) }
+    ensures last { IfOk result (λ report. KeepsLast report.machine) }
     ensures fault { IfErr result (FailsBooted machine burst) }
 {
     machine.replay();
     let quotas = quotas_of(alloc, quota, machine.processors())?;
     match run_bursts(rt, alloc, machine, quotas.as_slice(), &Open, burst) {
-        Ok(report) => Ok(report),
+        Ok(report) => {
+            report.machine.replay();
+            Ok(report)
+        }
         Err(fault) => Err(Fault::Threads(fault.cause)),
     }
 }
@@ -105,9 +111,11 @@ fn finish<'a>(
     report: Report<Tlb, Console>,
     file: &[u8],
     shown: Shown,
+    traps: bool,
 ) -> Result<Ran, Fault<'a>>
     ensures text { IfOk result (λ done.
         done.text.items ≡ summary_text
+        (told_traps traps report.machine.base (events_of report.machine.log))
         (shown_log report.machine.start.conf file.now report.machine.base.made report.machine.log)
         report.machine.state (stop_of report.off report.machine.state.conflict) shown) }
     ensures stop { IfOk result (λ done.
@@ -121,6 +129,14 @@ fn finish<'a>(
     } = report;
     let stop = stop_of(off, machine.conflict());
     let log = log_of_machine(alloc, &machine, file, shown)?;
-    let text = summary(alloc, machine.core(), log.as_bytes(), stop, shown)?;
+    let traps = traps_of_log(alloc, &machine, traps)?;
+    let text = summary(
+        alloc,
+        machine.core(),
+        traps.as_bytes(),
+        log.as_bytes(),
+        stop,
+        shown,
+    )?;
     Ok(Ran { text, stop })
 }

@@ -1,5 +1,5 @@
-use Rattle.std.specs.Prelude.{◌≡◌, ℕ, Bool, List, None, replicate}
-use Rattle.m161_machine.specs.History.{History}
+use Rattle.std.specs.Prelude.{◌≡◌, ℕ, ◌+◌, min, Bool, List, None, length, replicate}
+use Rattle.m161_machine.specs.History.{History, boot_state}
 use Rattle.m161_threads.specs.Runs.{Interleaves, bad_call}
 use Rattle.s161_base.specs.declared.fault.Fault.{Fault}
 use Rattle.s161_base.specs.declared.fault.Fault.TheVariants.{Memory, Threads}
@@ -9,6 +9,13 @@ use Rattle.s161_run.specs.Threads.{IsCause}
 
 abbrev pub number_of : History → ℕ
 number_of m = m.start.conf.processors
+
+-- its log has the last entries for which there is room, and its base is the state at boot where it has
+-- all
+pub record KeepsLast (m : History) : Type 0 where
+  pub made_is : m.state.made ≡ m.base.made + length m.log
+  pub last : length m.log ≡ min m.start.conf.log m.state.made
+  pub boot : m.base.made ≡ 0 → m.base ≡ boot_state m.start
 
 -- it begins and ends
 pub record RunsBooted

@@ -1,6 +1,7 @@
-use Rattle.std.proofs.Common.{◌≡◌, ◌∙◌, ap, subst, sym, List, ℕ, ◌++◌, IfSome}
+use Rattle.std.proofs.Common.{◌≡◌, ◌∙◌, ap, string_bytes, subst, sym, List, ℕ, ◌++◌, IfSome}
+use Rattle.circular_buffer.specs.Buffer.{keep_last}
 use Rattle.m161_machine.specs.declared.conf.Conf.{Conf}
-use Rattle.m161_machine.specs.History.{boot_fault}
+use Rattle.m161_machine.specs.History.{boot_fault, events_of}
 use Rattle.m161_machine.specs.State.{State}
 use Rattle.s161_base.proofs.Asking.{after_all, asks_both, asks_err, boot_is_none, image_unread, later}
 use Rattle.s161_base.proofs.Failing.{state_booted}
@@ -11,18 +12,16 @@ use Rattle.s161_base.specs.Samples.{image_file}
 use Rattle.s161_base.specs.Sizes.{conf_of}
 use Rattle.s161_run.specs.declared.events.RunStop.{RunStop}
 use Rattle.s161_run.specs.Driven.{AreKeys}
-use Rattle.s161_run.specs.Runs.{log_of_run, summary_text}
+use Rattle.s161_run.specs.Runs.{log_of_run, summary_text, told_traps}
 use Rattle.s161_run.specs.helpers.Shown.{room_of}
 use Rattle.s161_run.proofs.Keeping.{keys_are, last_unread}
-use Rattle.s161_run.proofs.Logging.{kept_fit, logged, run_leads, run_shown}
+use Rattle.s161_run.proofs.Logging.{kept_fit, run_leads, run_shown}
 use Rattle.s161_run.proofs.driven.run_driven.Goals as goal
 
 pub finish_run-requires : goal.finish_run-requires
 finish_run-requires g c =
-    let made = c.in_ok-driven.ensures in
-    let room = room_of c.args.task.run.shown c.conf_of-conf.result.log in
-    kept_fit room made.0 c.make_driven.new.notes.items c.in_ok-core.core.state c.make_driven.new.core.state (run_leads made.1)
-    (logged room c.in_ok-log.log c.make_driven.new.notes made.0 c.in_ok-log.ensures.0 c.in_ok-log.ensures.1 made.2)
+    let made = c.in_ok-made.ensures in
+    kept_fit c.in_ok-log.log.capacity made.entries c.in_ok-made.made.log.items c.in_ok-core.core.state c.make_chosen.new.core.state (run_leads made.drives) made.last_are
 
 pub returns-clause-ok : goal.returns-clause-ok
 returns-clause-ok g c =
@@ -35,9 +34,12 @@ returns-clause-ok g c =
     let booted = c.in_ok-core.core.state in
     let boots : BootsIn file conf booted =
     subst (λ conf. BootsIn file conf booted) c.conf_of-conf.ensures (state_booted file c.conf_of-conf.result (boot_fault file c.conf_of-conf.result) c.in_ok-core.core c.in_ok-core.ensures) in
-    let made = c.in_ok-driven.ensures in
-    let state = c.make_driven.new.core.state in
-    let log = log_of_run conf file made.0 in
+    let made = c.in_ok-made.ensures in
+    let state = c.make_chosen.new.core.state in
+    let stop = c.in_ok-made.made.stop in
+    let traps = string_bytes c.in_ok-made.made.traps in
+    let log = log_of_run conf file made.entries in
+    let room : c.in_ok-log.log.capacity ≡ room_of shown conf.log = c.in_ok-log.ensures.0 ∙ ap (λ (x : Conf). room_of shown x.log) c.conf_of-conf.ensures in
     record {
       file = file;
       is_file = subst R (sym c.as_slice-image.ensures.value) c.in_ok-file.ensures.whole;
@@ -46,18 +48,17 @@ returns-clause-ok g c =
           (keys_are c.args.task.drive.keys (g.F.FileSource.known c.read_image.new.files) files c.in_ok-keys.keys.items c.in_ok-file.ensures.still c.in_ok-keys.ensures.whole);
       booted = booted;
       boots = boots;
-      driven = c.in_ok-driven.driven;
-      entries = made.0;
+      driven = made.driven;
+      entries = made.entries;
       state = state;
-      drives = made.1;
+      drives = made.drives;
       text_is =
           c.in_ok-done.ensures.text
-          ∙ run_shown shown conf file made.0 c.make_driven.new.notes.items booted state c.stop_of-stop.result
-          (ap (λ (s : State). s.made) boots.1.state_is) (ap (λ (s : State). s.conf) boots.1.state_is ∙ boots.1.conf_is) (run_leads made.1)
-          (logged (room_of shown conf.log) c.in_ok-log.log c.make_driven.new.notes made.0
-          (c.in_ok-log.ensures.0 ∙ ap (λ (x : Conf). room_of shown x.log) c.conf_of-conf.ensures) c.in_ok-log.ensures.1 made.2)
-          ∙ ap (λ (stop : RunStop). summary_text log state stop shown) (sym c.in_ok-done.ensures.stop);
-      stop_is = c.in_ok-done.ensures.stop ∙ c.stop_of-stop.ensures;
+          ∙ run_shown shown traps conf file made.entries c.in_ok-made.made.log.items booted state stop (ap (λ (s : State). s.made) boots.1.state_is)
+          (ap (λ (s : State). s.conf) boots.1.state_is ∙ boots.1.conf_is) (run_leads made.drives) (made.last_are ∙ ap (λ n. keep_last n made.entries) room)
+          ∙ ap (λ lines. summary_text lines log state stop shown) made.lines_are
+          ∙ ap (λ (stop : RunStop). summary_text (told_traps c.args.task.run.traps booted (events_of made.entries)) log state stop shown) (sym c.in_ok-done.ensures.stop);
+      stop_is = c.in_ok-done.ensures.stop ∙ made.stop_is;
     }
 
 pub returns-in_err-file-clause-asks : goal.returns-in_err-file-clause-asks
@@ -93,13 +94,13 @@ returns-in_err-log-clause-asks g c =
     let all = asks_both image keys (asked c.args.files.now) (asked c.read_image.new.files) (asked c.read_keys.new.files) c.in_ok-file.ensures.asks c.in_ok-keys.ensures.asks in
     asks_err c.from_residual-in_err-log.result c.from_residual-in_err-log.ensures.1 (after_all (image ++ keys) (asked c.args.files.now) (asked c.read_keys.new.files) Memory all tt)
 
-pub returns-in_err-driven-clause-asks : goal.returns-in_err-driven-clause-asks
-returns-in_err-driven-clause-asks g c =
+pub returns-in_err-made-clause-asks : goal.returns-in_err-made-clause-asks
+returns-in_err-made-clause-asks g c =
     let asked = g.F.FileSource.asked in
     let image = image_files c.args.task.run.image.now in
     let keys = option_files c.args.task.drive.keys in
     let all = asks_both image keys (asked c.args.files.now) (asked c.read_image.new.files) (asked c.read_keys.new.files) c.in_ok-file.ensures.asks c.in_ok-keys.ensures.asks in
-    asks_err c.from_residual-in_err-driven.result c.from_residual-in_err-driven.ensures.1 (after_all (image ++ keys) (asked c.args.files.now) (asked c.read_keys.new.files) Memory all tt)
+    asks_err c.from_residual-in_err-made.result c.from_residual-in_err-made.ensures.1 (after_all (image ++ keys) (asked c.args.files.now) (asked c.read_keys.new.files) Memory all tt)
 
 pub returns-in_err-done-clause-asks : goal.returns-in_err-done-clause-asks
 returns-in_err-done-clause-asks g c =

@@ -1,8 +1,7 @@
-use Rattle.std.proofs.Common.{◌≡◌, ◌∙◌, ◌≤◌, ◌+◌, ap, arith, length, refl, rules, subst, sym, Some, Option, ℕ, List, None}
+use Rattle.std.proofs.Common.{◌≡◌, ◌∙◌, ◌+◌, ap, arith, length, refl, rules, subst, sym, List}
 use Rattle.std.proofs.lemmas.List.{length-drop}
 use Rattle.m161_drive.specs.Drive.{IsNoted}
 use Rattle.m161_machine.specs.declared.event.Entry.{Entry}
-use Rattle.m161_machine.specs.declared.event.Refusal.{Refusal}
 use Rattle.s161_run.specs.Runs.{MakesEvents, stop_off}
 use Rattle.s161_run.specs.declared.events.RunStop.{RunStop}
 use Rattle.s161_run.specs.declared.events.RunStop.TheVariants.{End, Refused}

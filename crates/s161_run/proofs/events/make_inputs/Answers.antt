@@ -1,4 +1,4 @@
-use Rattle.std.proofs.Common.{◌≡◌, ◌+◌, ◌<◌, length, slice_set, sym, subst, take, arith}
+use Rattle.std.proofs.Common.{◌<◌, length, sym, subst, take, arith}
 use Rattle.std.proofs.lemmas.List.{length-set}
 use Rattle.s161_run.specs.helpers.Events.{MakesOf}
 use Rattle.s161_run.proofs.Making.{of_one_more, set_more}

@@ -1,9 +1,10 @@
-use Rattle.std.proofs.Common.{◌≡◌, ◌∙◌, List, ℕ, Err, IfSome, ap, rules, subst, sym}
+use Rattle.std.proofs.Common.{◌≡◌, ◌∙◌, List, ℕ, Err, IfSome, ap, rules, string_bytes, subst, sym}
 use Rattle.std.proofs.lemmas.Result.{err_from_is_err_and}
 use Rattle.s161_base.proofs.Asking.{after_all, alone_unread, asks_err, before_input, boot_is_none, input_is_none, none_before, says_err, schedule_is_none}
 use Rattle.s161_base.specs.Asked.{IsBeforeInput, image_files}
 use Rattle.s161_base.specs.declared.fault.Fault.TheVariants.{Memory}
-use Rattle.m161_machine.specs.History.{BootsState, boot_fault}
+use Rattle.circular_buffer.specs.Buffer.{keep_last}
+use Rattle.m161_machine.specs.History.{BootsState, boot_fault, events_of}
 use Rattle.m161_machine.specs.State.{State}
 use Rattle.m161_machine.specs.declared.conf.Conf.{Conf}
 use Rattle.s161_base.specs.Faults.{BootsIn, fault_of_boot}
@@ -13,17 +14,15 @@ use Rattle.s161_base.specs.Known.{IsText}
 use Rattle.s161_base.specs.Samples.{image_file}
 use Rattle.s161_base.specs.Sizes.{conf_of}
 use Rattle.s161_run.specs.declared.events.RunStop.{RunStop}
-use Rattle.s161_run.specs.Runs.{IsFaultOf, MakesEvents, log_of_run, summary_text}
+use Rattle.s161_run.specs.Runs.{IsFaultOf, MakesEvents, log_of_run, summary_text, told_traps}
 use Rattle.s161_run.specs.helpers.Shown.{room_of}
-use Rattle.s161_run.proofs.Logging.{kept_fit, logged, run_shown}
+use Rattle.s161_run.proofs.Logging.{kept_fit, run_shown}
 use Rattle.s161_run.proofs.run.run.Goals as goal
 
 pub finish_run-requires : goal.finish_run-requires
 finish_run-requires g c =
-    let made = c.in_ok-stop.ensures in
-    let room = room_of c.args.task.shown c.conf_of-conf.result.log in
-    kept_fit room made.0 c.make_events.new.notes.items c.in_ok-core.core.state c.make_events.new.core.state made.1.leads
-    (logged room c.in_ok-log.log c.make_events.new.notes made.0 c.in_ok-log.ensures.0 c.in_ok-log.ensures.1 made.2)
+    let made = c.in_ok-made.ensures in
+    kept_fit c.in_ok-log.log.capacity made.entries c.in_ok-made.made.log.items c.in_ok-core.core.state c.make_scheduled.new.core.state made.makes.leads made.last_are
 
 pub returns-clause-ok : goal.returns-clause-ok
 returns-clause-ok g c =
@@ -36,7 +35,12 @@ returns-clause-ok g c =
     let booted = c.in_ok-core.core.state in
     let boots : BootsIn file conf booted =
     subst (λ conf. BootsIn file conf booted) c.conf_of-conf.ensures (state_booted file c.conf_of-conf.result (boot_fault file c.conf_of-conf.result) c.in_ok-core.core c.in_ok-core.ensures) in
-    let made = c.in_ok-stop.ensures in
+    let made = c.in_ok-made.ensures in
+    let state = c.make_scheduled.new.core.state in
+    let stop = c.in_ok-made.made.stop in
+    let shown = c.args.task.shown in
+    let traps = string_bytes c.in_ok-made.made.traps in
+    let room : c.in_ok-log.log.capacity ≡ room_of shown conf.log = c.in_ok-log.ensures.0 ∙ ap (λ (x : Conf). room_of shown x.log) c.conf_of-conf.ensures in
     record {
       file = file;
       is_file = subst R (sym c.as_slice-image.ensures.value) c.in_ok-file.ensures.whole;
@@ -47,16 +51,16 @@ returns-clause-ok g c =
       is_text = subst IsText (sym c.as_str.ensures.value) c.in_ok-schedule.schedule.ok;
       events = c.in_ok-events.events;
       is_schedule = c.in_ok-events.ensures.found;
-      entries = made.0;
-      state = c.make_events.new.core.state;
-      makes = subst (λ stop. MakesEvents booted c.in_ok-events.events stop made.0 c.make_events.new.core.state) (sym c.in_ok-done.ensures.stop) made.1;
+      entries = made.entries;
+      state = state;
+      makes = subst (λ stop. MakesEvents booted c.in_ok-events.events stop made.entries state) (sym c.in_ok-done.ensures.stop) made.makes;
       text_is =
           c.in_ok-done.ensures.text
-          ∙ run_shown c.args.task.shown conf file made.0 c.make_events.new.notes.items booted c.make_events.new.core.state c.in_ok-stop.stop
-          (ap (λ (s : State). s.made) boots.1.state_is) (ap (λ (s : State). s.conf) boots.1.state_is ∙ boots.1.conf_is) made.1.leads
-          (logged (room_of c.args.task.shown conf.log) c.in_ok-log.log c.make_events.new.notes made.0
-          (c.in_ok-log.ensures.0 ∙ ap (λ (x : Conf). room_of c.args.task.shown x.log) c.conf_of-conf.ensures) c.in_ok-log.ensures.1 made.2)
-          ∙ ap (λ (stop : RunStop). summary_text (log_of_run conf file made.0) c.make_events.new.core.state stop c.args.task.shown) (sym c.in_ok-done.ensures.stop);
+          ∙ run_shown shown traps conf file made.entries c.in_ok-made.made.log.items booted state stop (ap (λ (s : State). s.made) boots.1.state_is)
+          (ap (λ (s : State). s.conf) boots.1.state_is ∙ boots.1.conf_is) made.makes.leads (made.last_are ∙ ap (λ n. keep_last n made.entries) room)
+          ∙ ap (λ lines. summary_text lines (log_of_run conf file made.entries) state stop shown) made.lines_are
+          ∙ ap (λ (stop : RunStop). summary_text (told_traps c.args.task.traps booted (events_of made.entries)) (log_of_run conf file made.entries) state stop shown)
+          (sym c.in_ok-done.ensures.stop);
     }
 
 pub returns-in_err-events-clause-fault : goal.returns-in_err-events-clause-fault
@@ -143,16 +147,16 @@ pub returns-in_err-log-clause-unread : goal.returns-in_err-log-clause-unread
 returns-in_err-log-clause-unread g c =
     says_err (λ fault. IsBeforeInput fault (g.I.Read.remaining c.args.input.now) (g.I.Read.remaining c.read_input.new.input)) c.from_residual-in_err-log.result c.from_residual-in_err-log.ensures.1 (none_before Memory (g.I.Read.remaining c.args.input.now) (g.I.Read.remaining c.read_input.new.input) tt)
 
-pub returns-in_err-stop-clause-asks : goal.returns-in_err-stop-clause-asks
-returns-in_err-stop-clause-asks g c =
+pub returns-in_err-made-clause-asks : goal.returns-in_err-made-clause-asks
+returns-in_err-made-clause-asks g c =
     let asked = g.F.FileSource.asked in
-    asks_err c.from_residual-in_err-stop.result c.from_residual-in_err-stop.ensures.1
+    asks_err c.from_residual-in_err-made.result c.from_residual-in_err-made.ensures.1
     (after_all (image_files c.args.task.image.now) (asked c.args.files.now) (asked c.read_image.new.files) Memory c.in_ok-file.ensures.asks
     tt)
 
-pub returns-in_err-stop-clause-unread : goal.returns-in_err-stop-clause-unread
-returns-in_err-stop-clause-unread g c =
-    says_err (λ fault. IsBeforeInput fault (g.I.Read.remaining c.args.input.now) (g.I.Read.remaining c.read_input.new.input)) c.from_residual-in_err-stop.result c.from_residual-in_err-stop.ensures.1 (none_before Memory (g.I.Read.remaining c.args.input.now) (g.I.Read.remaining c.read_input.new.input) tt)
+pub returns-in_err-made-clause-unread : goal.returns-in_err-made-clause-unread
+returns-in_err-made-clause-unread g c =
+    says_err (λ fault. IsBeforeInput fault (g.I.Read.remaining c.args.input.now) (g.I.Read.remaining c.read_input.new.input)) c.from_residual-in_err-made.result c.from_residual-in_err-made.ensures.1 (none_before Memory (g.I.Read.remaining c.args.input.now) (g.I.Read.remaining c.read_input.new.input) tt)
 
 pub returns-in_err-done-clause-asks : goal.returns-in_err-done-clause-asks
 returns-in_err-done-clause-asks g c =

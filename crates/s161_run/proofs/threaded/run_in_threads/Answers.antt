@@ -1,7 +1,7 @@
 use Rattle.std.proofs.Common.{refl, ◌≡◌, ◌∙◌, ap, sym, subst, ℕ, List, None, replicate, IfSome}
 use Rattle.std.proofs.lemmas.Result.{err_from_is_err_and}
 use Rattle.m161_machine.specs.declared.conf.Conf.{Conf}
-use Rattle.m161_machine.specs.History.{Start, boot_fault}
+use Rattle.m161_machine.specs.History.{Start, boot_fault, events_of}
 use Rattle.m161_threads.specs.Runs.{Interleaves, bad_call}
 use Rattle.s161_base.proofs.Asking.{IsNoFile, after_all, alone_unread, asks_err, boot_is_none, memory_is_none}
 use Rattle.s161_base.specs.Asked.{image_files}
@@ -9,10 +9,10 @@ use Rattle.s161_base.specs.Faults.{BootsTo, fault_of_boot}
 use Rattle.s161_base.specs.Samples.{image_file}
 use Rattle.s161_base.specs.Sizes.{conf_of}
 use Rattle.s161_run.specs.declared.events.RunStop.{RunStop}
-use Rattle.s161_run.specs.Runs.{shown_log, summary_text}
+use Rattle.s161_run.specs.Runs.{shown_log, summary_text, told_traps}
 use Rattle.s161_run.specs.Threads.{IsThreadsFault, stop_of}
 use Rattle.s161_run.specs.helpers.Threads.{number_of}
-use Rattle.s161_run.proofs.Threading.{booted_clear, booted_ok, failed_booted}
+use Rattle.s161_run.proofs.Threading.{based, booted_clear, booted_ok, failed_booted}
 use Rattle.s161_run.proofs.threaded.run_in_threads.Goals as goal
 
 pub returns-clause-ok : goal.returns-clause-ok
@@ -28,6 +28,9 @@ returns-clause-ok g c =
     let report = c.in_ok-report.report in
     let ran = c.in_ok-report.ensures.ok in
     let same : report.machine.start.conf ≡ conf = ap (λ (x : Start). x.conf) ran.interleaves.start_is ∙ is_booted.conf_is in
+    let traps = told_traps c.args.task.run.traps report.machine.base (events_of report.machine.log) in
+    let ran_all : Interleaves booted (replicate conf.processors c.args.task.quota) report.counts.items report.off report.machine =
+    subst (λ (n : ℕ). Interleaves booted (replicate n c.args.task.quota) report.counts.items report.off report.machine) number ran.interleaves in
     record {
       file = file;
       is_file = subst R (sym c.as_slice-image.ensures.value) c.in_ok-file.ensures.whole;
@@ -37,12 +40,14 @@ returns-clause-ok g c =
       made = report.counts.items;
       off = report.off;
       machine = report.machine;
-      interleaves = subst (λ (n : ℕ). Interleaves booted (replicate n c.args.task.quota) report.counts.items report.off report.machine) number ran.interleaves;
+      interleaves = ran_all;
+      from_boot = based conf.processors c.args.task.quota conf.log booted report.machine report.counts.items report.off is_booted.state_is
+          (ap (λ (x : Conf). x.log) is_booted.conf_is) ran_all c.in_ok-report.ensures.last;
       text_is =
           c.in_ok-done.ensures.text
-          ∙ ap (λ (conf : Conf). summary_text (shown_log conf file report.machine.base.made report.machine.log) report.machine.state
+          ∙ ap (λ (conf : Conf). summary_text traps (shown_log conf file report.machine.base.made report.machine.log) report.machine.state
           (stop_of report.off report.machine.state.conflict) c.args.task.run.shown) same
-          ∙ ap (λ (stop : RunStop). summary_text (shown_log conf file report.machine.base.made report.machine.log) report.machine.state stop c.args.task.run.shown)
+          ∙ ap (λ (stop : RunStop). summary_text traps (shown_log conf file report.machine.base.made report.machine.log) report.machine.state stop c.args.task.run.shown)
           (sym c.in_ok-done.ensures.stop);
       stop_is = c.in_ok-done.ensures.stop;
     }

@@ -1,0 +1,34 @@
+use Rattle.std.specs.Prelude.{◌≡◌, ℕ, Bool, List}
+use Rattle.circular_buffer.specs.Buffer.{keep_last}
+use Rattle.m161_drive.specs.Drive.{Drives}
+use Rattle.m161_drive.specs.declared.run.Driven.{Driven}
+use Rattle.m161_machine.specs.History.{events_of}
+use Rattle.m161_machine.specs.State.{State}
+use Rattle.m161_machine.specs.declared.event.Entry.{Entry}
+use Rattle.m161_machine.specs.declared.event.Event.{Event}
+use Rattle.s161_command.specs.declared.drive.Drive.{Drive}
+use Rattle.s161_run.specs.Driven.{rules_of, stop_of}
+use Rattle.s161_run.specs.Runs.{MakesEvents, told_traps}
+use Rattle.s161_run.specs.declared.events.RunStop.{RunStop}
+
+-- What is kept of the events of a run: the last entries, and the lines of their traps.
+
+-- the first events of a schedule were made
+pub record IsMade
+    (s : State) (events : List Event) (room : ℕ) (counted : Bool) (t : State) (stop : RunStop)
+    (last : List Entry) (lines : List ℕ) : Type 0 where
+  pub entries : List Entry
+  pub makes : MakesEvents s events stop entries t
+  pub last_are : last ≡ keep_last room entries
+  pub lines_are : lines ≡ told_traps counted s (events_of entries)
+
+-- the events were made that a policy chose
+pub record IsDrivenMade
+    (options : Drive) (keys : List ℕ) (s : State) (room : ℕ) (counted : Bool) (t : State)
+    (stop : RunStop) (last : List Entry) (lines : List ℕ) : Type 0 where
+  pub driven : Driven
+  pub entries : List Entry
+  pub drives : Drives (rules_of options keys) options.events s driven entries t
+  pub stop_is : stop ≡ stop_of driven t
+  pub last_are : last ≡ keep_last room entries
+  pub lines_are : lines ≡ told_traps counted s (events_of entries)

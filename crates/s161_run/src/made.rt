@@ -1,0 +1,191 @@
+//! The events of a run, made with what is kept of them: its log, and its traps where they are counted.
+
+ghost use Rattle.std.specs.Prelude.{◌≡◌, [], IfOk, None, string_bytes, true};
+ghost use Rattle.m161_machine.specs.History.{events_of};
+ghost use Rattle.m161_order.specs.Order.{order_fault};
+ghost use Rattle.m161_traps.specs.Shown.{traps_text};
+ghost use Rattle.m161_traps.specs.Traps.{trap_lines};
+ghost use Rattle.s161_run.specs.Runs.{told_traps};
+ghost use Rattle.s161_run.specs.helpers.Made.{IsDrivenMade, IsMade};
+
+use crate::driven::stop_of;
+use crate::events::{RunStop, make_events};
+use crate::policy::make_driven;
+use crate::schedule::events_made;
+use circular_buffer::HeapCircularBuffer;
+use m161::{Core, Machine};
+use m161_drive::Notes;
+use m161_machine::{Event, Events, PackedEntry};
+use m161_traps::{find_traps, show_traps};
+use s161_command::Drive;
+use std::alloc::{AllocError, Global};
+
+/// Events that were made.
+#[derive(Drop)]
+pub(crate) struct Made {
+    /// Why no more were.
+    pub(crate) stop: RunStop,
+    /// The last entries, as many as there is room for.
+    pub(crate) log: HeapCircularBuffer<PackedEntry>,
+    /// The lines of the traps; empty where they aren't counted.
+    pub(crate) traps: String,
+}
+
+// The last entries, and all events.
+#[derive(Drop)]
+struct Kept {
+    log: HeapCircularBuffer<PackedEntry>,
+    events: Vec<Event>,
+}
+
+impl Notes for Kept {
+    ghost use Rattle.std.specs.Prelude.{◌≡◌};
+    ghost use Rattle.circular_buffer.specs.Buffer.{keep_last};
+    ghost use Rattle.m161_machine.specs.History.{events_of};
+
+    ghost has = { λ room kept so_far. (kept.log.capacity ≡ room) × (kept.log.items ≡ keep_last room so_far)
+        × (kept.events.items ≡ events_of so_far) };
+
+    fn add(&mut self, entries: &[PackedEntry]) -> Result<(), AllocError> {
+        self.log.add(entries)?;
+        self.events.add(entries)?;
+        Ok(())
+    }
+}
+
+// The lines of the traps of events that are made on a machine.
+fn lines_of(alloc: Global, core: &mut Core, events: &[Event]) -> Result<String, AllocError>
+    ensures { IfOk result (λ text. string_bytes text
+        ≡ traps_text (trap_lines core.old.state events.now)) }
+{
+    let lines = find_traps(alloc, core, events)?;
+    show_traps(alloc, &lines)
+}
+
+/// Makes the events of a schedule, until one switches the machine off or is refused. Keeps the last
+/// entries in this log, which is empty, and counts the traps if it is told to.
+///
+/// # Errors
+/// Memory was refused.
+pub(crate) fn make_scheduled(
+    alloc: Global,
+    core: &mut Core,
+    events: &Events,
+    log: HeapCircularBuffer<PackedEntry>,
+    traps: bool,
+) -> Result<Made, AllocError>
+    requires { log.items ≡ [] }
+    ensures { IfOk result (λ made. IsMade core.old.state events.now log.capacity traps core.new.state
+        made.stop made.log.items (string_bytes made.traps)) }
+{
+    if traps {
+        return count_scheduled(alloc, core, events, log);
+    }
+    let mut log = log;
+    let stop = make_events(core, events, &mut log)?;
+    Ok(Made {
+        stop,
+        log,
+        traps: String::new(alloc),
+    })
+}
+
+// The same, and counts the traps: of the same events, made again on a copy of the machine.
+fn count_scheduled(
+    alloc: Global,
+    core: &mut Core,
+    events: &Events,
+    log: HeapCircularBuffer<PackedEntry>,
+) -> Result<Made, AllocError>
+    requires { log.items ≡ [] }
+    ensures { IfOk result (λ made. IsMade core.old.state events.now log.capacity true core.new.state
+        made.stop made.log.items (string_bytes made.traps)) }
+{
+    let mut first = core.copy(alloc)?;
+    let mut kept = Kept {
+        log,
+        events: Vec::new(alloc),
+    };
+    let stop = make_events(core, events, &mut kept)?;
+    let Kept { log, events } = kept;
+    let traps = lines_of(alloc, &mut first, &events)?;
+    Ok(Made { stop, log, traps })
+}
+
+/// Makes the events that the options' policy chooses, and keeps and counts the same of them.
+///
+/// # Errors
+/// Memory was refused.
+pub(crate) fn make_chosen(
+    alloc: Global,
+    core: &mut Core,
+    options: Drive<'_>,
+    keys: &[u8],
+    log: HeapCircularBuffer<PackedEntry>,
+    traps: bool,
+) -> Result<Made, AllocError>
+    requires order { order_fault options.order ≡ None }
+    requires empty { log.items ≡ [] }
+    ensures { IfOk result (λ made. IsDrivenMade options.entry keys.now core.old.state log.capacity traps
+        core.new.state made.stop made.log.items (string_bytes made.traps)) }
+{
+    if traps {
+        return count_chosen(alloc, core, options, keys, log);
+    }
+    let mut log = log;
+    let driven = make_driven(core, options, keys, &mut log)?;
+    Ok(Made {
+        stop: stop_of(driven, core),
+        log,
+        traps: String::new(alloc),
+    })
+}
+
+// The same, and counts the traps.
+fn count_chosen(
+    alloc: Global,
+    core: &mut Core,
+    options: Drive<'_>,
+    keys: &[u8],
+    log: HeapCircularBuffer<PackedEntry>,
+) -> Result<Made, AllocError>
+    requires order { order_fault options.order ≡ None }
+    requires empty { log.items ≡ [] }
+    ensures { IfOk result (λ made. IsDrivenMade options.entry keys.now core.old.state log.capacity true
+        core.new.state made.stop made.log.items (string_bytes made.traps)) }
+{
+    let mut first = core.copy(alloc)?;
+    let mut kept = Kept {
+        log,
+        events: Vec::new(alloc),
+    };
+    let driven = make_driven(core, options, keys, &mut kept)?;
+    let Kept { log, events } = kept;
+    let traps = lines_of(alloc, &mut first, &events)?;
+    Ok(Made {
+        stop: stop_of(driven, core),
+        log,
+        traps,
+    })
+}
+
+/// The lines of the traps of a machine's log, made again from the log's base, where they are counted.
+///
+/// # Errors
+/// Memory was refused.
+pub(crate) fn traps_of_log(
+    alloc: Global,
+    machine: &Machine,
+    traps: bool,
+) -> Result<String, AllocError>
+    ensures { IfOk result (λ text. string_bytes text
+        ≡ told_traps traps machine.now.base (events_of machine.now.log)) }
+{
+    if !traps {
+        return Ok(String::new(alloc));
+    }
+    let mut base = machine.base().copy(alloc)?;
+    let entries = machine.copy_log(alloc)?;
+    let events = events_made(alloc, &entries)?;
+    lines_of(alloc, &mut base, &events)
+}
