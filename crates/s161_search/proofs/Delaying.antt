@@ -1,5 +1,5 @@
 use Rattle.std.proofs.Common.{◌≡◌, ◌⊎◌, inl, inr, refl, ap, sym, subst, ℕ, ◌<◌, ◌≤◌, Bool, List, [], ◌∷◌, length, arith}
-use Rattle.std.specs.Prelude.{IfErr, IfOk, Option, None, Some, Result, Ok, Err, slice_get}
+use Rattle.std.specs.Prelude.{IfErr, IfOk, Some, Result, Ok, Err, slice_get}
 use Rattle.m161_delays.specs.declared.search.Class.{Class}
 use Rattle.m161_delays.specs.Lists.{ComesBefore, IsAscendingFrom, IsOf}
 use Rattle.m161_delays.specs.Runs.{IsUsefulOf}
@@ -10,7 +10,7 @@ use Rattle.m161_delays.specs.declared.search.Searched.TheVariants.{Clean, Wrong}
 use Rattle.m161_delays.proofs.Counting.{right_among}
 use Rattle.m161_delays.proofs.Members.{below_part, from_part}
 use Rattle.m161_drive.specs.Choice.{cursor_at}
-use Rattle.m161_machine.specs.History.{IsBootState, boot_fault}
+use Rattle.m161_machine.specs.History.{IsBootState}
 use Rattle.m161_machine.specs.State.{State}
 use Rattle.m161_order.specs.declared.delays.Delays.{Delays}
 use Rattle.m161_order.specs.declared.order.Order.{Order}

@@ -1,4 +1,4 @@
-use Rattle.std.proofs.Common.{ℕ, List, Option, None, Some, Ok, Err, subst}
+use Rattle.std.proofs.Common.{ℕ, List, Option, Ok, Err, subst}
 use Rattle.std.specs.Prelude.{IfOk, Result}
 use Rattle.s161_base.specs.declared.fault.Fault.{Fault}
 use Rattle.s161_base.specs.declared.finished.Finished.{Finished}

@@ -25,6 +25,7 @@ use Rattle.s161_run.specs.Driven.{rules_of}
 use Rattle.m161_judge.specs.declared.verdict.Verdict.{Verdict}
 use Rattle.m161_judge.specs.declared.verdict.Verdict.TheVariants.{Stale, Reached, Conflict, Stuck, Output, End}
 use Rattle.m161_judge.specs.Verdict.{Criteria, IsJudged, rank}
+use Rattle.m161_reach.specs.Hangs.{HangingAreMade}
 use Rattle.m161_states.specs.Question.{Question}
 use Rattle.m161_drive.specs.Policy.{Rules}
 use Rattle.m161_machine.specs.declared.conf.BootError.{BootError}
@@ -145,7 +146,7 @@ left_printed task given events judged last printed cut one part short verdict h 
       are_printed = subst (λ b. ArePrinted b task given events (told_of judged) printed.events.items) (sym part) short;
       final = told_of last;
       verdict_is = verdict;
-      is_told = (again.0, again.1, again.2, inl (omega (arith, same_kind, low)));
+      is_told = (again.0, again.1, (again.2, inl (omega (arith, same_kind, low))));
       same_kind = same_kind;
     }
 
@@ -184,37 +185,37 @@ short_as task given s fs es gs k r begins same kind h =
 judged_of : (task : SearchTask) (given : Given) (order : Order) (run : JudgedRun) → IsRunOf task given order run → IsJudgedAt task given run.events.items run.judged
 judged_of task given order run is = (is.booted, is.is_booted, is.judged)
 
-right_told : (s : State) (q : Question) (task : SearchTask) (given : Given) (order : Order) (run : JudgedRun) → Begins task given s q → IsRunOf task given order run →
+right_told : HangingAreMade → (s : State) (q : Question) (task : SearchTask) (given : Given) (order : Order) (run : JudgedRun) → Begins task given s q → IsRunOf task given order run →
     TellsOf task.hung q run.events.items run.judged None → IsToldAt task given run.events.items None
-right_told s q task given order run begins is of = told_at task given s q run.events.items run.judged None begins (judged_of task given order run is) of
+right_told law s q task given order run begins is of = told_at law task given s q run.events.items run.judged None begins (judged_of task given order run is) of
 
-wrong_told : (s : State) (q : Question) (task : SearchTask) (given : Given) (order : Order) (run : JudgedRun) (wrong : WrongRun) → Begins task given s q →
+wrong_told : HangingAreMade → (s : State) (q : Question) (task : SearchTask) (given : Given) (order : Order) (run : JudgedRun) (wrong : WrongRun) → Begins task given s q →
     IsRunOf task given order run → wrong.run ≡ run → TellsOf task.hung q run.events.items run.judged (Some wrong.told) →
     IsToldAt task given wrong.run.events.items (Some wrong.told)
-wrong_told s q task given order run wrong begins is same of =
+wrong_told law s q task given order run wrong begins is same of =
     subst (λ (r : JudgedRun). IsToldAt task given r.events.items (Some wrong.told)) (sym same)
-    (told_at task given s q run.events.items run.judged (Some wrong.told) begins (judged_of task given order run is) of)
+    (told_at law task given s q run.events.items run.judged (Some wrong.told) begins (judged_of task given order run is) of)
 
-pub seed_judged : (s : State) (q : Question) (task : SearchTask) (given : Given) (k : ℕ) (run : JudgedRun) (tested : Tested WrongRun) →
+pub seed_judged : HangingAreMade → (s : State) (q : Question) (task : SearchTask) (given : Given) (k : ℕ) (run : JudgedRun) (tested : Tested WrongRun) →
     IsRunFrom s task given (with_seed (seed_at task.drive.order k) task.drive.order) run → IsTested task.hung q run tested →
     IsJudgedTrial (IsSeedRightFrom s q task given k) (IsSeedWrongFrom s q task given k) tested
-seed_judged s q task given k run (Right is_cut) is h = λ begins.
-    (run, is begins.boots, right_told s q task given (with_seed (seed_at task.drive.order k) task.drive.order) run begins (is begins.boots) h.0, h.1)
-seed_judged s q task given k run (Wrong wrong) is h = λ begins. (
+seed_judged law s q task given k run (Right is_cut) is h = λ begins.
+    (run, is begins.boots, right_told law s q task given (with_seed (seed_at task.drive.order k) task.drive.order) run begins (is begins.boots) h.0, h.1)
+seed_judged law s q task given k run (Wrong wrong) is h = λ begins. (
   subst (IsRunAt task given k) (sym h.0) (is begins.boots),
-  wrong_told s q task given (with_seed (seed_at task.drive.order k) task.drive.order) run wrong begins (is begins.boots) h.0 h.1,
+  wrong_told law s q task given (with_seed (seed_at task.drive.order k) task.drive.order) run wrong begins (is begins.boots) h.0 h.1,
 )
 
-pub list_judged : (s : State) (q : Question) (task : SearchTask) (given : Given) (steps : ℕ) (delays : Delays) (run : JudgedRun) (tested : Tested WrongRun) →
+pub list_judged : HangingAreMade → (s : State) (q : Question) (task : SearchTask) (given : Given) (steps : ℕ) (delays : Delays) (run : JudgedRun) (tested : Tested WrongRun) →
     IsRunFrom s task given (Delayed steps delays) run → IsTested task.hung q run tested →
     IsJudgedTrial (IsRightFrom s q task given steps (delays_of delays)) (IsWrongFrom s q task given steps (delays_of delays)) tested
-list_judged s q task given steps delays run (Right is_cut) is h = λ begins.
-    (delays, run, refl, is begins.boots, right_told s q task given (Delayed steps delays) run begins (is begins.boots) h.0, h.1)
-list_judged s q task given steps delays run (Wrong wrong) is h = λ begins. (
+list_judged law s q task given steps delays run (Right is_cut) is h = λ begins.
+    (delays, run, refl, is begins.boots, right_told law s q task given (Delayed steps delays) run begins (is begins.boots) h.0, h.1)
+list_judged law s q task given steps delays run (Wrong wrong) is h = λ begins. (
   delays,
   refl,
   subst (IsRunOf task given (Delayed steps delays)) (sym h.0) (is begins.boots),
-  wrong_told s q task given (Delayed steps delays) run wrong begins (is begins.boots) h.0 h.1,
+  wrong_told law s q task given (Delayed steps delays) run wrong begins (is begins.boots) h.0 h.1,
 )
 
 -- what came of the seeds

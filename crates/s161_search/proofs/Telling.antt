@@ -1,29 +1,25 @@
-use Rattle.std.proofs.Common.{◌≡◌, ◌∙◌, ◌⊎◌, inl, inr, refl, ap, sym, subst, ℕ, ◌<◌, ◌≤◌, arith, Bool, true, false, List, length, take, Option, None, Some}
-use Rattle.std.specs.Prelude.{◌==◌, nat_lt, if◌then◌else◌, option_map}
-use Rattle.std.proofs.lemmas.Bool.{eqb-true}
+use Rattle.std.proofs.Common.{◌≡◌, ◌∙◌, ◌⊎◌, inl, inr, refl, ap, sym, subst, ℕ, zero, suc, ◌<◌, arith, true, false, List, [], ◌∷◌, take, Option, None, Some, Result, Ok, Err}
+use Rattle.std.specs.Prelude.{◌==◌, nat_lt, if◌then◌else◌, option_map, slice_get}
 use Rattle.std.proofs.lemmas.Bool.Decides.{nat_tests}
-use Rattle.std.proofs.lemmas.List.{take_all}
+use Rattle.std.proofs.lemmas.Option.{slice_get_within}
+use Rattle.m161_cpu.specs.declared.processor.Outcome.{Outcome}
 use Rattle.m161_judge.specs.declared.verdict.Judged.{Judged}
 use Rattle.m161_judge.specs.declared.verdict.Verdict.{Verdict}
 use Rattle.m161_judge.specs.declared.verdict.Verdict.TheVariants.{End}
 use Rattle.m161_judge.specs.Laws.{FirstIsNoWorse}
-use Rattle.m161_judge.specs.Verdict.{Criteria, Holds, IsJudged, IsRefused, after, rank}
-use Rattle.m161_judge.proofs.Judging.{none_refused}
-use Rattle.m161_judge.proofs.Walking.{ends_all}
+use Rattle.m161_judge.specs.Verdict.{Criteria, IsJudged, IsRefused, after, going_on, rank}
 use Rattle.m161_machine.specs.declared.event.Event.{Event}
-use Rattle.m161_machine.specs.History.{boot_fault, boot_state}
-use Rattle.m161_machine.specs.State.{State}
+use Rattle.m161_machine.specs.declared.event.Refusal.{Refusal}
+use Rattle.m161_machine.specs.History.{boot_state}
+use Rattle.m161_machine.specs.State.{State, next}
 use Rattle.m161_reach.specs.From.{asked_of, no_time, with_known}
 use Rattle.m161_reach.specs.Hangs.{CutKeepsHang, HangFirst, HangingAreMade, NeverHang}
 use Rattle.m161_reach.specs.Reach.{CanBeAsked, start_in}
-use Rattle.m161_reach.proofs.Naming.{named_are_made}
-use Rattle.m161_reach.proofs.Numbering.{hanging_are_made}
 use Rattle.m161_shorten.specs.declared.judged.Judgement.{Judgement}
 use Rattle.m161_shorten.specs.Passes.{Shortens}
 use Rattle.m161_shorten.specs.Verdicts.{AreNeeded}
 use Rattle.m161_shorten.proofs.Alike.{shortens_by}
 use Rattle.m161_states.specs.Question.{Question, booted, least}
-use Rattle.m161_states.proofs.Followed.{fresh_is_same}
 use Rattle.s161_base.specs.Sizes.{conf_of}
 use Rattle.s161_command.specs.declared.task.SearchTask.{SearchTask}
 use Rattle.s161_search.specs.declared.found.Printed.{Printed}
@@ -31,9 +27,10 @@ use Rattle.s161_search.specs.declared.told.SearchVerdict.{SearchVerdict}
 use Rattle.s161_search.specs.declared.told.SearchVerdict.TheVariants.{Run, Hung}
 use Rattle.s161_search.specs.declared.told.Told.{Told}
 use Rattle.s161_search.specs.Given.{Given, criteria_of}
-use Rattle.s161_search.specs.Searches.{ArePrinted, HasHang, IsJudgedAt, hang_of, hang_with, is_whole, kind_number}
+use Rattle.s161_search.specs.Searches.{ArePrinted, HasHang, IsJudgedAt, hang_of, hang_with, is_whole}
 use Rattle.s161_search.specs.Told.{Hang, HangNot, IsTold, IsToldAt, NoneBefore, ends_of}
-use Rattle.s161_search.specs.helpers.Telling.{Begins, HasHangFrom, IsAsJudged, IsHang, TellsOf, comes_first, told_of}
+use Rattle.s161_search.specs.helpers.Begun.{IsJudgedFrom}
+use Rattle.s161_search.specs.helpers.Telling.{Begins, HasHangFrom, TellsOf, comes_first, told_of}
 use Rattle.s161_search.specs.helpers.Tried.{ArePrintedWith}
 use Rattle.s161_search.proofs.Booting.{booted_as_one, begins as starts}
 
@@ -41,22 +38,39 @@ use Rattle.s161_search.proofs.Booting.{booted_as_one, begins as starts}
 
 -- events that hang are accepted, from the state at boot on
 
-made_all : HangingAreMade
-made_all = hanging_are_made (named_are_made fresh_is_same)
-
-made : (goal : Criteria) (s : State) (few : ℕ) (events : List Event) (n : ℕ) → CanBeAsked s (ends_of goal) → HangFirst (asked_of s (ends_of goal)) few events n →
+made : HangingAreMade → (goal : Criteria) (s : State) (few : ℕ) (events : List Event) (n : ℕ) → CanBeAsked s (ends_of goal) → HangFirst (asked_of s (ends_of goal)) few events n →
     (t : State) × (after s events ≡ Some t)
-made goal s few events n can h =
+made law goal s few events n can h =
     let q = asked_of s (ends_of goal) in
-    let led = made_all q few events n h in
+    let led = law q few events n h in
     let same : boot_state (booted q) ≡ s = ap (λ b. boot_state (if b then start_in s else least)) can.can ∙ sym can.is_boot in
     (led.0, subst (λ x. after x events ≡ Some led.0) same led.1)
 
 -- so none of them is refused
+
+none_made : (t : State) → ◌≡◌ {A = Option State} None (Some t) → ⊥
+none_made t h = absurd (cc)
+
+steps_on : (t u : State) (xs : List Event) (k : ℕ) (r : Result (Outcome × State) Refusal) →
+    ((v : State) → after v xs ≡ Some t → after v (take k xs) ≡ Some u → ⊥) →
+    going_on r (λ v. after v xs) ≡ Some t → going_on r (λ v. after v (take k xs)) ≡ Some u → ⊥
+steps_on t u xs k (Ok given) rest all some = rest given.1 all some
+steps_on t u xs k (Err why) rest all some = none_made t all
+
+refused_not : (events : List Event) (k : ℕ) (s t u : State) (e : Event) (why : Refusal) → after s events ≡ Some t → slice_get events k ≡ Some e →
+    after s (take k events) ≡ Some u → next u e ≡ Err why → ⊥
+refused_not [] k s t u e why all at some refused =
+    let within = slice_get_within [] k e at in absurd (let bad : ⊥ = omega (arith, within) in bad)
+refused_not (x ∷ xs) zero s t u e why all at some refused =
+    let event : x ≡ e = cc in
+    let state : s ≡ u = cc in
+    let stops : next s x ≡ Err why = (λ i. next (state i) (event i)) ∙ refused in
+    none_made t (sym (ap (λ r. going_on r (λ v. after v xs)) stops) ∙ all)
+refused_not (x ∷ xs) (suc k) s t u e why all at some refused =
+    steps_on t u xs k (next s x) (λ v made first. refused_not xs k v t u e why made at first refused) all some
+
 not_refused : (s t : State) (events : List Event) → after s events ≡ Some t → IsRefused s events → ⊥
-not_refused s t events h =
-    let all : after s (take (length events) events) ≡ Some t = subst (λ es. after s es ≡ Some t) (sym (take_all (length events) events (omega arith))) h in
-    none_refused s events (length events) t (ends_all s events (length events) t (omega arith, all) refl)
+not_refused s t events h r = refused_not events r.place s t r.state r.event r.refusal h r.event_is r.leads.1 r.refused
 
 -- whether a verdict comes before
 
@@ -85,32 +99,44 @@ as_judged few goal s events None h (inl first) = absurd (let bad : false ≡ tru
 as_judged few goal s events None h (inr not) = (h, not)
 as_judged few goal s events (Some judged) h why = (h, first_or_not few goal s events judged.verdict why)
 
-asked_so : (few : ℕ) (goal : Criteria) (s : State) (q : Question) (events : List Event) (judged : Option Judged) → q ≡ asked_of s (ends_of goal) →
+asked_so : (few : ℕ) (goal : Criteria) (s : State) (q : Question) (events : List Event) (judged : Option Judged) → with_known no_time q ≡ asked_of s (ends_of goal) →
     (comes_first judged ≡ true) ⊎ ((few ≡ 0) ⊎ NeverHang (with_known no_time q) few events) → (comes_first judged ≡ true) ⊎ HangNot few goal s events
 asked_so few goal s q events judged asks (inl first) = inl first
 asked_so few goal s q events judged asks (inr (inl none)) = inr (inl none)
-asked_so few goal s q events judged asks (inr (inr never)) = inr (inr (subst (λ x. NeverHang (with_known no_time x) few events) asks never))
+asked_so few goal s q events judged asks (inr (inr never)) = inr (inr (subst (λ x. NeverHang x few events) asks never))
 
-tells : (few : ℕ) (goal : Criteria) (s : State) (q : Question) (events : List Event) (judged : Option Judged) (told : Option Told) →
-    CanBeAsked s (ends_of goal) → q ≡ asked_of s (ends_of goal) → IsJudged goal s events judged → TellsOf few q events judged told → IsTold few goal s events told
-tells few goal s q events judged told can asks h (inl same) =
+tells : HangingAreMade → (few : ℕ) (goal : Criteria) (s : State) (q : Question) (events : List Event) (judged : Option Judged) (told : Option Told) →
+    CanBeAsked s (ends_of goal) → with_known no_time q ≡ asked_of s (ends_of goal) → IsJudged goal s events judged → TellsOf few q events judged told → IsTold few goal s events told
+tells law few goal s q events judged told can asks h (inl same) =
     subst (IsTold few goal s events) (sym same.same) (as_judged few goal s events judged h (asked_so few goal s q events judged asks same.why))
-tells few goal s q events judged told can asks h (inr hang) =
-    let hangs : HangFirst (asked_of s (ends_of goal)) few events hang.n = subst (λ x. HangFirst (with_known no_time x) few events hang.n) asks hang.hangs in
-    let led = made goal s few events hang.n can hangs in
+tells law few goal s q events judged told can asks h (inr hang) =
+    let hangs : HangFirst (asked_of s (ends_of goal)) few events hang.n = subst (λ x. HangFirst x few events hang.n) asks hang.hangs in
+    let led = made law goal s few events hang.n can hangs in
     let all : Hang few goal s events hang.n = (hang.some, none_before goal s led.0 events judged led.1 hang.late h, hangs) in
     subst (IsTold few goal s events) (sym hang.is) all
 
-pub told_at : (task : SearchTask) (given : Given) (s : State) (q : Question) (events : List Event) (judged : Option Judged) (told : Option Told) →
+pub told_at : HangingAreMade → (task : SearchTask) (given : Given) (s : State) (q : Question) (events : List Event) (judged : Option Judged) (told : Option Told) →
     Begins task given s q → IsJudgedAt task given events judged → TellsOf task.hung q events judged told → IsToldAt task given events told
-told_at task given s q events judged told begins h of =
+told_at law task given s q events judged told begins h of =
     let boots = starts task given s begins.boots in
     let same = booted_as_one given.file (conf_of task.size) h.0 s h.1 boots in
     let goal = criteria_of given in (
       s,
       boots,
-      tells task.hung goal s q events judged told begins.can begins.asks (subst (λ x. IsJudged goal x events judged) same h.2) of,
+      tells law task.hung goal s q events judged told begins.can begins.asks (subst (λ x. IsJudged goal x events judged) same h.2) of,
     )
+
+-- the judge by hangs
+
+pub hang_judged : HangingAreMade → (s : State) (q : Question) (few : ℕ) (given : Given) (events es : List Event) (judged : Option Judged) (told : Option Told)
+    (verdict : Option (Judgement ℕ)) → es ≡ events → IsJudgedFrom s given es judged → TellsOf few q es judged told → verdict ≡ hang_of told →
+    HasHangFrom s q few given events verdict
+hang_judged law s q few given events es judged told verdict same h of is = λ task few_is begins. (
+  told,
+  subst (λ xs. IsToldAt task given xs told) same
+      (told_at law task given s q es judged told begins (h task begins.boots) (subst (λ n. TellsOf n q es judged told) (sym few_is) of)),
+  is,
+)
 
 -- what is cut behind the first events that hang hangs
 
@@ -132,7 +158,7 @@ hung_with : (task : SearchTask) (given : Given) (events : List Event) (kind need
     (kind ≡ 6) × IsToldAt task given events (Some (record { verdict = Hung; events = needs }))
 hung_with task given events kind needs (Run v) n h is = absurd (let bad : ◌≡◌ {A = Option (Judgement ℕ)} (Some (record { kind = kind; needs = needs })) None = is in cc)
 hung_with task given events kind needs Hung n h is =
-    let same : record { kind = kind; needs = needs } ≡ ◌:◌ (Judgement ℕ) (record { kind = 6; needs = n }) = cc in
+    let same : ◌≡◌ {A = Judgement ℕ} (record { kind = kind; needs = needs }) (record { kind = 6; needs = n }) = cc in
     (ap (λ (j : Judgement ℕ). j.kind) same, subst (λ k. IsToldAt task given events (Some (record { verdict = Hung; events = k }))) (sym (ap (λ (j : Judgement ℕ). j.needs) same)) h)
 
 hung_by : (task : SearchTask) (given : Given) (events : List Event) (kind needs : ℕ) (told : Option Told) → IsToldAt task given events told →

@@ -11,7 +11,7 @@ use crate::told::{SearchVerdict, Told, tell};
 use m161::{Console, Tlb};
 use m161_judge::{Booted, Judged, Verdict, judge_events};
 use m161_machine::Event;
-use m161_reach::Machines;
+use m161_reach::{Machines, hanging_are_made};
 use m161_shorten::{Judge, Judgement};
 use std::alloc::{AllocError, Global};
 
@@ -109,6 +109,8 @@ impl<'a> Judge for HangJudge<'a> {
 
     fn judge(&mut self, events: &[Event]) -> Result<Option<Judgement<u8>>, AllocError> {
         let judged = judge_again(self.alloc, self.booted, self.inputs, events)?;
+        // So that the proof knows that events which hang were all accepted.
+        hanging_are_made();
         Ok(hang_of(tell(self.alloc, self.ends, self.few, judged, events)?))
     }
 }

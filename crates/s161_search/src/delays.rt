@@ -21,7 +21,7 @@ use m161_delays::{Class, Delays, Runs, Searched, Tested, search_lists};
 use m161_drive::Policy;
 use m161_judge::Booted;
 use m161_order::Order;
-use m161_reach::Machines;
+use m161_reach::{Machines, hanging_are_made};
 use s161_base::fault::Fault;
 use s161_command::{DelayClass, SearchTask};
 use std::alloc::Global;
@@ -163,6 +163,8 @@ impl<'a, 'b> Runs for DelayedRuns<'a, 'b> {
             delays,
             point,
         )?;
+        // So that the proof knows that events which hang were all accepted.
+        hanging_are_made();
         Ok(tested(self.alloc, self.ends, self.task.hung, run)?)
     }
 

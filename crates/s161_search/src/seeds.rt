@@ -14,7 +14,7 @@ use m161::{Console, Tlb};
 use m161_jobs::{Tested, Trials, Tried, try_each};
 use m161_judge::Booted;
 use m161_order::Order;
-use m161_reach::Machines;
+use m161_reach::{Machines, hanging_are_made};
 use s161_base::fault::Fault;
 use s161_base::sizes::conf_of;
 use s161_command::SearchTask;
@@ -117,6 +117,8 @@ impl<'a, 'b> Trials for SeedRuns<'a, 'b> {
     fn judge(&self, place: u32) -> Result<Tested<WrongRun>, Fault<'a>> {
         let order = order_at(self.task.drive.order, place);
         let run = run_order(self.alloc, self.booted, self.task, self.inputs, order)?;
+        // So that the proof knows that events which hang were all accepted.
+        hanging_are_made();
         Ok(tested(self.alloc, self.ends, self.task.hung, run)?)
     }
 

@@ -44,11 +44,12 @@ pub record IsHang (few : ℕ) (q : Question) (events : List Event) (judged : Opt
 abbrev pub TellsOf : ℕ → Question → List Event → Option Judged → Option Told → Type 0
 TellsOf few q events judged told = IsAsJudged few q events judged told ⊎ IsHang few q events judged told
 
--- all runs of a search begin at this state, and this is asked of the states behind them
+-- all runs of a search begin at this state, and this is asked of the states behind them, whatever is
+-- known of time
 pub record Begins (task : SearchTask) (given : Given) (s : State) (q : Question) : Type 0 where
   pub boots : BeginsAt task given s
   pub can : CanBeAsked s (ends_of (criteria_of given))
-  pub asks : q ≡ asked_of s (ends_of (criteria_of given))
+  pub asks : with_known no_time q ≡ asked_of s (ends_of (criteria_of given))
 
 -- whether a list of events hangs, in each search with this number of states that begins so
 abbrev pub HasHangFrom : State → Question → ℕ → Given → List Event → Option (Judgement ℕ) → Type 0

@@ -1,4 +1,4 @@
-use Rattle.std.proofs.Common.{take, refl}
+use Rattle.std.proofs.Common.{refl}
 use Rattle.s161_search.specs.declared.told.SearchVerdict.TheVariants.{Hung}
 use Rattle.s161_search.specs.helpers.Inputs.{given_of}
 use Rattle.s161_search.proofs.Telling.{hung_printed}

@@ -1,4 +1,4 @@
-use Rattle.std.proofs.Common.{◌∙◌, take, None, Some, refl, subst, sym}
+use Rattle.std.proofs.Common.{take, None, Some, refl, subst}
 use Rattle.m161_judge.specs.Verdict.{rank}
 use Rattle.s161_search.specs.declared.told.SearchVerdict.TheVariants as verdicts
 use Rattle.s161_search.specs.helpers.Inputs.{given_of}

@@ -4,8 +4,8 @@ use Rattle.s161_search.proofs.seeds.try_seeds.Goals as goal
 
 pub returns-clause-ok : goal.returns-clause-ok
 returns-clause-ok g c =
-    tried_by c.args.task (given_of c.args.inputs.now) c.args.booted.now c.args.ends.now c.try_each.result c.requires c.try_each.ensures.ok
+    tried_by c.args.task (given_of c.args.inputs.now) c.args.booted.now c.args.ends.now c.try_each.result c.requires.begins c.try_each.ensures.ok
 
 pub returns-clause-fault : goal.returns-clause-fault
 returns-clause-fault g c =
-    seeds_fail c.args.task (given_of c.args.inputs.now) c.args.booted.now c.try_each.result c.requires.boots c.try_each.ensures.err
+    seeds_fail c.args.task (given_of c.args.inputs.now) c.args.booted.now c.try_each.result c.requires.begins.boots c.try_each.ensures.err

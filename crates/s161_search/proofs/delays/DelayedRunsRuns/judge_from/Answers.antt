@@ -11,5 +11,5 @@ returns-in_err-run-clause-err c =
 pub returns-clause-ok : goal.returns-clause-ok
 returns-clause-ok c =
     let self = c.args.self.now in
-    list_judged self.booted.now self.ends.now self.task (given_of self.inputs.now) self.turns c.args.delays.now c.in_ok-run.run' c.in_ok-tested.field-0
+    list_judged c.hanging_are_made.ensures.law self.booted.now self.ends.now self.task (given_of self.inputs.now) self.turns c.args.delays.now c.in_ok-run.run' c.in_ok-tested.field-0
     (c.in_ok-run.ensures.ok self.booted.now c.requires) c.in_ok-tested.ensures
