@@ -277,7 +277,7 @@ pub record IsTraced
 
 -- the run of a task, as `run` is asked for it
 abbrev pub run_of : TraceTask → RunTask
-run_of task = record { image = task.image; size = task.size; shown = Summary }
+run_of task = record { image = task.image; size = task.size; shown = Summary; traps = false }
 
 abbrev pub driven_of : TraceTask → Drive → DrivenTask
 driven_of task drive = record { run = run_of task; drive = drive }
