@@ -94,8 +94,13 @@ fn copy_events(alloc: Global, events: &[Event]) -> Result<Vec<Event>, AllocError
     Ok(copy)
 }
 
-// The machine at boot, in a box.
-fn start_core(
+/// The machine at boot, in a box.
+///
+/// # Errors
+/// Memory was refused.
+// For LLVM: a stack frame of its own.
+#[inline(never)]
+pub(crate) fn start_core(
     alloc: Global,
     booted: &Booted<Tlb, Console>,
 ) -> Result<Box<Core<Tlb, Console>>, AllocError>

@@ -21,6 +21,7 @@ use crate::found::print_of;
 use crate::inputs::{Inputs, read_inputs};
 use crate::never::with_never;
 use crate::orders::WrongRun;
+use crate::points::start_core;
 use crate::seeds::{boot, seed_at, try_seeds};
 use crate::texts::{clean_line, delays_line, found_lines, seed_line};
 use m161::{Console, Tlb};
@@ -96,13 +97,14 @@ fn make_runs<'a, R: Threads + Sync>(
     ensures fault { IfErr result (IsRunFault task.entry (given_of inputs.now)) }
     ensures within { IfOk result (λ done. (done.status ≤ 5) × (done.status ≢ 2)) }
 {
-    let core = booted.copy_core(alloc)?;
+    let boxed = start_core(alloc, booted)?;
+    let core = &*boxed;
     let goal = inputs.ends();
     // Only files that are larger than those that are read can't be asked for.
-    if !can_be_asked(&core, &goal) {
+    if !can_be_asked(core, &goal) {
         return Err(Fault::Memory);
     }
-    let ends = Machines::new(alloc, &core, &goal, Known::nothing());
+    let ends = Machines::new(alloc, core, &goal, Known::nothing());
     make_orders(rt, alloc, booted, task, inputs, &ends)
 }
 
