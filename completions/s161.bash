@@ -5,10 +5,10 @@ _s161_of_command() {
     case $1 in
     '') options='-h --help -V --version' arguments=(commands) ;;
     demo) options='-h --help' arguments=() ;;
-    run) options='--ram --cpus --log --link --strict --show-log --only-log --only-output --threads --burst --turns --delayed --random --changes --within --events --transfer --keys --gap -h --help' arguments=('files @sample') ;;
+    run) options='--ram --cpus --log --link --strict --show-log --only-log --only-output --traps --threads --burst --turns --delayed --random --changes --within --events --transfer --keys --gap -h --help' arguments=('files @sample') ;;
     console) options='--ram --cpus --log --link --strict --turns --delayed --random --changes --within --events --transfer --gap -h --help' arguments=('files @sample') ;;
     schedule) options='--ram --cpus --log --link --strict --turns --delayed --random --changes --within --events --transfer --keys --gap -h --help' arguments=('files @sample') ;;
-    search) options='--ram --cpus --log --link --strict --seeds --delays --turns --from --jobs --watches --never --output --whole --changes --within --events --transfer --keys --gap -h --help' arguments=('files @sample') ;;
+    search) options='--ram --cpus --log --link --strict --seeds --delays --turns --from --jobs --watches --never --output --hung --whole --changes --within --events --transfer --keys --gap -h --help' arguments=('files @sample') ;;
     explore) options='--ram --cpus --link --strict --watches --never --output --keys --states -h --help' arguments=('files @sample') ;;
     trace) options='--ram --cpus --log --link --strict --from --count --names --symbols --only --touches --outcomes --shared --loads --turns --delayed --random --changes --within --events --transfer --keys --gap -h --help' arguments=('files @sample') ;;
     replay) options='--ram --cpus --log -h --help' arguments=('files @sample' 'files') ;;
@@ -25,7 +25,7 @@ _s161_of_command() {
 # Of which kind an option's value is; a flag has none.
 _s161_of_option() {
     case $1 in
-    --ram | --cpus | --log | --threads | --burst | --turns | --delayed | --random | --changes | --within | --events | --transfer | --seeds | --delays | --from | --jobs | --never | --states | --count | --only | --touches) kind='number' ;;
+    --ram | --cpus | --log | --threads | --burst | --turns | --delayed | --random | --changes | --within | --events | --transfer | --seeds | --delays | --from | --jobs | --never | --hung | --states | --count | --only | --touches) kind='number' ;;
     --link) kind='words word line' ;;
     --keys | --watches | --output) kind='files' ;;
     --gap) kind='words none' ;;
