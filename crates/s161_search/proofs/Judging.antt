@@ -45,13 +45,13 @@ use Rattle.s161_search.specs.declared.orders.WrongRun.{WrongRun}
 use Rattle.s161_search.specs.Searches.{ArePrinted, HasKind, IsJudgedAt, is_whole, kind_of}
 use Rattle.s161_search.specs.declared.found.Printed.{Printed}
 use Rattle.s161_search.specs.declared.told.SearchVerdict.TheVariants as verdicts
-use Rattle.s161_search.specs.Told.{IsToldAt}
+use Rattle.s161_search.specs.Told.{IsRunTold, told_of}
 use Rattle.s161_search.specs.helpers.Begun.{BeginsAt, HasKindFrom}
 use Rattle.s161_search.specs.helpers.Delayed.{IsFaultFrom, IsRightFrom, IsRunFrom, IsSeedRightFrom, IsSeedWrongFrom, IsTested, IsWrongFrom}
 use Rattle.s161_search.specs.helpers.Tried.{ArePrintedWith, IsTried}
-use Rattle.s161_search.specs.helpers.Telling.{Begins, TellsOf, told_of}
+use Rattle.s161_search.specs.helpers.Telling.{Begins, TellsRun}
 use Rattle.s161_search.proofs.Booting.{booted_as_one}
-use Rattle.s161_search.proofs.Telling.{told_at}
+use Rattle.s161_search.proofs.Telling.{run_told}
 
 -- Verdicts of runs and of lists of events.
 
@@ -129,14 +129,19 @@ low_when whole Stuck h = omega arith
 low_when whole Output h = omega arith
 low_when whole End h = absurd (let bad : true ≡ false = h in cc)
 
+final_told : (cut : Bool) (task : SearchTask) (given : Given) (events : List Event) (last : Judged) → IsJudgedAt task given events (Some last) → rank last.verdict < 5 →
+    IsRunTold cut task given events (Some (told_of last))
+final_told true task given events last h low = (h.0, h.1, (h.2, inl low))
+final_told false task given events last h low = (h.0, Some last, h.1, h.2, refl)
+
 -- what the passes leave
 pub left_printed : (task : SearchTask) (given : Given) (events : List Event) (judged last : Judged) (printed : Printed) →
     ((goal : Criteria) (s : State) (xs : List Event) (j : Judged) → CutKeepsVerdict goal s xs j) →
     ((goal : Criteria) (s : State) (es : List Event) → IsOneVerdict goal s es) → is_whole task.whole (verdicts.Run judged.verdict) ≡ false →
     ArePrinted false task given events (told_of judged) printed.events.items → printed.verdict ≡ verdicts.Run last.verdict → IsJudgedAt task given events (Some judged) →
     (printed.events.items ≡ take judged.events events) ⊎ AreNeeded (λ kind. rank judged.verdict == kind) (HasKind task given) printed.events.items →
-    IsJudgedAt task given printed.events.items (Some last) → ArePrintedWith task given events (told_of judged) printed
-left_printed task given events judged last printed cut one part short verdict h left again =
+    IsJudgedAt task given printed.events.items (Some last) → (cut : Bool) → ArePrintedWith cut task given events (told_of judged) printed
+left_printed task given events judged last printed cut one part short verdict h left again cut_is =
     let such = left_judged task given events printed.events.items judged cut h left in
     let same : Some last ≡ Some such.0 = one_judged task given printed.events.items (Some last) (Some such.0) one again such.1 in
     let is : last ≡ such.0 = cc in
@@ -146,7 +151,7 @@ left_printed task given events judged last printed cut one part short verdict h 
       are_printed = subst (λ b. ArePrinted b task given events (told_of judged) printed.events.items) (sym part) short;
       final = told_of last;
       verdict_is = verdict;
-      is_told = (again.0, again.1, (again.2, inl (omega (arith, same_kind, low))));
+      is_told = final_told cut_is task given printed.events.items last again (omega (arith, same_kind, low));
       same_kind = same_kind;
     }
 
@@ -186,15 +191,16 @@ judged_of : (task : SearchTask) (given : Given) (order : Order) (run : JudgedRun
 judged_of task given order run is = (is.booted, is.is_booted, is.judged)
 
 right_told : HangingAreMade → (s : State) (q : Question) (task : SearchTask) (given : Given) (order : Order) (run : JudgedRun) → Begins task given s q → IsRunOf task given order run →
-    TellsOf task.hung q run.events.items run.judged None → IsToldAt task given run.events.items None
-right_told law s q task given order run begins is of = told_at law task given s q run.events.items run.judged None begins (judged_of task given order run is) of
+    TellsRun run.is_cut task.hung q run.events.items run.judged None → IsRunTold run.is_cut task given run.events.items None
+right_told law s q task given order run begins is of =
+    run_told law run.is_cut task given s q run.events.items run.judged None begins (judged_of task given order run is) of
 
 wrong_told : HangingAreMade → (s : State) (q : Question) (task : SearchTask) (given : Given) (order : Order) (run : JudgedRun) (wrong : WrongRun) → Begins task given s q →
-    IsRunOf task given order run → wrong.run ≡ run → TellsOf task.hung q run.events.items run.judged (Some wrong.told) →
-    IsToldAt task given wrong.run.events.items (Some wrong.told)
+    IsRunOf task given order run → wrong.run ≡ run → TellsRun run.is_cut task.hung q run.events.items run.judged (Some wrong.told) →
+    IsRunTold wrong.run.is_cut task given wrong.run.events.items (Some wrong.told)
 wrong_told law s q task given order run wrong begins is same of =
-    subst (λ (r : JudgedRun). IsToldAt task given r.events.items (Some wrong.told)) (sym same)
-    (told_at law task given s q run.events.items run.judged (Some wrong.told) begins (judged_of task given order run is) of)
+    subst (λ (r : JudgedRun). IsRunTold r.is_cut task given r.events.items (Some wrong.told)) (sym same)
+    (run_told law run.is_cut task given s q run.events.items run.judged (Some wrong.told) begins (judged_of task given order run is) of)
 
 pub seed_judged : HangingAreMade → (s : State) (q : Question) (task : SearchTask) (given : Given) (k : ℕ) (run : JudgedRun) (tested : Tested WrongRun) →
     IsRunFrom s task given (with_seed (seed_at task.drive.order k) task.drive.order) run → IsTested task.hung q run tested →

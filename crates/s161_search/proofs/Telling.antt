@@ -1,4 +1,4 @@
-use Rattle.std.proofs.Common.{◌≡◌, ◌∙◌, ◌⊎◌, inl, inr, refl, ap, sym, subst, ℕ, zero, suc, ◌<◌, arith, true, false, List, [], ◌∷◌, take, Option, None, Some, Result, Ok, Err}
+use Rattle.std.proofs.Common.{◌≡◌, ◌∙◌, ◌⊎◌, inl, inr, refl, ap, sym, subst, ℕ, zero, suc, ◌<◌, arith, Bool, true, false, List, [], ◌∷◌, take, Option, None, Some, Result, Ok, Err}
 use Rattle.std.specs.Prelude.{◌==◌, nat_lt, if◌then◌else◌, option_map, slice_get}
 use Rattle.std.proofs.lemmas.Bool.Decides.{nat_tests}
 use Rattle.std.proofs.lemmas.Option.{slice_get_within}
@@ -10,7 +10,7 @@ use Rattle.m161_judge.specs.Laws.{FirstIsNoWorse}
 use Rattle.m161_judge.specs.Verdict.{Criteria, IsJudged, IsRefused, after, going_on, rank}
 use Rattle.m161_machine.specs.declared.event.Event.{Event}
 use Rattle.m161_machine.specs.declared.event.Refusal.{Refusal}
-use Rattle.m161_machine.specs.History.{boot_state}
+use Rattle.m161_machine.specs.History.{IsBootState, boot_state}
 use Rattle.m161_machine.specs.State.{State, next}
 use Rattle.m161_reach.specs.From.{asked_of, no_time, with_known}
 use Rattle.m161_reach.specs.Hangs.{CutKeepsHang, HangFirst, HangingAreMade, NeverHang}
@@ -28,9 +28,9 @@ use Rattle.s161_search.specs.declared.told.SearchVerdict.TheVariants.{Run, Hung}
 use Rattle.s161_search.specs.declared.told.Told.{Told}
 use Rattle.s161_search.specs.Given.{Given, criteria_of}
 use Rattle.s161_search.specs.Searches.{ArePrinted, HasHang, IsJudgedAt, hang_of, hang_with, is_whole}
-use Rattle.s161_search.specs.Told.{Hang, HangNot, IsTold, IsToldAt, NoneBefore, ends_of}
+use Rattle.s161_search.specs.Told.{Hang, HangNot, IsRunTold, IsTold, IsToldAt, NoneBefore, ends_of, told_of}
 use Rattle.s161_search.specs.helpers.Begun.{IsJudgedFrom}
-use Rattle.s161_search.specs.helpers.Telling.{Begins, HasHangFrom, TellsOf, comes_first, told_of}
+use Rattle.s161_search.specs.helpers.Telling.{Begins, HasHangFrom, TellsOf, TellsRun, comes_first}
 use Rattle.s161_search.specs.helpers.Tried.{ArePrintedWith}
 use Rattle.s161_search.proofs.Booting.{booted_as_one, begins as starts}
 
@@ -126,6 +126,29 @@ told_at law task given s q events judged told begins h of =
       tells law task.hung goal s q events judged told begins.can begins.asks (subst (λ x. IsJudged goal x events judged) same h.2) of,
     )
 
+-- a verdict of m161_judge is not this one
+hung_or_run : (n : ℕ) (judged : Judged) → ◌≡◌ {A = Told} (record { verdict = Hung; events = n }) (told_of judged) → ⊥
+hung_or_run n judged h = let bad : Hung ≡ Run judged.verdict = ap (λ (t : Told). t.verdict) h in absurd (cc)
+
+not_hung : (n : ℕ) (judged : Option Judged) → ◌≡◌ {A = Option Told} (Some (record { verdict = Hung; events = n })) (option_map told_of judged) → ⊥
+not_hung n None h = absurd (cc)
+not_hung n (Some judged) h = hung_or_run n judged (let same : ◌≡◌ {A = Told} (record { verdict = Hung; events = n }) (told_of judged) = cc in same)
+
+-- of a run
+
+pub run_told : HangingAreMade → (cut : Bool) (task : SearchTask) (given : Given) (s : State) (q : Question) (events : List Event) (judged : Option Judged)
+    (told : Option Told) → Begins task given s q → IsJudgedAt task given events judged → TellsRun cut task.hung q events judged told →
+    IsRunTold cut task given events told
+run_told law true task given s q events judged told begins h of = told_at law task given s q events judged told begins h of
+run_told law false task given s q events judged told begins h of = (h.0, judged, h.1, h.2, of)
+
+-- one that hangs is cut
+hung_is_cut : (cut : Bool) (task : SearchTask) (given : Given) (events : List Event) (n : ℕ) →
+    IsRunTold cut task given events (Some (record { verdict = Hung; events = n })) →
+    (cut ≡ true) × IsToldAt task given events (Some (record { verdict = Hung; events = n }))
+hung_is_cut true task given events n h = (refl, h)
+hung_is_cut false task given events n h = absurd (not_hung n h.1 h.4)
+
 -- the judge by hangs
 
 pub hang_judged : HangingAreMade → (s : State) (q : Question) (few : ℕ) (given : Given) (events es : List Event) (judged : Option Judged) (told : Option Told)
@@ -189,7 +212,7 @@ pub hung_printed : (task : SearchTask) (given : Given) (s : State) (q : Question
     cut ≡ take n events → kind ≡ 6 → printed.verdict ≡ Hung → IsToldAt task given events (Some (record { verdict = Hung; events = n })) →
     Shortens (λ k. kind == k) (HasHangFrom s q task.hung given) cut printed.events.items →
     (printed.events.items ≡ cut) ⊎ AreNeeded (λ k. kind == k) (HasHangFrom s q task.hung given) printed.events.items →
-    ArePrintedWith task given events (record { verdict = Hung; events = n }) printed
+    ArePrintedWith true task given events (record { verdict = Hung; events = n }) printed
 hung_printed task given s q events cut n kind printed worse keeps begins part cut_is kind_is verdict h short left =
     let told : Told = record { verdict = Hung; events = n } in
     let fs = printed.events.items in
@@ -210,12 +233,46 @@ hung_printed task given s q events cut n kind printed worse keeps begins part cu
     }
 
 -- all events of a run
-pub whole_printed : (task : SearchTask) (given : Given) (events : List Event) (told : Told) (printed : Printed) → is_whole task.whole told.verdict ≡ true →
-    printed.events.items ≡ events → printed.verdict ≡ told.verdict → IsToldAt task given events (Some told) → ArePrintedWith task given events told printed
-whole_printed task given events told printed whole same verdict h = record {
+pub whole_printed : (cut : Bool) (task : SearchTask) (given : Given) (events : List Event) (told : Told) (printed : Printed) → is_whole task.whole told.verdict ≡ true →
+    printed.events.items ≡ events → printed.verdict ≡ told.verdict → IsRunTold cut task given events (Some told) → ArePrintedWith cut task given events told printed
+whole_printed cut task given events told printed whole same verdict h = record {
   are_printed = subst (λ b. ArePrinted b task given events told printed.events.items) (sym whole) same;
   final = told;
   verdict_is = verdict;
-  is_told = subst (λ es. IsToldAt task given es (Some told)) (sym same) h;
+  is_told = subst (λ es. IsRunTold cut task given es (Some told)) (sym same) h;
   same_kind = refl;
 }
+
+-- what a run that hangs needs
+pub hung_needs : (cut : Bool) (task : SearchTask) (given : Given) (events : List Event) (told : Told) → told.verdict ≡ Hung → IsRunTold cut task given events (Some told) →
+    (cut ≡ true) × IsToldAt task given events (Some (record { verdict = Hung; events = told.events }))
+hung_needs cut task given events told is h =
+    hung_is_cut cut task given events told.events
+    (subst (λ v. IsRunTold cut task given events (Some (record { verdict = v; events = told.events }))) is h)
+
+-- what a run needs that goes wrong by a verdict of its events
+run_verdict : (a b : Judged) → ◌≡◌ {A = Told} (told_of a) (told_of b) → a ≡ b
+run_verdict a b h =
+    let verdicts : ◌≡◌ {A = SearchVerdict} (Run a.verdict) (Run b.verdict) = ap (λ (t : Told). t.verdict) h in
+    let verdict : a.verdict ≡ b.verdict = cc in
+    let count : a.events ≡ b.events = ap (λ (t : Told). t.events) h in
+    λ i. record { verdict = verdict i; events = count i }
+
+same_judged : (task : SearchTask) (given : Given) (events : List Event) (judged : Judged) (booted : State) (other : Option Judged) →
+    IsBootState given.file (conf_of task.size) booted → IsJudged (criteria_of given) booted events other →
+    ◌≡◌ {A = Option Told} (Some (told_of judged)) (option_map told_of other) → IsJudgedAt task given events (Some judged)
+same_judged task given events judged booted None boots h is = absurd (cc)
+same_judged task given events judged booted (Some other) boots h is =
+    let same : ◌≡◌ {A = Told} (told_of judged) (told_of other) = cc in
+    (booted, boots, subst (λ j. IsJudged (criteria_of given) booted events (Some j)) (sym (run_verdict judged other same)) h)
+
+run_needs_by : (cut : Bool) (task : SearchTask) (given : Given) (events : List Event) (judged : Judged) → IsRunTold cut task given events (Some (told_of judged)) →
+    IsJudgedAt task given events (Some judged)
+run_needs_by true task given events judged h = (h.0, h.1, h.2.0)
+run_needs_by false task given events judged h = same_judged task given events judged h.0 h.1 h.2 h.3 h.4
+
+pub run_needs : (cut : Bool) (task : SearchTask) (given : Given) (events : List Event) (told : Told) (v : Verdict) → told.verdict ≡ Run v → IsRunTold cut task given events (Some told) →
+    IsJudgedAt task given events (Some (record { verdict = v; events = told.events }))
+run_needs cut task given events told v is h =
+    run_needs_by cut task given events (record { verdict = v; events = told.events })
+    (subst (λ w. IsRunTold cut task given events (Some (record { verdict = w; events = told.events }))) is h)

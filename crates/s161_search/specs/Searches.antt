@@ -27,7 +27,7 @@ use Rattle.m161_order.specs.declared.order.Order.TheVariants.{Turns}
 use Rattle.s161_command.specs.declared.class.DelayClass.{DelayClass}
 use Rattle.s161_search.specs.Delays.{AreCleanBy, IsFirstBy, class_of}
 use Rattle.s161_search.specs.Texts.{clean_text, delays_text, found_text, seed_text}
-use Rattle.s161_search.specs.Told.{IsToldAt}
+use Rattle.s161_search.specs.Told.{IsRunTold, IsToldAt}
 
 -- The output and the exit status of `search`.
 
@@ -98,7 +98,7 @@ pub record IsFound (task : SearchTask) (given : Given) (text : List ℕ) : Type 
   pub are_printed :
       ArePrinted (is_whole task.whole told.verdict) task given run.events.items told events
   pub final : Told
-  pub is_told : IsToldAt task given events (Some final)
+  pub is_told : IsRunTold run.is_cut task given events (Some final)
   pub same_kind : kind_number final.verdict ≡ kind_number told.verdict
   pub text_is : text ≡ found_text (seed_text (seed_at task.drive.order place)) final.verdict events
 
@@ -119,7 +119,7 @@ pub record IsFoundBy
   pub are_printed :
       ArePrinted (is_whole task.whole told.verdict) task given run.events.items told events
   pub final : Told
-  pub is_told : IsToldAt task given events (Some final)
+  pub is_told : IsRunTold run.is_cut task given events (Some final)
   pub same_kind : kind_number final.verdict ≡ kind_number told.verdict
   pub text_is : text ≡ found_text (delays_text numbers) final.verdict events
 

@@ -18,7 +18,7 @@ use Rattle.s161_command.specs.declared.task.SearchTask.{SearchTask}
 use Rattle.s161_run.specs.Driven.{rules_of}
 use Rattle.s161_search.specs.declared.told.Told.{Told}
 use Rattle.s161_search.specs.Given.{Given, criteria_of}
-use Rattle.s161_search.specs.Told.{IsToldAt}
+use Rattle.s161_search.specs.Told.{IsRunTold}
 
 -- The seeds that a search tries.
 
@@ -63,7 +63,7 @@ IsRunFault task given _ = ⊥
 -- run k has no verdict, and is cut or isn't
 abbrev pub IsRightAt : SearchTask → Given → ℕ → Bool → Type 0
 IsRightAt task given k is_cut =
-    (run : JudgedRun) × IsRunAt task given k run × IsToldAt task given run.events.items None
+    (run : JudgedRun) × IsRunAt task given k run × IsRunTold run.is_cut task given run.events.items None
     × (run.is_cut ≡ is_cut)
 
 -- none of the first n runs goes wrong, and so many of them are cut
@@ -76,4 +76,4 @@ pub record IsFirstWrong
   pub within : place < task.seeds
   pub before : AreRightBelow (IsRightAt task given) place
   pub is_run : IsRunAt task given place run
-  pub wrong : IsToldAt task given run.events.items (Some told)
+  pub wrong : IsRunTold run.is_cut task given run.events.items (Some told)

@@ -1,4 +1,5 @@
-use Rattle.std.specs.Prelude.{◌≡◌, ◌⊎◌, ℕ, ◌<◌, List, [], Option, None, Some}
+use Rattle.std.specs.Prelude.{◌≡◌, ◌⊎◌, ℕ, ◌<◌, Bool, true, false, List, [], Option, None, Some, option_map}
+use Rattle.m161_judge.specs.declared.verdict.Judged.{Judged}
 use Rattle.m161_judge.specs.declared.verdict.Verdict.{Verdict}
 use Rattle.m161_judge.specs.declared.verdict.Verdict.TheVariants.{End}
 use Rattle.m161_judge.specs.Verdict.{Criteria, Holds, IsJudged, rank}
@@ -51,3 +52,14 @@ abbrev pub IsToldAt : SearchTask → Given → List Event → Option Told → Ty
 IsToldAt task given events told =
     (booted : State) × IsBootState given.file (conf_of task.size) booted
     × IsTold task.hung (criteria_of given) booted events told
+
+-- the verdict of the events of a run, that is cut or isn't. One that isn't cut is over: the machine is off
+-- or stuck, so it doesn't hang
+abbrev pub told_of : Judged → Told
+told_of judged = record { verdict = Run judged.verdict; events = judged.events }
+
+abbrev pub IsRunTold : Bool → SearchTask → Given → List Event → Option Told → Type 0
+IsRunTold true task given events told = IsToldAt task given events told
+IsRunTold false task given events told =
+    (booted : State) × (judged : Option Judged) × IsBootState given.file (conf_of task.size) booted
+    × IsJudged (criteria_of given) booted events judged × (told ≡ option_map told_of judged)

@@ -1,12 +1,12 @@
 //! The schedule of a run that goes wrong.
 
-ghost use Rattle.std.specs.Prelude.{◌≡◌, IfOk, Some, false};
+ghost use Rattle.std.specs.Prelude.{◌≡◌, Bool, IfOk, Some, false, true};
 ghost use Rattle.s161_search.specs.helpers.Begun.{BeginsAt};
 ghost use Rattle.s161_search.specs.helpers.Inputs.{given_of};
 ghost use Rattle.s161_search.specs.declared.told.SearchVerdict.TheVariants as verdicts;
 ghost use Rattle.s161_search.specs.Searches.{IsJudgedAt, is_whole};
-ghost use Rattle.s161_search.specs.Told.{IsToldAt};
-ghost use Rattle.s161_search.specs.helpers.Telling.{Begins, told_of};
+ghost use Rattle.s161_search.specs.Told.{IsRunTold, IsToldAt, told_of};
+ghost use Rattle.s161_search.specs.helpers.Telling.{Begins};
 ghost use Rattle.s161_search.specs.helpers.Tried.{ArePrintedWith};
 
 use crate::again::{HUNG, HangJudge, KindJudge, judge_again, rank};
@@ -58,7 +58,7 @@ fn shorten_judged(
     requires booted { BeginsAt task (given_of inputs.now) booted.now }
     requires judged { IsJudgedAt task (given_of inputs.now) events.items (Some judged) }
     requires part { is_whole task.whole (verdicts.Run judged.verdict) ≡ false }
-    ensures { IfOk result (ArePrintedWith task.entry (given_of inputs.now) events.items (told_of judged)) }
+    ensures { (cut : Bool) → IfOk result (ArePrintedWith cut task.entry (given_of inputs.now) events.items (told_of judged)) }
 {
     // So that the proof knows that what is left has a verdict, and one alone.
     cut_keeps_verdict();
@@ -92,7 +92,7 @@ fn shorten_hung(
     requires begins { Begins task (given_of inputs.now) booted.now ends.now }
     requires told { IsToldAt task (given_of inputs.now) events.items (Some (record { verdict = verdicts.Hung; events = needs })) }
     requires part { task.whole ≡ false }
-    ensures { IfOk result (ArePrintedWith task.entry (given_of inputs.now) events.items (record { verdict = verdicts.Hung; events = needs })) }
+    ensures { IfOk result (ArePrintedWith true task.entry (given_of inputs.now) events.items (record { verdict = verdicts.Hung; events = needs })) }
 {
     // So that the proof knows that what is left hangs, too.
     first_is_no_worse();
@@ -112,7 +112,8 @@ fn shorten_hung(
     })
 }
 
-/// The events of a run that are printed, and their verdict. The run goes wrong by this verdict.
+/// The events of a run that are printed, and their verdict. The run, that is cut or isn't, goes wrong by
+/// this verdict.
 ///
 /// # Errors
 /// Memory was refused.
@@ -122,12 +123,13 @@ pub(crate) fn print_of(
     task: SearchTask<'_>,
     inputs: &Inputs,
     ends: &Machines<'_, Tlb, Console>,
+    cut: bool,
     told: Told,
     events: Vec<Event>,
 ) -> Result<Printed, AllocError>
     requires begins { Begins task (given_of inputs.now) booted.now ends.now }
-    requires told { IsToldAt task (given_of inputs.now) events.items (Some told) }
-    ensures { IfOk result (ArePrintedWith task.entry (given_of inputs.now) events.items told) }
+    requires told { IsRunTold cut task (given_of inputs.now) events.items (Some told) }
+    ensures { IfOk result (ArePrintedWith cut task.entry (given_of inputs.now) events.items told) }
 {
     if is_whole(task.whole, told.verdict) {
         return Ok(Printed {

@@ -9,11 +9,12 @@ ghost use Rattle.s161_run.specs.Driven.{rules_of};
 ghost use Rattle.s161_search.specs.helpers.Delayed.{IsFaultFrom, IsRunFrom, IsTested};
 ghost use Rattle.s161_search.specs.helpers.Inputs.{given_of};
 ghost use Rattle.s161_search.specs.helpers.Points.{IsPointOf};
+ghost use Rattle.s161_search.specs.helpers.Telling.{TellsRun};
 
 use crate::audit::fault_of_audit;
 use crate::inputs::Inputs;
 use crate::points::RunPoint;
-use crate::told::{Told, tell};
+use crate::told::{Told, tell, told_of};
 use m161::{Console, Tlb};
 use m161_drive::Policy;
 use m161_jobs::Tested;
@@ -33,6 +34,22 @@ pub(crate) struct WrongRun {
     pub told: Told,
 }
 
+// The verdict of a run. One that isn't cut is over, so it isn't looked at.
+fn tell_run(
+    alloc: Global,
+    ends: &Machines<'_, Tlb, Console>,
+    few: u32,
+    run: &JudgedRun,
+) -> Result<Option<Told>, AllocError>
+    ensures { IfOk result (TellsRun run.now.is_cut few ends.now run.now.events.items run.now.judged) }
+{
+    if run.is_cut {
+        tell(alloc, ends, few, run.judged, &run.events)
+    } else {
+        Ok(told_of(run.judged))
+    }
+}
+
 /// What became of a run; so many states behind it may be looked at.
 ///
 /// # Errors
@@ -45,7 +62,7 @@ pub(crate) fn tested(
 ) -> Result<Tested<WrongRun>, AllocError>
     ensures { IfOk result (IsTested few ends.now run) }
 {
-    match tell(alloc, ends, few, run.judged, &run.events)? {
+    match tell_run(alloc, ends, few, &run)? {
         Some(told) => Ok(Tested::Wrong(WrongRun { run, told })),
         None => Ok(Tested::Right { is_cut: run.is_cut }),
     }

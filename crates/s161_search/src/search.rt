@@ -12,7 +12,7 @@ ghost use Rattle.s161_search.specs.helpers.Inputs.{given_of};
 ghost use Rattle.s161_search.specs.helpers.Never.{IsNeverFault, PrintsFor};
 ghost use Rattle.s161_search.specs.Searches.{IsFound, IsSearched, IsSearchFault, Prints};
 ghost use Rattle.s161_search.specs.Seeds.{IsFirstWrong, IsRunFault};
-ghost use Rattle.s161_search.specs.Told.{IsToldAt};
+ghost use Rattle.s161_search.specs.Told.{IsRunTold};
 ghost use Rattle.s161_search.specs.helpers.Telling.{Begins};
 ghost use Rattle.s161_search.specs.helpers.Tried.{IsListed};
 
@@ -170,12 +170,14 @@ fn found_text(
     ensures { IfOk result (λ text. IsFound task.entry (given_of inputs.now) text.items) }
 {
     let line = seed_line(alloc, seed_at(task.drive.order, place))?;
+    let is_cut = wrong.run.is_cut;
     let printed = print_of(
         alloc,
         booted,
         task,
         inputs,
         ends,
+        is_cut,
         wrong.told,
         wrong.run.events,
     )?;
@@ -233,16 +235,18 @@ fn listed_text(
     wrong: WrongRun,
 ) -> Result<Vec<u8>, AllocError>
     requires begins { Begins task (given_of inputs.now) booted.now ends.now }
-    requires wrong { IsToldAt task (given_of inputs.now) wrong.run.events.items (Some wrong.told) }
+    requires wrong { IsRunTold wrong.run.is_cut task (given_of inputs.now) wrong.run.events.items (Some wrong.told) }
     ensures { IfOk result (λ text. IsListed task.entry (given_of inputs.now) (delays_of delays.now) wrong text.items) }
 {
     let line = delays_line(alloc, delays.as_slice())?;
+    let is_cut = wrong.run.is_cut;
     let printed = print_of(
         alloc,
         booted,
         task,
         inputs,
         ends,
+        is_cut,
         wrong.told,
         wrong.run.events,
     )?;

@@ -1,7 +1,8 @@
 //! The verdict of a search.
 
 ghost use Rattle.std.specs.Prelude.{◌≡◌, IfOk, option_map};
-ghost use Rattle.s161_search.specs.helpers.Telling.{TellsOf, comes_first, told_of};
+ghost use Rattle.s161_search.specs.helpers.Telling.{TellsOf, comes_first};
+ghost use Rattle.s161_search.specs.Told.{told_of};
 
 use m161::{Console, Tlb};
 use m161_judge::{Judged, Verdict};
@@ -45,8 +46,8 @@ fn comes_first(judged: Option<Judged>) -> bool
     }
 }
 
-// The verdict of a run, if it doesn't hang.
-fn told_of(judged: Option<Judged>) -> Option<Told>
+/// The verdict of a run that doesn't hang.
+pub(crate) fn told_of(judged: Option<Judged>) -> Option<Told>
     ensures { result ≡ option_map told_of judged }
 {
     match judged {

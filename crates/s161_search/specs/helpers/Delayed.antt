@@ -14,9 +14,9 @@ use Rattle.s161_search.specs.Delays.{HasRightRun, IsRunOf}
 use Rattle.s161_search.specs.Given.{Given}
 use Rattle.s161_search.specs.Seeds.{IsRightAt, IsRunAt, IsRunFault}
 use Rattle.m161_states.specs.Question.{Question}
-use Rattle.s161_search.specs.Told.{IsToldAt}
+use Rattle.s161_search.specs.Told.{IsRunTold}
 use Rattle.s161_search.specs.helpers.Begun.{BeginsAt}
-use Rattle.s161_search.specs.helpers.Telling.{Begins, TellsOf}
+use Rattle.s161_search.specs.helpers.Telling.{Begins, TellsRun}
 
 -- What is known of runs from a state that may be the one at boot.
 
@@ -34,7 +34,7 @@ abbrev pub IsWrongFrom : State → Question → SearchTask → Given → ℕ →
 IsWrongFrom s q task given steps numbers wrong =
     Begins task given s q → (delays : Delays) × (delays_of delays ≡ numbers)
     × IsRunOf task given (Delayed steps delays) wrong.run
-    × IsToldAt task given wrong.run.events.items (Some wrong.told)
+    × IsRunTold wrong.run.is_cut task given wrong.run.events.items (Some wrong.told)
 
 -- the same of the seeds
 
@@ -44,11 +44,12 @@ IsSeedRightFrom s q task given k is_cut = Begins task given s q → IsRightAt ta
 abbrev pub IsSeedWrongFrom : State → Question → SearchTask → Given → ℕ → WrongRun → Type 0
 IsSeedWrongFrom s q task given k wrong =
     Begins task given s q
-    → IsRunAt task given k wrong.run × IsToldAt task given wrong.run.events.items (Some wrong.told)
+    → IsRunAt task given k wrong.run
+    × IsRunTold wrong.run.is_cut task given wrong.run.events.items (Some wrong.told)
 
 -- what became of a run, where so many states behind it may be looked at, of which this is asked
 abbrev pub IsTested : ℕ → Question → JudgedRun → Tested WrongRun → Type 0
 IsTested few q run (Right is_cut) =
-    TellsOf few q run.events.items run.judged None × (run.is_cut ≡ is_cut)
+    TellsRun run.is_cut few q run.events.items run.judged None × (run.is_cut ≡ is_cut)
 IsTested few q run (Wrong wrong) =
-    (wrong.run ≡ run) × TellsOf few q run.events.items run.judged (Some wrong.told)
+    (wrong.run ≡ run) × TellsRun run.is_cut few q run.events.items run.judged (Some wrong.told)

@@ -10,11 +10,11 @@ use Rattle.m161_reach.specs.Reach.{CanBeAsked}
 use Rattle.m161_shorten.specs.declared.judged.Judgement.{Judgement}
 use Rattle.m161_states.specs.Question.{Question}
 use Rattle.s161_command.specs.declared.task.SearchTask.{SearchTask}
-use Rattle.s161_search.specs.declared.told.SearchVerdict.TheVariants.{Run, Hung}
+use Rattle.s161_search.specs.declared.told.SearchVerdict.TheVariants.{Hung}
 use Rattle.s161_search.specs.declared.told.Told.{Told}
 use Rattle.s161_search.specs.Given.{Given, criteria_of}
 use Rattle.s161_search.specs.Searches.{HasHang}
-use Rattle.s161_search.specs.Told.{ends_of}
+use Rattle.s161_search.specs.Told.{ends_of, told_of}
 use Rattle.s161_search.specs.helpers.Begun.{BeginsAt}
 
 -- How the verdict of a search is found.
@@ -23,10 +23,6 @@ use Rattle.s161_search.specs.helpers.Begun.{BeginsAt}
 abbrev pub comes_first : Option Judged → Bool
 comes_first None = false
 comes_first (Some judged) = nat_lt (rank judged.verdict) (rank End)
-
--- the verdict of a run that doesn't hang
-abbrev pub told_of : Judged → Told
-told_of judged = record { verdict = Run judged.verdict; events = judged.events }
 
 -- that of a run as it is, where it comes first, or the run doesn't hang
 pub record IsAsJudged (few : ℕ) (q : Question) (events : List Event) (judged : Option Judged) (told : Option Told) : Type 0 where
@@ -43,6 +39,11 @@ pub record IsHang (few : ℕ) (q : Question) (events : List Event) (judged : Opt
 
 abbrev pub TellsOf : ℕ → Question → List Event → Option Judged → Option Told → Type 0
 TellsOf few q events judged told = IsAsJudged few q events judged told ⊎ IsHang few q events judged told
+
+-- of a run that is cut, or isn't
+abbrev pub TellsRun : Bool → ℕ → Question → List Event → Option Judged → Option Told → Type 0
+TellsRun true few q events judged told = TellsOf few q events judged told
+TellsRun false few q events judged told = told ≡ option_map told_of judged
 
 -- all runs of a search begin at this state, and this is asked of the states behind them, whatever is
 -- known of time

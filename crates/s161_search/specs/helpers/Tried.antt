@@ -1,4 +1,4 @@
-use Rattle.std.specs.Prelude.{◌≡◌, ℕ, List, Some}
+use Rattle.std.specs.Prelude.{◌≡◌, ℕ, Bool, List, Some}
 use Rattle.m161_machine.specs.declared.event.Event.{Event}
 use Rattle.s161_command.specs.declared.task.SearchTask.{SearchTask}
 use Rattle.s161_search.specs.declared.found.Printed.{Printed}
@@ -15,7 +15,7 @@ use Rattle.s161_search.specs.declared.orders.WrongRun.{WrongRun}
 use Rattle.s161_search.specs.declared.told.Told.{Told}
 use Rattle.s161_search.specs.Delays.{AreCleanBy, IsFirstBy}
 use Rattle.s161_search.specs.Texts.{delays_text, found_text}
-use Rattle.s161_search.specs.Told.{IsToldAt}
+use Rattle.s161_search.specs.Told.{IsRunTold}
 
 -- What came of the seeds, and what is printed of it.
 
@@ -30,13 +30,13 @@ IsSearchedBy task given steps class (searched.Wrong delays wrong) =
 
 -- the events that are printed of a run with this verdict, and the verdict that is printed
 pub record ArePrintedWith
-    (task : SearchTask) (given : Given) (events : List Event) (told : Told) (printed : Printed)
+    (cut : Bool) (task : SearchTask) (given : Given) (events : List Event) (told : Told) (printed : Printed)
     : Type 0 where
   pub are_printed :
       ArePrinted (is_whole task.whole told.verdict) task given events told printed.events.items
   pub final : Told
   pub verdict_is : printed.verdict ≡ final.verdict
-  pub is_told : IsToldAt task given printed.events.items (Some final)
+  pub is_told : IsRunTold cut task given printed.events.items (Some final)
   pub same_kind : kind_number final.verdict ≡ kind_number told.verdict
 
 -- what is printed of a run that goes wrong, behind the numbers of its list
@@ -46,6 +46,6 @@ pub record IsListed
   pub are_printed :
       ArePrinted (is_whole task.whole wrong.told.verdict) task given wrong.run.events.items wrong.told events
   pub final : Told
-  pub is_told : IsToldAt task given events (Some final)
+  pub is_told : IsRunTold wrong.run.is_cut task given events (Some final)
   pub same_kind : kind_number final.verdict ≡ kind_number wrong.told.verdict
   pub text_is : text ≡ found_text (delays_text numbers) final.verdict events

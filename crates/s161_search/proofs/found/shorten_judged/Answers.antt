@@ -18,7 +18,7 @@ unreachable-requires c =
     (subst (λ es. IsJudgedAt task given es None) c.deref.ensures.value again)
 
 pub returns : goal.returns
-returns c =
+returns c = λ cut_is.
     let task = c.args.task in
     let given = given_of c.args.inputs.now in
     let fs = c.in_ok-events.events.items in
@@ -30,4 +30,4 @@ returns c =
     let again = subst (λ v. IsJudgedAt task given c.deref.result.now v) c.in-Some.is (c.in_ok-last.ensures task c.requires.booted) in
     left_printed task given c.args.events.items c.args.judged c.in-Some.last (record { verdict = verdicts.Run c.in-Some.last.verdict; events = c.in_ok-events.events })
     c.cut_keeps_verdict.ensures c.one_verdict.ensures c.requires.part short refl c.requires.judged left
-    (subst (λ es. IsJudgedAt task given es (Some c.in-Some.last)) c.deref.ensures.value again)
+    (subst (λ es. IsJudgedAt task given es (Some c.in-Some.last)) c.deref.ensures.value again) cut_is
