@@ -1,6 +1,6 @@
 //! Tests of the program's commands, of the assembler and of the debugger. `program`, `run`,
-//! `sample`, `faulty`, `going`, `over_files` and `texts` try the commands, over the streams of
-//! `streams`.
+//! `sample`, `faulty`, `going`, `over_files`, `texts` and `traps` try the commands, over the streams
+//! of `streams`.
 
 mod asm;
 mod debug;
@@ -12,6 +12,7 @@ mod run;
 mod sample;
 mod streams;
 mod texts;
+mod traps;
 
 use std::fmt::Debug;
 use std::process::Abort;
