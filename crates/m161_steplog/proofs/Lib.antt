@@ -7,5 +7,6 @@ mod Progress
 mod Blocks
 mod Reread
 mod Machines
+mod Sizes
 mod Behind
 mod Verdicts

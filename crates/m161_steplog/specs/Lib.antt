@@ -4,6 +4,7 @@ pub mod Log
 pub mod Comments
 pub mod Machine
 pub mod Schedule
+pub mod Size
 pub mod Written
 pub mod Verdict
 pub mod helpers

@@ -2,6 +2,7 @@
 pub mod Log
 pub mod Machine
 pub mod Schedule
+pub mod Size
 pub mod Text
 pub mod Verdict
 pub mod Written

@@ -12,6 +12,8 @@ ghost use Rattle.m161_steplog.specs.Written.{schedule_text};
 ghost use Rattle.m161_steplog.specs.Log.{log_text, IsEntryOf, IsLog};
 ghost use Rattle.m161_steplog.specs.Comments.{IsLogFile};
 ghost use Rattle.m161_steplog.specs.declared.machine.MachineLine.{MachineLine};
+ghost use Rattle.m161_steplog.specs.declared.size.MachineSize.{MachineSize};
+ghost use Rattle.m161_steplog.specs.Size.{IsMachineSize, size_text};
 ghost use Rattle.m161_steplog.specs.Machine.{machine_text, first_line, IsMachineLine};
 
 /// The law of written schedules: the text of at most 16,777,216 events whose numbers fit their
@@ -42,4 +44,14 @@ pub fn log_behind_machine_line()
         → first_line (with_line_end (machine_text m) ++ text) ≡ machine_text m }
     ensures log { (m : MachineLine) (text : List ℕ) (mode : Mode) (es : List Entry) → IsMachineLine m
         → IsLog text mode es → IsLogFile (with_line_end (machine_text m) ++ text) mode es }
+{}
+
+/// The law of a schedule's text behind a machine line: `read_size` reads that line, and
+/// `read_schedule` the events of the text.
+pub fn schedule_behind_size_line()
+    ensures size { (m : MachineSize) (text : List ℕ) → IsMachineSize m
+        → first_line (with_line_end (size_text m) ++ text) ≡ size_text m }
+    ensures schedule { (m : MachineSize) (text : List ℕ) (es : List Event) → IsMachineSize m
+        → IsSchedule (lines_of text) es
+        → IsSchedule (lines_of (with_line_end (size_text m) ++ text)) es }
 {}

@@ -2,7 +2,9 @@
 //! machine that it boots, and finds the first entry that differs.
 //!
 //! ```text
-//! schedule  s P        a Step of processor P
+//! schedule  # machine RAM CPUS    the machine line, a comment; there may be none. With ` line`
+//!                      behind it where a link is a line, then ` strict` for a strict machine
+//!           s P        a Step of processor P
 //!           s P N      N Steps of it, 1 to 1,000,000
 //!           k HH       a byte is typed
 //!           o          the console has sent its byte
@@ -48,12 +50,14 @@ mod machine;
 mod mode;
 mod schedule;
 mod shown;
+mod size;
 mod verdict;
 mod written;
 
 pub use fault::TextFault;
 pub use laws::{
-    log_behind_machine_line, log_without_comments, written_log_is_read, written_schedule_is_read,
+    log_behind_machine_line, log_without_comments, schedule_behind_size_line, written_log_is_read,
+    written_schedule_is_read,
 };
 pub use log::{LogText, entry_line, read_log, write_log, write_tail};
 pub use m161_isa::LinkUnit;
@@ -61,5 +65,6 @@ pub use m161_machine::{BootError, Conf, Entry, Event, Events, Exception, Outcome
 pub use machine::{MachineLine, machine_line, read_machine};
 pub use mode::Mode;
 pub use schedule::read_schedule;
+pub use size::{MachineSize, read_size, size_line};
 pub use verdict::{Comparison, verify};
 pub use written::write_schedule;
