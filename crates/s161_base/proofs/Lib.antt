@@ -1,5 +1,6 @@
 pub mod Asking
 pub mod Failing
+pub mod Listing
 mod Named
 mod Plain
 mod Sampled

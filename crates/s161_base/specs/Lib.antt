@@ -4,6 +4,7 @@ pub mod Explained
 pub mod FaultLines
 pub mod Faults
 pub mod Known
+pub mod Listed
 pub mod Machines
 pub mod Naming
 pub mod Reading

@@ -1,4 +1,8 @@
+use Rattle.std.specs.Prelude.{ℕ, List}
 use Rattle.m161_machine.specs.declared.conf.Conf.{Conf}
+use Rattle.m161_steplog.specs.declared.size.MachineSize.{MachineSize}
+use Rattle.m161_steplog.specs.Size.{size_text}
+use Rattle.m161_text.specs.Lines.{with_line_end}
 use Rattle.s161_command.specs.declared.task.Size.{Size}
 
 -- The machine of a command line.
@@ -12,3 +16,15 @@ conf_of size = record {
   link = size.link;
   strict = size.strict;
 }
+
+-- a machine of this size, as a machine line says it
+abbrev pub machine_size : Size → MachineSize
+machine_size size = record {
+  ram = size.ram;
+  processors = size.processors;
+  mode = record { link = size.link; strict = size.strict };
+}
+
+-- the machine line of a schedule of its events, with its end
+abbrev pub size_line_text : Size → List ℕ
+size_line_text size = with_line_end (size_text (machine_size size))

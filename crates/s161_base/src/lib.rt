@@ -11,6 +11,7 @@ pub mod finished;
 pub mod input;
 mod laws;
 mod line;
+pub mod listed;
 pub mod machines;
 pub mod naming;
 mod pieces;

@@ -1,20 +1,27 @@
-//! The machine that a log names.
+//! The machine that a list of events names: a log, or a schedule with a machine line.
 
-ghost use Rattle.std.specs.Prelude.{◌≡◌};
+ghost use Rattle.std.specs.Prelude.{◌≡◌, Option, Some};
 ghost use Rattle.sha2.specs.Sha256.{sha256};
-ghost use Rattle.s161_base.specs.Machines.{asked_conf, is_image, is_other, is_other_machine, is_other_mode, is_other_size, is_other_unit, is_strict, line_in, machine_fault, unit_in};
+ghost use Rattle.s161_base.specs.declared.machines.NamedMachine.{NamedMachine as NamedMachineValue};
+ghost use Rattle.s161_base.specs.declared.machines.NamedMachine.TheVariants.{Logged};
+ghost use Rattle.s161_base.specs.Machines.{asked_conf, conf_asked, settled, is_image, is_other, is_other_machine, is_other_mode, is_other_size, is_other_unit, machine_fault, size_named, size_of_log};
 
 use crate::fault::Fault;
 use m161_isa::LinkUnit;
 use m161_machine::Conf;
-use m161_steplog::{MachineLine, Mode};
+use m161_steplog::{MachineLine, MachineSize, Mode};
 use s161_command::AskedSize;
 use sha2::{Digest, Sha256};
 
-/// The size of a machine whose size isn't given, and isn't named by a log.
-const DEFAULT_RAM: u32 = 1_048_576;
-
-const DEFAULT_PROCESSORS: u32 = 1;
+/// The size of a machine whose size isn't given, and isn't named by a list of events.
+const DEFAULT_SIZE: MachineSize = MachineSize {
+    ram: 1_048_576,
+    processors: 1,
+    mode: Mode {
+        link: LinkUnit::Word,
+        strict: false,
+    },
+};
 
 /// What a log says of its machine.
 #[derive(Clone, Copy)]
@@ -25,6 +32,15 @@ pub struct LoggedMachine {
     pub mode: Mode,
 }
 
+/// What a list of events says of its machine.
+#[derive(Clone, Copy)]
+pub enum NamedMachine {
+    /// The machine line of a schedule.
+    Sized(MachineSize),
+    /// What a log says.
+    Logged(LoggedMachine),
+}
+
 /// The digest by which a log names an image.
 pub fn image_digest(file: &[u8]) -> [u8; 32]
     ensures { result ≡ sha256 file.now }
@@ -32,60 +48,90 @@ pub fn image_digest(file: &[u8]) -> [u8; 32]
     Sha256::digest(file)
 }
 
-/// The machine that is asked for; what isn't given is as the log says, if there is one.
-pub fn asked_conf(asked: AskedSize, logged: Option<LoggedMachine>) -> Conf
-    ensures { result ≡ asked_conf asked logged }
+/// The machine that is asked for; what isn't given is as the list of events says, if it says something.
+pub fn asked_conf(asked: AskedSize, named: Option<NamedMachine>) -> Conf
+    ensures { result ≡ asked_conf asked named }
 {
-    let (ram, processors) = match line_in(logged) {
-        Some(line) => (line.ram, line.processors),
-        None => (DEFAULT_RAM, DEFAULT_PROCESSORS),
-    };
+    let size = size_named(named);
     Conf {
-        ram: asked.ram.unwrap_or(ram),
-        processors: asked.processors.unwrap_or(processors),
+        ram: asked.ram.unwrap_or(size.ram),
+        processors: asked.processors.unwrap_or(size.processors),
         log: asked.log,
-        link: asked.link.unwrap_or(unit_in(logged)),
-        strict: asked.strict || is_strict(logged),
+        link: asked.link.unwrap_or(size.mode.link),
+        strict: asked.strict || size.mode.strict,
     }
 }
 
-// The machine line of the log, if there is a log, and if it has one.
-fn line_in(logged: Option<LoggedMachine>) -> Option<MachineLine>
-    ensures { result ≡ line_in logged }
+/// The machine that is asked for where no list of events says anything of it.
+pub fn conf_asked(asked: AskedSize) -> Conf
+    ensures { result ≡ conf_asked asked }
 {
-    logged?.line
+    asked_conf(asked, None)
 }
 
-// The unit of the log's links; without a log a word.
-fn unit_in(logged: Option<LoggedMachine>) -> LinkUnit
-    ensures { result ≡ unit_in logged }
+/// What is asked for, of this machine.
+pub fn settled(asked: AskedSize, conf: Conf) -> AskedSize
+    ensures size { result ≡ settled asked conf }
+    ensures conf { (named : Option NamedMachineValue) → conf ≡ asked_conf asked named
+        → conf_asked result ≡ conf }
 {
-    match logged {
-        Some(logged) => logged.mode.link,
-        None => LinkUnit::Word,
+    AskedSize {
+        ram: Some(conf.ram),
+        processors: Some(conf.processors),
+        log: asked.log,
+        link: Some(conf.link),
+        strict: conf.strict,
     }
 }
 
-// Whether the log is a strict machine's.
-fn is_strict(logged: Option<LoggedMachine>) -> bool
-    ensures { result ≡ is_strict logged }
+// What a list of events says of its machine.
+fn size_named(named: Option<NamedMachine>) -> MachineSize
+    ensures { result ≡ size_named named }
 {
-    match logged {
-        Some(logged) => logged.mode.strict,
-        None => false,
+    match named {
+        None => DEFAULT_SIZE,
+        Some(NamedMachine::Sized(size)) => size,
+        Some(NamedMachine::Logged(logged)) => size_of_log(logged.line, logged.mode),
     }
 }
 
-/// Why an image, in the machine that is asked for, isn't the one that a log names: `LogMachine`, or
-/// else `LogImage`.
+// The size that a log says.
+fn size_of_log(line: Option<MachineLine>, mode: Mode) -> MachineSize
+    ensures { result ≡ size_of_log line mode }
+{
+    match line {
+        None => MachineSize {
+            mode,
+            ..DEFAULT_SIZE
+        },
+        Some(line) => MachineSize {
+            ram: line.ram,
+            processors: line.processors,
+            mode,
+        },
+    }
+}
+
+/// Why an image, in the machine that is asked for, isn't the one that a list of events names:
+/// `LogMachine`, or else `LogImage`.
 pub fn machine_fault<'a>(
     asked: AskedSize,
     file: &[u8],
-    logged: Option<LoggedMachine>,
+    named: Option<NamedMachine>,
 ) -> Option<Fault<'a>>
-    ensures { result ≡ machine_fault asked file.now logged }
+    ensures { result ≡ machine_fault asked file.now named }
 {
-    let logged = logged?;
+    match named {
+        None => None,
+        Some(NamedMachine::Sized(_)) => None,
+        Some(NamedMachine::Logged(logged)) => log_fault(asked, file, logged),
+    }
+}
+
+// The same of a log.
+fn log_fault<'a>(asked: AskedSize, file: &[u8], logged: LoggedMachine) -> Option<Fault<'a>>
+    ensures { result ≡ machine_fault asked file.now (Some (Logged logged)) }
+{
     if is_other_machine(asked, logged) {
         Some(Fault::LogMachine)
     } else if is_image(file, logged.line) {

@@ -1,10 +1,12 @@
 //! The machine of a command line.
 
-ghost use Rattle.std.specs.Prelude.{◌≡◌};
-ghost use Rattle.s161_base.specs.Sizes.{conf_of};
+ghost use Rattle.std.specs.Prelude.{◌≡◌, IfOk, string_bytes};
+ghost use Rattle.s161_base.specs.Sizes.{conf_of, size_line_text};
 
 use m161_machine::Conf;
+use m161_steplog::{MachineSize, Mode, size_line};
 use s161_command::Size;
+use std::alloc::{AllocError, Global};
 
 /// The machine of this size.
 pub fn conf_of(size: Size) -> Conf
@@ -17,4 +19,24 @@ pub fn conf_of(size: Size) -> Conf
         link: size.link,
         strict: size.strict,
     }
+}
+
+/// The machine line of a schedule of the events of a machine of this size, with its end.
+///
+/// # Errors
+/// Memory was refused.
+pub fn line_of_size(alloc: Global, size: Size) -> Result<String, AllocError>
+    ensures { IfOk result (λ line. string_bytes line ≡ size_line_text size) }
+{
+    size_line(
+        alloc,
+        MachineSize {
+            ram: size.ram,
+            processors: size.processors,
+            mode: Mode {
+                link: size.link,
+                strict: size.strict,
+            },
+        },
+    )
 }

@@ -87,13 +87,18 @@ with_size_rules log command =
     link_rule)
     strict_rule
 
--- the same without defaults but the log's: what isn't given is a log's own
+-- the same without defaults but the log's: what isn't given is what a list of events says
 abbrev pub with_asked_size_rules : Text → App → App
 with_asked_size_rules log command =
     with_rule (with_rule (with_rule command
     (optional_rule (codes "ram") 0 4_294_967_295))
     (optional_rule (codes "cpus") 0 4_294_967_295))
     (number_rule (codes "log") log)
+
+-- and the same with the mode of the machine
+abbrev pub with_named_size_rules : Text → App → App
+with_named_size_rules log command =
+    with_rule (with_rule (with_asked_size_rules log command) (text_rule (codes "link"))) strict_rule
 
 -- a command that takes an image
 abbrev pub on_image : Text → App
@@ -103,7 +108,7 @@ on_image name = with_rule (new_app name) (file_rule (codes "image"))
 abbrev pub plain_run_line : App
 plain_run_line =
     with_rule (with_rule (with_rule (with_rule (with_rule (with_rule
-    (with_size_rules (codes "65536") (on_image (codes "run")))
+    (with_named_size_rules (codes "65536") (on_image (codes "run")))
     (flag_rule (codes "show-log")))
     (flag_rule (codes "only-log")))
     (flag_rule (codes "only-output")))
@@ -166,7 +171,7 @@ schedule_line =
 abbrev pub plain_trace_line : App
 plain_trace_line =
     with_rule (with_rule (with_rule (with_rule (with_rule (with_rule (with_rule (with_rule (with_rule
-    (with_size_rules (codes "65536") (on_image (codes "trace")))
+    (with_named_size_rules (codes "65536") (on_image (codes "trace")))
     (long_rule (codes "from") 0 18_446_744_073_709_551_615))
     (long_rule (codes "count") 0 18_446_744_073_709_551_615))
     (flag_rule (codes "names")))
@@ -183,7 +188,7 @@ trace_line = with_pace_rules 9_223_372_036_854_775_807 (with_order_rules plain_t
 
 -- a command over an image and a text, with the options of a machine's size
 abbrev pub files_line : Text → Text → Text → App
-files_line name text log = with_size_rules log (with_rule (on_image name) (file_rule text))
+files_line name text log = with_named_size_rules log (with_rule (on_image name) (file_rule text))
 
 -- the arguments of `replay`: an image, a log and options
 abbrev pub replay_line : App
@@ -199,10 +204,8 @@ optional_file_rule name = record (new_rule name) { value_names = 1 }
 -- be left out, and those of a size that a log may say
 abbrev pub listed_line : Text → App
 listed_line name =
-    with_rule (with_rule (with_asked_size_rules (codes "1048576")
-    (with_rule (on_image name) (optional_file_rule (codes "file"))))
-    (text_rule (codes "link")))
-    strict_rule
+    with_named_size_rules (codes "1048576")
+    (with_rule (on_image name) (optional_file_rule (codes "file")))
 
 -- the arguments of `debug`, without those of a driven run
 abbrev pub plain_debug_line : App
@@ -279,6 +282,19 @@ pub record IsSize (kept : ℕ) (rows : List Row) (size : Size) : Type 0 where
   pub link : IsLink (first_of (codes "link") rows) size.link
   pub strict : size.strict ≡ is_set (codes "strict") rows
 
+-- a machine of this size is asked for; a list of events may say what isn't given, and how many entries
+-- its own log keeps has this default
+pub record IsAskedSize (kept : ℕ) (rows : List Row) (size : AskedSize) : Type 0 where
+  pub ram : IsNumberIf (one_of (codes "ram") rows) size.ram
+  pub cpus : IsNumberIf (one_of (codes "cpus") rows) size.processors
+  pub log : IsNumberOf kept (one_of (codes "log") rows) size.log
+
+-- and of this mode
+pub record IsNamedSize (kept : ℕ) (rows : List Row) (size : AskedSize) : Type 0 where
+  pub asked : IsAskedSize kept rows size
+  pub link : IsLinkIf (first_of (codes "link") rows) size.link
+  pub strict : size.strict ≡ is_set (codes "strict") rows
+
 -- what `run` is asked to print
 abbrev pub shown_of : List Row → Shown
 shown_of rows =
@@ -289,7 +305,7 @@ shown_of rows =
 -- `run` asks for this
 pub record AsksRun (rows : List Row) (task : RunTask) : Type 0 where
   pub image : task.image.now ≡ given_of (codes "image") rows
-  pub size : IsSize 65_536 rows task.size
+  pub size : IsNamedSize 65_536 rows task.size
   pub shown : task.shown ≡ shown_of rows
   pub traps : task.traps ≡ is_set (codes "traps") rows
 
@@ -352,13 +368,6 @@ pub record AsksExplore (rows : List Row) (task : ExploreTask) : Type 0 where
   pub output : option_map (λ name. name.now) task.output ≡ first_of (codes "output") rows
   pub states : IsNumberOf 1_000_000 (one_of (codes "states") rows) task.states
 
--- a machine of this size is asked for; a log may say what isn't given, and how many entries its own
--- log keeps has this default
-pub record IsAskedSize (kept : ℕ) (rows : List Row) (size : AskedSize) : Type 0 where
-  pub ram : IsNumberIf (one_of (codes "ram") rows) size.ram
-  pub cpus : IsNumberIf (one_of (codes "cpus") rows) size.processors
-  pub log : IsNumberOf kept (one_of (codes "log") rows) size.log
-
 -- `replay` asks for this
 pub record AsksReplay (rows : List Row) (task : ReplayTask) : Type 0 where
   pub image : task.image.now ≡ given_of (codes "image") rows
@@ -375,7 +384,7 @@ registers_of rows = if is_set (codes "names") rows then Named else Numbered
 -- schedule
 pub record AsksTrace (rows : List Row) (task : TraceTask) : Type 0 where
   pub image : task.image.now ≡ given_of (codes "image") rows
-  pub size : IsSize 65_536 rows task.size
+  pub size : IsNamedSize 65_536 rows task.size
   pub from : IsLongNumberOf 0 (one_of (codes "from") rows) task.from
   pub count :
       IsLongNumberOf 18_446_744_073_709_551_615 (one_of (codes "count") rows) task.count
@@ -398,9 +407,7 @@ IsSource rows (Driven drive) = (has_order rows ≡ true) × AsksDrive OrFile row
 pub record AsksDebug (rows : List Row) (task : DebugTask) : Type 0 where
   pub image : task.image.now ≡ given_of (codes "image") rows
   pub source : IsSource rows task.source
-  pub size : IsAskedSize 1_048_576 rows task.size
-  pub link : IsLinkIf (first_of (codes "link") rows) task.size.link
-  pub strict : task.size.strict ≡ is_set (codes "strict") rows
+  pub size : IsNamedSize 1_048_576 rows task.size
   pub registers : task.registers ≡ registers_of rows
   pub symbols : task.symbols ≡ is_set (codes "symbols") rows
 
@@ -408,9 +415,7 @@ pub record AsksDebug (rows : List Row) (task : DebugTask) : Type 0 where
 pub record AsksGdb (rows : List Row) (task : GdbTask) : Type 0 where
   pub image : task.image.now ≡ given_of (codes "image") rows
   pub source : IsSource rows task.source
-  pub size : IsAskedSize 1_048_576 rows task.size
-  pub link : IsLinkIf (first_of (codes "link") rows) task.size.link
-  pub strict : task.size.strict ≡ is_set (codes "strict") rows
+  pub size : IsNamedSize 1_048_576 rows task.size
 
 -- `dis` asks for this
 pub record AsksListing (rows : List Row) (task : ListingTask) : Type 0 where
@@ -427,7 +432,7 @@ pub record AsksAssembly (rows : List Row) (task : AssemblyTask) : Type 0 where
 pub record AsksFiles (name : Text) (log : ℕ) (rows : List Row) (task : FilesTask) : Type 0 where
   pub image : task.image.now ≡ given_of (codes "image") rows
   pub text : task.text.now ≡ given_of name rows
-  pub size : IsSize log rows task.size
+  pub size : IsNamedSize log rows task.size
 
 -- the words that ask for another task than the demo
 abbrev pub IsOther : Text → Type 0
@@ -522,7 +527,8 @@ HasLimits _ = Unit {0}
 -- the log of a run in threads whose traps are counted has room for the entry of each of its Steps
 abbrev pub keeps_all : ThreadsTask → Bool
 keeps_all task =
-    not (task.run.traps && nat_lt task.run.size.log (task.quota * task.run.size.processors))
+    not (task.run.traps
+    && nat_lt task.run.size.log (task.quota * unwrap_or task.run.size.processors 1))
 
 abbrev pub HasEntries : Task → Type 0
 HasEntries (RunInThreads task) = keeps_all task ≡ true

@@ -2,7 +2,7 @@
 
 ghost use Rattle.std.specs.Prelude.{◌≡◌, IfErr, IfOk, None, Some, codes, false, true};
 ghost use Rattle.clap.specs.Words.{first_of, found_of, rows_of, subcommand_rows_of};
-ghost use Rattle.s161_command.specs.Commands.{AsksAssembly, AsksExplore, AsksFiles, AsksListing, AsksReplay, AsksRun, ClashesIn, GoTogether, HasEntries, HasLimits, HasSourceLimits, IsAskedSize, IsSize, IsSource, IsTask, order_use, registers_of, shown_of};
+ghost use Rattle.s161_command.specs.Commands.{AsksAssembly, AsksExplore, AsksFiles, AsksListing, AsksReplay, AsksRun, ClashesIn, GoTogether, HasEntries, HasLimits, HasSourceLimits, IsAskedSize, IsNamedSize, IsSize, IsSource, IsTask, order_use, registers_of, shown_of};
 ghost use Rattle.s161_command.specs.Drives.{AsksDriveIf, has_order};
 ghost use Rattle.s161_command.specs.Links.{IsLinkIf};
 ghost use Rattle.s161_command.specs.declared.drive.OrderUse.TheVariants.{Assumed, Needed, Optional, OrFile, Seeded};
@@ -36,6 +36,35 @@ fn size_given<'a>(given: &ArgMatches<'a>, log: u32, link: Option<LinkUnit>) -> S
     }
 }
 
+// The size of a machine, of which a list of events may say what isn't given; how many entries its own
+// log keeps has this default.
+fn asked_size_given<'a>(
+    given: &ArgMatches<'a>,
+    log: u32,
+    link: Option<LinkUnit>,
+    strict: bool,
+) -> AskedSize
+    ensures size { IsAskedSize log (rows_of (found_of given.now)) result }
+    ensures link { result.link ≡ link }
+    ensures strict { result.strict ≡ strict }
+{
+    AskedSize {
+        ram: number_if_given(given, "ram"),
+        processors: number_if_given(given, "cpus"),
+        log: number_given(given, "log", log),
+        link,
+        strict,
+    }
+}
+
+// The same with the mode that is given.
+fn named_size_given<'a>(given: &ArgMatches<'a>, log: u32, link: Option<LinkUnit>) -> AskedSize
+    requires { IsLinkIf (first_of (codes "link") (rows_of (found_of given.now))) link }
+    ensures { IsNamedSize log (rows_of (found_of given.now)) result }
+{
+    asked_size_given(given, log, link, is_set(given, "strict"))
+}
+
 // What `run` is asked to print.
 fn shown_given<'a>(given: &ArgMatches<'a>) -> Shown
     ensures { result ≡ shown_of (rows_of (found_of given.now)) }
@@ -60,7 +89,7 @@ fn run_given<'a>(given: &ArgMatches<'a>, link: Option<LinkUnit>) -> RunTask<'a>
 {
     RunTask {
         image: file_given(given, "image"),
-        size: size_given(given, 65_536, link),
+        size: named_size_given(given, 65_536, link),
         shown: shown_given(given),
         traps: is_set(given, "traps"),
     }
@@ -160,27 +189,6 @@ fn explore_task_of<'a>(given: &ArgMatches<'a>, settings: Settings) -> ExploreTas
     }
 }
 
-// The size of a machine, of which a log may say what isn't given; how many entries its own log keeps
-// has this default.
-fn asked_size_given<'a>(
-    given: &ArgMatches<'a>,
-    log: u32,
-    link: Option<LinkUnit>,
-    strict: bool,
-) -> AskedSize
-    ensures size { IsAskedSize log (rows_of (found_of given.now)) result }
-    ensures link { result.link ≡ link }
-    ensures strict { result.strict ≡ strict }
-{
-    AskedSize {
-        ram: number_if_given(given, "ram"),
-        processors: number_if_given(given, "cpus"),
-        log: number_given(given, "log", log),
-        link,
-        strict,
-    }
-}
-
 // The arguments of `replay`.
 fn replay_task_of<'a>(given: &ArgMatches<'a>) -> ReplayTask<'a>
     ensures { AsksReplay (rows_of (found_of given.now)) result }
@@ -223,7 +231,7 @@ fn task_of_trace<'a>(given: &ArgMatches<'a>, settings: Settings) -> Task<'a>
 {
     Task::Trace(TraceTask {
         image: file_given(given, "image"),
-        size: size_given(given, 65_536, settings.link),
+        size: named_size_given(given, 65_536, settings.link),
         from: long_given(given, "from", 0),
         count: long_given(given, "count", u64::MAX),
         registers: registers_given(given),
@@ -256,11 +264,10 @@ fn task_of_debug<'a>(given: &ArgMatches<'a>, settings: Settings) -> Task<'a>
     ensures task { IsTask (Some (codes "debug", rows_of (found_of given.now))) result }
     ensures limits { HasLimits result }
 {
-    let strict = is_set(given, "strict");
     Task::Debug(DebugTask {
         image: file_given(given, "image"),
         source: source_given(given, settings),
-        size: asked_size_given(given, 1_048_576, settings.link, strict),
+        size: named_size_given(given, 1_048_576, settings.link),
         registers: registers_given(given),
         symbols: is_set(given, "symbols"),
     })
@@ -272,11 +279,10 @@ fn task_of_gdb<'a>(given: &ArgMatches<'a>, settings: Settings) -> Task<'a>
     ensures task { IsTask (Some (codes "gdb", rows_of (found_of given.now))) result }
     ensures limits { HasLimits result }
 {
-    let strict = is_set(given, "strict");
     Task::Gdb(GdbTask {
         image: file_given(given, "image"),
         source: source_given(given, settings),
-        size: asked_size_given(given, 1_048_576, settings.link, strict),
+        size: named_size_given(given, 1_048_576, settings.link),
     })
 }
 
@@ -314,7 +320,7 @@ fn files_task_of<'a>(
     FilesTask {
         image: file_given(given, "image"),
         text: file_given(given, text),
-        size: size_given(given, log, link),
+        size: named_size_given(given, log, link),
     }
 }
 
@@ -348,7 +354,8 @@ fn lacks_entries<'a>(task: Task<'a>) -> bool
 {
     match task {
         Task::RunInThreads(ThreadsTask { run, quota, .. }) => {
-            run.traps && u64::from(quota) * u64::from(run.size.processors) > u64::from(run.size.log)
+            let processors = run.size.processors.unwrap_or(1);
+            run.traps && u64::from(quota) * u64::from(processors) > u64::from(run.size.log)
         }
         _ => false,
     }

@@ -26,6 +26,9 @@ schedule have at most 402653184 bytes:
   k HH     a byte is typed at the console, two hexadecimal digits
   o        the console has sent its byte
   # ...    a comment; an empty line is ignored too
+Its first line may be a machine line, as schedule and search print it: `# machine RAM CPUS`, then
+` line` where ll links to one, then ` strict`. What --ram, --cpus, --link and --strict don't say is
+that machine's. A log may stand in the schedule's place, as for debug: its events are made.
 
 With --threads each processor has a thread that makes Q Steps, unless the
 machine is switched off, and no schedule is read. A thread makes up to K Steps
@@ -74,7 +77,8 @@ Exit status:
 
 Example:
   s161 run kernel.elf --turns 1
-  printf 's 0 1000\\nk 41\\ns 0 1000\\n' | s161 run kernel.elf --show-log";
+  printf 's 0 1000\\nk 41\\ns 0 1000\\n' | s161 run kernel.elf --show-log
+  s161 run kernel.elf < bad.schedule";
 
 /// The end of the help of `console`.
 pub(crate) const AFTER_CONSOLE_HELP: &str = "\
@@ -111,8 +115,8 @@ choices from --from on, and below --within. The first run that goes wrong ends t
   hung      the machine is neither off nor stuck behind any event, and from the last one on no order
             of events leads to either; those that do lead to at most N states (--hung)
   end       with --output: the machine is neither off nor stuck after --events events
-Its schedule is printed, shortened unless --whole is given, behind two comments: its seed or its
-delays, and what is wrong. `clean N` says that no run goes wrong; `clean N cut M` that M of them
+Its schedule is printed, shortened unless --whole is given, behind three comments: its machine line,
+its seed or its delays, and what is wrong. `clean N` says that no run goes wrong; `clean N cut M` that M of them
 weren't over after --events events. With --jobs N so many threads make the runs, as far as the
 host has them; what is printed is the same. A file has at most 402653184 bytes.
 
@@ -123,12 +127,12 @@ Exit status:
 
 Example:
   s161 search kernel.elf --cpus 2 --seeds 1000 --watches watches > bad.schedule
-  s161 audit kernel.elf watches --cpus 2 < bad.schedule";
+  s161 audit kernel.elf watches < bad.schedule";
 
 /// The end of the help of `schedule`.
 pub(crate) const AFTER_SCHEDULE_HELP: &str = "\
-An order is needed, --turns or --random, as for run. What is printed is a schedule of the events
-that were made, at most 16777216: run over it prints what the same run by its order prints, but for
+An order is needed, --turns or --random, as for run. What is printed is a machine line, and a schedule
+of the events that were made, at most 16777216: run over it prints what the same run by its order prints, but for
 the last line where that says why no more events were chosen. A file has at most 402653184 bytes.
 
 Exit status:
@@ -137,7 +141,7 @@ Exit status:
 
 Example:
   s161 schedule kernel.elf --cpus 2 --random 7 > seed-7.schedule
-  s161 run kernel.elf --cpus 2 < seed-7.schedule";
+  s161 run kernel.elf < seed-7.schedule";
 
 /// The end of the help of `explore`.
 pub(crate) const AFTER_EXPLORE_HELP: &str = "\
@@ -146,7 +150,7 @@ console is sending may be sent, and the next key be typed. States that differ in
 as long as no Step reads time. The answers:
   clean N      no order, however long, goes wrong, and each can be gone on with to an end; N states
   open N L     there are more than N states; nothing goes wrong in the first L events
-or, as search prints it, `# states S`, S states being found before, then
+or, as search prints it, a machine line and `# states S`, S states being found before, then
   # stale ..   # reached ..   # conflict ..   # stuck   # output
 and a shortest schedule of what goes wrong; or
   # hung       and a shortest schedule to a state from which no order leads to an end
@@ -165,7 +169,8 @@ Example:
 
 /// The end of the help of `trace`.
 pub(crate) const AFTER_TRACE_HELP: &str = "\
-The events are those of run: a schedule from standard input, or chosen by an order. A line is
+The events are those of run: a schedule or a log from standard input, which may name the machine, or
+chosen by an order. A line is
   K P PC WORD TEXT  ITEMS   event K, from 0, is a Step of processor P: its address, the word that is
                             fetched and its text, or - where none is; and what the Step changed
   K k HH                    a byte is typed
@@ -195,7 +200,7 @@ Exit status:
 
 Example:
   s161 trace kernel.elf --cpus 2 --random 7 --from 1000 --count 50
-  s161 trace kernel.elf --cpus 2 --loads < bad.schedule";
+  s161 trace kernel.elf --loads < bad.schedule";
 
 /// The end of the help of `replay`.
 pub(crate) const AFTER_REPLAY_HELP: &str = "\
@@ -221,7 +226,8 @@ Example:
 pub(crate) const AFTER_DEBUG_HELP: &str = "\
 The events are those of FILE, a schedule or a log (run --only-log), or those that an order chooses:
 give one of the two. A log says the machine's size, what ll links to and whether it is strict, as for
-replay; without one it is 1048576 bytes, 1 processor, a word and not strict where nothing is given.
+replay, and the machine line of a schedule says it as for run; without one it is 1048576 bytes, 1
+processor, a word and not strict where nothing is given.
 The commands are read from standard input, one a line, and each is answered before the next one is
 read:
   b P ADDR  d P ADDR   sets or deletes a breakpoint of processor P
@@ -281,7 +287,7 @@ Example:
 
 /// The end of the help of `audit`.
 pub(crate) const AFTER_AUDIT_HELP: &str = "\
-The schedule is that of run, from standard input. The watches say what to look for, one a line:
+The schedule is that of run, from standard input, or a log. The watches say what to look for, one a line:
   w ID PAGE PTE DONE   the page PAGE of address space ID; its entry, in EntryLo's form, is the word
                        at PTE, and the initiator of a shootdown writes the word at DONE when it is
                        over: physical addresses
@@ -297,7 +303,7 @@ Exit status:
 
 Example:
   printf 'w 5 00400 00003000 00003004\\n' > watches
-  s161 audit kernel.elf watches --cpus 2 < schedule";
+  s161 audit kernel.elf watches < bad.schedule";
 
 /// The end of the help of `as`.
 pub(crate) const AFTER_AS_HELP: &str = "\

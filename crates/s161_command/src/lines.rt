@@ -76,11 +76,11 @@ static RUN: Line = Line {
     about: "Runs an image under a schedule of events, or by an order that chooses them",
     arguments: &[
         IMAGE,
-        RAM,
-        CPUS,
+        ASKED_RAM,
+        ASKED_CPUS,
         LOG,
-        LINK,
-        STRICT,
+        ASKED_LINK,
+        ASKED_STRICT,
         SHOW_LOG,
         ONLY_LOG,
         ONLY_OUTPUT,
@@ -181,11 +181,11 @@ static TRACE: Line = Line {
     about: "Prints a line for each event of a run: the instruction, and what it changed",
     arguments: &[
         IMAGE,
-        RAM,
-        CPUS,
+        ASKED_RAM,
+        ASKED_CPUS,
         LOG,
-        LINK,
-        STRICT,
+        ASKED_LINK,
+        ASKED_STRICT,
         FIRST_EVENT,
         COUNT,
         NAMES,
@@ -264,7 +264,15 @@ static GDB: Line = Line {
 static AUDIT: Line = Line {
     name: "audit",
     about: "Looks for a Step that uses a stale row of the TLB, after its shootdown",
-    arguments: &[IMAGE, WATCHES_FILE, RAM, CPUS, LOG, LINK, STRICT],
+    arguments: &[
+        IMAGE,
+        WATCHES_FILE,
+        ASKED_RAM,
+        ASKED_CPUS,
+        LOG,
+        ASKED_LINK,
+        ASKED_STRICT,
+    ],
 };
 
 static AS: Line = Line {

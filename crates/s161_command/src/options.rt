@@ -77,22 +77,22 @@ pub(crate) const STRICT: Argument = Argument {
     required: false,
 };
 
-/// How much RAM the machine has, where a log may say it.
+/// How much RAM the machine has, where a list of events may say it.
 pub(crate) const ASKED_RAM: Argument = Argument {
     name: "ram",
     kind: ANY_NUMBER,
     shown: "N",
-    help: "Bytes of RAM, 4096 to 16777216 in pages of 4096; the log's own where it is left out",
+    help: "Bytes of RAM, 4096 to 16777216 in pages of 4096; where it is left out what the events' text says, else 1048576",
     default: None,
     required: false,
 };
 
-/// How many processors the machine has, where a log may say it.
+/// How many processors the machine has, where a list of events may say it.
 pub(crate) const ASKED_CPUS: Argument = Argument {
     name: "cpus",
     kind: ANY_NUMBER,
     shown: "N",
-    help: "Processors, 1 to 32; the log's own where it is left out",
+    help: "Processors, 1 to 32; where it is left out what the events' text says, else 1",
     default: None,
     required: false,
 };
@@ -107,22 +107,22 @@ pub(crate) const DEBUG_LOG: Argument = Argument {
     required: false,
 };
 
-/// What `ll` links a processor to, where a log may say it.
+/// What `ll` links a processor to, where a list of events may say it.
 pub(crate) const ASKED_LINK: Argument = Argument {
     name: "link",
     kind: Kind::Text,
     shown: "UNIT",
-    help: "What ll links to: word, or line, the aligned 16 bytes; the log's own where it is left out",
+    help: "What ll links to: word, or line, the aligned 16 bytes; where it is left out what the events' text says, else word",
     default: None,
     required: false,
 };
 
-/// Whether the machine is strict, where a log may say it.
+/// Whether the machine is strict, where a list of events may say it.
 pub(crate) const ASKED_STRICT: Argument = Argument {
     name: "strict",
     kind: Kind::Flag,
     shown: "",
-    help: "Stops the machine at a write of the TLB that makes two rows overlap; a log says it itself",
+    help: "Stops the machine at a write of the TLB that makes two rows overlap; the events' text may say it, too",
     default: None,
     required: false,
 };

@@ -74,7 +74,7 @@ pub struct RunTask<'a> {
     /// The image's name.
     pub image: &'a str,
     /// The machine's size.
-    pub size: Size,
+    pub size: AskedSize,
     /// What is printed.
     pub shown: Shown,
     /// Whether the traps are counted, by processor and code.
@@ -181,7 +181,7 @@ pub struct TraceTask<'a> {
     /// The image's name.
     pub image: &'a str,
     /// The machine's size.
-    pub size: Size,
+    pub size: AskedSize,
     /// The number of the first event that has a line.
     pub from: u64,
     /// How many events have a line, from that one on.
@@ -257,7 +257,8 @@ pub struct ListingTask<'a> {
     pub symbols: bool,
 }
 
-/// The size of the machine that `replay`, `debug` or `gdb` asks for.
+/// The size of the machine that is asked for over a list of events, which may say what isn't given: a log
+/// in its machine line and its first line, a schedule in its machine line.
 #[derive(Clone, Copy)]
 pub struct AskedSize {
     /// Bytes of RAM, if they are given.
@@ -300,5 +301,5 @@ pub struct FilesTask<'a> {
     /// The name of the text's file.
     pub text: &'a str,
     /// The machine's size.
-    pub size: Size,
+    pub size: AskedSize,
 }

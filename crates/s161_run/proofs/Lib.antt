@@ -1,7 +1,6 @@
 pub mod Asking
 mod Failing
 pub mod Making
-mod Replaying
 mod Shown
 pub mod Keeping
 mod Threading
@@ -11,3 +10,4 @@ mod Choosing
 mod Running
 mod Scheduling
 mod Turning
+pub mod Listing

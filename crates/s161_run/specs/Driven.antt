@@ -23,7 +23,7 @@ use Rattle.s161_base.specs.Faults.{BootsIn}
 use Rattle.s161_base.specs.Known.{OfKnown}
 use Rattle.s161_base.specs.Reading.{IsFileUnread, IsOfBytes}
 use Rattle.s161_base.specs.Samples.{IsFileName}
-use Rattle.s161_base.specs.Sizes.{conf_of}
+use Rattle.s161_base.specs.Machines.{conf_asked}
 
 -- The events, the output and the exit status of `run` by a policy.
 
@@ -66,7 +66,7 @@ pub record IsDriven
   pub keys : List ℕ
   pub are_keys : AreKeys task.drive.keys files keys
   pub booted : State
-  pub boots : BootsIn file (conf_of task.run.size) booted
+  pub boots : BootsIn file (conf_asked task.run.size) booted
   pub driven : Driven
   pub entries : List Entry
   pub state : State
@@ -75,7 +75,7 @@ pub record IsDriven
   pub text_is :
       text
       ≡ summary_text (told_traps task.run.traps booted (events_of entries))
-      (log_of_run (conf_of task.run.size) file entries) state stop task.run.shown
+      (log_of_run (conf_asked task.run.size) file entries) state stop task.run.shown
 
 -- a fault is that of the file of the keys
 abbrev pub IsKeysFile : Option (Bor (List ℕ)) → Fault → Type 0
@@ -89,8 +89,8 @@ abbrev pub IsDrivenFault : DrivenTask → Option (List ℕ) → Fault → Type 0
 IsDrivenFault task known (File name why) =
     ((name.now ≡ task.run.image.now) × IsFileName task.run.image.now × IsOfBytes why)
     ⊎ IsKeysFile task.drive.keys (File name why)
-IsDrivenFault task known Conf = is_within_limits (conf_of task.run.size) ≡ false
+IsDrivenFault task known Conf = is_within_limits (conf_asked task.run.size) ≡ false
 IsDrivenFault task known (Image e) =
-    OfKnown known (λ file. boot_fault file (conf_of task.run.size) ≡ Some (Load e))
+    OfKnown known (λ file. boot_fault file (conf_asked task.run.size) ≡ Some (Load e))
 IsDrivenFault task known Memory = Unit {0}
 IsDrivenFault task known _ = ⊥

@@ -15,6 +15,7 @@ use Rattle.s161_base.specs.declared.fault.Fault.{Fault}
 use Rattle.s161_base.specs.declared.fault.Fault.TheVariants.{Conf, File, Image, Log, LogImage, LogMachine, Memory}
 use Rattle.s161_base.specs.Known.{IsText, OfKnown, OfText}
 use Rattle.s161_base.specs.declared.machines.LoggedMachine.{LoggedMachine}
+use Rattle.s161_base.specs.declared.machines.NamedMachine.TheVariants.{Logged}
 use Rattle.s161_base.specs.Machines.{IsLogOf, asked_conf, machine_fault}
 use Rattle.s161_base.specs.Reading.{IsOfBytes, IsOfText}
 use Rattle.s161_base.specs.Samples.{IsFileName}
@@ -46,11 +47,11 @@ pub record IsReplayed
   pub logged : LoggedMachine
   pub entries : List Entry
   pub is_log : IsLogOf entries_text logged entries
-  pub is_that : machine_fault task.size file (Some logged) ≡ None
+  pub is_that : machine_fault task.size file (Some (Logged logged)) ≡ None
   pub verdict : Comparison
   pub verifies :
-      Verifies file (asked_conf task.size (Some logged))
-      (boot_fault file (asked_conf task.size (Some logged))) entries (Ok verdict)
+      Verifies file (asked_conf task.size (Some (Logged logged)))
+      (boot_fault file (asked_conf task.size (Some (Logged logged)))) entries (Ok verdict)
   pub text_is : text ≡ with_line_end (verdict_text verdict)
   pub status_is : status ≡ status_of_verdict verdict
 
@@ -73,14 +74,14 @@ IsReplayFault task image log (File name why) =
 IsReplayFault task image log (Log n) =
     OfText log (λ text. IsFirstBadOfLog text n)
 IsReplayFault task image log LogMachine =
-    OfReplay image log (λ file logged. machine_fault task.size file (Some logged) ≡ Some LogMachine)
+    OfReplay image log (λ file logged. machine_fault task.size file (Some (Logged logged)) ≡ Some LogMachine)
 IsReplayFault task image log LogImage =
-    OfReplay image log (λ file logged. machine_fault task.size file (Some logged) ≡ Some LogImage)
+    OfReplay image log (λ file logged. machine_fault task.size file (Some (Logged logged)) ≡ Some LogImage)
 IsReplayFault task image log Conf =
-    OfReplay image log (λ file logged. (machine_fault task.size file (Some logged) ≡ None)
-    × (is_within_limits (asked_conf task.size (Some logged)) ≡ false))
+    OfReplay image log (λ file logged. (machine_fault task.size file (Some (Logged logged)) ≡ None)
+    × (is_within_limits (asked_conf task.size (Some (Logged logged))) ≡ false))
 IsReplayFault task image log (Image e) =
-    OfReplay image log (λ file logged. (machine_fault task.size file (Some logged) ≡ None)
-    × (boot_fault file (asked_conf task.size (Some logged)) ≡ Some (Load e)))
+    OfReplay image log (λ file logged. (machine_fault task.size file (Some (Logged logged)) ≡ None)
+    × (boot_fault file (asked_conf task.size (Some (Logged logged))) ≡ Some (Load e)))
 IsReplayFault task image log Memory = Unit {0}
 IsReplayFault task image log _ = ⊥

@@ -15,7 +15,7 @@ use Rattle.m161_machine.specs.Refusal.{name_of_refusal, number_of_refusal}
 use Rattle.m161_machine.specs.State.{State, next, processor_at}
 use Rattle.m161_machine.specs.History.{Leads, Refuses, boot_fault, events_of}
 use Rattle.m161_display.specs.Shows.{show_regs_text}
-use Rattle.m161_text.specs.Lines.{with_line_end, FirstBad, lines_of}
+use Rattle.m161_text.specs.Lines.{with_line_end}
 use Rattle.m161_traps.specs.Shown.{traps_text}
 use Rattle.m161_traps.specs.Traps.{trap_lines}
 use Rattle.m161_steplog.specs.declared.machine.MachineLine.{MachineLine}
@@ -23,20 +23,18 @@ use Rattle.m161_steplog.specs.declared.mode.Mode.{Mode}
 use Rattle.m161_steplog.specs.Log.{log_text, tail_text}
 use Rattle.m161_steplog.specs.Machine.{machine_text}
 use Rattle.m161_text.specs.Parts.{◌␣◌}
-use Rattle.m161_steplog.specs.Schedule.{AreScheduleLines, IsSchedule}
 use Rattle.s161_command.specs.declared.task.RunTask.{RunTask}
 use Rattle.s161_command.specs.declared.task.Shown.{Shown}
 use Rattle.s161_command.specs.declared.task.Shown.TheVariants as shown
 use Rattle.s161_run.specs.declared.events.RunStop.{RunStop}
 use Rattle.s161_run.specs.declared.events.RunStop.TheVariants.{Off, Conflict as ConflictStop, End, Stuck, Refused}
 use Rattle.s161_base.specs.declared.fault.Fault.{Fault}
-use Rattle.s161_base.specs.declared.fault.Fault.TheVariants.{Conf, File, Image, Input, Memory, Schedule}
+use Rattle.s161_base.specs.declared.fault.Fault.TheVariants.{Conf, File, Image, Input, Log, LogImage, LogMachine, Memory, Schedule}
 use Rattle.s161_base.specs.Faults.{BootsIn}
-use Rattle.s161_base.specs.Known.{IsText, OfKnown, OfText}
+use Rattle.s161_base.specs.Known.{IsText, OfText}
+use Rattle.s161_base.specs.Listed.{IsListFault, ListsFor, OfListed, OfUnlisted}
 use Rattle.s161_base.specs.Reading.{IsOfBytes, IsOfText}
 use Rattle.s161_base.specs.Samples.{IsFileName}
-use Rattle.s161_base.specs.Sizes.{conf_of}
-use Rattle.s161_base.specs.Texts.{HasSchedule}
 
 -- The events, the output and the exit status of `run`.
 
@@ -173,32 +171,37 @@ pub record IsRun
     (text : List ℕ) (stop : RunStop) : Type 0 where
   pub file : List ℕ
   pub is_file : IfSome known (λ bytes. file ≡ bytes)
-  pub booted : State
-  pub boots : BootsIn file (conf_of task.size) booted
   pub schedule : List ℕ
   pub is_input : IfSome input (λ bytes. schedule ≡ bytes)
   pub is_text : IsText schedule
   pub events : List Event
-  pub is_schedule : IsSchedule (lines_of schedule) events
+  pub conf : MachineConf
+  pub lists : ListsFor task.size file schedule events conf
+  pub booted : State
+  pub boots : BootsIn file conf booted
   pub entries : List Entry
   pub state : State
   pub makes : MakesEvents booted events stop entries state
   pub text_is :
       text
       ≡ summary_text (told_traps task.traps booted (events_of entries))
-      (log_of_run (conf_of task.size) file entries) state stop task.shown
+      (log_of_run conf file entries) state stop task.shown
 
 -- what a fault that ends a run says of its inputs: of a file, that it is the image's; of the
--- schedule, its first bad line; of the configuration or the image, that the schedule had no fault.
--- File, Input and Memory hold whatever else is at fault
+-- schedule or the log, its first bad line; then, that it has none, and names another machine or another
+-- image; of the configuration or the image, that the text had no fault. File, Input and Memory hold
+-- whatever else is at fault
 abbrev pub IsFaultOf : RunTask → Option (List ℕ) → Option (List ℕ) → Fault → Type 0
 IsFaultOf task known input (File name why) =
     (name.now ≡ task.image.now) × IsFileName task.image.now × IsOfBytes why
 IsFaultOf task known input (Input why) = IsOfText input why
-IsFaultOf task known input (Schedule n) =
-    OfText input (λ text. FirstBad AreScheduleLines text n)
-IsFaultOf task known input Conf = HasSchedule input × (is_within_limits (conf_of task.size) ≡ false)
+IsFaultOf task known input (Schedule n) = OfText input (λ text. IsListFault text (Schedule n))
+IsFaultOf task known input (Log n) = OfText input (λ text. IsListFault text (Log n))
+IsFaultOf task known input LogMachine = OfUnlisted task.size known input LogMachine
+IsFaultOf task known input LogImage = OfUnlisted task.size known input LogImage
+IsFaultOf task known input Conf =
+    OfListed task.size known input (λ file conf. is_within_limits conf ≡ false)
 IsFaultOf task known input (Image e) =
-    HasSchedule input × OfKnown known (λ file. boot_fault file (conf_of task.size) ≡ Some (Load e))
+    OfListed task.size known input (λ file conf. boot_fault file conf ≡ Some (Load e))
 IsFaultOf task known input Memory = Unit {0}
 IsFaultOf task known input _ = ⊥

@@ -21,7 +21,7 @@ use Rattle.s161_base.specs.Faults.{BootsIn}
 use Rattle.s161_base.specs.Known.{OfKnown}
 use Rattle.s161_base.specs.Reading.{IsOfBytes}
 use Rattle.s161_base.specs.Samples.{IsFileName}
-use Rattle.s161_base.specs.Sizes.{conf_of}
+use Rattle.s161_base.specs.Sizes.{conf_of, size_line_text}
 use Rattle.s161_run.specs.declared.events.RunStop.{RunStop}
 use Rattle.s161_run.specs.declared.events.RunStop.TheVariants.{End}
 use Rattle.s161_run.specs.Driven.{AreKeys, IsKeysFile, rules_of}
@@ -43,7 +43,7 @@ pub record Chose (rules : Rules) (n : ℕ) (s : State) (events : List Event) : T
   pub accepted : (refusal : Refusal) → driven.stop ≢ drive.Refused refusal
   pub events_are : events ≡ events_of entries
 
--- a finished schedule: the text of the events that the policy chooses, which has these events where it
+-- a finished schedule: a machine line, and the text of the events that the policy chooses; it has these events where it
 -- is read, unless they are more than a schedule can have; the files have these bytes, and that of the
 -- image, as far as they are known
 pub record IsScheduled
@@ -57,7 +57,7 @@ pub record IsScheduled
   pub boots : BootsIn file (conf_of task.size) booted
   pub events : List Event
   pub chose : Chose (rules_of task.drive keys) task.drive.events booted events
-  pub text_is : text ≡ schedule_text events
+  pub text_is : text ≡ size_line_text task.size ++ schedule_text events
   pub is_read : length events ≤ 16_777_216 → IsSchedule (lines_of text) events
 
 -- why `run` makes no more events behind the last of a schedule, which led to this state

@@ -15,13 +15,17 @@ use Rattle.s161_base.specs.Faults.{BootsTo}
 use Rattle.s161_base.specs.Known.{OfKnown}
 use Rattle.s161_base.specs.Reading.{IsOfBytes}
 use Rattle.s161_base.specs.Samples.{IsFileName}
-use Rattle.s161_base.specs.Sizes.{conf_of}
+use Rattle.s161_base.specs.Machines.{conf_asked}
 
 -- The Steps, the output and the exit status of `run --threads`.
 
 -- how a run in threads stopped, by whether the machine is off, and its conflict
 abbrev pub stop_of : Bool → Option Conflict → RunStop
 stop_of off conflict = if off then stop_off conflict else End
+
+-- one thread for each processor
+abbrev pub threads_of : ThreadsTask → ℕ
+threads_of task = (conf_asked task.run.size).processors
 
 -- a finished run in threads: what it prints and why it stopped; the image's file has these bytes,
 -- as far as they are known. Its traps are those of the log, from the log's base on, which is the state
@@ -31,19 +35,19 @@ pub record IsRunInThreads
   pub file : List ℕ
   pub is_file : IfSome known (λ bytes. file ≡ bytes)
   pub booted : History
-  pub boots : BootsTo file (conf_of task.run.size) booted
-  pub begins : bad_call task.run.size.processors task.run.size.processors task.burst ≡ None
+  pub boots : BootsTo file (conf_asked task.run.size) booted
+  pub begins : bad_call (threads_of task) (threads_of task) task.burst ≡ None
   pub made : List ℕ
   pub off : Bool
   pub machine : History
   pub interleaves :
-      Interleaves booted (replicate task.run.size.processors task.quota) made off machine
+      Interleaves booted (replicate (threads_of task) task.quota) made off machine
   pub stop_is : stop ≡ stop_of off machine.state.conflict
   pub from_boot :
-      task.run.size.processors * task.quota ≤ task.run.size.log → machine.base ≡ booted.state
+      threads_of task * task.quota ≤ task.run.size.log → machine.base ≡ booted.state
   pub text_is :
       text ≡ summary_text (told_traps task.run.traps machine.base (events_of machine.log))
-      (shown_log (conf_of task.run.size) file machine.base.made machine.log) machine.state stop
+      (shown_log (conf_asked task.run.size) file machine.base.made machine.log) machine.state stop
       task.run.shown
 
 -- the cause of a run that doesn't begin for this reason; or of one that began
@@ -57,11 +61,11 @@ IsCause None cause = IsOfRun cause
 abbrev pub IsThreadsFault : ThreadsTask → Option (List ℕ) → Fault → Type 0
 IsThreadsFault task known (File name why) =
     (name.now ≡ task.run.image.now) × IsFileName task.run.image.now × IsOfBytes why
-IsThreadsFault task known Conf = is_within_limits (conf_of task.run.size) ≡ false
+IsThreadsFault task known Conf = is_within_limits (conf_asked task.run.size) ≡ false
 IsThreadsFault task known (Image e) =
-    OfKnown known (λ file. boot_fault file (conf_of task.run.size) ≡ Some (Load e))
+    OfKnown known (λ file. boot_fault file (conf_asked task.run.size) ≡ Some (Load e))
 IsThreadsFault task known (Threads cause) =
-    OfKnown known (λ file. boot_fault file (conf_of task.run.size) ≡ None)
-    × IsCause (bad_call task.run.size.processors task.run.size.processors task.burst) cause
+    OfKnown known (λ file. boot_fault file (conf_asked task.run.size) ≡ None)
+    × IsCause (bad_call (threads_of task) (threads_of task) task.burst) cause
 IsThreadsFault task known Memory = Unit {0}
 IsThreadsFault task known _ = ⊥

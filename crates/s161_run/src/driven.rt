@@ -15,8 +15,8 @@ use m161::Core;
 use m161_drive::Driven;
 use s161_base::fault::Fault;
 use s161_base::files::FileSource;
+use s161_base::machines::conf_asked;
 use s161_base::sample::read_image;
-use s161_base::sizes::conf_of;
 use s161_command::DrivenTask;
 use std::alloc::Global;
 
@@ -43,7 +43,7 @@ pub fn run_driven<'a, F: FileSource>(
     let file = read_image(alloc, files, task.run.image)?;
     let image = file.as_slice();
     let keys = read_keys(alloc, files, task.drive.keys)?;
-    let conf = conf_of(task.run.size);
+    let conf = conf_asked(task.run.size);
     let mut core = Core::boot(alloc, image, conf)?;
     let log = new_log(alloc, conf, task.run.shown)?;
     let made = make_chosen(alloc, &mut core, task.drive, &keys, log, task.run.traps)?;

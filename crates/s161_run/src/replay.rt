@@ -12,7 +12,7 @@ use s161_base::fault::Fault;
 use s161_base::files::FileSource;
 use s161_base::finished::Finished;
 use s161_base::input::read_text;
-use s161_base::machines::{asked_conf, machine_fault};
+use s161_base::machines::{NamedMachine, asked_conf, machine_fault};
 use s161_base::sample::read_image;
 use s161_base::texts::log_of;
 use s161_command::ReplayTask;
@@ -45,11 +45,11 @@ pub fn replay<'a, F: FileSource>(
     let listed = read_text(alloc, files, task.text)?;
     let text = listed.as_str();
     let log = log_of(alloc, text)?;
-    let logged = Some(log.machine);
-    if let Some(fault) = machine_fault(task.size, image, logged) {
+    let named = Some(NamedMachine::Logged(log.machine));
+    if let Some(fault) = machine_fault(task.size, image, named) {
         return Err(fault);
     }
-    let conf = asked_conf(task.size, logged);
+    let conf = asked_conf(task.size, named);
     let verdict = verify::<Tlb, Console>(alloc, image, conf, &log.entries)?;
     let shown = verdict_line(alloc, verdict)?;
     Ok(Finished {

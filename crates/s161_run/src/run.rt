@@ -12,15 +12,14 @@ use m161::Core;
 use s161_base::fault::Fault;
 use s161_base::files::FileSource;
 use s161_base::input::read_input;
+use s161_base::listed::plan_run;
 use s161_base::sample::read_image;
-use s161_base::sizes::conf_of;
-use s161_base::texts::events_of;
 use s161_command::RunTask;
 use std::alloc::Global;
 use std::io::Read;
 
-/// Reads the image and then the schedule, boots the image, and makes the schedule's events until
-/// one switches the machine off or is refused.
+/// Reads the image and then the schedule or the log, boots the image, in the machine that is asked for
+/// over that text, and makes the text's events until one switches the machine off or is refused.
 ///
 /// # Errors
 /// The first fault.
@@ -45,11 +44,10 @@ pub fn run<'a, F: FileSource, I: Read>(
     let file = read_image(alloc, files, task.image)?;
     let image = file.as_slice();
     let schedule = read_input(alloc, input)?;
-    let events = events_of(alloc, schedule.as_str())?;
-    let conf = conf_of(task.size);
-    let mut core = Core::boot(alloc, image, conf)?;
-    let log = new_log(alloc, conf, task.shown)?;
-    let made = make_scheduled(alloc, &mut core, &events, log, task.traps)?;
+    let run = plan_run(alloc, task.size, image, schedule.as_str())?;
+    let mut core = Core::boot(alloc, image, run.conf)?;
+    let log = new_log(alloc, run.conf, task.shown)?;
+    let made = make_scheduled(alloc, &mut core, &run.events, log, task.traps)?;
     let done = finish_run(alloc, &core, made, image, task.shown)?;
     Ok(done)
 }

@@ -1,10 +1,14 @@
 //! The events that a policy chooses, as a schedule.
 
-ghost use Rattle.std.specs.Prelude.{◌≡◌, IfErr, IfOk, None};
+ghost use Rattle.std.specs.Prelude.{◌≡◌, ◌++◌, ◌≤◌, IfErr, IfOk, None, length};
 ghost use Rattle.m161_machine.specs.History.{events_of};
 ghost use Rattle.m161_order.specs.Order.{order_fault};
+ghost use Rattle.m161_steplog.specs.Schedule.{IsSchedule};
+ghost use Rattle.m161_steplog.specs.Written.{schedule_text};
+ghost use Rattle.m161_text.specs.Lines.{lines_of};
 ghost use Rattle.s161_base.specs.Asked.{AsksFor};
 ghost use Rattle.s161_base.specs.Samples.{image_file};
+ghost use Rattle.s161_base.specs.Sizes.{size_line_text};
 ghost use Rattle.s161_run.specs.Driven.{rules_of};
 ghost use Rattle.s161_run.specs.Schedules.{Chose, IsScheduled, IsScheduledFault, schedule_files};
 
@@ -12,12 +16,12 @@ use crate::policy::{make_driven, read_keys};
 use m161::Core;
 use m161_drive::Stop;
 use m161_machine::{Entry, Event};
-use m161_steplog::write_schedule;
+use m161_steplog::{schedule_behind_size_line, write_schedule};
 use s161_base::fault::Fault;
 use s161_base::files::FileSource;
 use s161_base::sample::read_image;
-use s161_base::sizes::conf_of;
-use s161_command::{Drive, ScheduleTask};
+use s161_base::sizes::{conf_of, line_of_size};
+use s161_command::{Drive, ScheduleTask, Size};
 use std::alloc::{AllocError, Global};
 
 /// Reads the image and then the keys, boots the image, makes the events that the policy chooses,
@@ -44,7 +48,21 @@ pub fn schedule<'a, F: FileSource>(
     let keys = read_keys(alloc, files, task.drive.keys)?;
     let mut core = Core::boot(alloc, &file, conf_of(task.size))?;
     let events = chosen_events(alloc, &mut core, task.drive, &keys)?;
-    let text = write_schedule(alloc, &events)?;
+    let text = write_sized(alloc, task.size, &events)?;
+    Ok(text)
+}
+
+// The machine line of a machine of this size, and the text of a schedule with these events.
+fn write_sized(alloc: Global, size: Size, events: &[Event]) -> Result<Vec<u8>, AllocError>
+    ensures text { IfOk result (λ text. text.items
+        ≡ size_line_text size ++ schedule_text events.now) }
+    ensures read { IfOk result (λ text. length events.now ≤ 16_777_216
+        → IsSchedule (lines_of text.items) events.now) }
+{
+    schedule_behind_size_line();
+    let mut text = line_of_size(alloc, size)?;
+    let lines = write_schedule(alloc, events)?;
+    text.push_str(lines.as_str())?;
     Ok(text.into_bytes())
 }
 

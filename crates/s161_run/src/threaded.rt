@@ -17,8 +17,8 @@ use m161_machine::Conflict;
 use m161_threads::{Gate, Report, run_bursts};
 use s161_base::fault::Fault;
 use s161_base::files::FileSource;
+use s161_base::machines::conf_asked;
 use s161_base::sample::read_image;
-use s161_base::sizes::conf_of;
 use s161_command::{Shown, ThreadsTask};
 use std::alloc::{AllocError, Global};
 use std::sync::Wait;
@@ -57,7 +57,7 @@ pub fn run_in_threads<'a, R: Threads + Wait + Sync, F: FileSource>(
     let ThreadsTask { run, quota, burst } = task;
     let file = read_image(alloc, files, run.image)?;
     let image = file.as_slice();
-    let machine = Machine::boot(alloc, image, conf_of(run.size))?;
+    let machine = Machine::boot(alloc, image, conf_asked(run.size))?;
     let report = run_booted(rt, alloc, machine, quota, burst)?;
     let done = finish(alloc, report, image, run.shown, run.traps)?;
     Ok(done)

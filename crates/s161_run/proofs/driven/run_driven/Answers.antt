@@ -9,7 +9,7 @@ use Rattle.s161_base.specs.Asked.{image_files, option_files}
 use Rattle.s161_base.specs.declared.fault.Fault.TheVariants.{Memory}
 use Rattle.s161_base.specs.Faults.{BootsIn, fault_of_boot}
 use Rattle.s161_base.specs.Samples.{image_file}
-use Rattle.s161_base.specs.Sizes.{conf_of}
+use Rattle.s161_base.specs.Machines.{conf_asked}
 use Rattle.s161_run.specs.declared.events.RunStop.{RunStop}
 use Rattle.s161_run.specs.Driven.{AreKeys}
 use Rattle.s161_run.specs.Runs.{log_of_run, summary_text, told_traps}
@@ -29,17 +29,17 @@ returns-clause-ok g c =
     let known = image_file files c.args.task.run.image.now in
     let R : List ℕ → Type 0 = λ file. IfSome known (λ bytes. file ≡ bytes) in
     let file = c.as_slice-image.result.now in
-    let conf = conf_of c.args.task.run.size in
+    let conf = conf_asked c.args.task.run.size in
     let shown = c.args.task.run.shown in
     let booted = c.in_ok-core.core.state in
     let boots : BootsIn file conf booted =
-    subst (λ conf. BootsIn file conf booted) c.conf_of-conf.ensures (state_booted file c.conf_of-conf.result (boot_fault file c.conf_of-conf.result) c.in_ok-core.core c.in_ok-core.ensures) in
+    subst (λ conf. BootsIn file conf booted) c.conf_asked-conf.ensures (state_booted file c.conf_asked-conf.result (boot_fault file c.conf_asked-conf.result) c.in_ok-core.core c.in_ok-core.ensures) in
     let made = c.in_ok-made.ensures in
     let state = c.make_chosen.new.core.state in
     let stop = c.in_ok-made.made.stop in
     let traps = string_bytes c.in_ok-made.made.traps in
     let log = log_of_run conf file made.entries in
-    let room : c.in_ok-log.log.capacity ≡ room_of shown conf.log = c.in_ok-log.ensures.0 ∙ ap (λ (x : Conf). room_of shown x.log) c.conf_of-conf.ensures in
+    let room : c.in_ok-log.log.capacity ≡ room_of shown conf.log = c.in_ok-log.ensures.0 ∙ ap (λ (x : Conf). room_of shown x.log) c.conf_asked-conf.ensures in
     record {
       file = file;
       is_file = subst R (sym c.as_slice-image.ensures.value) c.in_ok-file.ensures.whole;

@@ -10,11 +10,12 @@ use Rattle.s161_base.specs.Faults.{fault_of_boot}
 use Rattle.s161_base.specs.Reading.{IsOfText}
 use Rattle.s161_base.proofs.Failing.{log_failed}
 use Rattle.s161_run.proofs.Failing.{verify_failed}
-use Rattle.s161_run.proofs.Replaying.{refused}
+use Rattle.s161_base.proofs.Listing.{named_fault}
 use Rattle.s161_run.specs.Replays.{IsReplayFault, OfReplay}
 use Rattle.s161_base.specs.declared.fault.Fault.TheVariants.{LogImage, LogMachine, Memory}
 use Rattle.s161_base.specs.Known.{IsText}
 use Rattle.s161_base.specs.declared.machines.LoggedMachine.{LoggedMachine}
+use Rattle.s161_base.specs.declared.machines.NamedMachine.TheVariants.{Logged}
 use Rattle.s161_base.specs.Machines.{IsLogOf, asked_conf, machine_fault}
 use Rattle.s161_base.specs.Samples.{image_file}
 use Rattle.s161_run.proofs.replay.replay.Goals as goal
@@ -72,9 +73,9 @@ returns-in-Some-clause-fault g c =
     let logged = c.in_ok-log.log.machine in
     let replays : (IsSo : List ℕ → LoggedMachine → Type 0) → IsSo file logged → OfReplay image text IsSo =
     λ IsSo so. (file, is_file, (c.as_str-text.result.now, is, (utf8, (logged, c.in_ok-log.log.entries.items, c.in_ok-log.ensures.found, so)))) in
-    refused (IsReplayFault c.args.task image text) c.args.task.size file logged c.in-Some.fault
-    (replays (λ f l. machine_fault c.args.task.size f (Some l) ≡ Some LogMachine))
-    (replays (λ f l. machine_fault c.args.task.size f (Some l) ≡ Some LogImage)) (search rules)
+    named_fault (IsReplayFault c.args.task image text) c.args.task.size file (Some (Logged logged)) c.in-Some.fault
+    (replays (λ f l. machine_fault c.args.task.size f (Some (Logged l)) ≡ Some LogMachine))
+    (replays (λ f l. machine_fault c.args.task.size f (Some (Logged l)) ≡ Some LogImage)) (search rules)
 
 -- the log has no fault, the machine is the one that it names, and the boot's answer says the rest
 pub returns-in_err-verdict-clause-fault : goal.returns-in_err-verdict-clause-fault
@@ -92,12 +93,12 @@ returns-in_err-verdict-clause-fault g c =
     let logged = c.in_ok-log.log.machine in
     let replays : (IsSo : List ℕ → LoggedMachine → Type 0) → IsSo file logged → OfReplay image text IsSo =
     λ IsSo so. (file, is_file, (c.as_str-text.result.now, is, (utf8, (logged, c.in_ok-log.log.entries.items, c.in_ok-log.ensures.found, so)))) in
-    let conf = asked_conf c.args.task.size (Some logged) in
-    let none : machine_fault c.args.task.size file (Some logged) ≡ None = search rules in
+    let conf = asked_conf c.args.task.size (Some (Logged logged)) in
+    let none : machine_fault c.args.task.size file (Some (Logged logged)) ≡ None = search rules in
     let made = err_from_is_err_and c.from_residual-in_err-verdict.result c.from_residual-in_err-verdict.ensures.1 in
     let failed = verify_failed (IsReplayFault c.args.task image text) conf file c.deref.result.now c.in_err-verdict.field-0.0
-    (λ outside. replays (λ f l. (machine_fault c.args.task.size f (Some l) ≡ None) × (is_within_limits (asked_conf c.args.task.size (Some l)) ≡ false)) (none, outside))
-    (λ e has. replays (λ f l. (machine_fault c.args.task.size f (Some l) ≡ None) × (boot_fault f (asked_conf c.args.task.size (Some l)) ≡ Some (Load e))) (none, has))
+    (λ outside. replays (λ f l. (machine_fault c.args.task.size f (Some (Logged l)) ≡ None) × (is_within_limits (asked_conf c.args.task.size (Some (Logged l))) ≡ false)) (none, outside))
+    (λ e has. replays (λ f l. (machine_fault c.args.task.size f (Some (Logged l)) ≡ None) × (boot_fault f (asked_conf c.args.task.size (Some (Logged l))) ≡ Some (Load e))) (none, has))
     tt (search rules) in
     rw (made.1, made.2) failed
 
@@ -158,7 +159,7 @@ returns-in-Some-clause-asks g c =
     let b = asked c.read_text.new.files in
     let all = asks_both image text a (asked c.read_image.new.files) b c.in_ok-file.ensures.asks c.in_ok-listed.ensures.asks in
     after_all (image ++ text) a b c.in-Some.fault all
-    (refused IsNoFile c.args.task.size c.as_slice-image.result.now c.in_ok-log.log.machine c.in-Some.fault (λ other. tt) (λ other. tt) (search rules))
+    (named_fault IsNoFile c.args.task.size c.as_slice-image.result.now (Some (Logged c.in_ok-log.log.machine)) c.in-Some.fault (λ other. tt) (λ other. tt) (search rules))
 
 pub returns-clause-asks : goal.returns-clause-asks
 returns-clause-asks g c =

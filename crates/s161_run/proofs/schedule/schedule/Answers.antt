@@ -44,9 +44,8 @@ returns-clause-ok g c =
           (state_booted file c.conf_of.result (boot_fault file c.conf_of.result) c.in_ok-core.core c.in_ok-core.ensures);
       events = c.deref-3.result.now;
       chose = subst (Chose (rules_of options keys) options.events booted) (sym c.deref-3.ensures.value) c.in_ok-events.ensures.ok;
-      text_is = ap (λ v. v.items) c.into_bytes.ensures.value ∙ c.in_ok-text.ensures.text;
-      is_read = λ few.
-          subst (λ text. IsSchedule (lines_of text) c.deref-3.result.now) (sym (ap (λ v. v.items) c.into_bytes.ensures.value)) (c.in_ok-text.ensures.read few);
+      text_is = c.in_ok-text.ensures.text;
+      is_read = λ few. c.in_ok-text.ensures.read few;
     }
 
 pub returns-in_err-file-clause-asks : goal.returns-in_err-file-clause-asks

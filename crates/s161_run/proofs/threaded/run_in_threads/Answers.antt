@@ -7,7 +7,7 @@ use Rattle.s161_base.proofs.Asking.{IsNoFile, after_all, alone_unread, asks_err,
 use Rattle.s161_base.specs.Asked.{image_files}
 use Rattle.s161_base.specs.Faults.{BootsTo, fault_of_boot}
 use Rattle.s161_base.specs.Samples.{image_file}
-use Rattle.s161_base.specs.Sizes.{conf_of}
+use Rattle.s161_base.specs.Machines.{conf_asked}
 use Rattle.s161_run.specs.declared.events.RunStop.{RunStop}
 use Rattle.s161_run.specs.Runs.{shown_log, summary_text, told_traps}
 use Rattle.s161_run.specs.Threads.{IsThreadsFault, stop_of}
@@ -19,10 +19,10 @@ pub returns-clause-ok : goal.returns-clause-ok
 returns-clause-ok g c =
     let known = image_file (g.F.FileSource.known c.args.files.now) c.args.task.run.image.now in
     let R : List ℕ → Type 0 = λ file. IfSome known (λ bytes. file ≡ bytes) in
-    let conf = (conf_of c.args.task.run.size) in
+    let conf = (conf_asked c.args.task.run.size) in
     let file = c.as_slice-image.result.now in
     let booted = c.in_ok-machine.machine in
-    let boots = subst (λ conf. BootsTo file conf booted) c.conf_of.ensures c.in_ok-machine.ensures.answer in
+    let boots = subst (λ conf. BootsTo file conf booted) c.conf_asked.ensures c.in_ok-machine.ensures.answer in
     let is_booted = booted_ok file conf (boot_fault file conf) booted boots in
     let number : number_of booted ≡ conf.processors = ap (λ (x : Conf). x.processors) is_booted.conf_is in
     let report = c.in_ok-report.report in
@@ -56,11 +56,11 @@ pub returns-in_err-report-clause-fault : goal.returns-in_err-report-clause-fault
 returns-in_err-report-clause-fault g c =
     let known = image_file (g.F.FileSource.known c.args.files.now) c.args.task.run.image.now in
     let R : List ℕ → Type 0 = λ file. IfSome known (λ bytes. file ≡ bytes) in
-    let conf = (conf_of c.args.task.run.size) in
+    let conf = (conf_asked c.args.task.run.size) in
     let file = c.as_slice-image.result.now in
     let booted = c.in_ok-machine.machine in
     let failed = err_from_is_err_and c.from_residual-in_err-report.result c.from_residual-in_err-report.ensures.1 in
-    let boots = subst (λ conf. BootsTo file conf booted) c.conf_of.ensures c.in_ok-machine.ensures.answer in
+    let boots = subst (λ conf. BootsTo file conf booted) c.conf_asked.ensures c.in_ok-machine.ensures.answer in
     let is_booted = booted_ok file conf (boot_fault file conf) booted boots in
     let clear : boot_fault file conf ≡ None = booted_clear file conf (boot_fault file conf) booted boots in
     rw (failed.1, failed.2)

@@ -1,0 +1,57 @@
+use Rattle.std.proofs.Common.{◌≡◌, ◌⊎◌, ℕ, List, Option, None, Some, Err, IfSome, inl, inr, refl, subst}
+use Rattle.m161_machine.specs.declared.conf.BootError.{BootError}
+use Rattle.m161_machine.specs.declared.conf.BootError.TheVariants.{Load}
+use Rattle.m161_machine.specs.declared.conf.Conf.{Conf as MachineConf}
+use Rattle.m161_machine.specs.declared.event.Event.{Event}
+use Rattle.m161_machine.specs.History.{BootsState, boot_fault}
+use Rattle.s161_command.specs.declared.task.RunTask.{RunTask}
+use Rattle.s161_base.proofs.Failing.{state_failed}
+use Rattle.s161_base.proofs.Listing.{named_fault}
+use Rattle.s161_base.specs.declared.fault.Fault.{Fault}
+use Rattle.s161_base.specs.declared.fault.Fault.TheVariants.{Conf, File, Image, Input, Log, LogImage, LogMachine, Memory, Never, Output, Schedule, Source, Threads, Touches, Watch, Watches, Word}
+use Rattle.s161_base.specs.Faults.{fault_of_boot}
+use Rattle.s161_base.specs.Known.{IsText}
+use Rattle.s161_base.specs.Listed.{IsListFault, ListsFor, ListsNone}
+use Rattle.s161_run.specs.Runs.{IsFaultOf}
+
+-- Why the events of a text aren't run.
+
+module _ (task : RunTask) (known input : Option (List ℕ)) (file text : List ℕ) (is_file : IfSome known (λ bytes. file ≡ bytes))
+    (is : IfSome input (λ bytes. text ≡ bytes)) (utf8 : IsText text) where
+  -- the text has a bad line
+  bad_line : (fault : Fault) → IsListFault text fault → IsFaultOf task known input fault
+  bad_line (Schedule n) h = (text, is, (utf8, h))
+  bad_line (Log n) h = (text, is, (utf8, h))
+  bad_line Memory h = tt
+  bad_line Conf h = absurd h
+  bad_line (Image e) h = absurd h
+  bad_line (File name why) h = absurd h
+  bad_line (Watches n) h = absurd h
+  bad_line (Watch k) h = absurd h
+  bad_line (Never word) h = absurd h
+  bad_line (Touches word) h = absurd h
+  bad_line (Threads cause) h = absurd h
+  bad_line (Input why) h = absurd h
+  bad_line Word h = absurd h
+  bad_line LogMachine h = absurd h
+  bad_line LogImage h = absurd h
+  bad_line Output h = absurd h
+  bad_line (Source e) h = absurd h
+
+  -- or it is a log of another machine
+  pub unlisted : (fault : Fault) → ListsNone task.size file text fault → IsFaultOf task known input fault
+  unlisted fault (inl h) = bad_line fault h
+  unlisted fault (inr x) =
+      named_fault (IsFaultOf task known input) task.size file x.1 fault
+      (λ e. (file, is_file, (text, is, (utf8, inr (x.0, x.1, x.2, e)))))
+      (λ e. (file, is_file, (text, is, (utf8, inr (x.0, x.1, x.2, e)))))
+      x.3
+
+  -- it lists events, and the image isn't booted
+  pub unbooted : (events : List Event) (conf : MachineConf) (e : BootError) → ListsFor task.size file text events conf →
+      BootsState file conf (boot_fault file conf) (Err e) → IsFaultOf task known input (fault_of_boot e)
+  unbooted events conf e lists answer =
+      state_failed (IsFaultOf task known input) (Some file) conf file e refl
+      (λ outside. (file, is_file, (text, is, (utf8, (events, conf, lists, outside)))))
+      (λ x has. (file, is_file, (text, is, (utf8, (events, conf, lists, subst (λ f. boot_fault f conf ≡ Some (Load x)) has.1 has.2)))))
+      tt answer
